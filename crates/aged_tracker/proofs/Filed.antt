@@ -8,11 +8,12 @@ use Rattle.futures.proofs.LinkLemmas.{IsIn-without}
 use Rattle.aged_tracker.specs.steps.Table.{IsFiled, keys_in, owner_in}
 use Rattle.aged_tracker.proofs.Keys.{IsIn-without_kept, IsApart-without, IsIn-push, IsIn-push_kept, IsIn-push_last, IsApart-push}
 
--- the places of all keys but one are as they were
+-- the lists of all keys but one are unchanged
 abbrev pub SameBut : (ℕ → Option ℕ) → (ℕ → Option ℕ) → ℕ → Type 0
 SameBut list_for list_for' key = (other : ℕ) → other ≢ key → list_for' other ≡ list_for other
 
-module _ (old new : Lists) (list_for list_for' : ℕ → Option ℕ) (key list : ℕ) (filed : IsFiled old list_for) (same : SameBut list_for list_for' key) where
+module _ (old new : Lists) (list_for list_for' : ℕ → Option ℕ) (key list : ℕ) (filed : IsFiled old list_for)
+    (same : SameBut list_for list_for' key) where
   pub IsFiled-unlink : list_for key ≡ Some list → Unlinks old new key list → list_for' key ≡ None → IsFiled new list_for'
   IsFiled-unlink was un gone =
       let differs : (k l : ℕ) → list_for' k ≡ Some l → k ≢ key = λ k l is e. none-some l (sym gone ∙ ap list_for' (sym e) ∙ is) in
@@ -61,7 +62,9 @@ module _ (old new : Lists) (list_for list_for' : ℕ → Option ℕ) (key list :
         listed = λ k l is. elim (cases_eq k key) [
           | inl e ↦
               let at : l ≡ list = same_Some l list (sym is ∙ ap list_for' e ∙ now) in
-              subst (λ j. IsIn j (keys_in new l)) (sym e) (subst (λ m. IsIn key (keys_in new m)) (sym at) (subst (IsIn key) (sym push.last) (IsIn-push_last key (keys_in old list))))
+              subst (λ j. IsIn j (keys_in new l)) (sym e)
+              (subst (λ m. IsIn key (keys_in new m)) (sym at)
+              (subst (IsIn key) (sym push.last) (IsIn-push_last key (keys_in old list))))
           | inr d ↦
               let was = filed.listed k l (sym (same k d) ∙ is) in
               elim (either l) [

@@ -1,5 +1,6 @@
--- What a packet belongs to, and which are live.
-use Rattle.std.proofs.Common.{◌≡◌, ℕ, ◌+◌, List, [], ◌∷◌, length, Option, Some, None, Bool, true, false, not, ◌||◌, ◌&&◌, cond, eqb, refl, sym, ap, ◌∙◌, inl, inr, arith}
+-- Lookups, and live entries.
+use Rattle.std.proofs.Common.{◌≡◌, ℕ, ◌+◌, List, [], ◌∷◌, length, Option, Some, None, Bool, true, false, not}
+use Rattle.std.proofs.Common.{◌||◌, ◌&&◌, cond, eqb, refl, sym, ap, ◌∙◌, inl, inr, arith}
 use Rattle.std.specs.List.{find, list_any}
 use Rattle.std.specs.Prelude.{filter, if◌then◌else◌}
 use Rattle.std.proofs.lemmas.Bool.{or_left, or_right, or_parts, and_parts, not-true, eqb-true}
@@ -13,7 +14,8 @@ use Rattle.conntrack.specs.declared.connection.Flags.{Flags}
 use Rattle.conntrack.specs.declared.connection.Direction.TheVariants.{Reply}
 use Rattle.conntrack.specs.declared.belonging.Belonging.TheVariants.{NotFound, Found}
 use Rattle.ip_headers.specs.Same.{same_tuple}
-use Rattle.conntrack.specs.ConntrackEntry.{is_incoming, is_live, live_at, belongs_in, belonging_by, connection_ref, of_original, of_reply, same_id, has_id, has_distinct_ids, without}
+use Rattle.conntrack.specs.ConntrackEntry.{is_incoming, is_live, live_at, belongs_in, belonging_by, connection_ref}
+use Rattle.conntrack.specs.ConntrackEntry.{of_original, of_reply, same_id, has_id, has_distinct_ids, without}
 use Rattle.list_laws.specs.Lists.{find-filter}
 use Rattle.box_file.specs.declared.limits.Limits.{Limits}
 use Rattle.aged_tracker.specs.steps.SlotLists.{held_in, cons_held}
@@ -27,28 +29,39 @@ and_no : (a b : Bool) → b ≡ false → (a && b) ≡ false
 and_no true b e = e
 and_no false b e = refl
 
-chosen : (flags : Flags) (h : ConntrackEntry) (l o r : Bool) → (o || r) ≡ true → (if not l then NotFound else (if o then belonging_by flags (Some h) None else Found (connection_ref h Reply))) ≡ belonging_by flags (cond (l && o) (Some h) None) (cond (l && r) (Some h) None)
+chosen : (flags : Flags) (h : ConntrackEntry) (l o r : Bool) → (o || r) ≡ true
+    → (if not l then NotFound else (if o then belonging_by flags (Some h) None else Found (connection_ref h Reply)))
+    ≡ belonging_by flags (cond (l && o) (Some h) None) (cond (l && r) (Some h) None)
 chosen flags h true true r e = refl
 chosen flags h true false true e = refl
 chosen flags h true false false e = absurd cc
 chosen flags h false o r e = refl
 
-module _ (s : ℕ → Option ConntrackEntry) (at : Tuple → Option ℕ) (keyed : IsKeyed s at) (keys : List ℕ) (listed : (k : ℕ) (h : ConntrackEntry) → s k ≡ Some h → IsIn k keys) (limits : Limits) (now : ℕ) (tuple : Tuple) (flags : Flags) where
+module _ (s : ℕ → Option ConntrackEntry) (at : Tuple → Option ℕ) (keyed : IsKeyed s at) (keys : List ℕ)
+    (listed : (k : ℕ) (h : ConntrackEntry) → s k ≡ Some h → IsIn k keys) (limits : Limits) (now : ℕ) (tuple : Tuple)
+    (flags : Flags) where
   pub belongs_none : at tuple ≡ None → NotFound ≡ belongs_in (live_at limits now (held_in s keys)) tuple flags
   belongs_none none =
       let o : of_original (live_at limits now (held_in s keys)) tuple ≡ None =
       find-filter (λ (h : ConntrackEntry). same_tuple h.original tuple) (is_live limits now) (held_in s keys)
-      ∙ find_none (λ h. is_live limits now h && same_tuple h.original tuple) s keys (λ k x is. and_no (is_live limits now x) (same_tuple x.original tuple) (or_parts (same_tuple x.original tuple) (same_tuple x.reply tuple) (no_owner s at keyed tuple none k x is)).0) in
+      ∙ find_none (λ h. is_live limits now h && same_tuple h.original tuple) s keys
+      (λ k x is. and_no (is_live limits now x) (same_tuple x.original tuple)
+      (or_parts (same_tuple x.original tuple) (same_tuple x.reply tuple)
+      (no_owner s at keyed tuple none k x is)).0) in
       let r : of_reply (live_at limits now (held_in s keys)) tuple ≡ None =
       find-filter (λ (h : ConntrackEntry). same_tuple h.reply tuple) (is_live limits now) (held_in s keys)
-      ∙ find_none (λ h. is_live limits now h && same_tuple h.reply tuple) s keys (λ k x is. and_no (is_live limits now x) (same_tuple x.reply tuple) (or_parts (same_tuple x.original tuple) (same_tuple x.reply tuple) (no_owner s at keyed tuple none k x is)).1) in
+      ∙ find_none (λ h. is_live limits now h && same_tuple h.reply tuple) s keys
+      (λ k x is. and_no (is_live limits now x) (same_tuple x.reply tuple)
+      (or_parts (same_tuple x.original tuple) (same_tuple x.reply tuple)
+      (no_owner s at keyed tuple none k x is)).1) in
       sym (ap (λ a. belonging_by flags a (of_reply (live_at limits now (held_in s keys)) tuple)) o ∙ ap (belonging_by flags None) r)
 
   module _ (key : ℕ) (h : ConntrackEntry) (at_key : at tuple ≡ Some key) (is : s key ≡ Some h) where
     owned : is_incoming tuple h ≡ true
     owned = let was = keyed.found tuple key at_key in ap (is_incoming tuple) (same_Some h was.0 (sym is ∙ was.1.0)) ∙ was.1.1
 
-    find_case : (f : ConntrackEntry → Bool) → ((x : ConntrackEntry) → f x ≡ true → is_incoming tuple x ≡ true) → find f (held_in s keys) ≡ cond (f h) (Some h) None
+    find_case : (f : ConntrackEntry → Bool) → ((x : ConntrackEntry) → f x ≡ true → is_incoming tuple x ≡ true)
+        → find f (held_in s keys) ≡ cond (f h) (Some h) None
     find_case f owns_it =
         let only : (k : ℕ) (x : ConntrackEntry) → s k ≡ Some x → f x ≡ true → k ≡ key =
         λ k x is' t. one_owner s at keyed k key x h tuple is' is (owns_it x t) owned in
@@ -69,32 +82,44 @@ module _ (s : ℕ → Option ConntrackEntry) (at : Tuple → Option ℕ) (keyed 
         let l = is_live limits now h in
         let o : of_original (live_at limits now (held_in s keys)) tuple ≡ cond (l && same_tuple h.original tuple) (Some h) None =
         find-filter (λ (x : ConntrackEntry). same_tuple x.original tuple) (is_live limits now) (held_in s keys)
-        ∙ find_case (λ x. is_live limits now x && same_tuple x.original tuple) (λ x t. or_left (same_tuple x.original tuple) (same_tuple x.reply tuple) (and_parts (is_live limits now x) (same_tuple x.original tuple) t).1) in
+        ∙ find_case (λ x. is_live limits now x && same_tuple x.original tuple)
+        (λ x t. or_left (same_tuple x.original tuple) (same_tuple x.reply tuple)
+        (and_parts (is_live limits now x) (same_tuple x.original tuple) t).1) in
         let r : of_reply (live_at limits now (held_in s keys)) tuple ≡ cond (l && same_tuple h.reply tuple) (Some h) None =
         find-filter (λ (x : ConntrackEntry). same_tuple x.reply tuple) (is_live limits now) (held_in s keys)
-        ∙ find_case (λ x. is_live limits now x && same_tuple x.reply tuple) (λ x t. or_right (same_tuple x.original tuple) (same_tuple x.reply tuple) (and_parts (is_live limits now x) (same_tuple x.reply tuple) t).1) in
+        ∙ find_case (λ x. is_live limits now x && same_tuple x.reply tuple)
+        (λ x t. or_right (same_tuple x.original tuple) (same_tuple x.reply tuple)
+        (and_parts (is_live limits now x) (same_tuple x.reply tuple) t).1) in
         chosen flags h l (same_tuple h.original tuple) (same_tuple h.reply tuple) owned
-        ∙ sym (ap (λ a. belonging_by flags a (of_reply (live_at limits now (held_in s keys)) tuple)) o ∙ ap (belonging_by flags (cond (l && same_tuple h.original tuple) (Some h) None)) r)
+        ∙ sym (ap (λ a. belonging_by flags a (of_reply (live_at limits now (held_in s keys)) tuple)) o
+        ∙ ap (belonging_by flags (cond (l && same_tuple h.original tuple) (Some h) None)) r)
 
--- ---- the live ones
+-- ---- the live entries
 
-pub live_all : (limits : Limits) (s : ℕ → Option ConntrackEntry) (now : ℕ) (keys : List ℕ) → IsAllLive limits s now → live_at limits now (held_in s keys) ≡ held_in s keys
+pub live_all : (limits : Limits) (s : ℕ → Option ConntrackEntry) (now : ℕ) (keys : List ℕ) → IsAllLive limits s now
+    → live_at limits now (held_in s keys) ≡ held_in s keys
 live_all limits s now [] all = refl
 live_all limits s now (k ∷ keys) all =
     filter_cons (is_live limits now) (s k) (held_in s keys) (λ h is. all k h is) ∙ ap (cons_held (s k)) (live_all limits s now keys all)
 
-drop_test : (p q : ConntrackEntry → Bool) (x : ConntrackEntry) (rest : List ConntrackEntry) (b c : Bool) → p x ≡ b → q x ≡ c → (c ≡ false → b ≡ false) → filter p (filter q rest) ≡ filter p rest → filter p (filter q (x ∷ rest)) ≡ filter p (x ∷ rest)
+drop_test : (p q : ConntrackEntry → Bool) (x : ConntrackEntry) (rest : List ConntrackEntry) (b c : Bool) → p x ≡ b
+    → q x ≡ c → (c ≡ false → b ≡ false) → filter p (filter q rest) ≡ filter p rest
+    → filter p (filter q (x ∷ rest)) ≡ filter p (x ∷ rest)
 drop_test p q x rest true true pe qe h rec = rw (qe, pe, rec) refl
 drop_test p q x rest false true pe qe h rec = rw (qe, pe, rec) refl
 drop_test p q x rest false false pe qe h rec = rw (qe, pe, rec) refl
 drop_test p q x rest true false pe qe h rec = not_both true refl (h refl)
 
-drop_step : (p q : ConntrackEntry → Bool) (o : Option ConntrackEntry) (rest : List ConntrackEntry) → ((x : ConntrackEntry) → o ≡ Some x → q x ≡ false → p x ≡ false) → filter p (filter q rest) ≡ filter p rest → filter p (filter q (cons_held o rest)) ≡ filter p (cons_held o rest)
+drop_step : (p q : ConntrackEntry → Bool) (o : Option ConntrackEntry) (rest : List ConntrackEntry)
+    → ((x : ConntrackEntry) → o ≡ Some x → q x ≡ false → p x ≡ false) → filter p (filter q rest) ≡ filter p rest
+    → filter p (filter q (cons_held o rest)) ≡ filter p (cons_held o rest)
 drop_step p q None rest h rec = rec
 drop_step p q (Some x) rest h rec = drop_test p q x rest (p x) (q x) refl refl (h x refl) rec
 
--- to take out a dead one leaves the live ones
-pub live_without : (limits : Limits) (s : ℕ → Option ConntrackEntry) (now : ℕ) (id : ConnId) (h : ConntrackEntry) → IsNamed s → s id.0 ≡ Some h → is_live limits now h ≡ false → (keys : List ℕ) → live_at limits now (without id (held_in s keys)) ≡ live_at limits now (held_in s keys)
+-- removing an expired entry keeps the live ones
+pub live_without : (limits : Limits) (s : ℕ → Option ConntrackEntry) (now : ℕ) (id : ConnId) (h : ConntrackEntry)
+    → IsNamed s → s id.0 ≡ Some h → is_live limits now h ≡ false → (keys : List ℕ)
+    → live_at limits now (without id (held_in s keys)) ≡ live_at limits now (held_in s keys)
 live_without limits s now id h named is expired [] = refl
 live_without limits s now id h named is expired (k ∷ keys) =
     drop_step (is_live limits now) (λ x. not (same_id id x)) (s k) (held_in s keys)
@@ -107,21 +132,27 @@ live_without limits s now id h named is expired (k ∷ keys) =
     ])
     (live_without limits s now id h named is expired keys)
 
-pub has_id-held : (s : ℕ → Option ConntrackEntry) (id : ConnId) (h : ConntrackEntry) (keys : List ℕ) → IsNamed s → s id.0 ≡ Some h → IsIn id.0 keys → has_id id (held_in s keys) ≡ true
+pub has_id-held : (s : ℕ → Option ConntrackEntry) (id : ConnId) (h : ConntrackEntry) (keys : List ℕ) → IsNamed s
+    → s id.0 ≡ Some h → IsIn id.0 keys → has_id id (held_in s keys) ≡ true
 has_id-held s id h keys named is found = any_some (same_id id) s keys id.0 h found is (same_id-named s id h named is)
 
 without_new : (id : ConnId) (held : List ConntrackEntry) → has_id id held ≡ false → without id held ≡ held
 without_new id [] none = refl
 without_new id (x ∷ held) none = grind (arith, nat_tests, without_new id held)
 
-without_step : (id : ConnId) (x : ConntrackEntry) (held : List ConntrackEntry) (b : Bool) → same_id id x ≡ b → (b || has_id id held) ≡ true → has_id x.id held ≡ false → (has_id id held ≡ true → length (without id held) + 1 ≡ length held) → length (without id (x ∷ held)) + 1 ≡ length (x ∷ held)
+without_step : (id : ConnId) (x : ConntrackEntry) (held : List ConntrackEntry) (b : Bool) → same_id id x ≡ b
+    → (b || has_id id held) ≡ true → has_id x.id held ≡ false
+    → (has_id id held ≡ true → length (without id held) + 1 ≡ length held)
+    → length (without id (x ∷ held)) + 1 ≡ length (x ∷ held)
 without_step id x held true same has absent rec =
-    let none : has_id id held ≡ false = ap (λ n. list_any (λ (y : ConntrackEntry). eqb y.id.0 n) held) (sym (eqb-true x.id.0 id.0 same)) ∙ absent in
+    let none : has_id id held ≡ false =
+    ap (λ n. list_any (λ (y : ConntrackEntry). eqb y.id.0 n) held) (sym (eqb-true x.id.0 id.0 same)) ∙ absent in
     let stays : without id held ≡ held = without_new id held none in
     rw (same, stays) (omega arith)
 without_step id x held false other has absent rec = let e = rec has in rw other (omega (arith, e))
 
-pub length-without_one : (id : ConnId) (held : List ConntrackEntry) → has_distinct_ids held ≡ true → has_id id held ≡ true → length (without id held) + 1 ≡ length held
+pub length-without_one : (id : ConnId) (held : List ConntrackEntry) → has_distinct_ids held ≡ true
+    → has_id id held ≡ true → length (without id held) + 1 ≡ length held
 length-without_one id [] distinct has = absurd cc
 length-without_one id (x ∷ held) distinct has =
     let parts = and_parts _ _ distinct in

@@ -1,10 +1,11 @@
--- What is held at some keys.
+-- The entries at some keys.
 use Rattle.std.proofs.Common.{◌≡◌, ℕ, ◌+◌, ◌≤◌, List, [], ◌∷◌, ◌++◌, length, Option, Some, None, refl, ap, ◌∙◌, inl, inr, arith}
 use Rattle.futures.specs.LinkedLists.{IsIn}
 use Rattle.conntrack.specs.declared.connection.ConntrackEntry.{ConntrackEntry}
 use Rattle.aged_tracker.specs.steps.SlotLists.{cons_held, held_in}
 
-pub held_same : (old new : ℕ → Option ConntrackEntry) (keys : List ℕ) → ((k : ℕ) → IsIn k keys → new k ≡ old k) → held_in new keys ≡ held_in old keys
+pub held_same : (old new : ℕ → Option ConntrackEntry) (keys : List ℕ) → ((k : ℕ) → IsIn k keys → new k ≡ old k)
+    → held_in new keys ≡ held_in old keys
 held_same old new [] same = refl
 held_same old new (k ∷ keys) same =
     ap (λ o. cons_held o (held_in new keys)) (same k (inl refl))
@@ -14,7 +15,8 @@ cons_append : (o : Option ConntrackEntry) (xs ys : List ConntrackEntry) → cons
 cons_append None xs ys = refl
 cons_append (Some h) xs ys = refl
 
-pub held_push : (s : ℕ → Option ConntrackEntry) (keys : List ℕ) (key : ℕ) (h : ConntrackEntry) → s key ≡ Some h → held_in s (keys ++ key ∷ []) ≡ held_in s keys ++ h ∷ []
+pub held_push : (s : ℕ → Option ConntrackEntry) (keys : List ℕ) (key : ℕ) (h : ConntrackEntry) → s key ≡ Some h
+    → held_in s (keys ++ key ∷ []) ≡ held_in s keys ++ h ∷ []
 held_push s [] key h is = ap (λ o. cons_held o []) is
 held_push s (k ∷ keys) key h is = ap (cons_held (s k)) (held_push s keys key h is) ∙ cons_append (s k) (held_in s keys) (h ∷ [])
 

@@ -1,4 +1,4 @@
--- The map from tuples to slots, and what a packet belongs to.
+-- The index from tuples to slots, and lookups.
 use Rattle.std.proofs.Common.{◌≡◌, ◌≢◌, ℕ, List, [], ◌∷◌, Option, Some, None, Bool, true, false, cond, refl, sym, ap, ◌∙◌, subst, inl, inr}
 use Rattle.std.proofs.lemmas.Bool.{or_from, or_left, or_right, or_parts, and_from, not_from_false, cases_eq}
 use Rattle.std.proofs.lemmas.Option.{same_Some, none-some}
@@ -27,7 +27,8 @@ module _ (s : ℕ → Option ConntrackEntry) (at : Tuple → Option ℕ) (keyed 
         | inr e ↦ ap at (sym (same_tuple-true h.reply tuple e)) ∙ keyed.reply key h is
       ]
 
-  pub one_owner : (key other : ℕ) (h x : ConntrackEntry) (tuple : Tuple) → s key ≡ Some h → s other ≡ Some x → is_incoming tuple h ≡ true → is_incoming tuple x ≡ true → key ≡ other
+  pub one_owner : (key other : ℕ) (h x : ConntrackEntry) (tuple : Tuple) → s key ≡ Some h → s other ≡ Some x
+      → is_incoming tuple h ≡ true → is_incoming tuple x ≡ true → key ≡ other
   one_owner key other h x tuple is is' owned owned' =
       same_Some key other (sym (owner_at key h tuple is owned) ∙ owner_at other x tuple is' owned')
 
@@ -41,26 +42,31 @@ module _ (s : ℕ → Option ConntrackEntry) (at : Tuple → Option ℕ) (keyed 
   pub taken_none : (keys : List ℕ) (tuple : Tuple) → at tuple ≡ None → is_taken tuple (held_in s keys) ≡ false
   taken_none keys tuple none = any_none (is_incoming tuple) s keys (λ k x found is. no_owner tuple none k x is)
 
-  pub taken_some : (keys : List ℕ) (tuple : Tuple) (key : ℕ) → at tuple ≡ Some key → ((k : ℕ) (h : ConntrackEntry) → s k ≡ Some h → IsIn k keys) → is_taken tuple (held_in s keys) ≡ true
+  pub taken_some : (keys : List ℕ) (tuple : Tuple) (key : ℕ) → at tuple ≡ Some key
+      → ((k : ℕ) (h : ConntrackEntry) → s k ≡ Some h → IsIn k keys) → is_taken tuple (held_in s keys) ≡ true
   taken_some keys tuple key is listed =
       let owner = keyed.found tuple key is in
       any_some (is_incoming tuple) s keys key owner.0 (listed key owner.0 owner.1.0) owner.1.0 owner.1.1
 
-  pub free_at : (keys : List ℕ) (tuple : Tuple) → is_taken tuple (held_in s keys) ≡ false → ((k : ℕ) (h : ConntrackEntry) → s k ≡ Some h → IsIn k keys) → at tuple ≡ None
+  pub free_at : (keys : List ℕ) (tuple : Tuple) → is_taken tuple (held_in s keys) ≡ false
+      → ((k : ℕ) (h : ConntrackEntry) → s k ≡ Some h → IsIn k keys) → at tuple ≡ None
   free_at keys tuple free listed = by_slot (at tuple) refl
     where
       by_slot : (o : Option ℕ) → at tuple ≡ o → at tuple ≡ None
       by_slot None is = is
       by_slot (Some key) is = absurd (not_both _ (taken_some keys tuple key is listed) free)
 
-  apart_step : (o : Option ConntrackEntry) (rest : List ConntrackEntry) → ((x : ConntrackEntry) → o ≡ Some x → (is_taken x.original rest ≡ false) × (is_taken x.reply rest ≡ false)) → have_disjoint_tuples rest ≡ true → have_disjoint_tuples (cons_held o rest) ≡ true
+  apart_step : (o : Option ConntrackEntry) (rest : List ConntrackEntry)
+      → ((x : ConntrackEntry) → o ≡ Some x → (is_taken x.original rest ≡ false) × (is_taken x.reply rest ≡ false))
+      → have_disjoint_tuples rest ≡ true → have_disjoint_tuples (cons_held o rest) ≡ true
   apart_step None rest free apart = apart
   apart_step (Some x) rest free apart = and_from _ _ (not_from_false _ (or_from _ _ (free x refl).0 (free x refl).1)) apart
 
   pub apart_held : (keys : List ℕ) → IsApart keys → have_disjoint_tuples (held_in s keys) ≡ true
   apart_held [] apart = refl
   apart_held (k ∷ keys) apart =
-      let free : (x : ConntrackEntry) (tuple : Tuple) → s k ≡ Some x → is_incoming tuple x ≡ true → is_taken tuple (held_in s keys) ≡ false =
+      let free : (x : ConntrackEntry) (tuple : Tuple) → s k ≡ Some x → is_incoming tuple x ≡ true
+      → is_taken tuple (held_in s keys) ≡ false =
       λ x tuple is owned. any_none (is_incoming tuple) s keys (λ j y found at'.
       elim (either_bool (is_incoming tuple y)) [
         | inl t ↦ absurd (apart.0 (subst (λ i. IsIn i keys) (one_owner j k y x tuple at' is t owned) found))
@@ -76,8 +82,10 @@ cond_true b x y e = rw e refl
 cond_false : {X : Type 0} (b : Bool) (x y : X) → b ≡ false → cond b x y ≡ y
 cond_false b x y e = rw e refl
 
--- a connection in a slot that was free
-module _ (old new : ℕ → Option ConntrackEntry) (at at' : Tuple → Option ℕ) (key : ℕ) (h : ConntrackEntry) (keyed : IsKeyed old at) (updates : Sets old new key (Some h)) (free : old key ≡ None) (o : at h.original ≡ None) (r : at h.reply ≡ None)
+-- an entry in a slot that was free
+module _ (old new : ℕ → Option ConntrackEntry) (at at' : Tuple → Option ℕ) (key : ℕ) (h : ConntrackEntry)
+    (keyed : IsKeyed old at) (updates : Sets old new key (Some h)) (free : old key ≡ None) (o : at h.original ≡ None)
+    (r : at h.reply ≡ None)
     (now : (q : Tuple) → at' q ≡ cond (same_tuple h.reply q) (Some key) (cond (same_tuple h.original q) (Some key) (at q))) where
   not_it : (k : ℕ) (x : ConntrackEntry) (tuple : Tuple) → old k ≡ Some x → is_incoming tuple x ≡ true → at' tuple ≡ Some k
   not_it k x tuple is owned =
@@ -99,7 +107,8 @@ module _ (old new : ℕ → Option ConntrackEntry) (at at' : Tuple → Option �
         ]
       ]
 
-  either_slot : (P : ℕ → ConntrackEntry → Type 0) → P key h → ((k : ℕ) (x : ConntrackEntry) → old k ≡ Some x → P k x) → (k : ℕ) (x : ConntrackEntry) → new k ≡ Some x → P k x
+  either_slot : (P : ℕ → ConntrackEntry → Type 0) → P key h → ((k : ℕ) (x : ConntrackEntry) → old k ≡ Some x → P k x)
+      → (k : ℕ) (x : ConntrackEntry) → new k ≡ Some x → P k x
   either_slot P this that k x is =
       elim (cases_eq k key) [
         | inl e ↦
@@ -117,15 +126,19 @@ module _ (old new : ℕ → Option ConntrackEntry) (at at' : Tuple → Option �
               (h, (ap new (sym same) ∙ updates.changed, e))
           | inr f ↦
               let parts = or_parts (same_tuple h.original tuple) (same_tuple h.reply tuple) f in
-              let was = keyed.found tuple k (sym (now tuple ∙ cond_false (same_tuple h.reply tuple) (Some key) _ parts.1 ∙ cond_false (same_tuple h.original tuple) (Some key) (at tuple) parts.0) ∙ is) in
+              let was = keyed.found tuple k (sym (now tuple ∙ cond_false (same_tuple h.reply tuple) (Some key) _ parts.1
+              ∙ cond_false (same_tuple h.original tuple) (Some key) (at tuple) parts.0) ∙ is) in
               (was.0, (updates.others k (λ e. none-some was.0 (sym free ∙ ap old (sym e) ∙ was.1.0)) ∙ was.1.0, was.1.1))
         ];
-        original = either_slot (λ k x. at' x.original ≡ Some k) (is_it h.original (incoming-original h)) (λ k x is. not_it k x x.original is (incoming-original x));
-        reply = either_slot (λ k x. at' x.reply ≡ Some k) (is_it h.reply (incoming-reply h)) (λ k x is. not_it k x x.reply is (incoming-reply x));
+        original = either_slot (λ k x. at' x.original ≡ Some k) (is_it h.original (incoming-original h))
+            (λ k x is. not_it k x x.original is (incoming-original x));
+        reply = either_slot (λ k x. at' x.reply ≡ Some k) (is_it h.reply (incoming-reply h))
+            (λ k x is. not_it k x x.reply is (incoming-reply x));
       }
 
--- a connection that leaves its slot
-module _ (old new : ℕ → Option ConntrackEntry) (at at' : Tuple → Option ℕ) (key : ℕ) (h : ConntrackEntry) (keyed : IsKeyed old at) (updates : Sets old new key None) (is : old key ≡ Some h)
+-- an entry that is removed
+module _ (old new : ℕ → Option ConntrackEntry) (at at' : Tuple → Option ℕ) (key : ℕ) (h : ConntrackEntry)
+    (keyed : IsKeyed old at) (updates : Sets old new key None) (is : old key ≡ Some h)
     (now : (q : Tuple) → at' q ≡ cond (same_tuple h.reply q) None (cond (same_tuple h.original q) None (at q))) where
   still : (k : ℕ) (x : ConntrackEntry) → new k ≡ Some x → (k ≢ key) × (old k ≡ Some x)
   still k x is' =
@@ -140,7 +153,9 @@ module _ (old new : ℕ → Option ConntrackEntry) (at at' : Tuple → Option �
         | inr f ↦ f
       ] in
       let parts = or_parts (same_tuple h.original tuple) (same_tuple h.reply tuple) other in
-      now tuple ∙ cond_false (same_tuple h.reply tuple) None _ parts.1 ∙ cond_false (same_tuple h.original tuple) None (at tuple) parts.0 ∙ owner_at old at keyed k x tuple was.1 owned
+      now tuple ∙ cond_false (same_tuple h.reply tuple) None _ parts.1
+      ∙ cond_false (same_tuple h.original tuple) None (at tuple) parts.0
+      ∙ owner_at old at keyed k x tuple was.1 owned
 
   pub keyed_ended : IsKeyed new at'
   keyed_ended =
@@ -162,14 +177,26 @@ module _ (old new : ℕ → Option ConntrackEntry) (at at' : Tuple → Option �
         reply = λ k x is'. still_at k x x.reply is' (incoming-reply x);
       }
 
--- a connection that keeps its tuples
-module _ (old new : ℕ → Option ConntrackEntry) (at : Tuple → Option ℕ) (key : ℕ) (h h' : ConntrackEntry) (keyed : IsKeyed old at) (updates : Sets old new key (Some h')) (is : old key ≡ Some h) (o : h'.original ≡ h.original) (r : h'.reply ≡ h.reply) where
-  before : (k : ℕ) (x : ConntrackEntry) → new k ≡ Some x → (y : ConntrackEntry) × ((old k ≡ Some y) × ((x.original ≡ y.original) × (x.reply ≡ y.reply)))
+-- an entry that keeps its tuples
+module _ (old new : ℕ → Option ConntrackEntry) (at : Tuple → Option ℕ) (key : ℕ) (h h' : ConntrackEntry)
+    (keyed : IsKeyed old at) (updates : Sets old new key (Some h')) (is : old key ≡ Some h)
+    (o : h'.original ≡ h.original) (r : h'.reply ≡ h.reply) where
+  before : (k : ℕ) (x : ConntrackEntry) → new k ≡ Some x
+      → (y : ConntrackEntry) × ((old k ≡ Some y) × ((x.original ≡ y.original) × (x.reply ≡ y.reply)))
   before k x is' =
       elim (cases_eq k key) [
         | inl e ↦
-            let same : h' ≡ x = same_Some h' x (sym updates.changed ∙ ap new (sym e) ∙ is') in
-            (h, (ap old e ∙ is, (ap (λ (z : ConntrackEntry). z.original) (sym same) ∙ o, ap (λ (z : ConntrackEntry). z.reply) (sym same) ∙ r)))
+            let same : h' ≡ x = same_Some h' x (sym updates.changed ∙ ap new (sym e) ∙ is') in (
+              h,
+              (
+                ap old e ∙ is,
+                (
+                  ap (λ (z : ConntrackEntry). z.original) (sym same)
+                      ∙ o,
+                  ap (λ (z : ConntrackEntry). z.reply) (sym same) ∙ r,
+                ),
+              ),
+            )
         | inr d ↦ (x, (sym (updates.others k d) ∙ is', (refl, refl)))
       ]
 

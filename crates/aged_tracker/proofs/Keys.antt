@@ -1,7 +1,6 @@
--- Lists of keys, each of which has a key once.
+-- Lists of distinct keys.
 use Rattle.std.proofs.Common.{◌≡◌, ◌≢◌, ◌⊎◌, ℕ, ◌≤◌, List, [], ◌∷◌, ◌++◌, slice_get, Some, None, refl, sym, ap, ◌∙◌, subst, inl, inr, arith}
-use Rattle.std.proofs.lemmas.Bool.{cases_eq, cond-true, not_from_false}
-use Rattle.std.proofs.lemmas.Bool.{ne_eqb}
+use Rattle.std.proofs.lemmas.Bool.{cases_eq, cond-true, not_from_false, ne_eqb}
 use Rattle.std.proofs.lemmas.Option.{same_Some, none-some}
 use Rattle.futures.specs.LinkedLists.{without, IsIn, IsApart}
 use Rattle.futures.proofs.LinkLemmas.{without_head, IsIn-without}
@@ -59,8 +58,9 @@ IsApart-push key (first ∷ rest) apart absent = (
   IsApart-push key rest apart.1 (λ there. absent (inr there)),
 )
 
--- the front is the least
-pub IsRising-front : (f : ℕ → ℕ) (keys : List ℕ) (front key : ℕ) → IsRising f keys → slice_get keys 0 ≡ Some front → IsIn key keys → f front ≤ f key
+-- the front has the least moment
+pub IsRising-front : (f : ℕ → ℕ) (keys : List ℕ) (front key : ℕ) → IsRising f keys → slice_get keys 0 ≡ Some front
+    → IsIn key keys → f front ≤ f key
 IsRising-front f [] front key rising is found = absurd found
 IsRising-front f (first ∷ rest) front key rising is found =
     let same : first ≡ front = same_Some first front is in
@@ -88,7 +88,8 @@ IsRising-without f key (first ∷ rest) rising =
           (λ other found. rising.0 other (IsIn-without key other rest found).0, IsRising-without f key rest rising.1)
     ]
 
-pub IsRising-push : (f : ℕ → ℕ) (key : ℕ) (keys : List ℕ) → IsRising f keys → ((other : ℕ) → IsIn other keys → f other ≤ f key) → IsRising f (keys ++ key ∷ [])
+pub IsRising-push : (f : ℕ → ℕ) (key : ℕ) (keys : List ℕ) → IsRising f keys
+    → ((other : ℕ) → IsIn other keys → f other ≤ f key) → IsRising f (keys ++ key ∷ [])
 IsRising-push f key [] rising least = (λ other nowhere. absurd nowhere, tt)
 IsRising-push f key (first ∷ rest) rising least = (
   λ other found. elim (IsIn-push key other rest found) [
@@ -98,7 +99,7 @@ IsRising-push f key (first ∷ rest) rising least = (
   IsRising-push f key rest rising.1 (λ other found. least other (inr found)),
 )
 
--- other moments that agree at the keys of the list
+-- moments that agree at the keys of the list
 pub IsRising-same : (f g : ℕ → ℕ) (keys : List ℕ) → ((key : ℕ) → IsIn key keys → g key ≡ f key) → IsRising f keys → IsRising g keys
 IsRising-same f g [] same rising = tt
 IsRising-same f g (first ∷ rest) same rising = (

@@ -1,4 +1,4 @@
--- Searches in what is held.
+-- Searches in the entries.
 use Rattle.std.proofs.Common.{◌≡◌, ◌⊎◌, ℕ, List, [], ◌∷◌, Option, Some, None, Bool, true, false, ◌||◌, refl, sym, ap, ◌∙◌, subst, inl, inr}
 use Rattle.std.specs.List.{find, list_any}
 use Rattle.std.proofs.lemmas.Bool.{or_from, or_left, or_right, and_from, not_from_false, cases_eq, ne_eqb}
@@ -20,11 +20,14 @@ pub not_both : {P : Type 0} (b : Bool) → b ≡ true → b ≡ false → P
 not_both b t f = absurd cc
 
 module _ (f : ConntrackEntry → Bool) (s : ℕ → Option ConntrackEntry) where
-  none_step : (o : Option ConntrackEntry) (rest : List ConntrackEntry) → ((x : ConntrackEntry) → o ≡ Some x → f x ≡ false) → list_any f rest ≡ false → list_any f (cons_held o rest) ≡ false
+  none_step : (o : Option ConntrackEntry) (rest : List ConntrackEntry)
+      → ((x : ConntrackEntry) → o ≡ Some x → f x ≡ false) → list_any f rest ≡ false
+      → list_any f (cons_held o rest) ≡ false
   none_step None rest fails none = none
   none_step (Some x) rest fails none = or_from _ _ (fails x refl) none
 
-  pub any_none : (keys : List ℕ) → ((k : ℕ) (x : ConntrackEntry) → IsIn k keys → s k ≡ Some x → f x ≡ false) → list_any f (held_in s keys) ≡ false
+  pub any_none : (keys : List ℕ) → ((k : ℕ) (x : ConntrackEntry) → IsIn k keys → s k ≡ Some x → f x ≡ false)
+      → list_any f (held_in s keys) ≡ false
   any_none [] fails = refl
   any_none (k ∷ keys) fails =
       none_step (s k) (held_in s keys) (λ x is. fails k x (inl refl) is) (any_none keys (λ j x found is. fails j x (inr found) is))
@@ -43,7 +46,8 @@ module _ (f : ConntrackEntry → Bool) (s : ℕ → Option ConntrackEntry) where
         | inr there ↦ some_step (s j) (held_in s keys) (any_some keys k x there is passes)
       ]
 
-  find_fails : (o : Option ConntrackEntry) (rest : List ConntrackEntry) → ((x : ConntrackEntry) → o ≡ Some x → f x ≡ false) → find f (cons_held o rest) ≡ find f rest
+  find_fails : (o : Option ConntrackEntry) (rest : List ConntrackEntry)
+      → ((x : ConntrackEntry) → o ≡ Some x → f x ≡ false) → find f (cons_held o rest) ≡ find f rest
   find_fails None rest fails = refl
   find_fails (Some x) rest fails = rw (fails x refl) refl
 
@@ -54,7 +58,8 @@ module _ (f : ConntrackEntry → Bool) (s : ℕ → Option ConntrackEntry) where
   find_here : (x : ConntrackEntry) (rest : List ConntrackEntry) → f x ≡ true → find f (x ∷ rest) ≡ Some x
   find_here x rest passes = rw passes refl
 
-  pub find_only : (keys : List ℕ) (key : ℕ) (h : ConntrackEntry) → IsIn key keys → s key ≡ Some h → f h ≡ true → ((k : ℕ) (x : ConntrackEntry) → s k ≡ Some x → f x ≡ true → k ≡ key) → find f (held_in s keys) ≡ Some h
+  pub find_only : (keys : List ℕ) (key : ℕ) (h : ConntrackEntry) → IsIn key keys → s key ≡ Some h → f h ≡ true
+      → ((k : ℕ) (x : ConntrackEntry) → s k ≡ Some x → f x ≡ true → k ≡ key) → find f (held_in s keys) ≡ Some h
   find_only [] key h found is passes only = absurd found
   find_only (k ∷ keys) key h found is passes only =
       elim (cases_eq k key) [
@@ -64,8 +69,10 @@ module _ (f : ConntrackEntry → Bool) (s : ℕ → Option ConntrackEntry) where
             ∙ elim found [ inl here ↦ absurd (d here) | inr there ↦ find_only keys key h there is passes only ]
       ]
 
--- slots have distinct names
-distinct_step : (o : Option ConntrackEntry) (rest : List ConntrackEntry) → ((x : ConntrackEntry) → o ≡ Some x → has_id x.id rest ≡ false) → has_distinct_ids rest ≡ true → has_distinct_ids (cons_held o rest) ≡ true
+-- slots have distinct ids
+distinct_step : (o : Option ConntrackEntry) (rest : List ConntrackEntry)
+    → ((x : ConntrackEntry) → o ≡ Some x → has_id x.id rest ≡ false) → has_distinct_ids rest ≡ true
+    → has_distinct_ids (cons_held o rest) ≡ true
 distinct_step None rest apart distinct = distinct
 distinct_step (Some x) rest apart distinct = and_from _ _ (not_from_false _ (apart x refl)) distinct
 
@@ -73,5 +80,6 @@ pub distinct_held : (s : ℕ → Option ConntrackEntry) (keys : List ℕ) → Is
 distinct_held s [] named apart = refl
 distinct_held s (k ∷ keys) named apart =
     distinct_step (s k) (held_in s keys)
-    (λ x is. any_none (same_id x.id) s keys (λ j y found at. ne_eqb y.id.0 x.id.0 (λ e. apart.0 (subst (λ i. IsIn i keys) (sym (named j y at) ∙ e ∙ named k x is) found))))
+    (λ x is. any_none (same_id x.id) s keys (λ j y found at. ne_eqb y.id.0 x.id.0
+    (λ e. apart.0 (subst (λ i. IsIn i keys) (sym (named j y at) ∙ e ∙ named k x is) found))))
     (distinct_held s keys named apart.1)

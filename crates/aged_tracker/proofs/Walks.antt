@@ -1,5 +1,7 @@
--- What is read off a ring.
-use Rattle.std.proofs.Common.{◌≡◌, ◌≢◌, ◌⊎◌, ℕ, zero, suc, ◌+◌, ◌-◌, ◌<◌, ◌≤◌, cond, List, [], ◌∷◌, ◌++◌, length, slice_get, Option, Some, None, IsSome, refl, sym, ap, ◌∙◌, subst, inl, inr, arith, map, append_assoc, append-nil, length-append}
+-- Reads along a circular list.
+use Rattle.std.proofs.Common.{◌≡◌, ◌≢◌, ◌⊎◌, ℕ, zero, suc, ◌+◌, ◌-◌, ◌<◌, ◌≤◌, cond, List, [], ◌∷◌, ◌++◌, length}
+use Rattle.std.proofs.Common.{slice_get, Option, Some, None, IsSome, refl, sym, ap, ◌∙◌, subst, inl, inr, arith}
+use Rattle.std.proofs.Common.{map, append_assoc, append-nil, length-append}
 use Rattle.std.proofs.lemmas.List.{length-map, map-append}
 use Rattle.std.proofs.lemmas.Option.{same_Some, none-some}
 use Rattle.std.proofs.lemmas.Bool.{cases_eq, lt-ltb, le-ltb}
@@ -30,16 +32,19 @@ module _ (slot_list : SlotList) where
 
   module _ (next prev : ℕ → ℕ) where
     -- the key after the end of a chain's first part
-    pub chain_first : (from list : ℕ) (keys : List ℕ) → list < 5 → ring.IsChain next prev 5 from keys list → key_at (next from) ≡ slice_get keys 0
+    pub chain_first : (from list : ℕ) (keys : List ℕ) → list < 5 → ring.IsChain next prev 5 from keys list
+        → key_at (next from) ≡ slice_get keys 0
     chain_first from list [] head chain = ap key_at chain.0 ∙ key_at-head list head
     chain_first from list (first ∷ rest) head chain = key_at-key (next from) first chain.0
 
-    pub chain_after : (from list key : ℕ) (before rest : List ℕ) → list < 5 → ring.IsChain next prev 5 from (before ++ key ∷ rest) list → key_at (next (5 + key)) ≡ slice_get rest 0
+    pub chain_after : (from list key : ℕ) (before rest : List ℕ) → list < 5
+        → ring.IsChain next prev 5 from (before ++ key ∷ rest) list → key_at (next (5 + key)) ≡ slice_get rest 0
     chain_after from list key [] rest head chain = chain_first (5 + key) list rest head chain.2
     chain_after from list key (first ∷ before) rest head chain = chain_after (5 + first) list key before rest head chain.2
 
     -- a walk with enough steps finds the keys
-    pub chain_walk : (more from list : ℕ) (keys : List ℕ) → list < 5 → ring.IsChain next prev 5 from keys list → length keys ≤ more → walk next more from ≡ keys
+    pub chain_walk : (more from list : ℕ) (keys : List ℕ) → list < 5 → ring.IsChain next prev 5 from keys list
+        → length keys ≤ more → walk next more from ≡ keys
     chain_walk zero from list [] head chain enough = refl
     chain_walk zero from list (first ∷ rest) head chain enough = absurd (omega (arith, enough))
     chain_walk (suc more) from list [] head chain enough =
@@ -56,7 +61,11 @@ module _ (slot_list : SlotList) where
   in_or_not key (first ∷ rest) =
       elim (cases_eq first key) [
         | inl e ↦ inl (inl e)
-        | inr d ↦ elim (in_or_not key rest) [ inl there ↦ inl (inr there) | inr absent ↦ inr (λ f. elim f [ inl e ↦ d e | inr t ↦ absent t ]) ]
+        | inr d ↦ elim (in_or_not key rest) [
+          | inl there ↦ inl (inr there)
+          | inr absent ↦
+              inr (λ f. elim f [ inl e ↦ d e | inr t ↦ absent t ])
+        ]
       ]
 
   -- so many keys, each once, need so many slots
@@ -71,21 +80,25 @@ module _ (slot_list : SlotList) where
             (λ k found. let was = IsIn-without n k keys found in omega (arith, below k was.0, was.1)) in
             omega (arith, fewer, length-without n keys apart there)
         | inr absent ↦
-            let few : length keys ≤ n = keys_within n keys apart (λ k found. let d : k ≢ n = λ e. absent (subst (λ j. IsIn j keys) e found) in omega (arith, below k found, d)) in
+            let few : length keys ≤ n = keys_within n keys apart
+            (λ k found. let d : k ≢ n = λ e. absent (subst (λ j. IsIn j keys) e found) in
+            omega (arith, below k found, d)) in
             omega (arith, few)
       ]
 
-  -- the keys of a ring are what the walk finds
-  pub ring_keys : (slots : Slab Slot) (heads : List Link) (list : ℕ) (keys : List ℕ) → list < 5 → (IsRing slot_list) slots heads list keys → (keys_of slot_list) slots heads list ≡ keys
+  -- the keys of a circular list are what the walk finds
+  pub ring_keys : (slots : Slab Slot) (heads : List Link) (list : ℕ) (keys : List ℕ) → list < 5
+      → (IsRing slot_list) slots heads list keys → (keys_of slot_list) slots heads list ≡ keys
   ring_keys slots heads list keys range is =
       chain_walk ((next_of slot_list) slots heads) ((prev_of slot_list) slots heads) (length slots.slots) list list keys range is.chained
-      (keys_within (length slots.slots) keys is.apart (λ k found. ContainsKey-within slots k ((owned_some slot_list) (get slots k) list (is.owned k found))))
+      (keys_within (length slots.slots) keys is.apart
+      (λ k found. ContainsKey-within slots k ((owned_some slot_list) (get slots k) list (is.owned k found))))
 
-  -- some keys are those of the ring
+  -- some keys are those of the circular list
   abbrev pub SomeRing : Slab Slot → List Link → ℕ → Type 0
   SomeRing slots heads list = (keys : List ℕ) × (IsRing slot_list) slots heads list keys
 
-  -- a list has been read as far as a place
+  -- a list has been read up to a key
   pub record ReadTo (slots : Slab Slot) (heads : List Link) (list : ℕ) (to : Option ℕ) (all : List Connection) : Type 0 where
     pub before : List ℕ
     pub rest : List ℕ
@@ -98,7 +111,8 @@ module _ (slot_list : SlotList) where
     whole_ring = subst ((IsRing slot_list) slots heads list) (sym (ring_keys slots heads list some.0 range some.1)) some.1
 
     pub few_keys : length ((keys_of slot_list) slots heads list) ≤ length slots.slots
-    few_keys = keys_within (length slots.slots) _ whole_ring.apart (λ k found. ContainsKey-within slots k ((owned_some slot_list) (get slots k) list (whole_ring.owned k found)))
+    few_keys = keys_within (length slots.slots) _ whole_ring.apart
+        (λ k found. ContainsKey-within slots k ((owned_some slot_list) (get slots k) list (whole_ring.owned k found)))
 
     pub read_none : (to : Option ℕ) → to ≡ slice_get ((keys_of slot_list) slots heads list) 0 → ReadTo slots heads list to []
     read_none to is = record { before = []; rest = (keys_of slot_list) slots heads list; split = refl; next = is; read = refl }
@@ -124,27 +138,41 @@ module _ (slot_list : SlotList) where
 
     module _ (key : ℕ) (all : List Connection) (s : OccursIn key all) where
       pub occurs_slot : IsSome (get slots key)
-      occurs_slot = (owned_some slot_list) (get slots key) list (whole_ring.owned key (subst (IsIn key) (sym s.split) (in_middle s.before key s.rest)))
+      occurs_slot = (owned_some slot_list) (get slots key) list
+          (whole_ring.owned key (subst (IsIn key) (sym s.split) (in_middle s.before key s.rest)))
 
       pub occurs_ring : (IsRing slot_list) slots heads list (s.before ++ key ∷ s.rest)
       occurs_ring = subst ((IsRing slot_list) slots heads list) s.split whole_ring
 
       pub occurs_less : length all < length slots.slots
-      occurs_less = omega (arith, few_keys, ap length s.split, length-append s.before (key ∷ s.rest), ap length s.read, length-map (held_in (held_at slots) s.before) connection_of, length-held (held_at slots) s.before)
+      occurs_less = omega (
+        arith,
+        few_keys,
+        ap length s.split,
+        length-append s.before (key ∷ s.rest),
+        ap length s.read,
+        length-map (held_in (held_at slots) s.before) connection_of,
+        length-held (held_at slots) s.before,
+      )
 
-      pub read_more : (to : Option ℕ) (h : ConntrackEntry) → held_at slots key ≡ Some h → to ≡ slice_get s.rest 0 → ReadTo slots heads list to (all ++ connection_of h ∷ [])
+      pub read_more : (to : Option ℕ) (h : ConntrackEntry) → held_at slots key ≡ Some h → to ≡ slice_get s.rest 0
+          → ReadTo slots heads list to (all ++ connection_of h ∷ [])
       read_more to h is next =
           record {
             before = s.before ++ key ∷ [];
             rest = s.rest;
             split = s.split ∙ sym (append_assoc s.before (key ∷ []) s.rest);
             next = next;
-            read = ap (λ ys. ys ++ connection_of h ∷ []) s.read ∙ sym (ap (map connection_of) (held_push (held_at slots) s.before key h is) ∙ map-append connection_of (held_in (held_at slots) s.before) (h ∷ []));
+            read = ap (λ ys. ys ++ connection_of h ∷ []) s.read
+                ∙ sym (ap (map connection_of) (held_push (held_at slots) s.before key h is)
+                ∙ map-append connection_of (held_in (held_at slots) s.before) (h ∷ []));
           }
 
-    pub read_all : (all : List Connection) → ReadTo slots heads list None all → all ≡ map connection_of (held_in (held_at slots) ((keys_of slot_list) slots heads list))
+    pub read_all : (all : List Connection) → ReadTo slots heads list None all
+        → all ≡ map connection_of (held_in (held_at slots) ((keys_of slot_list) slots heads list))
     read_all all r = by_rest r.rest r.split r.next
       where
-        by_rest : (rest : List ℕ) → (keys_of slot_list) slots heads list ≡ r.before ++ rest → None ≡ slice_get rest 0 → all ≡ map connection_of (held_in (held_at slots) ((keys_of slot_list) slots heads list))
+        by_rest : (rest : List ℕ) → (keys_of slot_list) slots heads list ≡ r.before ++ rest → None ≡ slice_get rest 0
+            → all ≡ map connection_of (held_in (held_at slots) ((keys_of slot_list) slots heads list))
         by_rest [] split next = r.read ∙ ap (λ ks. map connection_of (held_in (held_at slots) ks)) (sym (split ∙ append-nil r.before))
         by_rest (first ∷ rest) split next = absurd (none-some first next)

@@ -1,5 +1,6 @@
--- The invariant of an `AgedTracker`, as a connection is touched, begun or ended.
-use Rattle.std.proofs.Common.{◌≡◌, ℕ, ◌+◌, ◌-◌, [], ◌∷◌, ◌++◌, length, Option, Some, None, IsSome, is_some, true, false, cond, refl, sym, ap, ◌∙◌, arith, length-append}
+-- The invariant of an `AgedTracker` when an entry is touched, created or removed.
+use Rattle.std.proofs.Common.{◌≡◌, ℕ, ◌+◌, ◌-◌, [], ◌∷◌, ◌++◌, length, Option, Some, None, IsSome, is_some}
+use Rattle.std.proofs.Common.{true, false, cond, refl, sym, ap, ◌∙◌, arith, length-append}
 use Rattle.std.proofs.lemmas.List.{length-map}
 use Rattle.std.specs.Prelude.{IfSome, option_map}
 use Rattle.std.proofs.lemmas.Bool.{eqb-true, false_from_ne_true}
@@ -11,7 +12,8 @@ use Rattle.conntrack.specs.declared.connection.ConnId.{ConnId}
 use Rattle.conntrack.specs.declared.connection.Direction.{Direction}
 use Rattle.conntrack.specs.declared.connection.Flags.{Flags}
 use Rattle.ip_headers.specs.Same.{same_tuple}
-use Rattle.conntrack.specs.ConntrackEntry.{aged_of, same_id, removed_entry, has_id, touched, touched_at, without, is_taken, has_distinct_ids, have_disjoint_tuples}
+use Rattle.conntrack.specs.ConntrackEntry.{aged_of, same_id, removed_entry, has_id, touched, touched_at, without}
+use Rattle.conntrack.specs.ConntrackEntry.{is_taken, has_distinct_ids, have_disjoint_tuples}
 use Rattle.aged_tracker.specs.declared.aged_slots.AgedSlots.{AgedSlots}
 use Rattle.aged_tracker.specs.steps.Table.{IsTable, Sets, held_by, keys_in, order_of, slots_of}
 use Rattle.aged_tracker.specs.steps.Keyed.{IsKeyed, IsConsistent}
@@ -43,7 +45,8 @@ module _ (t : AgedSlots) (table : IsTable t) where
   pub handed_over : (id : ConnId) (h : ConntrackEntry) → slots_of t id.0 ≡ Some h → removed_entry id (held_by t) ≡ Some (aged_of h)
   handed_over id h is =
       ap (option_map aged_of)
-      (find_only (same_id id) (slots_of t) (keys_in (order_of t) 0) id.0 h (slot_listed id.0 h is) is (same_id-named (slots_of t) id h table.linked.named is) (named_key id))
+      (find_only (same_id id) (slots_of t) (keys_in (order_of t) 0) id.0 h (slot_listed id.0 h is) is
+      (same_id-named (slots_of t) id h table.linked.named is) (named_key id))
 
   pub one_fewer : (id : ConnId) (h : ConntrackEntry) → slots_of t id.0 ≡ Some h → length (without id (held_by t)) + 1 ≡ length (held_by t)
   one_fewer id h is = length-without_one id (held_by t) distinct_by (has_by id h is)
@@ -53,7 +56,8 @@ module _ (t : AgedSlots) (table : IsTable t) where
     apart_by = apart_held (slots_of t) at keyed (keys_in (order_of t) 0) (table.linked.order.apart 0)
 
     pub taken_by : (tuple : Tuple) → IsSome (at tuple) → is_taken tuple (held_by t) ≡ true
-    taken_by tuple is = let key = some_of (at tuple) is in taken_some (slots_of t) at keyed (keys_in (order_of t) 0) tuple key.0 key.1 slot_listed
+    taken_by tuple is = let key = some_of (at tuple) is in
+        taken_some (slots_of t) at keyed (keys_in (order_of t) 0) tuple key.0 key.1 slot_listed
 
     pub free_by : (tuple : Tuple) → at tuple ≡ None → is_taken tuple (held_by t) ≡ false
     free_by tuple none = taken_none (slots_of t) at keyed (keys_in (order_of t) 0) tuple none
@@ -62,17 +66,24 @@ module _ (t : AgedSlots) (table : IsTable t) where
     no_key tuple free = free_at (slots_of t) at keyed (keys_in (order_of t) 0) tuple free slot_listed
 
 module _ (t new : AgedSlots) (at at' : Tuple → Option ℕ) (live : ℕ) (aged : IsConsistent t at live) (id : ConnId) where
-  pub aged_touched : (direction : Direction) (flags : Flags) (mark now : ℕ) → IsSome ((slots_of t) id.0) → IsTable new → held_by new ≡ touched_at id direction flags mark now (held_by t) → IfSome ((slots_of t) id.0) (λ h. Sets (slots_of t) (slots_of new) id.0 (Some (touched direction flags mark now h))) → IsConsistent new at live
+  pub aged_touched : (direction : Direction) (flags : Flags) (mark now : ℕ) → IsSome ((slots_of t) id.0) → IsTable new
+      → held_by new ≡ touched_at id direction flags mark now (held_by t)
+      → IfSome ((slots_of t) id.0) (λ h. Sets (slots_of t) (slots_of new) id.0
+      (Some (touched direction flags mark now h))) → IsConsistent new at live
   aged_touched direction flags mark now some table held slots =
       let slot = some_of ((slots_of t) id.0) some in
       let updates : Sets (slots_of t) (slots_of new) id.0 (Some (touched direction flags mark now slot.0)) = rw slot.1 at slots in
       record {
         table = table;
-        keyed = keyed_touched (slots_of t) (slots_of new) at id.0 slot.0 (touched direction flags mark now slot.0) aged.keyed updates slot.1 refl refl;
+        keyed = keyed_touched (slots_of t) (slots_of new) at id.0 slot.0
+            (touched direction flags mark now slot.0) aged.keyed updates slot.1 refl refl;
         count = aged.count ∙ sym (ap length held ∙ length-map (held_by t) _);
       }
 
-  pub aged_begun : (h : ConntrackEntry) → IsTable new → held_by new ≡ held_by t ++ h ∷ [] → (slots_of t) id.0 ≡ None → Sets (slots_of t) (slots_of new) id.0 (Some h) → at h.original ≡ None → at h.reply ≡ None → ((q : Tuple) → at' q ≡ cond (same_tuple h.reply q) (Some id.0) (cond (same_tuple h.original q) (Some id.0) (at q))) → IsConsistent new at' (live + 1)
+  pub aged_begun : (h : ConntrackEntry) → IsTable new → held_by new ≡ held_by t ++ h ∷ [] → (slots_of t) id.0 ≡ None
+      → Sets (slots_of t) (slots_of new) id.0 (Some h) → at h.original ≡ None → at h.reply ≡ None
+      → ((q : Tuple) → at' q ≡ cond (same_tuple h.reply q) (Some id.0)
+      (cond (same_tuple h.original q) (Some id.0) (at q))) → IsConsistent new at' (live + 1)
   aged_begun h table held free updates o r now =
       record {
         table = table;
@@ -80,19 +91,29 @@ module _ (t new : AgedSlots) (at at' : Tuple → Option ℕ) (live : ℕ) (aged 
         count = omega (arith, aged.count, ap length held, length-append (held_by t) (h ∷ []));
       }
 
-  pub aged_ended : (h : ConntrackEntry) → IsTable new → held_by new ≡ without id (held_by t) → (slots_of t) id.0 ≡ Some h → Sets (slots_of t) (slots_of new) id.0 None → ((q : Tuple) → at' q ≡ cond (same_tuple h.reply q) None (cond (same_tuple h.original q) None (at q))) → IsConsistent new at' (live - 1)
+  pub aged_ended : (h : ConntrackEntry) → IsTable new → held_by new ≡ without id (held_by t)
+      → (slots_of t) id.0 ≡ Some h → Sets (slots_of t) (slots_of new) id.0 None
+      → ((q : Tuple) → at' q ≡ cond (same_tuple h.reply q) None (cond (same_tuple h.original q) None (at q)))
+      → IsConsistent new at' (live - 1)
   aged_ended h table held is updates now =
       record {
         table = table;
         keyed = keyed_ended (slots_of t) (slots_of new) at at' id.0 h aged.keyed updates is now;
-        count = omega (arith, aged.count, ap length held, length-without_one id (held_by t) (distinct_by t aged.table) (has_by t aged.table id h is));
+        count = omega (
+          arith,
+          aged.count,
+          ap length held,
+          length-without_one id (held_by t) (distinct_by t aged.table) (has_by t aged.table id h is),
+        );
       }
 
 pub none_of : {X : Type 0} (o : Option X) → is_some o ≡ false → o ≡ None
 none_of None is = refl
 none_of (Some x) is = absurd cc
 
-pub aged_grown : (t new : AgedSlots) (at at' : Tuple → Option ℕ) (live : ℕ) → IsConsistent t at live → IsTable new → held_by new ≡ held_by t → ((k : ℕ) → slots_of new k ≡ slots_of t k) → ((q : Tuple) → at' q ≡ at q) → IsConsistent new at' live
+pub aged_grown : (t new : AgedSlots) (at at' : Tuple → Option ℕ) (live : ℕ) → IsConsistent t at live → IsTable new
+    → held_by new ≡ held_by t → ((k : ℕ) → slots_of new k ≡ slots_of t k) → ((q : Tuple) → at' q ≡ at q)
+    → IsConsistent new at' live
 aged_grown t new at at' live aged table held same now =
     record {
       table = table;

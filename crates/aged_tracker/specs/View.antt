@@ -1,10 +1,10 @@
--- What a contract sees of an `AgedTracker`.
+-- What an `AgedTracker` shows to contracts (own).
 use Rattle.std.specs.Prelude.{Bool, List}
 use Rattle.conntrack.specs.declared.connection.ConntrackEntry.{ConntrackEntry}
 use Rattle.box_file.specs.declared.limits.Limits.{Limits}
 
--- for how long its connections may be idle, what it holds, in order of beginning, and whether one more takes no memory
-pub record Aged : Type 0 where
+-- its timeouts, its entries in the order of their creation, and whether memory for one more is reserved
+pub record TrackerView : Type 0 where
   pub limits : Limits
   pub held : List ConntrackEntry
   pub room : Bool

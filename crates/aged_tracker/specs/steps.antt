@@ -1,4 +1,4 @@
--- What is said on the way to a proof: nothing that a public contract cites.
+-- Definitions for proofs and private functions: no public contract cites them.
 pub mod Packed
 pub mod Keyed
 pub mod SlotLists

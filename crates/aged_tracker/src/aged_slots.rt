@@ -1,4 +1,4 @@
-//! The slots, and the lists that go through them.
+//! The slots of a table, and the lists through them.
 ghost use Rattle.std.specs.Prelude.{◌≡◌, ◌+◌, ◌<◌, ◌≤◌, ◌++◌, ◌∷◌, [], ℕ, nat_lt, IsTrue, IsSome, IfOk, IsOk, OnOk, Some, None, IfSome, IfNone, false, map};
 ghost use Rattle.slab.specs.Slab.{get, slab_len, ContainsKey, Updates};
 ghost use Rattle.conntrack.specs.ConntrackEntry.{begun_with, connection_of, is_live, touched, touched_at, without, IsNoneLater};
@@ -16,7 +16,7 @@ use ip_headers::Kind;
 use slab::Slab;
 use std::alloc::Global;
 
-// The queues, one for each idle limit.
+// The queues, one for each timeout.
 const UDP: usize = 0;
 
 const ESTABLISHED: usize = 1;
@@ -27,19 +27,19 @@ const ECHO: usize = 3;
 
 const OTHER: usize = 4;
 
-/// The slots, a list through all of them in order of beginning, and a queue for each idle limit.
-/// `steps` counts each slot that a call reads or writes; nobody else has the slots.
+/// The slots, a list through all of them in the order of their creation, and a queue for each
+/// timeout. `steps` counts each slot that a call reads or writes; slots are accessed here alone.
 #[derive(Drop)]
 pub struct AgedSlots {
     slots: Slab<Slot>,
     order: [Link; LISTS],
     queues: [Link; LISTS],
-    // The moment of the last packet of each queue's front, so that no slot need be read to learn
-    // that none is dead.
+    // The moment of the last packet of each queue's front, so that finding no expired entry visits
+    // no slot.
     oldest: [Moment; LISTS],
 }
 
-/// The queue that a connection belongs to.
+/// The queue of an entry.
 fn queue_of(held: &ConntrackEntry) -> usize
     ensures queue { result ≡ queue_of held.now }
     ensures range { result < 5 }
@@ -53,7 +53,7 @@ fn queue_of(held: &ConntrackEntry) -> usize
     }
 }
 
-/// For how long a connection of the queue is live.
+/// The timeout of a queue's entries in nanoseconds.
 fn limit_at(limits: Limits, queue: usize) -> u64
     ensures { result ≡ limit_at limits queue }
 {
@@ -70,7 +70,8 @@ fn limit_at(limits: Limits, queue: usize) -> u64
 fn oldest_of(slots: &Slab<Slot>, queues: &[Link; LISTS], queue: usize, steps: &mut Steps) -> Moment
     requires range { queue < 5 }
     requires rings { IsRings Queues slots.now queues.now }
-    ensures oldest { IsOldest (held_at slots.now) (lists_of Queues slots.now queues.now) queue result }
+    ensures oldest { IsOldest (held_at slots.now)
+        (lists_of Queues slots.now queues.now) queue result }
     ensures rises { steps.old ≤ steps.new }
     ensures steps { steps.new ≤ steps.old + 1 }
 {
@@ -86,7 +87,7 @@ fn oldest_of(slots: &Slab<Slot>, queues: &[Link; LISTS], queue: usize, steps: &m
     }
 }
 
-/// Counts one more packet of the connection in a slot, and answers its queue then.
+/// Updates the entry in a slot for one more packet, and returns its queue then.
 fn touch_slot(
     slots: &mut Slab<Slot>,
     key: usize,
@@ -97,8 +98,11 @@ fn touch_slot(
     steps: &mut Steps,
 ) -> usize
     requires { ContainsKey slots.old key }
-    ensures slots { IfSome (get slots.old key) (λ s. Updates slots.old slots.new key (Some (updated (touched direction flags mark now (held_of key s)) s))) }
-    ensures queue { IfSome (get slots.old key) (λ s. result ≡ queue_of (touched direction flags mark now (held_of key s))) }
+    ensures slots { IfSome (get slots.old key)
+        (λ s. Updates slots.old slots.new key
+        (Some (updated (touched direction flags mark now (held_of key s)) s))) }
+    ensures queue { IfSome (get slots.old key)
+        (λ s. result ≡ queue_of (touched direction flags mark now (held_of key s))) }
     ensures range { result < 5 }
     ensures size { SameSize slots.old slots.new }
     ensures rises { steps.old ≤ steps.new }
@@ -114,12 +118,13 @@ fn touch_slot(
     }
 }
 
-/// Fills a free slot, which is in no list.
+/// Fills a free slot, which is in no list yet.
 fn fill(slots: &mut Slab<Slot>, held: &ConntrackEntry, steps: &mut Steps) -> usize
     requires { IsTrue (nat_lt (slab_len slots.old) slots.old.capacity) }
     ensures key { result ≡ slots.old.vacant_key }
     ensures free { get slots.old result ≡ None }
-    ensures fills { Fills slots.old slots.new result (record held.now { id = record { 0 = result } }) }
+    ensures fills { Fills slots.old slots.new result
+        (record held.now { id = record { 0 = result } }) }
     ensures rises { steps.old ≤ steps.new }
     ensures steps { steps.new ≤ steps.old + 1 }
 {
@@ -142,7 +147,7 @@ impl AgedSlots {
         }
     }
 
-    /// What a slot holds.
+    /// The entry in a slot.
     pub fn read(&self, key: usize, steps: &mut Steps) -> ConntrackEntry
         requires { IsSome (slots_of self.now key) }
         ensures held { slots_of self.now key ≡ Some result }
@@ -156,7 +161,7 @@ impl AgedSlots {
         }
     }
 
-    /// Counts one more packet of a connection, which goes to the end of its queue.
+    /// Updates an entry for one more packet and moves it to the end of its queue.
     pub fn touch(
         &mut self,
         id: ConnId,
@@ -170,8 +175,11 @@ impl AgedSlots {
         requires is_held { IsSome (slots_of self.old id.0) }
         requires later { IsNoneLater now (held_by self.old) }
         ensures table { IsTable self.new }
-        ensures held { held_by self.new ≡ touched_at id direction flags mark now (held_by self.old) }
-        ensures slots { IfSome (slots_of self.old id.0) (λ h. Sets (slots_of self.old) (slots_of self.new) id.0 (Some (touched direction flags mark now h))) }
+        ensures held { held_by self.new
+            ≡ touched_at id direction flags mark now (held_by self.old) }
+        ensures slots { IfSome (slots_of self.old id.0)
+            (λ h. Sets (slots_of self.old) (slots_of self.new) id.0
+            (Some (touched direction flags mark now h))) }
         ensures room { IsTrue (has_room self.old) → IsTrue (has_room self.new) }
         ensures rises { steps.old ≤ steps.new }
         ensures steps { steps.new ≤ steps.old + 8 }
@@ -197,16 +205,18 @@ impl AgedSlots {
         self.oldest[queue] = oldest_of(&self.slots, &self.queues, queue, steps);
     }
 
-    /// Begins a connection, last in the order and in its queue.
+    /// Creates an entry, at the end of the order and of its queue.
     pub fn insert(&mut self, connection: Connection, flags: Flags, steps: &mut Steps) -> ConnId
         requires table { IsTable self.old }
         requires room { IsTrue (has_room self.old) }
         requires later { IsNoneLater connection.last (held_by self.old) }
         ensures table { IsTable self.new }
-        ensures held { held_by self.new ≡ held_by self.old ++ begun_with result connection flags ∷ [] }
+        ensures held { held_by self.new
+            ≡ held_by self.old ++ begun_with result connection flags ∷ [] }
         ensures free { slots_of self.old result.0 ≡ None }
         ensures few { result.0 < MAX_KEYS }
-        ensures slots { Sets (slots_of self.old) (slots_of self.new) result.0 (Some (begun_with result connection flags)) }
+        ensures slots { Sets (slots_of self.old) (slots_of self.new) result.0
+            (Some (begun_with result connection flags)) }
         ensures rises { steps.old ≤ steps.new }
         ensures steps { steps.new ≤ steps.old + 6 }
     {
@@ -244,7 +254,7 @@ impl AgedSlots {
         ConnId(key)
     }
 
-    /// Takes a connection out of its slot and its lists.
+    /// Removes an entry from its slot and its lists.
     pub fn remove(&mut self, id: ConnId, steps: &mut Steps) -> ConntrackEntry
         requires table { IsTable self.old }
         requires is_held { IsSome (slots_of self.old id.0) }
@@ -277,11 +287,13 @@ impl AgedSlots {
         slot.held(key)
     }
 
-    /// The front of a queue, where it is dead. No slot is visited.
+    /// The front of a queue, if it has expired. It visits no slot.
     fn expired_front(&self, limits: Limits, queue: usize, now: Moment) -> Option<ConnId>
         requires table { IsTable self.now }
         requires range { queue < 5 }
-        ensures some { IfSome result (λ id. IfSome (slots_of self.now id.0) (λ h. is_live limits now h ≡ false) × IsSome (slots_of self.now id.0)) }
+        ensures some { IfSome result (λ id.
+            IfSome (slots_of self.now id.0) (λ h. is_live limits now h ≡ false)
+            × IsSome (slots_of self.now id.0)) }
         ensures none { IfNone result (IsLiveQueue limits (slots_of self.now) now queue) }
     {
         match front(&self.slots, &self.queues, SlotList::Queues, queue) {
@@ -296,10 +308,12 @@ impl AgedSlots {
         }
     }
 
-    /// One that is dead. No slot is visited.
+    /// An expired entry, if there is one. It visits no slot.
     pub fn expired(&self, limits: Limits, now: Moment) -> Option<ConnId>
         requires { IsTable self.now }
-        ensures some { IfSome result (λ id. IfSome (slots_of self.now id.0) (λ h. is_live limits now h ≡ false) × IsSome (slots_of self.now id.0)) }
+        ensures some { IfSome result (λ id.
+            IfSome (slots_of self.now id.0) (λ h. is_live limits now h ≡ false)
+            × IsSome (slots_of self.now id.0)) }
         ensures none { IfNone result (IsAllLive limits (slots_of self.now) now) }
     {
         for queue in 0..LISTS {
@@ -311,8 +325,12 @@ impl AgedSlots {
         None
     }
 
-    /// Makes room for one more. Where there is room already nothing changes. No table comes to keys that
-    /// have no number, as the slab gives out vacant ones first; but its contract doesn't say so.
+    /// Reserves memory for one more entry. If it is reserved already nothing changes.
+    ///
+    /// # Errors
+    ///
+    /// `Memory` where memory ran out, or where the next key has no 32-bit node index. The latter
+    /// cannot happen in practice: the slab reuses vacant keys before it grows.
     pub fn reserve_one(&mut self) -> Result<(), Memory>
         requires table { IsTable self.old }
         ensures table { IsTable self.new }
@@ -334,7 +352,7 @@ impl AgedSlots {
         }
     }
 
-    /// All connections, in order of beginning.
+    /// All entries in the order of their creation.
     pub fn list(&self, alloc: Global) -> Result<Vec<Connection>, Memory>
         requires { IsTable self.now }
         ensures { IfOk result (λ all. all.items ≡ map connection_of (held_by self.now)) }
@@ -352,7 +370,7 @@ impl AgedSlots {
     }
 }
 
-/// The connection in a slot, as it is listed.
+/// The entry in a slot, as it is listed.
 fn connection_at(slots: &Slab<Slot>, key: usize) -> Connection
     requires { ContainsKey slots.now key }
     ensures { IfSome (held_at slots.now key) (λ h. result ≡ connection_of h) }

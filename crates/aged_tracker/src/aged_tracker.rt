@@ -1,4 +1,4 @@
-//! A table of connections whose calls visit few slots.
+//! A conntrack table whose calls visit few slots.
 ghost use Rattle.std.specs.Prelude.{◌≡◌, ◌+◌, ◌<◌, ◌≤◌, IsTrue, Some, None, cond, is_some};
 ghost use Rattle.conntrack.specs.ConntrackEntry.{have_disjoint_tuples, belongs_in, has_distinct_ids, live_at};
 ghost use Rattle.std.specs.HashMap.{get, spare};
@@ -19,12 +19,12 @@ use std::collections::HashMap;
 use std::hash::RandomState;
 use std::marker::Model;
 
-/// Keeps connections in slots, which are found by their incoming tuples and aged by queues: a call
-/// visits at most 8 slots, however many are held.
+/// Keeps entries in slots that are found by an index of their incoming tuples and expire by queues.
+/// A call visits at most 8 slots, however many entries there are.
 #[derive(Drop)]
 pub struct AgedTracker {
     slots: AgedSlots,
-    // The slot of the connection that a tuple is an incoming tuple of, in 32 bits as two lead to each.
+    // The slot of each incoming tuple. Keys are 32 bits wide, as each entry has two here.
     keys: HashMap<Tuple, u32, RandomState>,
     live: usize,
     limits: Limits,
@@ -34,21 +34,26 @@ impl Model for AgedTracker {
     ghost use Rattle.std.specs.Prelude.{◌&&◌, nat_lt};
     ghost use Rattle.std.specs.HashMap.{get, spare};
     ghost use Rattle.ip_headers.specs.Same.{same_tuple};
-    ghost use Rattle.aged_tracker.specs.View.{Aged as Seen};
+    ghost use Rattle.aged_tracker.specs.View.{TrackerView};
     ghost use Rattle.aged_tracker.specs.steps.Table.{held_by, has_room};
     ghost use Rattle.aged_tracker.specs.steps.Keyed.{IsConsistent};
 
-    ghost Value = { Seen };
+    ghost Value = { TrackerView };
 
-    ghost view = { λ t. record { limits = t.limits; held = held_by t.slots; room = has_room t.slots && nat_lt 1 (spare t.keys) } };
+    ghost view = { λ t. record {
+      limits = t.limits;
+      held = held_by t.slots;
+      room = has_room t.slots && nat_lt 1 (spare t.keys);
+    } };
 
     ghost invariant = { λ t. IsConsistent t.slots (get same_tuple t.keys) t.live };
 }
 
 impl AgedTracker {
-    /// What a packet with this tuple and these flags belongs to at a moment.
+    /// Looks up a packet with this tuple and these flags at a moment.
     fn find(&self, tuple: Tuple, flags: Flags, now: Moment, steps: &mut Steps) -> Belonging
-        ensures belonging { result ≡ belongs_in (live_at self.now.limits now self.now.held) tuple flags }
+        ensures belonging { result
+            ≡ belongs_in (live_at self.now.limits now self.now.held) tuple flags }
         ensures distinct { IsTrue (has_distinct_ids self.now.held) }
         ensures apart { IsTrue (have_disjoint_tuples self.now.held) }
         ensures rises { steps.old ≤ steps.new }
@@ -153,10 +158,11 @@ impl Tracker for AgedTracker {
     }
 }
 
-/// Lets a tuple lead to a slot.
+/// Adds a tuple to the index.
 fn insert_tuple(keys: &mut HashMap<Tuple, u32, RandomState>, tuple: Tuple, key: u32)
     requires { 0 < spare keys.old }
-    ensures keys { (q : Tupled) → get same_tuple keys.new q ≡ cond (same_tuple tuple q) (Some key) (get same_tuple keys.old q) }
+    ensures keys { (q : Tupled) → get same_tuple keys.new q
+        ≡ cond (same_tuple tuple q) (Some key) (get same_tuple keys.old q) }
     ensures spare { spare keys.old ≤ spare keys.new + 1 }
 {
     match keys.insert(tuple, key) {
@@ -165,36 +171,37 @@ fn insert_tuple(keys: &mut HashMap<Tuple, u32, RandomState>, tuple: Tuple, key: 
     }
 }
 
-/// How many more tuples can lead to a slot.
+/// How many more tuples fit in the index without growing.
 fn spare_of(keys: &HashMap<Tuple, u32, RandomState>) -> usize
     ensures { result ≡ spare keys.now }
 {
     keys.capacity() - keys.len()
 }
 
-/// Lets a tuple lead nowhere.
+/// Removes a tuple from the index.
 fn remove_tuple(keys: &mut HashMap<Tuple, u32, RandomState>, tuple: Tuple)
-    ensures keys { (q : Tupled) → get same_tuple keys.new q ≡ cond (same_tuple tuple q) None (get same_tuple keys.old q) }
+    ensures keys { (q : Tupled) → get same_tuple keys.new q
+        ≡ cond (same_tuple tuple q) None (get same_tuple keys.old q) }
     ensures spare { spare keys.old ≤ spare keys.new }
 {
     keys.remove(&tuple);
 }
 
-/// The slot that a tuple leads to.
+/// The slot of a tuple.
 fn key_of(keys: &HashMap<Tuple, u32, RandomState>, tuple: Tuple) -> Option<usize>
     ensures { result ≡ get same_tuple keys.now tuple }
 {
     keys.get(&tuple).map(|key| *key as usize)
 }
 
-/// Whether a tuple leads to a slot.
+/// Whether the index contains a tuple.
 fn contains_tuple(keys: &HashMap<Tuple, u32, RandomState>, tuple: Tuple) -> bool
     ensures { result ≡ is_some (get same_tuple keys.now tuple) }
 {
     keys.contains_key(&tuple)
 }
 
-/// What a packet with a tuple belongs to, where it is an incoming tuple of this connection.
+/// The lookup result of a packet whose tuple is an incoming tuple of this entry.
 fn belonging(
     held: &ConntrackEntry,
     limits: Limits,
@@ -217,7 +224,7 @@ fn belonging(
     }
 }
 
-/// Whether two tuples are one.
+/// Whether two tuples are equal.
 fn is_same(one: Tuple, other: Tuple) -> bool
     ensures { result ≡ same_tuple one other }
 {

@@ -1,5 +1,5 @@
-//! A table of connections that is found by tuples and aged by queues, so that each call visits few
-//! slots however many are held.
+//! A conntrack table with an index of tuples and expiry queues, so that each call visits few slots,
+//! however many entries there are.
 #![tactic(auto)]
 
 mod aged_slots;

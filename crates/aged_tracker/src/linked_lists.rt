@@ -1,4 +1,5 @@
-//! Lists of slots, each a ring through its head. `steps` counts each slot that is read or written.
+//! Circular doubly linked lists of slots, each with a head. `steps` counts each slot that is read
+//! or written.
 ghost use Rattle.std.specs.Prelude.{◌≡◌, ◌+◌, ◌<◌, ◌≤◌, ◌++◌, ◌∷◌, [], ℕ, List, Some, None, IfSome, slice_get};
 ghost use Rattle.slab.specs.Slab.{get, ContainsKey, Updates};
 ghost use Rattle.futures.specs.Links.{Joins};
@@ -10,7 +11,7 @@ use crate::slot::{LISTS, Link, ListLinks, NodeIndex, Slot, SlotList};
 use conntrack::Steps;
 use slab::Slab;
 
-/// The link at a place.
+/// The links of a node.
 fn link_at(slots: &Slab<Slot>, heads: &[Link; LISTS], slot_list: SlotList, at: NodeIndex) -> Link
     requires { IsNode slots.now (number at) }
     ensures { result ≡ link_at slot_list slots.now heads.now (number at) }
@@ -21,7 +22,7 @@ fn link_at(slots: &Slab<Slot>, heads: &[Link; LISTS], slot_list: SlotList, at: N
     }
 }
 
-/// The link of a slot.
+/// The links of a slot.
 fn slot_link(slots: &Slab<Slot>, slot_list: SlotList, key: usize) -> Link
     requires { ContainsKey slots.now key }
     ensures { (heads : List Linked) → result ≡ link_at slot_list slots.now heads (5 + key) }
@@ -32,7 +33,7 @@ fn slot_link(slots: &Slab<Slot>, slot_list: SlotList, key: usize) -> Link
     }
 }
 
-/// Writes the link of a slot.
+/// Writes the links of a slot.
 fn set_slot_link(
     slots: &mut Slab<Slot>,
     slot_list: SlotList,
@@ -41,7 +42,8 @@ fn set_slot_link(
     steps: &mut Steps,
 )
     requires { ContainsKey slots.old key }
-    ensures slots { IfSome (get slots.old key) (λ s. Updates slots.old slots.new key (Some (with_link slot_list link s))) }
+    ensures slots { IfSome (get slots.old key)
+        (λ s. Updates slots.old slots.new key (Some (with_link slot_list link s))) }
     ensures size { SameSize slots.old slots.new }
     ensures rises { steps.old ≤ steps.new }
     ensures steps { steps.new ≤ steps.old + 1 }
@@ -56,7 +58,7 @@ fn set_slot_link(
     }
 }
 
-/// Writes the link at a place.
+/// Writes the links of a node.
 fn set_link(
     slots: &mut Slab<Slot>,
     heads: &mut [Link; LISTS],
@@ -66,7 +68,8 @@ fn set_link(
     steps: &mut Steps,
 )
     requires { IsNode slots.old (number at) }
-    ensures links { Relinks (link_at slot_list slots.old heads.old) (link_at slot_list slots.new heads.new) (number at) link }
+    ensures links { Relinks (link_at slot_list slots.old heads.old)
+        (link_at slot_list slots.new heads.new) (number at) link }
     ensures except_neighbours { SameExceptNeighbours slot_list slots.old slots.new }
     ensures size { SameSize slots.old slots.new }
     ensures rises { steps.old ≤ steps.new }
@@ -79,7 +82,7 @@ fn set_link(
     }
 }
 
-/// Lets a place lead to another.
+/// Sets the next node of a node.
 fn set_next(
     slots: &mut Slab<Slot>,
     heads: &mut [Link; LISTS],
@@ -89,8 +92,10 @@ fn set_next(
     steps: &mut Steps,
 )
     requires { IsNode slots.old (number at) }
-    ensures next { Joins (next_of slot_list slots.old heads.old) (next_of slot_list slots.new heads.new) (number at) (number to) }
-    ensures prev { (p : ℕ) → prev_of slot_list slots.new heads.new p ≡ prev_of slot_list slots.old heads.old p }
+    ensures next { Joins (next_of slot_list slots.old heads.old)
+        (next_of slot_list slots.new heads.new) (number at) (number to) }
+    ensures prev { (p : ℕ) → prev_of slot_list slots.new heads.new p
+        ≡ prev_of slot_list slots.old heads.old p }
     ensures except_neighbours { SameExceptNeighbours slot_list slots.old slots.new }
     ensures size { SameSize slots.old slots.new }
     ensures rises { steps.old ≤ steps.new }
@@ -105,7 +110,7 @@ fn set_next(
     set_link(slots, heads, slot_list, at, new, steps);
 }
 
-/// Lets a place lead back to another.
+/// Sets the previous node of a node.
 fn set_prev(
     slots: &mut Slab<Slot>,
     heads: &mut [Link; LISTS],
@@ -115,8 +120,10 @@ fn set_prev(
     steps: &mut Steps,
 )
     requires { IsNode slots.old (number at) }
-    ensures prev { Joins (prev_of slot_list slots.old heads.old) (prev_of slot_list slots.new heads.new) (number at) (number to) }
-    ensures next { (p : ℕ) → next_of slot_list slots.new heads.new p ≡ next_of slot_list slots.old heads.old p }
+    ensures prev { Joins (prev_of slot_list slots.old heads.old)
+        (prev_of slot_list slots.new heads.new) (number at) (number to) }
+    ensures next { (p : ℕ) → next_of slot_list slots.new heads.new p
+        ≡ next_of slot_list slots.old heads.old p }
     ensures except_neighbours { SameExceptNeighbours slot_list slots.old slots.new }
     ensures size { SameSize slots.old slots.new }
     ensures rises { steps.old ≤ steps.new }
@@ -134,7 +141,8 @@ fn set_prev(
 /// Writes which list a slot is in.
 fn set_list(slots: &mut Slab<Slot>, slot_list: SlotList, key: usize, list: Option<u8>)
     requires { ContainsKey slots.old key }
-    ensures slots { IfSome (get slots.old key) (λ s. Updates slots.old slots.new key (Some (with_list slot_list list s))) }
+    ensures slots { IfSome (get slots.old key)
+        (λ s. Updates slots.old slots.new key (Some (with_list slot_list list s))) }
     ensures size { SameSize slots.old slots.new }
 {
     match slots.get_mut(key) {
@@ -161,7 +169,7 @@ fn owner(slots: &Slab<Slot>, slot_list: SlotList, key: usize) -> usize
     }
 }
 
-/// Takes a slot out of its list, which it answers.
+/// Removes a slot from its list, and returns that list.
 pub fn unlink(
     slots: &mut Slab<Slot>,
     heads: &mut [Link; LISTS],
@@ -174,7 +182,8 @@ pub fn unlink(
     ensures rings { IsRings slot_list slots.new heads.new }
     ensures owner { owner_of slot_list slots.old key ≡ Some result }
     ensures range { result < 5 }
-    ensures lists { Unlinks (lists_of slot_list slots.old heads.old) (lists_of slot_list slots.new heads.new) key result }
+    ensures lists { Unlinks (lists_of slot_list slots.old heads.old)
+        (lists_of slot_list slots.new heads.new) key result }
     ensures except_links { SameExceptLinks slot_list slots.old slots.new }
     ensures size { SameSize slots.old slots.new }
     ensures rises { steps.old ≤ steps.new }
@@ -189,7 +198,7 @@ pub fn unlink(
     list
 }
 
-/// Puts a slot that is in no list of a thread last in one.
+/// Appends a slot that is in no list of this set to one.
 pub fn push_back(
     slots: &mut Slab<Slot>,
     heads: &mut [Link; LISTS],
@@ -204,7 +213,8 @@ pub fn push_back(
     requires free { owner_of slot_list slots.old key ≡ None }
     requires rings { IsRings slot_list slots.old heads.old }
     ensures rings { IsRings slot_list slots.new heads.new }
-    ensures lists { Pushes (lists_of slot_list slots.old heads.old) (lists_of slot_list slots.new heads.new) key list }
+    ensures lists { Pushes (lists_of slot_list slots.old heads.old)
+        (lists_of slot_list slots.new heads.new) key list }
     ensures except_links { SameExceptLinks slot_list slots.old slots.new }
     ensures size { SameSize slots.old slots.new }
     ensures rises { steps.old ≤ steps.new }
@@ -223,7 +233,7 @@ pub fn push_back(
     set_list(slots, slot_list, key, Some(list as u8));
 }
 
-/// The first key of a list. No slot is visited.
+/// The first key of a list. It visits no slot.
 pub fn front(
     slots: &Slab<Slot>,
     heads: &[Link; LISTS],
@@ -242,15 +252,18 @@ pub fn front(
 /// The key after a key in its list.
 pub fn after(slots: &Slab<Slot>, slot_list: SlotList, key: usize) -> Option<usize>
     requires { ContainsKey slots.now key }
-    ensures { (heads : List Linked) (list : ℕ) (before rest : List ℕ) → list < 5 → IsRing slot_list slots.now heads list (before ++ key ∷ rest) → result ≡ slice_get rest 0 }
+    ensures { (heads : List Linked) (list : ℕ) (before rest : List ℕ) → list < 5
+        → IsRing slot_list slots.now heads list (before ++ key ∷ rest) → result ≡ slice_get rest 0 }
 {
     slot_link(slots, slot_list, key).next.key()
 }
 
 /// The heads of empty lists.
 pub fn empty_heads() -> [Link; LISTS]
-    ensures rings { (slot_list : SlotListName) (slots : Slots) → slots.slots ≡ [] → IsRings slot_list slots result }
-    ensures lists { (slot_list : SlotListName) (slots : Slots) (list : ℕ) → slots.slots ≡ [] → keys_of slot_list slots result list ≡ [] }
+    ensures rings { (slot_list : SlotListName) (slots : Slots) → slots.slots ≡ []
+        → IsRings slot_list slots result }
+    ensures lists { (slot_list : SlotListName) (slots : Slots) (list : ℕ) → slots.slots ≡ []
+        → keys_of slot_list slots result list ≡ [] }
 {
     [
         Link::alone(0),

@@ -1,10 +1,10 @@
-//! Tuples and mappings without the room that alignment leaves between their fields.
+//! Tuples and mappings packed to 14 bytes (no padding).
 ghost use Rattle.std.specs.Prelude.{◌≡◌, option_map};
 ghost use Rattle.aged_tracker.specs.steps.Packed.{endpoint_of, mapping_of, tuple_of};
 
 use ip_headers::{Endpoint, Kind, Mapping, Tuple};
 
-/// An endpoint in 6 bytes: halves of an address need no wider alignment than a port.
+/// An endpoint in 6 bytes: with the address in halves, 2-byte alignment is enough.
 #[derive(Clone, Copy)]
 struct PackedEndpoint {
     /// The upper 16 bits of the address.
@@ -14,7 +14,7 @@ struct PackedEndpoint {
     port: u16,
 }
 
-/// A kind and two endpoints in 14 bytes, as a tuple or a mapping has them in 20.
+/// A kind and two endpoints in 14 bytes instead of a tuple's or a mapping's 20.
 #[derive(Clone, Copy)]
 pub struct PackedTuple {
     kind: Kind,
@@ -46,7 +46,7 @@ impl PackedEndpoint {
 }
 
 impl PackedTuple {
-    /// Those of a tuple.
+    /// Packs a tuple.
     pub fn of_tuple(tuple: Tuple) -> Self
         ensures { tuple_of result ≡ tuple }
     {
@@ -57,7 +57,7 @@ impl PackedTuple {
         }
     }
 
-    /// The tuple.
+    /// Unpacks a tuple.
     pub fn tuple(self) -> Tuple
         ensures { result ≡ tuple_of self }
     {
@@ -68,7 +68,7 @@ impl PackedTuple {
         }
     }
 
-    /// Those of a mapping, where there is one.
+    /// Packs a mapping, if there is one.
     pub fn of_mapping(mapping: Option<Mapping>) -> Option<Self>
         ensures { option_map mapping_of result ≡ mapping }
     {
@@ -82,7 +82,7 @@ impl PackedTuple {
         }
     }
 
-    /// The mapping, where there is one.
+    /// Unpacks a mapping, if there is one.
     pub fn mapping(packed: Option<Self>) -> Option<Mapping>
         ensures { result ≡ option_map mapping_of packed }
     {

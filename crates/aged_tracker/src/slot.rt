@@ -1,4 +1,4 @@
-//! A slot of the table, and how it is linked with others.
+//! The slots of a table, and their links.
 ghost use Rattle.std.specs.Prelude.{◌≡◌, ◌+◌, ◌<◌, ℕ, None};
 ghost use Rattle.conntrack.specs.ConntrackEntry.{touched};
 ghost use Rattle.aged_tracker.specs.steps.SlotLists.{MAX_KEYS, held_of, key_at, links_of, updated, number, with_links};
@@ -8,14 +8,15 @@ use crate::packed::PackedTuple;
 use conntrack::{ConnId, ConntrackEntry, Direction, Flags, Moment};
 use std::mem::size_of;
 
-/// How many lists a thread has: one for each idle limit. The order of beginning is the first one.
+/// How many lists a set has: one for each timeout. The order of creation is the first list of its
+/// set.
 pub const LISTS: usize = 5;
 
-/// How many keys slots may have, so that each place has a number of 32 bits.
+/// How many keys slots may have, so that node indexes fit in 32 bits.
 pub const MAX_KEYS: usize = 4_294_967_291;
 
-/// Where a link leads: heads and slots are numbered one after another, first the heads of the lists,
-/// then the slots by their keys. Each slot has four of these numbers, so they have 32 bits.
+/// The index of a node: first the heads of the lists are numbered, then the slots by their keys. It
+/// has 32 bits, as each slot has four of them.
 #[derive(Clone, Copy)]
 pub struct NodeIndex(u32);
 
@@ -36,14 +37,14 @@ impl NodeIndex {
         NodeIndex((LISTS + key) as u32)
     }
 
-    /// Its number among heads and slots.
+    /// The index as a number.
     pub fn number(self) -> usize
         ensures { result ≡ number self }
     {
         self.0 as usize
     }
 
-    /// The key of the slot, where it is no head.
+    /// The key of the slot, unless the node is a head.
     pub fn key(self) -> Option<usize>
         ensures { result ≡ key_at (number self) }
     {
@@ -51,17 +52,17 @@ impl NodeIndex {
     }
 }
 
-/// What stands before and after in a ring.
+/// The neighbours of a node in its list.
 #[derive(Clone, Copy)]
 pub struct Link {
-    /// What stands before.
+    /// The previous node.
     pub prev: NodeIndex,
-    /// What stands after.
+    /// The next node.
     pub next: NodeIndex,
 }
 
 impl Link {
-    /// That of a head whose list is empty.
+    /// The links of a head whose list is empty.
     pub fn alone(list: usize) -> Self
         requires { list < 5 }
         ensures prev { number result.prev ≡ list }
@@ -75,30 +76,30 @@ impl Link {
     }
 }
 
-/// A slot's place in a list of a thread.
+/// A slot's membership in a list of one set.
 #[derive(Clone, Copy)]
 pub struct ListLinks {
-    /// The number of the list that it is in, if it is in one.
+    /// The list that it is in, if it is in one.
     pub list: Option<u8>,
     /// Its neighbours there.
     pub link: Link,
 }
 
-/// The sets of lists that a slot is in.
+/// The sets of lists; a slot is in one list of each.
 #[derive(Clone, Copy)]
 pub enum SlotList {
-    /// The queues, one for each idle limit.
+    /// The queues, one for each timeout.
     Queues,
-    /// The one list in order of beginning.
+    /// The one list in the order of creation.
     Order,
 }
 
-/// A connection, with its places in its queue and in the order of beginning. Fields lie in memory in
-/// this order, those of wide alignment first, so that no room is left between them. The
-/// connection's name isn't among them: it is the slot's key.
+/// An entry with its links in its queue and in the order of creation. The fields are in memory in
+/// this order, those with wide alignment first, so that there is no padding. The entry's id isn't
+/// stored: it is the slot's key.
 #[derive(Clone, Copy)]
 pub struct Slot {
-    /// The moment of the connection's last packet.
+    /// The moment of the entry's last packet.
     pub last: Moment,
     mark: u32,
     queue: Link,
@@ -117,9 +118,10 @@ pub struct Slot {
 const _: () = prove!(size_of::<Slot>() == 104);
 
 impl Slot {
-    /// A slot of a connection, in no list.
+    /// A slot with an entry, in no list.
     pub fn new(held: &ConntrackEntry) -> Self
-        ensures held { (key : ℕ) → held_of key result ≡ record held.now { id = record { 0 = key } } }
+        ensures held { (key : ℕ) → held_of key result
+            ≡ record held.now { id = record { 0 = key } } }
         ensures queue { (links_of Queues result).list ≡ None }
         ensures order { (links_of Order result).list ≡ None }
     {
@@ -140,7 +142,7 @@ impl Slot {
         }
     }
 
-    /// The connection in the slot of this key.
+    /// The entry in the slot of this key.
     pub fn held(&self, key: usize) -> ConntrackEntry
         ensures { result ≡ held_of key self.now }
     {
@@ -158,7 +160,7 @@ impl Slot {
         }
     }
 
-    /// Counts one more packet of the connection in the slot of this key, and answers how it is then.
+    /// Updates the entry in the slot of this key for one more packet, and returns it.
     pub fn touch(
         &mut self,
         key: usize,
@@ -168,7 +170,8 @@ impl Slot {
         now: Moment,
     ) -> ConntrackEntry
         ensures result { result ≡ touched direction flags mark now (held_of key self.old) }
-        ensures slot { self.new ≡ updated (touched direction flags mark now (held_of key self.old)) self.old }
+        ensures slot { self.new ≡ updated
+            (touched direction flags mark now (held_of key self.old)) self.old }
     {
         let mut held = self.held(key);
         held.touch(direction, flags, mark, now);
@@ -180,7 +183,7 @@ impl Slot {
         held
     }
 
-    /// Its place in a list of a thread.
+    /// Its links in one set of lists.
     pub fn links(&self, slot_list: SlotList) -> ListLinks
         ensures { result ≡ links_of slot_list self.now }
     {
@@ -196,7 +199,7 @@ impl Slot {
         }
     }
 
-    /// Writes its place in a list of a thread.
+    /// Sets its links in one set of lists.
     pub fn set_links(&mut self, slot_list: SlotList, links: ListLinks)
         ensures { self.new ≡ with_links slot_list links self.old }
     {

@@ -1,6 +1,6 @@
--- How many hold a mapping, in lists made of others.
-use Rattle.std.proofs.Common.{◌≡◌, ◌+◌, ◌≤◌, cond, List, [], ◌∷◌, ◌++◌, ◌⊎◌, inl, inr, Option, Some, None, length}
-use Rattle.std.proofs.Common.{arith}
+-- The holders of a mapping in lists made of others.
+use Rattle.std.proofs.Common.{◌≡◌, ◌+◌, ◌≤◌, cond, List, [], ◌∷◌, ◌++◌, ◌⊎◌, inl, inr}
+use Rattle.std.proofs.Common.{Option, Some, None, length, arith}
 use Rattle.std.specs.List.{Contains}
 use Rattle.std.proofs.lemmas.List.Sums.{sum_by-append, count_by-le-length}
 use Rattle.std.proofs.lemmas.List.Elements.{Contains-push_cases}
@@ -18,12 +18,12 @@ pub holders-le-length : (m : Mapping) (held : List Mapping) → holders_of m hel
 unfolding holders_of
 holders-le-length m held = count_by-le-length (same_mapping m) held
 
--- ---- lists that hold the same
+-- ---- lists with the same mappings and holders
 
 pub same_more : (front one other : List Mapping) → HoldsSame one other → HoldsSame (front ++ one) (front ++ other)
 same_more front one other same m = omega (arith, holders-append m front one, holders-append m front other, same m)
 
--- a holder fewer in both
+-- one holder fewer in both
 pub same_fewer : (x : Mapping) (one old new : List Mapping)
     → HoldsSame (x ∷ one) old → HoldsSame old (x ∷ new) → HoldsSame one new
 same_fewer x one old new before after m = omega (arith, holders_cons m x one, holders_cons m x new, before m, after m)

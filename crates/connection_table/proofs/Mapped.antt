@@ -1,4 +1,4 @@
--- The mappings of connections held, after a packet more of one and with one more.
+-- The mappings of entries, after one more packet and with one more entry.
 use Rattle.std.proofs.Common.{◌≡◌, ℕ, ◌+◌, ◌*◌, ◌≤◌, Bool, true, false, cond, List, [], ◌∷◌, ◌++◌, length, refl, arith}
 use Rattle.std.proofs.lemmas.List.{length-append}
 use Rattle.std.proofs.lemmas.List.Concat.{flat_map-append}
@@ -13,7 +13,7 @@ use Rattle.nat_mapping.specs.Mappings.{holders_of}
 use Rattle.translation.specs.LiveMappings.{listed, mappings_in, mappings_of}
 use Rattle.connection_table.proofs.Counts.{holders-append, length-listed}
 
--- a connection keeps them
+-- an entry keeps its mappings
 module _ (id : ConnId) (direction : Direction) (flags : Flags) (mark now : ℕ) where
   mappings_of-touched : (b : Bool) (h : ConntrackEntry)
       → mappings_of (cond b (touched direction flags mark now h) h) ≡ mappings_of h
@@ -25,7 +25,7 @@ module _ (id : ConnId) (direction : Direction) (flags : Flags) (mark now : ℕ) 
   mappings_in-touched_at [] = refl
   mappings_in-touched_at (h ∷ held) = rw (mappings_of-touched (same_id id h) h, mappings_in-touched_at held)
 
--- ---- how many hold a mapping
+-- ---- the holders of a mapping
 
 pub holders-first : (m : Mapping) (h : ConntrackEntry) (held : List ConntrackEntry) → holders_of m (mappings_in (h ∷ held))
     ≡ holders_of m (listed h.source) + (holders_of m (listed h.dest) + holders_of m (mappings_in held))
@@ -41,7 +41,7 @@ holders-begun m held h =
     let both = holders-append m (mappings_in held) (mappings_in (h ∷ [])) in
     rw split (omega (arith, both, holders-first m h [], holders_none m))
 
--- two of each connection at most
+-- two for each entry at most
 pub length-mappings_in : (held : List ConntrackEntry) → length (mappings_in held) ≤ 2 * length held
 length-mappings_in [] = omega arith
 length-mappings_in (h ∷ held) =

@@ -1,6 +1,6 @@
--- The mappings that are held once a connection is taken out.
-use Rattle.std.proofs.Common.{◌≡◌, ℕ, ◌+◌, Bool, true, false, not, cond, List, [], ◌∷◌, ◌++◌, Some}
-use Rattle.std.proofs.Common.{refl, sym, ◌∙◌, ap, arith}
+-- The mappings after the removal of an entry.
+use Rattle.std.proofs.Common.{◌≡◌, ℕ, ◌+◌, Bool, true, false, not, cond, List, [], ◌∷◌}
+use Rattle.std.proofs.Common.{◌++◌, Some, refl, sym, ◌∙◌, ap, arith}
 use Rattle.std.specs.List.{find}
 use Rattle.std.specs.Option.{option_map}
 use Rattle.std.proofs.lemmas.Bool.{and_parts, eqb-true, not-true}
@@ -19,7 +19,7 @@ without_new : (id : ConnId) (held : List ConntrackEntry) → has_id id held ≡ 
 without_new id [] h = refl
 without_new id (x ∷ held) h = grind (arith, nat_tests, without_new id held)
 
--- those of the one that is taken out
+-- those of the removed entry
 handed : Mapping → Aged → ℕ
 handed m aged = holders_of m (listed aged.source) + holders_of m (listed aged.dest)
 
@@ -58,7 +58,7 @@ held_with_removed id held aged distinct taken m =
     let second = holders-append m (listed aged.dest) others in
     omega (arith, first, second, taken_apart m id held aged distinct taken)
 
--- so they hold what is held before, whatever stands for that
+-- the same for any list with the mappings held before
 pub released_with_removed : (id : ConnId) (held : List ConntrackEntry) (aged : Aged) (mappings : List Mapping)
     → has_distinct_ids held ≡ true → removed_entry id held ≡ Some aged → HoldsSame (mappings_in held) mappings
     → HoldsSame (listed aged.source ++ (listed aged.dest ++ mappings_in (without id held))) mappings

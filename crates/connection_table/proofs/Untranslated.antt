@@ -1,4 +1,4 @@
--- What is not translated yet needs no mapping.
+-- A packet that isn't translated yet needs no mapping.
 use Rattle.std.proofs.Common.{List}
 use Rattle.ip_headers.specs.declared.tuple.Mapping.{Mapping}
 use Rattle.ip_headers.specs.declared.tuple.Tuple.{Tuple}

@@ -1,25 +1,25 @@
--- What a table of connections with their mappings shows.
+-- What a `ConnectionTable` shows to its users (own).
 use Rattle.std.specs.Prelude.{◌≡◌, ℕ, Bool, false, IsTrue, List}
 use Rattle.ip_headers.specs.Tuple.{inverse}
 use Rattle.ip_headers.specs.declared.tuple.Tuple.{Tuple}
 use Rattle.conntrack.specs.declared.belonging.Belonging.{Belonging}
-use Rattle.conntrack.specs.declared.belonging.Belonging.TheVariants.{NotFound, Ends, Found}
+use Rattle.conntrack.specs.declared.belonging.Belonging.TheVariants.{Found}
 use Rattle.conntrack.specs.declared.connection.Connection.{Connection}
 use Rattle.conntrack.specs.declared.connection.ConntrackEntry.{ConntrackEntry}
 use Rattle.box_file.specs.declared.limits.Limits.{Limits}
 use Rattle.conntrack.specs.ConntrackEntry.{has_id, is_taken}
 use Rattle.translation.specs.declared.ct_info.NewConnection.{NewConnection}
 
--- for how long its connections may be idle; those that it holds, in order of beginning, the dead that weren't taken out
--- included; and whether the next connection can be begun without memory. Which mappings it holds follows: those that
--- its connections were begun with
+-- its timeouts; its entries in the order of their creation, with expired ones that weren't removed yet; and
+-- whether memory for the next connection is reserved. The mappings that it holds follow: those of its
+-- entries
 pub record Table : Type 0 where
   pub limits : Limits
   pub held : List ConntrackEntry
   pub has_room : Bool
 
--- a connection that is begun now as it was drafted, its packets leaving this mark: answers come with the inverse of the
--- tuple with which its first packet leaves
+-- a new connection that is created now, with this mark: replies have the inverse of the tuple with which its
+-- first packet leaves (netfilter's nf_ct_invert_tuple)
 abbrev pub begun_as : NewConnection → ℕ → ℕ → Connection
 begun_as new_connection mark now = record {
   original = new_connection.original;
@@ -30,8 +30,7 @@ begun_as new_connection mark now = record {
   dest = new_connection.dest;
 }
 
--- the connection that a packet with this tuple belongs to is held, or the tuple is free
+-- the packet can be confirmed: the entry that its lookup found is in the list, or its tuple is free
 abbrev pub IsConfirmable : Tuple → Belonging → List ConntrackEntry → Type 0
 IsConfirmable tuple (Found found) held = IsTrue (has_id found.id held)
-IsConfirmable tuple NotFound held = is_taken tuple held ≡ false
-IsConfirmable tuple (Ends id) held = is_taken tuple held ≡ false
+IsConfirmable tuple _ held = is_taken tuple held ≡ false

@@ -1,5 +1,5 @@
-//! Connections with the mappings that they were begun with: a mapping is held exactly as long as a
-//! connection is that was begun with it.
+//! Conntrack entries with their NAT mappings: a mapping is held exactly as long as an entry that
+//! was created with it.
 #![tactic(auto)]
 
 mod table;

@@ -1,4 +1,4 @@
-//! A table of connections and of their mappings.
+//! A conntrack table with the NAT mappings of its entries.
 ghost use Rattle.std.specs.Prelude.{◌≡◌, ◌+◌, ◌<◌, ◌≤◌, ◌↔◌, ◌++◌, ◌∷◌, [], ℕ, IsTrue, List, false, length, map, IfOk, IsOk, OnErr, OnOk, Err};
 ghost use Rattle.ip_headers.specs.declared.tuple.Mapping.{Mapping};
 ghost use Rattle.conntrack.specs.declared.connection.ConnId.{ConnId};
@@ -25,7 +25,7 @@ use std::hash::RandomState;
 use std::marker::Model;
 use translation::NewConnection;
 
-/// The connections that are held by `T`, with the mappings that they were begun with.
+/// The entries of a tracker `T`, with the mappings that they were created with.
 #[derive(Drop)]
 pub struct ConnectionTable<T: Tracker> {
     tracker: T,
@@ -40,14 +40,18 @@ impl<T: Tracker> Model for ConnectionTable<T> {
 
     ghost Value = { Table };
 
-    ghost view = { λ t. record { limits = T.limits t.tracker; held = T.held t.tracker; has_room = T.has_room t.tracker && nat_le 2 t.mappings.room } };
+    ghost view = { λ t. record {
+      limits = T.limits t.tracker;
+      held = T.held t.tracker;
+      has_room = T.has_room t.tracker && nat_le 2 t.mappings.room;
+    } };
 
     ghost invariant = { λ t. HoldsSame (mappings_in (T.held t.tracker)) t.mappings.held };
 }
 
 impl<T: Tracker> ConnectionTable<T> {
-    /// An empty table, whose connections may be idle for so long. It takes no memory. Its hash tables hash
-    /// by `hasher`; no answer depends on the keys.
+    /// An empty table with these timeouts. It doesn't allocate. Its hash tables use `hasher`, whose
+    /// keys must be unknown to the senders of packets; no result depends on them.
     pub fn new(alloc: Global, hasher: RandomState, idle: Limits) -> Self
         ensures held { result.held ≡ [] }
         ensures limits { result.limits ≡ idle }
@@ -58,8 +62,12 @@ impl<T: Tracker> ConnectionTable<T> {
         }
     }
 
-    /// Room for the next connection and its mappings. Where there is room already nothing changes. On
-    /// `Err`, which comes only for want of memory, what is held stays.
+    /// Reserves memory for the next connection and its mappings. If it is reserved already nothing
+    /// changes.
+    ///
+    /// # Errors
+    ///
+    /// Where memory ran out; the entries and mappings stay.
     pub fn reserve(&mut self) -> Result<(), AllocError>
         ensures held { self.new.held ≡ self.old.held }
         ensures limits { self.new.limits ≡ self.old.limits }
@@ -76,7 +84,7 @@ impl<T: Tracker> ConnectionTable<T> {
         }
     }
 
-    /// Takes out all connections that are dead at a moment, and lets go of their mappings.
+    /// Removes all entries that have expired at a moment, and releases their mappings.
     pub fn age_all(&mut self, now: Moment)
         requires later { IsNoneLater now self.old.held }
         ensures held { self.new.held ≡ live_at self.old.limits now self.old.held }
@@ -85,7 +93,7 @@ impl<T: Tracker> ConnectionTable<T> {
         ensures distinct { IsTrue (has_distinct_ids self.new.held) }
         ensures room { IsTrue self.old.has_room → IsTrue self.new.has_room }
     {
-        // What stays had no packet later either.
+        // The remaining entries had no later packet either.
         none_later();
         let mut steps = Steps::new();
         while let Some(aged) = self.tracker.age(now, &mut steps) {
@@ -93,24 +101,25 @@ impl<T: Tracker> ConnectionTable<T> {
         }
     }
 
-    /// Looks up a packet with this tuple and these flags, at a moment at which all that is held is
-    /// live. A lone SYN ends the closing connection that it came on, whatever rules make of it: that
-    /// one's mappings are let go of.
+    /// Looks up a packet with this tuple and these flags; expired entries must have been removed. A
+    /// SYN on a closing connection removes that entry and releases its mappings, whatever the rules
+    /// decide about the packet.
     pub fn look_up(&mut self, tuple: Tuple, flags: Flags, now: Moment) -> Belonging
         requires live { live_at self.old.limits now self.old.held ≡ self.old.held }
         requires later { IsNoneLater now self.old.held }
         ensures belonging { result ≡ belongs_in self.old.held tuple flags }
-        ensures held { self.new.held ≡ after_end (belongs_in self.old.held tuple flags) self.old.held }
+        ensures held { self.new.held
+            ≡ after_end (belongs_in self.old.held tuple flags) self.old.held }
         ensures limits { self.new.limits ≡ self.old.limits }
         ensures later { IsNoneLater now self.new.held }
         ensures room { IsTrue self.old.has_room → IsTrue self.new.has_room }
-        // The last step can count it, or begin its connection.
+        // The packet can be confirmed.
         ensures confirmable { IsConfirmable tuple result self.new.held }
         ensures fits { Fits (ct_info_by tuple result) (mappings_in self.new.held) }
     {
-        // What it belongs to is held, and else its tuple is free.
+        // The entry found is in the list, or the tuple is free.
         looked_up();
-        // What stays had no packet later either.
+        // The remaining entries had no later packet either.
         none_later();
         let mut steps = Steps::new();
         let belonging = self.tracker.look(tuple, flags, now, &mut steps);
@@ -118,13 +127,14 @@ impl<T: Tracker> ConnectionTable<T> {
             let ended = self.tracker.end(id, &mut steps);
             release(&mut self.mappings, &ended);
         }
-        // Nothing is translated yet, and what is held is one to one.
+        // Nothing is translated yet, and the mappings are one to one.
         self.mappings.one_to_one();
         belonging
     }
 
-    /// What an ICMP error about a packet with this tuple belongs to, at a moment at which all that is
-    /// held is live: what the way back of that packet does. It ends no connection.
+    /// Looks up the connection that an ICMP error is related to, given the tuple of the quoted
+    /// datagram: the one to which packets in the other direction belong. Expired entries must have
+    /// been removed. It removes none.
     pub fn look_up_error(&self, inner: Tuple, now: Moment) -> Belonging
         requires live { live_at self.now.limits now self.now.held ≡ self.now.held }
         ensures { result ≡ belongs_in self.now.held (inverse inner) no_flags }
@@ -134,18 +144,19 @@ impl<T: Tracker> ConnectionTable<T> {
             .look(inner.inverse(), Flags::none(), now, &mut steps)
     }
 
-    /// The mappings that are held: those that the connections held were begun with.
+    /// The mappings held: those of the entries.
     pub fn mappings(&self) -> &Mappings
         ensures { HoldsSame (mappings_in self.now.held) result.now.held }
     {
         &self.mappings
     }
 
-    /// Counts one more packet of a connection that is held, which leaves this mark.
+    /// Updates an entry for one more packet, which sets this mark.
     pub fn touch(&mut self, found: &ConnectionRef, flags: Flags, mark: u32, now: Moment)
         requires is_held { IsTrue (has_id found.now.id self.old.held) }
         requires later { IsNoneLater now self.old.held }
-        ensures held { self.new.held ≡ touched_at found.now.id found.now.direction flags mark now self.old.held }
+        ensures held { self.new.held
+            ≡ touched_at found.now.id found.now.direction flags mark now self.old.held }
         ensures limits { self.new.limits ≡ self.old.limits }
         ensures room { IsTrue self.old.has_room → IsTrue self.new.has_room }
     {
@@ -154,9 +165,13 @@ impl<T: Tracker> ConnectionTable<T> {
             .touch(found.id, found.direction, flags, mark, now, &mut steps);
     }
 
-    /// Begins a connection with its first packet, which had these flags and leaves this mark; it holds
-    /// the mappings that its draft has. `Full` where as many are held as can be, else `Clash` where
-    /// its reply tuple is an incoming tuple of another; then nothing changes.
+    /// Creates the entry of a new connection with its first packet, which had these flags and sets
+    /// this mark. The entry holds the connection's mappings.
+    ///
+    /// # Errors
+    ///
+    /// `Full` where the table has the most entries that it may hold, else `Clash` where the reply
+    /// tuple is an incoming tuple of another entry. Nothing changes then.
     pub fn begin(
         &mut self,
         new_connection: &NewConnection,
@@ -169,10 +184,12 @@ impl<T: Tracker> ConnectionTable<T> {
         requires later { IsNoneLater now self.old.held }
         requires fits { IsFitting new_connection.now (mappings_in self.old.held) }
         ensures ok { OnOk result ((id : ConnId) × (has_id id self.old.held ≡ false)
-            × (self.new.held ≡ self.old.held ++ begun_with id (begun_as new_connection.now mark now) flags ∷ [])) }
+            × (self.new.held ≡ self.old.held
+            ++ begun_with id (begun_as new_connection.now mark now) flags ∷ [])) }
         ensures full { (result ≡ Err BeginError.Full) ↔ (max_connections ≤ length self.old.held) }
         ensures clash { (result ≡ Err BeginError.Clash)
-            ↔ ((length self.old.held < max_connections) × IsTrue (is_taken (begun_as new_connection.now mark now).reply self.old.held)) }
+            ↔ ((length self.old.held < max_connections)
+            × IsTrue (is_taken (begun_as new_connection.now mark now).reply self.old.held)) }
         ensures err { OnErr result (self.new ≡ self.old) }
         ensures limits { self.new.limits ≡ self.old.limits }
     {
@@ -184,7 +201,7 @@ impl<T: Tracker> ConnectionTable<T> {
             source: new_connection.source,
             dest: new_connection.dest,
         };
-        // What is held stays one to one with the mappings that fit.
+        // The mappings stay one to one with the new ones.
         stays_one_to_one();
         same_answers();
         let mut steps = Steps::new();
@@ -194,14 +211,18 @@ impl<T: Tracker> ConnectionTable<T> {
         Ok(())
     }
 
-    /// How many connections are held.
+    /// How many entries the table holds.
     pub fn live(&self) -> usize
         ensures { result ≡ length self.now.held }
     {
         self.tracker.live()
     }
 
-    /// All connections that are held, in order of beginning.
+    /// All entries in the order of their creation.
+    ///
+    /// # Errors
+    ///
+    /// Where memory ran out.
     pub fn list(&self, alloc: Global) -> Result<Vec<Connection>, AllocError>
         ensures { IfOk result (λ all. all.items ≡ map connection_of self.now.held) }
     {
@@ -212,7 +233,7 @@ impl<T: Tracker> ConnectionTable<T> {
     }
 }
 
-/// One holder more of a mapping, if there is one, for which there is room.
+/// Adds a holder of a mapping, if there is one, for which memory is reserved.
 fn hold(mappings: &mut Mappings, mapping: Option<Mapped>)
     requires one_to_one { IsOneToOne (listed mapping ++ mappings.old.held) }
     requires few { (m : Mapping) → holders_of m mappings.old.held ≤ 2097152 }
@@ -227,23 +248,27 @@ fn hold(mappings: &mut Mappings, mapping: Option<Mapped>)
     }
 }
 
-/// Lets go of the mappings of a connection that is held no longer.
+/// Releases the mappings of a removed entry.
 fn release(mappings: &mut Mappings, aged: &Aged)
-    requires held { (rest : List Mapping) × HoldsSame (listed aged.now.source ++ (listed aged.now.dest ++ rest)) mappings.old.held }
-    ensures held { (rest : List Mapping) → HoldsSame (listed aged.now.source ++ (listed aged.now.dest ++ rest)) mappings.old.held → HoldsSame rest mappings.new.held }
+    requires held { (rest : List Mapping)
+        × HoldsSame (listed aged.now.source ++ (listed aged.now.dest ++ rest)) mappings.old.held }
+    ensures held { (rest : List Mapping)
+        → HoldsSame (listed aged.now.source ++ (listed aged.now.dest ++ rest)) mappings.old.held
+        → HoldsSame rest mappings.new.held }
     ensures room { mappings.old.room ≤ mappings.new.room }
 {
     release_one(mappings, aged.source);
     release_one(mappings, aged.dest);
 }
 
-/// One holder fewer of a mapping, if there is one.
+/// Removes a holder of a mapping, if there is one.
 fn release_one(mappings: &mut Mappings, mapping: Option<Mapped>)
     requires held { (rest : List Mapping) × HoldsSame (listed mapping ++ rest) mappings.old.held }
-    ensures held { (rest : List Mapping) → HoldsSame (listed mapping ++ rest) mappings.old.held → HoldsSame rest mappings.new.held }
+    ensures held { (rest : List Mapping) → HoldsSame (listed mapping ++ rest) mappings.old.held
+        → HoldsSame rest mappings.new.held }
     ensures room { mappings.old.room ≤ mappings.new.room }
 {
-    // The one let go of is held.
+    // The released mapping is held.
     same_answers();
     if let Some(mapping) = mapping {
         mappings.release(mapping);

@@ -19,4 +19,8 @@ same_endpoint-sym : (a b : Endpoint) → same_endpoint a b ≡ same_endpoint b a
 same_endpoint-sym a b = grind (arith, nat_tests)
 
 pub same_tuple-sym : (a b : Tuple) → same_tuple a b ≡ same_tuple b a
-same_tuple-sym a b = rw (same_kind-sym a.kind b.kind, same_endpoint-sym a.source b.source, same_endpoint-sym a.destination b.destination) refl
+same_tuple-sym a b = rw (
+  same_kind-sym a.kind b.kind,
+  same_endpoint-sym a.source b.source,
+  same_endpoint-sym a.destination b.destination,
+) refl

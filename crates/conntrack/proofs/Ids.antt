@@ -1,8 +1,10 @@
--- Names of connections held, and lists that are one but for the names.
-use Rattle.std.proofs.Common.{◌≡◌, ℕ, zero, suc, ◌+◌, ◌-◌, ◌^◌, take, get_or, ◌<◌, ◌≤◌, List, [], ◌∷◌, ◌++◌, length, Option, Some, Bool, true, false, not, ◌&&◌, ◌||◌, cond, refl, ◌∙◌, ap, arith, inl, inr}
+-- Ids of entries, and lists that are equal except for ids.
+use Rattle.std.proofs.Common.{◌≡◌, ℕ, zero, suc, ◌+◌, ◌-◌, ◌^◌, take, get_or, ◌<◌, ◌≤◌, List, [], ◌∷◌, ◌++◌, length}
+use Rattle.std.proofs.Common.{Option, Some, Bool, true, false, not, ◌&&◌, ◌||◌, cond, refl, ◌∙◌, ap, arith, inl, inr}
 use Rattle.std.specs.Prelude.{filter, max, min}
 use Rattle.std.specs.List.{find}
-use Rattle.std.proofs.lemmas.Bool.{eq-eqb, and_parts, and_from, not-true, not_from_false, or_left, or_right, or_parts, or_from, false_from_ne_true, cases_eq}
+use Rattle.std.proofs.lemmas.Bool.{eq-eqb, and_parts, and_from, not-true, not_from_false, or_left, or_right}
+use Rattle.std.proofs.lemmas.Bool.{or_parts, or_from, false_from_ne_true, cases_eq}
 use Rattle.std.proofs.lemmas.Bool.Decides.{nat_tests}
 use Rattle.std.proofs.lemmas.List.{take_more}
 use Rattle.std.proofs.lemmas.List.Folds.{list_any-append}
@@ -14,108 +16,133 @@ use Rattle.ip_headers.specs.declared.tuple.Tuple.{Tuple}
 use Rattle.conntrack.specs.declared.connection.Flags.{Flags}
 use Rattle.conntrack.specs.declared.connection.Direction.{Direction}
 use Rattle.box_file.specs.declared.limits.Limits.{Limits}
-use Rattle.conntrack.specs.ConntrackEntry.{has_id, same_id, has_distinct_ids, touched, touched_at, without, is_live, live_at, is_taken, is_incoming, have_disjoint_tuples}
-use Rattle.conntrack.specs.steps.Names.{has_ids_below}
+use Rattle.conntrack.specs.ConntrackEntry.{has_id, same_id, has_distinct_ids, touched, touched_at, without, is_live}
+use Rattle.conntrack.specs.ConntrackEntry.{live_at, is_taken, is_incoming, have_disjoint_tuples}
+use Rattle.conntrack.specs.steps.Ids.{has_ids_below}
 use Rattle.ip_headers.specs.Same.{same_tuple}
 use Rattle.conntrack.proofs.Equal.{same_tuple-sym}
 
--- a filter brings in no name
-pub has_id-filter : (p : ConntrackEntry → Bool) (id : ConnId) (held : List ConntrackEntry) → has_id id held ≡ false → has_id id (filter p held) ≡ false
+-- a filter adds no id
+pub has_id-filter : (p : ConntrackEntry → Bool) (id : ConnId) (held : List ConntrackEntry) → has_id id held ≡ false
+    → has_id id (filter p held) ≡ false
 has_id-filter p id [] h = refl
 has_id-filter p id (x ∷ held) h = grind (arith, nat_tests, has_id-filter p id held)
 
-pub distinct-filter : (p : ConntrackEntry → Bool) (held : List ConntrackEntry) → has_distinct_ids held ≡ true → has_distinct_ids (filter p held) ≡ true
+pub distinct-filter : (p : ConntrackEntry → Bool) (held : List ConntrackEntry) → has_distinct_ids held ≡ true
+    → has_distinct_ids (filter p held) ≡ true
 distinct-filter p [] h = refl
 distinct-filter p (x ∷ held) h = grind (arith, nat_tests, has_id-filter p x.id held, distinct-filter p held)
 
-pub below-filter : (p : ConntrackEntry → Bool) (n : ℕ) (held : List ConntrackEntry) → has_ids_below n held ≡ true → has_ids_below n (filter p held) ≡ true
+pub below-filter : (p : ConntrackEntry → Bool) (n : ℕ) (held : List ConntrackEntry) → has_ids_below n held ≡ true
+    → has_ids_below n (filter p held) ≡ true
 below-filter p n [] h = refl
 below-filter p n (x ∷ held) h = grind (arith, nat_tests, below-filter p n held)
 
--- a touch changes no name
+-- a touch changes no id
 module _ (id : ConnId) (direction : Direction) (flags : Flags) (mark now : ℕ) where
   touched_id : (b : Bool) (h : ConntrackEntry) → (cond b (touched direction flags mark now h) h).id ≡ h.id
   touched_id true h = refl
   touched_id false h = refl
 
-  pub has_id-touched_at : (other : ConnId) (held : List ConntrackEntry) → has_id other (touched_at id direction flags mark now held) ≡ has_id other held
+  pub has_id-touched_at : (other : ConnId) (held : List ConntrackEntry)
+      → has_id other (touched_at id direction flags mark now held) ≡ has_id other held
   has_id-touched_at other [] = refl
   has_id-touched_at other (x ∷ held) = rw (touched_id (same_id id x) x, has_id-touched_at other held)
 
-  pub distinct-touched_at : (held : List ConntrackEntry) → has_distinct_ids (touched_at id direction flags mark now held) ≡ has_distinct_ids held
+  pub distinct-touched_at : (held : List ConntrackEntry)
+      → has_distinct_ids (touched_at id direction flags mark now held) ≡ has_distinct_ids held
   distinct-touched_at [] = refl
   distinct-touched_at (x ∷ held) = rw (touched_id (same_id id x) x, has_id-touched_at x.id held, distinct-touched_at held)
 
-  pub below-touched_at : (n : ℕ) (held : List ConntrackEntry) → has_ids_below n (touched_at id direction flags mark now held) ≡ has_ids_below n held
+  pub below-touched_at : (n : ℕ) (held : List ConntrackEntry)
+      → has_ids_below n (touched_at id direction flags mark now held) ≡ has_ids_below n held
   below-touched_at n [] = refl
   below-touched_at n (x ∷ held) = rw (touched_id (same_id id x) x, below-touched_at n held)
 
--- a name above all is new
+-- an id above all others is new
 pub has_id-below : (n : ℕ) (held : List ConntrackEntry) → has_ids_below n held ≡ true → has_id (record { 0 = n }) held ≡ false
 has_id-below n [] h = refl
 has_id-below n (x ∷ held) h = grind (arith, nat_tests, has_id-below n held)
 
-has_id-push : (id : ConnId) (held : List ConntrackEntry) (new : ConntrackEntry) → has_id id (held ++ new ∷ []) ≡ (has_id id held || same_id id new)
+has_id-push : (id : ConnId) (held : List ConntrackEntry) (new : ConntrackEntry)
+    → has_id id (held ++ new ∷ []) ≡ (has_id id held || same_id id new)
 has_id-push id [] new = grind (arith, nat_tests)
 has_id-push id (x ∷ held) new = grind (arith, nat_tests, has_id-push id held new)
 
-pub distinct-push : (held : List ConntrackEntry) (new : ConntrackEntry) → has_distinct_ids held ≡ true → has_id new.id held ≡ false → has_distinct_ids (held ++ new ∷ []) ≡ true
+pub distinct-push : (held : List ConntrackEntry) (new : ConntrackEntry) → has_distinct_ids held ≡ true
+    → has_id new.id held ≡ false → has_distinct_ids (held ++ new ∷ []) ≡ true
 distinct-push [] new h k = refl
 distinct-push (x ∷ held) new h k = grind (arith, nat_tests, has_id-push x.id held new, distinct-push held new)
 
-pub below-push : (n : ℕ) (held : List ConntrackEntry) (new : ConntrackEntry) → has_ids_below n held ≡ true → new.id.0 ≡ n → has_ids_below (n + 1) (held ++ new ∷ []) ≡ true
+pub below-push : (n : ℕ) (held : List ConntrackEntry) (new : ConntrackEntry) → has_ids_below n held ≡ true
+    → new.id.0 ≡ n → has_ids_below (n + 1) (held ++ new ∷ []) ≡ true
 below-push n [] new h k = grind (arith, nat_tests)
 below-push n (x ∷ held) new h k = grind (arith, nat_tests, below-push n held new)
 
--- a number past the names of some, and past one more
+-- a number above some ids, and above one more
 below_wider : (m n : ℕ) (held : List ConntrackEntry) → m ≤ n → has_ids_below m held ≡ true → has_ids_below n held ≡ true
 below_wider m n [] le h = refl
 below_wider m n (x ∷ held) le h = grind (arith, nat_tests, below_wider m n held)
 
-below_one_more : (n : ℕ) (held : List ConntrackEntry) (new : ConntrackEntry) → has_ids_below n held ≡ true → new.id.0 < n → has_ids_below n (held ++ new ∷ []) ≡ true
+below_one_more : (n : ℕ) (held : List ConntrackEntry) (new : ConntrackEntry) → has_ids_below n held ≡ true
+    → new.id.0 < n → has_ids_below n (held ++ new ∷ []) ≡ true
 below_one_more n [] new h lt = grind (arith, nat_tests)
 below_one_more n (x ∷ held) new h lt = grind (arith, nat_tests, below_one_more n held new)
 
-pub past_more : (held : List ConntrackEntry) (i next past : ℕ) (d : ConntrackEntry) → i < length held → past ≡ max next (min ((get_or held i d).id.0 + 1) (2 ^ 64 - 1)) → (next < 2 ^ 64 - 1 → has_ids_below next (take i held) ≡ true) → past < 2 ^ 64 - 1
+pub past_more : (held : List ConntrackEntry) (i next past : ℕ) (d : ConntrackEntry) → i < length held
+    → past ≡ max next (min ((get_or held i d).id.0 + 1) (2 ^ 64 - 1))
+    → (next < 2 ^ 64 - 1 → has_ids_below next (take i held) ≡ true) → past < 2 ^ 64 - 1
     → has_ids_below past (take (i + 1) held) ≡ true
 past_more held i next past d lt is were small =
     ap (has_ids_below past) (take_more held i d lt)
-    ∙ below_one_more past (take i held) (get_or held i d) (below_wider next past (take i held) (omega (arith, is)) (were (omega (arith, is, small)))) (omega (arith, is, small))
+    ∙ below_one_more past (take i held) (get_or held i d)
+    (below_wider next past (take i held) (omega (arith, is)) (were (omega (arith, is, small))))
+    (omega (arith, is, small))
 
--- the first dead one that is found
-found_named : (b : Bool) (x h : ConntrackEntry) (o : Option ConntrackEntry) (held : List ConntrackEntry) → cond b (Some x) o ≡ Some h → (o ≡ Some h → has_id h.id held ≡ true) → (same_id h.id x || has_id h.id held) ≡ true
-found_named true x h o held e k = let s : x ≡ h = cc in rw s (or_left (same_id h.id h) (has_id h.id held) (eq-eqb h.id.0 h.id.0 refl))
-found_named false x h o held e k = or_right (same_id h.id x) (has_id h.id held) (k e)
+-- the first expired entry
+found_with_id : (b : Bool) (x h : ConntrackEntry) (o : Option ConntrackEntry) (held : List ConntrackEntry)
+    → cond b (Some x) o ≡ Some h → (o ≡ Some h → has_id h.id held ≡ true) → (same_id h.id x || has_id h.id held) ≡ true
+found_with_id true x h o held e k = let s : x ≡ h = cc in rw s (or_left (same_id h.id h) (has_id h.id held) (eq-eqb h.id.0 h.id.0 refl))
+found_with_id false x h o held e k = or_right (same_id h.id x) (has_id h.id held) (k e)
 
-pub has_id-found : (p : ConntrackEntry → Bool) (held : List ConntrackEntry) (h : ConntrackEntry) → find p held ≡ Some h → has_id h.id held ≡ true
+pub has_id-found : (p : ConntrackEntry → Bool) (held : List ConntrackEntry) (h : ConntrackEntry) → find p held ≡ Some h
+    → has_id h.id held ≡ true
 has_id-found p [] h e = cc
-has_id-found p (x ∷ held) h e = found_named (p x) x h (find p held) held e (has_id-found p held h)
+has_id-found p (x ∷ held) h e = found_with_id (p x) x h (find p held) held e (has_id-found p held h)
 
 pub without_new : (id : ConnId) (held : List ConntrackEntry) → has_id id held ≡ false → without id held ≡ held
 without_new id [] h = refl
 without_new id (x ∷ held) h = grind (arith, nat_tests, without_new id held)
 
--- a name that another list has is not that of one that it lacks
-pub other_name : (x : ConntrackEntry) (held : List ConntrackEntry) (h : ConntrackEntry) → has_id x.id held ≡ false → has_id h.id held ≡ true → same_id h.id x ≡ false
-other_name x [] h d e = cc
-other_name x (y ∷ held) h d e = grind (arith, nat_tests, other_name x held h)
+-- an id in a list differs from one that isn't
+pub other_id : (x : ConntrackEntry) (held : List ConntrackEntry) (h : ConntrackEntry) → has_id x.id held ≡ false
+    → has_id h.id held ≡ true → same_id h.id x ≡ false
+other_id x [] h d e = cc
+other_id x (y ∷ held) h d e = grind (arith, nat_tests, other_id x held h)
 
--- one that is found has its name alone
+-- a found entry is the only one with its id
 module _ (p : ConntrackEntry → Bool) where
-  named_step : (b : Bool) (x h : ConntrackEntry) (held : List ConntrackEntry) → has_id x.id held ≡ false → cond b (Some x) (find p held) ≡ Some h → (find p held ≡ Some h → find (same_id h.id) held ≡ Some h) → find (same_id h.id) (x ∷ held) ≡ Some h
+  named_step : (b : Bool) (x h : ConntrackEntry) (held : List ConntrackEntry) → has_id x.id held ≡ false
+      → cond b (Some x) (find p held) ≡ Some h → (find p held ≡ Some h → find (same_id h.id) held ≡ Some h)
+      → find (same_id h.id) (x ∷ held) ≡ Some h
   named_step true x h held d e k = let s : x ≡ h = cc in rw (s, eq-eqb h.id.0 h.id.0 refl) refl
-  named_step false x h held d e k = rw (other_name x held h d (has_id-found p held h e)) (k e)
+  named_step false x h held d e k = rw (other_id x held h d (has_id-found p held h e)) (k e)
 
-  pub found_by_name : (held : List ConntrackEntry) (h : ConntrackEntry) → has_distinct_ids held ≡ true → find p held ≡ Some h → find (same_id h.id) held ≡ Some h
-  found_by_name [] h d e = cc
-  found_by_name (x ∷ held) h d e =
+  pub found_by_id : (held : List ConntrackEntry) (h : ConntrackEntry) → has_distinct_ids held ≡ true
+      → find p held ≡ Some h → find (same_id h.id) held ≡ Some h
+  found_by_id [] h d e = cc
+  found_by_id (x ∷ held) h d e =
       let parts = and_parts (not (has_id x.id held)) (has_distinct_ids held) d in
-      named_step (p x) x h held (not-true _ parts.0) e (found_by_name held h parts.1)
+      named_step (p x) x h held (not-true _ parts.0) e (found_by_id held h parts.1)
 
-expired_step : (limits : Limits) (live : Bool) (now : ℕ) (x h : ConntrackEntry) (held : List ConntrackEntry) → is_live limits now x ≡ live → not (has_id x.id held) ≡ true → cond (not live) (Some x) (find (λ y. not (is_live limits now y)) held) ≡ Some h →
-    (find (λ y. not (is_live limits now y)) held ≡ Some h → live_at limits now (without h.id held) ≡ live_at limits now held) → live_at limits now (without h.id (x ∷ held)) ≡ live_at limits now (x ∷ held)
+expired_step : (limits : Limits) (live : Bool) (now : ℕ) (x h : ConntrackEntry) (held : List ConntrackEntry)
+    → is_live limits now x ≡ live → not (has_id x.id held) ≡ true
+    → cond (not live) (Some x) (find (λ y. not (is_live limits now y)) held) ≡ Some h →
+    (find (λ y. not (is_live limits now y)) held ≡ Some h
+    → live_at limits now (without h.id held) ≡ live_at limits now held)
+    → live_at limits now (without h.id (x ∷ held)) ≡ live_at limits now (x ∷ held)
 expired_step limits true now x h held l d e k =
-    let other : same_id h.id x ≡ false = other_name x held h (not-true _ d) (has_id-found (λ y. not (is_live limits now y)) held h e) in
+    let other : same_id h.id x ≡ false = other_id x held h (not-true _ d) (has_id-found (λ y. not (is_live limits now y)) held h e) in
     rw (other, l, k e)
 expired_step limits false now x h held l d e k =
     let s : x ≡ h = cc in
@@ -123,45 +150,69 @@ expired_step limits false now x h held l d e k =
     let rest : without h.id held ≡ held = rw (← s) (without_new x.id held (not-true _ d)) in
     rw (same, l, rest)
 
--- to take out the first dead one leaves the live ones
-pub live_at-without_expired : (limits : Limits) (now : ℕ) (held : List ConntrackEntry) (h : ConntrackEntry) → has_distinct_ids held ≡ true → find (λ x. not (is_live limits now x)) held ≡ Some h → live_at limits now (without h.id held) ≡ live_at limits now held
+-- removing the first expired entry keeps the live ones
+pub live_at-without_expired : (limits : Limits) (now : ℕ) (held : List ConntrackEntry) (h : ConntrackEntry)
+    → has_distinct_ids held ≡ true → find (λ x. not (is_live limits now x)) held ≡ Some h
+    → live_at limits now (without h.id held) ≡ live_at limits now held
 live_at-without_expired limits now [] h d e = refl
 live_at-without_expired limits now (x ∷ held) h d e =
     let parts = and_parts _ _ d in
     expired_step limits (is_live limits now x) now x h held refl parts.0 e (live_at-without_expired limits now held h parts.1)
 
--- incoming tuples stay apart
-is_taken-filter : (p : ConntrackEntry → Bool) (tuple : Tuple) (held : List ConntrackEntry) → is_taken tuple held ≡ false → is_taken tuple (filter p held) ≡ false
+-- incoming tuples stay disjoint
+is_taken-filter : (p : ConntrackEntry → Bool) (tuple : Tuple) (held : List ConntrackEntry) → is_taken tuple held ≡ false
+    → is_taken tuple (filter p held) ≡ false
 is_taken-filter p tuple held h = list_any-filter (is_incoming tuple) p held h
 
-apart_step : (b o r a : Bool) (x : ConntrackEntry) (held : List ConntrackEntry) → (not (o || r) && a) ≡ true → (o ≡ false → is_taken x.original held ≡ false) → (r ≡ false → is_taken x.reply held ≡ false) → (a ≡ true → have_disjoint_tuples held ≡ true) → have_disjoint_tuples (cond b (x ∷ held) held) ≡ true
+apart_step : (b o r a : Bool) (x : ConntrackEntry) (held : List ConntrackEntry) → (not (o || r) && a) ≡ true
+    → (o ≡ false → is_taken x.original held ≡ false) → (r ≡ false → is_taken x.reply held ≡ false)
+    → (a ≡ true → have_disjoint_tuples held ≡ true) → have_disjoint_tuples (cond b (x ∷ held) held) ≡ true
 apart_step true false false true x held h p q k = rw (p refl, q refl, k refl)
 apart_step false false false true x held h p q k = k refl
 apart_step b true r a x held h p q k = cc
 apart_step b false true a x held h p q k = cc
 apart_step b false false false x held h p q k = cc
 
-pub apart-filter : (p : ConntrackEntry → Bool) (held : List ConntrackEntry) → have_disjoint_tuples held ≡ true → have_disjoint_tuples (filter p held) ≡ true
+pub apart-filter : (p : ConntrackEntry → Bool) (held : List ConntrackEntry) → have_disjoint_tuples held ≡ true
+    → have_disjoint_tuples (filter p held) ≡ true
 apart-filter p [] h = refl
-apart-filter p (x ∷ held) h = apart_step (p x) (is_taken x.original held) (is_taken x.reply held) (have_disjoint_tuples held) x (filter p held) h (is_taken-filter p x.original held) (is_taken-filter p x.reply held) (apart-filter p held)
+apart-filter p (x ∷ held) h = apart_step (p x) (is_taken x.original held) (is_taken x.reply held)
+    (have_disjoint_tuples held) x (filter p held) h (is_taken-filter p x.original held) (is_taken-filter p x.reply held)
+    (apart-filter p held)
 
 module _ (id : ConnId) (direction : Direction) (flags : Flags) (mark now : ℕ) where
-  touched_ends : (b : Bool) (h : ConntrackEntry) → ((cond b (touched direction flags mark now h) h).original ≡ h.original) × ((cond b (touched direction flags mark now h) h).reply ≡ h.reply)
+  touched_ends : (b : Bool) (h : ConntrackEntry)
+      → ((cond b (touched direction flags mark now h) h).original ≡ h.original)
+      × ((cond b (touched direction flags mark now h) h).reply ≡ h.reply)
   touched_ends true h = (refl, refl)
   touched_ends false h = (refl, refl)
 
-  is_taken-touched_at : (tuple : Tuple) (held : List ConntrackEntry) → is_taken tuple (touched_at id direction flags mark now held) ≡ is_taken tuple held
+  is_taken-touched_at : (tuple : Tuple) (held : List ConntrackEntry)
+      → is_taken tuple (touched_at id direction flags mark now held) ≡ is_taken tuple held
   is_taken-touched_at tuple [] = refl
-  is_taken-touched_at tuple (x ∷ held) = rw ((touched_ends (same_id id x) x).0, (touched_ends (same_id id x) x).1, is_taken-touched_at tuple held)
+  is_taken-touched_at tuple (x ∷ held) =
+      rw ((touched_ends (same_id id x) x).0, (touched_ends (same_id id x) x).1, is_taken-touched_at tuple held)
 
-  pub apart-touched_at : (held : List ConntrackEntry) → have_disjoint_tuples (touched_at id direction flags mark now held) ≡ have_disjoint_tuples held
+  pub apart-touched_at : (held : List ConntrackEntry)
+      → have_disjoint_tuples (touched_at id direction flags mark now held) ≡ have_disjoint_tuples held
   apart-touched_at [] = refl
-  apart-touched_at (x ∷ held) = rw ((touched_ends (same_id id x) x).0, (touched_ends (same_id id x) x).1, is_taken-touched_at x.original held, is_taken-touched_at x.reply held, apart-touched_at held)
+  apart-touched_at (x ∷ held) = rw (
+    (touched_ends (same_id id x) x).0,
+    (touched_ends (same_id id x) x).1,
+    is_taken-touched_at x.original held,
+    is_taken-touched_at x.reply held,
+    apart-touched_at held,
+  )
 
-is_taken-push : (tuple : Tuple) (held : List ConntrackEntry) (new : ConntrackEntry) → is_taken tuple (held ++ new ∷ []) ≡ (is_taken tuple held || (same_tuple new.original tuple || same_tuple new.reply tuple))
-is_taken-push tuple held new = list_any-append (is_incoming tuple) held (new ∷ []) ∙ ap (λ b. is_taken tuple held || b) (or-false (same_tuple new.original tuple || same_tuple new.reply tuple))
+is_taken-push : (tuple : Tuple) (held : List ConntrackEntry) (new : ConntrackEntry)
+    → is_taken tuple (held ++ new ∷ []) ≡ (is_taken tuple held
+    || (same_tuple new.original tuple || same_tuple new.reply tuple))
+is_taken-push tuple held new = list_any-append (is_incoming tuple) held (new ∷ [])
+    ∙ ap (λ b. is_taken tuple held || b) (or-false (same_tuple new.original tuple || same_tuple new.reply tuple))
 
-pub apart-push : (held : List ConntrackEntry) (new : ConntrackEntry) → have_disjoint_tuples held ≡ true → is_taken new.original held ≡ false → is_taken new.reply held ≡ false → have_disjoint_tuples (held ++ new ∷ []) ≡ true
+pub apart-push : (held : List ConntrackEntry) (new : ConntrackEntry) → have_disjoint_tuples held ≡ true
+    → is_taken new.original held ≡ false → is_taken new.reply held ≡ false
+    → have_disjoint_tuples (held ++ new ∷ []) ≡ true
 apart-push [] new h o r = refl
 apart-push (x ∷ held) new h o r =
     let parts = and_parts _ _ h in
@@ -172,8 +223,10 @@ apart-push (x ∷ held) new h o r =
     let rr = or_parts _ _ rs.0 in
     and_from _ _
     (not_from_false _ (or_from _ _
-    (is_taken-push x.original held new ∙ or_from _ _ ends.0 (or_from _ _ (same_tuple-sym new.original x.original ∙ oo.0) (same_tuple-sym new.reply x.original ∙ rr.0)))
-    (is_taken-push x.reply held new ∙ or_from _ _ ends.1 (or_from _ _ (same_tuple-sym new.original x.reply ∙ oo.1) (same_tuple-sym new.reply x.reply ∙ rr.1)))))
+    (is_taken-push x.original held new ∙ or_from _ _ ends.0
+    (or_from _ _ (same_tuple-sym new.original x.original ∙ oo.0) (same_tuple-sym new.reply x.original ∙ rr.0)))
+    (is_taken-push x.reply held new ∙ or_from _ _ ends.1
+    (or_from _ _ (same_tuple-sym new.original x.reply ∙ oo.1) (same_tuple-sym new.reply x.reply ∙ rr.1)))))
     (apart-push held new parts.1 os.1 rs.1)
 
 length-without_le : (id : ConnId) (held : List ConntrackEntry) → length (without id held) ≤ length held
@@ -188,17 +241,36 @@ has_other-without : (i j : ConnId) (held : List ConntrackEntry) → (i.0 ≡ j.0
 has_other-without i j [] d h = h
 has_other-without i j (x ∷ held) d h = grind (arith, nat_tests, has_other-without i j held d)
 
--- so many names need so many connections
-pub names_within : (n : ℕ) (held : List ConntrackEntry) → ((k : ℕ) → k < n → has_id (record { 0 = k }) held ≡ true) → n ≤ length held
-names_within zero held h = omega arith
-names_within (suc n) held h =
+-- so many ids need so many entries
+pub ids_within : (n : ℕ) (held : List ConntrackEntry) → ((k : ℕ) → k < n → has_id (record { 0 = k }) held ≡ true) → n ≤ length held
+ids_within zero held h = omega arith
+ids_within (suc n) held h =
     let id : ConnId = record { 0 = n } in
-    let fewer : n ≤ length (without id held) = names_within n (without id held) (λ k lt. has_other-without (record { 0 = k }) id held (λ e. omega arith) (h k (omega arith))) in
+    let fewer : n ≤ length (without id held) =
+    ids_within n (without id held) (λ k lt. has_other-without (record { 0 = k }) id held (λ e. omega arith)
+    (h k (omega arith))) in
     omega (arith, length-without id held (h n (omega arith)))
 
--- where all smaller names are taken, the number of the connections is free
-pub name_free : (held : List ConntrackEntry) → ((k : ℕ) → k < length held → has_id (record { 0 = k }) held ≡ true) → has_id (record { 0 = length held }) held ≡ false
-name_free held h =
-    false_from_ne_true _ (λ e. let more = names_within (suc (length held)) held (λ k lt. elim (cases_eq k (length held)) [ inl same ↦ rw same e | inr other ↦ h k (omega arith) ]) in omega arith)
+-- if all smaller ids are taken, the number of entries is free
+pub id_free : (held : List ConntrackEntry) → ((k : ℕ) → k < length held → has_id (record { 0 = k }) held ≡ true)
+    → has_id (record { 0 = length held }) held ≡ false
+id_free held h =
+    false_from_ne_true _ (λ e. let more = ids_within (suc (length held)) held
+    (λ k lt. elim (cases_eq k (length held)) [ inl same ↦ rw same e | inr other ↦ h k (omega arith) ]) in
+    omega arith)
 
-pub ruleset name_rules = (distinct-filter, apart-filter, apart-touched_at, apart-push, below-filter, distinct-touched_at, below-touched_at, has_id-below, distinct-push, below-push, has_id-found, live_at-without_expired, filter_where_none)
+pub ruleset id_rules = (
+  distinct-filter,
+  apart-filter,
+  apart-touched_at,
+  apart-push,
+  below-filter,
+  distinct-touched_at,
+  below-touched_at,
+  has_id-below,
+  distinct-push,
+  below-push,
+  has_id-found,
+  live_at-without_expired,
+  filter_where_none,
+)

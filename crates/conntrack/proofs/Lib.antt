@@ -1,6 +1,6 @@
 pub mod Lists
 pub mod Equal
-pub mod Names
+pub mod Ids
 pub mod Same
 pub mod Searches
 pub mod Changes

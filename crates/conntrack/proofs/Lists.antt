@@ -1,4 +1,4 @@
--- Plain facts on lists: a search in a filtered list.
+-- Lemmas on lists: searches in filtered lists.
 use Rattle.std.proofs.Common.{◌≡◌, List, [], ◌∷◌, Option, None, Some, Bool, true, false, not, ◌||◌, cond, refl, ap, arith}
 use Rattle.std.specs.Prelude.{filter}
 use Rattle.std.specs.List.{find, list_any}
@@ -6,7 +6,8 @@ use Rattle.list_laws.specs.Lists.{find-filter}
 
 pub ruleset find_filter_rules = (find-filter)
 
-none-by : {X : Type 0} (b : Bool) (x : X) (o : Option X) (xs ys : List X) → cond (not b) (Some x) o ≡ None → (o ≡ None → ys ≡ xs) → cond b (x ∷ ys) ys ≡ x ∷ xs
+none-by : {X : Type 0} (b : Bool) (x : X) (o : Option X) (xs ys : List X) → cond (not b) (Some x) o ≡ None
+    → (o ≡ None → ys ≡ xs) → cond b (x ∷ ys) ys ≡ x ∷ xs
 none-by true x o xs ys h k = ap (λ zs. x ∷ zs) (k h)
 none-by false x o xs ys h k = cc
 
@@ -20,11 +21,14 @@ pub list_any-filter : {X : Type 0} (t p : X → Bool) (xs : List X) → list_any
 list_any-filter t p [] h = refl
 list_any-filter t p (x ∷ xs) h = grind (arith, list_any-filter t p xs)
 
-pub list_any_either : {X : Type 0} (p q : X → Bool) (xs : List X) → find p xs ≡ None → find q xs ≡ None → list_any (λ x. p x || q x) xs ≡ false
+pub list_any_either : {X : Type 0} (p q : X → Bool) (xs : List X) → find p xs ≡ None → find q xs ≡ None
+    → list_any (λ x. p x || q x) xs ≡ false
 list_any_either p q [] h k = refl
 list_any_either p q (x ∷ xs) h k = neither (p x) (q x) x (find p xs) (find q xs) xs h k (list_any_either p q xs)
   where
-    neither : {Y : Type 0} (b c : Bool) (y : Y) (o r : Option Y) (ys : List Y) → cond b (Some y) o ≡ None → cond c (Some y) r ≡ None → (o ≡ None → r ≡ None → list_any (λ z. p z || q z) xs ≡ false) → ((b || c) || list_any (λ z. p z || q z) xs) ≡ false
+    neither : {Y : Type 0} (b c : Bool) (y : Y) (o r : Option Y) (ys : List Y) → cond b (Some y) o ≡ None
+        → cond c (Some y) r ≡ None → (o ≡ None → r ≡ None → list_any (λ z. p z || q z) xs ≡ false)
+        → ((b || c) || list_any (λ z. p z || q z) xs) ≡ false
     neither true c y o r ys h k e = cc
     neither false true y o r ys h k e = cc
     neither false false y o r ys h k e = e h k

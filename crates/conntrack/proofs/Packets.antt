@@ -1,5 +1,6 @@
--- What one packet makes of what is held, and of what a story tells.
-use Rattle.std.proofs.Common.{◌≡◌, ℕ, ◌≤◌, List, [], ◌∷◌, ◌++◌, map, length, Option, Bool, true, false, not, cond, refl, sym, ◌∙◌, ap, arith}
+-- The effect of one packet on a table's entries and on a history's connections.
+use Rattle.std.proofs.Common.{◌≡◌, ℕ, ◌≤◌, List, [], ◌∷◌, ◌++◌, map, length, Option, Bool, true}
+use Rattle.std.proofs.Common.{false, not, cond, refl, sym, ◌∙◌, ap, arith}
 use Rattle.std.specs.Prelude.{filter}
 use Rattle.std.proofs.lemmas.List.{append-nil, map-append, length-map}
 use Rattle.std.proofs.lemmas.List.Elements.{filter-append}
@@ -15,53 +16,71 @@ use Rattle.box_file.specs.declared.limits.Limits.{Limits}
 use Rattle.conntrack.specs.declared.belonging.Belonging.{Belonging}
 use Rattle.conntrack.specs.declared.belonging.Belonging.TheVariants.{NotFound, Ends, Found}
 use Rattle.conntrack.specs.declared.belonging.ConnectionRef.{ConnectionRef}
-use Rattle.conntrack.specs.ConntrackEntry.{IsNoneLater, have_disjoint_tuples, begun_with, belongs_in, connection_of, has_distinct_ids, has_id, is_live, is_taken, live_at, without_id, belonging_without_id, same_id, state_of, touched, touched_at, without}
+use Rattle.conntrack.specs.ConntrackEntry.{IsNoneLater, have_disjoint_tuples, begun_with, belongs_in, connection_of}
+use Rattle.conntrack.specs.ConntrackEntry.{has_distinct_ids, has_id, is_live, is_taken, live_at, without_id}
+use Rattle.conntrack.specs.ConntrackEntry.{belonging_without_id, same_id, state_of, touched, touched_at, without}
 use Rattle.conntrack.specs.Phases.{no_flags}
 use Rattle.conntrack.specs.Histories.{TrackedPacket, RepresentsAt, belongs, is_that, live_list}
-use Rattle.conntrack.specs.Updates.{DoesNotClash, Arrival, Confirmation, Unconfirmed, Confirmed, after_end, after_packet, ended_by_packet, entry_at, entry_of, change_of_packet, with_begun}
+use Rattle.conntrack.specs.Updates.{DoesNotClash, Arrival, Confirmation, Unconfirmed, Confirmed, after_end}
+use Rattle.conntrack.specs.Updates.{after_packet, ended_by_packet, entry_at, entry_of, change_of_packet, with_begun}
 use Rattle.conntrack.specs.steps.Changes.{changed_by}
-use Rattle.conntrack.proofs.Names.{apart-filter, apart-push, apart-touched_at, distinct-filter}
+use Rattle.conntrack.proofs.Ids.{apart-filter, apart-push, apart-touched_at, distinct-filter}
 use Rattle.conntrack.proofs.Searches.{live_list-unended}
-use Rattle.conntrack.proofs.Changes.{IsTouchHeld, filter-swap, filter-true, live_at-later, live_at-touched_at, live_at_last, live_list-cons, live_list-distinct, map-same}
+use Rattle.conntrack.proofs.Changes.{IsTouchHeld, filter-swap, filter-true, live_at-later, live_at-touched_at}
+use Rattle.conntrack.proofs.Changes.{live_at_last, live_list-cons, live_list-distinct, map-same}
 use Rattle.conntrack.proofs.Lookups.{ended_is_free, found_is_held, marks, nowhere_is_free, marked, same_place, touched_alike, without_alike}
 
--- the connection that a packet is found to belong to is among those given
+-- the entry that a lookup found is in the list
 abbrev pub IsFoundIn : Belonging → List ConntrackEntry → Type 0
 IsFoundIn b held = (found : ConnectionRef) → b ≡ Found found → has_id found.id held ≡ true
 
 pub found_in : (held : List ConntrackEntry) (tuple : Tuple) (flags : Flags) → IsFoundIn (belongs_in held tuple flags) held
 found_in held tuple flags = found_is_held held tuple flags
 
--- ---- what is live of it
+-- ---- its live entries
 
-live_begun : (limits : Limits) (id : ConnId) (p : Arrival) (confirmation : Confirmation) (held : List ConntrackEntry) → live_at limits p.moment (with_begun id p confirmation held) ≡ with_begun id p confirmation (live_at limits p.moment held)
+live_begun : (limits : Limits) (id : ConnId) (p : Arrival) (confirmation : Confirmation) (held : List ConntrackEntry)
+    → live_at limits p.moment (with_begun id p confirmation held)
+    ≡ with_begun id p confirmation (live_at limits p.moment held)
 live_begun limits id p Unconfirmed held = refl
 live_begun limits id p (Confirmed mark reply source dest) held =
-    let connection : Connection = record { original = p.tuple; reply = reply; mark = mark; last = p.moment; source = source; dest = dest } in
+    let connection : Connection =
+    record { original = p.tuple; reply = reply; mark = mark; last = p.moment; source = source; dest = dest } in
     rw (filter-append, live_at_last limits p.moment (begun_with id connection p.flags) refl) refl
 
-pub live_after : (limits : Limits) (b : Belonging) (id : ConnId) (p : Arrival) (confirmation : Confirmation) (held : List ConntrackEntry) → has_distinct_ids held ≡ true → IsFoundIn b (live_at limits p.moment held) →
+pub live_after : (limits : Limits) (b : Belonging) (id : ConnId) (p : Arrival) (confirmation : Confirmation)
+    (held : List ConntrackEntry) → has_distinct_ids held ≡ true → IsFoundIn b (live_at limits p.moment held) →
     live_at limits p.moment (after_packet b id p confirmation held) ≡ after_packet b id p confirmation (live_at limits p.moment held)
 live_after limits (Found found) id p Unconfirmed held d h = refl
-live_after limits (Found found) id p (Confirmed mark reply source dest) held d h = live_at-touched_at limits found.id found.direction p.flags mark p.moment held d (h found refl)
+live_after limits (Found found) id p (Confirmed mark reply source dest) held d h =
+    live_at-touched_at limits found.id found.direction p.flags mark p.moment held d (h found refl)
 live_after limits NotFound id p confirmation held d h = live_begun limits id p confirmation held
-live_after limits (Ends ended) id p confirmation held d h = live_begun limits id p confirmation (without ended held) ∙ ap (with_begun id p confirmation) (filter-swap (is_live limits p.moment) (λ h. not (same_id ended h)) held)
+live_after limits (Ends ended) id p confirmation held d h = live_begun limits id p confirmation (without ended held)
+    ∙ ap (with_begun id p confirmation) (filter-swap (is_live limits p.moment) (λ h. not (same_id ended h)) held)
 
--- ---- names
+-- ---- ids
 
-begun_alike : (i j : ConnId) (p : Arrival) (confirmation : Confirmation) (held others : List ConntrackEntry) → map without_id held ≡ map without_id others → map without_id (with_begun i p confirmation held) ≡ map without_id (with_begun j p confirmation others)
+begun_alike : (i j : ConnId) (p : Arrival) (confirmation : Confirmation) (held others : List ConntrackEntry)
+    → map without_id held ≡ map without_id others
+    → map without_id (with_begun i p confirmation held) ≡ map without_id (with_begun j p confirmation others)
 begun_alike i j p Unconfirmed held others e = e
 begun_alike i j p (Confirmed mark reply source dest) held others e =
-    let connection : Connection = record { original = p.tuple; reply = reply; mark = mark; last = p.moment; source = source; dest = dest } in
-    map-append without_id held (begun_with i connection p.flags ∷ []) ∙ ap (λ hs. hs ++ without_id (begun_with i connection p.flags) ∷ []) e ∙ sym (map-append without_id others (begun_with j connection p.flags ∷ []))
+    let connection : Connection =
+    record { original = p.tuple; reply = reply; mark = mark; last = p.moment; source = source; dest = dest } in
+    map-append without_id held (begun_with i connection p.flags ∷ [])
+    ∙ ap (λ hs. hs ++ without_id (begun_with i connection p.flags) ∷ []) e
+    ∙ sym (map-append without_id others (begun_with j connection p.flags ∷ []))
 
-end_alike : (b c : Belonging) (held others : List ConntrackEntry) → map without_id held ≡ map without_id others → marked held b ≡ marked others c → map without_id (after_end b held) ≡ map without_id (after_end c others)
+end_alike : (b c : Belonging) (held others : List ConntrackEntry) → map without_id held ≡ map without_id others
+    → marked held b ≡ marked others c → map without_id (after_end b held) ≡ map without_id (after_end c others)
 end_alike NotFound NotFound held others e at = e
 end_alike (Found found) (Found other) held others e at = e
 end_alike (Ends i) (Ends j) held others e at = let m : marks i held ≡ marks j others = cc in without_alike i j held others e m
 end_alike b c held others e at = cc
 
-after_alike : (b c : Belonging) (i j : ConnId) (p : Arrival) (confirmation : Confirmation) (held others : List ConntrackEntry) → map without_id held ≡ map without_id others → marked held b ≡ marked others c →
+after_alike : (b c : Belonging) (i j : ConnId) (p : Arrival) (confirmation : Confirmation)
+    (held others : List ConntrackEntry) → map without_id held ≡ map without_id others → marked held b ≡ marked others c
+    →
     map without_id (after_packet b i p confirmation held) ≡ map without_id (after_packet c j p confirmation others)
 after_alike NotFound NotFound i j p confirmation held others e at = begun_alike i j p confirmation held others e
 after_alike (Ends k) (Ends l) i j p confirmation held others e at =
@@ -71,21 +90,27 @@ after_alike (Found found) (Found other) i j p Unconfirmed held others e at = e
 after_alike (Found found) (Found other) i j p (Confirmed mark reply source dest) held others e at =
     let m : marks found.id held ≡ marks other.id others = cc in
     let same_direction : found.direction ≡ other.direction = cc in
-    touched_alike found.id other.id found.direction p.flags mark p.moment held others e m ∙ ap (λ d. map without_id (touched_at other.id d p.flags mark p.moment others)) same_direction
+    touched_alike found.id other.id found.direction p.flags mark p.moment held others e m
+    ∙ ap (λ d. map without_id (touched_at other.id d p.flags mark p.moment others)) same_direction
 after_alike b c i j p confirmation held others e at = cc
 
-module _ (held others : List ConntrackEntry) (e : map without_id held ≡ map without_id others) (d : has_distinct_ids held ≡ true) (d' : has_distinct_ids others ≡ true) where
-  -- lists that are one but for the names stay so
+module _ (held others : List ConntrackEntry) (e : map without_id held ≡ map without_id others)
+    (d : has_distinct_ids held ≡ true) (d' : has_distinct_ids others ≡ true) where
+  -- lists that are equal except for ids stay so
   pub packet_alike : (i j : ConnId) (p : Arrival) (confirmation : Confirmation) →
-      map without_id (after_packet (belongs_in held p.tuple p.flags) i p confirmation held) ≡ map without_id (after_packet (belongs_in others p.tuple p.flags) j p confirmation others)
+      map without_id (after_packet (belongs_in held p.tuple p.flags) i p confirmation held)
+      ≡ map without_id (after_packet (belongs_in others p.tuple p.flags) j p confirmation others)
   packet_alike i j p confirmation = after_alike _ _ i j p confirmation held others e (same_place held others p.tuple p.flags e d d')
 
-  pub ended_alike : (tuple : Tuple) (flags : Flags) → map without_id (after_end (belongs_in held tuple flags) held) ≡ map without_id (after_end (belongs_in others tuple flags) others)
+  pub ended_alike : (tuple : Tuple) (flags : Flags)
+      → map without_id (after_end (belongs_in held tuple flags) held)
+      ≡ map without_id (after_end (belongs_in others tuple flags) others)
   ended_alike tuple flags = end_alike _ _ held others e (same_place held others tuple flags e d d')
 
--- ---- what is recorded
+-- ---- records
 
-touch_held : (b : Belonging) (p : Arrival) (confirmation : Confirmation) (live : List ConntrackEntry) → IsFoundIn b live → IsTouchHeld (change_of_packet b p confirmation) (filter (λ h. not (is_that h.id.0 (ended_by_packet b))) live)
+touch_held : (b : Belonging) (p : Arrival) (confirmation : Confirmation) (live : List ConntrackEntry) → IsFoundIn b live
+    → IsTouchHeld (change_of_packet b p confirmation) (filter (λ h. not (is_that h.id.0 (ended_by_packet b))) live)
 touch_held (Found found) p Unconfirmed live h = tt
 touch_held (Found found) p (Confirmed mark reply source dest) live h = rw (filter-true live) (h found refl)
 touch_held NotFound p Unconfirmed live h = tt
@@ -93,7 +118,8 @@ touch_held NotFound p (Confirmed mark reply source dest) live h = tt
 touch_held (Ends id) p Unconfirmed live h = tt
 touch_held (Ends id) p (Confirmed mark reply source dest) live h = tt
 
-changed_is_after : (b : Belonging) (p : Arrival) (confirmation : Confirmation) (n : ℕ) (live : List ConntrackEntry) → changed_by (entry_of b p confirmation) n live ≡ after_packet b (record { 0 = n }) p confirmation live
+changed_is_after : (b : Belonging) (p : Arrival) (confirmation : Confirmation) (n : ℕ) (live : List ConntrackEntry)
+    → changed_by (entry_of b p confirmation) n live ≡ after_packet b (record { 0 = n }) p confirmation live
 changed_is_after (Found found) p Unconfirmed n live = rw (append-nil, map-same, filter-true live) refl
 changed_is_after (Found found) p (Confirmed mark reply source dest) n live = rw (append-nil, filter-true live) refl
 changed_is_after NotFound p Unconfirmed n live = rw (append-nil, map-same, filter-true live) refl
@@ -101,25 +127,37 @@ changed_is_after NotFound p (Confirmed mark reply source dest) n live = rw (map-
 changed_is_after (Ends id) p Unconfirmed n live = rw (append-nil, map-same) refl
 changed_is_after (Ends id) p (Confirmed mark reply source dest) n live = rw map-same refl
 
-pub recorded_by : (limits : Limits) (b : Belonging) (p : Arrival) (confirmation : Confirmation) (history : List TrackedPacket) → IsFoundIn b (live_list limits history p.moment) →
-    live_list limits (entry_of b p confirmation ∷ history) p.moment ≡ after_packet b (record { 0 = length history }) p confirmation (live_list limits history p.moment)
-recorded_by limits b p confirmation history h = live_list-cons limits (entry_of b p confirmation) history (touch_held b p confirmation (live_list limits history p.moment) h) ∙ changed_is_after b p confirmation (length history) (live_list limits history p.moment)
+pub recorded_by : (limits : Limits) (b : Belonging) (p : Arrival) (confirmation : Confirmation)
+    (history : List TrackedPacket) → IsFoundIn b (live_list limits history p.moment) →
+    live_list limits (entry_of b p confirmation ∷ history) p.moment
+    ≡ after_packet b (record { 0 = length history }) p confirmation (live_list limits history p.moment)
+recorded_by limits b p confirmation history h =
+    live_list-cons limits (entry_of b p confirmation) history
+    (touch_held b p confirmation (live_list limits history p.moment) h)
+    ∙ changed_is_after b p confirmation (length history) (live_list limits history p.moment)
 
 pub recorded : (limits : Limits) (p : Arrival) (confirmation : Confirmation) (history : List TrackedPacket) →
-    live_list limits (entry_of (belongs limits history p.moment p.tuple p.flags) p confirmation ∷ history) p.moment ≡ after_packet (belongs limits history p.moment p.tuple p.flags) (record { 0 = length history }) p confirmation (live_list limits history p.moment)
-recorded limits p confirmation history = recorded_by limits _ p confirmation history (found_in (live_list limits history p.moment) p.tuple p.flags)
+    live_list limits (entry_of (belongs limits history p.moment p.tuple p.flags) p confirmation ∷ history) p.moment
+    ≡ after_packet (belongs limits history p.moment p.tuple p.flags) (record { 0 = length history }) p confirmation
+    (live_list limits history p.moment)
+recorded limits p confirmation history =
+    recorded_by limits _ p confirmation history (found_in (live_list limits history p.moment) p.tuple p.flags)
 
-pub recorded_nothing : (limits : Limits) (history : List TrackedPacket) (now : ℕ) (tuple : Tuple) → live_list limits (entry_at now ∷ history) now ≡ live_list limits history now
+pub recorded_nothing : (limits : Limits) (history : List TrackedPacket) (now : ℕ) (tuple : Tuple)
+    → live_list limits (entry_at now ∷ history) now ≡ live_list limits history now
 recorded_nothing limits history now tuple =
     let p : Arrival = record { tuple = tuple; flags = no_flags; moment = now } in
     recorded_by limits NotFound p Unconfirmed history (λ found e. cc)
 
-pub live_list-later : (limits : Limits) (history : List TrackedPacket) (now later : ℕ) → now ≤ later → live_list limits history later ≡ live_at limits later (live_list limits history now)
-live_list-later limits history now later le = live_list-unended limits history later ∙ sym (live_at-later limits now later _ le) ∙ ap (live_at limits later) (sym (live_list-unended limits history now))
+pub live_list-later : (limits : Limits) (history : List TrackedPacket) (now later : ℕ) → now ≤ later
+    → live_list limits history later ≡ live_at limits later (live_list limits history now)
+live_list-later limits history now later le = live_list-unended limits history later
+    ∙ sym (live_at-later limits now later _ le) ∙ ap (live_at limits later) (sym (live_list-unended limits history now))
 
--- ---- what stands for a story
+-- ---- representing a history
 
-pub represents_later : (limits : Limits) (held : List ConntrackEntry) (history : List TrackedPacket) (now later : ℕ) → now ≤ later → RepresentsAt limits held history now → RepresentsAt limits held history later
+pub represents_later : (limits : Limits) (held : List ConntrackEntry) (history : List TrackedPacket) (now later : ℕ)
+    → now ≤ later → RepresentsAt limits held history now → RepresentsAt limits held history later
 represents_later limits held history now later le s = record {
   reached = omega (arith, s.reached);
   live =
@@ -128,11 +166,14 @@ represents_later limits held history now later le s = record {
       ∙ ap (map without_id) (sym (live_list-later limits history now later le));
 }
   where
-    one_later : (b : Bool) (x y : ConntrackEntry) (xs ys : List ConntrackEntry) → without_id x ≡ without_id y → map without_id xs ≡ map without_id ys → map without_id (cond b (x ∷ xs) xs) ≡ map without_id (cond b (y ∷ ys) ys)
+    one_later : (b : Bool) (x y : ConntrackEntry) (xs ys : List ConntrackEntry) → without_id x ≡ without_id y
+        → map without_id xs ≡ map without_id ys
+        → map without_id (cond b (x ∷ xs) xs) ≡ map without_id (cond b (y ∷ ys) ys)
     one_later true x y xs ys n e = cc
     one_later false x y xs ys n e = e
 
-    alike_later : (xs ys : List ConntrackEntry) → map without_id xs ≡ map without_id ys → map without_id (live_at limits later xs) ≡ map without_id (live_at limits later ys)
+    alike_later : (xs ys : List ConntrackEntry) → map without_id xs ≡ map without_id ys
+        → map without_id (live_at limits later xs) ≡ map without_id (live_at limits later ys)
     alike_later [] [] e = refl
     alike_later [] (y ∷ ys) e = cc
     alike_later (x ∷ xs) [] e = cc
@@ -140,10 +181,15 @@ represents_later limits held history now later le s = record {
         let heads : without_id x ≡ without_id y = cc in
         let tails : map without_id xs ≡ map without_id ys = cc in
         let same : is_live limits later x ≡ is_live limits later y = ap (is_live limits later) heads in
-        one_later (is_live limits later x) x y (live_at limits later xs) (live_at limits later ys) heads (alike_later xs ys tails) ∙ ap (λ b. map without_id (cond b (y ∷ live_at limits later ys) (live_at limits later ys))) same
+        one_later (is_live limits later x) x y (live_at limits later xs) (live_at limits later ys) heads
+        (alike_later xs ys tails) ∙ ap (λ b. map without_id
+        (cond b (y ∷ live_at limits later ys) (live_at limits later ys))) same
 
-pub represents_after : (limits : Limits) (held : List ConntrackEntry) (history : List TrackedPacket) (id : ConnId) (p : Arrival) (confirmation : Confirmation) → has_distinct_ids held ≡ true → RepresentsAt limits held history p.moment →
-    RepresentsAt limits (after_packet (belongs_in (live_at limits p.moment held) p.tuple p.flags) id p confirmation held) (entry_of (belongs limits history p.moment p.tuple p.flags) p confirmation ∷ history) p.moment
+pub represents_after : (limits : Limits) (held : List ConntrackEntry) (history : List TrackedPacket) (id : ConnId)
+    (p : Arrival) (confirmation : Confirmation) → has_distinct_ids held ≡ true
+    → RepresentsAt limits held history p.moment →
+    RepresentsAt limits (after_packet (belongs_in (live_at limits p.moment held) p.tuple p.flags) id p confirmation
+    held) (entry_of (belongs limits history p.moment p.tuple p.flags) p confirmation ∷ history) p.moment
 represents_after limits held history id p confirmation d s =
     let live = live_at limits p.moment held in
     let replayed = live_list limits history p.moment in
@@ -151,28 +197,39 @@ represents_after limits held history id p confirmation d s =
       reached = omega arith;
       live =
           ap (map without_id) (live_after limits (belongs_in live p.tuple p.flags) id p confirmation held d (found_in live p.tuple p.flags))
-          ∙ packet_alike live replayed s.live (distinct-filter (is_live limits p.moment) held d) (live_list-distinct limits history p.moment) id (record { 0 = length history }) p confirmation
+          ∙ packet_alike live replayed s.live (distinct-filter (is_live limits p.moment) held d)
+          (live_list-distinct limits history p.moment) id (record { 0 = length history }) p confirmation
           ∙ ap (map without_id) (sym (recorded limits p confirmation history));
     }
 
--- ---- tuples stay apart
+-- ---- tuples stay disjoint
 
-apart_begun : (id : ConnId) (p : Arrival) (mark : ℕ) (reply : Tuple) (source dest : Option Mapping) (held : List ConntrackEntry) → have_disjoint_tuples held ≡ true → is_taken p.tuple held ≡ false → is_taken reply held ≡ false →
+apart_begun : (id : ConnId) (p : Arrival) (mark : ℕ) (reply : Tuple) (source dest : Option Mapping)
+    (held : List ConntrackEntry) → have_disjoint_tuples held ≡ true → is_taken p.tuple held ≡ false
+    → is_taken reply held ≡ false →
     have_disjoint_tuples (with_begun id p (Confirmed mark reply source dest) held) ≡ true
 apart_begun id p mark reply source dest held a f r =
-    let connection : Connection = record { original = p.tuple; reply = reply; mark = mark; last = p.moment; source = source; dest = dest } in
+    let connection : Connection =
+    record { original = p.tuple; reply = reply; mark = mark; last = p.moment; source = source; dest = dest } in
     apart-push held (begun_with id connection p.flags) a f r
 
-apart_by : (b : Belonging) (id : ConnId) (p : Arrival) (confirmation : Confirmation) (held : List ConntrackEntry) → has_distinct_ids held ≡ true → have_disjoint_tuples held ≡ true → belongs_in held p.tuple p.flags ≡ b → DoesNotClash b confirmation held → have_disjoint_tuples (after_packet b id p confirmation held) ≡ true
+apart_by : (b : Belonging) (id : ConnId) (p : Arrival) (confirmation : Confirmation) (held : List ConntrackEntry)
+    → has_distinct_ids held ≡ true → have_disjoint_tuples held ≡ true → belongs_in held p.tuple p.flags ≡ b
+    → DoesNotClash b confirmation held → have_disjoint_tuples (after_packet b id p confirmation held) ≡ true
 apart_by (Found found) id p Unconfirmed held d a e n = a
-apart_by (Found found) id p (Confirmed mark reply source dest) held d a e n = apart-touched_at found.id found.direction p.flags mark p.moment held ∙ a
+apart_by (Found found) id p (Confirmed mark reply source dest) held d a e n =
+    apart-touched_at found.id found.direction p.flags mark p.moment held ∙ a
 apart_by NotFound id p Unconfirmed held d a e n = a
-apart_by NotFound id p (Confirmed mark reply source dest) held d a e n = apart_begun id p mark reply source dest held a (nowhere_is_free held p.tuple p.flags e) n
+apart_by NotFound id p (Confirmed mark reply source dest) held d a e n =
+    apart_begun id p mark reply source dest held a (nowhere_is_free held p.tuple p.flags e) n
 apart_by (Ends k) id p Unconfirmed held d a e n = apart-filter (λ h. not (same_id k h)) held a
 apart_by (Ends k) id p (Confirmed mark reply source dest) held d a e n =
-    apart_begun id p mark reply source dest (without k held) (apart-filter (λ h. not (same_id k h)) held a) (ended_is_free held p.tuple p.flags k d a e) n
+    apart_begun id p mark reply source dest (without k held) (apart-filter (λ h. not (same_id k h)) held a)
+    (ended_is_free held p.tuple p.flags k d a e) n
 
-pub apart_after : (id : ConnId) (p : Arrival) (confirmation : Confirmation) (held : List ConntrackEntry) → has_distinct_ids held ≡ true → have_disjoint_tuples held ≡ true → DoesNotClash (belongs_in held p.tuple p.flags) confirmation held →
+pub apart_after : (id : ConnId) (p : Arrival) (confirmation : Confirmation) (held : List ConntrackEntry)
+    → has_distinct_ids held ≡ true → have_disjoint_tuples held ≡ true
+    → DoesNotClash (belongs_in held p.tuple p.flags) confirmation held →
     have_disjoint_tuples (after_packet (belongs_in held p.tuple p.flags) id p confirmation held) ≡ true
 apart_after id p confirmation held d a n = apart_by (belongs_in held p.tuple p.flags) id p confirmation held d a refl n
 
@@ -182,11 +239,13 @@ pub none_later_than : (now later : ℕ) (held : List ConntrackEntry) → now ≤
 none_later_than now later [] le h = tt
 none_later_than now later (x ∷ held) le h = (omega (arith, h.0), none_later_than now later held le h.1)
 
-one_less : (b : Bool) (now : ℕ) (x : ConntrackEntry) (held : List ConntrackEntry) → x.last ≤ now → IsNoneLater now held → IsNoneLater now (cond b (x ∷ held) held)
+one_less : (b : Bool) (now : ℕ) (x : ConntrackEntry) (held : List ConntrackEntry) → x.last ≤ now → IsNoneLater now held
+    → IsNoneLater now (cond b (x ∷ held) held)
 one_less true now x held h k = (h, k)
 one_less false now x held h k = k
 
-none_later-filter : (test : ConntrackEntry → Bool) (now : ℕ) (held : List ConntrackEntry) → IsNoneLater now held → IsNoneLater now (filter test held)
+none_later-filter : (test : ConntrackEntry → Bool) (now : ℕ) (held : List ConntrackEntry) → IsNoneLater now held
+    → IsNoneLater now (filter test held)
 none_later-filter test now [] h = tt
 none_later-filter test now (x ∷ held) h = one_less (test x) now x (filter test held) h.0 (none_later-filter test now held h.1)
 
@@ -198,47 +257,61 @@ module _ (id : ConnId) (direction : Direction) (flags : Flags) (mark now : ℕ) 
   touched_last true h e = omega arith
   touched_last false h e = e
 
-  none_later-touched_at : (held : List ConntrackEntry) → IsNoneLater now held → IsNoneLater now (touched_at id direction flags mark now held)
+  none_later-touched_at : (held : List ConntrackEntry) → IsNoneLater now held
+      → IsNoneLater now (touched_at id direction flags mark now held)
   none_later-touched_at [] h = tt
   none_later-touched_at (x ∷ held) h = (touched_last (same_id id x) x h.0, none_later-touched_at held h.1)
 
-none_later-push : (now : ℕ) (held : List ConntrackEntry) (new : ConntrackEntry) → IsNoneLater now held → new.last ≤ now → IsNoneLater now (held ++ new ∷ [])
+none_later-push : (now : ℕ) (held : List ConntrackEntry) (new : ConntrackEntry) → IsNoneLater now held → new.last ≤ now
+    → IsNoneLater now (held ++ new ∷ [])
 none_later-push now [] new h e = (e, tt)
 none_later-push now (x ∷ held) new h e = (h.0, none_later-push now held new h.1 e)
 
-none_later_begun : (id : ConnId) (p : Arrival) (confirmation : Confirmation) (held : List ConntrackEntry) → IsNoneLater p.moment held → IsNoneLater p.moment (with_begun id p confirmation held)
+none_later_begun : (id : ConnId) (p : Arrival) (confirmation : Confirmation) (held : List ConntrackEntry)
+    → IsNoneLater p.moment held → IsNoneLater p.moment (with_begun id p confirmation held)
 none_later_begun id p Unconfirmed held h = h
 none_later_begun id p (Confirmed mark reply source dest) held h =
-    let connection : Connection = record { original = p.tuple; reply = reply; mark = mark; last = p.moment; source = source; dest = dest } in
+    let connection : Connection =
+    record { original = p.tuple; reply = reply; mark = mark; last = p.moment; source = source; dest = dest } in
     none_later-push p.moment held (begun_with id connection p.flags) h (omega arith)
 
-pub none_later_after : (b : Belonging) (id : ConnId) (p : Arrival) (confirmation : Confirmation) (held : List ConntrackEntry) → IsNoneLater p.moment held → IsNoneLater p.moment (after_packet b id p confirmation held)
+pub none_later_after : (b : Belonging) (id : ConnId) (p : Arrival) (confirmation : Confirmation)
+    (held : List ConntrackEntry) → IsNoneLater p.moment held
+    → IsNoneLater p.moment (after_packet b id p confirmation held)
 none_later_after (Found found) id p Unconfirmed held h = h
-none_later_after (Found found) id p (Confirmed mark reply source dest) held h = none_later-touched_at found.id found.direction p.flags mark p.moment held h
+none_later_after (Found found) id p (Confirmed mark reply source dest) held h =
+    none_later-touched_at found.id found.direction p.flags mark p.moment held h
 none_later_after NotFound id p confirmation held h = none_later_begun id p confirmation held h
-none_later_after (Ends k) id p confirmation held h = none_later_begun id p confirmation (without k held) (none_later-without k p.moment held h)
+none_later_after (Ends k) id p confirmation held h =
+    none_later_begun id p confirmation (without k held) (none_later-without k p.moment held h)
 
--- ---- what is told of connections
+-- ---- properties of connections
 
 listed_without_id : (held : List ConntrackEntry) → map connection_of held ≡ map connection_of (map without_id held)
 listed_without_id [] = refl
 listed_without_id (x ∷ held) = ap (λ cs. connection_of x ∷ cs) (listed_without_id held)
 
-pub listed_alike : (held others : List ConntrackEntry) → map without_id held ≡ map without_id others → map connection_of held ≡ map connection_of others
+pub listed_alike : (held others : List ConntrackEntry) → map without_id held ≡ map without_id others
+    → map connection_of held ≡ map connection_of others
 listed_alike held others e = listed_without_id held ∙ ap (map connection_of) e ∙ sym (listed_without_id others)
 
 pub length_alike : (held others : List ConntrackEntry) → map without_id held ≡ map without_id others → length held ≡ length others
 length_alike held others e = sym (length-map held without_id) ∙ ap length e ∙ length-map others without_id
 
-live_without_id : (limits : Limits) (now : ℕ) (held : List ConntrackEntry) → map without_id (live_at limits now held) ≡ live_at limits now (map without_id held)
+live_without_id : (limits : Limits) (now : ℕ) (held : List ConntrackEntry)
+    → map without_id (live_at limits now held) ≡ live_at limits now (map without_id held)
 live_without_id limits now [] = refl
 live_without_id limits now (x ∷ held) = one_live (is_live limits now x) (live_without_id limits now held)
   where
-    one_live : (b : Bool) → map without_id (live_at limits now held) ≡ live_at limits now (map without_id held) → map without_id (cond b (x ∷ live_at limits now held) (live_at limits now held)) ≡ cond b (without_id x ∷ live_at limits now (map without_id held)) (live_at limits now (map without_id held))
+    one_live : (b : Bool) → map without_id (live_at limits now held) ≡ live_at limits now (map without_id held)
+        → map without_id (cond b (x ∷ live_at limits now held) (live_at limits now held))
+        ≡ cond b (without_id x ∷ live_at limits now (map without_id held)) (live_at limits now (map without_id held))
     one_live true e = ap (λ hs. without_id x ∷ hs) e
     one_live false e = e
 
-pub live_alike : (limits : Limits) (held others : List ConntrackEntry) (now : ℕ) → map without_id held ≡ map without_id others → map without_id (live_at limits now held) ≡ map without_id (live_at limits now others)
+pub live_alike : (limits : Limits) (held others : List ConntrackEntry) (now : ℕ)
+    → map without_id held ≡ map without_id others
+    → map without_id (live_at limits now held) ≡ map without_id (live_at limits now others)
 live_alike limits held others now e = live_without_id limits now held ∙ ap (live_at limits now) e ∙ sym (live_without_id limits now others)
 
 state_without_id : (kind : Kind) (b : Belonging) → state_of kind b ≡ state_of kind (belonging_without_id b)

@@ -1,4 +1,4 @@
--- Lists that are one but for the names answer alike.
+-- Lists that are equal except for ids have the same lookups.
 use Rattle.std.proofs.Common.{◌≡◌, ℕ, List, [], ◌∷◌, map, Option, None, Some, Bool, true, false, ◌&&◌, cond, refl, sym, ◌∙◌, ap}
 use Rattle.std.specs.List.{find, list_any}
 use Rattle.std.specs.Option.{option_map}
@@ -6,7 +6,8 @@ use Rattle.conntrack.specs.declared.connection.ConntrackEntry.{ConntrackEntry}
 use Rattle.conntrack.specs.declared.connection.ConnId.{ConnId}
 use Rattle.ip_headers.specs.declared.tuple.Tuple.{Tuple}
 use Rattle.conntrack.specs.declared.connection.Flags.{Flags}
-use Rattle.conntrack.specs.ConntrackEntry.{without_id, belonging_without_id, ref_without_id, belonging_by, belongs_in, of_original, of_reply, is_taken, is_incoming, connection_ref, live_at}
+use Rattle.conntrack.specs.ConntrackEntry.{without_id, belonging_without_id, ref_without_id, belonging_by, belongs_in}
+use Rattle.conntrack.specs.ConntrackEntry.{of_original, of_reply, is_taken, is_incoming, connection_ref, live_at}
 use Rattle.ip_headers.specs.Same.{same_tuple}
 use Rattle.conntrack.specs.Phases.{is_lone_syn, is_closing}
 use Rattle.conntrack.specs.declared.belonging.Belonging.TheVariants.{Ends, Found}
@@ -18,7 +19,8 @@ pub option_map-find : {A B : Type 0} (f : A → B) (p : B → Bool) (xs : List A
 option_map-find f p [] = refl
 option_map-find f p (x ∷ xs) = found (p (f x)) x (option_map-find f p xs)
   where
-    found : (b : Bool) (y : _) → option_map f (find (λ x. p (f x)) xs) ≡ find p (map f xs) → option_map f (cond b (Some y) (find (λ x. p (f x)) xs)) ≡ cond b (Some (f y)) (find p (map f xs))
+    found : (b : Bool) (y : _) → option_map f (find (λ x. p (f x)) xs) ≡ find p (map f xs)
+        → option_map f (cond b (Some y) (find (λ x. p (f x)) xs)) ≡ cond b (Some (f y)) (find p (map f xs))
     found true y e = refl
     found false y e = e
 
@@ -26,30 +28,45 @@ pub list_any-map : {A B : Type 0} (f : A → B) (p : B → Bool) (xs : List A) �
 list_any-map f p [] = refl
 list_any-map f p (x ∷ xs) = rw (list_any-map f p xs)
 
-ends_or_found : (b : Bool) (id : ConnId) (found : _) → belonging_without_id (cond b (Ends id) (Found found)) ≡ belonging_without_id (cond b (Ends (record { 0 = 0 })) (Found (ref_without_id found)))
+ends_or_found : (b : Bool) (id : ConnId) (found : _)
+    → belonging_without_id (cond b (Ends id) (Found found))
+    ≡ belonging_without_id (cond b (Ends (record { 0 = 0 })) (Found (ref_without_id found)))
 ends_or_found true id found = refl
 ends_or_found false id found = refl
 
-without_id_by : (flags : Flags) (o r : Option ConntrackEntry) → belonging_without_id (belonging_by flags o r) ≡ belonging_without_id (belonging_by flags (option_map without_id o) (option_map without_id r))
+without_id_by : (flags : Flags) (o r : Option ConntrackEntry)
+    → belonging_without_id (belonging_by flags o r)
+    ≡ belonging_without_id (belonging_by flags (option_map without_id o) (option_map without_id r))
 without_id_by flags (Some h) r = ends_or_found (is_lone_syn flags && is_closing h) h.id (connection_ref h Original)
 without_id_by flags None (Some h) = refl
 without_id_by flags None None = refl
 
--- what a tuple belongs to is told alike
-pub same_belonging : (held others : List ConntrackEntry) (tuple : Tuple) (flags : Flags) → map without_id held ≡ map without_id others → belonging_without_id (belongs_in held tuple flags) ≡ belonging_without_id (belongs_in others tuple flags)
+-- lookups agree
+pub same_belonging : (held others : List ConntrackEntry) (tuple : Tuple) (flags : Flags)
+    → map without_id held ≡ map without_id others
+    → belonging_without_id (belongs_in held tuple flags) ≡ belonging_without_id (belongs_in others tuple flags)
 same_belonging held others tuple flags e =
-    let by : (hs : List ConntrackEntry) → belonging_without_id (belongs_in hs tuple flags) ≡ belonging_without_id (belonging_by flags (of_original (map without_id hs) tuple) (of_reply (map without_id hs) tuple)) =
+    let by : (hs : List ConntrackEntry) → belonging_without_id (belongs_in hs tuple flags)
+    ≡ belonging_without_id (belonging_by flags (of_original (map without_id hs) tuple)
+    (of_reply (map without_id hs) tuple)) =
     λ hs. without_id_by flags (of_original hs tuple) (of_reply hs tuple)
-    ∙ ap (λ o. belonging_without_id (belonging_by flags o (option_map without_id (of_reply hs tuple)))) (option_map-find without_id (λ h. same_tuple h.original tuple) hs)
-    ∙ ap (λ r. belonging_without_id (belonging_by flags (of_original (map without_id hs) tuple) r)) (option_map-find without_id (λ h. same_tuple h.reply tuple) hs) in
+    ∙ ap (λ o. belonging_without_id (belonging_by flags o (option_map without_id (of_reply hs tuple))))
+    (option_map-find without_id (λ h. same_tuple h.original tuple) hs)
+    ∙ ap (λ r. belonging_without_id (belonging_by flags (of_original (map without_id hs) tuple) r))
+    (option_map-find without_id (λ h. same_tuple h.reply tuple) hs) in
     by held ∙ ap (λ ns. belonging_without_id (belonging_by flags (of_original ns tuple) (of_reply ns tuple))) e ∙ sym (by others)
 
--- whether a tuple is taken is told alike
-pub same_taken : (held others : List ConntrackEntry) (tuple : Tuple) → map without_id held ≡ map without_id others → is_taken tuple held ≡ is_taken tuple others
+-- taken tuples agree
+pub same_taken : (held others : List ConntrackEntry) (tuple : Tuple) → map without_id held ≡ map without_id others
+    → is_taken tuple held ≡ is_taken tuple others
 same_taken held others tuple e =
     let by = list_any-map without_id (is_incoming tuple) in
     by held ∙ ap (λ ns. is_taken tuple ns) e ∙ sym (by others)
 
--- what is looked up in what is held is what the story tells
-pub belongs_by_history : (limits : Limits) (held : List ConntrackEntry) (now : ℕ) (tuple : Tuple) (flags : Flags) (history : List TrackedPacket) → RepresentsAt limits held history now → belonging_without_id (belongs_in (live_at limits now held) tuple flags) ≡ belonging_without_id (belongs limits history now tuple flags)
-belongs_by_history limits held now tuple flags history s = same_belonging (live_at limits now held) (live_list limits history now) tuple flags s.live
+-- lookups in a table agree with those in the history
+pub belongs_by_history : (limits : Limits) (held : List ConntrackEntry) (now : ℕ) (tuple : Tuple) (flags : Flags)
+    (history : List TrackedPacket) → RepresentsAt limits held history now
+    → belonging_without_id (belongs_in (live_at limits now held) tuple flags)
+    ≡ belonging_without_id (belongs limits history now tuple flags)
+belongs_by_history limits held now tuple flags history s =
+    same_belonging (live_at limits now held) (live_list limits history now) tuple flags s.live

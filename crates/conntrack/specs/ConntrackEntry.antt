@@ -1,6 +1,8 @@
--- The connections that are held, as a list in order of beginning, and what is asked of it.
-use Rattle.std.specs.Prelude.{◌≤◌, ◌+◌, ◌-◌, ℕ, Bool, true, false, not, ◌&&◌, ◌||◌, ◌==◌, nat_lt, if◌then◌else◌, List}
-use Rattle.std.specs.Prelude.{[], ◌∷◌, map, filter, Option, Some, None}
+-- The conntrack entries that a table holds, as a list in the order of their creation, and lookups in it.
+-- States follow nft(8), CONNTRACK EXPRESSIONS (`ct state`); where a comment says so a rule is this project's
+-- own (own).
+use Rattle.std.specs.Prelude.{◌≡◌, ◌≤◌, ◌+◌, ◌-◌, ℕ, Bool, true, false, not, ◌&&◌, ◌||◌, ◌==◌, nat_lt}
+use Rattle.std.specs.Prelude.{if◌then◌else◌, List, [], ◌∷◌, map, filter, Option, Some, None}
 use Rattle.std.specs.List.{find, list_any}
 use Rattle.std.specs.Option.{option_map}
 use Rattle.ip_headers.specs.declared.tuple.Kind.{Kind}
@@ -22,7 +24,7 @@ use Rattle.conntrack.specs.declared.belonging.LookupState.TheVariants.{Establish
 use Rattle.ip_headers.specs.Same.{same_tuple}
 use Rattle.conntrack.specs.Phases.{no_flags, seen_more, is_lone_syn, is_closing, phase_of, limit_by}
 
--- ---- directions
+-- ---- directions (netfilter's IP_CT_DIR_ORIGINAL and IP_CT_DIR_REPLY)
 
 abbrev pub is_original : Direction → Bool
 is_original Original = true
@@ -32,17 +34,17 @@ abbrev pub is_reply : Direction → Bool
 is_reply Original = false
 is_reply Reply = true
 
--- ---- a connection
+-- ---- an entry (own)
 
--- for how many nanoseconds after its last packet it is live
+-- its timeout in nanoseconds: it is live for so long after its last packet
 abbrev pub limit_of : Limits → ConntrackEntry → ℕ
 limit_of limits h = limit_by limits h.original.kind (phase_of h)
 
--- live while less than its limit has passed since its last packet
+-- live while less than its timeout has passed since its last packet (own: at the timeout it is expired)
 abbrev pub is_live : Limits → ℕ → ConntrackEntry → Bool
 is_live limits now h = nat_lt (now - h.last) (limit_of limits h)
 
--- with its first packet alone
+-- a new entry, after its first packet
 abbrev pub begun_with : ConnId → Connection → Flags → ConntrackEntry
 begun_with id connection flags = record {
   id = id;
@@ -57,7 +59,7 @@ begun_with id connection flags = record {
   dest = connection.dest;
 }
 
--- after one more packet, which leaves this mark
+-- an entry after one more packet, which sets this mark
 abbrev pub touched : Direction → Flags → ℕ → ℕ → ConntrackEntry → ConntrackEntry
 touched direction flags mark now h = record {
   id = h.id;
@@ -83,11 +85,11 @@ connection_of h = record {
   dest = h.dest;
 }
 
--- what is left of it once it is held no longer
+-- what is handed over of a removed entry
 abbrev pub aged_of : ConntrackEntry → Aged
 aged_of h = record { id = h.id; source = h.source; dest = h.dest }
 
--- but for the name by which it is called
+-- an entry with its id erased: ids are chosen by the table and don't matter
 abbrev pub without_id : ConntrackEntry → ConntrackEntry
 without_id h = record {
   id = record { 0 = 0 };
@@ -102,12 +104,16 @@ without_id h = record {
   dest = h.dest;
 }
 
--- ---- those that are held
+-- ---- the entries of a table (own)
 
 abbrev pub live_at : Limits → ℕ → List ConntrackEntry → List ConntrackEntry
 live_at limits now held = filter (is_live limits now) held
 
--- none had a packet after this moment
+-- the same entries in the same order, whatever their ids
+abbrev pub SameExceptIds : List ConntrackEntry → List ConntrackEntry → Type 0
+SameExceptIds held others = map without_id held ≡ map without_id others
+
+-- no entry had a packet after this moment
 abbrev pub IsNoneLater : ℕ → List ConntrackEntry → Type 0
 IsNoneLater now [] = Unit {0}
 IsNoneLater now (h ∷ held) = (h.last ≤ now) × IsNoneLater now held
@@ -118,7 +124,7 @@ same_id id h = h.id.0 == id.0
 abbrev pub has_id : ConnId → List ConntrackEntry → Bool
 has_id id held = list_any (same_id id) held
 
--- no two have one name
+-- no two entries have the same id
 abbrev pub has_distinct_ids : List ConntrackEntry → Bool
 has_distinct_ids [] = true
 has_distinct_ids (h ∷ held) = not (has_id h.id held) && has_distinct_ids held
@@ -126,14 +132,15 @@ has_distinct_ids (h ∷ held) = not (has_id h.id held) && has_distinct_ids held
 abbrev pub is_incoming : Tuple → ConntrackEntry → Bool
 is_incoming tuple h = same_tuple h.original tuple || same_tuple h.reply tuple
 
--- whether a tuple is an incoming tuple of one of them
+-- whether a tuple is an incoming tuple of an entry
 abbrev pub is_taken : Tuple → List ConntrackEntry → Bool
 is_taken tuple held = list_any (is_incoming tuple) held
 
--- no two have an incoming tuple in common; the two tuples of one may be equal
+-- no two entries have an incoming tuple in common; the two tuples of one entry may be equal
 abbrev pub have_disjoint_tuples : List ConntrackEntry → Bool
 have_disjoint_tuples [] = true
-have_disjoint_tuples (h ∷ held) = not (is_taken h.original held || is_taken h.reply held) && have_disjoint_tuples held
+have_disjoint_tuples (h ∷ held) =
+    not (is_taken h.original held || is_taken h.reply held) && have_disjoint_tuples held
 
 abbrev pub touched_at : ConnId → Direction → Flags → ℕ → ℕ → List ConntrackEntry → List ConntrackEntry
 touched_at id direction flags mark now held =
@@ -142,15 +149,15 @@ touched_at id direction flags mark now held =
 abbrev pub without : ConnId → List ConntrackEntry → List ConntrackEntry
 without id held = filter (λ h. not (same_id id h)) held
 
--- what is handed over of the connection of that name
+-- what is handed over of the entry with this id
 abbrev pub removed_entry : ConnId → List ConntrackEntry → Option Aged
 removed_entry id held = option_map aged_of (find (same_id id) held)
 
--- so many are held at most (own)
+-- the most entries that a table holds (own; netfilter's nf_conntrack_max)
 abbrev pub max_connections : ℕ
 max_connections = 1048576
 
--- ---- what a packet belongs to
+-- ---- lookup (own)
 
 abbrev pub connection_ref : ConntrackEntry → Direction → ConnectionRef
 connection_ref h direction = record {
@@ -168,16 +175,15 @@ of_original held tuple = find (λ h. same_tuple h.original tuple) held
 abbrev pub of_reply : List ConntrackEntry → Tuple → Option ConntrackEntry
 of_reply held tuple = find (λ h. same_tuple h.reply tuple) held
 
--- to the one whose original tuple it has, else to the one whose reply tuple it has. A lone SYN in direction original
--- on
--- a closing connection ends that one, to begin it anew, and belongs to none
+-- the entry whose original tuple it is, else the one whose reply tuple it is. A SYN in direction original on
+-- a closing TCP connection finds none: that entry is removed and recreated (own; netfilter does so too)
 abbrev pub belonging_by : Flags → Option ConntrackEntry → Option ConntrackEntry → Belonging
 belonging_by flags (Some h) other =
     if is_lone_syn flags && is_closing h then Ends h.id else Found (connection_ref h Original)
 belonging_by flags None (Some h) = Found (connection_ref h Reply)
 belonging_by flags None None = NotFound
 
--- what a packet with this tuple and these flags belongs to, among the connections given
+-- looks up a packet with this tuple and these flags among the entries
 abbrev pub belongs_in : List ConntrackEntry → Tuple → Flags → Belonging
 belongs_in held tuple flags = belonging_by flags (of_original held tuple) (of_reply held tuple)
 
@@ -196,20 +202,20 @@ belonging_without_id NotFound = NotFound
 belonging_without_id (Ends id) = Ends (record { 0 = 0 })
 belonging_without_id (Found found) = Found (ref_without_id found)
 
--- established is what belongs to a connection and is a reply or comes after one; what belongs to none is to begin one,
--- but an answer to no ask begins none
+-- `ct state` after a lookup (nft(8), CONNTRACK EXPRESSIONS): established if a reply has been seen, this
+-- packet included; else new. A packet without an entry is new, except that an unsolicited echo reply is
+-- invalid
 abbrev pub first_state : Kind → LookupState
 first_state EchoReply = Invalid
-first_state other = New
+first_state _ = New
 
 abbrev pub state_of : Kind → Belonging → LookupState
-state_of kind NotFound = first_state kind
-state_of kind (Ends id) = first_state kind
 state_of kind (Found found) = if is_reply found.direction || found.replied then Established else New
+state_of kind _ = first_state kind
 
--- ---- slots visited
+-- ---- bounds on visited slots (own)
 
--- a count doesn't fall, and rises by so many at most, where there is a bound
+-- a count doesn't fall, and rises by this bound at most, if there is one
 abbrev pub IsWithin : Option ℕ → ℕ → ℕ → Type 0
 IsWithin None old new = old ≤ new
 IsWithin (Some n) old new = (old ≤ new) × (new ≤ old + n)

@@ -1,4 +1,4 @@
--- The stories of the trials. A is 192.168.1.10, B is 198.51.100.7.
+-- The histories of the examples. A is 192.168.1.10, B is 198.51.100.7.
 use Rattle.std.specs.Prelude.{ℕ, List, [], ◌∷◌, map, Some, None, refl}
 use Rattle.ip_headers.specs.declared.tuple.Kind.{Kind}
 use Rattle.ip_headers.specs.declared.tuple.Kind.TheVariants.{Tcp, Udp}
@@ -45,14 +45,16 @@ fin_ack = flags_of 17
 abbrev pub rst_ack : Flags
 rst_ack = flags_of 20
 
--- ---- entries, with mark 0
+-- ---- records, with mark 0
 
 abbrev pub entry : ℕ → Flags → ConnectionChange → TrackedPacket
-entry moment flags change = record { moment = moment; flags = flags; mark = 0; change = change; ended = None }
+entry moment flags change =
+    record { moment = moment; flags = flags; mark = 0; change = change; ended = None }
 
--- nothing is translated
+-- a connection without translation
 abbrev pub untranslated : Tuple → Tuple → ConnectionChange
-untranslated original reply = Begins (record { original = original; reply = reply; source = None; dest = None })
+untranslated original reply =
+    Begins (record { original = original; reply = reply; source = None; dest = None })
 
 abbrev pub begins : Tuple → ℕ → Flags → TrackedPacket
 begins tuple moment flags = entry moment flags (untranslated tuple (inverse tuple))
@@ -63,25 +65,25 @@ sends direction moment flags = entry moment flags (Touches 0 direction)
 abbrev pub is_dropped : ℕ → Flags → TrackedPacket
 is_dropped moment flags = entry moment flags NoChange
 
--- the packet ends the first connection and begins another
+-- the packet removes the first connection and creates another
 abbrev pub begins_anew : Tuple → ℕ → TrackedPacket
 begins_anew tuple moment = record (begins tuple moment syn) { ended = Some 0 }
 
--- its reply tuple is its original tuple
+-- a connection whose reply tuple is its original tuple
 abbrev pub begins_as_hairpin : Tuple → TrackedPacket
 begins_as_hairpin tuple = entry 0 no_flags (untranslated tuple tuple)
 
--- ---- stories, newest first
+-- ---- histories, newest first
 
 -- A sends SYN at 0 s
 abbrev pub opening : List TrackedPacket
 opening = begins web 0 syn ∷ []
 
--- and B at 1 s
+-- B sends SYN at 1 s
 abbrev pub crossed : List TrackedPacket
 crossed = sends Reply (seconds 1) syn ∷ opening
 
--- each sends SYN and ACK at 2 s and 3 s
+-- each sends SYN+ACK, at 2 s and 3 s
 abbrev pub opened : List TrackedPacket
 opened = sends Reply (seconds 3) syn_ack ∷ sends Original (seconds 2) syn_ack ∷ crossed
 
@@ -89,20 +91,20 @@ opened = sends Reply (seconds 3) syn_ack ∷ sends Original (seconds 2) syn_ack 
 abbrev pub refused : List TrackedPacket
 refused = sends Reply (seconds 1) rst_ack ∷ opening
 
--- A sends a datagram of UDP at 0 s
+-- A sends a UDP datagram at 0 s
 abbrev pub queried : List TrackedPacket
 queried = begins dns_query 0 no_flags ∷ []
 
--- ---- what they tell
+-- ---- results
 
--- the numbers of the connections that are alive
+-- the numbers of the connections alive
 abbrev pub alive_by : Limits → ℕ → List TrackedPacket → List ℕ
 alive_by limits now history = map (λ h. h.id.0) (live_list limits history now)
 
--- by the usual limits
+-- with the default timeouts
 abbrev pub alive_at : ℕ → List TrackedPacket → List ℕ
 alive_at = alive_by usual_limits
 
--- limits that tell all kinds and phases apart
+-- timeouts that differ for all kinds and phases
 abbrev pub short_limits : Limits
 short_limits = record { established = 5; transitory = 4; udp = 3; echo = 2; other = 1; positive = refl }

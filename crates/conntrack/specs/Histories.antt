@@ -1,6 +1,7 @@
--- The list of everything that happened, newest first, and what is found by searching it. Nothing is ever removed.
-use Rattle.std.specs.Prelude.{◌≡◌, ◌≤◌, ℕ, Bool, true, false, not, ◌&&◌, ◌||◌, ◌==◌, if◌then◌else◌, List, [], ◌∷◌}
-use Rattle.std.specs.Prelude.{◌++◌, map, filter, length, Option, Some, None}
+-- The history of all records as far as connection tracking is concerned, newest first, and what it says
+-- about connections (own). Nothing is ever removed from it.
+use Rattle.std.specs.Prelude.{◌≤◌, ℕ, Bool, true, false, not, ◌&&◌, ◌||◌, ◌==◌, if◌then◌else◌, List}
+use Rattle.std.specs.Prelude.{[], ◌∷◌, ◌++◌, map, filter, length, Option, Some, None}
 use Rattle.std.specs.List.{list_any}
 use Rattle.ip_headers.specs.declared.tuple.Mapping.{Mapping}
 use Rattle.ip_headers.specs.declared.tuple.Tuple.{Tuple}
@@ -13,20 +14,20 @@ use Rattle.conntrack.specs.declared.connection.Phase.{Phase}
 use Rattle.box_file.specs.declared.limits.Limits.{Limits}
 use Rattle.conntrack.specs.declared.belonging.Belonging.{Belonging}
 use Rattle.conntrack.specs.Phases.{phase_by}
-use Rattle.conntrack.specs.ConntrackEntry.{is_original, is_reply, is_live, live_at, belongs_in, without_id}
+use Rattle.conntrack.specs.ConntrackEntry.{is_original, is_reply, is_live, live_at, belongs_in, SameExceptIds}
 
--- ---- what is recorded of a packet, as far as connections go
+-- ---- what is recorded of a packet
 
--- what a connection is begun with: the tuples of its incoming packets in both directions, and the mappings of its
--- source and destination
+-- what a connection is created with: the tuples of its incoming packets in both directions, and the mappings
+-- of its source and destination
 pub record Creation : Type 0 where
   pub original : Tuple
   pub reply : Tuple
   pub source : Option Mapping
   pub dest : Option Mapping
 
--- A connection is named by the number of the entry that began it; the oldest entry has number 0. A packet that is
--- dropped does nothing, and so does one without a tuple
+-- what a packet did to connections. A connection is identified by the number of the record that created it;
+-- the oldest record has number 0. A dropped packet does nothing, and neither does one without a tuple
 pub data ConnectionChange : Type 0 where
   NoChange : ConnectionChange
   Begins : Creation → ConnectionChange
@@ -35,26 +36,24 @@ pub data ConnectionChange : Type 0 where
 pub record TrackedPacket : Type 0 where
   pub moment : ℕ
   pub flags : Flags
-  -- the mark that it left on its connection
+  -- the mark that it set on its connection
   pub mark : ℕ
   pub change : ConnectionChange
-  -- the closing connection that it ended, which it does even if it is dropped
+  -- the closing connection that it removed, even if it was dropped itself
   pub ended : Option ℕ
 
--- whether a connection is begun
+-- whether a connection is created
 abbrev pub is_creation : ConnectionChange → Bool
-is_creation NoChange = false
 is_creation (Begins creation) = true
-is_creation (Touches k direction) = false
+is_creation _ = false
 
--- ---- one connection: its entries are the one that began it and those that touched it
+-- ---- one connection: its records are the one that created it and those that touched it
 
 abbrev pub is_touch_of : ℕ → ConnectionChange → Bool
-is_touch_of c NoChange = false
-is_touch_of c (Begins creation) = false
 is_touch_of c (Touches k direction) = c == k
+is_touch_of c _ = false
 
--- newest first
+-- its records, newest first
 abbrev pub entries_of : ℕ → List TrackedPacket → List TrackedPacket
 entries_of c [] = []
 entries_of c (e ∷ history) =
@@ -66,33 +65,33 @@ abbrev pub is_that : ℕ → Option ℕ → Bool
 is_that c None = false
 is_that c (Some k) = c == k
 
--- whether an entry after its first one ended it
+-- whether a record after its first one removed it
 abbrev pub is_ended : ℕ → List TrackedPacket → Bool
 is_ended c [] = false
 is_ended c (e ∷ history) = if length history == c then false else (is_that c e.ended || is_ended c history)
 
--- what stands where a beginning is asked for and there is none; nothing asks by the number of an entry that began none
+-- a default for records that created no connection; no definition depends on it
 abbrev pub no_creation : Creation
 no_creation = record { original = no_tuple; reply = no_tuple; source = None; dest = None }
 
--- what an entry began
+-- what a record created
 abbrev pub begun : ConnectionChange → Creation
-begun NoChange = no_creation
 begun (Begins creation) = creation
-begun (Touches k direction) = no_creation
+begun _ = no_creation
 
--- what connection c was begun with, by its first entry
+-- what connection c was created with, by its first record
 abbrev pub creation_of : ℕ → List TrackedPacket → Creation
 creation_of c [] = no_creation
 creation_of c (e ∷ history) = if length history == c then begun e.change else creation_of c history
 
--- whether the packet went in a direction that is asked for; the first one of a connection went in direction original
+-- whether the packet's direction is a wanted one; the first packet of a connection goes in direction
+-- original
 abbrev pub has_direction : (Direction → Bool) → ConnectionChange → Bool
 has_direction wanted NoChange = false
 has_direction wanted (Begins creation) = wanted Original
 has_direction wanted (Touches k direction) = wanted direction
 
--- the flags that were seen in a direction
+-- the flags seen in a direction
 abbrev pub flags_in : (Direction → Bool) → List TrackedPacket → Flags
 flags_in wanted entries = record {
   syn = list_any (λ e. has_direction wanted e.change && e.flags.syn) entries;
@@ -101,7 +100,7 @@ flags_in wanted entries = record {
   rst = list_any (λ e. has_direction wanted e.change && e.flags.rst) entries;
 }
 
--- whether a packet of direction reply came
+-- whether a reply has been seen
 abbrev pub has_reply : List TrackedPacket → Bool
 has_reply entries = list_any (λ e. has_direction is_reply e.change) entries
 
@@ -113,7 +112,7 @@ abbrev pub mark_of : List TrackedPacket → ℕ
 mark_of [] = 0
 mark_of (e ∷ entries) = e.mark
 
--- a connection as its beginning and its entries tell it
+-- the entry of a connection, computed from its creation and its records
 abbrev pub replayed : ℕ → Creation → List TrackedPacket → ConntrackEntry
 replayed c creation entries = record {
   id = record { 0 = c };
@@ -131,37 +130,38 @@ replayed c creation entries = record {
 abbrev pub connection_in : ℕ → List TrackedPacket → ConntrackEntry
 connection_in c history = replayed c (creation_of c history) (entries_of c history)
 
--- how far connection c is
+-- the phase of connection c
 abbrev pub phase : ℕ → List TrackedPacket → Phase
-phase c history = phase_by (flags_in is_original (entries_of c history)) (flags_in is_reply (entries_of c history))
+phase c history =
+    phase_by (flags_in is_original (entries_of c history)) (flags_in is_reply (entries_of c history))
 
--- no entry ended it, and less than its limit has passed since its last packet
+-- no record removed it, and less than its timeout has passed since its last packet
 abbrev pub is_alive : Limits → ℕ → List TrackedPacket → ℕ → Bool
 is_alive limits c history now = not (is_ended c history) && is_live limits now (connection_in c history)
 
 -- ---- all connections
 
 abbrev pub number_if_begins : ℕ → ConnectionChange → List ℕ
-number_if_begins n NoChange = []
 number_if_begins n (Begins creation) = n ∷ []
-number_if_begins n (Touches k direction) = []
+number_if_begins n _ = []
 
--- those ever begun, in that order
+-- all connections ever created, in the order of their creation
 abbrev pub begun_in : List TrackedPacket → List ℕ
 begun_in [] = []
 begun_in (e ∷ history) = begun_in history ++ number_if_begins (length history) e.change
 
--- those alive at a moment, in the order in which they were begun
+-- the connections that are alive at a moment, in the order of their creation
 abbrev pub live_list : Limits → List TrackedPacket → ℕ → List ConntrackEntry
 live_list limits history now =
     map (λ c. connection_in c history) (filter (λ c. is_alive limits c history now) (begun_in history))
 
--- what a packet with this tuple and these flags belongs to at a moment
+-- looks up a packet with this tuple and these flags among the connections alive at a moment
 abbrev pub belongs : Limits → List TrackedPacket → ℕ → Tuple → Flags → Belonging
 belongs limits history now tuple flags = belongs_in (live_list limits history now) tuple flags
 
--- what is held stands for the story at a moment, that of its last entry or a later one: those that are live are those
--- alive, in order, whatever they are called
-pub record RepresentsAt (limits : Limits) (held : List ConntrackEntry) (history : List TrackedPacket) (now : ℕ) : Type 0 where
+-- a table represents a history at a moment, that of its last record or a later one: its live entries are the
+-- connections that are alive, in order, whatever their ids
+pub record RepresentsAt (limits : Limits) (held : List ConntrackEntry) (history : List TrackedPacket)
+    (now : ℕ) : Type 0 where
   pub reached : moment_of history ≤ now
-  pub live : map without_id (live_at limits now held) ≡ map without_id (live_list limits history now)
+  pub live : SameExceptIds (live_at limits now held) (live_list limits history now)

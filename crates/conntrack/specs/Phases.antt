@@ -1,4 +1,4 @@
--- How far a connection is, and for how long it may be idle.
+-- The phases of TCP connections, and the timeouts of all kinds.
 use Rattle.std.specs.Prelude.{ℕ, ◌*◌, ◌/◌, ◌%◌, ◌==◌, Bool, true, false, not, ◌&&◌, ◌||◌, if◌then◌else◌}
 use Rattle.ip_headers.specs.declared.tuple.Kind.{Kind}
 use Rattle.ip_headers.specs.declared.tuple.Kind.TheVariants.{Tcp, Udp, EchoRequest, EchoReply, Other}
@@ -8,12 +8,12 @@ use Rattle.conntrack.specs.declared.connection.Phase.TheVariants.{Opening, Estab
 use Rattle.conntrack.specs.declared.connection.ConntrackEntry.{ConntrackEntry}
 use Rattle.box_file.specs.declared.limits.Limits.{Limits}
 
--- ---- flags
+-- ---- flags (RFC 9293, section 3.1)
 
 abbrev pub no_flags : Flags
 no_flags = record { syn = false; ack = false; fin = false; rst = false }
 
--- FIN is the lowest bit, then come SYN, RST, PSH and ACK (RFC 9293, section 3.1)
+-- FIN is the least significant bit, then come SYN, RST, PSH and ACK (RFC 9293, section 3.1)
 abbrev pub flags_of : ℕ → Flags
 flags_of bits = record {
   syn = bits / 2 % 2 == 1;
@@ -22,7 +22,7 @@ flags_of bits = record {
   rst = bits / 4 % 2 == 1;
 }
 
--- those seen before, and a packet's where it counts
+-- the flags seen before, and a packet's if it counts
 abbrev pub seen_more : Bool → Flags → Flags → Flags
 seen_more counts flags seen = record {
   syn = (counts && flags.syn) || seen.syn;
@@ -31,14 +31,14 @@ seen_more counts flags seen = record {
   rst = (counts && flags.rst) || seen.rst;
 }
 
--- a packet that asks for a connection and does nothing else: SYN without ACK, FIN and RST
+-- SYN without ACK, FIN and RST: the first segment of a TCP handshake (RFC 9293, section 3.5)
 abbrev pub is_lone_syn : Flags → Bool
 is_lone_syn flags = flags.syn && not flags.ack && not flags.fin && not flags.rst
 
--- ---- phases of TCP (RFC 9293, sections 3.5 and 3.6)
+-- ---- phases of TCP (own, after RFC 9293, sections 3.5 and 3.6)
 
--- by the flags seen in each direction: closing once both ends sent FIN or one sent RST; else established once each
--- end sent SYN and ACK, be it in one packet or in two; else opening
+-- by the flags seen in each direction: closing once both ends sent FIN or one sent RST; else established
+-- once each end sent SYN and ACK, in one segment or in two; else opening
 abbrev pub phase_by : Flags → Flags → Phase
 phase_by original reply =
     if (original.fin && reply.fin) || (original.rst || reply.rst) then Closing
@@ -49,26 +49,24 @@ abbrev pub phase_of : ConntrackEntry → Phase
 phase_of h = phase_by h.from_original h.from_reply
 
 abbrev pub is_closing_phase : Phase → Bool
-is_closing_phase Opening = false
-is_closing_phase Established = false
 is_closing_phase Closing = true
+is_closing_phase _ = false
 
 abbrev pub is_closing : ConntrackEntry → Bool
 is_closing h = is_closing_phase (phase_of h)
 
--- ---- limits
+-- ---- timeouts (RFC 5382, REQ-5; RFC 4787, REQ-5; RFC 5508, REQ-2; other protocols own)
 
 abbrev pub seconds : ℕ → ℕ
 seconds n = n * 1000000000
 
--- for how many nanoseconds after its last packet a connection of this kind that is so far is live. TCP has one limit
--- while it opens and while it closes, the "transitory connection idle-timeout" of RFC 5382, REQ-5; an answer stands
--- under its ask's limit (no connection is begun by one)
+-- the timeout of a connection in nanoseconds, by kind and phase. TCP has one while it opens and while it
+-- closes, the "transitory connection idle-timeout" of RFC 5382, REQ-5. An echo reply has that of its
+-- request, though it creates no connection
 abbrev pub limit_by : Limits → Kind → Phase → ℕ
 limit_by limits Udp phase = seconds limits.udp
-limit_by limits Tcp Opening = seconds limits.transitory
 limit_by limits Tcp Established = seconds limits.established
-limit_by limits Tcp Closing = seconds limits.transitory
+limit_by limits Tcp _ = seconds limits.transitory
 limit_by limits EchoRequest phase = seconds limits.echo
 limit_by limits EchoReply phase = seconds limits.echo
 limit_by limits (Other number) phase = seconds limits.other

@@ -1,4 +1,4 @@
--- What stands where a tuple is asked for and there is none.
+-- A default tuple, for records that created no connection.
 use Rattle.ip_headers.specs.declared.tuple.Kind.TheVariants.{Udp}
 use Rattle.ip_headers.specs.declared.tuple.Tuple.{Tuple}
 

@@ -1,4 +1,4 @@
--- What one packet makes of the connections held, and what is recorded of it.
+-- The effect of one packet on a table's entries, and its record in the history (own).
 use Rattle.std.specs.Prelude.{◌≡◌, ℕ, false, List, [], ◌∷◌, ◌++◌, Option, Some, None}
 use Rattle.ip_headers.specs.declared.tuple.Mapping.{Mapping}
 use Rattle.ip_headers.specs.declared.tuple.Tuple.{Tuple}
@@ -7,31 +7,31 @@ use Rattle.conntrack.specs.declared.connection.Connection.{Connection}
 use Rattle.conntrack.specs.declared.connection.Flags.{Flags}
 use Rattle.conntrack.specs.declared.connection.ConntrackEntry.{ConntrackEntry}
 use Rattle.conntrack.specs.declared.belonging.Belonging.{Belonging}
-use Rattle.conntrack.specs.declared.belonging.Belonging.TheVariants.{NotFound, Ends, Found}
+use Rattle.conntrack.specs.declared.belonging.Belonging.TheVariants.{Ends, Found}
 use Rattle.conntrack.specs.Phases.{no_flags}
 use Rattle.conntrack.specs.ConntrackEntry.{begun_with, is_taken, touched_at, without}
 use Rattle.conntrack.specs.Histories.{TrackedPacket, ConnectionChange, NoChange, Begins, Touches}
 
--- a packet with a tuple, at its moment
+-- a packet that has a tuple, at its moment
 pub record Arrival : Type 0 where
   pub tuple : Tuple
   pub flags : Flags
   pub moment : ℕ
 
--- whether it is confirmed (nf_conntrack_confirm of netfilter), that is, counts as a packet of its connection: one that
--- is dropped isn't, nor one that begins none. Where it is the first packet, the connection is begun with this reply
--- tuple and these mappings
+-- whether a packet is confirmed, as by netfilter's nf_conntrack_confirm, so that it counts as a packet of
+-- its connection. Dropped packets aren't, nor those that create no connection. If it is the first packet,
+-- the connection is created with this reply tuple and these mappings
 pub data Confirmation : Type 0 where
   Unconfirmed : Confirmation
   Confirmed : (mark : ℕ) (reply : Tuple) (source dest : Option Mapping) → Confirmation
 
--- ---- what becomes of a list of connections among which it belongs so
+-- ---- the entries after a packet with this lookup result
 
 abbrev pub after_end : Belonging → List ConntrackEntry → List ConntrackEntry
 after_end (Ends id) held = without id held
 after_end other held = held
 
--- the connection that it begins has this name
+-- a new entry gets this id
 abbrev pub with_begun : ConnId → Arrival → Confirmation → List ConntrackEntry → List ConntrackEntry
 with_begun id p Unconfirmed held = held
 with_begun id p (Confirmed mark reply source dest) held =
@@ -45,20 +45,20 @@ with_begun id p (Confirmed mark reply source dest) held =
     } in
     held ++ begun_with id connection p.flags ∷ []
 
-abbrev pub after_packet : Belonging → ConnId → Arrival → Confirmation → List ConntrackEntry → List ConntrackEntry
+abbrev pub after_packet : Belonging → ConnId → Arrival → Confirmation → List ConntrackEntry
+    → List ConntrackEntry
 after_packet (Found found) id p Unconfirmed held = held
 after_packet (Found found) id p (Confirmed mark reply source dest) held =
     touched_at found.id found.direction p.flags mark p.moment held
-after_packet NotFound id p confirmation held = with_begun id p confirmation held
-after_packet (Ends ended) id p confirmation held = with_begun id p confirmation (without ended held)
+after_packet other id p confirmation held = with_begun id p confirmation (after_end other held)
 
--- a connection that it begins has no incoming tuple of another one
+-- a new entry has no incoming tuple of another one
 abbrev pub DoesNotClash : Belonging → Confirmation → List ConntrackEntry → Type 0
 DoesNotClash (Found found) confirmation held = Unit {0}
 DoesNotClash other Unconfirmed held = Unit {0}
 DoesNotClash other (Confirmed mark reply source dest) held = is_taken reply (after_end other held) ≡ false
 
--- ---- the entry of a packet that belongs so
+-- ---- the record of a packet with this lookup result
 
 abbrev pub ended_by_packet : Belonging → Option ℕ
 ended_by_packet (Ends id) = Some id.0
@@ -83,6 +83,6 @@ entry_of belonging p confirmation = record {
   ended = ended_by_packet belonging;
 }
 
--- the entry of a record without such a packet
+-- the record of something else than a packet with a tuple
 abbrev pub entry_at : ℕ → TrackedPacket
 entry_at moment = record { moment = moment; flags = no_flags; mark = 0; change = NoChange; ended = None }

@@ -1,3 +1,3 @@
--- What is said on the way to a proof: nothing that a public contract cites.
+-- Definitions for proofs: no public contract cites them.
 pub mod Changes
-pub mod Names
+pub mod Ids

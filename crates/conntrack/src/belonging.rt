@@ -1,51 +1,51 @@
-//! What a packet belongs to.
+//! Results of conntrack lookups.
 ghost use Rattle.std.specs.Prelude.{◌≡◌};
 ghost use Rattle.conntrack.specs.ConntrackEntry.{connection_ref, state_of};
 
 use crate::connection::{ConnId, ConntrackEntry, Direction};
 use ip_headers::{Kind, Tuple};
 
-/// A connection that a packet belongs to, as it was before the packet.
+/// A conntrack entry that a lookup found, as it was before the packet, and the packet's direction.
 #[derive(Clone, Copy, Debug, PartialEq, Eq)]
 pub struct ConnectionRef {
-    /// The connection's name.
+    /// The entry's id.
     pub id: ConnId,
     /// The packet's direction.
     pub direction: Direction,
-    /// The tuple of the connection's incoming packets in direction original.
+    /// The tuple of incoming packets in direction original.
     pub original: Tuple,
-    /// The tuple of its incoming packets in direction reply.
+    /// The tuple of incoming packets in direction reply.
     pub reply: Tuple,
-    /// Its mark.
+    /// Its mark (`ct mark`).
     pub mark: u32,
-    /// A packet of direction reply has come.
+    /// Whether a reply has been seen.
     pub replied: bool,
 }
 
-/// What a packet belongs to.
+/// Results of conntrack lookups.
 #[derive(Clone, Copy, Debug, PartialEq, Eq)]
 pub enum Belonging {
-    /// To no live connection.
+    /// No live entry has the tuple.
     NotFound,
-    /// To none either: it ends a closing connection, to begin it anew.
+    /// A SYN on a closing connection: that entry is removed and recreated.
     Ends(ConnId),
-    /// To this one.
+    /// The packet belongs to this entry.
     Found(ConnectionRef),
 }
 
-/// How a packet with a tuple stands to connections.
+/// `ct state` of a packet with a tuple, after the lookup (nft(8), CONNTRACK EXPRESSIONS).
 #[derive(Clone, Copy, Debug, PartialEq, Eq)]
 pub enum LookupState {
-    /// Of a connection that packets of both directions are seen of.
+    /// Packets have been seen in both directions, this one included.
     Established,
-    /// Of a connection that none has answered, or to begin one.
+    /// No reply has been seen, or the packet would create an entry.
     New,
-    /// It belongs to none and begins none.
+    /// The packet has no entry and can't create one: an unsolicited echo reply.
     Invalid,
 }
 
 impl ConnectionRef {
-    /// The place of a packet of this direction in a connection.
+    /// The reference of a packet with this direction to an entry.
     pub fn of(held: &ConntrackEntry, direction: Direction) -> Self
         ensures { result ≡ connection_ref held.now direction }
     {
@@ -61,7 +61,7 @@ impl ConnectionRef {
 }
 
 impl Belonging {
-    /// The state of a packet of this kind that belongs so.
+    /// The state of a packet of this kind with this lookup result.
     pub fn state(self, kind: Kind) -> LookupState
         ensures { result ≡ state_of kind self }
     {

@@ -1,4 +1,4 @@
-//! A connection as it is held.
+//! Conntrack entries.
 ghost use Rattle.std.specs.Prelude.{◌≡◌, true};
 ghost use Rattle.conntrack.specs.Phases.{flags_of, is_closing, is_lone_syn, no_flags, phase_by, phase_of, seen_more};
 ghost use Rattle.conntrack.specs.ConntrackEntry.{aged_of, connection_of, is_live, limit_of, touched};
@@ -7,101 +7,102 @@ use crate::limits::limit_by;
 use box_file::Limits;
 use ip_headers::{Mapping, Tuple};
 
-/// In nanoseconds since 1970.
+/// Nanoseconds since 1970-01-01 00:00 UTC.
 pub type Moment = u64;
 
-/// The control bits of TCP that tell how far a connection is (RFC 9293, section 3.1).
+/// The control bits of TCP that decide the phase of a connection (RFC 9293, section 3.1).
 #[derive(Clone, Copy, Debug, PartialEq, Eq)]
 pub struct Flags {
-    /// The sender's first sequence number.
+    /// The segment carries the sender's initial sequence number.
     pub syn: bool,
-    /// The acknowledgment number counts.
+    /// The acknowledgment number is valid.
     pub ack: bool,
-    /// The sender sends no more.
+    /// The sender has no more data.
     pub fin: bool,
-    /// The connection is reset.
+    /// The sender resets the connection.
     pub rst: bool,
 }
 
-/// The directions of a connection.
+/// The directions of a connection (netfilter's IP_CT_DIR_ORIGINAL and IP_CT_DIR_REPLY).
 #[derive(Clone, Copy, Debug, PartialEq, Eq)]
 pub enum Direction {
-    /// That of the packet that began it.
+    /// The direction of the first packet.
     Original,
-    /// The way back.
+    /// The other direction.
     Reply,
 }
 
-/// How far a connection of TCP is (RFC 9293, sections 3.5 and 3.6).
+/// The phase of a TCP connection, by the flags seen (own, after RFC 9293, sections 3.5 and 3.6). It
+/// decides the timeout and isn't `ct state`.
 #[derive(Clone, Copy, Debug, PartialEq, Eq)]
 pub enum Phase {
-    /// Not each end has sent SYN and ACK.
+    /// Not both ends have sent SYN and ACK.
     Opening,
-    /// Each has.
+    /// Both ends have sent SYN and ACK.
     Established,
-    /// Each has sent FIN, or one has sent RST.
+    /// Both ends have sent FIN, or one has sent RST.
     Closing,
 }
 
-/// Names a connection among those that are held; once it isn't held, another may get its name.
+/// Identifies an entry of a table. After the entry's removal another one may get its id.
 #[derive(Clone, Copy, Debug, PartialEq, Eq, Hash)]
 pub struct ConnId(pub usize);
 
-/// A connection that is held.
+/// A conntrack entry.
 #[derive(Clone, Copy, Debug, PartialEq, Eq)]
 pub struct ConntrackEntry {
-    /// Its name.
+    /// Its id.
     pub id: ConnId,
     /// The tuple of its incoming packets in direction original.
     pub original: Tuple,
-    /// The tuple of its incoming packets in direction reply.
+    /// The tuple of incoming packets in direction reply.
     pub reply: Tuple,
-    /// Its mark.
+    /// Its mark (`ct mark`).
     pub mark: u32,
     /// The moment of its last packet.
     pub last: Moment,
-    /// The flags seen in direction original.
+    /// The TCP flags seen in direction original.
     pub from_original: Flags,
-    /// The flags seen in direction reply.
+    /// The TCP flags seen in direction reply.
     pub from_reply: Flags,
-    /// A packet of direction reply has come.
+    /// Whether a reply has been seen.
     pub replied: bool,
-    /// The mapping of its source that it was begun with.
+    /// The mapping of its source (SNAT), if it has one.
     pub source: Option<Mapping>,
-    /// The mapping of its destination that it was begun with.
+    /// The mapping of its destination (DNAT), if it has one.
     pub dest: Option<Mapping>,
 }
 
-/// A connection as it is begun, and as it is listed.
+/// A connection as it is created, and as it is listed.
 #[derive(Clone, Copy, Debug, PartialEq, Eq)]
 pub struct Connection {
     /// The tuple of its incoming packets in direction original.
     pub original: Tuple,
-    /// The tuple of its incoming packets in direction reply.
+    /// The tuple of incoming packets in direction reply.
     pub reply: Tuple,
-    /// Its mark.
+    /// Its mark (`ct mark`).
     pub mark: u32,
     /// The moment of its last packet.
     pub last: Moment,
-    /// The mapping of its source that it was begun with.
+    /// The mapping of its source (SNAT), if it has one.
     pub source: Option<Mapping>,
-    /// The mapping of its destination that it was begun with.
+    /// The mapping of its destination (DNAT), if it has one.
     pub dest: Option<Mapping>,
 }
 
-/// What is left of a connection that is held no longer.
+/// What is handed over of a removed entry.
 #[derive(Clone, Copy, Debug, PartialEq, Eq)]
 pub struct Aged {
-    /// The name that it had.
+    /// The id that it had.
     pub id: ConnId,
-    /// The mapping of its source that it was begun with.
+    /// The mapping of its source (SNAT), if it has one.
     pub source: Option<Mapping>,
-    /// The mapping of its destination that it was begun with.
+    /// The mapping of its destination (DNAT), if it has one.
     pub dest: Option<Mapping>,
 }
 
 impl Flags {
-    /// Those of a packet of another protocol than TCP.
+    /// The flags of a packet that isn't TCP.
     pub fn none() -> Self
         ensures { result ≡ no_flags }
     {
@@ -113,7 +114,7 @@ impl Flags {
         }
     }
 
-    /// By the byte of flags in a header of TCP, FIN the lowest bit.
+    /// The flags in the flag byte of a TCP header, FIN the least significant bit.
     pub fn of_byte(bits: u8) -> Self
         ensures { result ≡ flags_of bits }
     {
@@ -125,7 +126,7 @@ impl Flags {
         }
     }
 
-    /// These and more.
+    /// These flags and more.
     pub fn and(self, more: Flags) -> Self
         ensures { result ≡ seen_more true more self }
     {
@@ -137,7 +138,8 @@ impl Flags {
         }
     }
 
-    /// Whether they ask for a connection and do nothing else: SYN without ACK, FIN and RST.
+    /// Whether these are the flags of the first segment of a handshake: SYN without ACK, FIN and
+    /// RST.
     pub fn is_lone_syn(self) -> bool
         ensures { result ≡ is_lone_syn self }
     {
@@ -146,7 +148,7 @@ impl Flags {
 }
 
 impl ConntrackEntry {
-    /// How far it is, if it is a connection of TCP.
+    /// Its phase, if it is a TCP connection.
     pub fn phase(&self) -> Phase
         ensures { result ≡ phase_of self.now }
     {
@@ -160,28 +162,28 @@ impl ConntrackEntry {
         }
     }
 
-    /// For how many nanoseconds after its last packet it is live.
+    /// Its timeout in nanoseconds.
     pub fn limit(&self, limits: Limits) -> u64
         ensures { result ≡ limit_of limits self.now }
     {
         limit_by(limits, self.original.kind, self.phase())
     }
 
-    /// Whether it is live at a moment: less than its limit has passed since its last packet.
+    /// Whether it is live at a moment: less than its timeout has passed since its last packet.
     pub fn is_live(&self, limits: Limits, now: Moment) -> bool
         ensures { result ≡ is_live limits now self.now }
     {
         now.saturating_sub(self.last) < self.limit(limits)
     }
 
-    /// Whether each end has sent FIN, or one has sent RST.
+    /// Whether both ends have sent FIN, or one has sent RST.
     pub fn is_closing(&self) -> bool
         ensures { result ≡ is_closing self.now }
     {
         self.phase() == Phase::Closing
     }
 
-    /// Counts one more packet of it.
+    /// Updates it for one more packet, which sets this mark.
     pub fn touch(&mut self, direction: Direction, flags: Flags, mark: u32, now: Moment)
         ensures { self.new ≡ touched direction flags mark now self.old }
     {
@@ -196,7 +198,7 @@ impl ConntrackEntry {
         self.last = now;
     }
 
-    /// As it is listed.
+    /// Its connection, as it is listed.
     pub fn connection(&self) -> Connection
         ensures { result ≡ connection_of self.now }
     {
@@ -210,7 +212,7 @@ impl ConntrackEntry {
         }
     }
 
-    /// What is left of it once it is held no longer.
+    /// What is handed over when it is removed.
     pub fn aged(&self) -> Aged
         ensures { result ≡ aged_of self.now }
     {

@@ -1,4 +1,5 @@
-//! Connections: what is held of them, and how that stands for the list of everything that happened.
+//! Connection tracking: the entries of a table, the trait of tables, and how a table represents the
+//! history of all records.
 #![tactic(auto)]
 
 mod belonging;

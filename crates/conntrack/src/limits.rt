@@ -1,4 +1,4 @@
-//! For how long connections may be idle.
+//! Timeouts of connections.
 ghost use Rattle.std.specs.Prelude.{◌≡◌};
 ghost use Rattle.conntrack.specs.Phases.{limit_by};
 
@@ -8,7 +8,7 @@ use ip_headers::Kind;
 
 const NANOSECONDS_IN_SECOND: u64 = 1_000_000_000;
 
-/// For how many nanoseconds a connection of this kind that is so far may be idle.
+/// The timeout of a connection in nanoseconds, by its kind and, for TCP, its phase.
 pub fn limit_by(limits: Limits, kind: Kind, phase: Phase) -> u64
     ensures { result ≡ limit_by limits kind phase }
 {

@@ -1,8 +1,8 @@
-//! A plain list of connections.
+//! A tracker that keeps its entries in a list.
 ghost use Rattle.std.specs.Prelude.{◌≡◌, ◌+◌, ◌<◌, ◌≤◌, ◌^◌, ◌&&◌, ◌||◌, not, true, false, ℕ, [], Option, None, Some, IsTrue, IfOk, OnOk, OnErr, IfSome, IfNone, ◌-◌, nat_lt, vec_len, vec_capacity, filter, if◌then◌else◌, length};
 ghost use Rattle.std.specs.List.{find, list_any};
 ghost use Rattle.ip_headers.specs.Same.{same_tuple};
-ghost use Rattle.conntrack.specs.steps.Names.{has_ids_below};
+ghost use Rattle.conntrack.specs.steps.Ids.{has_ids_below};
 ghost use Rattle.conntrack.specs.ConntrackEntry.{have_disjoint_tuples, belongs_in, has_distinct_ids, has_id, is_incoming, is_live, is_taken, live_at, of_original, of_reply, same_id, touched, touched_at, without};
 
 use crate::belonging::{Belonging, ConnectionRef};
@@ -14,7 +14,7 @@ use ip_headers::Tuple;
 use std::alloc::Global;
 use std::hash::RandomState;
 
-/// Keeps connections in a list, in order of beginning. Each call goes through the whole list.
+/// Keeps entries in a list, in the order of their creation. Each call visits the whole list.
 #[derive(Drop)]
 pub struct ListTracker {
     conns: Vec<ConntrackEntry>,
@@ -23,14 +23,14 @@ pub struct ListTracker {
     ghost apart: { IsTrue (have_disjoint_tuples conns.items) },
 }
 
-/// Whether two tuples are one.
+/// Whether two tuples are equal.
 fn is_same(one: Tuple, other: Tuple) -> bool
     ensures { result ≡ same_tuple one other }
 {
     one == other
 }
 
-/// The first that is live and has this original tuple.
+/// The first live entry with this original tuple.
 fn find_original(
     conns: &[ConntrackEntry],
     limits: Limits,
@@ -45,7 +45,7 @@ fn find_original(
         .copied()
 }
 
-/// The first that is live and has this reply tuple.
+/// The first live entry with this reply tuple.
 fn find_reply(
     conns: &[ConntrackEntry],
     limits: Limits,
@@ -60,7 +60,7 @@ fn find_reply(
         .copied()
 }
 
-/// What a packet belongs to among those that are live.
+/// Looks up a packet among the live entries.
 #[tactic(auto, using(crate::proofs::Lists::find_filter_rules))]
 fn look_in(
     conns: &[ConntrackEntry],
@@ -86,14 +86,14 @@ fn look_in(
     }
 }
 
-/// Whether a tuple is an incoming tuple of one of them.
+/// Whether a tuple is an incoming tuple of an entry.
 fn is_taken(conns: &[ConntrackEntry], tuple: Tuple) -> bool
     ensures { result ≡ is_taken tuple conns.now }
 {
     conns.iter().any(|held| is_same(held.original, tuple) || is_same(held.reply, tuple))
 }
 
-/// Counts one more packet, where it is of this connection.
+/// Updates the entry for one more packet, if it has this id.
 fn touch_if(
     held: &mut ConntrackEntry,
     id: ConnId,
@@ -102,14 +102,15 @@ fn touch_if(
     mark: u32,
     now: Moment,
 )
-    ensures { held.new ≡ (if same_id id held.old then touched direction flags mark now held.old else held.old) }
+    ensures { held.new ≡ (if same_id id held.old then touched direction flags mark now held.old
+        else held.old) }
 {
     if held.id == id {
         held.touch(direction, flags, mark, now);
     }
 }
 
-/// Counts one more packet of the connection of that name.
+/// Updates the entry with this id for one more packet.
 fn touch_in(
     conns: &mut Vec<ConntrackEntry>,
     id: ConnId,
@@ -127,7 +128,7 @@ fn touch_in(
     }
 }
 
-/// Takes out the connection of that name.
+/// Removes the entry with this id.
 fn remove_entry(conns: &mut Vec<ConntrackEntry>, id: ConnId)
     ensures items { conns.new.items ≡ without id conns.old.items }
     ensures capacity { vec_capacity conns.new ≡ vec_capacity conns.old }
@@ -136,7 +137,7 @@ fn remove_entry(conns: &mut Vec<ConntrackEntry>, id: ConnId)
     conns.retain(|held| held.id != id);
 }
 
-/// The first that is dead.
+/// The first expired entry.
 fn find_expired(conns: &[ConntrackEntry], limits: Limits, now: Moment) -> Option<ConntrackEntry>
     ensures { result ≡ find (λ h. not (is_live limits now h)) conns.now }
 {
@@ -146,21 +147,21 @@ fn find_expired(conns: &[ConntrackEntry], limits: Limits, now: Moment) -> Option
         .copied()
 }
 
-/// The connection of that name.
+/// The entry with this id.
 fn find_by_id(conns: &[ConntrackEntry], id: ConnId) -> Option<ConntrackEntry>
     ensures { result ≡ find (same_id id) conns.now }
 {
     conns.iter().find(|held| held.id == id).copied()
 }
 
-/// Whether a connection of that name is held.
+/// Whether an entry has this id.
 fn has(conns: &[ConntrackEntry], id: ConnId) -> bool
     ensures { result ≡ has_id id conns.now }
 {
     conns.iter().any(|held| held.id == id)
 }
 
-/// A name that no connection has.
+/// An id that no entry has.
 fn free_id(conns: &[ConntrackEntry]) -> ConnId
     ensures { has_id result conns.now ≡ false }
 {
@@ -172,7 +173,7 @@ fn free_id(conns: &[ConntrackEntry]) -> ConnId
     }
 }
 
-/// A number past those of all names; the greatest there is, where one of them comes near it.
+/// A number above all ids, saturated at the greatest `usize`.
 fn next_number(conns: &[ConntrackEntry]) -> usize
     ensures { result < 2 ^ 64 - 1 → has_ids_below result conns.now ≡ true }
 {
@@ -183,7 +184,7 @@ fn next_number(conns: &[ConntrackEntry]) -> usize
     next
 }
 
-/// The least name that no connection has.
+/// The least id that no entry has.
 fn least_free(conns: &[ConntrackEntry]) -> ConnId
     ensures { has_id result conns.now ≡ false }
 {
@@ -205,7 +206,7 @@ impl Tracker for ListTracker {
 
     ghost max_slots = { None };
 
-    // It hashes nothing.
+    // A list hashes nothing.
     fn new(alloc: Global, _hasher: RandomState, idle: Limits) -> Self {
         ListTracker {
             conns: Vec::new(alloc),
@@ -218,7 +219,7 @@ impl Tracker for ListTracker {
         look_in(&self.conns, self.limits, tuple, flags, now)
     }
 
-    #[tactic(auto, using(crate::proofs::Names::name_rules))]
+    #[tactic(auto, using(crate::proofs::Ids::id_rules))]
     fn touch(
         &mut self,
         id: ConnId,
@@ -242,7 +243,7 @@ impl Tracker for ListTracker {
         }
     }
 
-    #[tactic(auto, using(crate::proofs::Names::name_rules))]
+    #[tactic(auto, using(crate::proofs::Ids::id_rules))]
     fn begin(
         &mut self,
         connection: Connection,
@@ -274,7 +275,7 @@ impl Tracker for ListTracker {
         }
     }
 
-    #[tactic(auto, using(crate::proofs::Names::name_rules))]
+    #[tactic(auto, using(crate::proofs::Ids::id_rules))]
     fn end(&mut self, id: ConnId, steps: &mut Steps) -> Aged {
         steps.add(self.conns.len());
         match find_by_id(&self.conns, id) {
@@ -286,7 +287,7 @@ impl Tracker for ListTracker {
         }
     }
 
-    #[tactic(auto, using(crate::proofs::Names::name_rules))]
+    #[tactic(auto, using(crate::proofs::Ids::id_rules))]
     fn age(&mut self, now: Moment, steps: &mut Steps) -> Option<Aged> {
         steps.add(self.conns.len());
         match find_expired(&self.conns, self.limits, now) {

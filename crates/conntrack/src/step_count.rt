@@ -1,12 +1,12 @@
 //! A count of the slots that a tracker visits.
 //!
-//! A caller of a tracker makes a count and reads it; `tick` and `add` are for those who write a
-//! tracker, wherever that stands. Nothing lowers a count.
+//! Callers of a tracker create and read a count; `tick` and `add` are for implementations of a
+//! tracker. A count never falls.
 ghost use Rattle.std.specs.Prelude.{◌≡◌, ◌≤◌, ◌+◌, ◌-◌, ◌^◌, min};
 
 use std::marker::Model;
 
-/// How many slots were visited; it stays at its greatest.
+/// How many slots were visited, saturated at the greatest `u64`.
 #[derive(Debug, Drop)]
 pub struct Steps {
     count: u64,
@@ -21,21 +21,21 @@ impl Model for Steps {
 }
 
 impl Steps {
-    /// None yet.
+    /// A count of 0.
     pub fn new() -> Self
         ensures { result ≡ 0 }
     {
         Steps { count: 0 }
     }
 
-    /// How many there were.
+    /// The count.
     pub fn count(&self) -> u64
         ensures { result ≡ self.now }
     {
         self.count
     }
 
-    /// One slot more; a tracker's call says so at each slot that it visits.
+    /// Counts one more slot; a tracker calls it at each slot that it visits.
     pub fn tick(&mut self)
         ensures count { self.new ≡ min (self.old + 1) (2 ^ 64 - 1) }
         ensures rises { self.old ≤ self.new }
@@ -43,7 +43,7 @@ impl Steps {
         self.count = self.count.saturating_add(1);
     }
 
-    /// Some slots more; as `tick`, so many times.
+    /// Counts so many more slots.
     pub fn add(&mut self, slots: usize)
         ensures count { self.new ≡ min (self.old + slots) (2 ^ 64 - 1) }
         ensures rises { self.old ≤ self.new }

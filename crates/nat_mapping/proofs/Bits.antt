@@ -30,10 +30,13 @@ taken_either : (b t : Bool) → t ≡ true → cond b true t ≡ true
 taken_either true t is = refl
 taken_either false t is = is
 
--- ---- the look-ups
+-- ---- lookups
 
 -- where a pool is put whose one port is set, that port of that key is set
-pub set_one : (old new : PoolKey → Option Pool) (key : PoolKey) (pool pool' : Pool) (port : ℕ) (b : Bool) → old key ≡ Some pool → Sets old new key (Some pool') → ((p : ℕ) → is_taken pool' p ≡ (if p == port then b else is_taken pool p)) → BitSet (λ q p. is_taken_by (old q) p) (λ q p. is_taken_by (new q) p) key port b
+pub set_one : (old new : PoolKey → Option Pool) (key : PoolKey) (pool pool' : Pool) (port : ℕ) (b : Bool)
+    → old key ≡ Some pool → Sets old new key (Some pool')
+    → ((p : ℕ) → is_taken pool' p ≡ (if p == port then b else is_taken pool p))
+    → BitSet (λ q p. is_taken_by (old q) p) (λ q p. is_taken_by (new q) p) key port b
 set_one old new key pool pool' port b is sets set q p =
     elim (decide same_pool pool_test key q) [
       | inl same ↦
@@ -47,15 +50,20 @@ set_one old new key pool pool' port b is sets set q p =
     ]
 
 -- where a pool is put in the place of one of its order, all orders stay
-pub set_orders : (old new : PoolKey → Option Pool) (key : PoolKey) (pool pool' : Pool) → old key ≡ Some pool → Sets old new key (Some pool') → pool_order pool' ≡ pool_order pool → (q : PoolKey) → order_by (new q) ≡ order_by (old q)
+pub set_orders : (old new : PoolKey → Option Pool) (key : PoolKey) (pool pool' : Pool) → old key ≡ Some pool
+    → Sets old new key (Some pool') → pool_order pool' ≡ pool_order pool → (q : PoolKey)
+    → order_by (new q) ≡ order_by (old q)
 set_orders old new key pool pool' is sets order q =
     elim (decide same_pool pool_test key q) [
-      | inl same ↦ ap (λ k. order_by (new k)) (sym same) ∙ ap order_by sets.at ∙ ap Some order ∙ sym (ap order_by is) ∙ ap (λ k. order_by (old k)) same
+      | inl same ↦ ap (λ k. order_by (new k)) (sym same) ∙ ap order_by sets.at ∙ ap Some order ∙ sym (ap order_by is)
+          ∙ ap (λ k. order_by (old k)) same
       | inr apart ↦ ap order_by (sets.off q apart)
     ]
 
--- a pool is begun, with one port taken
-pub begin_one : (old new : PoolKey → Option Pool) (key : PoolKey) (pool : Pool) (port : ℕ) → old key ≡ None → Sets old new key (Some pool) → ((p : ℕ) → is_taken_by (Some pool) p ≡ (p == port)) → BitSet (λ q p. is_taken_by (old q) p) (λ q p. is_taken_by (new q) p) key port true
+-- a new pool, with one port taken
+pub begin_one : (old new : PoolKey → Option Pool) (key : PoolKey) (pool : Pool) (port : ℕ) → old key ≡ None
+    → Sets old new key (Some pool) → ((p : ℕ) → is_taken_by (Some pool) p ≡ (p == port))
+    → BitSet (λ q p. is_taken_by (old q) p) (λ q p. is_taken_by (new q) p) key port true
 begin_one old new key pool port none sets set q p =
     elim (decide same_pool pool_test key q) [
       | inl same ↦
@@ -68,36 +76,44 @@ begin_one old new key pool port none sets set q p =
           ∙ ap (λ t. if t && p == port then true else is_taken_by (old q) p) (sym (apart_false same_pool pool_test key q apart))
     ]
 
--- a pool of which no port is taken goes
-pub end_free : (old new : PoolKey → Option Pool) (key : PoolKey) → ((p : ℕ) → is_taken_by (old key) p ≡ false) → Sets old new key None → (q : PoolKey) (p : ℕ) → is_taken_by (new q) p ≡ is_taken_by (old q) p
+-- a pool without taken ports is removed
+pub end_free : (old new : PoolKey → Option Pool) (key : PoolKey) → ((p : ℕ) → is_taken_by (old key) p ≡ false)
+    → Sets old new key None → (q : PoolKey) (p : ℕ) → is_taken_by (new q) p ≡ is_taken_by (old q) p
 end_free old new key free sets q p =
     elim (decide same_pool pool_test key q) [
-      | inl same ↦ ap (λ k. is_taken_by (new k) p) (sym same) ∙ ap (λ o. is_taken_by o p) sets.at ∙ sym (free p) ∙ ap (λ k. is_taken_by (old k) p) same
+      | inl same ↦ ap (λ k. is_taken_by (new k) p) (sym same) ∙ ap (λ o. is_taken_by o p) sets.at ∙ sym (free p)
+          ∙ ap (λ k. is_taken_by (old k) p) same
       | inr apart ↦ ap (λ o. is_taken_by o p) (sets.off q apart)
     ]
 
-pub orders_set : (old new : PoolKey → Option Pool) (key : PoolKey) (w : Option Pool) → Sets old new key w → Sets (λ q. order_by (old q)) (λ q. order_by (new q)) key (order_by w)
+pub orders_set : (old new : PoolKey → Option Pool) (key : PoolKey) (w : Option Pool) → Sets old new key w
+    → Sets (λ q. order_by (old q)) (λ q. order_by (new q)) key (order_by w)
 orders_set old new key w sets = record { at = ap order_by sets.at; off = λ q apart. ap order_by (sets.off q apart) }
 
--- another kind's pools don't see it
-pub no_pool : (old new : PoolKey → ℕ → Bool) (key : PoolKey) (port : ℕ) (b : Bool) → has_pool key.kind ≡ false → ((q : PoolKey) (p : ℕ) → new q p ≡ old q p) → (q : PoolKey) (p : ℕ) → has_pool q.kind ≡ true → new q p ≡ (if same_pool key q && p == port then b else old q p)
+-- pools of another kind don't change
+pub no_pool : (old new : PoolKey → ℕ → Bool) (key : PoolKey) (port : ℕ) (b : Bool) → has_pool key.kind ≡ false
+    → ((q : PoolKey) (p : ℕ) → new q p ≡ old q p) → (q : PoolKey) (p : ℕ) → has_pool q.kind ≡ true
+    → new q p ≡ (if same_pool key q && p == port then b else old q p)
 no_pool old new key port b none same q p some =
     let apart : ¬ (key ≡ q) = λ e. let contra : true ≡ false = sym some ∙ ap (λ (k : PoolKey). has_pool k.kind) (sym e) ∙ none in cc in
     same q p ∙ ap (λ t. if t && p == port then b else old q p) (sym (apart_false same_pool pool_test key q apart))
 
 -- ---- a port is taken of each pool
 
-module _ (orders orders' : PoolKey → Option Order) (taken taken' : PoolKey → ℕ → Bool) (key : PoolKey) (port : ℕ) (used : AreUsed orders taken) where
-  -- a port more is taken
+module _ (orders orders' : PoolKey → Option Order) (taken taken' : PoolKey → ℕ → Bool) (key : PoolKey) (port : ℕ)
+    (used : AreUsed orders taken) where
+  -- one more port is taken
   pub used_more : ((q : PoolKey) → orders' q ≡ orders q) → BitSet taken taken' key port true → AreUsed orders' taken'
   used_more same set = record {
     order = λ k o e. used.order k o (sym (same k) ∙ e);
     bitmap = λ k e. used.bitmap k (ap is_some (sym (same k)) ∙ e);
-    used = λ k e. let old = used.used k (ap is_some (sym (same k)) ∙ e) in (old.0, set k old.0 ∙ taken_either (same_pool key k && old.0 == port) (taken k old.0) old.1);
+    used = λ k e. let old = used.used k (ap is_some (sym (same k)) ∙ e) in
+        (old.0, set k old.0 ∙ taken_either (same_pool key k && old.0 == port) (taken k old.0) old.1);
   }
 
-  -- a pool begins, with that port taken
-  pub used_begun : (order : Order) → order ≡ order_of key.kind → has_pool key.kind ≡ true → Sets orders orders' key (Some order) → BitSet taken taken' key port true → AreUsed orders' taken'
+  -- a new pool, with that port taken
+  pub used_begun : (order : Order) → order ≡ order_of key.kind → has_pool key.kind ≡ true
+      → Sets orders orders' key (Some order) → BitSet taken taken' key port true → AreUsed orders' taken'
   used_begun order is bitmap sets set = record {
     order = λ k o e. elim (decide same_pool pool_test key k) [
       | inl same ↦
@@ -119,13 +135,14 @@ module _ (orders orders' : PoolKey → Option Order) (taken taken' : PoolKey →
     ];
   }
 
-  -- what is taken of another pool stays so
+  -- the taken ports of other pools stay
   off_taken : (k : PoolKey) (p : ℕ) → ¬ (key ≡ k) → BitSet taken taken' key port false → taken k p ≡ true → taken' k p ≡ true
   off_taken k p apart set is =
       set k p ∙ ap (λ t. if t && p == port then false else taken k p) (apart_false same_pool pool_test key k apart) ∙ is
 
   -- a port is given back, and it wasn't the last
-  pub used_kept : ((q : PoolKey) → orders' q ≡ orders q) → BitSet taken taken' key port false → (p : ℕ) × (taken' key p ≡ true) → AreUsed orders' taken'
+  pub used_kept : ((q : PoolKey) → orders' q ≡ orders q) → BitSet taken taken' key port false
+      → (p : ℕ) × (taken' key p ≡ true) → AreUsed orders' taken'
   used_kept same set some = record {
     order = λ k o e. used.order k o (sym (same k) ∙ e);
     bitmap = λ k e. used.bitmap k (ap is_some (sym (same k)) ∙ e);
@@ -135,7 +152,7 @@ module _ (orders orders' : PoolKey → Option Order) (taken taken' : PoolKey →
     ];
   }
 
-  -- the last one is given back, and its pool ends
+  -- the last one is given back, and its pool is removed
   pub used_ended : Sets orders orders' key None → BitSet taken taken' key port false → AreUsed orders' taken'
   used_ended sets set = record {
     order = λ k o e. elim (decide same_pool pool_test key k) [
@@ -152,7 +169,7 @@ module _ (orders orders' : PoolKey → Option Order) (taken taken' : PoolKey →
     ];
   }
 
-  -- where look-ups stay the same, all does
+  -- unchanged lookups keep everything
   pub used_same : ((q : PoolKey) → orders' q ≡ orders q) → ((q : PoolKey) (p : ℕ) → taken' q p ≡ taken q p) → AreUsed orders' taken'
   used_same same same_ports = record {
     order = λ k o e. used.order k o (sym (same k) ∙ e);

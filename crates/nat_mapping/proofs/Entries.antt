@@ -1,4 +1,4 @@
--- The list that entries stand for.
+-- The list of mappings that entries represent.
 use Rattle.std.specs.Prelude.{◌==◌, ◌&&◌, replicate}
 use Rattle.std.proofs.Common.{◌≡◌, ℕ, ◌+◌, ◌*◌, Bool, true, false, cond, List, [], ◌∷◌, ◌++◌, refl, sym, ◌∙◌, ap, subst, inl, inr, arith}
 use Rattle.std.specs.Map.{lookup, keys_of}
@@ -25,45 +25,59 @@ regroup true true false d = refl
 regroup true false c d = refl
 regroup false b c d = refl
 
-same_by : (m : Mapping) (key : SourceKey) (h : MappedPort) → same_mapping m (mapping_at key h) ≡ (same_source (source_key_of m) key && m.external.port == h.port)
-same_by m key h = regroup (same_kind m.kind key.kind) (same_endpoint m.internal key.internal) (m.external.address == key.address) (m.external.port == h.port)
+same_by : (m : Mapping) (key : SourceKey) (h : MappedPort)
+    → same_mapping m (mapping_at key h) ≡ (same_source (source_key_of m) key && m.external.port == h.port)
+same_by m key h = regroup (same_kind m.kind key.kind) (same_endpoint m.internal key.internal)
+    (m.external.address == key.address) (m.external.port == h.port)
 
 times : (b : Bool) (n : ℕ) → n * cond b 1 0 ≡ cond b n 0
 times true n = omega arith
 times false n = omega arith
 
-head : (m x : Mapping) (n : ℕ) (rest : List Mapping) → holders_of m (replicate n x ++ rest) ≡ cond (same_mapping m x) n 0 + holders_of m rest
+head : (m x : Mapping) (n : ℕ) (rest : List Mapping)
+    → holders_of m (replicate n x ++ rest) ≡ cond (same_mapping m x) n 0 + holders_of m rest
 unfolding holders_of
 head m x n rest =
     let f : Mapping → ℕ = λ y. cond (same_mapping m y) 1 0 in
     sum_by-append f (replicate n x) rest ∙ ap (λ k. k + sum_by f rest) (sum_by-replicate f n x ∙ times (same_mapping m x) n)
 
-pub count_entries : (es : List (SourceKey × MappedPort)) → IsDistinct same_source (keys_of es) → (m : Mapping) → holders_of m (held_by es) ≡ holders_at (lookup (same_source (source_key_of m)) es) m.external.port
+pub count_entries : (es : List (SourceKey × MappedPort)) → IsDistinct same_source (keys_of es) → (m : Mapping)
+    → holders_of m (held_by es) ≡ holders_at (lookup (same_source (source_key_of m)) es) m.external.port
 unfolding held_by holders_of
 count_entries [] distinct m = refl
 count_entries (e ∷ es) distinct m =
     let rest = count_entries es (IsDistinct-tail same_source e.0 (keys_of es) distinct) m in
     let port = m.external.port in
-    let first : holders_of m (held_by (e ∷ es)) ≡ cond (same_source (source_key_of m) e.0 && port == e.1.port) e.1.holders 0 + holders_of m (held_by es) =
+    let first : holders_of m (held_by (e ∷ es))
+    ≡ cond (same_source (source_key_of m) e.0 && port == e.1.port) e.1.holders 0 + holders_of m (held_by es) =
     head m (mapping_at e.0 e.1) e.1.holders (held_by es) ∙ ap (λ b. cond b e.1.holders 0 + holders_of m (held_by es)) (same_by m e.0 e.1) in
     elim (cases_Bool (same_source (source_key_of m) e.0)) [
       | inl t ↦
-          let none : holders_of m (held_by es) ≡ 0 = rest ∙ ap (λ o. holders_at o port) (lookup-none (same_source (source_key_of m)) es (none_past_head (equivalence same_source source_test) (source_key_of m) e es distinct t)) in
-          let here : cond (same_source (source_key_of m) e.0 && port == e.1.port) e.1.holders 0 ≡ cond (port == e.1.port) e.1.holders 0 = ap (λ b. cond (b && port == e.1.port) e.1.holders 0) t in
-          let found : holders_at (lookup (same_source (source_key_of m)) (e ∷ es)) port ≡ cond (port == e.1.port) e.1.holders 0 = ap (λ o. holders_at o port) (lookup_head (same_source (source_key_of m)) e es t) in
+          let none : holders_of m (held_by es) ≡ 0 = rest
+          ∙ ap (λ o. holders_at o port) (lookup-none (same_source (source_key_of m)) es
+          (none_past_head (equivalence same_source source_test) (source_key_of m) e es distinct t)) in
+          let here : cond (same_source (source_key_of m) e.0 && port == e.1.port) e.1.holders 0
+          ≡ cond (port == e.1.port) e.1.holders 0 = ap (λ b. cond (b && port == e.1.port) e.1.holders 0) t in
+          let found : holders_at (lookup (same_source (source_key_of m)) (e ∷ es)) port
+          ≡ cond (port == e.1.port) e.1.holders 0 =
+          ap (λ o. holders_at o port) (lookup_head (same_source (source_key_of m)) e es t) in
           omega (arith, first, none, here, found)
       | inr f ↦
-          let here : ◌≡◌ {A = ℕ} (cond (same_source (source_key_of m) e.0 && port == e.1.port) e.1.holders 0) 0 = ap (λ b. cond (b && port == e.1.port) e.1.holders 0) f in
-          let found : holders_at (lookup (same_source (source_key_of m)) (e ∷ es)) port ≡ holders_at (lookup (same_source (source_key_of m)) es) port = ap (λ o. holders_at o port) (lookup_tail (same_source (source_key_of m)) e es f) in
+          let here : ◌≡◌ {A = ℕ} (cond (same_source (source_key_of m) e.0 && port == e.1.port) e.1.holders 0) 0 =
+          ap (λ b. cond (b && port == e.1.port) e.1.holders 0) f in
+          let found : holders_at (lookup (same_source (source_key_of m)) (e ∷ es)) port
+          ≡ holders_at (lookup (same_source (source_key_of m)) es) port =
+          ap (λ o. holders_at o port) (lookup_tail (same_source (source_key_of m)) e es f) in
           omega (arith, first, rest, here, found)
     ]
 
--- the list that a map stands for holds each mapping as often as the map says
+-- the list that a table represents has each mapping as often as the table says
 pub counts_of : (sources : Sources) → IsUnique same_source sources → CountsHolders (get same_source sources) (held_by sources.entries)
 counts_of sources unique m = count_entries sources.entries unique m
 
--- so does each list with the same members
-pub counts_same : (sources : Sources) → IsUnique same_source sources → (held now : List Mapping) → held_by sources.entries ≡ now → HoldsSame held now → CountsHolders (get same_source sources) held
+-- so does each list with the same elements
+pub counts_same : (sources : Sources) → IsUnique same_source sources → (held now : List Mapping)
+    → held_by sources.entries ≡ now → HoldsSame held now → CountsHolders (get same_source sources) held
 counts_same sources unique held now is same m = same m ∙ ap (holders_of m) (sym is) ∙ counts_of sources unique m
 
 pub distinct_none : (es : List (SourceKey × MappedPort)) → es ≡ [] → IsDistinct same_source (keys_of es)

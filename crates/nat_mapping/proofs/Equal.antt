@@ -21,7 +21,8 @@ equivalence {K} e test = record {
   refl = test.same;
   symm = λ x y. elim (cases_Bool (e x y)) [
     | inl t ↦ t ∙ sym (let P : K → Type 0 = λ w. e w x ≡ true in subst P (test.exact x y t) (test.same x))
-    | inr f ↦ f ∙ sym (false_from_ne_true (e y x) (λ t. both_ways (e x y) f (let P : K → Type 0 = λ w. e w y ≡ true in subst P (test.exact y x t) (test.same y))))
+    | inr f ↦ f ∙ sym (false_from_ne_true (e y x)
+        (λ t. both_ways (e x y) f (let P : K → Type 0 = λ w. e w y ≡ true in subst P (test.exact y x t) (test.same y))))
   ];
   congr = λ x y z t. ap (λ w. e w z) (test.exact x y t);
 }

@@ -1,7 +1,8 @@
--- What a search of the list finds is held.
+-- What a search of the list finds is in it.
 use Rattle.std.proofs.Common.{◌≡◌, ℕ, ◌<◌, Bool, true, false, cond, List, [], ◌∷◌, ◌⊎◌, Some, None, sym, ◌∙◌, subst, inl, inr, arith}
 use Rattle.std.specs.List.{find, Contains}
-use Rattle.std.proofs.lemmas.List.Elements.{Contains-push, Contains-push_cases, Contains-append_cases, Contains-append_left, Contains-append_right}
+use Rattle.std.proofs.lemmas.List.Elements.{Contains-push, Contains-push_cases, Contains-append_cases}
+use Rattle.std.proofs.lemmas.List.Elements.{Contains-append_left, Contains-append_right}
 use Rattle.std.proofs.lemmas.Bool.{cases_Bool, cond-true, cond-false, both_ways}
 use Rattle.std.proofs.lemmas.Option.{none-some, same_Some}
 use Rattle.nat_mapping.specs.steps.Holders.{holders_cons, holders_none}
@@ -11,14 +12,16 @@ use Rattle.nat_mapping.proofs.Equal.{mapping_same, mapping_exact}
 
 pub holders_here : (m : Mapping) (held : List Mapping) → 0 < holders_of m (m ∷ held)
 holders_here m held =
-    let one : ◌≡◌ {A = ℕ} (cond (same_mapping m m) 1 0) 1 = cond-true (same_mapping m m) 1 0 (mapping_same m) in omega (arith, one, holders_cons m m held)
+    let one : ◌≡◌ {A = ℕ} (cond (same_mapping m m) 1 0) 1 =
+    cond-true (same_mapping m m) 1 0 (mapping_same m) in omega (arith, one, holders_cons m m held)
 
 pub holders_more : (m x : Mapping) (held : List Mapping) → 0 < holders_of m held → 0 < holders_of m (x ∷ held)
 holders_more m x held some = omega (arith, holders_cons m x held)
 
 pub holders_past : (m x : Mapping) (held : List Mapping) → same_mapping m x ≡ false → holders_of m (x ∷ held) ≡ holders_of m held
 holders_past m x held other =
-    let none : ◌≡◌ {A = ℕ} (cond (same_mapping m x) 1 0) 0 = cond-false (same_mapping m x) 1 0 other in omega (arith, none, holders_cons m x held)
+    let none : ◌≡◌ {A = ℕ} (cond (same_mapping m x) 1 0) 0 =
+    cond-false (same_mapping m x) 1 0 other in omega (arith, none, holders_cons m x held)
 
 pub find_held : (p : Mapping → Bool) (held : List Mapping) (m : Mapping) → find p held ≡ Some m → (p m ≡ true) × (0 < holders_of m held)
 find_held p [] m e = absurd (none-some m e)
@@ -45,7 +48,7 @@ find_none p (x ∷ held) m e some =
       ]
     ]
 
--- ---- what has a holder is there
+-- ---- a mapping with a holder is in the list
 
 pub has_holder : (m : Mapping) (held : List Mapping) → Contains held m → 0 < holders_of m held
 has_holder m [] among = absurd (omega (arith, among.1))
@@ -82,7 +85,7 @@ contains_cases m x held among =
       | inr o ↦ inr (is_among m held (omega (arith, has_holder m (x ∷ held) among, holders_past m x held o)))
     ]
 
--- ---- what a search tells
+-- ---- results of a search
 
 pub found_among : (p : Mapping → Bool) (held : List Mapping) (m : Mapping) → find p held ≡ Some m → Contains held m × (p m ≡ true)
 found_among p held m e = let got = find_held p held m e in (is_among m held got.1, got.0)
@@ -90,7 +93,7 @@ found_among p held m e = let got = find_held p held m e in (is_among m held got.
 pub none_such : (p : Mapping → Bool) (held : List Mapping) (m : Mapping) → find p held ≡ None → Contains held m → p m ≡ true → ⊥
 none_such p held m e among passes = both_ways (p m) (find_none p held m e (has_holder m held among)) passes
 
--- ---- a holder more in both
+-- ---- one more holder in both
 
 pub more_alike : (one other : List Mapping) (m : Mapping) → HoldsSame one other → HoldsSame (m ∷ one) (m ∷ other)
 more_alike one other m same q = omega (arith, holders_cons q m one, holders_cons q m other, same q)

@@ -1,4 +1,4 @@
--- A mapping more: what is one to one stays so.
+-- One more mapping: the list stays one to one.
 use Rattle.std.proofs.Common.{◌≡◌, ℕ, Bool, true, not, List, [], ◌∷◌, Option, Some, None, ◌⊎◌, inl, inr, is_some, refl, sym, ap, subst, ◌∙◌}
 use Rattle.std.specs.List.{find, Contains}
 use Rattle.std.specs.Option.{option_map}
@@ -10,7 +10,8 @@ use Rattle.ip_headers.specs.declared.tuple.Endpoint.{Endpoint}
 use Rattle.ip_headers.specs.declared.tuple.Mapping.{Mapping}
 use Rattle.port_pool.specs.declared.range.CandidateRange.{CandidateRange}
 use Rattle.port_pool.specs.Candidates.{candidates}
-use Rattle.nat_mapping.specs.Mappings.{has_external, has_internal, inbound_of, port_of, is_port_held, first_free_port, source_of, or_else, order_of, IsOneToOne}
+use Rattle.nat_mapping.specs.Mappings.{has_external, has_internal, inbound_of, port_of, is_port_held}
+use Rattle.nat_mapping.specs.Mappings.{first_free_port, source_of, or_else, order_of, IsOneToOne}
 use Rattle.nat_mapping.proofs.Equal.{kind_test, endpoint_test}
 use Rattle.nat_mapping.proofs.Lists.{found_among, none_such, contains_cases}
 
@@ -22,7 +23,7 @@ not_some : {X : Type 0} (o : Option X) → not (is_some o) ≡ true → o ≡ No
 not_some None h = refl
 not_some (Some x) h = cc
 
--- what is found passes
+-- the mapping found passes
 found_passes : (p : ℕ → Bool) (xs : List ℕ) (x : ℕ) → find p xs ≡ Some x → p x ≡ true
 found_passes p [] x h = absurd (none-some x h)
 found_passes p (y ∷ xs) x h =
@@ -33,7 +34,7 @@ found_passes p (y ∷ xs) x h =
       | inr f ↦ found_passes p xs x (sym (cond-false (p y) (Some y) (find p xs) f) ∙ h)
     ]
 
--- a part of what is one to one is so
+-- a part of a one-to-one list is one to one
 pub one_to_one-within : (some all : List Mapping) → ((m : Mapping) → Contains some m → Contains all m) → IsOneToOne all → IsOneToOne some
 one_to_one-within some all within one = record {
   one_internal = λ m n x y k e. one.one_internal m n (within m x) (within n y) k e;
@@ -44,40 +45,53 @@ module _ (held : List Mapping) (one : IsOneToOne held) where
   -- it has the internal endpoint of those with its external one, and the port of those with its internal one at its address
   record Suits (m : Mapping) : Type 0 where
     pub one_internal : (n : Mapping) → Contains held n → n.kind ≡ m.kind → n.external ≡ m.external → n.internal ≡ m.internal
-    pub one_port : (n : Mapping) → Contains held n → n.kind ≡ m.kind → n.internal ≡ m.internal → n.external.address ≡ m.external.address → n.external.port ≡ m.external.port
+    pub one_port : (n : Mapping) → Contains held n → n.kind ≡ m.kind → n.internal ≡ m.internal
+        → n.external.address ≡ m.external.address → n.external.port ≡ m.external.port
 
   one_to_one-cons : (m : Mapping) → Suits m → IsOneToOne (m ∷ held)
   one_to_one-cons m suits = record { one_internal = internals; one_port = ports }
     where
-      internals : (a b : Mapping) → Contains (m ∷ held) a → Contains (m ∷ held) b → a.kind ≡ b.kind → a.external ≡ b.external → a.internal ≡ b.internal
+      internals : (a b : Mapping) → Contains (m ∷ held) a → Contains (m ∷ held) b → a.kind ≡ b.kind
+          → a.external ≡ b.external → a.internal ≡ b.internal
       internals a b x y = cases (contains_cases a m held x) (contains_cases b m held y)
         where
-          cases : (a ≡ m) ⊎ Contains held a → (b ≡ m) ⊎ Contains held b → a.kind ≡ b.kind → a.external ≡ b.external → a.internal ≡ b.internal
+          cases : (a ≡ m) ⊎ Contains held a → (b ≡ m) ⊎ Contains held b → a.kind ≡ b.kind → a.external ≡ b.external
+              → a.internal ≡ b.internal
           cases (inr x) (inr y) k e = one.one_internal a b x y k e
-          cases (inr x) (inl q) k e = suits.one_internal a x (k ∙ ap (λ z. z.kind) q) (e ∙ ap (λ z. z.external) q) ∙ ap (λ z. z.internal) (sym q)
-          cases (inl p) (inr y) k e = sym (suits.one_internal b y (sym k ∙ ap (λ z. z.kind) p) (sym e ∙ ap (λ z. z.external) p) ∙ ap (λ z. z.internal) (sym p))
+          cases (inr x) (inl q) k e = suits.one_internal a x (k ∙ ap (λ z. z.kind) q) (e ∙ ap (λ z. z.external) q)
+              ∙ ap (λ z. z.internal) (sym q)
+          cases (inl p) (inr y) k e = sym (suits.one_internal b y (sym k ∙ ap (λ z. z.kind) p)
+              (sym e ∙ ap (λ z. z.external) p) ∙ ap (λ z. z.internal) (sym p))
           cases (inl p) (inl q) k e = ap (λ z. z.internal) (p ∙ sym q)
 
-      ports : (a b : Mapping) → Contains (m ∷ held) a → Contains (m ∷ held) b → a.kind ≡ b.kind → a.internal ≡ b.internal → a.external.address ≡ b.external.address → a.external.port ≡ b.external.port
+      ports : (a b : Mapping) → Contains (m ∷ held) a → Contains (m ∷ held) b → a.kind ≡ b.kind
+          → a.internal ≡ b.internal → a.external.address ≡ b.external.address → a.external.port ≡ b.external.port
       ports a b x y = cases (contains_cases a m held x) (contains_cases b m held y)
         where
-          cases : (a ≡ m) ⊎ Contains held a → (b ≡ m) ⊎ Contains held b → a.kind ≡ b.kind → a.internal ≡ b.internal → a.external.address ≡ b.external.address → a.external.port ≡ b.external.port
+          cases : (a ≡ m) ⊎ Contains held a → (b ≡ m) ⊎ Contains held b → a.kind ≡ b.kind → a.internal ≡ b.internal
+              → a.external.address ≡ b.external.address → a.external.port ≡ b.external.port
           cases (inr x) (inr y) k i e = one.one_port a b x y k i e
-          cases (inr x) (inl q) k i e = suits.one_port a x (k ∙ ap (λ z. z.kind) q) (i ∙ ap (λ z. z.internal) q) (e ∙ ap (λ z. z.external.address) q) ∙ ap (λ z. z.external.port) (sym q)
-          cases (inl p) (inr y) k i e = sym (suits.one_port b y (sym k ∙ ap (λ z. z.kind) p) (sym i ∙ ap (λ z. z.internal) p) (sym e ∙ ap (λ z. z.external.address) p) ∙ ap (λ z. z.external.port) (sym p))
+          cases (inr x) (inl q) k i e = suits.one_port a x (k ∙ ap (λ z. z.kind) q) (i ∙ ap (λ z. z.internal) q)
+              (e ∙ ap (λ z. z.external.address) q) ∙ ap (λ z. z.external.port) (sym q)
+          cases (inl p) (inr y) k i e = sym (suits.one_port b y (sym k ∙ ap (λ z. z.kind) p)
+              (sym i ∙ ap (λ z. z.internal) p) (sym e ∙ ap (λ z. z.external.address) p)
+              ∙ ap (λ z. z.external.port) (sym p))
           cases (inl p) (inl q) k i e = ap (λ z. z.external.port) (p ∙ sym q)
 
-  -- ---- the one that a source gets
+  -- ---- the mapping that `source` gives
 
   module _ (kind : Kind) (internal : Endpoint) (address : ℕ) (range : Option CandidateRange) (port : ℕ) where
     abbrev gotten : Mapping
     gotten = record { kind = kind; internal = internal; external = record { address = address; port = port } }
 
-    -- one that is there already
+    -- a mapping that is there already
     from_there : (n : Mapping) → Contains held n → n ≡ gotten → Suits gotten
     from_there n among is = record {
-      one_internal = λ a x k e. one.one_internal a n x among (k ∙ ap (λ z. z.kind) (sym is)) (e ∙ ap (λ z. z.external) (sym is)) ∙ ap (λ z. z.internal) is;
-      one_port = λ a x k i e. one.one_port a n x among (k ∙ ap (λ z. z.kind) (sym is)) (i ∙ ap (λ z. z.internal) (sym is)) (e ∙ ap (λ z. z.external.address) (sym is)) ∙ ap (λ z. z.external.port) is;
+      one_internal = λ a x k e. one.one_internal a n x among (k ∙ ap (λ z. z.kind) (sym is))
+          (e ∙ ap (λ z. z.external) (sym is)) ∙ ap (λ z. z.internal) is;
+      one_port = λ a x k i e. one.one_port a n x among (k ∙ ap (λ z. z.kind) (sym is))
+          (i ∙ ap (λ z. z.internal) (sym is)) (e ∙ ap (λ z. z.external.address) (sym is))
+          ∙ ap (λ z. z.external.port) is;
     }
 
     reused : port_of kind internal address held ≡ Some port → Suits gotten
@@ -96,38 +110,48 @@ module _ (held : List Mapping) (one : IsOneToOne held) where
       where
         equal : (n : Mapping) → n.kind ≡ kind → n.internal ≡ internal → n.external.address ≡ address → n.external.port ≡ port → n ≡ gotten
         equal n k i a p =
-            let e : n.external ≡ gotten.external = ap (λ x. let w : Endpoint = record { address = x; port = n.external.port } in w) a ∙ ap (λ x. let w : Endpoint = record { address = address; port = x } in w) p in
+            let e : n.external ≡ gotten.external =
+            ap (λ x. let w : Endpoint = record { address = x; port = n.external.port } in w) a
+            ∙ ap (λ x. let w : Endpoint = record { address = address; port = x } in w) p in
             ap (λ x. let w : Mapping = record { kind = x; internal = n.internal; external = n.external } in w) k
             ∙ ap (λ x. let w : Mapping = record { kind = kind; internal = x; external = n.external } in w) i
             ∙ ap (λ x. let w : Mapping = record { kind = kind; internal = internal; external = x } in w) e
 
-    -- a port that none has, for an internal endpoint that has none there
-    chosen : port_of kind internal address held ≡ None → inbound_of kind (record { address = address; port = port }) held ≡ None → Suits gotten
+    -- a free port, for an internal endpoint without a mapping there
+    chosen : port_of kind internal address held ≡ None
+        → inbound_of kind (record { address = address; port = port }) held ≡ None → Suits gotten
     unfolding port_of inbound_of
     chosen h g =
         let none_from = none_of_map (λ (m : Mapping). m.external.port) (find (has_internal kind internal address) held) h in
-        let none_there = none_of_map (λ (m : Mapping). m.internal) (find (has_external kind (record { address = address; port = port })) held) g in
+        let none_there = none_of_map (λ (m : Mapping). m.internal)
+        (find (has_external kind (record { address = address; port = port })) held) g in
         record {
-          one_internal = λ n among k e. absurd (none_such (has_external kind (record { address = address; port = port })) held n none_there among (stands n k e));
+          one_internal = λ n among k e. absurd (none_such
+              (has_external kind (record { address = address; port = port })) held n none_there among (stands n k e));
           one_port = λ n among k i e. absurd (none_such (has_internal kind internal address) held n none_from among (maps n k i e));
         }
       where
-        stands : (n : Mapping) → n.kind ≡ kind → n.external ≡ gotten.external → has_external kind (record { address = address; port = port }) n ≡ true
+        stands : (n : Mapping) → n.kind ≡ kind → n.external ≡ gotten.external
+            → has_external kind (record { address = address; port = port }) n ≡ true
         stands n k e = rw (k, e) (and_from _ _ (kind_test.same kind) (endpoint_test.same gotten.external))
 
-        maps : (n : Mapping) → n.kind ≡ kind → n.internal ≡ internal → n.external.address ≡ address → has_internal kind internal address n ≡ true
-        maps n k i a = rw (k, i, a) (and_from _ _ (kind_test.same kind) (and_from _ _ (endpoint_test.same internal) (eq-eqb address address refl)))
+        maps : (n : Mapping) → n.kind ≡ kind → n.internal ≡ internal → n.external.address ≡ address
+            → has_internal kind internal address n ≡ true
+        maps n k i a = rw (k, i, a) (and_from _ _ (kind_test.same kind)
+            (and_from _ _ (endpoint_test.same internal) (eq-eqb address address refl)))
 
     pub source_one_to_one : source_of kind internal address range held ≡ Some port → IsOneToOne (gotten ∷ held)
     source_one_to_one h = one_to_one-cons gotten (by_port (port_of kind internal address held) refl h)
       where
-        by_port : (o : Option ℕ) → port_of kind internal address held ≡ o → or_else o (first_free_port kind internal address range held) ≡ Some port → Suits gotten
+        by_port : (o : Option ℕ) → port_of kind internal address held ≡ o
+            → or_else o (first_free_port kind internal address range held) ≡ Some port → Suits gotten
         by_port (Some p) e k = reused (e ∙ k)
         by_port None e k =
-            let passes = found_passes (λ p. not (is_port_held kind address held p)) (candidates (order_of kind) internal.port range) port k in
+            let passes = found_passes (λ p. not (is_port_held kind address held p))
+            (candidates (order_of kind) internal.port range) port k in
             chosen e (not_some (inbound_of kind (record { address = address; port = port }) held) passes)
 
--- ---- the one by which a destination is found
+-- ---- the mapping that a destination lookup finds
 
 module _ (held : List Mapping) (kind : Kind) (internal external : Endpoint) where
   abbrev found : Mapping

@@ -1,6 +1,7 @@
--- How many pools there are.
+-- The number of pools.
 use Rattle.std.specs.Prelude.{map, ◌||◌}
-use Rattle.std.proofs.Common.{◌≡◌, ◌≤◌, Bool, true, is_some, List, [], ◌∷◌, Option, Some, None, suc, length, refl, sym, ◌∙◌, ap, inl, inr, arith}
+use Rattle.std.proofs.Common.{◌≡◌, ◌≤◌, Bool, true, is_some, List, [], ◌∷◌, Option, Some, None, suc}
+use Rattle.std.proofs.Common.{length, refl, sym, ◌∙◌, ap, inl, inr, arith}
 use Rattle.std.specs.Cmp.{IsEquivalence}
 use Rattle.std.specs.HashMap.{get, hash_map_len}
 use Rattle.std.specs.List.{Contains, list_any}
@@ -15,8 +16,7 @@ use Rattle.nat_mapping.specs.declared.keys.PoolKey.{PoolKey}
 use Rattle.nat_mapping.specs.declared.pools.Pools.{Pools}
 use Rattle.nat_mapping.specs.Mappings.{share_pool, pool_count_of}
 use Rattle.nat_mapping.specs.steps.Keys.{pool_key_of, same_pool}
-use Rattle.nat_mapping.specs.steps.Consistent.{Sources, Inbounds, IsConsistent}
-use Rattle.nat_mapping.specs.steps.Consistent.{CountsHolders}
+use Rattle.nat_mapping.specs.steps.Consistent.{Sources, Inbounds, IsConsistent, CountsHolders}
 use Rattle.nat_mapping.specs.steps.Keys.{same_source, inbound_at, source_at}
 use Rattle.nat_mapping.specs.steps.Ports.{order_by}
 use Rattle.nat_mapping.proofs.Answers.{filed_among}
@@ -24,7 +24,8 @@ use Rattle.nat_mapping.proofs.Equal.{pool_test, equivalence}
 use Rattle.nat_mapping.proofs.Lists.{contains_cases}
 
 -- what is among keys is among them each once
-member_unique : {K : Type 0} (eq : K → K → Bool) → IsEquivalence eq → (xs : List K) (q : K) → is_member eq xs q ≡ true → is_member eq (unique_keys eq xs) q ≡ true
+member_unique : {K : Type 0} (eq : K → K → Bool) → IsEquivalence eq → (xs : List K) (q : K) → is_member eq xs q ≡ true
+    → is_member eq (unique_keys eq xs) q ≡ true
 member_unique eq laws [] q t = t
 member_unique {K} eq laws (x ∷ xs) q t =
     elim (cases_Bool (is_member eq xs x)) [
@@ -42,7 +43,7 @@ member_unique {K} eq laws (x ∷ xs) q t =
           ]
     ]
 
--- mappings stand at one place where their keys are one
+-- mappings share a pool where their pool keys are equal
 member_map : (held : List Mapping) (m : Mapping) → is_member same_pool (map pool_key_of held) (pool_key_of m) ≡ is_member share_pool held m
 member_map [] m = refl
 member_map (x ∷ held) m = ap (λ b. share_pool m x || b) (member_map held m)
@@ -52,29 +53,37 @@ unique_map [] = refl
 unique_map (x ∷ held) =
     elim (cases_Bool (is_member share_pool held x)) [
       | inl twice ↦
-          ap length (cond-true (is_member same_pool (map pool_key_of held) (pool_key_of x)) (unique_keys same_pool (map pool_key_of held)) (pool_key_of x ∷ unique_keys same_pool (map pool_key_of held)) (member_map held x ∙ twice))
+          ap length (cond-true (is_member same_pool (map pool_key_of held) (pool_key_of x))
+          (unique_keys same_pool (map pool_key_of held))
+          (pool_key_of x ∷ unique_keys same_pool (map pool_key_of held)) (member_map held x ∙ twice))
           ∙ unique_map held
           ∙ sym (ap length (cond-true (is_member share_pool held x) (unique_keys share_pool held) (x ∷ unique_keys share_pool held) twice))
       | inr once ↦
-          ap length (cond-false (is_member same_pool (map pool_key_of held) (pool_key_of x)) (unique_keys same_pool (map pool_key_of held)) (pool_key_of x ∷ unique_keys same_pool (map pool_key_of held)) (member_map held x ∙ once))
+          ap length (cond-false (is_member same_pool (map pool_key_of held) (pool_key_of x))
+          (unique_keys same_pool (map pool_key_of held))
+          (pool_key_of x ∷ unique_keys same_pool (map pool_key_of held)) (member_map held x ∙ once))
           ∙ ap (λ n. suc n) (unique_map held)
           ∙ sym (ap length (cond-false (is_member share_pool held x) (unique_keys share_pool held) (x ∷ unique_keys share_pool held) once))
     ]
 
 -- a mapping that is held has its key among theirs
-member_held : (held : List Mapping) (m : Mapping) (key : PoolKey) → Contains held m → pool_key_of m ≡ key → is_member same_pool (map pool_key_of held) key ≡ true
+member_held : (held : List Mapping) (m : Mapping) (key : PoolKey) → Contains held m → pool_key_of m ≡ key
+    → is_member same_pool (map pool_key_of held) key ≡ true
 member_held [] m key among is = absurd (omega (arith, among.1))
 member_held (x ∷ held) m key among is =
     elim (contains_cases m x held among) [
-      | inl here ↦ or_left (same_pool key (pool_key_of x)) (is_member same_pool (map pool_key_of held) key) (ap (same_pool key) (ap pool_key_of (sym here) ∙ is) ∙ pool_test.same key)
-      | inr behind ↦ or_right (same_pool key (pool_key_of x)) (is_member same_pool (map pool_key_of held) key) (member_held held m key behind is)
+      | inl here ↦ or_left (same_pool key (pool_key_of x)) (is_member same_pool (map pool_key_of held) key)
+          (ap (same_pool key) (ap pool_key_of (sym here) ∙ is) ∙ pool_test.same key)
+      | inr behind ↦ or_right (same_pool key (pool_key_of x)) (is_member same_pool (map pool_key_of held) key)
+          (member_held held m key behind is)
     ]
 
 some_of : {X : Type 0} (o : Option X) → is_some o ≡ true → (x : X) × (o ≡ Some x)
 some_of None e = absurd (cc)
 some_of (Some x) e = (x, refl)
 
-module _ (sources : Sources) (inbounds : Inbounds) (pools : Pools) (kept : IsConsistent sources inbounds pools) (held : List Mapping) (counts : CountsHolders (get same_source sources) held) where
+module _ (sources : Sources) (inbounds : Inbounds) (pools : Pools) (kept : IsConsistent sources inbounds pools)
+    (held : List Mapping) (counts : CountsHolders (get same_source sources) held) where
   -- a pool has a mapping that is held
   pool_held : (key : PoolKey) → is_some (get same_pool pools.pools key) ≡ true → (m : Mapping) × (Contains held m × (pool_key_of m ≡ key))
   pool_held key some =
@@ -92,5 +101,6 @@ module _ (sources : Sources) (inbounds : Inbounds) (pools : Pools) (kept : IsCon
       let laws = equivalence same_pool pool_test in
       let es = pools.pools.entries in
       let fewer = length-le_from_is_member laws (keys_of es) (unique_keys same_pool (map pool_key_of held)) kept.pooled.unique
-      (λ q t. let m = pool_held q (is_some-lookup (same_pool q) es ∙ t) in member_unique same_pool laws (map pool_key_of held) q (member_held held m.0 q m.1.0 m.1.1)) in
+      (λ q t. let m = pool_held q (is_some-lookup (same_pool q) es ∙ t) in
+      member_unique same_pool laws (map pool_key_of held) q (member_held held m.0 q m.1.0 m.1.1)) in
       omega (arith, fewer, length-keys_of es, unique_map held)

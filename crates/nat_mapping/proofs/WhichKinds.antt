@@ -29,7 +29,8 @@ is_none None e = refl
 is_none (Some x) e = absurd (cc)
 
 -- 0 is the only candidate of a kind without ports
-pub zero_found : (test : ℕ → Bool) (order : Order) (s : ℕ) (range : Option CandidateRange) → order ≡ Zero → find test (candidates order s range) ≡ cond (test 0) (Some 0) None
+pub zero_found : (test : ℕ → Bool) (order : Order) (s : ℕ) (range : Option CandidateRange) → order ≡ Zero
+    → find test (candidates order s range) ≡ cond (test 0) (Some 0) None
 unfolding candidates
 zero_found test Ports s range is = absurd (cc)
 zero_found test Identifiers s range is = absurd (cc)

@@ -1,4 +1,4 @@
--- What private functions give on the way: nothing that a public contract cites.
+-- Definitions for private functions: no public contract cites them.
 pub mod Keys
 pub mod Ports
 pub mod Pooled

@@ -1,4 +1,4 @@
-//! What mappings are found by.
+//! The keys of mappings.
 ghost use Rattle.std.specs.Prelude.{◌≡◌};
 ghost use Rattle.nat_mapping.specs.Mappings.{order_of};
 ghost use Rattle.nat_mapping.specs.steps.Keys.{has_pool, inbound_key_of, pool_key_of, source_key_of};
@@ -6,7 +6,7 @@ ghost use Rattle.nat_mapping.specs.steps.Keys.{has_pool, inbound_key_of, pool_ke
 use ip_headers::{Endpoint, Kind, Mapping};
 use port_pool::Order;
 
-/// An internal endpoint and an external address: of each such pair there is one mapping at most.
+/// An internal endpoint and an external address. There is one mapping for each at most.
 #[derive(Clone, Copy, Debug, PartialEq, Eq, Hash)]
 pub(crate) struct SourceKey {
     pub(crate) kind: Kind,
@@ -14,21 +14,21 @@ pub(crate) struct SourceKey {
     pub(crate) address: u32,
 }
 
-/// An external endpoint: of each there is one mapping at most.
+/// An external endpoint. There is one mapping for each at most.
 #[derive(Clone, Copy, Debug, PartialEq, Eq, Hash)]
 pub(crate) struct InboundKey {
     pub(crate) kind: Kind,
     pub(crate) external: Endpoint,
 }
 
-/// An external address, whose ports of one kind say nothing of those of another.
+/// An external address and a kind, which have ports of their own.
 #[derive(Clone, Copy, Debug, PartialEq, Eq, Hash)]
 pub(crate) struct PoolKey {
     pub(crate) kind: Kind,
     pub(crate) address: u32,
 }
 
-/// The port of a mapping, and how many hold it.
+/// The external port of a mapping, and how many holders it has.
 #[derive(Clone, Copy, Debug)]
 pub(crate) struct MappedPort {
     pub(crate) port: u16,
@@ -36,7 +36,7 @@ pub(crate) struct MappedPort {
 }
 
 impl MappedPort {
-    /// Held by one.
+    /// A mapping with one holder.
     pub(crate) fn first(port: u16) -> Self
         ensures { result ≡ record { port = port; holders = 1 } }
     {
@@ -44,7 +44,7 @@ impl MappedPort {
     }
 }
 
-/// By its internal endpoint and external address.
+/// The key of its internal endpoint and external address.
 pub(crate) fn source_key(m: Mapping) -> SourceKey
     ensures { result ≡ source_key_of m }
 {
@@ -55,7 +55,7 @@ pub(crate) fn source_key(m: Mapping) -> SourceKey
     }
 }
 
-/// By its external endpoint.
+/// The key of its external endpoint.
 pub(crate) fn inbound_key(m: Mapping) -> InboundKey
     ensures { result ≡ inbound_key_of m }
 {
@@ -65,7 +65,7 @@ pub(crate) fn inbound_key(m: Mapping) -> InboundKey
     }
 }
 
-/// Of its external address.
+/// The key of its pool.
 pub(crate) fn pool_key(m: Mapping) -> PoolKey
     ensures { result ≡ pool_key_of m }
 {
@@ -75,7 +75,7 @@ pub(crate) fn pool_key(m: Mapping) -> PoolKey
     }
 }
 
-/// What a kind's ports are.
+/// The order of a kind's ports.
 pub(crate) fn order(kind: Kind) -> Order
     ensures { result ≡ order_of kind }
 {
@@ -86,7 +86,7 @@ pub(crate) fn order(kind: Kind) -> Order
     }
 }
 
-/// Whether a kind has pools: not where 0 stands for every port.
+/// Whether a kind has pools: not those without ports.
 pub(crate) fn has_pool(kind: Kind) -> bool
     ensures { result ≡ has_pool kind }
 {

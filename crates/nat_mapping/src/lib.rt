@@ -1,5 +1,5 @@
-//! The mappings of a network address translator (RFC 4787): which external endpoint stands for which
-//! internal one, and which port the next one gets.
+//! The mappings of a NAT (RFC 4787): which internal endpoint is mapped to which external one, and
+//! which port the next one gets.
 #![tactic(auto)]
 
 mod keys;

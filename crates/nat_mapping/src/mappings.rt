@@ -1,4 +1,4 @@
-//! The mappings that are held.
+//! The mappings of a NAT.
 ghost use Rattle.std.specs.Prelude.{◌≡◌, ◌+◌, ◌<◌, ◌≤◌, ◌↔◌, ℕ, not, List, [], ◌∷◌, Contains, Some, None, is_some, IsOk, IfOk, OnOk, OnErr};
 ghost use Rattle.std.specs.List.{find};
 ghost use Rattle.std.specs.HashMap.{get};
@@ -25,21 +25,21 @@ use std::hash::RandomState;
 use std::marker::Model;
 use thiserror::Error;
 
-/// There was no room to grow.
+/// Memory ran out.
 #[derive(Clone, Copy, Debug, PartialEq, Eq, Error)]
 #[error("memory")]
 pub struct Memory;
 
-/// Why an internal endpoint gets no port.
+/// Why an internal endpoint gets no external port.
 #[derive(Clone, Copy, Debug, PartialEq, Eq, Error)]
 pub enum MapError {
-    /// It has none yet, and all candidates are held.
+    /// It has none yet, and all candidates are mapped.
     #[error("M1")]
     NoPort,
 }
 
-/// The mappings that are held, each by one holder or more. Each call's time is the same however many
-/// are held.
+/// The mappings of a NAT. Connections hold them: a mapping is live while it has a holder. Each call
+/// takes constant time.
 #[derive(Drop)]
 pub struct Mappings {
     sources: HashMap<SourceKey, MappedPort, RandomState>,
@@ -66,8 +66,8 @@ impl Model for Mappings {
 }
 
 impl Mappings {
-    /// Nothing is held. It takes no memory. Its tables hash by `hasher`, whose keys nobody who sends packets
-    /// knows; no answer depends on them.
+    /// No mappings. It doesn't allocate. Its tables hash by `hasher`, whose keys must be unknown to
+    /// the senders of packets; no result depends on them.
     pub fn new(alloc: Global, hasher: RandomState) -> Self
         ensures held { result.held ≡ [] }
         ensures pools { result.pools ≡ 0 }
@@ -79,12 +79,12 @@ impl Mappings {
         }
     }
 
-    /// The port that an internal endpoint gets at an external address: the one that it has there, and
-    /// else the first candidate that is free there. It takes no memory and holds nothing.
+    /// The external port of an internal endpoint at an external address: the one that it is mapped
+    /// to there, else the first candidate that is free. It holds nothing and doesn't allocate.
     ///
     /// # Errors
     ///
-    /// `NoPort` where it has none there and all candidates are held.
+    /// `NoPort` where it has none there and all candidates are mapped.
     pub fn source(
         &self,
         kind: Kind,
@@ -92,7 +92,7 @@ impl Mappings {
         address: u32,
         range: Option<CandidateRange>,
     ) -> Result<u16, MapError>
-        // Of whatever list stands for what is held.
+        // For every list with the same mappings and holders.
         ensures ok { (held : List Mapped) → HoldsSame held self.now.held
             → IfOk result (λ port. source_of kind internal address range held ≡ Some port) }
         ensures no_port { (held : List Mapped) → HoldsSame held self.now.held
@@ -111,35 +111,37 @@ impl Mappings {
         }
     }
 
-    /// The internal endpoint behind an external one.
+    /// The internal endpoint behind an external one, for inbound packets.
     pub fn inbound(&self, kind: Kind, external: Endpoint) -> Option<Endpoint>
-        ensures { (held : List Mapped) → HoldsSame held self.now.held → result ≡ inbound_of kind external held }
+        ensures { (held : List Mapped) → HoldsSame held self.now.held
+            → result ≡ inbound_of kind external held }
     {
         find_inbound(&self.inbounds, InboundKey { kind, external })
     }
 
-    /// What is known of what is held: it is one to one. It does nothing.
+    /// States the invariant: the mappings are one to one. It does nothing.
     pub fn one_to_one(&self)
         ensures { (held : List Mapped) → HoldsSame held self.now.held → IsOneToOne held }
     {
         let _ = &self.sources;
     }
 
-    /// How many pools of ports it keeps, each with a row of 8 KB: one for each kind and external
-    /// address at which a mapping is held, and at most two for the next ones.
+    /// How many pools of ports are kept, each with a bitmap of 8 KiB: one for each kind and
+    /// external address with a mapping, and at most two spare ones.
     pub fn pools(&self) -> usize
         ensures value { result ≡ self.now.pools }
-        ensures bounded { (held : List Mapped) → HoldsSame held self.now.held → result ≤ pool_count_of held + 2 }
+        ensures bounded { (held : List Mapped) → HoldsSame held self.now.held
+            → result ≤ pool_count_of held + 2 }
     {
         self.pools.count()
     }
 
-    /// Room for the two mappings of one connection, each at an external address of its own. Where there
-    /// is room already nothing changes.
+    /// Reserves memory for the two mappings of one connection, each at an external address of its
+    /// own. If enough is reserved nothing changes.
     ///
     /// # Errors
     ///
-    /// Where there is no memory; what is held stays.
+    /// Where memory ran out; the mappings stay.
     pub fn reserve_one(&mut self) -> Result<(), Memory>
         ensures held { HoldsSame self.old.held self.new.held }
         ensures ok { OnOk result (2 ≤ self.new.room) }
@@ -149,7 +151,7 @@ impl Mappings {
         self.reserve(2)
     }
 
-    /// For how many more mappings there is room.
+    /// For how many more mappings memory is reserved.
     fn room(&self) -> usize
         ensures { result ≡ self.now.room }
     {
@@ -179,11 +181,11 @@ impl Mappings {
         }
     }
 
-    /// One holder more of a mapping.
+    /// Adds a holder of a mapping.
     ///
     /// # Errors
     ///
-    /// Where there is no room and no memory; what is held stays.
+    /// Where no memory is reserved and none is left; the mappings stay.
     pub fn hold(&mut self, m: Mapping) -> Result<(), Memory>
         requires one_to_one { IsOneToOne (m ∷ self.old.held) }
         requires few { holders_of m self.old.held < usize.MAX }
@@ -197,7 +199,7 @@ impl Mappings {
         Ok(())
     }
 
-    /// One holder more of a mapping that there is room for.
+    /// Adds a holder of a mapping for which memory is reserved.
     fn add(&mut self, m: Mapping)
         requires one_to_one { IsOneToOne (m ∷ self.old.held) }
         requires few { holders_of m self.old.held < usize.MAX }
@@ -222,7 +224,7 @@ impl Mappings {
         }
     }
 
-    /// One holder fewer of a mapping. With the last one its port is free.
+    /// Removes a holder of a mapping. With the last one the mapping ends and its port is free.
     pub fn release(&mut self, m: Mapping)
         requires { Contains self.old.held m }
         ensures held { HoldsSame self.old.held (m ∷ self.new.held) }
@@ -248,7 +250,7 @@ impl Mappings {
     }
 }
 
-/// The first candidate for an internal endpoint behind which none stands at the external address.
+/// The first candidate for an internal endpoint that isn't mapped at the external address.
 fn first_free_port(
     inbounds: &HashMap<InboundKey, Endpoint, RandomState>,
     pools: &Pools,
@@ -268,7 +270,7 @@ fn first_free_port(
     if has_pool(key.kind) {
         return pools.choose(pool, key.internal.port, range);
     }
-    // A kind without ports has one mapping at an external address.
+    // A kind without ports has one mapping for each external address.
     let external = Endpoint {
         address: key.address,
         port: 0,

@@ -10,16 +10,16 @@ ghost use Rattle.nat_mapping.specs.steps.Keys.{has_pool, same_pool};
 ghost use Rattle.nat_mapping.specs.steps.Ports.{is_taken_by, order_by, IsSpare};
 
 use crate::keys::{PoolKey, has_pool, order};
-use port_pool::{CandidateRange, Order, Pool, first};
+use port_pool::{CandidateRange, Order, Pool, choose_unused};
 use std::alloc::{AllocError, Global};
 use std::collections::HashMap;
 use std::hash::RandomState;
 
-/// So many emptied pools are kept for the next addresses: as many as one connection may begin.
+/// How many unused pools are kept for the next addresses: as many as one connection may need.
 pub(crate) const SPARES: usize = 2;
 
-/// A pool for each kind and external address of which a port is taken, and a few for the next ones.
-/// A kind without ports has none.
+/// A pool for each kind and external address with a taken port, and a few spare ones. A kind
+/// without ports has none.
 #[derive(Drop)]
 pub(crate) struct Pools {
     pools: HashMap<PoolKey, Pool, RandomState>,
@@ -30,7 +30,7 @@ pub(crate) struct Pools {
 impl Pools {
     ghost use Rattle.nat_mapping.specs.steps.Pooled.{pool_count, pool_room, taken_in, IsPooled};
 
-    /// All ports are free.
+    /// No pools: all ports are free.
     pub(crate) fn new(alloc: Global, hasher: RandomState) -> Self
         ensures taken { (key : Key) (port : ℕ) → taken_in result key port ≡ false }
         ensures pooled { IsPooled result }
@@ -43,7 +43,7 @@ impl Pools {
         }
     }
 
-    /// How many pools there are, the spare ones included.
+    /// How many pools there are, with the spare ones.
     pub(crate) fn count(&self) -> usize
         requires { IsPooled self.now }
         ensures { result ≡ pool_count self.now }
@@ -51,14 +51,14 @@ impl Pools {
         self.pools.len() + self.spares.len()
     }
 
-    /// How many pools more can begin.
+    /// For how many more pools memory is reserved.
     pub(crate) fn room(&self) -> usize
         ensures { result ≡ pool_room self.now }
     {
         (self.pools.capacity() - self.pools.len()).min(self.spares.len())
     }
 
-    /// The first candidate that is free.
+    /// The first free candidate.
     pub(crate) fn choose(
         &self,
         key: PoolKey,
@@ -66,20 +66,22 @@ impl Pools {
         range: Option<CandidateRange>,
     ) -> Option<u16>
         requires { IsPooled self.now }
-        ensures { result ≡ find (λ p. not (taken_in self.now key p)) (candidates (order_of key.kind) port range) }
+        ensures { result ≡ find (λ p. not (taken_in self.now key p))
+            (candidates (order_of key.kind) port range) }
     {
         match self.pools.get(&key) {
             Some(pool) => pool.choose(port, range),
-            None => first(order(key.kind), port, range),
+            None => choose_unused(order(key.kind), port, range),
         }
     }
 
-    /// Room for so many that begin a pool, at most as many as are kept.
+    /// Reserves memory for so many new pools, at most as many as may be spare.
     pub(crate) fn reserve(&mut self, pools: usize) -> Result<(), AllocError>
         requires pools { pools ≤ SPARES }
         requires pooled { IsPooled self.old }
         ensures pooled { IsPooled self.new }
-        ensures taken { (key : Key) (port : ℕ) → taken_in self.new key port ≡ taken_in self.old key port }
+        ensures taken { (key : Key) (port : ℕ)
+            → taken_in self.new key port ≡ taken_in self.old key port }
         ensures room { pool_room self.old ≤ pool_room self.new }
         ensures ok { OnOk result (pools ≤ pool_room self.new) }
         ensures succeeds { pools ≤ pool_room self.old → IsOk result }
@@ -88,13 +90,15 @@ impl Pools {
         fill_spares(&mut self.spares, self.alloc, pools)
     }
 
-    /// A port is taken.
+    /// Takes a port.
     pub(crate) fn take(&mut self, key: PoolKey, port: u16)
         requires room { 0 < pool_room self.old }
         requires free { has_pool key.kind ≡ true → taken_in self.old key port ≡ false }
         requires pooled { IsPooled self.old }
         ensures pooled { IsPooled self.new }
-        ensures taken { (q : Key) (p : ℕ) → has_pool q.kind ≡ true → taken_in self.new q p ≡ (if same_pool key q && p == port then true else taken_in self.old q p) }
+        ensures taken { (q : Key) (p : ℕ) → has_pool q.kind ≡ true
+            → taken_in self.new q p ≡ (if same_pool key q && p == port then true
+            else taken_in self.old q p) }
         ensures room { pool_room self.old ≤ pool_room self.new + 1 }
     {
         if !has_pool(key.kind) {
@@ -113,12 +117,14 @@ impl Pools {
         }
     }
 
-    /// A port is free again. A pool of which no port is taken is given up.
+    /// Gives back a port. A pool without taken ports becomes spare, or is freed.
     pub(crate) fn give(&mut self, key: PoolKey, port: u16)
         requires taken { has_pool key.kind ≡ true → taken_in self.old key port ≡ true }
         requires pooled { IsPooled self.old }
         ensures pooled { IsPooled self.new }
-        ensures taken { (q : Key) (p : ℕ) → has_pool q.kind ≡ true → taken_in self.new q p ≡ (if same_pool key q && p == port then false else taken_in self.old q p) }
+        ensures taken { (q : Key) (p : ℕ) → has_pool q.kind ≡ true
+            → taken_in self.new q p ≡ (if same_pool key q && p == port then false
+            else taken_in self.old q p) }
         ensures room { pool_room self.old ≤ pool_room self.new }
     {
         if !has_pool(key.kind) {
@@ -137,9 +143,14 @@ fn take_port(pools: &mut HashMap<PoolKey, Pool, RandomState>, key: PoolKey, port
     requires free { is_taken_by (get same_pool pools.old key) port ≡ false }
     requires bitmap { order_by (get same_pool pools.old key) ≢ Some Order.Zero }
     ensures found { result ≡ is_some (get same_pool pools.old key) }
-    ensures taken { result ≡ true → (q : Key) (p : ℕ) → is_taken_by (get same_pool pools.new q) p ≡ (if same_pool key q && p == port then true else is_taken_by (get same_pool pools.old q) p) }
-    ensures orders { (q : Key) → order_by (get same_pool pools.new q) ≡ order_by (get same_pool pools.old q) }
-    ensures absent { result ≡ false → (q : Key) → get same_pool pools.new q ≡ get same_pool pools.old q }
+    ensures taken { result ≡ true → (q : Key) (p : ℕ)
+        → is_taken_by (get same_pool pools.new q) p
+        ≡ (if same_pool key q && p == port then true
+        else is_taken_by (get same_pool pools.old q) p) }
+    ensures orders { (q : Key) → order_by (get same_pool pools.new q)
+        ≡ order_by (get same_pool pools.old q) }
+    ensures absent { result ≡ false → (q : Key)
+        → get same_pool pools.new q ≡ get same_pool pools.old q }
     ensures spare { spare pools.new ≡ spare pools.old }
     ensures unique { IsUnique same_pool pools.new }
 {
@@ -152,11 +163,15 @@ fn take_port(pools: &mut HashMap<PoolKey, Pool, RandomState>, key: PoolKey, port
     }
 }
 
-/// Gives a port back to its pool, and tells whether no port of that pool is taken any more.
+/// Gives a port back to its pool; true where the pool has no taken port left.
 fn give_port(pools: &mut HashMap<PoolKey, Pool, RandomState>, key: PoolKey, port: u16) -> bool
     requires { is_taken_by (get same_pool pools.old key) port ≡ true }
-    ensures taken { (q : Key) (p : ℕ) → is_taken_by (get same_pool pools.new q) p ≡ (if same_pool key q && p == port then false else is_taken_by (get same_pool pools.old q) p) }
-    ensures orders { (q : Key) → order_by (get same_pool pools.new q) ≡ order_by (get same_pool pools.old q) }
+    ensures taken { (q : Key) (p : ℕ)
+        → is_taken_by (get same_pool pools.new q) p
+        ≡ (if same_pool key q && p == port then false
+        else is_taken_by (get same_pool pools.old q) p) }
+    ensures orders { (q : Key) → order_by (get same_pool pools.new q)
+        ≡ order_by (get same_pool pools.old q) }
     ensures unused { OnTrue result ((p : ℕ) → is_taken_by (get same_pool pools.new key) p ≡ false) }
     ensures used { OnFalse result ((p : ℕ) × (is_taken_by (get same_pool pools.new key) p ≡ true)) }
     ensures spare { spare pools.new ≡ spare pools.old }
@@ -171,7 +186,7 @@ fn give_port(pools: &mut HashMap<PoolKey, Pool, RandomState>, key: PoolKey, port
     }
 }
 
-/// A spare pool, put to use: one port of it is taken.
+/// A spare pool, put to use with one taken port.
 fn start_pool(pool: Pool, order: Order, port: u16) -> Pool
     requires spare { IsSpare pool }
     requires bitmap { order ≢ Order.Zero }
@@ -183,10 +198,11 @@ fn start_pool(pool: Pool, order: Order, port: u16) -> Pool
     pool
 }
 
-/// Puts a pool where there is none.
+/// Adds a pool.
 fn insert_pool(pools: &mut HashMap<PoolKey, Pool, RandomState>, key: PoolKey, pool: Pool)
     requires { 0 < spare pools.old }
-    ensures pools { (q : Key) → get same_pool pools.new q ≡ cond (same_pool key q) (Some pool) (get same_pool pools.old q) }
+    ensures pools { (q : Key) → get same_pool pools.new q
+        ≡ cond (same_pool key q) (Some pool) (get same_pool pools.old q) }
     ensures spare { spare pools.old ≤ spare pools.new + 1 }
     ensures unique { IsUnique same_pool pools.new }
 {
@@ -196,17 +212,18 @@ fn insert_pool(pools: &mut HashMap<PoolKey, Pool, RandomState>, key: PoolKey, po
     }
 }
 
-/// Takes a pool out.
+/// Removes a pool.
 fn remove_pool(pools: &mut HashMap<PoolKey, Pool, RandomState>, key: PoolKey) -> Option<Pool>
     ensures value { result ≡ get same_pool pools.old key }
-    ensures pools { (q : Key) → get same_pool pools.new q ≡ cond (same_pool key q) None (get same_pool pools.old q) }
+    ensures pools { (q : Key) → get same_pool pools.new q
+        ≡ cond (same_pool key q) None (get same_pool pools.old q) }
     ensures spare { spare pools.old ≤ spare pools.new }
     ensures unique { IsUnique same_pool pools.new }
 {
     pools.remove(&key)
 }
 
-/// Makes so many pools ready.
+/// Makes at least so many spare pools.
 fn fill_spares(spares: &mut Vec<Pool>, alloc: Global, pools: usize) -> Result<(), AllocError>
     requires pools { pools ≤ SPARES }
     requires few { vec_len spares.old ≤ SPARES }
@@ -224,7 +241,7 @@ fn fill_spares(spares: &mut Vec<Pool>, alloc: Global, pools: usize) -> Result<()
     Ok(())
 }
 
-/// Keeps a pool for the next address, if not enough are kept and there is room in the list.
+/// Keeps an unused pool for the next address, unless enough are spare.
 fn keep_spare(spares: &mut Vec<Pool>, pool: Pool)
     requires few { vec_len spares.old ≤ SPARES }
     requires spares { All IsSpare spares.old.items }
@@ -234,7 +251,7 @@ fn keep_spare(spares: &mut Vec<Pool>, pool: Pool)
     ensures kept { vec_len spares.old ≤ vec_len spares.new }
 {
     if spares.len() < SPARES {
-        // Without memory for the list it is let go.
+        // Where the list can't grow, the pool is freed.
         let _ = spares.push(pool);
     }
 }

@@ -1,4 +1,4 @@
-//! The two tables of mappings, and what changes at one key.
+//! The two tables of mappings, and their changes at one key.
 ghost use Rattle.std.specs.Prelude.{◌≡◌, ◌+◌, ◌<◌, ◌≤◌, IsSome, Some, None, cond};
 ghost use Rattle.std.specs.HashMap.{get, spare, IsUnique};
 ghost use Rattle.nat_mapping.specs.declared.keys.SourceKey.{SourceKey as ByInternal};
@@ -10,7 +10,7 @@ use ip_headers::Endpoint;
 use std::collections::HashMap;
 use std::hash::RandomState;
 
-/// How a mapping is held.
+/// A mapping's port and holders.
 pub(crate) fn find_source(
     sources: &HashMap<SourceKey, MappedPort, RandomState>,
     key: SourceKey,
@@ -20,7 +20,7 @@ pub(crate) fn find_source(
     sources.get(&key).copied()
 }
 
-/// Which internal endpoint stands behind an external one.
+/// The internal endpoint behind an external one.
 pub(crate) fn find_inbound(
     inbounds: &HashMap<InboundKey, Endpoint, RandomState>,
     key: InboundKey,
@@ -30,28 +30,30 @@ pub(crate) fn find_inbound(
     inbounds.get(&key).copied()
 }
 
-/// How many mappings more can begin.
+/// How many more mappings fit without growing.
 pub(crate) fn spare_sources(sources: &HashMap<SourceKey, MappedPort, RandomState>) -> usize
     ensures { result ≡ spare sources.now }
 {
     sources.capacity() - sources.len()
 }
 
-/// Behind how many more external endpoints an internal one can stand.
+/// How many more external endpoints fit without growing.
 pub(crate) fn spare_inbounds(inbounds: &HashMap<InboundKey, Endpoint, RandomState>) -> usize
     ensures { result ≡ spare inbounds.now }
 {
     inbounds.capacity() - inbounds.len()
 }
 
-/// Changes how a mapping is held.
+/// Changes a mapping's port and holders.
 pub(crate) fn update_source(
     sources: &mut HashMap<SourceKey, MappedPort, RandomState>,
     key: SourceKey,
     mapped: MappedPort,
 )
     requires { IsSome (get same_source sources.old key) }
-    ensures values { (q : ByInternal) → get same_source sources.new q ≡ cond (same_source key q) (Some mapped) (get same_source sources.old q) }
+    ensures values { (q : ByInternal)
+        → get same_source sources.new q ≡ cond (same_source key q) (Some mapped)
+        (get same_source sources.old q) }
     ensures spare { spare sources.new ≡ spare sources.old }
     ensures unique { IsUnique same_source sources.new }
 {
@@ -60,14 +62,16 @@ pub(crate) fn update_source(
     }
 }
 
-/// Begins a mapping.
+/// Adds a mapping.
 pub(crate) fn insert_source(
     sources: &mut HashMap<SourceKey, MappedPort, RandomState>,
     key: SourceKey,
     mapped: MappedPort,
 )
     requires { 0 < spare sources.old }
-    ensures values { (q : ByInternal) → get same_source sources.new q ≡ cond (same_source key q) (Some mapped) (get same_source sources.old q) }
+    ensures values { (q : ByInternal)
+        → get same_source sources.new q ≡ cond (same_source key q) (Some mapped)
+        (get same_source sources.old q) }
     ensures spare { spare sources.old ≤ spare sources.new + 1 }
     ensures unique { IsUnique same_source sources.new }
 {
@@ -77,26 +81,30 @@ pub(crate) fn insert_source(
     }
 }
 
-/// Ends a mapping.
+/// Removes a mapping.
 pub(crate) fn remove_source(
     sources: &mut HashMap<SourceKey, MappedPort, RandomState>,
     key: SourceKey,
 )
-    ensures values { (q : ByInternal) → get same_source sources.new q ≡ cond (same_source key q) None (get same_source sources.old q) }
+    ensures values { (q : ByInternal)
+        → get same_source sources.new q ≡ cond (same_source key q) None
+        (get same_source sources.old q) }
     ensures spare { spare sources.old ≤ spare sources.new }
     ensures unique { IsUnique same_source sources.new }
 {
     sources.remove(&key);
 }
 
-/// Lets an internal endpoint stand behind an external one.
+/// Maps an external endpoint to an internal one.
 pub(crate) fn insert_inbound(
     inbounds: &mut HashMap<InboundKey, Endpoint, RandomState>,
     key: InboundKey,
     internal: Endpoint,
 )
     requires { 0 < spare inbounds.old }
-    ensures values { (q : ByExternal) → get same_inbound inbounds.new q ≡ cond (same_inbound key q) (Some internal) (get same_inbound inbounds.old q) }
+    ensures values { (q : ByExternal)
+        → get same_inbound inbounds.new q
+        ≡ cond (same_inbound key q) (Some internal) (get same_inbound inbounds.old q) }
     ensures spare { spare inbounds.old ≤ spare inbounds.new + 1 }
 {
     match inbounds.insert(key, internal) {
@@ -105,12 +113,14 @@ pub(crate) fn insert_inbound(
     }
 }
 
-/// Lets none stand behind it.
+/// Removes an external endpoint.
 pub(crate) fn remove_inbound(
     inbounds: &mut HashMap<InboundKey, Endpoint, RandomState>,
     key: InboundKey,
 )
-    ensures values { (q : ByExternal) → get same_inbound inbounds.new q ≡ cond (same_inbound key q) None (get same_inbound inbounds.old q) }
+    ensures values { (q : ByExternal)
+        → get same_inbound inbounds.new q
+        ≡ cond (same_inbound key q) None (get same_inbound inbounds.old q) }
     ensures spare { spare inbounds.old ≤ spare inbounds.new }
 {
     inbounds.remove(&key);

@@ -1,5 +1,6 @@
--- What a row counts, and what a write of one bit makes of it.
-use Rattle.std.proofs.Common.{◌≡◌, ℕ, ◌+◌, ◌-◌, ◌*◌, ◌/◌, ◌%◌, ◌^◌, ◌<◌, ◌≤◌, true, false, cond, List, length, get_or, set, bit_and, bit_or, w64, refl, sym, ap, ◌∙◌, ⊎_elim, arith}
+-- The count of a bitmap, and writes of one bit.
+use Rattle.std.proofs.Common.{◌≡◌, ℕ, ◌+◌, ◌-◌, ◌*◌, ◌/◌, ◌%◌, ◌^◌, ◌<◌, ◌≤◌, true, false, cond, List, length}
+use Rattle.std.proofs.Common.{get_or, set, bit_and, bit_or, w64, refl, sym, ap, ◌∙◌, ⊎_elim, arith}
 use Rattle.std.specs.Prelude.{◌==◌}
 use Rattle.std.specs.Bool.{OnTrue, OnFalse}
 use Rattle.std.specs.Int.{bit_not}
@@ -10,33 +11,39 @@ use Rattle.port_pool.specs.steps.Bits.{bit, IsCounted}
 use Rattle.port_pool.proofs.BitLaws.{bit_past, bit-set, bit-clear}
 use Rattle.port_pool.proofs.CountLaws.{count_below-more, count_below-none, none_below, some_below}
 
--- the word in which a number stands, as a read gives it
-word_of : (ws : List ℕ) (at i word : ℕ) → length ws ≡ 1024 → at < 65536 → i ≡ at → word ≡ get_or ws (i / 64) word → word ≡ get_or ws (at / 64) 0
+-- the word that has a number's bit, as it is read
+word_of : (ws : List ℕ) (at i word : ℕ) → length ws ≡ 1024 → at < 65536 → i ≡ at → word ≡ get_or ws (i / 64) word
+    → word ≡ get_or ws (at / 64) 0
 word_of ws at i word long small e is =
     is ∙ ap (λ n. get_or ws (n / 64) word) e ∙ get_or_default ws (at / 64) word 0 (omega arith)
 
 -- one bit more is set
-counted_more : (ws vs : List ℕ) (count at : ℕ) → IsCounted ws count → length vs ≡ length ws → at < 65536 → bit ws at ≡ false → ((q : ℕ) → bit vs q ≡ cond (q == at) true (bit ws q)) → IsCounted vs (count + 1)
+counted_more : (ws vs : List ℕ) (count at : ℕ) → IsCounted ws count → length vs ≡ length ws → at < 65536
+    → bit ws at ≡ false → ((q : ℕ) → bit vs q ≡ cond (q == at) true (bit ws q)) → IsCounted vs (count + 1)
 counted_more ws vs count at bitmap same small unset change =
     let now : bit vs at ≡ true = change at ∙ ap (λ v. cond v true (bit ws at)) (eq-eqb at at refl) in
-    let more = count_below-more (bit ws) (bit vs) 65536 at small unset now (λ k ne. change k ∙ ap (λ v. cond v true (bit ws k)) (ne_eqb k at ne)) in
+    let more = count_below-more (bit ws) (bit vs) 65536 at small unset now
+    (λ k ne. change k ∙ ap (λ v. cond v true (bit ws k)) (ne_eqb k at ne)) in
     record { long = same ∙ bitmap.long; counts = ap (λ n. n + 1) bitmap.counts ∙ sym more }
 
 -- one bit fewer is set
-counted_fewer : (ws vs : List ℕ) (count at : ℕ) → IsCounted ws count → length vs ≡ length ws → at < 65536 → bit ws at ≡ true → ((q : ℕ) → bit vs q ≡ cond (q == at) false (bit ws q)) → (1 ≤ count) × IsCounted vs (count - 1)
+counted_fewer : (ws vs : List ℕ) (count at : ℕ) → IsCounted ws count → length vs ≡ length ws → at < 65536
+    → bit ws at ≡ true → ((q : ℕ) → bit vs q ≡ cond (q == at) false (bit ws q)) → (1 ≤ count) × IsCounted vs (count - 1)
 counted_fewer ws vs count at bitmap same small before change =
     let now : bit vs at ≡ false = change at ∙ ap (λ v. cond v false (bit ws at)) (eq-eqb at at refl) in
-    let more = count_below-more (bit vs) (bit ws) 65536 at small now before (λ k ne. sym (change k ∙ ap (λ v. cond v false (bit ws k)) (ne_eqb k at ne))) in
+    let more = count_below-more (bit vs) (bit ws) 65536 at small now before
+    (λ k ne. sym (change k ∙ ap (λ v. cond v false (bit ws k)) (ne_eqb k at ne))) in
     let counts = bitmap.counts in
     (omega arith, record { long = same ∙ bitmap.long; counts = omega arith })
 
--- none is set
+-- no bit is set
 pub counted_none : (ws : List ℕ) → length ws ≡ 1024 → ((q : ℕ) → bit ws q ≡ false) → IsCounted ws 0
 counted_none ws long clear = record { long = long; counts = sym (count_below-none (bit ws) 65536 clear) }
 
 -- ---- what reads and writes give
 
-module _ (ws : List ℕ) (count at i word : ℕ) (bitmap : IsCounted ws count) (small : at < 65536) (e : i ≡ at) (is : word ≡ get_or ws (i / 64) word) where
+module _ (ws : List ℕ) (count at i word : ℕ) (bitmap : IsCounted ws count) (small : at < 65536) (e : i ≡ at)
+    (is : word ≡ get_or ws (i / 64) word) where
   inside : at / 64 < length ws
   inside = let long = bitmap.long in omega arith
 

@@ -21,7 +21,8 @@ count_below-same p q (suc n) same =
     rw (here, rest) refl
 
 -- one number more passes
-pub count_below-more : (p q : ℕ → Bool) (n at : ℕ) → at < n → p at ≡ false → q at ≡ true → ((k : ℕ) → k ≢ at → q k ≡ p k) → count_below q n ≡ count_below p n + 1
+pub count_below-more : (p q : ℕ → Bool) (n at : ℕ) → at < n → p at ≡ false → q at ≡ true
+    → ((k : ℕ) → k ≢ at → q k ≡ p k) → count_below q n ≡ count_below p n + 1
 unfolding count_below
 count_below-more p q zero at less unset is_set others = absurd (omega arith)
 count_below-more p q (suc n) at less unset is_set others =

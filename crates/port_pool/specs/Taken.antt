@@ -1,4 +1,4 @@
--- What a pool shows.
+-- What a `Pool` shows to its users: the kind of its numbers, and which are taken (own).
 use Rattle.std.specs.Prelude.{ℕ, Bool, ◌&&◌, ◌==◌}
 use Rattle.port_pool.specs.declared.order.Order.{Order}
 use Rattle.port_pool.specs.declared.order.Order.TheVariants as orders
@@ -17,7 +17,7 @@ taken_in (Ports bitmap) p = bit bitmap p
 taken_in (Identifiers bitmap) p = bit bitmap p
 taken_in (Zero taken) p = taken && p == 0
 
--- what the pool's numbers are
+-- the kind of the pool's numbers
 unfoldable pub order_of : Pool → Order
 order_of pool = order_in pool.numbers
 

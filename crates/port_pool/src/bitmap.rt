@@ -1,4 +1,4 @@
-//! A row of 65,536 bits, as words of 64, and how many of them are set.
+//! A bitmap of 65,536 bits that counts its set bits.
 ghost use Rattle.std.specs.Prelude.{◌≡◌, ◌≤◌, ◌<◌, ◌+◌, ◌*◌, ℕ, Bool, true, false, not, length, Some, None, IfOk, find, nat_lt, if◌then◌else◌, ◌==◌};
 ghost use Rattle.std.specs.Bool.{OnTrue, OnFalse};
 ghost use Rattle.std.specs.Int.{trailing_zeros, w64};
@@ -11,10 +11,10 @@ use crate::span::Span;
 use std::alloc::{AllocError, Global};
 use std::marker::Model;
 
-/// How many words a row has.
+/// How many 64-bit words a bitmap has.
 const WORDS: usize = 1024;
 
-/// A row of bits.
+/// 65,536 bits.
 #[derive(Drop)]
 pub(crate) struct Bitmap {
     words: Vec<u64>,
@@ -34,7 +34,7 @@ impl Model for Bitmap {
 }
 
 impl Bitmap {
-    /// A row whose bits are clear.
+    /// A bitmap with all bits clear.
     pub(crate) fn new(alloc: Global) -> Result<Bitmap, AllocError>
         ensures { IfOk result (λ bitmap. (q : ℕ) → bit bitmap q ≡ false) }
     {
@@ -50,7 +50,7 @@ impl Bitmap {
         word >> (at % 64) & 1 == 1
     }
 
-    /// Whether each bit is clear.
+    /// Whether all bits are clear.
     pub(crate) fn is_clear(&self) -> bool
         ensures clear { OnTrue result ((q : ℕ) → bit self.now q ≡ false) }
         ensures some { OnFalse result ((q : ℕ) × (bit self.now q ≡ true)) }
@@ -58,7 +58,7 @@ impl Bitmap {
         self.count == 0
     }
 
-    /// Sets a bit.
+    /// Sets a clear bit.
     pub(crate) fn set(&mut self, at: u16)
         requires { bit self.old at ≡ false }
         ensures { (q : ℕ) → bit self.new q ≡ (if q == at then true else bit self.old q) }
@@ -69,7 +69,7 @@ impl Bitmap {
         self.count += 1;
     }
 
-    /// Clears a bit.
+    /// Clears a set bit.
     pub(crate) fn clear(&mut self, at: u16)
         requires { bit self.old at ≡ true }
         ensures { (q : ℕ) → bit self.new q ≡ (if q == at then false else bit self.old q) }
@@ -80,7 +80,7 @@ impl Bitmap {
         self.count -= 1;
     }
 
-    /// The first clear bit of those that count, from `s` on, and then from the least.
+    /// The first clear bit of the span, from `s` on and then from its start.
     pub(crate) fn first_from(&self, s: u16, span: Span) -> Option<u16>
         ensures { result ≡ find (λ k. not (bit self.now k)) (starting_at s (members span)) }
     {
@@ -88,7 +88,7 @@ impl Bitmap {
     }
 }
 
-/// The place of the lowest bit of word `i`, if it stands before `to`.
+/// The index of the lowest set bit of word `i`, if it is below `to`.
 #[inline(always)]
 fn lowest_bit_before(word: u64, i: usize, to: usize) -> Option<u16>
     requires i { i < WORDS }
@@ -100,7 +100,7 @@ fn lowest_bit_before(word: u64, i: usize, to: usize) -> Option<u16>
     if at < to { Some(at as u16) } else { None }
 }
 
-/// The first clear bit from `from` on, before `to`, of those that `mask` has in each word.
+/// The first clear bit in `from..to` among those that `mask` has in each word.
 fn first_free(words: &[u64], mask: u64, from: usize, to: usize) -> Option<u16>
     requires long { length words.now ≡ WORDS }
     requires to { to ≤ 65536 }
@@ -123,7 +123,7 @@ fn first_free(words: &[u64], mask: u64, from: usize, to: usize) -> Option<u16>
     None
 }
 
-/// The first clear bit of those that count, from `s` on, and then from the least.
+/// The first clear bit of the span, from `s` on and then from its start.
 fn first_from(words: &[u64], s: u16, span: Span) -> Option<u16>
     requires long { length words.now ≡ WORDS }
     ensures { result ≡ find (λ k. not (bit words.now k)) (starting_at s (members span)) }

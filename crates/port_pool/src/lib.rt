@@ -1,7 +1,8 @@
-//! The choice of a port, or of an ICMP identifier, at one external address of a NAT.
+//! Port allocation at one external address of a NAT: ports of TCP and UDP, and ICMP identifiers.
 //!
-//! A port keeps its class and its parity where it may, and its number where that is free. Nothing
-//! but `Pool::new` allocates. A choice goes at most twice through 1,024 words.
+//! A port keeps its class and parity where possible, and its number where that is free (RFC 4787,
+//! section 4.2). Only `Pool::new` allocates. A choice reads the 1,024 words of a bitmap twice at
+//! most.
 #![tactic(auto)]
 
 mod bitmap;
@@ -16,4 +17,4 @@ mod unused;
 pub use order::Order;
 pub use pool::Pool;
 pub use range::CandidateRange;
-pub use unused::first;
+pub use unused::choose_unused;

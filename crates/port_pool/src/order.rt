@@ -1,12 +1,12 @@
-//! What a pool's numbers are.
+//! The kind of a pool's numbers.
 
-/// What a pool's numbers are.
+/// The kind of a pool's numbers.
 #[derive(Clone, Copy, Debug, PartialEq, Eq)]
 pub enum Order {
-    /// The ports of TCP or UDP: 1 to 65535, by class and parity.
+    /// Ports of TCP or UDP: 1 to 65535, by class and parity.
     Ports,
-    /// The identifiers of ICMP's queries: 0 to 65535.
+    /// Identifiers of ICMP queries: 0 to 65535.
     Identifiers,
-    /// None: for a protocol without ports 0 stands for the number.
+    /// 0 alone, for a protocol without ports.
     Zero,
 }

@@ -1,4 +1,4 @@
-//! The numbers that are taken at an external address, and the choice of the next.
+//! The numbers that are taken at one external address, and the choice of the next.
 #![tactic(auto, unfolding(crate::specs::Taken::is_taken, crate::specs::Taken::order_of))]
 
 ghost use Rattle.std.specs.Prelude.{◌≡◌, ◌≢◌, ◌↔◌, ℕ, All, Bool, true, false, not, Some, None, Contains, IfOk, IsOk, IfSome, IfNone, find, if◌then◌else◌, ◌==◌};
@@ -11,29 +11,29 @@ use crate::range::CandidateRange;
 use crate::span::{Span, ports_span};
 use std::alloc::{AllocError, Global};
 
-/// The numbers of one external address, for one kind of traffic.
+/// The ports or identifiers of one external address, for one kind of traffic.
 #[derive(Drop)]
 pub struct Pool {
     numbers: TakenNumbers,
 }
 
-/// What the numbers are, and which are taken.
+/// The kind of the numbers, and which are taken.
 #[derive(Drop)]
 enum TakenNumbers {
     Ports(Bitmap),
     Identifiers(Bitmap),
-    /// Whether 0 is taken, which is the only one.
+    /// Whether 0, the only number, is taken.
     Zero(bool),
 }
 
 impl Pool {
     ghost use Rattle.port_pool.specs.Taken.{is_taken, order_of};
 
-    /// A pool of which nothing is taken. One of `Order::Zero` takes no memory.
+    /// A pool with no number taken. One of `Order::Zero` doesn't allocate.
     ///
     /// # Errors
     ///
-    /// Where there is no room.
+    /// Where memory ran out.
     pub fn new(alloc: Global, order: Order) -> Result<Pool, AllocError>
         ensures order { IfOk result (λ pool. order_of pool ≡ order) }
         ensures empty { IfOk result (λ pool. (p : ℕ) → is_taken pool p ≡ false) }
@@ -58,7 +58,7 @@ impl Pool {
         }
     }
 
-    /// Whether none is taken. It looks at no number.
+    /// Whether no number is taken, in constant time.
     pub fn is_unused(&self) -> bool
         ensures unused { OnTrue result ((p : ℕ) → is_taken self.now p ≡ false) }
         ensures used { OnFalse result ((p : ℕ) × (is_taken self.now p ≡ true)) }
@@ -70,21 +70,21 @@ impl Pool {
         }
     }
 
-    /// The number that stands for `s`: the first of its candidates that isn't taken. `None` where
-    /// all of them are. It takes nothing.
+    /// The number for the source port or identifier `s`: the first of its candidates that isn't
+    /// taken, `None` where all are. It doesn't take the number.
     pub fn choose(&self, s: u16, range: Option<CandidateRange>) -> Option<u16>
         ensures first { result ≡ find (λ p. not (is_taken self.now p))
             (candidates (order_of self.now) s range) }
 
-        // What follows from it. What is chosen may be taken.
+        // Consequences. The chosen number may be taken.
         ensures free { IfSome result (λ p. is_taken self.now p ≡ false) }
         ensures number { IfSome result (λ p. order_of self.now ≡ Order.Zero → p ≡ 0) }
 
-        // There is none exactly where each candidate is taken.
+        // `None` exactly where all candidates are taken.
         ensures none { (result ≡ None) ↔ All (λ p. is_taken self.now p ≡ true)
             (candidates (order_of self.now) s range) }
 
-        // A number that is free stands for itself.
+        // A free number is kept.
         ensures port { order_of self.now ≡ Order.Ports → Contains (ports_of range) s
             → is_taken self.now s ≡ false → result ≡ Some s }
         ensures identifier { order_of self.now ≡ Order.Identifiers → is_taken self.now s ≡ false
@@ -105,7 +105,7 @@ impl Pool {
         }
     }
 
-    /// Takes a number.
+    /// Takes a number, which must be free.
     pub fn take(&mut self, p: u16)
         requires free { is_taken self.old p ≡ false }
         requires number { order_of self.old ≡ Order.Zero → p ≡ 0 }
@@ -120,7 +120,7 @@ impl Pool {
         }
     }
 
-    /// Gives a number back.
+    /// Gives back a number, which must be taken.
     pub fn give(&mut self, p: u16)
         requires { is_taken self.old p ≡ true }
         ensures order { order_of self.new ≡ order_of self.old }
@@ -134,7 +134,7 @@ impl Pool {
         }
     }
 
-    /// The same row, with what is taken of it, for numbers of another order.
+    /// The same bitmap, with its taken numbers, as a pool of another order.
     pub fn with_order(self, order: Order) -> Pool
         requires bitmap { order_of self ≢ Order.Zero }
         requires order { order ≢ Order.Zero }

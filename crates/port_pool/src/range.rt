@@ -1,7 +1,6 @@
-//! The ports that a rule names.
+//! The port range of a rule.
 
-/// The ports from `low` to `high`, both included; 0 isn't one of them. There is none where `high` is
-/// the lesser.
+/// The ports from `low` to `high`, both included, except 0. It is empty where `high` is less.
 #[derive(Clone, Copy, Debug, PartialEq, Eq)]
 pub struct CandidateRange {
     /// The first.

@@ -1,4 +1,4 @@
-//! The numbers that suit a number, as one stretch and a parity.
+//! The preferred ports as one interval and a parity.
 ghost use Rattle.std.specs.Prelude.{◌≡◌, ◌≤◌, ◌<◌, ℕ, if◌then◌else◌};
 ghost use Rattle.std.specs.Bool.{OnTrue, OnFalse};
 ghost use Rattle.std.specs.Int.{bit_at};
@@ -7,7 +7,7 @@ ghost use Rattle.port_pool.specs.steps.Spans.{matches_parity, members, HasParity
 
 use crate::range::CandidateRange;
 
-/// Which numbers of a stretch count.
+/// A parity, or any.
 #[derive(Clone, Copy, Debug)]
 pub(crate) enum Parity {
     All,
@@ -15,7 +15,7 @@ pub(crate) enum Parity {
     Odd,
 }
 
-/// The numbers from `low` to `high` that count.
+/// The numbers from `low` to `high` with this parity.
 #[derive(Clone, Copy, Debug)]
 pub(crate) struct Span {
     pub(crate) low: u16,
@@ -24,7 +24,7 @@ pub(crate) struct Span {
 }
 
 impl Span {
-    /// All of them.
+    /// All numbers.
     pub(crate) const ALL: Span = Span {
         low: 0,
         high: u16::MAX,
@@ -33,7 +33,7 @@ impl Span {
 }
 
 impl Parity {
-    /// Those of the parity of `s`.
+    /// The parity of `s`.
     fn like(s: u16) -> Parity
         ensures { (k : ℕ) → matches_parity result k ≡ same_parity s k }
     {
@@ -44,7 +44,7 @@ impl Parity {
         }
     }
 
-    /// A word with the bits of those that count.
+    /// A word with the bits of the positions that have the parity.
     pub(crate) fn mask(self) -> u64
         ensures { (b : ℕ) → b < 64 → bit_at result b ≡ (if matches_parity self b then 1 else 0) }
     {
@@ -56,7 +56,7 @@ impl Parity {
     }
 }
 
-/// Whether a number from `low` to `high` has the parity of `s`.
+/// Whether some number from `low` to `high` has the parity of `s`.
 fn has_parity(s: u16, low: u16, high: u16) -> bool
     ensures some { OnTrue result (HasParity s low high) }
     ensures none { OnFalse result (NoParity s low high) }
@@ -64,8 +64,7 @@ fn has_parity(s: u16, low: u16, high: u16) -> bool
     low < high || (low == high && low % 2 == s % 2)
 }
 
-/// The part of a stretch that is in the class of `s`. It is empty where its end is less than its
-/// beginning.
+/// The part of the interval that has the class of `s`; empty where its end is less than its start.
 fn class_part(s: u16, low: u16, high: u16) -> (u16, u16)
     ensures { IsClassPart s low high result.0 result.1 }
 {
@@ -76,7 +75,7 @@ fn class_part(s: u16, low: u16, high: u16) -> (u16, u16)
     }
 }
 
-/// Those from `low` to `high` that suit `s`.
+/// The preferred ports for `s` from `low` to `high`.
 fn preferred_span(s: u16, low: u16, high: u16) -> Span
     ensures { SameFinds (members result) (preferred s (numbers low high)) }
 {
@@ -99,7 +98,7 @@ fn preferred_span(s: u16, low: u16, high: u16) -> Span
     }
 }
 
-/// The ports that suit `s`.
+/// The preferred ports for `s`.
 pub(crate) fn ports_span(s: u16, range: Option<CandidateRange>) -> Span
     ensures { SameFinds (members result) (preferred s (ports_of range)) }
 {

@@ -1,4 +1,4 @@
-//! The choice where no number is taken, which needs no row.
+//! The choice where no number is taken, without a bitmap.
 ghost use Rattle.std.specs.Prelude.{◌≡◌, ◌≤◌, ◌<◌, true, find};
 ghost use Rattle.port_pool.specs.Candidates.{candidates, starting_at};
 ghost use Rattle.port_pool.specs.steps.First.{IsFirst};
@@ -8,9 +8,9 @@ use crate::order::Order;
 use crate::range::CandidateRange;
 use crate::span::{Parity, Span, ports_span};
 
-/// The number that stands for `s` where none is taken: the first of its candidates. `None` where the
+/// The number that is chosen for `s` where none is taken: its first candidate. `None` where the
 /// range has no port.
-pub fn first(order: Order, s: u16, range: Option<CandidateRange>) -> Option<u16>
+pub fn choose_unused(order: Order, s: u16, range: Option<CandidateRange>) -> Option<u16>
     ensures { result ≡ find (λ p. true) (candidates order s range) }
 {
     match order {
@@ -20,7 +20,7 @@ pub fn first(order: Order, s: u16, range: Option<CandidateRange>) -> Option<u16>
     }
 }
 
-/// The first number that counts, from `s` on, and then from the least.
+/// The first number of the span, from `s` on and then from its start.
 fn first_member(s: u16, span: Span) -> Option<u16>
     ensures { result ≡ find (λ p. true) (starting_at s (members span)) }
 {
@@ -33,7 +33,7 @@ fn first_member(s: u16, span: Span) -> Option<u16>
     }
 }
 
-/// The first number from `from` on, before `to`, that counts.
+/// The first number in `from..to` that has the parity.
 fn first_within(parity: Parity, from: usize, to: usize) -> Option<u16>
     requires from { from < 65536 }
     requires to { to ≤ 65536 }
@@ -45,12 +45,12 @@ fn first_within(parity: Parity, from: usize, to: usize) -> Option<u16>
     if matches_parity(parity, from) {
         return Some(from as u16);
     }
-    // Of two neighbours one has the parity.
+    // One of two neighbours has the parity.
     let next = from + 1;
     if next < to { Some(next as u16) } else { None }
 }
 
-/// Whether a number counts.
+/// Whether a number has the parity.
 fn matches_parity(parity: Parity, k: usize) -> bool
     ensures { result ≡ matches_parity parity k }
 {

@@ -1,5 +1,6 @@
 -- The words that change under each checksum of a datagram.
-use Rattle.std.proofs.Common.{◌≡◌, ℕ, ◌+◌, ◌*◌, ◌%◌, ◌<◌, ◌≤◌, ◌⊎◌, inl, ⊎_elim, List, ◌++◌, length, get_or, set, take, drop, refl, sym, ap, ◌∙◌, arith}
+use Rattle.std.proofs.Common.{◌≡◌, ℕ, ◌+◌, ◌*◌, ◌%◌, ◌<◌, ◌≤◌, ◌⊎◌, inl, ⊎_elim, List, ◌++◌, length}
+use Rattle.std.proofs.Common.{get_or, set, take, drop, refl, sym, ap, ◌∙◌, arith}
 use Rattle.std.proofs.lemmas.Bool.{eqb-true, eq-eqb, and_parts, and_from, cases_lt}
 use Rattle.std.proofs.lemmas.List.{length-set, get_or-take, get_or-drop, get_or_past, get_or-set_other, take_at, drop_at, drop-set-lt}
 use Rattle.std.proofs.lemmas.Grind.{common_steps}
@@ -10,8 +11,11 @@ use Rattle.rewrite.specs.declared.checksum.ChecksumDelta.{ChecksumDelta}
 use Rattle.rewrite.specs.Rewritten.{header_in, payload_in, pseudo_header_and_payload, with_ports}
 use Rattle.rewrite.specs.steps.Fields.{combined, u32_change, u16_change}
 use Rattle.rewrite.proofs.Sums.{words_sum-append, words_sum-word}
-use Rattle.rewrite.proofs.Places.{word_written, byte_apart, length-number, number_byte_apart, word_kept, byte_in, byte_before, word_after, number_in, rest_in, number_rest_before, byte_of_part, number_of_part, word_of_rest}
-use Rattle.rewrite.proofs.Parts.{head_with, IsHead, head_sum, head_kept, head_reads, pair_with, IsPair, length-pair, pair_sum, pair_kept, pair_reads, ports_sum, ports_read, ports_kept}
+use Rattle.rewrite.proofs.Places.{word_written, byte_apart, length-number, number_byte_apart, word_kept}
+use Rattle.rewrite.proofs.Places.{byte_in, byte_before, word_after, number_in, rest_in, number_rest_before}
+use Rattle.rewrite.proofs.Places.{byte_of_part, number_of_part, word_of_rest}
+use Rattle.rewrite.proofs.Parts.{head_with, IsHead, head_sum, head_kept, head_reads, pair_with, IsPair, length-pair}
+use Rattle.rewrite.proofs.Parts.{pair_sum, pair_kept, pair_reads, ports_sum, ports_read, ports_kept}
 use Rattle.rewrite.proofs.Corrected.{Covers}
 
 -- ---- the datagram with another header
@@ -22,20 +26,23 @@ timed start p from to ttl = set (with_u32 (with_u32 p (start + 12) from) (start 
 abbrev pub head_of : ℕ → ℕ → List ℕ → List ℕ
 head_of start n p = take n (drop start p)
 
--- bytes, of which a datagram's header and more are there
+-- bytes that have a datagram's header and more
 pub record IsDatagram (start : ℕ) (p : List ℕ) : Type 0 where
   pub small : (i : ℕ) → get_or p i 0 < 256
   pub long : 20 ≤ header_len (drop start p)
   pub whole : payload_at start p ≤ length p
 
-pub timed_head : (start n : ℕ) (p : List ℕ) (from to ttl : ℕ) → 20 ≤ n → head_of start n (timed start p from to ttl) ≡ head_with (head_of start n p) from to ttl
+pub timed_head : (start n : ℕ) (p : List ℕ) (from to ttl : ℕ) → 20 ≤ n
+    → head_of start n (timed start p from to ttl) ≡ head_with (head_of start n p) from to ttl
 timed_head start n p from to ttl long =
     let one = with_u32 p (start + 12) from in
     let two = with_u32 one (start + 16) to in
     byte_in two start n 8 (start + 8) ttl refl (omega (arith, long))
-    ∙ ap (λ l. set l 8 ttl) (number_in one start n 16 (start + 16) to refl (omega (arith, long)) ∙ ap (λ l. with_u32 l 16 to) (number_in p start n 12 (start + 12) from refl (omega (arith, long))))
+    ∙ ap (λ l. set l 8 ttl) (number_in one start n 16 (start + 16) to refl (omega (arith, long))
+    ∙ ap (λ l. with_u32 l 16 to) (number_in p start n 12 (start + 12) from refl (omega (arith, long))))
 
-pub timed_pair : (start : ℕ) (p : List ℕ) (from to ttl : ℕ) → take 8 (drop (start + 12) (timed start p from to ttl)) ≡ pair_with (take 8 (drop (start + 12) p)) from to
+pub timed_pair : (start : ℕ) (p : List ℕ) (from to ttl : ℕ)
+    → take 8 (drop (start + 12) (timed start p from to ttl)) ≡ pair_with (take 8 (drop (start + 12) p)) from to
 timed_pair start p from to ttl =
     let one = with_u32 p (start + 12) from in
     let two = with_u32 one (start + 16) to in
@@ -52,7 +59,8 @@ timed_rest start a p from to ttl past =
     ∙ number_rest_before p a (start + 12) from (omega (arith, past))
 
 -- a byte beside the fields
-pub timed_byte : (start : ℕ) (p : List ℕ) (from to ttl k : ℕ) → (k < start + 8) ⊎ (start + 8 < k) → (k < start + 12) ⊎ (start + 19 < k) → get_or (timed start p from to ttl) k 0 ≡ get_or p k 0
+pub timed_byte : (start : ℕ) (p : List ℕ) (from to ttl k : ℕ) → (k < start + 8) ⊎ (start + 8 < k)
+    → (k < start + 12) ⊎ (start + 19 < k) → get_or (timed start p from to ttl) k 0 ≡ get_or p k 0
 timed_byte start p from to ttl k apart past =
     let one = with_u32 p (start + 12) from in
     let two = with_u32 one (start + 16) to in
@@ -65,11 +73,12 @@ length-timed start p from to ttl =
     let one = with_u32 p (start + 12) from in
     length-set (with_u32 one (start + 16) to) (start + 8) ttl ∙ length-number one (start + 16) to ∙ length-number p (start + 12) from
 
--- where what is carried begins stays, whatever is written behind the first byte
+-- the payload's offset stays, whatever is written after the first byte
 first_of_rest : (xs : List ℕ) (start : ℕ) → get_or (drop start xs) 0 0 ≡ get_or xs start 0
 first_of_rest xs start = grind (arith, common_steps)
 
-pub same_byte-len : (start : ℕ) (p now : List ℕ) → get_or now start 0 ≡ get_or p start 0 → header_len (drop start now) ≡ header_len (drop start p)
+pub same_byte-len : (start : ℕ) (p now : List ℕ) → get_or now start 0 ≡ get_or p start 0
+    → header_len (drop start now) ≡ header_len (drop start p)
 same_byte-len start p now e = ap (λ b. b % 16 * 4) (first_of_rest now start ∙ e ∙ sym (first_of_rest p start))
 
 -- ---- parts are bytes
@@ -98,7 +107,8 @@ is_pair start p d = record {
 
 -- ---- the words of a part
 
-pub covers_to : (words : ChecksumDelta) (before after later : List ℕ) → later ≡ after → Covers words before after → Covers words before later
+pub covers_to : (words : ChecksumDelta) (before after later : List ℕ) → later ≡ after → Covers words before after
+    → Covers words before later
 covers_to words before after later e c = record {
   same = λ h. c.same h ∙ sym e;
   other = λ same. c.other (same ∙ e);
@@ -108,8 +118,10 @@ covers_to words before after later e c = record {
 pub scaled : (a b : ℕ) → a * 256 ≡ b * 256 → a ≡ b
 scaled a b e = omega (arith, e)
 
-head_covered : (head : List ℕ) (source destination left from to ttl : ℕ) → IsHead head → source ≡ u32_at head 12 → destination ≡ u32_at head 16 → left ≡ get_or head 8 0
-    → Covers (combined (u16_change (left * 256) (ttl * 256)) (combined (u32_change source from) (u32_change destination to))) head (head_with head from to ttl)
+head_covered : (head : List ℕ) (source destination left from to ttl : ℕ) → IsHead head → source ≡ u32_at head 12
+    → destination ≡ u32_at head 16 → left ≡ get_or head 8 0
+    → Covers (combined (u16_change (left * 256) (ttl * 256))
+    (combined (u32_change source from) (u32_change destination to))) head (head_with head from to ttl)
 head_covered head source destination left from to ttl is a b c = record {
   same = λ h.
       let one = and_parts _ _ h in
@@ -121,7 +133,8 @@ head_covered head source destination left from to ttl is a b c = record {
   other = λ e.
       let reads = head_reads head from to ttl is.long in
       and_from _ _ (eq-eqb _ _ (ap (λ n. n * 256) (c ∙ ap (λ l. get_or l 8 0) e ∙ reads.left)))
-      (and_from _ _ (eq-eqb _ _ (a ∙ ap (λ l. u32_at l 12) e ∙ reads.source)) (eq-eqb _ _ (b ∙ ap (λ l. u32_at l 16) e ∙ reads.destination)));
+      (and_from _ _ (eq-eqb _ _ (a ∙ ap (λ l. u32_at l 12) e ∙ reads.source))
+      (eq-eqb _ _ (b ∙ ap (λ l. u32_at l 16) e ∙ reads.destination)));
   sum = rw (a, b, c) (head_sum head from to ttl is);
 }
 
@@ -139,7 +152,8 @@ pair_covered pair source destination from to is a b = record {
   sum = rw (a, b) (pair_sum pair from to is);
 }
 
-ports_covered : (rest : List ℕ) (source destination from to : ℕ) → 4 ≤ length rest → ((i : ℕ) → get_or rest i 0 < 256) → source ≡ u16_at rest 0 → destination ≡ u16_at rest 2
+ports_covered : (rest : List ℕ) (source destination from to : ℕ) → 4 ≤ length rest → ((i : ℕ) → get_or rest i 0 < 256)
+    → source ≡ u16_at rest 0 → destination ≡ u16_at rest 2
     → Covers (combined (u16_change source from) (u16_change destination to)) rest (with_ports 0 rest from to)
 ports_covered rest source destination from to long small a b = record {
   same = λ h.
@@ -153,7 +167,8 @@ ports_covered rest source destination from to long small a b = record {
   sum = rw (a, b) (ports_sum rest from to long);
 }
 
-word_covered : (rest : List ℕ) (old new : ℕ) → 6 ≤ length rest → ((i : ℕ) → get_or rest i 0 < 256) → old ≡ u16_at rest 4 → Covers (u16_change old new) rest (with_u16 rest 4 new)
+word_covered : (rest : List ℕ) (old new : ℕ) → 6 ≤ length rest → ((i : ℕ) → get_or rest i 0 < 256) → old ≡ u16_at rest 4
+    → Covers (u16_change old new) rest (with_u16 rest 4 new)
 word_covered rest old new long small a = record {
   same = λ h. sym (word_kept rest 4 new (small 4) (small 5) (sym (eqb-true old new h) ∙ a));
   other = λ e. eq-eqb _ _ (a ∙ ap (λ l. u16_at l 4) e ∙ word_written rest 4 new (omega (arith, long)));
@@ -161,7 +176,8 @@ word_covered rest old new long small a = record {
 }
 
 -- words of two parts, the first of whole words
-joined_covered : (one other : ChecksumDelta) (x y x' y' : List ℕ) → length x ≡ 8 → length x' ≡ 8 → Covers one x x' → Covers other y y' → Covers (combined one other) (x ++ y) (x' ++ y')
+joined_covered : (one other : ChecksumDelta) (x y x' y' : List ℕ) → length x ≡ 8 → length x' ≡ 8 → Covers one x x'
+    → Covers other y y' → Covers (combined one other) (x ++ y) (x' ++ y')
 joined_covered one other x y x' y' len len' c d = record {
   same = λ h.
       let parts = and_parts _ _ h in
@@ -169,7 +185,8 @@ joined_covered one other x y x' y' len len' c d = record {
       let second : y ≡ y' = d.same parts.1 in
       rw (first, second) refl;
   other = λ e.
-      and_from _ _ (c.other (sym (take_at x y 8 len) ∙ ap (λ l. take 8 l) e ∙ take_at x' y' 8 len')) (d.other (sym (drop_at x y 8 len) ∙ ap (λ l. drop 8 l) e ∙ drop_at x' y' 8 len'));
+      and_from _ _ (c.other (sym (take_at x y 8 len) ∙ ap (λ l. take 8 l) e ∙ take_at x' y' 8 len'))
+      (d.other (sym (drop_at x y 8 len) ∙ ap (λ l. drop 8 l) e ∙ drop_at x' y' 8 len'));
   sum = omega (arith, c.sum, d.sum, words_sum-append x y (omega (arith, len)), words_sum-append x' y' (omega (arith, len')));
 }
 
@@ -177,10 +194,12 @@ joined_covered one other x y x' y' len len' c d = record {
 
 abbrev pub header_words : ℕ → List ℕ → ℕ → ℕ → ℕ → ChecksumDelta
 header_words start p from to ttl =
-    combined (u16_change (byte_at p (start + 8) * 256) (ttl * 256)) (combined (u32_change (u32_at p (start + 12)) from) (u32_change (u32_at p (start + 16)) to))
+    combined (u16_change (byte_at p (start + 8) * 256) (ttl * 256))
+    (combined (u32_change (u32_at p (start + 12)) from) (u32_change (u32_at p (start + 16)) to))
 
 -- the header is as in the datagram with another header
-pub header_covered : (start : ℕ) (p now : List ℕ) (from to ttl : ℕ) → IsDatagram start p → header_len (drop start now) ≡ header_len (drop start p)
+pub header_covered : (start : ℕ) (p now : List ℕ) (from to ttl : ℕ) → IsDatagram start p
+    → header_len (drop start now) ≡ header_len (drop start p)
     → head_of start (header_len (drop start p)) now ≡ head_of start (header_len (drop start p)) (timed start p from to ttl)
     → Covers (header_words start p from to ttl) (header_in start p) (header_in start now)
 header_covered start p now from to ttl d same_len same =
@@ -189,10 +208,11 @@ header_covered start p now from to ttl d same_len same =
     covers_to (header_words start p from to ttl) head (head_with head from to ttl) (header_in start now)
     (ap (λ k. take k (drop start now)) same_len ∙ same ∙ timed_head start n p from to ttl d.long)
     (head_covered head (u32_at p (start + 12)) (u32_at p (start + 16)) (byte_at p (start + 8)) from to ttl (is_head start p d)
-    (sym (number_of_part p start n 12 (start + 12) refl (omega (arith, d.long)))) (sym (number_of_part p start n 16 (start + 16) refl (omega (arith, d.long))))
+    (sym (number_of_part p start n 12 (start + 12) refl (omega (arith, d.long))))
+    (sym (number_of_part p start n 16 (start + 16) refl (omega (arith, d.long))))
     (sym (byte_of_part p start n 8 (start + 8) refl (omega (arith, d.long)))))
 
--- ---- under the checksum of what is carried
+-- ---- under the transport checksum
 
 abbrev pub pair_words : ℕ → List ℕ → ℕ → ℕ → ChecksumDelta
 pair_words start p from to = combined (u32_change (u32_at p (start + 12)) from) (u32_change (u32_at p (start + 16)) to)
@@ -202,7 +222,9 @@ port_words offset p from to = combined (u16_change (u16_at p offset) from) (u16_
 
 -- with other ports
 pub pseudo_covered : (start : ℕ) (p : List ℕ) (source destination ttl from to : ℕ) → IsDatagram start p → payload_at start p + 4 ≤ length p
-    → Covers (combined (pair_words start p source destination) (port_words (payload_at start p) p from to)) (pseudo_header_and_payload start p) (pseudo_header_and_payload start (with_ports (payload_at start p) (timed start p source destination ttl) from to))
+    → Covers (combined (pair_words start p source destination) (port_words (payload_at start p) p from to))
+    (pseudo_header_and_payload start p) (pseudo_header_and_payload start
+    (with_ports (payload_at start p) (timed start p source destination ttl) from to))
 pseudo_covered start p source destination ttl from to d room =
     let offset = payload_at start p in
     let t = timed start p source destination ttl in
@@ -211,33 +233,45 @@ pseudo_covered start p source destination ttl from to d room =
     let pair = take 8 (drop (start + 12) p) in
     let rest = drop offset p in
     let past : start + 20 ≤ offset = omega (arith, d.long) in
-    let first : get_or now start 0 ≡ get_or p start 0 = byte_apart one (offset + 2) to start (inl (omega (arith, past))) ∙ byte_apart t offset from start (inl (omega (arith, past))) ∙ timed_byte start p source destination ttl start (inl (omega arith)) (inl (omega arith)) in
+    let first : get_or now start 0 ≡ get_or p start 0 = byte_apart one (offset + 2) to start (inl (omega (arith, past)))
+    ∙ byte_apart t offset from start (inl (omega (arith, past)))
+    ∙ timed_byte start p source destination ttl start (inl (omega arith)) (inl (omega arith)) in
     let len = same_byte-len start p now first in
     let pair_now : take 8 (drop (start + 12) now) ≡ pair_with pair source destination =
-    word_after one (start + 12) 8 (offset + 2) to (omega (arith, past)) ∙ word_after t (start + 12) 8 offset from (omega (arith, past)) ∙ timed_pair start p source destination ttl in
+    word_after one (start + 12) 8 (offset + 2) to (omega (arith, past))
+    ∙ word_after t (start + 12) 8 offset from (omega (arith, past)) ∙ timed_pair start p source destination ttl in
     let rest_now : drop offset now ≡ with_ports 0 rest from to =
-    rest_in one offset 2 (offset + 2) to refl ∙ ap (λ l. with_u16 l 2 to) (rest_in t offset 0 offset from (omega arith) ∙ ap (λ l. with_u16 l 0 from) (timed_rest start offset p source destination ttl past)) in
+    rest_in one offset 2 (offset + 2) to refl
+    ∙ ap (λ l. with_u16 l 2 to) (rest_in t offset 0 offset from (omega arith)
+    ∙ ap (λ l. with_u16 l 0 from) (timed_rest start offset p source destination ttl past)) in
     covers_to _ (pair ++ rest) (pair_with pair source destination ++ with_ports 0 rest from to) (pseudo_header_and_payload start now)
     (ap (λ n. take 8 (drop (start + 12) now) ++ drop (start + n) now) len ∙ rw (pair_now, rest_now) refl)
-    (joined_covered (pair_words start p source destination) (port_words offset p from to) pair rest _ _ (is_pair start p d).long (length-pair pair source destination ∙ (is_pair start p d).long)
+    (joined_covered (pair_words start p source destination) (port_words offset p from to) pair rest _ _
+    (is_pair start p d).long (length-pair pair source destination ∙ (is_pair start p d).long)
     (pair_covered pair (u32_at p (start + 12)) (u32_at p (start + 16)) source destination (is_pair start p d)
-    (sym (number_of_part p (start + 12) 8 0 (start + 12) (omega arith) (omega arith))) (sym (number_of_part p (start + 12) 8 4 (start + 16) (omega arith) (omega arith))))
-    (ports_covered rest (u16_at p offset) (u16_at p (offset + 2)) from to (grind (arith, common_steps, room)) (λ i. small_rest p offset i d.small)
+    (sym (number_of_part p (start + 12) 8 0 (start + 12) (omega arith) (omega arith)))
+    (sym (number_of_part p (start + 12) 8 4 (start + 16) (omega arith) (omega arith))))
+    (ports_covered rest (u16_at p offset) (u16_at p (offset + 2)) from to (grind (arith, common_steps, room))
+    (λ i. small_rest p offset i d.small)
     (sym (word_of_rest p offset 0 offset (omega arith))) (sym (word_of_rest p offset 2 (offset + 2) refl))))
 
 -- with another identifier
 pub carried_covered : (start : ℕ) (p : List ℕ) (source destination ttl number : ℕ) → IsDatagram start p → payload_at start p + 6 ≤ length p
-    → Covers (u16_change (u16_at p (payload_at start p + 4)) number) (payload_in start p) (payload_in start (with_u16 (timed start p source destination ttl) (payload_at start p + 4) number))
+    → Covers (u16_change (u16_at p (payload_at start p + 4)) number) (payload_in start p)
+    (payload_in start (with_u16 (timed start p source destination ttl) (payload_at start p + 4) number))
 carried_covered start p source destination ttl number d room =
     let offset = payload_at start p in
     let t = timed start p source destination ttl in
     let now = with_u16 t (offset + 4) number in
     let rest = drop offset p in
     let past : start + 20 ≤ offset = omega (arith, d.long) in
-    let first : get_or now start 0 ≡ get_or p start 0 = byte_apart t (offset + 4) number start (inl (omega (arith, past))) ∙ timed_byte start p source destination ttl start (inl (omega arith)) (inl (omega arith)) in
+    let first : get_or now start 0 ≡ get_or p start 0 =
+    byte_apart t (offset + 4) number start (inl (omega (arith, past)))
+    ∙ timed_byte start p source destination ttl start (inl (omega arith)) (inl (omega arith)) in
     let len = same_byte-len start p now first in
     let rest_now : drop offset now ≡ with_u16 rest 4 number =
     rest_in t offset 4 (offset + 4) number refl ∙ ap (λ l. with_u16 l 4 number) (timed_rest start offset p source destination ttl past) in
     covers_to _ rest (with_u16 rest 4 number) (payload_in start now)
     (ap (λ n. drop (start + n) now) len ∙ rest_now)
-    (word_covered rest (u16_at p (offset + 4)) number (grind (arith, common_steps, room)) (λ i. small_rest p offset i d.small) (sym (word_of_rest p offset 4 (offset + 4) refl)))
+    (word_covered rest (u16_at p (offset + 4)) number (grind (arith, common_steps, room))
+    (λ i. small_rest p offset i d.small) (sym (word_of_rest p offset 4 (offset + 4) refl)))

@@ -1,5 +1,6 @@
--- A packet about a datagram between other ends: what it passes, and what its checksum sums up to.
-use Rattle.std.proofs.Common.{◌≡◌, ◌≢◌, ℕ, ◌+◌, ◌*◌, ◌/◌, ◌%◌, ◌<◌, ◌≤◌, inl, Option, Some, None, List, length, get_or, take, drop, length-take, length-drop, Bool, true, false, refl, sym, ap, ◌∙◌, arith}
+-- An ICMP error with a rewritten quoted datagram: the tests that it passes, and the sum under its checksum.
+use Rattle.std.proofs.Common.{◌≡◌, ◌≢◌, ℕ, ◌+◌, ◌*◌, ◌/◌, ◌%◌, ◌<◌, ◌≤◌, inl, Option, Some, None, List, length, get_or}
+use Rattle.std.proofs.Common.{take, drop, length-take, length-drop, Bool, true, false, refl, sym, ap, ◌∙◌, arith}
 use Rattle.std.specs.Prelude.{◌==◌, is_some, if◌then◌else◌}
 use Rattle.std.specs.Option.{option_and}
 use Rattle.std.proofs.lemmas.Bool.{eqb-true, and_parts, leb-true}
@@ -13,7 +14,9 @@ use Rattle.ip_headers.specs.Transport.{icmp_type, transport_is_malformed}
 use Rattle.ip_headers.specs.Tuple.{inner_of, inner_tuple, inner_tuple_of, is_error, is_error_type, is_readable, tuple_in}
 use Rattle.rewrite.specs.declared.change.Change.{Change}
 use Rattle.rewrite.specs.Endpoints.{between}
-use Rattle.rewrite.specs.Rewritten.{payload_in, header_in, write_if_some, inner_start, update_checksum, replaced, rewritten, update_transport_checksum, with_destination, with_endpoints, with_inner, with_numbers, with_source, with_ttl}
+use Rattle.rewrite.specs.Rewritten.{payload_in, header_in, write_if_some, inner_start, update_checksum, replaced}
+use Rattle.rewrite.specs.Rewritten.{rewritten, update_transport_checksum, with_destination, with_endpoints}
+use Rattle.rewrite.specs.Rewritten.{with_inner, with_numbers, with_source, with_ttl}
 use Rattle.rewrite.specs.steps.Fields.{HasFields, changed_fields, fields_at, fields_change, len_of, updated_checksum, with_fields}
 use Rattle.rewrite.proofs.Places.{number_byte_apart, word_kept}
 use Rattle.rewrite.proofs.Corrected.{update_checksum-is}
@@ -27,7 +30,7 @@ use Rattle.rewrite.proofs.Passed.{length-sent, payload_byte, sent_passes, within
 use Rattle.rewrite.proofs.Between.{icmp_long}
 use Rattle.rewrite.proofs.TransportSums.{payload_checksum_word, icmp_sum_kept, payload_same}
 
--- ---- the datagram between other ends: what stands before it stays
+-- ---- the bytes before the quoted datagram stay
 
 replaced_byte : (start : ℕ) (p : List ℕ) (change : Change) (k : ℕ) → k < start → get_or (replaced start p change) k 0 ≡ get_or p k 0
 replaced_byte start p change k lt =
@@ -48,37 +51,41 @@ ends_byte start p t k lt =
 pub length-ends : (start : ℕ) (p : List ℕ) (t : Tuple) → length (with_endpoints start p t) ≡ length p
 length-ends start p t = length-datagram start p (replaced start p (between t None)) ∙ length-replaced start p (between t None)
 
--- ---- what is said of a packet that is about another datagram and of one that isn't
+-- ---- packets that quote a datagram, and others
 
 either_is : (P : List ℕ → Type 0) (b : Bool) (xs ys : List ℕ) → (b ≡ true → P xs) → P ys → P (if b then xs else ys)
 either_is P true xs ys there gone = there refl
 either_is P false xs ys there gone = gone
 
-named_is : {A : Type 0} (P : List ℕ → Type 0) (write : List ℕ → A → List ℕ) (bytes : List ℕ) (o : Option A) → ((x : A) → P (write bytes x)) → P bytes → P (write_if_some write bytes o)
+named_is : {A : Type 0} (P : List ℕ → Type 0) (write : List ℕ → A → List ℕ) (bytes : List ℕ) (o : Option A)
+    → ((x : A) → P (write bytes x)) → P bytes → P (write_if_some write bytes o)
 named_is P write bytes None some none = none
 named_is P write bytes (Some x) some none = some x
 
-abbrev pub inward : List ℕ → Change → List ℕ
-inward p change = write_if_some with_inner p change.inner
+abbrev pub inner_rewritten : List ℕ → Change → List ℕ
+inner_rewritten p change = write_if_some with_inner p change.inner
 
--- the error about a datagram between other ends
-abbrev pub about : List ℕ → Tuple → List ℕ
-about p t = update_checksum (payload_in 0) (payload_at 0 p + 2) p (with_endpoints (inner_start p) p t)
+-- the error with the rewritten quoted datagram
+abbrev pub quote_rewritten : List ℕ → Tuple → List ℕ
+quote_rewritten p t = update_checksum (payload_in 0) (payload_at 0 p + 2) p (with_endpoints (inner_start p) p t)
 
 some_by : (b : Bool) (o : Option Tuple) → is_some (if b then o else None) ≡ true → (b ≡ true) × (is_some o ≡ true)
 some_by true o h = (refl, h)
 some_by false o h = cc
 
 is_icmp : (p : List ℕ) → is_some (inner_tuple_of p) ≡ true → protocol p ≡ 1
-is_icmp p h = eqb-true (protocol p) 1 (and_parts (protocol p == 1) (is_error_type (icmp_type (payload_of p))) (some_by (is_error p) (inner_tuple (inner_of p)) h).0).0
+is_icmp p h = eqb-true (protocol p) 1 (and_parts (protocol p == 1) (is_error_type (icmp_type (payload_of p)))
+    (some_by (is_error p) (inner_tuple (inner_of p)) h).0).0
 
--- ---- what it passes
+-- ---- the tests that it passes
 
-about_byte : (p : List ℕ) (t : Tuple) (k : ℕ) → k < payload_at 0 p + 2 → get_or (about p t) k 0 ≡ get_or p k 0
-about_byte p t k lt = update_byte (payload_in 0) (payload_at 0 p + 2) p (with_endpoints (inner_start p) p t) k (inl lt) ∙ ends_byte (inner_start p) p t k (omega (arith, lt))
+quote_rewritten_byte : (p : List ℕ) (t : Tuple) (k : ℕ) → k < payload_at 0 p + 2 → get_or (quote_rewritten p t) k 0 ≡ get_or p k 0
+quote_rewritten_byte p t k lt = update_byte (payload_in 0) (payload_at 0 p + 2) p (with_endpoints (inner_start p) p t) k (inl lt)
+    ∙ ends_byte (inner_start p) p t k (omega (arith, lt))
 
-length-about : (p : List ℕ) (t : Tuple) → length (about p t) ≡ length p
-length-about p t = length-put (payload_in 0) (payload_at 0 p + 2) p (with_endpoints (inner_start p) p t) ∙ length-ends (inner_start p) p t
+length-quote_rewritten : (p : List ℕ) (t : Tuple) → length (quote_rewritten p t) ≡ length p
+length-quote_rewritten p t = length-put (payload_in 0) (payload_at 0 p + 2) p (with_endpoints (inner_start p) p t)
+    ∙ length-ends (inner_start p) p t
 
 same_part : (n : ℕ) (xs ys : List ℕ) → length xs ≡ length ys → ((k : ℕ) → k < n → get_or xs k 0 ≡ get_or ys k 0) → take n xs ≡ take n ys
 same_part n xs ys len same =
@@ -89,25 +96,34 @@ same_part n xs ys len same =
 icmp_right : (payload : List ℕ) → 8 ≤ length payload → transport_is_malformed 1 payload ≡ false
 icmp_right payload long = grind (arith, long)
 
-about_passes : (p : List ℕ) (t : Tuple) → Passes p → protocol p ≡ 1 → Passes (about p t)
-about_passes p t ok one =
-    let q = about p t in
+quote_rewritten_passes : (p : List ℕ) (t : Tuple) → Passes p → protocol p ≡ 1 → Passes (quote_rewritten p t)
+quote_rewritten_passes p t ok one =
+    let q = quote_rewritten p t in
     let h = header_len p in
     let n = total_len p in
     let long : 20 ≤ h = ok.head.long in
-    let same : (k : ℕ) → k < h → get_or q k 0 ≡ get_or p k 0 = λ k lt. about_byte p t k (omega (arith, lt)) in
+    let same : (k : ℕ) → k < h → get_or q k 0 ≡ get_or p k 0 = λ k lt. quote_rewritten_byte p t k (omega (arith, lt)) in
     let first : get_or q 0 0 ≡ get_or p 0 0 = same 0 (omega (arith, long)) in
     let second : get_or q 2 0 ≡ get_or p 2 0 = same 2 (omega (arith, long)) in
     let third : get_or q 3 0 ≡ get_or p 3 0 = same 3 (omega (arith, long)) in
     let sixth : get_or q 6 0 ≡ get_or p 6 0 = same 6 (omega (arith, long)) in
     let seventh : get_or q 7 0 ≡ get_or p 7 0 = same 7 (omega (arith, long)) in
     let number : protocol q ≡ 1 = same 9 (omega (arith, long)) ∙ one in
-    let len : length q ≡ length p = length-about p t in
+    let len : length q ≡ length p = length-quote_rewritten p t in
     let head_same : header_len q ≡ h = ap (λ b. b % 16 * 4) first in
     let total_same : total_len q ≡ n = rw (second, third) refl in
     let head : header q ≡ header p = ap (λ k. take k q) head_same ∙ same_part h q p len same in
-    let enough : 8 ≤ length (payload_of p) = icmp_long (payload_of p) (rw one at ok.carried) in
-    let room : 8 ≤ length (drop h (take n q)) = omega (arith, enough, len, length-drop h (take n q), length-take n q, length-drop h (take n p), length-take n p) in
+    let enough : 8 ≤ length (payload_of p) = icmp_long (payload_of p) (rw one at ok.transport) in
+    let room : 8 ≤ length (drop h (take n q)) =
+    omega (
+      arith,
+      enough,
+      len,
+      length-drop h (take n q),
+      length-take n q,
+      length-drop h (take n p),
+      length-take n p,
+    ) in
     record {
       head = record {
         long = omega (arith, head_same, long);
@@ -117,69 +133,83 @@ about_passes p t ok one =
         sum = ap ones_sum_of head ∙ ok.head.sum;
       };
       unbroken = rw (sixth, seventh) ok.unbroken;
-      carried = rw (number, head_same, total_same) (icmp_right (drop h (take n q)) room);
+      transport = rw (number, head_same, total_same) (icmp_right (drop h (take n q)) room);
     }
 
 inner_passes : (p : List ℕ) (t : Tuple) → Passes p → Passes (with_inner p t)
-inner_passes p t ok = either_is Passes (is_some (inner_tuple_of p)) (about p t) p (λ h. about_passes p t ok (is_icmp p h)) ok
+inner_passes p t ok = either_is Passes (is_some (inner_tuple_of p)) (quote_rewritten p t) p
+    (λ h. quote_rewritten_passes p t ok (is_icmp p h)) ok
 
-pub inward_passes : (p : List ℕ) (change : Change) → Passes p → Passes (inward p change)
-inward_passes p change ok = named_is Passes with_inner p change.inner (λ t. inner_passes p t ok) ok
+pub inner_rewritten_passes : (p : List ℕ) (change : Change) → Passes p → Passes (inner_rewritten p change)
+inner_rewritten_passes p change ok = named_is Passes with_inner p change.inner (λ t. inner_passes p t ok) ok
 
 pub rewritten_passes : (p : List ℕ) (change : Change) → Passes p → Passes (rewritten p change)
 unfolding rewritten
-rewritten_passes p change ok = sent_passes (inward p change) change (inward_passes p change ok)
+rewritten_passes p change ok = sent_passes (inner_rewritten p change) change (inner_rewritten_passes p change ok)
 
--- ---- how long it is
+-- ---- its length
 
-length-inward : (p : List ℕ) (change : Change) → length (inward p change) ≡ length p
-length-inward p change = length-named with_inner p change.inner (λ t. length-either (is_some (inner_tuple_of p)) (about p t) p p (length-about p t) refl)
+length-inner_rewritten : (p : List ℕ) (change : Change) → length (inner_rewritten p change) ≡ length p
+length-inner_rewritten p change = length-named with_inner p change.inner
+    (λ t. length-either (is_some (inner_tuple_of p)) (quote_rewritten p t) p p (length-quote_rewritten p t) refl)
 
 pub length-rewritten : (p : List ℕ) (change : Change) → length (rewritten p change) ≡ length p
 unfolding rewritten
-length-rewritten p change = length-sent (inward p change) change ∙ length-inward p change
+length-rewritten p change = length-sent (inner_rewritten p change) change ∙ length-inner_rewritten p change
 
--- ---- what its checksum sums up to
+-- ---- the sum under its checksum
 
--- only a message of ICMP is about another datagram
+-- only ICMP messages quote a datagram
 abbrev SameBut : ℕ → List ℕ → List ℕ → Type 0
 SameBut number p q = (protocol q ≡ number) × (words_sum (payload_in 0 q) % 65535 ≡ words_sum (payload_in 0 p) % 65535)
 
-inner_sum_kept : (p : List ℕ) (t : Tuple) → Passes p → protocol p ≡ 1 → SameBut 1 p (about p t)
+inner_sum_kept : (p : List ℕ) (t : Tuple) → Passes p → protocol p ≡ 1 → SameBut 1 p (quote_rewritten p t)
 inner_sum_kept p t ok one =
     let now = with_endpoints (inner_start p) p t in
     let offset = payload_at 0 p in
     let long : 20 ≤ offset = omega (arith, ok.head.long) in
-    let enough = icmp_long (payload_of p) (rw one at ok.carried) in
+    let enough = icmp_long (payload_of p) (rw one at ok.transport) in
     let same : (k : ℕ) → k < offset + 8 → get_or now k 0 ≡ get_or p k 0 = λ k lt. ends_byte (inner_start p) p t k lt in
     let high = same (offset + 2) (omega arith) in
     let low = same (offset + 2 + 1) (omega arith) in (
-      about_byte p t 9 (omega (arith, long)) ∙ one,
+      quote_rewritten_byte p t 9 (omega (arith, long)) ∙ one,
       update_keeps_sum (payload_in 0) (offset + 2) 2 p now
-          (payload_checksum_word p now (omega (arith, enough, within p ok, ok.head.whole, length-ends (inner_start p) p t)) long (payload_same now p (same 0 (omega (arith, long)))) (rw (high, low) refl)),
+          (payload_checksum_word p now (omega (
+            arith,
+            enough,
+            within p ok,
+            ok.head.whole,
+            length-ends (inner_start p) p t,
+          )) long (payload_same now p (same 0 (omega (arith, long))))
+          (rw (high, low) refl)),
     )
 
-inward_sum_kept : (p : List ℕ) (change : Change) → Passes p → protocol p ≡ 1 → SameBut 1 p (inward p change)
-inward_sum_kept p change ok one =
-    named_is (SameBut 1 p) with_inner p change.inner (λ t. either_is (SameBut 1 p) (is_some (inner_tuple_of p)) (about p t) p (λ h. inner_sum_kept p t ok one) (one, refl)) (one, refl)
+inner_rewritten_sum_kept : (p : List ℕ) (change : Change) → Passes p → protocol p ≡ 1 → SameBut 1 p (inner_rewritten p change)
+inner_rewritten_sum_kept p change ok one =
+    named_is (SameBut 1 p) with_inner p change.inner
+    (λ t. either_is (SameBut 1 p) (is_some (inner_tuple_of p)) (quote_rewritten p t) p (λ h. inner_sum_kept p t ok one)
+    (one, refl)) (one, refl)
 
-pub icmp_sum_kept_with_inner : (p : List ℕ) (change : Change) → Passes p → protocol p ≡ 1 → words_sum (payload_in 0 (rewritten p change)) % 65535 ≡ words_sum (payload_in 0 p) % 65535
+pub icmp_sum_kept_with_inner : (p : List ℕ) (change : Change) → Passes p → protocol p ≡ 1
+    → words_sum (payload_in 0 (rewritten p change)) % 65535 ≡ words_sum (payload_in 0 p) % 65535
 unfolding rewritten
 icmp_sum_kept_with_inner p change ok one =
-    let w = inward_sum_kept p change ok one in
-    icmp_sum_kept (inward p change) change (inward_passes p change ok) w.0 ∙ w.1
+    let w = inner_rewritten_sum_kept p change ok one in
+    icmp_sum_kept (inner_rewritten p change) change (inner_rewritten_passes p change ok) w.0 ∙ w.1
 
 -- a packet of another protocol stays
-inward_other : (p : List ℕ) (change : Change) → protocol p ≢ 1 → inward p change ≡ p
-inward_other p change other = named_is (λ q. q ≡ p) with_inner p change.inner (λ t. either_is (λ q. q ≡ p) (is_some (inner_tuple_of p)) (about p t) p (λ h. absurd (other (is_icmp p h))) refl) refl
+inner_rewritten_other : (p : List ℕ) (change : Change) → protocol p ≢ 1 → inner_rewritten p change ≡ p
+inner_rewritten_other p change other = named_is (λ q. q ≡ p) with_inner p change.inner
+    (λ t. either_is (λ q. q ≡ p) (is_some (inner_tuple_of p)) (quote_rewritten p t) p (λ h. absurd (other (is_icmp p h))) refl)
+    refl
 
 pub rewritten_other : (p : List ℕ) (change : Change) → protocol p ≢ 1 → rewritten p change ≡ sent p change
 unfolding rewritten
-rewritten_other p change other = ap (λ q. sent q change) (inward_other p change other)
+rewritten_other p change other = ap (λ q. sent q change) (inner_rewritten_other p change other)
 
--- ---- the datagram's fields are there, and its words are all that changes under the error's checksum
+-- ---- the quoted datagram's fields are there, and only its words change under the error's checksum
 
--- what is known of a datagram that can be read
+-- facts about a quoted datagram that can be translated
 record IsReadable (inner : List ℕ) : Type 0 where
   long : 20 ≤ header_len inner
   whole : header_len inner + 8 ≤ length inner
@@ -194,23 +224,28 @@ readable inner h =
 pub inner_fields : (p : List ℕ) → Passes p → is_some (inner_tuple_of p) ≡ true → HasFields (inner_start p) p
 inner_fields p ok h =
     let inner = inner_of p in
-    let about_one = (some_by (is_error p) (inner_tuple inner) h).1 in
-    let is = readable inner (some_by (is_readable inner) (tuple_in inner (drop (header_len inner) inner)) about_one).0 in
+    let quote_rewritten_one = (some_by (is_error p) (inner_tuple inner) h).1 in
+    let is = readable inner (some_by (is_readable inner) (tuple_in inner (drop (header_len inner) inner)) quote_rewritten_one).0 in
     let n = total_len p in
     let head = header_len p in
-    let room : length inner + (head + 8) ≤ n = omega (arith, is.whole, length-drop 8 (payload_of p), length-drop head (take n p), length-take n p) in
-    let first : get_or inner 0 0 ≡ get_or (drop (inner_start p) p) 0 0 = get_or-drop 8 (payload_of p) 0 0 ∙ payload_byte p head n 8 (omega (arith, is.whole, room)) ∙ sym (byte_of_rest p (inner_start p) 0 (head + 8) (omega arith)) in
+    let room : length inner + (head + 8) ≤ n =
+    omega (arith, is.whole, length-drop 8 (payload_of p), length-drop head (take n p), length-take n p) in
+    let first : get_or inner 0 0 ≡ get_or (drop (inner_start p) p) 0 0 = get_or-drop 8 (payload_of p) 0 0
+    ∙ payload_byte p head n 8 (omega (arith, is.whole, room))
+    ∙ sym (byte_of_rest p (inner_start p) 0 (head + 8) (omega arith)) in
     let same : header_len inner ≡ header_len (drop (inner_start p) p) = ap (λ b. b % 16 * 4) first in
     record {
       long = omega (arith, same, is.long);
       whole = fields_room (inner_start p) p (omega (arith, same, is.whole, room, ok.head.whole));
     }
 
-pub about_is : (p : List ℕ) (t : Tuple) → 20 ≤ payload_at 0 p → IsDatagram (inner_start p) p → payload_at (inner_start p) p + len_of (carried_at (inner_start p) p) ≤ length p
+pub quote_rewritten_is : (p : List ℕ) (t : Tuple) → 20 ≤ payload_at 0 p → IsDatagram (inner_start p) p
+    → payload_at (inner_start p) p + len_of (carried_at (inner_start p) p) ≤ length p
     → with_u16 (with_endpoints (inner_start p) p t) (payload_at 0 p + 2)
-    (updated_checksum (fields_change (fields_at (inner_start p) p) (changed_fields (between t None) (fields_at (inner_start p) p))) (u16_at p (payload_at 0 p + 2)))
-    ≡ about p t
-about_is p t long d room =
+    (updated_checksum (fields_change (fields_at (inner_start p) p)
+    (changed_fields (between t None) (fields_at (inner_start p) p))) (u16_at p (payload_at 0 p + 2)))
+    ≡ quote_rewritten p t
+quote_rewritten_is p t long d room =
     let start = inner_start p in
     let offset = payload_at 0 p in
     let new = changed_fields (between t None) (fields_at start p) in
@@ -220,11 +255,14 @@ about_is p t long d room =
     let same : (k : ℕ) → k < start → get_or now k 0 ≡ get_or p k 0 = λ k lt. ends_byte start p t k lt in
     let high = same (offset + 2) (omega arith) in
     let low = same (offset + 2 + 1) (omega arith) in
-    let covers = covers_to words (payload_in 0 p) (drop offset (with_fields start p new)) (payload_in 0 now) (ap (λ k. drop k now) (payload_same now p (same 0 (omega (arith, long)))) ∙ ap (λ l. drop offset l) (sym is)) (fields_exchanged offset start p (between t None) refl d room) in
+    let covers = covers_to words (payload_in 0 p) (drop offset (with_fields start p new)) (payload_in 0 now)
+    (ap (λ k. drop k now) (payload_same now p (same 0 (omega (arith, long)))) ∙ ap (λ l. drop offset l) (sym is))
+    (fields_exchanged offset start p (between t None) refl d room) in
     sym (update_checksum-is (payload_in 0) (offset + 2) p now words covers
-    (word_kept now (offset + 2) (u16_at p (offset + 2)) (rw high (d.small (offset + 2))) (rw low (d.small (offset + 2 + 1))) (rw (high, low) refl)))
+    (word_kept now (offset + 2) (u16_at p (offset + 2)) (rw high (d.small (offset + 2)))
+    (rw low (d.small (offset + 2 + 1))) (rw (high, low) refl)))
 
--- ---- what the packet is first
+-- ---- the packet after the first step
 
 and_some : (o r : Option Tuple) (t : Tuple) → option_and o r ≡ Some t → (is_some o ≡ true) × (r ≡ Some t)
 and_some None r t e = cc
@@ -232,20 +270,21 @@ and_some (Some x) r t e = (refl, e)
 
 none_named : (o r : Option Tuple) (p : List ℕ) → o ≡ inner_tuple_of p → option_and o r ≡ None → write_if_some with_inner p r ≡ p
 none_named o None p is e = refl
-none_named None (Some t) p is e = ap (λ o. if is_some o then about p t else p) (sym is)
+none_named None (Some t) p is e = ap (λ o. if is_some o then quote_rewritten p t else p) (sym is)
 none_named (Some x) (Some t) p is e = cc
 
 pub read_some : (p : List ℕ) (o : Option Tuple) (t : Tuple) → option_and (inner_tuple_of p) o ≡ Some t → is_some (inner_tuple_of p) ≡ true
 read_some p o t e = (and_some (inner_tuple_of p) o t e).0
 
-pub inward_some : (p : List ℕ) (change : Change) (t : Tuple) → option_and (inner_tuple_of p) change.inner ≡ Some t → inward p change ≡ about p t
-inward_some p change t e =
+pub inner_rewritten_some : (p : List ℕ) (change : Change) (t : Tuple) → option_and (inner_tuple_of p) change.inner ≡ Some t
+    → inner_rewritten p change ≡ quote_rewritten p t
+inner_rewritten_some p change t e =
     let combined = and_some (inner_tuple_of p) change.inner t e in
-    ap (λ o. write_if_some with_inner p o) combined.1 ∙ ap (λ b. if b then about p t else p) combined.0
+    ap (λ o. write_if_some with_inner p o) combined.1 ∙ ap (λ b. if b then quote_rewritten p t else p) combined.0
 
-pub inward_none : (p : List ℕ) (change : Change) → option_and (inner_tuple_of p) change.inner ≡ None → inward p change ≡ p
-inward_none p change e = none_named (inner_tuple_of p) change.inner p refl e
+pub inner_rewritten_none : (p : List ℕ) (change : Change) → option_and (inner_tuple_of p) change.inner ≡ None → inner_rewritten p change ≡ p
+inner_rewritten_none p change e = none_named (inner_tuple_of p) change.inner p refl e
 
-pub rewritten_is : (p : List ℕ) (change : Change) → rewritten p change ≡ sent (inward p change) change
+pub rewritten_is : (p : List ℕ) (change : Change) → rewritten p change ≡ sent (inner_rewritten p change) change
 unfolding rewritten
 rewritten_is p change = refl

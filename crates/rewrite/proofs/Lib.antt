@@ -11,4 +11,4 @@ pub mod Passed
 pub mod Between
 pub mod TransportSums
 pub mod Exchanged
-pub mod Inward
+pub mod InnerDatagram

@@ -1,15 +1,17 @@
--- The parts of a packet with other fields: its header, its addresses and what it carries.
-use Rattle.std.proofs.Common.{◌≡◌, ℕ, ◌+◌, ◌*◌, ◌/◌, ◌%◌, ◌<◌, ◌≤◌, inl, inr, List, length, get_or, set, true, false, add_assoc, refl, ◌∙◌, arith}
+-- The parts of a packet with other fields: its header, its addresses and its payload.
+use Rattle.std.proofs.Common.{◌≡◌, ℕ, ◌+◌, ◌*◌, ◌/◌, ◌%◌, ◌<◌, ◌≤◌, inl, inr, List, length, get_or}
+use Rattle.std.proofs.Common.{set, true, false, add_assoc, refl, ◌∙◌, arith}
 use Rattle.std.proofs.lemmas.List.{set-get_or, get_or-set_same}
 use Rattle.ip_headers.specs.Sum.{words_sum}
 use Rattle.ip_headers.specs.Bytes.{u16_at, u32_at, with_u16, with_u32}
 use Rattle.rewrite.specs.Rewritten.{with_ports}
 use Rattle.rewrite.proofs.Sums.{high_at, words_sum-set, words_sum-word}
-use Rattle.rewrite.proofs.Places.{word_written, word_apart, word_kept, number_byte_apart, length-word, length-number, number_written, Bytes4, number_kept, number_apart, number_past}
+use Rattle.rewrite.proofs.Places.{word_written, word_apart, word_kept, number_byte_apart, length-word, length-number}
+use Rattle.rewrite.proofs.Places.{number_written, Bytes4, number_kept, number_apart, number_past}
 
 -- ---- sums
 
--- the two words of a number
+-- the two words of a 32-bit number
 abbrev pub halves : ℕ → ℕ
 halves n = n / 65536 + n % 65536
 
@@ -19,7 +21,8 @@ IsEven i = (high_at true i ≡ true) × (high_at true (i + 1) ≡ false)
 two_more : (a b c o n p m : ℕ) → b + o ≡ a + n → c + p ≡ b + m → c + (o + p) ≡ a + (n + m)
 two_more a b c o n p m one two = omega (arith, one, two)
 
-pub words_sum-number : (xs : List ℕ) (i n : ℕ) → i + 3 < length xs → IsEven i → IsEven (i + 2) → Bytes4 xs i → words_sum (with_u32 xs i n) + halves (u32_at xs i) ≡ words_sum xs + halves n
+pub words_sum-number : (xs : List ℕ) (i n : ℕ) → i + 3 < length xs → IsEven i → IsEven (i + 2) → Bytes4 xs i
+    → words_sum (with_u32 xs i n) + halves (u32_at xs i) ≡ words_sum xs + halves n
 words_sum-number xs i n lt even next small =
     let one = with_u16 xs i (n / 65536) in
     let len : length one ≡ length xs = length-word xs i (n / 65536) in
@@ -53,26 +56,33 @@ bytes4_past xs i n k lt small = record {
 three_more : (a b c d o n p m q r : ℕ) → b + o ≡ a + n → c + p ≡ b + m → d + q ≡ c + r → d + (q + (o + p)) ≡ a + (r + (n + m))
 three_more a b c d o n p m q r one two three = omega (arith, one, two, three)
 
-pub head_sum : (head : List ℕ) (from to ttl : ℕ) → IsHead head → words_sum (head_with head from to ttl) + (get_or head 8 0 * 256 + (halves (u32_at head 12) + halves (u32_at head 16))) ≡ words_sum head + (ttl * 256 + (halves from + halves to))
+pub head_sum : (head : List ℕ) (from to ttl : ℕ) → IsHead head
+    → words_sum (head_with head from to ttl)
+    + (get_or head 8 0 * 256 + (halves (u32_at head 12) + halves (u32_at head 16)))
+    ≡ words_sum head + (ttl * 256 + (halves from + halves to))
 head_sum head from to ttl is =
     let one = with_u32 head 12 from in
     let two = with_u32 one 16 to in
     let len_one : length one ≡ length head = length-number head 12 from in
     let len_two : length two ≡ length head = length-number one 16 to ∙ len_one in
     let first = words_sum-number head 12 from (omega (arith, is.long)) (refl, refl) (refl, refl) (bytes4 head 12 is.small) in
-    let second = words_sum-number one 16 to (omega (arith, is.long, len_one)) (refl, refl) (refl, refl) (bytes4_past head 12 from 16 (omega arith) (bytes4 head 16 is.small)) in
+    let second = words_sum-number one 16 to (omega (arith, is.long, len_one)) (refl, refl) (refl, refl)
+    (bytes4_past head 12 from 16 (omega arith) (bytes4 head 16 is.small)) in
     let third = words_sum-set two 8 ttl (omega (arith, is.long, len_two)) in
     let same16 : u32_at one 16 ≡ u32_at head 16 = number_apart head 12 from 16 (inr (omega arith)) in
-    let same8 : get_or two 8 0 ≡ get_or head 8 0 = number_byte_apart one 16 to 8 (inl (omega arith)) ∙ number_byte_apart head 12 from 8 (inl (omega arith)) in
-    three_more (words_sum head) (words_sum one) (words_sum two) _ _ (halves from) _ (halves to) _ (ttl * 256) first (rw same16 at second) (rw same8 at third)
+    let same8 : get_or two 8 0 ≡ get_or head 8 0 =
+    number_byte_apart one 16 to 8 (inl (omega arith)) ∙ number_byte_apart head 12 from 8 (inl (omega arith)) in
+    three_more (words_sum head) (words_sum one) (words_sum two) _ _ (halves from) _ (halves to) _ (ttl * 256) first
+    (rw same16 at second) (rw same8 at third)
 
-pub head_kept : (head : List ℕ) (from to ttl : ℕ) → IsHead head → from ≡ u32_at head 12 → to ≡ u32_at head 16 → ttl ≡ get_or head 8 0 → head_with head from to ttl ≡ head
+pub head_kept : (head : List ℕ) (from to ttl : ℕ) → IsHead head → from ≡ u32_at head 12 → to ≡ u32_at head 16
+    → ttl ≡ get_or head 8 0 → head_with head from to ttl ≡ head
 head_kept head from to ttl is a b c =
     let first = number_kept head 12 from (bytes4 head 12 is.small) a in
     let second = number_kept head 16 to (bytes4 head 16 is.small) b in
     rw (first, second, c) (set-get_or head 8 0)
 
--- the fields as they are read of it
+-- the fields as they are read
 pub record Reads (head : List ℕ) (from to ttl : ℕ) : Type 0 where
   pub source : u32_at head 12 ≡ from
   pub destination : u32_at head 16 ≡ to
@@ -85,12 +95,13 @@ head_reads head from to ttl long =
     let len_one : length one ≡ length head = length-number head 12 from in
     let len_two : length two ≡ length head = length-number one 16 to ∙ len_one in
     record {
-      source = number_past two 8 ttl 12 (omega arith) ∙ number_apart one 16 to 12 (inl (omega arith)) ∙ number_written head 12 from (omega (arith, long));
+      source = number_past two 8 ttl 12 (omega arith) ∙ number_apart one 16 to 12 (inl (omega arith))
+          ∙ number_written head 12 from (omega (arith, long));
       destination = number_past two 8 ttl 16 (omega arith) ∙ number_written one 16 to (omega (arith, long, len_one));
       left = get_or-set_same two 8 ttl 0 (omega (arith, long, len_two));
     }
 
--- ---- the two addresses
+-- ---- the change of the two addresses
 
 abbrev pub pair_with : List ℕ → ℕ → ℕ → List ℕ
 pair_with pair from to = with_u32 (with_u32 pair 0 from) 4 to
@@ -102,12 +113,15 @@ pub record IsPair (pair : List ℕ) : Type 0 where
 pub length-pair : (pair : List ℕ) (from to : ℕ) → length (pair_with pair from to) ≡ length pair
 length-pair pair from to = length-number (with_u32 pair 0 from) 4 to ∙ length-number pair 0 from
 
-pub pair_sum : (pair : List ℕ) (from to : ℕ) → IsPair pair → words_sum (pair_with pair from to) + (halves (u32_at pair 0) + halves (u32_at pair 4)) ≡ words_sum pair + (halves from + halves to)
+pub pair_sum : (pair : List ℕ) (from to : ℕ) → IsPair pair
+    → words_sum (pair_with pair from to) + (halves (u32_at pair 0) + halves (u32_at pair 4))
+    ≡ words_sum pair + (halves from + halves to)
 pair_sum pair from to is =
     let one = with_u32 pair 0 from in
     let len : length one ≡ length pair = length-number pair 0 from in
     let first = words_sum-number pair 0 from (omega (arith, is.long)) (refl, refl) (refl, refl) (bytes4 pair 0 is.small) in
-    let second = words_sum-number one 4 to (omega (arith, is.long, len)) (refl, refl) (refl, refl) (bytes4_past pair 0 from 4 (omega arith) (bytes4 pair 4 is.small)) in
+    let second = words_sum-number one 4 to (omega (arith, is.long, len)) (refl, refl) (refl, refl)
+    (bytes4_past pair 0 from 4 (omega arith) (bytes4 pair 4 is.small)) in
     let same : u32_at one 4 ≡ u32_at pair 4 = number_apart pair 0 from 4 (inr (omega arith)) in
     two_more (words_sum pair) (words_sum one) _ _ (halves from) _ (halves to) first (rw same at second)
 
@@ -130,7 +144,8 @@ pair_reads pair from to long =
 
 -- ---- the ports or the identifier
 
-pub ports_sum : (rest : List ℕ) (from to : ℕ) → 4 ≤ length rest → words_sum (with_ports 0 rest from to) + (u16_at rest 0 + u16_at rest 2) ≡ words_sum rest + (from + to)
+pub ports_sum : (rest : List ℕ) (from to : ℕ) → 4 ≤ length rest
+    → words_sum (with_ports 0 rest from to) + (u16_at rest 0 + u16_at rest 2) ≡ words_sum rest + (from + to)
 ports_sum rest from to long =
     let one = with_u16 rest 0 from in
     let len : length one ≡ length rest = length-word rest 0 from in
@@ -152,7 +167,8 @@ ports_read rest from to long =
       destination = word_written one 2 to (omega (arith, long, len));
     }
 
-pub ports_kept : (xs : List ℕ) (offset from to : ℕ) → ((i : ℕ) → offset ≤ i → get_or xs i 0 < 256) → from ≡ u16_at xs offset → to ≡ u16_at xs (offset + 2) → with_ports offset xs from to ≡ xs
+pub ports_kept : (xs : List ℕ) (offset from to : ℕ) → ((i : ℕ) → offset ≤ i → get_or xs i 0 < 256)
+    → from ≡ u16_at xs offset → to ≡ u16_at xs (offset + 2) → with_ports offset xs from to ≡ xs
 ports_kept xs offset from to small a b =
     rw (word_kept xs offset from (small offset (omega arith)) (small (offset + 1) (omega arith)) a)
     (word_kept xs (offset + 2) to (small (offset + 2) (omega arith)) (small (offset + 2 + 1) (omega arith)) b)

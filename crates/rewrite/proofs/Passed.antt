@@ -1,5 +1,6 @@
--- What is sent on passes the tests that what came did.
-use Rattle.std.proofs.Common.{◌≡◌, ℕ, ◌+◌, ◌*◌, ◌/◌, ◌%◌, ◌<◌, ◌≤◌, inl, ⊎_elim, List, length, get_or, take, drop, length-take, length-drop, false, refl, sym, ap, ◌∙◌, arith}
+-- A rewritten packet passes the tests that the original passed.
+use Rattle.std.proofs.Common.{◌≡◌, ℕ, ◌+◌, ◌*◌, ◌/◌, ◌%◌, ◌<◌, ◌≤◌, inl, ⊎_elim, List, length, get_or, take, drop}
+use Rattle.std.proofs.Common.{length-take, length-drop, false, refl, sym, ap, ◌∙◌, arith}
 use Rattle.std.proofs.lemmas.Bool.{ne_eqb, cases_eq}
 use Rattle.std.proofs.lemmas.List.{get_or-take, get_or-drop}
 use Rattle.ip_headers.specs.Sum.{words_sum}
@@ -23,8 +24,10 @@ header_checksum_word p change ok =
     let now = checksum_updated p change in
     let long : 20 ≤ n = ok.head.long in
     let len : length now ≡ length p = length-carried 0 p (replaced 0 p change) ∙ length-replaced 0 p change in
-    let same : (k : ℕ) → k < n → get_or now k 0 ≡ get_or (timed p change) k 0 = λ k lt. checksum_updated_header p change k (omega (arith, lt)) in
-    let first : header_len now ≡ n = ap (λ b. b % 16 * 4) (same 0 (omega (arith, long)) ∙ timed_byte p change 0 (omega arith) (inl (omega arith))) in
+    let same : (k : ℕ) → k < n → get_or now k 0 ≡ get_or (timed p change) k 0 =
+    λ k lt. checksum_updated_header p change k (omega (arith, lt)) in
+    let first : header_len now ≡ n =
+    ap (λ b. b % 16 * 4) (same 0 (omega (arith, long)) ∙ timed_byte p change 0 (omega arith) (inl (omega arith))) in
     let high : get_or now 10 0 ≡ get_or p 10 0 = same 10 (omega (arith, long)) ∙ timed_byte p change 10 (omega arith) (inl (omega arith)) in
     let low : get_or now 11 0 ≡ get_or p 11 0 = same 11 (omega (arith, long)) ∙ timed_byte p change 11 (omega arith) (inl (omega arith)) in
     record {
@@ -39,7 +42,7 @@ header_checksum_word p change ok =
 pub header_keeps : (p : List ℕ) (change : Change) → Passes p → words_sum (header (sent p change)) % 65535 ≡ words_sum (header p) % 65535
 header_keeps p change ok = update_keeps_sum (header_in 0) 10 10 p (checksum_updated p change) (header_checksum_word p change ok)
 
--- ---- the tests of what is carried
+-- ---- the tests on the payload
 
 tcp_same : (x y : List ℕ) → length x ≡ length y → get_or x 12 0 ≡ get_or y 12 0 → tcp_is_malformed x ≡ tcp_is_malformed y
 tcp_same x y len data_offset_same = rw (len, data_offset_same) refl
@@ -47,7 +50,8 @@ tcp_same x y len data_offset_same = rw (len, data_offset_same) refl
 udp_same : (x y : List ℕ) → length x ≡ length y → u16_at x 4 ≡ u16_at y 4 → udp_is_malformed x ≡ udp_is_malformed y
 udp_same x y len length_same = rw (len, length_same) refl
 
-wrong_same : (number : ℕ) (x y : List ℕ) → length x ≡ length y → (number ≡ 6 → get_or x 12 0 ≡ get_or y 12 0) → (number ≡ 17 → u16_at x 4 ≡ u16_at y 4) → transport_is_malformed number x ≡ transport_is_malformed number y
+wrong_same : (number : ℕ) (x y : List ℕ) → length x ≡ length y → (number ≡ 6 → get_or x 12 0 ≡ get_or y 12 0)
+    → (number ≡ 17 → u16_at x 4 ≡ u16_at y 4) → transport_is_malformed number x ≡ transport_is_malformed number y
 wrong_same number x y len tcp udp =
     ⊎_elim
     (λ six. rw six (tcp_same x y len (tcp six)))
@@ -74,10 +78,11 @@ pub within : (p : List ℕ) → Passes p → length (payload_of p) + header_len 
 within p ok = omega (arith, length-drop (header_len p) (take (total_len p) p), length-take (total_len p) p, ok.head.head, ok.head.whole)
 
 pub tcp_room : (p : List ℕ) → Passes p → protocol p ≡ 6 → payload_at 0 p + 18 ≤ length p
-tcp_room p ok six = omega (arith, tcp_long (payload_of p) (rw six at ok.carried), within p ok, ok.head.whole)
+tcp_room p ok six = omega (arith, tcp_long (payload_of p) (rw six at ok.transport), within p ok, ok.head.whole)
 
 pub length-sent : (p : List ℕ) (change : Change) → length (sent p change) ≡ length p
-length-sent p change = length-put (header_in 0) 10 p (checksum_updated p change) ∙ length-carried 0 p (replaced 0 p change) ∙ length-replaced 0 p change
+length-sent p change = length-put (header_in 0) 10 p (checksum_updated p change)
+    ∙ length-carried 0 p (replaced 0 p change) ∙ length-replaced 0 p change
 
 pub sent_passes : (p : List ℕ) (change : Change) → Passes p → Passes (sent p change)
 sent_passes p change ok =
@@ -85,23 +90,35 @@ sent_passes p change ok =
     let h = header_len p in
     let n = total_len p in
     let long : 20 ≤ h = ok.head.long in
-    let first : get_or q 0 0 ≡ get_or p 0 0 = sent_byte p change 0 (omega (arith, long)) (inl (omega arith)) (omega arith) (inl (omega arith)) in
-    let second : get_or q 2 0 ≡ get_or p 2 0 = sent_byte p change 2 (omega (arith, long)) (inl (omega arith)) (omega arith) (inl (omega arith)) in
-    let third : get_or q 3 0 ≡ get_or p 3 0 = sent_byte p change 3 (omega (arith, long)) (inl (omega arith)) (omega arith) (inl (omega arith)) in
-    let sixth : get_or q 6 0 ≡ get_or p 6 0 = sent_byte p change 6 (omega (arith, long)) (inl (omega arith)) (omega arith) (inl (omega arith)) in
-    let seventh : get_or q 7 0 ≡ get_or p 7 0 = sent_byte p change 7 (omega (arith, long)) (inl (omega arith)) (omega arith) (inl (omega arith)) in
-    let number : protocol q ≡ protocol p = sent_byte p change 9 (omega (arith, long)) (inl (omega arith)) (omega arith) (inl (omega arith)) in
+    let first : get_or q 0 0 ≡ get_or p 0 0 =
+    sent_byte p change 0 (omega (arith, long)) (inl (omega arith)) (omega arith) (inl (omega arith)) in
+    let second : get_or q 2 0 ≡ get_or p 2 0 =
+    sent_byte p change 2 (omega (arith, long)) (inl (omega arith)) (omega arith) (inl (omega arith)) in
+    let third : get_or q 3 0 ≡ get_or p 3 0 =
+    sent_byte p change 3 (omega (arith, long)) (inl (omega arith)) (omega arith) (inl (omega arith)) in
+    let sixth : get_or q 6 0 ≡ get_or p 6 0 =
+    sent_byte p change 6 (omega (arith, long)) (inl (omega arith)) (omega arith) (inl (omega arith)) in
+    let seventh : get_or q 7 0 ≡ get_or p 7 0 =
+    sent_byte p change 7 (omega (arith, long)) (inl (omega arith)) (omega arith) (inl (omega arith)) in
+    let number : protocol q ≡ protocol p =
+    sent_byte p change 9 (omega (arith, long)) (inl (omega arith)) (omega arith) (inl (omega arith)) in
     let len : length q ≡ length p = length-sent p change in
     let head_same : header_len q ≡ h = ap (λ b. b % 16 * 4) first in
     let total_same : total_len q ≡ n = rw (second, third) refl in
     let room = within p ok in
     let tcp : protocol p ≡ 6 → get_or (drop h (take n q)) 12 0 ≡ get_or (drop h (take n p)) 12 0 = λ six.
-    let enough = tcp_long (payload_of p) (rw six at ok.carried) in
-    payload_byte q h n 12 (omega (arith, enough, room)) ∙ sent_tcp_byte p change (h + 12) (omega (arith, long)) six (tcp_room p ok six) (omega arith) (inl (omega arith)) ∙ sym (payload_byte p h n 12 (omega (arith, enough, room))) in
+    let enough = tcp_long (payload_of p) (rw six at ok.transport) in
+    payload_byte q h n 12 (omega (arith, enough, room))
+    ∙ sent_tcp_byte p change (h + 12) (omega (arith, long)) six (tcp_room p ok six) (omega arith)
+    (inl (omega arith)) ∙ sym (payload_byte p h n 12 (omega (arith, enough, room))) in
     let udp : protocol p ≡ 17 → u16_at (drop h (take n q)) 4 ≡ u16_at (drop h (take n p)) 4 = λ seventeen.
-    let enough = udp_long (payload_of p) (rw seventeen at ok.carried) in
-    let high = payload_byte q h n 4 (omega (arith, enough, room)) ∙ sent_udp_byte p change (h + 4) (omega (arith, long)) seventeen (omega arith) (inl (omega arith)) ∙ sym (payload_byte p h n 4 (omega (arith, enough, room))) in
-    let low = payload_byte q h n 5 (omega (arith, enough, room)) ∙ sent_udp_byte p change (h + 5) (omega (arith, long)) seventeen (omega arith) (inl (omega arith)) ∙ sym (payload_byte p h n 5 (omega (arith, enough, room))) in
+    let enough = udp_long (payload_of p) (rw seventeen at ok.transport) in
+    let high = payload_byte q h n 4 (omega (arith, enough, room))
+    ∙ sent_udp_byte p change (h + 4) (omega (arith, long)) seventeen (omega arith) (inl (omega arith))
+    ∙ sym (payload_byte p h n 4 (omega (arith, enough, room))) in
+    let low = payload_byte q h n 5 (omega (arith, enough, room))
+    ∙ sent_udp_byte p change (h + 5) (omega (arith, long)) seventeen (omega arith) (inl (omega arith))
+    ∙ sym (payload_byte p h n 5 (omega (arith, enough, room))) in
     rw (high, low) refl in
     record {
       head = record {
@@ -109,8 +126,15 @@ sent_passes p change ok =
         head = omega (arith, head_same, total_same, ok.head.head);
         whole = omega (arith, total_same, len, ok.head.whole);
         four = ap (λ b. b / 16) first ∙ ok.head.four;
-        sum = still_ones (header p) (header q) (header_keeps p change ok) ok.head.sum (rw (get_or-take (header_len q) q 0 0 (omega (arith, head_same, long)), first) (omega (arith, ok.head.four)));
+        sum = still_ones (header p) (header q) (header_keeps p change ok) ok.head.sum
+            (rw (get_or-take (header_len q) q 0 0 (omega (arith, head_same, long)), first)
+            (omega (arith, ok.head.four)));
       };
       unbroken = rw (sixth, seventh) ok.unbroken;
-      carried = rw (number, head_same, total_same, wrong_same (protocol p) (drop h (take n q)) (drop h (take n p)) (payload_len q p h n len) tcp udp) ok.carried;
+      transport = rw (
+        number,
+        head_same,
+        total_same,
+        wrong_same (protocol p) (drop h (take n q)) (drop h (take n p)) (payload_len q p h n len) tcp udp,
+      ) ok.transport;
     }

@@ -1,4 +1,4 @@
--- Words written at places, and what is read of bytes afterwards.
+-- Writes at offsets, and reads afterwards.
 use Rattle.std.proofs.Common.{◌≡◌, ℕ, ◌+◌, ◌-◌, ◌/◌, ◌%◌, ◌<◌, ◌≤◌, ◌⊎◌, List, length, get_or, set, take, drop, add_assoc, ap, ◌∙◌, arith}
 use Rattle.std.proofs.lemmas.List.{set-get_or, drop-set-lt, drop-set-add, take-set-le, get_or-take, get_or-drop}
 use Rattle.std.proofs.Math.Seq.{take-set-lt}
@@ -6,7 +6,7 @@ use Rattle.std.proofs.lemmas.Grind.{common_steps}
 use Rattle.byteorder.specs.Endian.{big_number}
 use Rattle.ip_headers.specs.Bytes.{u16_at, u32_at, with_u16, with_u32}
 
--- ---- what was written is read back, and else what was there
+-- ---- reads give what was written, and else what was there
 
 pub word_written : (xs : List ℕ) (i w : ℕ) → i + 1 < length xs → u16_at (with_u16 xs i w) i ≡ w
 word_written xs i w lt =
@@ -33,11 +33,12 @@ pub number_written : (xs : List ℕ) (i n : ℕ) → i + 3 < length xs → u32_a
 number_written xs i n lt =
     let one = with_u16 xs i (n / 65536) in
     let len : length one ≡ length xs = length-word xs i (n / 65536) in
-    let high : u16_at (with_u32 xs i n) i ≡ n / 65536 = word_apart one (i + 2) (n % 65536) i (grind arith) ∙ word_written xs i (n / 65536) (omega arith) in
+    let high : u16_at (with_u32 xs i n) i ≡ n / 65536 =
+    word_apart one (i + 2) (n % 65536) i (grind arith) ∙ word_written xs i (n / 65536) (omega arith) in
     let low : u16_at (with_u32 xs i n) (i + 2) ≡ n % 65536 = word_written one (i + 2) (n % 65536) (omega (arith, len)) in
     omega (arith, high, low)
 
--- ---- what is there is written again
+-- ---- writing what is there
 
 pub word_kept : (xs : List ℕ) (i w : ℕ) → get_or xs i 0 < 256 → get_or xs (i + 1) 0 < 256 → w ≡ u16_at xs i → with_u16 xs i w ≡ xs
 word_kept xs i w high low is =
@@ -45,7 +46,7 @@ word_kept xs i w high low is =
     let two : w % 256 ≡ get_or xs (i + 1) 0 = omega (arith, is, high, low) in
     rw (one, two, set-get_or xs i 0) (set-get_or xs (i + 1) 0)
 
--- the four bytes of a number
+-- the four bytes of a 32-bit number
 pub record Bytes4 (xs : List ℕ) (i : ℕ) : Type 0 where
   pub first : get_or xs i 0 < 256
   pub second : get_or xs (i + 1) 0 < 256
@@ -73,7 +74,7 @@ number_apart xs i n k apart =
 pub number_past : (xs : List ℕ) (i v k : ℕ) → i < k → u32_at (set xs i v) k ≡ u32_at xs k
 number_past xs i v k lt = grind (arith, common_steps)
 
--- ---- what a part shows of a byte that is written within it, before it or after it
+-- ---- a part of the bytes after a write within it, before it or after it
 
 pub byte_in : (xs : List ℕ) (a n i j v : ℕ) → j ≡ a + i → i < n → take n (drop a (set xs j v)) ≡ set (take n (drop a xs)) i v
 byte_in xs a n i j v is lt = rw is (ap (λ l. take n l) (drop-set-add a xs i v) ∙ take-set-lt n (drop a xs) i v lt)
@@ -87,7 +88,7 @@ byte_after_by xs a n i j v is le = rw is (ap (λ l. take n l) (drop-set-add a xs
 pub byte_after : (xs : List ℕ) (a n j v : ℕ) → a + n ≤ j → take n (drop a (set xs j v)) ≡ take n (drop a xs)
 byte_after xs a n j v le = byte_after_by xs a n (j - a) j v (omega (arith, le)) (omega (arith, le))
 
--- ---- of a word
+-- ---- of a 16-bit word
 
 pub word_in : (xs : List ℕ) (a n i j w : ℕ) → j ≡ a + i → i + 1 < n → take n (drop a (with_u16 xs j w)) ≡ with_u16 (take n (drop a xs)) i w
 word_in xs a n i j w is lt =
@@ -100,30 +101,34 @@ word_before xs a n j w lt = byte_before (set xs j (w / 256)) a n (j + 1) (w % 25
 pub word_after : (xs : List ℕ) (a n j w : ℕ) → a + n ≤ j → take n (drop a (with_u16 xs j w)) ≡ take n (drop a xs)
 word_after xs a n j w le = byte_after (set xs j (w / 256)) a n (j + 1) (w % 256) (omega (arith, le)) ∙ byte_after xs a n j (w / 256) le
 
--- ---- of a number
+-- ---- of a 32-bit number
 
-pub number_in : (xs : List ℕ) (a n i j w : ℕ) → j ≡ a + i → i + 3 < n → take n (drop a (with_u32 xs j w)) ≡ with_u32 (take n (drop a xs)) i w
+pub number_in : (xs : List ℕ) (a n i j w : ℕ) → j ≡ a + i → i + 3 < n
+    → take n (drop a (with_u32 xs j w)) ≡ with_u32 (take n (drop a xs)) i w
 number_in xs a n i j w is lt =
     word_in (with_u16 xs j (w / 65536)) a n (i + 2) (j + 2) (w % 65536) (omega (arith, is)) (omega (arith, lt))
     ∙ ap (λ l. with_u16 l (i + 2) (w % 65536)) (word_in xs a n i j (w / 65536) is (omega (arith, lt)))
 
 pub number_after : (xs : List ℕ) (a n j w : ℕ) → a + n ≤ j → take n (drop a (with_u32 xs j w)) ≡ take n (drop a xs)
-number_after xs a n j w le = word_after (with_u16 xs j (w / 65536)) a n (j + 2) (w % 65536) (omega (arith, le)) ∙ word_after xs a n j (w / 65536) le
+number_after xs a n j w le = word_after (with_u16 xs j (w / 65536)) a n (j + 2) (w % 65536) (omega (arith, le))
+    ∙ word_after xs a n j (w / 65536) le
 
--- ---- all that follows a place
+-- ---- the bytes from an offset on
 
 pub rest_in : (xs : List ℕ) (a i j w : ℕ) → j ≡ a + i → drop a (with_u16 xs j w) ≡ with_u16 (drop a xs) i w
 rest_in xs a i j w is =
     let next : j + 1 ≡ a + (i + 1) = omega (arith, is) in
-    rw (next, is) (drop-set-add a (set xs (a + i) (w / 256)) (i + 1) (w % 256) ∙ ap (λ l. set l (i + 1) (w % 256)) (drop-set-add a xs i (w / 256)))
+    rw (next, is) (drop-set-add a (set xs (a + i) (w / 256)) (i + 1) (w % 256)
+    ∙ ap (λ l. set l (i + 1) (w % 256)) (drop-set-add a xs i (w / 256)))
 
 pub rest_before : (xs : List ℕ) (a j w : ℕ) → j + 1 < a → drop a (with_u16 xs j w) ≡ drop a xs
 rest_before xs a j w lt = drop-set-lt a (set xs j (w / 256)) (j + 1) (w % 256) lt ∙ drop-set-lt a xs j (w / 256) (omega (arith, lt))
 
 pub number_rest_before : (xs : List ℕ) (a j w : ℕ) → j + 3 < a → drop a (with_u32 xs j w) ≡ drop a xs
-number_rest_before xs a j w lt = rest_before (with_u16 xs j (w / 65536)) a (j + 2) (w % 65536) (omega (arith, lt)) ∙ rest_before xs a j (w / 65536) (omega (arith, lt))
+number_rest_before xs a j w lt = rest_before (with_u16 xs j (w / 65536)) a (j + 2) (w % 65536) (omega (arith, lt))
+    ∙ rest_before xs a j (w / 65536) (omega (arith, lt))
 
--- ---- what is read of a part
+-- ---- reads from a part
 
 pub byte_of_part : (xs : List ℕ) (a n i j : ℕ) → j ≡ a + i → i < n → get_or (take n (drop a xs)) i 0 ≡ get_or xs j 0
 byte_of_part xs a n i j is lt = rw is (get_or-take n (drop a xs) i 0 lt ∙ get_or-drop a xs i 0)
@@ -147,6 +152,7 @@ word_of_rest xs a i j is =
     let low : get_or (drop a xs) (i + 1) 0 ≡ get_or xs (j + 1) 0 = rw next (get_or-drop a xs (i + 1) 0) in
     omega (arith, high, low)
 
--- a word read of all that follows a place
-pub word_read : (bytes : List ℕ) (i word : ℕ) → i + 2 ≤ length bytes → word ≡ big_number 2 (take (length bytes - i) (drop i bytes)) → word ≡ u16_at bytes i
+-- a word read from the bytes from an offset on
+pub word_read : (bytes : List ℕ) (i word : ℕ) → i + 2 ≤ length bytes
+    → word ≡ big_number 2 (take (length bytes - i) (drop i bytes)) → word ≡ u16_at bytes i
 word_read bytes i word whole read = grind (arith, common_steps, read)

@@ -1,5 +1,6 @@
--- The fields of a datagram, changed one by one and written, are the datagram as it is sent on.
-use Rattle.std.proofs.Common.{◌≡◌, ℕ, ◌+◌, ◌<◌, ◌≤◌, inl, inr, ⊎_elim, Option, Some, None, List, length, length-drop, get_or, set, drop, true, false, refl, sym, ap, ◌∙◌, arith}
+-- Writing the changed fields gives the rewritten datagram.
+use Rattle.std.proofs.Common.{◌≡◌, ℕ, ◌+◌, ◌<◌, ◌≤◌, inl, inr, ⊎_elim, Option, Some, None, List, length}
+use Rattle.std.proofs.Common.{length-drop, get_or, set, drop, true, false, refl, sym, ap, ◌∙◌, arith}
 use Rattle.std.specs.Prelude.{◌==◌, ◌||◌, unwrap_or}
 use lib.Dec.{leb}
 use Rattle.std.proofs.lemmas.Bool.{ne_eqb, le-leb, lt-leb, cases_eq, cases_lt, or_from}
@@ -11,47 +12,69 @@ use Rattle.rewrite.specs.declared.change.PortsOrIdentifier.{PortsOrIdentifier}
 use Rattle.rewrite.specs.declared.change.PortsOrIdentifier.TheVariants.{Ports, Identifier}
 use Rattle.rewrite.specs.declared.fields.TransportFields.{TransportFields}
 use Rattle.rewrite.specs.declared.fields.TransportFields.TheVariants.{Tcp, Udp, Icmp, Other}
-use Rattle.rewrite.specs.Rewritten.{payload_in, header_in, write_if_some, pseudo_header_and_payload, update_checksum, update_udp_checksum, replaced, update_transport_checksum, update_checksums, update_header_checksum, with_numbers, with_ports, with_ttl}
-use Rattle.rewrite.specs.steps.Fields.{transport_fields_of, changed_transport_fields, changed_fields, fields_at, identifier_named, len_of, ports_named, updated_checksum, tcp_checksum_of, with_transport_fields, with_fields}
-use Rattle.rewrite.proofs.Places.{byte_apart, Bytes4, number_byte_apart, number_apart, number_kept, word_kept, word_after, byte_of_part, word_of_rest}
+use Rattle.rewrite.specs.Rewritten.{payload_in, header_in, write_if_some, pseudo_header_and_payload, update_checksum}
+use Rattle.rewrite.specs.Rewritten.{update_udp_checksum, replaced, update_transport_checksum, update_checksums}
+use Rattle.rewrite.specs.Rewritten.{update_header_checksum, with_numbers, with_ports, with_ttl}
+use Rattle.rewrite.specs.steps.Fields.{transport_fields_of, changed_transport_fields, changed_fields, fields_at}
+use Rattle.rewrite.specs.steps.Fields.{identifier_named, len_of, ports_named, updated_checksum, tcp_checksum_of}
+use Rattle.rewrite.specs.steps.Fields.{with_transport_fields, with_fields}
+use Rattle.rewrite.proofs.Places.{byte_apart, Bytes4, number_byte_apart, number_apart, number_kept}
+use Rattle.rewrite.proofs.Places.{word_kept, word_after, byte_of_part, word_of_rest}
 use Rattle.rewrite.proofs.Parts.{bytes4, ports_kept}
 use Rattle.rewrite.proofs.Corrected.{update_checksum-is, update_udp_checksum-is}
-use Rattle.rewrite.proofs.Covered.{timed, timed_byte, head_of, IsDatagram, same_byte-len, header_words, header_covered, pair_words, pseudo_covered, carried_covered}
+use Rattle.rewrite.proofs.Covered.{timed, timed_byte, head_of, IsDatagram, same_byte-len, header_words}
+use Rattle.rewrite.proofs.Covered.{header_covered, pair_words, pseudo_covered, carried_covered}
 
--- ---- a field that isn't named is written as it was
+-- ---- a field without a new value is written as it was
 
-named_number : (o : Option ℕ) (xs p : List ℕ) (i : ℕ) → Bytes4 xs i → u32_at xs i ≡ u32_at p i → write_if_some (λ bytes n. with_u32 bytes i n) xs o ≡ with_u32 xs i (unwrap_or o (u32_at p i))
+named_number : (o : Option ℕ) (xs p : List ℕ) (i : ℕ) → Bytes4 xs i → u32_at xs i ≡ u32_at p i
+    → write_if_some (λ bytes n. with_u32 bytes i n) xs o ≡ with_u32 xs i (unwrap_or o (u32_at p i))
 named_number None xs p i small e = sym (number_kept xs i (u32_at p i) small (sym e))
 named_number (Some n) xs p i small e = refl
 
-named_ttl : (o : Option ℕ) (start : ℕ) (xs p : List ℕ) → get_or xs (start + 8) 0 ≡ byte_at p (start + 8) → write_if_some (with_ttl start) xs o ≡ set xs (start + 8) (unwrap_or o (byte_at p (start + 8)))
+named_ttl : (o : Option ℕ) (start : ℕ) (xs p : List ℕ) → get_or xs (start + 8) 0 ≡ byte_at p (start + 8)
+    → write_if_some (with_ttl start) xs o ≡ set xs (start + 8) (unwrap_or o (byte_at p (start + 8)))
 named_ttl None start xs p e = sym (ap (λ v. set xs (start + 8) v) (sym e) ∙ set-get_or xs (start + 8) 0)
 named_ttl (Some n) start xs p e = refl
 
-write_ports : (numbers : Option PortsOrIdentifier) (start : ℕ) (t : List ℕ) (number offset from to : ℕ) → protocol_at start t ≡ number → payload_at start t ≡ offset → (number == 6 || number == 17) ≡ true → (number == 1) ≡ false → with_ports offset t from to ≡ t
+write_ports : (numbers : Option PortsOrIdentifier) (start : ℕ) (t : List ℕ) (number offset from to : ℕ)
+    → protocol_at start t ≡ number → payload_at start t ≡ offset → (number == 6 || number == 17) ≡ true
+    → (number == 1) ≡ false → with_ports offset t from to ≡ t
     → write_if_some (with_numbers start) t numbers ≡ with_ports offset t (ports_named numbers from to).0 (ports_named numbers from to).1
 write_ports None start t number offset from to is at_place some none kept = sym kept
 write_ports (Some (Ports one other)) start t number offset from to is at_place some none kept = rw (is, some, at_place) refl
 write_ports (Some (Identifier other)) start t number offset from to is at_place some none kept = rw (is, none) (sym kept)
 
-write_identifier : (numbers : Option PortsOrIdentifier) (start : ℕ) (t : List ℕ) (number offset old : ℕ) → protocol_at start t ≡ number → payload_at start t ≡ offset → (number == 6 || number == 17) ≡ false → (number == 1) ≡ true → with_u16 t (offset + 4) old ≡ t
+write_identifier : (numbers : Option PortsOrIdentifier) (start : ℕ) (t : List ℕ) (number offset old : ℕ)
+    → protocol_at start t ≡ number → payload_at start t ≡ offset → (number == 6 || number == 17) ≡ false
+    → (number == 1) ≡ true → with_u16 t (offset + 4) old ≡ t
     → write_if_some (with_numbers start) t numbers ≡ with_u16 t (offset + 4) (identifier_named numbers old)
 write_identifier None start t number offset old is at_place none some kept = sym kept
 write_identifier (Some (Ports one other)) start t number offset old is at_place none some kept = rw (is, none) (sym kept)
 write_identifier (Some (Identifier other)) start t number offset old is at_place none some kept = rw (is, some, at_place) refl
 
-write_none : (numbers : Option PortsOrIdentifier) (start : ℕ) (t : List ℕ) (number : ℕ) → protocol_at start t ≡ number → (number == 6 || number == 17) ≡ false → (number == 1) ≡ false → write_if_some (with_numbers start) t numbers ≡ t
+write_none : (numbers : Option PortsOrIdentifier) (start : ℕ) (t : List ℕ) (number : ℕ) → protocol_at start t ≡ number
+    → (number == 6 || number == 17) ≡ false → (number == 1) ≡ false → write_if_some (with_numbers start) t numbers ≡ t
 write_none None start t number is a b = refl
 write_none (Some (Ports one other)) start t number is a b = rw (is, a) refl
 write_none (Some (Identifier other)) start t number is a b = rw (is, b) refl
 
 -- ---- the header's fields
 
-bytes4_same : (xs p : List ℕ) (i : ℕ) → get_or xs i 0 ≡ get_or p i 0 → get_or xs (i + 1) 0 ≡ get_or p (i + 1) 0 → get_or xs (i + 2) 0 ≡ get_or p (i + 2) 0 → get_or xs (i + 3) 0 ≡ get_or p (i + 3) 0 → Bytes4 p i → Bytes4 xs i
-bytes4_same xs p i a b c d small = record { first = rw a small.first; second = rw b small.second; third = rw c small.third; fourth = rw d small.fourth }
+bytes4_same : (xs p : List ℕ) (i : ℕ) → get_or xs i 0 ≡ get_or p i 0 → get_or xs (i + 1) 0 ≡ get_or p (i + 1) 0
+    → get_or xs (i + 2) 0 ≡ get_or p (i + 2) 0 → get_or xs (i + 3) 0 ≡ get_or p (i + 3) 0 → Bytes4 p i → Bytes4 xs i
+bytes4_same xs p i a b c d small = record {
+  first = rw a small.first;
+  second = rw b small.second;
+  third = rw c small.third;
+  fourth = rw d small.fourth;
+}
 
 replaced_header : (start : ℕ) (p : List ℕ) (change : Change) → IsDatagram start p
-    → replaced start p change ≡ write_if_some (with_numbers start) (timed start p (unwrap_or change.source (u32_at p (start + 12))) (unwrap_or change.destination (u32_at p (start + 16))) (unwrap_or change.ttl (byte_at p (start + 8)))) change.numbers
+    → replaced start p change ≡ write_if_some (with_numbers start)
+    (timed start p (unwrap_or change.source (u32_at p (start + 12)))
+    (unwrap_or change.destination (u32_at p (start + 16))) (unwrap_or change.ttl (byte_at p (start + 8))))
+    change.numbers
 replaced_header start p change d =
     let from = unwrap_or change.source (u32_at p (start + 12)) in
     let to = unwrap_or change.destination (u32_at p (start + 16)) in
@@ -60,44 +83,66 @@ replaced_header start p change d =
     let apart : (k : ℕ) → start + 12 + 3 < k → get_or one k 0 ≡ get_or p k 0 = λ k lt. number_byte_apart p (start + 12) from k (inr lt) in
     let first = named_number change.source p p (start + 12) (bytes4 p (start + 12) d.small) refl in
     let second = named_number change.destination one p (start + 16)
-    (bytes4_same one p (start + 16) (apart (start + 16) (omega arith)) (apart (start + 16 + 1) (omega arith)) (apart (start + 16 + 2) (omega arith)) (apart (start + 16 + 3) (omega arith)) (bytes4 p (start + 16) d.small))
+    (bytes4_same one p (start + 16) (apart (start + 16) (omega arith)) (apart (start + 16 + 1) (omega arith))
+    (apart (start + 16 + 2) (omega arith)) (apart (start + 16 + 3) (omega arith)) (bytes4 p (start + 16) d.small))
     (number_apart p (start + 12) from (start + 16) (inr (omega arith))) in
-    let third = named_ttl change.ttl start two p (number_byte_apart one (start + 16) to (start + 8) (inl (omega arith)) ∙ number_byte_apart p (start + 12) from (start + 8) (inl (omega arith))) in
-    ap (λ l. write_if_some (with_numbers start) (write_if_some (with_ttl start) (write_if_some (λ bytes n. with_u32 bytes (start + 16) n) l change.destination) change.ttl) change.numbers) first
+    let third = named_ttl change.ttl start two p
+    (number_byte_apart one (start + 16) to (start + 8) (inl (omega arith))
+    ∙ number_byte_apart p (start + 12) from (start + 8) (inl (omega arith))) in
+    ap (λ l. write_if_some (with_numbers start)
+    (write_if_some (with_ttl start) (write_if_some (λ bytes n. with_u32 bytes (start + 16) n) l change.destination)
+    change.ttl) change.numbers) first
     ∙ ap (λ l. write_if_some (with_numbers start) (write_if_some (with_ttl start) l change.ttl) change.numbers) second
     ∙ ap (λ l. write_if_some (with_numbers start) l change.numbers) third
 
--- ---- the header's checksum
+-- ---- The header checksum.
 
-carried_head : (start n offset : ℕ) (t : List ℕ) (c : TransportFields) → start + n ≤ offset → head_of start n (with_transport_fields offset t c) ≡ head_of start n t
+carried_head : (start n offset : ℕ) (t : List ℕ) (c : TransportFields) → start + n ≤ offset
+    → head_of start n (with_transport_fields offset t c) ≡ head_of start n t
 carried_head start n offset t (Tcp from to None) le =
     word_after (with_u16 t offset from) start n (offset + 2) to (omega (arith, le)) ∙ word_after t start n offset from le
 carried_head start n offset t (Tcp from to (Some checksum)) le =
-    word_after (with_ports offset t from to) start n (offset + 16) checksum (omega (arith, le)) ∙ word_after (with_u16 t offset from) start n (offset + 2) to (omega (arith, le)) ∙ word_after t start n offset from le
+    word_after (with_ports offset t from to) start n (offset + 16) checksum (omega (arith, le))
+    ∙ word_after (with_u16 t offset from) start n (offset + 2) to (omega (arith, le))
+    ∙ word_after t start n offset from le
 carried_head start n offset t (Udp from to checksum) le =
-    word_after (with_ports offset t from to) start n (offset + 6) checksum (omega (arith, le)) ∙ word_after (with_u16 t offset from) start n (offset + 2) to (omega (arith, le)) ∙ word_after t start n offset from le
+    word_after (with_ports offset t from to) start n (offset + 6) checksum (omega (arith, le))
+    ∙ word_after (with_u16 t offset from) start n (offset + 2) to (omega (arith, le))
+    ∙ word_after t start n offset from le
 carried_head start n offset t (Icmp identifier checksum) le =
-    word_after (with_u16 t (offset + 4) identifier) start n (offset + 2) checksum (omega (arith, le)) ∙ word_after t start n (offset + 4) identifier (omega (arith, le))
+    word_after (with_u16 t (offset + 4) identifier) start n (offset + 2) checksum (omega (arith, le))
+    ∙ word_after t start n (offset + 4) identifier (omega (arith, le))
 carried_head start n offset t Other le = refl
 
-in_head : (start n i j : ℕ) (xs ys : List ℕ) → head_of start n xs ≡ head_of start n ys → j ≡ start + i → i < n → get_or xs j 0 ≡ get_or ys j 0
+in_head : (start n i j : ℕ) (xs ys : List ℕ) → head_of start n xs ≡ head_of start n ys → j ≡ start + i → i < n
+    → get_or xs j 0 ≡ get_or ys j 0
 in_head start n i j xs ys e is lt = sym (byte_of_part xs start n i j is lt) ∙ ap (λ l. get_or l i 0) e ∙ byte_of_part ys start n i j is lt
 
-header_right : (start : ℕ) (p x : List ℕ) (from to ttl : ℕ) → IsDatagram start p → head_of start (header_len (drop start p)) x ≡ head_of start (header_len (drop start p)) (timed start p from to ttl)
-    → update_header_checksum start p x ≡ with_u16 x (start + 10) (updated_checksum (header_words start p from to ttl) (u16_at p (start + 10)))
+header_right : (start : ℕ) (p x : List ℕ) (from to ttl : ℕ) → IsDatagram start p
+    → head_of start (header_len (drop start p)) x
+    ≡ head_of start (header_len (drop start p)) (timed start p from to ttl)
+    → update_header_checksum start p x ≡ with_u16 x (start + 10)
+    (updated_checksum (header_words start p from to ttl) (u16_at p (start + 10)))
 header_right start p x from to ttl d same =
     let n = header_len (drop start p) in
     let t = timed start p from to ttl in
-    let first : get_or x start 0 ≡ get_or p start 0 = in_head start n 0 start x t same (omega arith) (omega (arith, d.long)) ∙ timed_byte start p from to ttl start (inl (omega arith)) (inl (omega arith)) in
-    let high : get_or x (start + 10) 0 ≡ get_or p (start + 10) 0 = in_head start n 10 (start + 10) x t same refl (omega (arith, d.long)) ∙ timed_byte start p from to ttl (start + 10) (inr (omega arith)) (inl (omega arith)) in
-    let low : get_or x (start + 10 + 1) 0 ≡ get_or p (start + 10 + 1) 0 = in_head start n 11 (start + 10 + 1) x t same (omega arith) (omega (arith, d.long)) ∙ timed_byte start p from to ttl (start + 10 + 1) (inr (omega arith)) (inl (omega arith)) in
+    let first : get_or x start 0 ≡ get_or p start 0 =
+    in_head start n 0 start x t same (omega arith) (omega (arith, d.long))
+    ∙ timed_byte start p from to ttl start (inl (omega arith)) (inl (omega arith)) in
+    let high : get_or x (start + 10) 0 ≡ get_or p (start + 10) 0 =
+    in_head start n 10 (start + 10) x t same refl (omega (arith, d.long))
+    ∙ timed_byte start p from to ttl (start + 10) (inr (omega arith)) (inl (omega arith)) in
+    let low : get_or x (start + 10 + 1) 0 ≡ get_or p (start + 10 + 1) 0 =
+    in_head start n 11 (start + 10 + 1) x t same (omega arith) (omega (arith, d.long))
+    ∙ timed_byte start p from to ttl (start + 10 + 1) (inr (omega arith)) (inl (omega arith)) in
     update_checksum-is (header_in start) (start + 10) p x (header_words start p from to ttl)
     (header_covered start p x from to ttl d (same_byte-len start p x first) same)
-    (word_kept x (start + 10) (u16_at p (start + 10)) (rw high (d.small (start + 10))) (rw low (d.small (start + 10 + 1))) (rw (high, low) refl))
+    (word_kept x (start + 10) (u16_at p (start + 10)) (rw high (d.small (start + 10)))
+    (rw low (d.small (start + 10 + 1))) (rw (high, low) refl))
 
--- ---- what is carried
+-- ---- the payload
 
--- the datagram with another header, behind it
+-- the datagram with another header, after it
 pub record Behind (start : ℕ) (p t : List ℕ) : Type 0 where
   pub protocol : protocol_at start t ≡ protocol_at start p
   pub payload : payload_at start t ≡ payload_at start p
@@ -107,10 +152,13 @@ pub record Behind (start : ℕ) (p t : List ℕ) : Type 0 where
 timed_behind : (start : ℕ) (p : List ℕ) (from to ttl : ℕ) → IsDatagram start p → Behind start p (timed start p from to ttl)
 timed_behind start p from to ttl d =
     let t = timed start p from to ttl in
-    let past : (k : ℕ) → payload_at start p ≤ k → get_or t k 0 ≡ get_or p k 0 = λ k le. timed_byte start p from to ttl k (inr (omega (arith, le, d.long))) (inr (omega (arith, le, d.long))) in
+    let past : (k : ℕ) → payload_at start p ≤ k → get_or t k 0 ≡ get_or p k 0 =
+    λ k le. timed_byte start p from to ttl k (inr (omega (arith, le, d.long))) (inr (omega (arith, le, d.long))) in
     record {
-      protocol = get_or-drop start t 9 0 ∙ timed_byte start p from to ttl (start + 9) (inr (omega arith)) (inl (omega arith)) ∙ sym (get_or-drop start p 9 0);
-      payload = ap (λ n. start + n) (same_byte-len start p t (timed_byte start p from to ttl start (inl (omega arith)) (inl (omega arith))));
+      protocol = get_or-drop start t 9 0 ∙ timed_byte start p from to ttl (start + 9) (inr (omega arith))
+          (inl (omega arith)) ∙ sym (get_or-drop start p 9 0);
+      payload = ap (λ n. start + n) (same_byte-len start p t
+          (timed_byte start p from to ttl start (inl (omega arith)) (inl (omega arith))));
       bytes = past;
       small = λ k le. rw (past k le) (d.small k);
     }
@@ -120,52 +168,76 @@ word_behind start p t k b le = rw (b.bytes k le, b.bytes (k + 1) (omega (arith, 
 
 -- a word that stays is as if it were written
 kept_behind : (start : ℕ) (p t : List ℕ) (k : ℕ) → Behind start p t → payload_at start p ≤ k → with_u16 t k (u16_at p k) ≡ t
-kept_behind start p t k b le = word_kept t k (u16_at p k) (b.small k le) (b.small (k + 1) (omega (arith, le))) (sym (word_behind start p t k b le))
+kept_behind start p t k b le =
+    word_kept t k (u16_at p k) (b.small k le) (b.small (k + 1) (omega (arith, le))) (sym (word_behind start p t k b le))
 
-ports_kept_behind : (start : ℕ) (p t : List ℕ) → Behind start p t → with_ports (payload_at start p) t (u16_at p (payload_at start p)) (u16_at p (payload_at start p + 2)) ≡ t
+ports_kept_behind : (start : ℕ) (p t : List ℕ) → Behind start p t
+    → with_ports (payload_at start p) t (u16_at p (payload_at start p)) (u16_at p (payload_at start p + 2)) ≡ t
 ports_kept_behind start p t b =
-    ports_kept t (payload_at start p) _ _ b.small (sym (word_behind start p t (payload_at start p) b (omega arith))) (sym (word_behind start p t (payload_at start p + 2) b (omega arith)))
+    ports_kept t (payload_at start p) _ _ b.small (sym (word_behind start p t (payload_at start p) b (omega arith)))
+    (sym (word_behind start p t (payload_at start p + 2) b (omega arith)))
 
 -- a word past two ports that were written
-kept_past_ports : (start : ℕ) (p t : List ℕ) (from to k : ℕ) → Behind start p t → payload_at start p + 4 ≤ k → with_u16 (with_ports (payload_at start p) t from to) k (u16_at p k) ≡ with_ports (payload_at start p) t from to
+kept_past_ports : (start : ℕ) (p t : List ℕ) (from to k : ℕ) → Behind start p t → payload_at start p + 4 ≤ k
+    → with_u16 (with_ports (payload_at start p) t from to) k (u16_at p k) ≡ with_ports (payload_at start p) t from to
 kept_past_ports start p t from to k b le =
     let offset = payload_at start p in
     let now = with_ports offset t from to in
-    let same : (j : ℕ) → offset + 4 ≤ j → get_or now j 0 ≡ get_or p j 0 = λ j past. byte_apart (with_u16 t offset from) (offset + 2) to j (inr (omega (arith, past))) ∙ byte_apart t offset from j (inr (omega (arith, past))) ∙ b.bytes j (omega (arith, past)) in
-    let small : (j : ℕ) → offset + 4 ≤ j → get_or now j 0 < 256 = λ j past. rw (same j past ∙ sym (b.bytes j (omega (arith, past)))) (b.small j (omega (arith, past))) in
+    let same : (j : ℕ) → offset + 4 ≤ j → get_or now j 0 ≡ get_or p j 0 =
+    λ j past. byte_apart (with_u16 t offset from) (offset + 2) to j (inr (omega (arith, past)))
+    ∙ byte_apart t offset from j (inr (omega (arith, past))) ∙ b.bytes j (omega (arith, past)) in
+    let small : (j : ℕ) → offset + 4 ≤ j → get_or now j 0 < 256 =
+    λ j past. rw (same j past ∙ sym (b.bytes j (omega (arith, past)))) (b.small j (omega (arith, past))) in
     word_kept now k (u16_at p k) (small k le) (small (k + 1) (omega (arith, le))) (rw (same k le, same (k + 1) (omega (arith, le))) refl)
 
-kept_past_identifier : (start : ℕ) (p t : List ℕ) (number : ℕ) → Behind start p t → with_u16 (with_u16 t (payload_at start p + 4) number) (payload_at start p + 2) (u16_at p (payload_at start p + 2)) ≡ with_u16 t (payload_at start p + 4) number
+kept_past_identifier : (start : ℕ) (p t : List ℕ) (number : ℕ) → Behind start p t
+    → with_u16 (with_u16 t (payload_at start p + 4) number) (payload_at start p + 2) (u16_at p (payload_at start p + 2))
+    ≡ with_u16 t (payload_at start p + 4) number
 kept_past_identifier start p t number b =
     let offset = payload_at start p in
     let now = with_u16 t (offset + 4) number in
-    let high : get_or now (offset + 2) 0 ≡ get_or p (offset + 2) 0 = byte_apart t (offset + 4) number (offset + 2) (inl (omega arith)) ∙ b.bytes (offset + 2) (omega arith) in
-    let low : get_or now (offset + 2 + 1) 0 ≡ get_or p (offset + 2 + 1) 0 = byte_apart t (offset + 4) number (offset + 2 + 1) (inl (omega arith)) ∙ b.bytes (offset + 2 + 1) (omega arith) in
-    word_kept now (offset + 2) (u16_at p (offset + 2)) (rw (high ∙ sym (b.bytes (offset + 2) (omega arith))) (b.small (offset + 2) (omega arith))) (rw (low ∙ sym (b.bytes (offset + 2 + 1) (omega arith))) (b.small (offset + 2 + 1) (omega arith))) (rw (high, low) refl)
+    let high : get_or now (offset + 2) 0 ≡ get_or p (offset + 2) 0 =
+    byte_apart t (offset + 4) number (offset + 2) (inl (omega arith)) ∙ b.bytes (offset + 2) (omega arith) in
+    let low : get_or now (offset + 2 + 1) 0 ≡ get_or p (offset + 2 + 1) 0 =
+    byte_apart t (offset + 4) number (offset + 2 + 1) (inl (omega arith))
+    ∙ b.bytes (offset + 2 + 1) (omega arith) in
+    word_kept now (offset + 2) (u16_at p (offset + 2))
+    (rw (high ∙ sym (b.bytes (offset + 2) (omega arith))) (b.small (offset + 2) (omega arith)))
+    (rw (low ∙ sym (b.bytes (offset + 2 + 1) (omega arith))) (b.small (offset + 2 + 1) (omega arith)))
+    (rw (high, low) refl)
 
 abbrev carried_at : ℕ → List ℕ → TransportFields
 carried_at start p = transport_fields_of (protocol_at start p) (drop (payload_at start p) p)
 
--- what is asked of each protocol
+-- what each protocol needs
 abbrev IsCarried : ℕ → List ℕ → ℕ → ℕ → ℕ → Option PortsOrIdentifier → Type 0
 IsCarried start p from to ttl numbers =
     update_transport_checksum start p (write_if_some (with_numbers start) (timed start p from to ttl) numbers)
-    ≡ with_transport_fields (payload_at start p) (timed start p from to ttl) (changed_transport_fields numbers (pair_words start p from to) (carried_at start p))
+    ≡ with_transport_fields (payload_at start p) (timed start p from to ttl)
+    (changed_transport_fields numbers (pair_words start p from to) (carried_at start p))
 
--- which checksum is put right
-pub by_tcp : (start : ℕ) (old now : List ℕ) → protocol_at start old ≡ 6 → payload_at start old + 18 ≤ length old → update_transport_checksum start old now ≡ update_checksum (pseudo_header_and_payload start) (payload_at start old + 16) old now
+-- which checksum is updated
+pub by_tcp : (start : ℕ) (old now : List ℕ) → protocol_at start old ≡ 6 → payload_at start old + 18 ≤ length old
+    → update_transport_checksum start old now
+    ≡ update_checksum (pseudo_header_and_payload start) (payload_at start old + 16) old now
 by_tcp start old now is room = rw (is, le-leb _ _ room) refl
 
-pub by_cut_tcp : (start : ℕ) (old now : List ℕ) → protocol_at start old ≡ 6 → length old < payload_at start old + 18 → update_transport_checksum start old now ≡ now
+pub by_cut_tcp : (start : ℕ) (old now : List ℕ) → protocol_at start old ≡ 6 → length old < payload_at start old + 18
+    → update_transport_checksum start old now ≡ now
 by_cut_tcp start old now is cut = rw (is, lt-leb _ _ cut) refl
 
-pub by_udp : (start : ℕ) (old now : List ℕ) → protocol_at start old ≡ 17 → update_transport_checksum start old now ≡ update_udp_checksum (pseudo_header_and_payload start) (payload_at start old + 6) old now
+pub by_udp : (start : ℕ) (old now : List ℕ) → protocol_at start old ≡ 17
+    → update_transport_checksum start old now
+    ≡ update_udp_checksum (pseudo_header_and_payload start) (payload_at start old + 6) old now
 by_udp start old now is = rw is refl
 
-pub by_icmp : (start : ℕ) (old now : List ℕ) → protocol_at start old ≡ 1 → update_transport_checksum start old now ≡ update_checksum (payload_in start) (payload_at start old + 2) old now
+pub by_icmp : (start : ℕ) (old now : List ℕ) → protocol_at start old ≡ 1
+    → update_transport_checksum start old now ≡ update_checksum (payload_in start) (payload_at start old + 2) old now
 by_icmp start old now is = rw is refl
 
-pub by_other : (start : ℕ) (old now : List ℕ) → (protocol_at start old == 6) ≡ false → (protocol_at start old == 17) ≡ false → (protocol_at start old == 1) ≡ false → update_transport_checksum start old now ≡ now
+pub by_other : (start : ℕ) (old now : List ℕ) → (protocol_at start old == 6) ≡ false
+    → (protocol_at start old == 17) ≡ false → (protocol_at start old == 1) ≡ false
+    → update_transport_checksum start old now ≡ now
 by_other start old now a b c = rw (a, b, c) refl
 
 -- the fields of each
@@ -179,82 +251,121 @@ tcp_no_sum p offset cut =
     let gone : leb 18 (length (drop offset p)) ≡ false = lt-leb _ _ (omega (arith, cut, length-drop offset p)) in
     rw gone refl
 
-of_tcp_by : (number : ℕ) (p : List ℕ) (offset : ℕ) (sum : Option ℕ) → number ≡ 6 → tcp_checksum_of (drop offset p) ≡ sum → transport_fields_of number (drop offset p) ≡ Tcp (u16_at p offset) (u16_at p (offset + 2)) sum
+of_tcp_by : (number : ℕ) (p : List ℕ) (offset : ℕ) (sum : Option ℕ) → number ≡ 6 → tcp_checksum_of (drop offset p) ≡ sum
+    → transport_fields_of number (drop offset p) ≡ Tcp (u16_at p offset) (u16_at p (offset + 2)) sum
 of_tcp_by number p offset sum is e =
-    rw (is, sym (word_of_rest p offset 0 offset (omega arith)), sym (word_of_rest p offset 2 (offset + 2) refl)) (ap (λ o. Tcp (u16_at (drop offset p) 0) (u16_at (drop offset p) 2) o) e)
+    rw (is, sym (word_of_rest p offset 0 offset (omega arith)), sym (word_of_rest p offset 2 (offset + 2) refl))
+    (ap (λ o. Tcp (u16_at (drop offset p) 0) (u16_at (drop offset p) 2) o) e)
 
-pub of_tcp : (number : ℕ) (p : List ℕ) (offset : ℕ) → number ≡ 6 → offset + 18 ≤ length p → transport_fields_of number (drop offset p) ≡ Tcp (u16_at p offset) (u16_at p (offset + 2)) (Some (u16_at p (offset + 16)))
+pub of_tcp : (number : ℕ) (p : List ℕ) (offset : ℕ) → number ≡ 6 → offset + 18 ≤ length p
+    → transport_fields_of number (drop offset p)
+    ≡ Tcp (u16_at p offset) (u16_at p (offset + 2)) (Some (u16_at p (offset + 16)))
 of_tcp number p offset is room = of_tcp_by number p offset (Some (u16_at p (offset + 16))) is (tcp_sum p offset room)
 
--- of a segment that was cut
-pub of_cut_tcp : (number : ℕ) (p : List ℕ) (offset : ℕ) → number ≡ 6 → length p < offset + 18 → transport_fields_of number (drop offset p) ≡ Tcp (u16_at p offset) (u16_at p (offset + 2)) None
+-- for a quoted segment without its checksum
+pub of_cut_tcp : (number : ℕ) (p : List ℕ) (offset : ℕ) → number ≡ 6 → length p < offset + 18
+    → transport_fields_of number (drop offset p) ≡ Tcp (u16_at p offset) (u16_at p (offset + 2)) None
 of_cut_tcp number p offset is cut = of_tcp_by number p offset None is (tcp_no_sum p offset cut)
 
-pub of_udp : (number : ℕ) (p : List ℕ) (offset : ℕ) → number ≡ 17 → transport_fields_of number (drop offset p) ≡ Udp (u16_at p offset) (u16_at p (offset + 2)) (u16_at p (offset + 6))
-of_udp number p offset is = rw (is, sym (word_of_rest p offset 0 offset (omega arith)), sym (word_of_rest p offset 2 (offset + 2) refl), sym (word_of_rest p offset 6 (offset + 6) refl)) refl
+pub of_udp : (number : ℕ) (p : List ℕ) (offset : ℕ) → number ≡ 17
+    → transport_fields_of number (drop offset p) ≡ Udp (u16_at p offset) (u16_at p (offset + 2)) (u16_at p (offset + 6))
+of_udp number p offset is = rw (
+  is,
+  sym (word_of_rest p offset 0 offset (omega arith)),
+  sym (word_of_rest p offset 2 (offset + 2) refl),
+  sym (word_of_rest p offset 6 (offset + 6) refl),
+) refl
 
-pub of_icmp : (number : ℕ) (p : List ℕ) (offset : ℕ) → number ≡ 1 → transport_fields_of number (drop offset p) ≡ Icmp (u16_at p (offset + 4)) (u16_at p (offset + 2))
+pub of_icmp : (number : ℕ) (p : List ℕ) (offset : ℕ) → number ≡ 1
+    → transport_fields_of number (drop offset p) ≡ Icmp (u16_at p (offset + 4)) (u16_at p (offset + 2))
 of_icmp number p offset is = rw (is, sym (word_of_rest p offset 4 (offset + 4) refl), sym (word_of_rest p offset 2 (offset + 2) refl)) refl
 
-pub of_other : (number : ℕ) (rest : List ℕ) → (number == 6) ≡ false → (number == 17) ≡ false → (number == 1) ≡ false → transport_fields_of number rest ≡ Other
+pub of_other : (number : ℕ) (rest : List ℕ) → (number == 6) ≡ false → (number == 17) ≡ false → (number == 1) ≡ false
+    → transport_fields_of number rest ≡ Other
 of_other number rest a b c = rw (a, b, c) refl
 
-carried_tcp : (start : ℕ) (p : List ℕ) (from to ttl : ℕ) (numbers : Option PortsOrIdentifier) → IsDatagram start p → payload_at start p + 18 ≤ length p → protocol_at start p ≡ 6 → IsCarried start p from to ttl numbers
+carried_tcp : (start : ℕ) (p : List ℕ) (from to ttl : ℕ) (numbers : Option PortsOrIdentifier) → IsDatagram start p
+    → payload_at start p + 18 ≤ length p → protocol_at start p ≡ 6 → IsCarried start p from to ttl numbers
 carried_tcp start p from to ttl numbers d room is =
     let offset = payload_at start p in
     let t = timed start p from to ttl in
     let b = timed_behind start p from to ttl d in
     let ports = ports_named numbers (u16_at p offset) (u16_at p (offset + 2)) in
     let now = with_ports offset t ports.0 ports.1 in
-    let written : write_if_some (with_numbers start) t numbers ≡ now = write_ports numbers start t 6 offset (u16_at p offset) (u16_at p (offset + 2)) (b.protocol ∙ is) b.payload refl refl (ports_kept_behind start p t b) in
-    let right = update_checksum-is (pseudo_header_and_payload start) (offset + 16) p now _ (pseudo_covered start p from to ttl ports.0 ports.1 d (omega (arith, room))) (kept_past_ports start p t ports.0 ports.1 (offset + 16) b (omega arith)) in
+    let written : write_if_some (with_numbers start) t numbers ≡ now =
+    write_ports numbers start t 6 offset (u16_at p offset) (u16_at p (offset + 2))
+    (b.protocol ∙ is) b.payload refl refl (ports_kept_behind start p t b) in
+    let right = update_checksum-is (pseudo_header_and_payload start) (offset + 16) p now _
+    (pseudo_covered start p from to ttl ports.0 ports.1 d (omega (arith, room)))
+    (kept_past_ports start p t ports.0 ports.1 (offset + 16) b (omega arith)) in
     ap (λ l. update_transport_checksum start p l) written ∙ by_tcp start p now is room ∙ right
-    ∙ ap (λ c. with_transport_fields offset t (changed_transport_fields numbers (pair_words start p from to) c)) (sym (of_tcp (protocol_at start p) p offset is room))
+    ∙ ap (λ c. with_transport_fields offset t (changed_transport_fields numbers (pair_words start p from to) c))
+    (sym (of_tcp (protocol_at start p) p offset is room))
 
-carried_cut_tcp : (start : ℕ) (p : List ℕ) (from to ttl : ℕ) (numbers : Option PortsOrIdentifier) → IsDatagram start p → length p < payload_at start p + 18 → protocol_at start p ≡ 6 → IsCarried start p from to ttl numbers
+carried_cut_tcp : (start : ℕ) (p : List ℕ) (from to ttl : ℕ) (numbers : Option PortsOrIdentifier) → IsDatagram start p
+    → length p < payload_at start p + 18 → protocol_at start p ≡ 6 → IsCarried start p from to ttl numbers
 carried_cut_tcp start p from to ttl numbers d cut is =
     let offset = payload_at start p in
     let t = timed start p from to ttl in
     let b = timed_behind start p from to ttl d in
     let ports = ports_named numbers (u16_at p offset) (u16_at p (offset + 2)) in
     let now = with_ports offset t ports.0 ports.1 in
-    let written : write_if_some (with_numbers start) t numbers ≡ now = write_ports numbers start t 6 offset (u16_at p offset) (u16_at p (offset + 2)) (b.protocol ∙ is) b.payload refl refl (ports_kept_behind start p t b) in
+    let written : write_if_some (with_numbers start) t numbers ≡ now =
+    write_ports numbers start t 6 offset (u16_at p offset) (u16_at p (offset + 2))
+    (b.protocol ∙ is) b.payload refl refl (ports_kept_behind start p t b) in
     ap (λ l. update_transport_checksum start p l) written ∙ by_cut_tcp start p now is cut
-    ∙ ap (λ c. with_transport_fields offset t (changed_transport_fields numbers (pair_words start p from to) c)) (sym (of_cut_tcp (protocol_at start p) p offset is cut))
+    ∙ ap (λ c. with_transport_fields offset t (changed_transport_fields numbers (pair_words start p from to) c))
+    (sym (of_cut_tcp (protocol_at start p) p offset is cut))
 
-carried_udp : (start : ℕ) (p : List ℕ) (from to ttl : ℕ) (numbers : Option PortsOrIdentifier) → IsDatagram start p → payload_at start p + 8 ≤ length p → protocol_at start p ≡ 17 → IsCarried start p from to ttl numbers
+carried_udp : (start : ℕ) (p : List ℕ) (from to ttl : ℕ) (numbers : Option PortsOrIdentifier) → IsDatagram start p
+    → payload_at start p + 8 ≤ length p → protocol_at start p ≡ 17 → IsCarried start p from to ttl numbers
 carried_udp start p from to ttl numbers d room is =
     let offset = payload_at start p in
     let t = timed start p from to ttl in
     let b = timed_behind start p from to ttl d in
     let ports = ports_named numbers (u16_at p offset) (u16_at p (offset + 2)) in
     let now = with_ports offset t ports.0 ports.1 in
-    let written : write_if_some (with_numbers start) t numbers ≡ now = write_ports numbers start t 17 offset (u16_at p offset) (u16_at p (offset + 2)) (b.protocol ∙ is) b.payload refl refl (ports_kept_behind start p t b) in
-    let right = update_udp_checksum-is (pseudo_header_and_payload start) (offset + 6) p now _ (pseudo_covered start p from to ttl ports.0 ports.1 d (omega (arith, room))) (kept_past_ports start p t ports.0 ports.1 (offset + 6) b (omega arith)) in
+    let written : write_if_some (with_numbers start) t numbers ≡ now =
+    write_ports numbers start t 17 offset (u16_at p offset) (u16_at p (offset + 2))
+    (b.protocol ∙ is) b.payload refl refl (ports_kept_behind start p t b) in
+    let right = update_udp_checksum-is (pseudo_header_and_payload start) (offset + 6) p now _
+    (pseudo_covered start p from to ttl ports.0 ports.1 d (omega (arith, room)))
+    (kept_past_ports start p t ports.0 ports.1 (offset + 6) b (omega arith)) in
     ap (λ l. update_transport_checksum start p l) written ∙ by_udp start p now is ∙ right
-    ∙ ap (λ c. with_transport_fields offset t (changed_transport_fields numbers (pair_words start p from to) c)) (sym (of_udp (protocol_at start p) p offset is))
+    ∙ ap (λ c. with_transport_fields offset t (changed_transport_fields numbers (pair_words start p from to) c))
+    (sym (of_udp (protocol_at start p) p offset is))
 
-carried_icmp : (start : ℕ) (p : List ℕ) (from to ttl : ℕ) (numbers : Option PortsOrIdentifier) → IsDatagram start p → payload_at start p + 6 ≤ length p → protocol_at start p ≡ 1 → IsCarried start p from to ttl numbers
+carried_icmp : (start : ℕ) (p : List ℕ) (from to ttl : ℕ) (numbers : Option PortsOrIdentifier) → IsDatagram start p
+    → payload_at start p + 6 ≤ length p → protocol_at start p ≡ 1 → IsCarried start p from to ttl numbers
 carried_icmp start p from to ttl numbers d room is =
     let offset = payload_at start p in
     let t = timed start p from to ttl in
     let b = timed_behind start p from to ttl d in
     let number = identifier_named numbers (u16_at p (offset + 4)) in
     let now = with_u16 t (offset + 4) number in
-    let written : write_if_some (with_numbers start) t numbers ≡ now = write_identifier numbers start t 1 offset (u16_at p (offset + 4)) (b.protocol ∙ is) b.payload refl refl (kept_behind start p t (offset + 4) b (omega arith)) in
-    let right = update_checksum-is (payload_in start) (offset + 2) p now _ (carried_covered start p from to ttl number d room) (kept_past_identifier start p t number b) in
+    let written : write_if_some (with_numbers start) t numbers ≡ now =
+    write_identifier numbers start t 1 offset (u16_at p (offset + 4)) (b.protocol ∙ is) b.payload refl refl
+    (kept_behind start p t (offset + 4) b (omega arith)) in
+    let right = update_checksum-is (payload_in start) (offset + 2) p now _
+    (carried_covered start p from to ttl number d room) (kept_past_identifier start p t number b) in
     ap (λ l. update_transport_checksum start p l) written ∙ by_icmp start p now is ∙ right
-    ∙ ap (λ c. with_transport_fields offset t (changed_transport_fields numbers (pair_words start p from to) c)) (sym (of_icmp (protocol_at start p) p offset is))
+    ∙ ap (λ c. with_transport_fields offset t (changed_transport_fields numbers (pair_words start p from to) c))
+    (sym (of_icmp (protocol_at start p) p offset is))
 
-carried_other : (start : ℕ) (p : List ℕ) (from to ttl : ℕ) (numbers : Option PortsOrIdentifier) → IsDatagram start p → (protocol_at start p == 6) ≡ false → (protocol_at start p == 17) ≡ false → (protocol_at start p == 1) ≡ false → IsCarried start p from to ttl numbers
+carried_other : (start : ℕ) (p : List ℕ) (from to ttl : ℕ) (numbers : Option PortsOrIdentifier) → IsDatagram start p
+    → (protocol_at start p == 6) ≡ false → (protocol_at start p == 17) ≡ false → (protocol_at start p == 1) ≡ false
+    → IsCarried start p from to ttl numbers
 carried_other start p from to ttl numbers d x y z =
     let offset = payload_at start p in
     let t = timed start p from to ttl in
     let b = timed_behind start p from to ttl d in
-    ap (λ l. update_transport_checksum start p l) (write_none numbers start t (protocol_at start p) b.protocol (or_from _ _ x y) z) ∙ by_other start p t x y z
-    ∙ ap (λ c. with_transport_fields offset t (changed_transport_fields numbers (pair_words start p from to) c)) (sym (of_other (protocol_at start p) (drop offset p) x y z))
+    ap (λ l. update_transport_checksum start p l)
+    (write_none numbers start t (protocol_at start p) b.protocol (or_from _ _ x y) z) ∙ by_other start p t x y z
+    ∙ ap (λ c. with_transport_fields offset t (changed_transport_fields numbers (pair_words start p from to) c))
+    (sym (of_other (protocol_at start p) (drop offset p) x y z))
 
-is_carried : (start : ℕ) (p : List ℕ) (from to ttl : ℕ) (numbers : Option PortsOrIdentifier) → IsDatagram start p → payload_at start p + len_of (carried_at start p) ≤ length p → IsCarried start p from to ttl numbers
+is_carried : (start : ℕ) (p : List ℕ) (from to ttl : ℕ) (numbers : Option PortsOrIdentifier) → IsDatagram start p
+    → payload_at start p + len_of (carried_at start p) ≤ length p → IsCarried start p from to ttl numbers
 is_carried start p from to ttl numbers d room =
     let number = protocol_at start p in
     let offset = payload_at start p in
@@ -284,5 +395,9 @@ whole_is start p change d room =
     let offset = payload_at start p in
     let c = changed_transport_fields change.numbers (pair_words start p from to) (carried_at start p) in
     let x = with_transport_fields offset t c in
-    let fields : update_transport_checksum start p (replaced start p change) ≡ x = ap (λ l. update_transport_checksum start p l) (replaced_header start p change d) ∙ is_carried start p from to ttl change.numbers d room in
-    sym (ap (λ l. update_header_checksum start p l) fields ∙ header_right start p x from to ttl d (carried_head start (header_len (drop start p)) offset t c (omega arith)))
+    let fields : update_transport_checksum start p (replaced start p change) ≡ x =
+    ap (λ l. update_transport_checksum start p l) (replaced_header start p change d)
+    ∙ is_carried start p from to ttl change.numbers d room in
+    sym (ap (λ l. update_header_checksum start p l) fields
+    ∙ header_right start p x from to ttl d (carried_head start (header_len (drop start p)) offset t c
+    (omega arith)))

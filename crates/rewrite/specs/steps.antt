@@ -1,2 +1,2 @@
--- What private functions read on the way: nothing that a public contract cites.
+-- Definitions for private functions: no public contract cites them.
 pub mod Fields

@@ -1,52 +1,53 @@
-//! What is to be other in a packet.
+//! Header changes.
 ghost use Rattle.std.specs.Prelude.{◌≡◌};
 ghost use Rattle.rewrite.specs.Endpoints.{between, ports_or_identifier};
 
 use ip_headers::{Kind, Tuple};
 
-/// The numbers that tell the ends of a packet apart, besides its addresses.
+/// What identifies the endpoints of a packet besides the addresses.
 #[derive(Clone, Copy, Debug, PartialEq, Eq)]
 pub enum PortsOrIdentifier {
-    /// Of TCP and UDP: the source port and the destination port.
+    /// TCP and UDP: the source port and the destination port.
     Ports(u16, u16),
-    /// Of an ICMP query and its answer.
+    /// ICMP echo request and echo reply: the identifier.
     Identifier(u16),
 }
 
-/// What is to be other in a packet: each field or none.
+/// Header fields to replace. `None` leaves a field as it is.
 #[derive(Clone, Copy, Debug, PartialEq, Eq)]
 pub struct Change {
-    /// The source address, its first group the highest byte.
+    /// The source address in host byte order.
     pub source: Option<u32>,
     /// The destination address.
     pub destination: Option<u32>,
-    /// Ports or an identifier; where the packet's protocol has no such numbers, nothing of it changes.
+    /// Ports or identifier. Ignored where the packet's protocol has none.
     pub numbers: Option<PortsOrIdentifier>,
     /// The time to live.
     pub ttl: Option<u8>,
-    /// Of an ICMP error: the ends between which the datagram goes that it is about; where the packet
-    /// is about none that can be read, nothing of it changes.
+    /// For an ICMP error: the new endpoints of the quoted datagram. Ignored where the packet quotes
+    /// none that can be translated.
     pub inner: Option<Tuple>,
 }
 
 impl Change {
-    /// The packet is to go between the ends of a tuple, with this time to live or its own.
+    /// Gives a packet the endpoints of a tuple, and this TTL or its own.
     pub fn between(tuple: Tuple, ttl: Option<u8>) -> Change
         ensures { result ≡ between tuple ttl }
     {
         Change {
             source: Some(tuple.source.address),
             destination: Some(tuple.destination.address),
-            numbers: numbers_of(&tuple),
+            numbers: ports_or_identifier_of(&tuple),
             ttl,
             inner: None,
         }
     }
 }
 
-/// The numbers of a tuple: ports, or the identifier at the end that asks.
-fn numbers_of(tuple: &Tuple) -> Option<PortsOrIdentifier>
-    ensures { result ≡ ports_or_identifier tuple.now.kind tuple.now.source.port tuple.now.destination.port }
+/// The ports of a tuple, or the identifier at the endpoint that sends the requests.
+fn ports_or_identifier_of(tuple: &Tuple) -> Option<PortsOrIdentifier>
+    ensures { result
+        ≡ ports_or_identifier tuple.now.kind tuple.now.source.port tuple.now.destination.port }
 {
     let (from, to) = (tuple.source.port, tuple.destination.port);
     match tuple.kind {

@@ -1,10 +1,10 @@
-//! Checksums after words under them changed.
+//! Incremental checksum updates (RFC 1624).
 ghost use Rattle.std.specs.Prelude.{◌≡◌, ◌+◌, ◌^◌, ◌<◌};
 ghost use Rattle.rewrite.specs.Rewritten.{corrected, or_all_ones};
 ghost use Rattle.rewrite.specs.steps.Fields.{combined, u32_change, updated_checksum, updated_udp_checksum, u16_change};
 
-/// The words under a checksum that a change replaces: what they add up to before it and after it, and
-/// whether each of them stays the same.
+/// The words under a checksum that a change replaces: their sum before and after it, and whether
+/// all of them stay the same.
 #[derive(Clone, Copy)]
 pub(crate) struct ChecksumDelta {
     pub old: u32,
@@ -13,7 +13,7 @@ pub(crate) struct ChecksumDelta {
 }
 
 impl ChecksumDelta {
-    /// One word.
+    /// The change of one word.
     pub(crate) fn word(old: u16, new: u16) -> ChecksumDelta
         ensures { result ≡ u16_change old new }
     {
@@ -24,7 +24,7 @@ impl ChecksumDelta {
         }
     }
 
-    /// A number of two words.
+    /// The change of a 32-bit number, which is two words.
     pub(crate) fn number(old: u32, new: u32) -> ChecksumDelta
         ensures { result ≡ u32_change old new }
     {
@@ -35,7 +35,7 @@ impl ChecksumDelta {
         }
     }
 
-    /// These words and others.
+    /// These changes and others.
     pub(crate) fn and(self, other: ChecksumDelta) -> ChecksumDelta
         requires old { self.old + other.old < 2 ^ 32 }
         requires new { self.new + other.new < 2 ^ 32 }
@@ -48,7 +48,7 @@ impl ChecksumDelta {
         }
     }
 
-    /// The checksum after the change: as it was where no word changed.
+    /// The checksum after the change; the same where no word changed.
     pub(crate) fn update(self, checksum: u16) -> u16
         ensures { result ≡ updated_checksum self checksum }
     {
@@ -59,7 +59,7 @@ impl ChecksumDelta {
         }
     }
 
-    /// The same of UDP, where 0 says that there is none (RFC 768).
+    /// The same for UDP, where 0 means no checksum and a computed 0 is written as ffff (RFC 768).
     pub(crate) fn update_udp(self, checksum: u16) -> u16
         ensures { result ≡ updated_udp_checksum self checksum }
     {
@@ -72,8 +72,8 @@ impl ChecksumDelta {
         }
     }
 
-    /// The number from 0 to 65534 that is congruent to the checksum plus the old words minus the new
-    /// ones, modulo 65535 (RFC 1624, section 3).
+    /// The incremental update (RFC 1624, section 3): the number from 0 to 65534 that is congruent to
+    /// the checksum plus the old words minus the new ones, modulo 65535.
     fn incremental_update(self, checksum: u16) -> u16
         ensures { result ≡ corrected checksum self.old self.new }
     {

@@ -14,15 +14,15 @@ pub(crate) struct Fields {
     pub source: u32,
     pub destination: u32,
     pub ttl: u8,
-    /// The header's checksum.
+    /// The header checksum.
     pub checksum: u16,
-    pub carried: TransportFields,
+    pub transport: TransportFields,
 }
 
-/// Those of what a datagram carries.
+/// The fields of a datagram's payload.
 #[derive(Clone, Copy)]
 pub(crate) enum TransportFields {
-    /// Of a segment that was cut the checksum may be missing.
+    /// A quoted segment may end before its checksum.
     Tcp {
         from: u16,
         to: u16,
@@ -41,24 +41,24 @@ pub(crate) enum TransportFields {
 }
 
 impl Fields {
-    /// Those of the datagram that begins at a place.
+    /// Reads the fields of the datagram that begins at `start`.
     pub(crate) fn read(packet: &[u8], start: usize) -> Fields
         requires { HasFields start packet.now }
         ensures fields { result ≡ fields_at start packet.now }
         ensures bytes { (i : ℕ) → slice_index packet.now i < 256 }
     {
-        // IHL counts words of four bytes.
+        // IHL counts 32-bit words.
         let payload = start + (packet[start] % 16) as usize * 4;
         Fields {
             source: BigEndian::read_u32(&packet[start + 12..]),
             destination: BigEndian::read_u32(&packet[start + 16..]),
             ttl: packet[start + 8],
             checksum: BigEndian::read_u16(&packet[start + 10..]),
-            carried: TransportFields::read(packet[start + 9], &packet[payload..]),
+            transport: TransportFields::read(packet[start + 9], &packet[payload..]),
         }
     }
 
-    /// As they are sent on: replaced where a value is named, the checksums corrected.
+    /// The fields after a change, with updated checksums.
     pub(crate) fn changed(&self, change: &Change) -> Fields
         ensures { result ≡ changed_fields change.now self.now }
     {
@@ -76,16 +76,16 @@ impl Fields {
             destination,
             ttl,
             checksum: header.update(self.checksum),
-            carried: self.carried.changed(change.numbers, addresses),
+            transport: self.transport.changed(change.numbers, addresses),
         }
     }
 
-    /// The words of the datagram that others take the place of.
+    /// The changes of words between these fields and new ones.
     pub(crate) fn words_to(&self, new: &Fields) -> ChecksumDelta
         ensures { result ≡ fields_change self.now new.now }
     {
-        let (first, second, checksum) = self.carried.words();
-        let (new_first, new_second, new_checksum) = new.carried.words();
+        let (first, second, checksum) = self.transport.words();
+        let (new_first, new_second, new_checksum) = new.transport.words();
         // The TTL is the high byte of its word.
         ChecksumDelta::number(self.source, new.source)
             .and(ChecksumDelta::number(self.destination, new.destination))
@@ -96,17 +96,18 @@ impl Fields {
             .and(ChecksumDelta::word(self.checksum, new.checksum))
     }
 
-    /// Writes them into the datagram that begins at a place.
+    /// Writes the fields into the datagram that begins at `start`.
     pub(crate) fn write(&self, packet: &mut [u8], start: usize)
         requires long { 20 ≤ header_len (drop start packet.old) }
-        requires whole { payload_at start packet.old + len_of self.now.carried ≤ length packet.old }
+        requires whole { payload_at start packet.old + len_of self.now.transport
+            ≤ length packet.old }
         ensures { packet.new ≡ with_fields start packet.old self.now }
     {
         let mut parts = PartsMut::new(packet, start);
         parts.set_source(self.source);
         parts.set_destination(self.destination);
         parts.set_ttl(self.ttl);
-        match self.carried {
+        match self.transport {
             TransportFields::Tcp { from, to, checksum } => {
                 parts.set_source_port(from);
                 parts.set_destination_port(to);
@@ -133,7 +134,7 @@ impl Fields {
 }
 
 impl TransportFields {
-    /// Those of a payload of the protocol with this number.
+    /// Reads the fields of a payload with this protocol number.
     fn read(protocol: u8, payload: &[u8]) -> TransportFields
         requires { len_of (transport_fields_of protocol payload.now) ≤ length payload.now }
         ensures { result ≡ transport_fields_of protocol payload.now }
@@ -157,7 +158,7 @@ impl TransportFields {
         }
     }
 
-    /// Their words, 0 where there are fewer than three.
+    /// The words of the fields, 0 where there are fewer than three.
     fn words(&self) -> (u16, u16, u16)
         ensures { result ≡ transport_words self.now }
     {
@@ -172,8 +173,8 @@ impl TransportFields {
         }
     }
 
-    /// As they are sent on, where the words of the addresses change so: TCP and UDP sum the addresses
-    /// too, in the pseudo header.
+    /// The fields after a change of ports or identifier and of the addresses, which TCP and UDP
+    /// cover too, in the pseudo header.
     fn changed(
         &self,
         numbers: Option<PortsOrIdentifier>,
@@ -217,7 +218,7 @@ impl TransportFields {
     }
 }
 
-/// The checksum of a segment of TCP, if so much of it is there.
+/// The checksum of a TCP segment, if the segment is long enough.
 fn tcp_checksum(segment: &[u8]) -> Option<u16>
     ensures { result ≡ tcp_checksum_of segment.now }
 {
@@ -227,7 +228,7 @@ fn tcp_checksum(segment: &[u8]) -> Option<u16>
     Some(BigEndian::read_u16(&segment[16..]))
 }
 
-/// The ports that are named, or else these.
+/// The given ports, else these.
 fn named_ports(numbers: Option<PortsOrIdentifier>, from: u16, to: u16) -> (u16, u16)
     ensures { result ≡ ports_named numbers from to }
 {
@@ -237,7 +238,7 @@ fn named_ports(numbers: Option<PortsOrIdentifier>, from: u16, to: u16) -> (u16, 
     }
 }
 
-/// The identifier that is named, or else this one.
+/// The given identifier, else this one.
 fn named_identifier(numbers: Option<PortsOrIdentifier>, identifier: u16) -> u16
     ensures { result ≡ identifier_named numbers identifier }
 {
@@ -247,7 +248,7 @@ fn named_identifier(numbers: Option<PortsOrIdentifier>, identifier: u16) -> u16
     }
 }
 
-/// The words of two ports.
+/// The change of two ports.
 fn port_words(old: (u16, u16), new: (u16, u16)) -> ChecksumDelta
     ensures { result ≡ port_change old new }
 {

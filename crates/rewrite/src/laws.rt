@@ -1,4 +1,4 @@
-//! What is known of packets that are sent on, each as the contract of a function that does nothing.
+//! Laws about rewritten packets, each as the contract of a function that does nothing.
 ghost use Rattle.std.specs.Prelude.{◌≡◌, ◌≢◌, ◌+◌, ◌%◌, ℕ, List, None, Option, Some};
 ghost use Rattle.ip_headers.specs.declared.tuple.Tuple.{Tuple};
 ghost use Rattle.ip_headers.specs.Header.{fault_of, payload_at, payload_of, protocol};
@@ -11,32 +11,40 @@ ghost use Rattle.rewrite.specs.Rewritten.{payload_in, pseudo_header_and_payload,
 
 use ip_headers::laws::no_fault;
 
-/// What leaves passes the tests of its headers again, as what came did: its header's checksum is right
-/// again.
+/// A rewritten packet passes the header tests that the original passed; its header checksum is
+/// correct.
 pub fn rewritten_is_faultless()
-    ensures { (packet : List ℕ) (change : Change) → fault_of packet ≡ None → fault_of (rewritten packet change) ≡ None }
+    ensures { (packet : List ℕ) (change : Change) → fault_of packet ≡ None
+        → fault_of (rewritten packet change) ≡ None }
 {
     no_fault();
 }
 
-/// A packet that is sent on between the ends of a tuple of its own kind carries that tuple.
+/// A packet that is rewritten to the endpoints of a tuple of its own kind has that tuple.
 pub fn rewritten_has_tuple()
-    ensures { (packet : List ℕ) (t : Tuple) (ttl : Option ℕ) → fault_of packet ≡ None → kind_of (protocol packet) (payload_of packet) ≡ Some t.kind → PortsMatchKind t.kind t.source.port t.destination.port
+    ensures { (packet : List ℕ) (t : Tuple) (ttl : Option ℕ) → fault_of packet ≡ None
+        → kind_of (protocol packet) (payload_of packet) ≡ Some t.kind
+        → PortsMatchKind t.kind t.source.port t.destination.port
         → tuple_of (rewritten packet (between t ttl)) ≡ Some t }
 {
     no_fault();
 }
 
-/// A checksum of what is carried stays as right or as wrong as it was: modulo 65535 the words that it is
-/// made over add up to what they did. Those of the pseudo header that aren't addresses never change.
+/// The transport checksum's error doesn't change: modulo 65535 the covered words have the same sum
+/// as before. The words of the pseudo header that aren't addresses never change.
 pub fn checksum_error_is_kept()
     ensures tcp { (packet : List ℕ) (change : Change) → fault_of packet ≡ None → protocol packet ≡ 6
-        → words_sum (pseudo_header_and_payload 0 (rewritten packet change)) % 65535 ≡ words_sum (pseudo_header_and_payload 0 packet) % 65535 }
-    // Of UDP where the sender made one.
-    ensures udp { (packet : List ℕ) (change : Change) → fault_of packet ≡ None → protocol packet ≡ 17 → u16_at packet (payload_at 0 packet + 6) ≢ 0
-        → words_sum (pseudo_header_and_payload 0 (rewritten packet change)) % 65535 ≡ words_sum (pseudo_header_and_payload 0 packet) % 65535 }
-    ensures icmp { (packet : List ℕ) (change : Change) → fault_of packet ≡ None → protocol packet ≡ 1
-        → words_sum (payload_in 0 (rewritten packet change)) % 65535 ≡ words_sum (payload_in 0 packet) % 65535 }
+        → words_sum (pseudo_header_and_payload 0 (rewritten packet change)) % 65535
+        ≡ words_sum (pseudo_header_and_payload 0 packet) % 65535 }
+    // For UDP if the sender made a checksum.
+    ensures udp { (packet : List ℕ) (change : Change) → fault_of packet ≡ None
+        → protocol packet ≡ 17 → u16_at packet (payload_at 0 packet + 6) ≢ 0
+        → words_sum (pseudo_header_and_payload 0 (rewritten packet change)) % 65535
+        ≡ words_sum (pseudo_header_and_payload 0 packet) % 65535 }
+    ensures icmp { (packet : List ℕ) (change : Change) → fault_of packet ≡ None
+        → protocol packet ≡ 1
+        → words_sum (payload_in 0 (rewritten packet change)) % 65535
+        ≡ words_sum (payload_in 0 packet) % 65535 }
 {
     no_fault();
 }

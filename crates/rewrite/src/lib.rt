@@ -1,4 +1,4 @@
-//! Packets as they are sent on: fields replaced, and checksums corrected by the changed words alone.
+//! Packet rewriting for forwarding and NAT: fields replaced, checksums updated incrementally.
 #![tactic(auto)]
 
 mod change;

@@ -1,4 +1,4 @@
-//! Packets as they are sent on.
+//! Rewrites packets.
 ghost use Rattle.std.specs.Prelude.{◌≡◌, ◌+◌, ◌<◌, ◌≤◌, ◌++◌, length, OnOk, OnErr, vec_len, vec_capacity};
 ghost use Rattle.ip_headers.specs.Header.{payload_at};
 ghost use Rattle.rewrite.specs.Rewritten.{payload_in, inner_start, update_checksum, replaced, rewritten, update_checksums, with_endpoints};
@@ -11,19 +11,25 @@ use ip_headers::laws::no_fault;
 use ip_headers::{PartsMut, Tuple, View};
 use std::alloc::AllocError;
 
-/// Appends the packet as it leaves: the named fields replaced, each checksum over a changed word
-/// corrected for the change (RFC 1624), all else as it came. A wrong checksum stays as wrong as it was.
-/// Of an ICMP error the same becomes of the datagram that it is about (RFC 5508, section 4.2).
+/// Appends the rewritten packet: the given fields replaced, each checksum over a changed word
+/// updated incrementally (RFC 1624), all else as received. A wrong checksum stays wrong by as much.
+/// The datagram that an ICMP error quotes is rewritten likewise (RFC 5508, section 4.2).
 ///
-/// What is read and written doesn't grow with the packet, but for the one copy. `Err` comes only where
-/// the buffer had to grow and couldn't, which it hadn't where it had room for 65,535 bytes more; then
-/// it holds what it held.
+/// Except for one copy the work doesn't depend on the packet's length.
+///
+/// # Errors
+///
+/// Where the buffer had to grow and memory ran out; then it is unchanged. A buffer with room for
+/// 65,535 more bytes needn't grow.
 pub fn emit(view: &View, change: &Change, out: &mut Vec<u8>) -> Result<(), AllocError>
-    ensures ok { OnOk result (out.new.items ≡ out.old.items ++ rewritten view.now.packet.now change.now) }
-    // What leaves is as long as what came.
-    ensures same_length { length (rewritten view.now.packet.now change.now) ≡ length view.now.packet.now }
+    ensures ok { OnOk result (out.new.items
+        ≡ out.old.items ++ rewritten view.now.packet.now change.now) }
+    // The length doesn't change.
+    ensures same_length { length (rewritten view.now.packet.now change.now)
+        ≡ length view.now.packet.now }
     ensures err { OnErr result (out.new.items ≡ out.old.items) }
-    ensures full { OnErr result (vec_capacity out.old < vec_len out.old + length view.now.packet.now) }
+    ensures full { OnErr result (vec_capacity out.old
+        < vec_len out.old + length view.now.packet.now) }
     // So a buffer that was reserved once stays large enough for every packet.
     ensures capacity { vec_capacity out.old ≤ vec_capacity out.new }
 {
@@ -33,8 +39,8 @@ pub fn emit(view: &View, change: &Change, out: &mut Vec<u8>) -> Result<(), Alloc
     Ok(())
 }
 
-/// Changes a packet, of which this is the view: first the datagram that it is about, if that can be
-/// read, then its own fields.
+/// Rewrites a packet, given its view: first the quoted datagram, if that can be translated, then
+/// the packet's own fields.
 fn rewrite_packet(packet: &mut [u8], view: &View, change: &Change)
     requires { packet.old ≡ view.now.packet.now }
     ensures { packet.new ≡ rewritten packet.old change.now }
@@ -46,15 +52,16 @@ fn rewrite_packet(packet: &mut [u8], view: &View, change: &Change)
     rewrite(packet, 0, change);
 }
 
-/// Changes the datagram that an ICMP error is about, and the error's own checksum, which covers it.
-/// What the packet carries begins at `payload`.
+/// Rewrites the datagram that an ICMP error quotes, and updates the error's checksum, which covers
+/// it. `payload` is the offset of the packet's payload.
 fn rewrite_inner(packet: &mut [u8], payload: usize, tuple: Tuple)
     requires payload { payload ≡ payload_at 0 packet.old }
     requires long { 20 ≤ payload }
     requires fields { HasFields (inner_start packet.old) packet.old }
-    ensures { packet.new ≡ update_checksum (payload_in 0) (payload_at 0 packet.old + 2) packet.old (with_endpoints (inner_start packet.old) packet.old tuple) }
+    ensures { packet.new ≡ update_checksum (payload_in 0) (payload_at 0 packet.old + 2) packet.old
+        (with_endpoints (inner_start packet.old) packet.old tuple) }
 {
-    // The datagram follows the 8 bytes that begin every error.
+    // The datagram follows the error's 8 bytes.
     let start = payload + 8;
     let old = Fields::read(packet, start);
     let new = old.changed(&Change::between(tuple, None));
@@ -64,10 +71,11 @@ fn rewrite_inner(packet: &mut [u8], payload: usize, tuple: Tuple)
     parts.set_icmp_checksum(old.words_to(&new).update(checksum));
 }
 
-/// Changes the datagram that begins at a place of a packet, its checksums with it.
+/// Rewrites the datagram that begins at `start`, with its checksums.
 fn rewrite(packet: &mut [u8], start: usize, change: &Change)
     requires { HasFields start packet.old }
-    ensures { packet.new ≡ update_checksums start packet.old (replaced start packet.old change.now) }
+    ensures { packet.new ≡ update_checksums start packet.old
+        (replaced start packet.old change.now) }
 {
     Fields::read(packet, start)
         .changed(change)

@@ -1,4 +1,4 @@
--- The map from incoming tuples to slots.
+-- The index from incoming tuples to slots.
 use Rattle.std.specs.Prelude.{◌≡◌, ℕ, true, not, if◌then◌else◌, Option, Some, None, length}
 use Rattle.ip_headers.specs.declared.tuple.Tuple.{Tuple}
 use Rattle.ip_headers.specs.Same.{same_tuple}
@@ -12,7 +12,7 @@ use Rattle.conntrack.specs.ConntrackEntry.{belonging_by, is_incoming, is_live, c
 use Rattle.aged_tracker.specs.declared.aged_slots.AgedSlots.{AgedSlots}
 use Rattle.aged_tracker.specs.steps.Table.{IsTable, held_by, slots_of}
 
--- the map finds for each tuple the slot of the connection whose incoming tuple it is
+-- the index has the slot of each incoming tuple of a connection, and no other tuples
 pub record IsKeyed (slots : ℕ → Option ConntrackEntry) (at : Tuple → Option ℕ) : Type 0 where
   pub found : (tuple : Tuple) (key : ℕ) → at tuple ≡ Some key
       → (h : ConntrackEntry) × ((slots key ≡ Some h) × (is_incoming tuple h ≡ true))
@@ -24,8 +24,9 @@ pub record IsConsistent (slots : AgedSlots) (at : Tuple → Option ℕ) (live : 
   pub keyed : IsKeyed (slots_of slots) at
   pub count : live ≡ length (held_by slots)
 
--- what a packet belongs to, where its tuple is one of the connection's
+-- the lookup result of a packet whose tuple is an incoming tuple of the entry
 abbrev pub belonging_of : Limits → ℕ → Tuple → Flags → ConntrackEntry → Belonging
 belonging_of limits now tuple flags h =
     if not (is_live limits now h) then NotFound
-    else (if same_tuple h.original tuple then belonging_by flags (Some h) None else Found (connection_ref h Reply))
+    else (if same_tuple h.original tuple then belonging_by flags (Some h) None
+    else Found (connection_ref h Reply))

@@ -1,6 +1,7 @@
--- Rings of links through the slots of a slab, each through its head. A slot is in a ring of each thread.
-use Rattle.std.specs.Prelude.{◌≡◌, ◌≢◌, ℕ, zero, suc, ◌-◌, ◌<◌, ◌≤◌, nat_lt, if◌then◌else◌, List, [], ◌∷◌, ◌++◌}
-use Rattle.std.specs.Prelude.{length, Option, Some, None, IsSome, option_map, slice_index_or}
+-- Circular doubly linked lists through the slots of a slab, each with a head. A slot is in one list of each
+-- set of lists: its queue, and the order of creation.
+use Rattle.std.specs.Prelude.{◌≡◌, ◌≢◌, ℕ, zero, suc, ◌-◌, ◌<◌, ◌≤◌, nat_lt, if◌then◌else◌, List, [], ◌∷◌}
+use Rattle.std.specs.Prelude.{◌++◌, length, Option, Some, None, IsSome, option_map, slice_index_or}
 use Rattle.slab.specs.Slab.{Slab, Updates, get, slab_len}
 use Rattle.futures.specs.LinkedLists.{without}
 use Rattle.futures.specs.Links as ring
@@ -23,7 +24,7 @@ abbrev pub with_links : SlotList → ListLinks → Slot → Slot
 with_links Queues links slot = record slot { in_queue = links.list; queue = links.link }
 with_links Order links slot = record slot { in_order = links.list; order = links.link }
 
--- a slot in the same places of its lists
+-- a slot with the same links
 abbrev pub IsAsLinked : Slot → Slot → Type 0
 IsAsLinked old new = (slot_list : SlotList) → links_of slot_list new ≡ links_of slot_list old
 
@@ -32,12 +33,14 @@ other_slot_list Queues = Order
 other_slot_list Order = Queues
 
 abbrev pub with_link : SlotList → Link → Slot → Slot
-with_link slot_list link slot = with_links slot_list (record { list = (links_of slot_list slot).list; link = link }) slot
+with_link slot_list link slot =
+    with_links slot_list (record { list = (links_of slot_list slot).list; link = link }) slot
 
 abbrev pub with_list : SlotList → Option ℕ → Slot → Slot
-with_list slot_list list slot = with_links slot_list (record { list = list; link = (links_of slot_list slot).link }) slot
+with_list slot_list list slot =
+    with_links slot_list (record { list = list; link = (links_of slot_list slot).link }) slot
 
--- the connection in the slot of a key
+-- the entry in the slot of a key
 abbrev pub held_of : ℕ → Slot → ConntrackEntry
 held_of key slot = record {
   id = record { 0 = key };
@@ -52,7 +55,7 @@ held_of key slot = record {
   dest = option_map mapping_of slot.dest;
 }
 
--- what is held in a slot
+-- the entry in a slot, if there is one
 abbrev pub held_at : Slab Slot → ℕ → Option ConntrackEntry
 held_at slots key = option_map (held_of key) (get slots key)
 
@@ -60,7 +63,7 @@ abbrev pub cons_held : Option ConntrackEntry → List ConntrackEntry → List Co
 cons_held None held = held
 cons_held (Some h) held = h ∷ held
 
--- a slot in which a connection is noted, whose tuples and mappings it has
+-- a slot updated for a touched entry, which keeps its tuples and mappings
 abbrev pub updated : ConntrackEntry → Slot → Slot
 updated h slot = record slot {
   last = h.last;
@@ -70,7 +73,7 @@ updated h slot = record slot {
   replied = h.replied;
 }
 
--- a slot gets this connection, and is in no list
+-- a slot gets this entry, and is in no list
 pub record Fills (old new : Slab Slot) (key : ℕ) (h : ConntrackEntry) : Type 0 where
   pub slot : Slot
   pub updates : Updates old new key (Some slot)
@@ -78,18 +81,18 @@ pub record Fills (old new : Slab Slot) (key : ℕ) (h : ConntrackEntry) : Type 0
   pub no_queue : (links_of Queues slot).list ≡ None
   pub no_order : (links_of Order slot).list ≡ None
 
--- what is held at these keys
+-- the entries at these keys
 abbrev pub held_in : (ℕ → Option ConntrackEntry) → List ℕ → List ConntrackEntry
 held_in at [] = []
 held_in at (key ∷ keys) = cons_held (at key) (held_in at keys)
 
--- ---- places
+-- ---- nodes: heads and slots
 
--- how many keys slots may have
+-- how many keys slots may have, so that node indexes fit in 32 bits
 abbrev pub MAX_KEYS : ℕ
 MAX_KEYS = 4294967291
 
--- the heads are numbered first, then the slots
+-- heads are numbered first, then slots
 abbrev pub number : NodeIndex → ℕ
 number at = at.0
 
@@ -100,7 +103,7 @@ abbrev pub link_by : SlotList → Option Slot → Link
 link_by slot_list None = no_link
 link_by slot_list (Some slot) = (links_of slot_list slot).link
 
--- the link at a place
+-- the links of a node
 abbrev pub link_at : SlotList → Slab Slot → List Link → ℕ → Link
 link_at slot_list slots heads node =
     if nat_lt node 5 then slice_index_or heads node no_link else link_by slot_list (get slots (node - 5))
@@ -119,45 +122,50 @@ owner_by slot_list (Some slot) = (links_of slot_list slot).list
 abbrev pub owner_of : SlotList → Slab Slot → ℕ → Option ℕ
 owner_of slot_list slots key = owner_by slot_list (get slots key)
 
--- the ring through a head holds these keys, each once, in this order: all that are owned by it
+-- the circular list of a head has these keys, each once, in this order: all slots that belong to it
 abbrev pub IsRing : SlotList → Slab Slot → List Link → ℕ → List ℕ → Type 0
 IsRing slot_list slots heads list keys =
-    ring.IsRing (next_of slot_list slots heads) (prev_of slot_list slots heads) 5 (owner_of slot_list slots) list keys
+    ring.IsRing (next_of slot_list slots heads) (prev_of slot_list slots heads) 5
+    (owner_of slot_list slots) list keys
 
--- the place is there
+-- the node exists
 abbrev pub IsNode : Slab Slot → ℕ → Type 0
 IsNode slots node = 5 ≤ node → IsSome (get slots (node - 5))
 
--- the link at one place is this, and every other is as it was
+-- the links of one node are set, and all others are unchanged
 pub record Relinks (old new : ℕ → Link) (node : ℕ) (link : Link) : Type 0 where
   pub here : new node ≡ link
   pub others : (other : ℕ) → other ≢ node → new other ≡ old other
 
--- the connection in a slot of whatever key
+-- the entry in a slot, for any key
 abbrev pub kept_of : Slot → ℕ → ConntrackEntry
 kept_of slot key = held_of key slot
 
--- a slot but for its neighbours in a thread
+-- a slot without its neighbours in one set of lists
 abbrev pub except_neighbours : SlotList → Slot → Option ℕ × ((ℕ → ConntrackEntry) × ListLinks)
-except_neighbours slot_list slot = ((links_of slot_list slot).list, (kept_of slot, links_of (other_slot_list slot_list) slot))
+except_neighbours slot_list slot =
+    ((links_of slot_list slot).list, (kept_of slot, links_of (other_slot_list slot_list) slot))
 
 abbrev pub SameExceptNeighbours : SlotList → Slab Slot → Slab Slot → Type 0
-SameExceptNeighbours slot_list old new = (key : ℕ) → option_map (except_neighbours slot_list) (get new key) ≡ option_map (except_neighbours slot_list) (get old key)
+SameExceptNeighbours slot_list old new = (key : ℕ)
+    → option_map (except_neighbours slot_list) (get new key)
+    ≡ option_map (except_neighbours slot_list) (get old key)
 
--- a slot but for its place in a thread
+-- a slot without its links in one set of lists
 abbrev pub except_links : SlotList → Slot → (ℕ → ConntrackEntry) × ListLinks
 except_links slot_list slot = (kept_of slot, links_of (other_slot_list slot_list) slot)
 
 abbrev pub SameExceptLinks : SlotList → Slab Slot → Slab Slot → Type 0
-SameExceptLinks slot_list old new = (key : ℕ) → option_map (except_links slot_list) (get new key) ≡ option_map (except_links slot_list) (get old key)
+SameExceptLinks slot_list old new = (key : ℕ)
+    → option_map (except_links slot_list) (get new key) ≡ option_map (except_links slot_list) (get old key)
 
 -- ---- lists
 
--- the key at a place, where that is no head
+-- the key of a node, unless it is a head
 abbrev pub key_at : ℕ → Option ℕ
 key_at node = if nat_lt node 5 then None else Some (node - 5)
 
--- the keys read off the links after a place, at most so many, as far as the next head
+-- the keys along the links after a node, up to the next head, at most so many
 abbrev pub walk : (ℕ → ℕ) → ℕ → ℕ → List ℕ
 walk next zero from = []
 walk next (suc more) from = if nat_lt (next from) 5 then [] else (next from - 5) ∷ walk next more (next from)
@@ -166,11 +174,12 @@ walk next (suc more) from = if nat_lt (next from) 5 then [] else (next from - 5)
 abbrev pub keys_of : SlotList → Slab Slot → List Link → ℕ → List ℕ
 keys_of slot_list slots heads list = walk (next_of slot_list slots heads) (length slots.slots) list
 
--- each list of a thread is a ring
+-- each list of a set is circular
 abbrev pub IsRings : SlotList → Slab Slot → List Link → Type 0
-IsRings slot_list slots heads = (list : ℕ) → list < 5 → IsRing slot_list slots heads list (keys_of slot_list slots heads list)
+IsRings slot_list slots heads =
+    (list : ℕ) → list < 5 → IsRing slot_list slots heads list (keys_of slot_list slots heads list)
 
--- the keys of each list of a thread, and the list of each key
+-- the keys of each list of a set, and the list of each key
 pub record Lists : Type 0 where
   pub items : ℕ → List ℕ
   pub list_of : ℕ → Option ℕ
@@ -185,21 +194,21 @@ lists_of slot_list slots heads = record {
 abbrev pub IsOwned : SlotList → Slab Slot → ℕ → Type 0
 IsOwned slot_list slots key = (list : ℕ) × ((list < 5) × (owner_of slot_list slots key ≡ Some list))
 
--- the key left its list, and all else stays
+-- the key left its list, and nothing else changed
 pub record Unlinks (old new : Lists) (key list : ℕ) : Type 0 where
   pub moved : new.list_of key ≡ None
   pub rest : (other : ℕ) → other ≢ key → new.list_of other ≡ old.list_of other
   pub left : new.items list ≡ without key (old.items list)
   pub others : (other : ℕ) → other ≢ list → new.items other ≡ old.items other
 
--- the key was put last in a list, and all else stays
+-- the key was appended to a list, and nothing else changed
 pub record Pushes (old new : Lists) (key list : ℕ) : Type 0 where
   pub moved : new.list_of key ≡ Some list
   pub rest : (other : ℕ) → other ≢ key → new.list_of other ≡ old.list_of other
   pub last : new.items list ≡ old.items list ++ key ∷ []
   pub others : (other : ℕ) → other ≢ list → new.items other ≡ old.items other
 
--- all lists stay
+-- no list changed
 pub record SameLists (old new : Lists) : Type 0 where
   pub items : (list : ℕ) → new.items list ≡ old.items list
   pub list_of : (key : ℕ) → new.list_of key ≡ old.list_of key
@@ -208,6 +217,7 @@ pub record SameLists (old new : Lists) : Type 0 where
 abbrev pub Slots : Type 0
 Slots = Slab Slot
 
--- as many slots are in use, as many fit, and the same one is used next
+-- as many slots are used and reserved, and the same one is vacant next
 abbrev pub SameSize : Slab Slot → Slab Slot → Type 0
-SameSize old new = (slab_len new ≡ slab_len old) × (new.capacity ≡ old.capacity) × (new.vacant_key ≡ old.vacant_key)
+SameSize old new =
+    (slab_len new ≡ slab_len old) × (new.capacity ≡ old.capacity) × (new.vacant_key ≡ old.vacant_key)

@@ -1,12 +1,14 @@
--- What one entry more makes of the connections that no entry ended.
+-- The effect of one more record on the connections that no record removed.
 use Rattle.std.specs.Prelude.{ℕ, not, ◌==◌, if◌then◌else◌, List, [], ◌∷◌, ◌++◌, map, filter}
 use Rattle.conntrack.specs.declared.connection.Connection.{Connection}
 use Rattle.conntrack.specs.declared.connection.ConntrackEntry.{ConntrackEntry}
 use Rattle.conntrack.specs.ConntrackEntry.{begun_with, touched}
-use Rattle.conntrack.specs.Histories.{Creation, TrackedPacket, ConnectionChange, NoChange, Begins, Touches, begun_in, connection_in, is_ended, is_that}
+use Rattle.conntrack.specs.Histories.{Creation, TrackedPacket, ConnectionChange, NoChange, Begins, Touches}
+use Rattle.conntrack.specs.Histories.{begun_in, connection_in, is_ended, is_that}
 
 abbrev pub unended : List TrackedPacket → List ConntrackEntry
-unended history = map (λ c. connection_in c history) (filter (λ c. not (is_ended c history)) (begun_in history))
+unended history =
+    map (λ c. connection_in c history) (filter (λ c. not (is_ended c history)) (begun_in history))
 
 abbrev pub ended_by : TrackedPacket → List ConntrackEntry → List ConntrackEntry
 ended_by e held = filter (λ h. not (is_that h.id.0 e.ended)) held
@@ -16,7 +18,7 @@ touched_if NoChange e h = h
 touched_if (Begins creation) e h = h
 touched_if (Touches k direction) e h = if h.id.0 == k then touched direction e.flags e.mark e.moment h else h
 
--- the connection that is begun so by an entry
+-- the connection that a record creates
 abbrev pub connection_begun : Creation → TrackedPacket → Connection
 connection_begun b e = record {
   original = b.original;

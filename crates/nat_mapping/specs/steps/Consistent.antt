@@ -1,6 +1,6 @@
--- How tables and pools stand for the list of what is held.
-use Rattle.std.specs.Prelude.{◌≡◌, ℕ, ◌<◌, Bool, true, ◌==◌, List, [], ◌∷◌, ◌++◌, Option, Some, None, is_some}
-use Rattle.std.specs.Prelude.{if◌then◌else◌, replicate}
+-- How tables and pools represent the list of mappings held.
+use Rattle.std.specs.Prelude.{◌≡◌, ℕ, ◌<◌, Bool, true, ◌==◌, List, [], ◌∷◌, ◌++◌, Option, Some}
+use Rattle.std.specs.Prelude.{None, is_some, if◌then◌else◌, replicate}
 use Rattle.std.specs.HashMap.{HashMap, get, IsUnique}
 use Rattle.std.specs.declared.random_state.RandomState.{RandomState}
 use Rattle.ip_headers.specs.declared.tuple.Endpoint.{Endpoint}
@@ -11,8 +11,8 @@ use Rattle.nat_mapping.specs.declared.keys.PoolKey.{PoolKey}
 use Rattle.nat_mapping.specs.declared.keys.MappedPort.{MappedPort}
 use Rattle.nat_mapping.specs.declared.pools.Pools.{Pools}
 use Rattle.nat_mapping.specs.Mappings.{holders_of}
-use Rattle.nat_mapping.specs.steps.Keys.{has_pool, inbound_at, inbound_key_of, mapping_at, same_inbound, same_source}
-use Rattle.nat_mapping.specs.steps.Keys.{source_at, source_key_of}
+use Rattle.nat_mapping.specs.steps.Keys.{has_pool, inbound_at, inbound_key_of, mapping_at, same_inbound}
+use Rattle.nat_mapping.specs.steps.Keys.{same_source, source_at, source_key_of}
 use Rattle.nat_mapping.specs.steps.Pooled.{taken_in, IsPooled}
 
 abbrev pub Sources : Type 0
@@ -21,7 +21,7 @@ Sources = HashMap SourceKey MappedPort RandomState
 abbrev pub Inbounds : Type 0
 Inbounds = HashMap InboundKey Endpoint RandomState
 
--- all that is held, by the entries of the table
+-- the mappings held, by the entries of the table
 unfoldable pub held_by : List (SourceKey × MappedPort) → List Mapping
 held_by [] = []
 held_by (e ∷ es) = replicate e.1.holders (mapping_at e.0 e.1) ++ held_by es
@@ -30,16 +30,17 @@ abbrev pub holders_at : Option MappedPort → ℕ → ℕ
 holders_at None port = 0
 holders_at (Some h) port = if port == h.port then h.holders else 0
 
--- the list holds each mapping as often as the table says
+-- each mapping is in the list as often as the table says
 abbrev pub CountsHolders : (SourceKey → Option MappedPort) → List Mapping → Type 0
-CountsHolders sources held = (m : Mapping) → holders_of m held ≡ holders_at (sources (source_key_of m)) m.external.port
+CountsHolders sources held =
+    (m : Mapping) → holders_of m held ≡ holders_at (sources (source_key_of m)) m.external.port
 
--- a pool has those ports taken behind which an internal endpoint stands
+-- the taken ports of a pool are those that are mapped
 abbrev pub ArePorts : (InboundKey → Option Endpoint) → (PoolKey → ℕ → Bool) → Type 0
 ArePorts inbounds taken = (key : PoolKey) (port : ℕ) → has_pool key.kind ≡ true
     → taken key port ≡ is_some (inbounds (inbound_at key port))
 
--- the two tables and the pools speak of the same mappings
+-- the two tables and the pools agree
 pub record IsSound (sources : SourceKey → Option MappedPort) (inbounds : InboundKey → Option Endpoint)
     (taken : PoolKey → ℕ → Bool) : Type 0 where
   pub held : (key : SourceKey) (h : MappedPort) → sources key ≡ Some h → 0 < h.holders

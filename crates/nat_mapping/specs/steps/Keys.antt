@@ -1,7 +1,7 @@
--- What mappings are found by.
+-- The keys of mappings.
 use Rattle.std.specs.Prelude.{ℕ, Bool, true, false, ◌==◌, ◌&&◌}
 use Rattle.ip_headers.specs.declared.tuple.Kind.{Kind}
-use Rattle.ip_headers.specs.declared.tuple.Kind.TheVariants.{Tcp, Udp, EchoRequest, EchoReply, Other}
+use Rattle.ip_headers.specs.declared.tuple.Kind.TheVariants.{Other}
 use Rattle.ip_headers.specs.declared.tuple.Endpoint.{Endpoint}
 use Rattle.ip_headers.specs.declared.tuple.Mapping.{Mapping}
 use Rattle.ip_headers.specs.Same.{same_kind, same_endpoint}
@@ -28,15 +28,12 @@ same_inbound a b = same_kind a.kind b.kind && same_endpoint a.external b.externa
 abbrev pub same_pool : PoolKey → PoolKey → Bool
 same_pool a b = same_kind a.kind b.kind && a.address == b.address
 
--- whether a kind has pools: not where 0 stands for every port
+-- whether a kind has pools: not those without ports
 abbrev pub has_pool : Kind → Bool
-has_pool Tcp = true
-has_pool Udp = true
-has_pool EchoRequest = true
-has_pool EchoReply = true
 has_pool (Other number) = false
+has_pool _ = true
 
--- the mapping that is held under a key
+-- the mapping under a key
 abbrev pub mapping_at : SourceKey → MappedPort → Mapping
 mapping_at key mapped = record {
   kind = key.kind;
@@ -44,10 +41,10 @@ mapping_at key mapped = record {
   external = record { address = key.address; port = mapped.port };
 }
 
--- where an external endpoint of a pool is found
+-- the key of a port of a pool
 abbrev pub inbound_at : PoolKey → ℕ → InboundKey
 inbound_at key port = record { kind = key.kind; external = record { address = key.address; port = port } }
 
--- where the mapping of an external endpoint to an internal one is found
+-- the key of the mapping between an external endpoint and an internal one
 abbrev pub source_at : InboundKey → Endpoint → SourceKey
 source_at key internal = record { kind = key.kind; internal = internal; address = key.external.address }

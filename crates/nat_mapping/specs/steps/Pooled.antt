@@ -1,4 +1,4 @@
--- Which ports of all pools are taken, and what is true of pools.
+-- The taken ports of all pools, and the invariant of pools.
 use Rattle.std.specs.Prelude.{◌≡◌, ◌≤◌, ◌+◌, ℕ, Bool, true, min, All, Option, Some, is_some, vec_len}
 use Rattle.std.specs.HashMap.{get, spare, hash_map_len, IsUnique}
 use Rattle.port_pool.specs.declared.order.Order.{Order}
@@ -14,7 +14,7 @@ taken_in t key port = is_taken_by (get same_pool t.pools key) port
 abbrev pub orders_in : Pools → PoolKey → Option Order
 orders_in t key = order_by (get same_pool t.pools key)
 
--- for how many more pools there is room
+-- for how many more pools memory is reserved
 abbrev pub pool_room : Pools → ℕ
 pool_room t = min (spare t.pools) (vec_len t.spares)
 
@@ -22,7 +22,7 @@ pool_room t = min (spare t.pools) (vec_len t.spares)
 abbrev pub pool_count : Pools → ℕ
 pool_count t = hash_map_len t.pools + vec_len t.spares
 
--- a port is taken of each pool, whose order is that of its kind
+-- each pool has the order of its kind and a taken port
 pub record AreUsed (orders : PoolKey → Option Order) (taken : PoolKey → ℕ → Bool) : Type 0 where
   pub order : (key : PoolKey) (order : Order) → orders key ≡ Some order → order ≡ order_of key.kind
   pub bitmap : (key : PoolKey) → is_some (orders key) ≡ true → has_pool key.kind ≡ true

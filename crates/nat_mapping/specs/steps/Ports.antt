@@ -1,4 +1,4 @@
--- What there is of a pool, if there is one.
+-- A pool that may be absent.
 use Rattle.std.specs.Prelude.{◌≡◌, ◌≢◌, ℕ, Bool, false, Option, Some, None}
 use Rattle.std.specs.Option.{option_map}
 use Rattle.port_pool.specs.declared.order.Order.{Order}
@@ -13,7 +13,7 @@ is_taken_by (Some pool) port = is_taken pool port
 abbrev pub order_by : Option Pool → Option Order
 order_by pool = option_map order_of pool
 
--- none of its ports is taken, and it has a row of them
+-- no port is taken, and it has a bitmap
 pub record IsSpare (pool : Pool) : Type 0 where
   pub unused : (port : ℕ) → is_taken pool port ≡ false
   pub bitmap : order_of pool ≢ Zero

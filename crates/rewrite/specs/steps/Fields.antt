@@ -1,6 +1,6 @@
--- The fields of a datagram that a change may replace, as numbers.
-use Rattle.std.specs.Prelude.{ℕ, ◌+◌, ◌*◌, ◌/◌, ◌%◌, ◌≤◌, ◌==◌, ◌&&◌, ◌||◌, nat_le, List, length, drop, slice_set}
-use Rattle.std.specs.Prelude.{Option, Some, None, unwrap_or, if◌then◌else◌}
+-- The fields of a datagram that a change may replace, as numbers; the updates of the checksums over them.
+use Rattle.std.specs.Prelude.{ℕ, ◌+◌, ◌*◌, ◌/◌, ◌%◌, ◌≤◌, ◌==◌, ◌&&◌, ◌||◌, nat_le, List, length, drop}
+use Rattle.std.specs.Prelude.{slice_set, Option, Some, None, unwrap_or, if◌then◌else◌}
 use Rattle.std.specs.Option.{option_map}
 use Rattle.ip_headers.specs.Bytes.{byte_at, u16_at, u32_at, with_u16, with_u32}
 use Rattle.ip_headers.specs.Header.{header_len, protocol_at, payload_at}
@@ -13,12 +13,12 @@ use Rattle.rewrite.specs.declared.fields.TransportFields.{TransportFields}
 use Rattle.rewrite.specs.declared.fields.TransportFields.TheVariants.{Tcp, Udp, Icmp, Other}
 use Rattle.rewrite.specs.Rewritten.{corrected, or_all_ones, with_ports}
 
--- ---- words under a checksum
+-- ---- changes of the words under a checksum
 
 abbrev pub u16_change : ℕ → ℕ → ChecksumDelta
 u16_change one other = record { old = one; new = other; is_same = one == other }
 
--- a number of two words
+-- a 32-bit number, as two words
 abbrev pub u32_change : ℕ → ℕ → ChecksumDelta
 u32_change one other = record {
   old = one / 65536 + one % 65536;
@@ -38,7 +38,7 @@ updated_udp_checksum words checksum =
 
 -- ---- fields
 
--- of a segment that was cut the checksum may be missing
+-- a quoted segment may end before its checksum
 abbrev pub tcp_checksum_of : List ℕ → Option ℕ
 tcp_checksum_of segment = if nat_le 18 (length segment) then Some (u16_at segment 16) else None
 
@@ -55,10 +55,10 @@ fields_at start bytes = record {
   destination = u32_at bytes (start + 16);
   ttl = byte_at bytes (start + 8);
   checksum = u16_at bytes (start + 10);
-  carried = transport_fields_of (protocol_at start bytes) (drop (payload_at start bytes) bytes);
+  transport = transport_fields_of (protocol_at start bytes) (drop (payload_at start bytes) bytes);
 }
 
--- how many bytes the fields of what is carried take
+-- how many bytes of the payload the fields need
 abbrev pub len_of : TransportFields → ℕ
 len_of (Tcp from to None) = 4
 len_of (Tcp from to (Some checksum)) = 18
@@ -66,30 +66,30 @@ len_of (Udp from to checksum) = 8
 len_of (Icmp identifier checksum) = 6
 len_of Other = 0
 
--- all fields are there
+-- the datagram has all fields
 pub record HasFields (start : ℕ) (bytes : List ℕ) : Type 0 where
   pub long : 20 ≤ header_len (drop start bytes)
-  pub whole : payload_at start bytes + len_of (fields_at start bytes).carried ≤ length bytes
+  pub whole : payload_at start bytes + len_of (fields_at start bytes).transport ≤ length bytes
 
--- ---- what a change makes of them
+-- ---- changed fields
 
 abbrev pub ports_named : Option PortsOrIdentifier → ℕ → ℕ → ℕ × ℕ
-ports_named None from to = (from, to)
 ports_named (Some (Ports one other)) from to = (one, other)
-ports_named (Some (Identifier number)) from to = (from, to)
+ports_named _ from to = (from, to)
 
 abbrev pub identifier_named : Option PortsOrIdentifier → ℕ → ℕ
-identifier_named None number = number
-identifier_named (Some (Ports one other)) number = number
 identifier_named (Some (Identifier other)) number = other
+identifier_named _ number = number
 
 abbrev pub port_change : ℕ × ℕ → ℕ × ℕ → ChecksumDelta
 port_change one other = combined (u16_change one.0 other.0) (u16_change one.1 other.1)
 
-abbrev pub changed_transport_fields : Option PortsOrIdentifier → ChecksumDelta → TransportFields → TransportFields
+abbrev pub changed_transport_fields : Option PortsOrIdentifier → ChecksumDelta → TransportFields
+    → TransportFields
 changed_transport_fields numbers addresses (Tcp from to checksum) =
     let ports = ports_named numbers from to in
-    Tcp ports.0 ports.1 (option_map (updated_checksum (combined addresses (port_change (from, to) ports))) checksum)
+    Tcp ports.0 ports.1 (option_map (updated_checksum (combined addresses (port_change (from, to) ports)))
+    checksum)
 changed_transport_fields numbers addresses (Udp from to checksum) =
     let ports = ports_named numbers from to in
     Udp ports.0 ports.1 (updated_udp_checksum (combined addresses (port_change (from, to) ports)) checksum)
@@ -98,7 +98,7 @@ changed_transport_fields numbers addresses (Icmp number checksum) =
     Icmp other (updated_checksum (u16_change number other) checksum)
 changed_transport_fields numbers addresses Other = Other
 
--- the two addresses
+-- the change of the two addresses
 abbrev pub address_change : Fields → Change → ChecksumDelta
 address_change fields change =
     combined (u32_change fields.source (unwrap_or change.source fields.source))
@@ -113,13 +113,14 @@ changed_fields change fields = record {
   source = unwrap_or change.source fields.source;
   destination = unwrap_or change.destination fields.destination;
   ttl = unwrap_or change.ttl fields.ttl;
-  checksum = updated_checksum (combined (ttl_change fields change) (address_change fields change)) fields.checksum;
-  carried = changed_transport_fields change.numbers (address_change fields change) fields.carried;
+  checksum = updated_checksum (combined (ttl_change fields change) (address_change fields change))
+      fields.checksum;
+  transport = changed_transport_fields change.numbers (address_change fields change) fields.transport;
 }
 
--- ---- the words of a datagram that others take the place of
+-- ---- the changed words of a whole datagram
 
--- of what is carried: 0 where there are fewer than three
+-- the words of the payload: 0 where there are fewer than three
 abbrev pub transport_words : TransportFields → ℕ × ℕ × ℕ
 transport_words (Tcp from to checksum) = (from, to, unwrap_or checksum 0)
 transport_words (Udp from to checksum) = (from, to, checksum)
@@ -128,33 +129,37 @@ transport_words Other = (0, 0, 0)
 
 abbrev pub and_transport_words : ChecksumDelta → ℕ × ℕ × ℕ → ℕ × ℕ × ℕ → ChecksumDelta
 and_transport_words words old new =
-    combined (combined (combined words (u16_change old.0 new.0)) (u16_change old.1 new.1)) (u16_change old.2 new.2)
+    combined (combined (combined words (u16_change old.0 new.0)) (u16_change old.1 new.1))
+    (u16_change old.2 new.2)
 
 -- in the order in which they are written
 abbrev pub fields_change : Fields → Fields → ChecksumDelta
 fields_change old new =
-    let addresses = combined (u32_change old.source new.source) (u32_change old.destination new.destination) in
+    let addresses =
+    combined (u32_change old.source new.source) (u32_change old.destination new.destination) in
     let timed = combined addresses (u16_change (old.ttl * 256) (new.ttl * 256)) in
-    combined (and_transport_words timed (transport_words old.carried) (transport_words new.carried))
+    combined (and_transport_words timed (transport_words old.transport) (transport_words new.transport))
     (u16_change old.checksum new.checksum)
 
--- ---- the fields written
+-- ---- writing fields
 
 abbrev pub with_transport_fields : ℕ → List ℕ → TransportFields → List ℕ
 with_transport_fields offset bytes (Tcp from to None) = with_ports offset bytes from to
 with_transport_fields offset bytes (Tcp from to (Some checksum)) =
     with_u16 (with_ports offset bytes from to) (offset + 16) checksum
-with_transport_fields offset bytes (Udp from to checksum) = with_u16 (with_ports offset bytes from to) (offset + 6) checksum
+with_transport_fields offset bytes (Udp from to checksum) =
+    with_u16 (with_ports offset bytes from to) (offset + 6) checksum
 with_transport_fields offset bytes (Icmp identifier checksum) =
     with_u16 (with_u16 bytes (offset + 4) identifier) (offset + 2) checksum
 with_transport_fields offset bytes Other = bytes
 
 abbrev pub with_header : ℕ → List ℕ → Fields → List ℕ
 with_header start bytes fields =
-    slice_set (with_u32 (with_u32 bytes (start + 12) fields.source) (start + 16) fields.destination) (start + 8)
-    fields.ttl
+    slice_set (with_u32 (with_u32 bytes (start + 12) fields.source) (start + 16) fields.destination)
+    (start + 8) fields.ttl
 
 abbrev pub with_fields : ℕ → List ℕ → Fields → List ℕ
 with_fields start bytes fields =
-    with_u16 (with_transport_fields (payload_at start bytes) (with_header start bytes fields) fields.carried) (start + 10)
-    fields.checksum
+    with_u16
+    (with_transport_fields (payload_at start bytes) (with_header start bytes fields) fields.transport)
+    (start + 10) fields.checksum

@@ -7,4 +7,5 @@ use Rattle.aged_tracker.proofs.linked_lists.after.Goals as goal
 pub returns : goal.returns
 returns c heads list before rest range ring =
     c.key.ensures ∙ ap (λ (l : Link). key_at (number l.next)) (c.slot_link.ensures heads)
-    ∙ chain_after c.args.slot_list ((next_of c.args.slot_list) c.args.slots.now heads) ((prev_of c.args.slot_list) c.args.slots.now heads) list list c.args.key before rest range ring.chained
+    ∙ chain_after c.args.slot_list ((next_of c.args.slot_list) c.args.slots.now heads)
+    ((prev_of c.args.slot_list) c.args.slots.now heads) list list c.args.key before rest range ring.chained

@@ -6,5 +6,9 @@ use Rattle.aged_tracker.proofs.linked_lists.front.Goals as goal
 
 pub returns : goal.returns
 returns c =
-    c.key.ensures ∙ ap (λ (l : Link). key_at (number l.next)) (c.link_at.ensures ∙ ap (link_at c.args.slot_list c.args.slots.now c.args.heads.now) c.head.ensures)
-    ∙ chain_first c.args.slot_list (next_of c.args.slot_list c.args.slots.now c.args.heads.now) (prev_of c.args.slot_list c.args.slots.now c.args.heads.now) c.args.list c.args.list (keys_of c.args.slot_list c.args.slots.now c.args.heads.now c.args.list) c.requires.range (c.requires.rings c.args.list c.requires.range).chained
+    c.key.ensures ∙ ap (λ (l : Link). key_at (number l.next))
+    (c.link_at.ensures ∙ ap (link_at c.args.slot_list c.args.slots.now c.args.heads.now) c.head.ensures)
+    ∙ chain_first c.args.slot_list (next_of c.args.slot_list c.args.slots.now c.args.heads.now)
+    (prev_of c.args.slot_list c.args.slots.now c.args.heads.now) c.args.list c.args.list
+    (keys_of c.args.slot_list c.args.slots.now c.args.heads.now c.args.list) c.requires.range
+    (c.requires.rings c.args.list c.requires.range).chained

@@ -8,4 +8,9 @@ pub returns-clause-packet : goal.returns-clause-packet
 returns-clause-packet c = λ limits held history id p confirmation d s. represents_after limits held history id p confirmation d s
 
 pub returns-clause-none : goal.returns-clause-none
-returns-clause-none c = λ limits held history now s. record { reached = omega arith; live = s.live ∙ ap (map without_id) (sym (recorded_nothing limits history now no_tuple)) }
+returns-clause-none c = λ limits held history now s.
+    record {
+      reached = omega arith;
+      live = s.live
+          ∙ ap (map without_id) (sym (recorded_nothing limits history now no_tuple));
+    }

@@ -7,4 +7,5 @@ pub returns-clause-later : goal.returns-clause-later
 returns-clause-later c = λ limits held history now later le s. represents_later limits held history now later le s
 
 pub returns-clause-live : goal.returns-clause-live
-returns-clause-live c = λ limits held others history now same s. record { reached = s.reached; live = ap (map without_id) (sym same) ∙ s.live }
+returns-clause-live c = λ limits held others history now same s.
+    record { reached = s.reached; live = ap (map without_id) (sym same) ∙ s.live }

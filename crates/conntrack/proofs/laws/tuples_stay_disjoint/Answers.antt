@@ -1,5 +1,5 @@
 use Rattle.conntrack.specs.ConntrackEntry.{is_live}
-use Rattle.conntrack.proofs.Names.{apart-filter}
+use Rattle.conntrack.proofs.Ids.{apart-filter}
 use Rattle.conntrack.proofs.Packets.{apart_after}
 use Rattle.conntrack.proofs.laws.tuples_stay_disjoint.Goals as goal
 

@@ -2,6 +2,7 @@ use Rattle.std.proofs.Common.{◌≡◌, ◌++◌, take, drop}
 use Rattle.conntrack.specs.ConntrackEntry.{touched_at}
 use Rattle.conntrack.proofs.list_tracker.touch_in.Given as goal
 
--- those passed are touched, and the rest are as they were
+-- the entries so far are touched, and the rest are unchanged
 abbrev pub invariant-loop-held : goal.invariant-loop-held
-invariant-loop-held l = l.held-items ≡ touched_at l.id l.direction l.flags l.mark l.now (take l.held-index l.fn.conns.items) ++ drop l.held-index l.fn.conns.items
+invariant-loop-held l = l.held-items ≡ touched_at l.id l.direction l.flags l.mark l.now
+    (take l.held-index l.fn.conns.items) ++ drop l.held-index l.fn.conns.items

@@ -15,19 +15,25 @@ pub returns-then-has_pool : goal.returns-then-has_pool
 returns-then-has_pool c =
     let pool : PoolKey = record { kind = c.args.key.kind; address = c.args.key.address } in
     let bitmap : has_pool c.args.key.kind ≡ true = sym c.has_pool.ensures ∙ c.if-has_pool.true in
-    let tests : ◌≡◌ {A = ℕ → Bool} (λ p. not (taken_in c.args.pools.now pool p)) (λ p. not (is_some (get same_inbound c.args.inbounds.now (inbound_at pool p)))) = λ i. λ p. not (c.requires.ports pool p bitmap i) in
+    let tests : ◌≡◌ {A = ℕ → Bool} (λ p. not (taken_in c.args.pools.now pool p))
+    (λ p. not (is_some (get same_inbound c.args.inbounds.now (inbound_at pool p)))) =
+    λ i. λ p. not (c.requires.ports pool p bitmap i) in
     c.choose.ensures ∙ ap (λ f. find f (candidates (order_of c.args.key.kind) c.args.key.internal.port c.args.range)) tests
 
 pub returns-in-Some : goal.returns-in-Some
 returns-in-Some c =
     let none : has_pool c.args.key.kind ≡ false = sym c.has_pool.ensures ∙ c.if-has_pool.false in
-    let test : ℕ → Bool = λ p. not (is_some (get same_inbound c.args.inbounds.now (inbound_at (record { kind = c.args.key.kind; address = c.args.key.address }) p))) in
+    let test : ℕ → Bool = λ p. not (is_some (get same_inbound c.args.inbounds.now
+    (inbound_at (record { kind = c.args.key.kind; address = c.args.key.address }) p))) in
     let at : test 0 ≡ false = ap (λ (o : Option Endpoint). not (is_some o)) (sym c.find_inbound.ensures ∙ c.in-Some.is) in
-    sym (zero_found test (order_of c.args.key.kind) c.args.key.internal.port c.args.range (zero_order c.args.key.kind none) ∙ cond-false (test 0) (Some 0) None at)
+    sym (zero_found test (order_of c.args.key.kind) c.args.key.internal.port c.args.range
+    (zero_order c.args.key.kind none) ∙ cond-false (test 0) (Some 0) None at)
 
 pub returns-in-None : goal.returns-in-None
 returns-in-None c =
     let none : has_pool c.args.key.kind ≡ false = sym c.has_pool.ensures ∙ c.if-has_pool.false in
-    let test : ℕ → Bool = λ p. not (is_some (get same_inbound c.args.inbounds.now (inbound_at (record { kind = c.args.key.kind; address = c.args.key.address }) p))) in
+    let test : ℕ → Bool = λ p. not (is_some (get same_inbound c.args.inbounds.now
+    (inbound_at (record { kind = c.args.key.kind; address = c.args.key.address }) p))) in
     let at : test 0 ≡ true = ap (λ (o : Option Endpoint). not (is_some o)) (sym c.find_inbound.ensures ∙ c.in-None.is) in
-    sym (zero_found test (order_of c.args.key.kind) c.args.key.internal.port c.args.range (zero_order c.args.key.kind none) ∙ cond-true (test 0) (Some 0) None at)
+    sym (zero_found test (order_of c.args.key.kind) c.args.key.internal.port c.args.range
+    (zero_order c.args.key.kind none) ∙ cond-true (test 0) (Some 0) None at)

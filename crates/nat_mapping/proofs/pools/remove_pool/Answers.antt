@@ -11,7 +11,8 @@ returns-clause-value c =
 
 pub returns-clause-pools : goal.returns-clause-pools
 returns-clause-pools c q =
-    let P : (PoolKey → PoolKey → Bool) → Type 0 = λ eq. get eq c.remove.new.self q ≡ cond (eq c.args.key q) None (get eq c.args.pools.now q) in
+    let P : (PoolKey → PoolKey → Bool) → Type 0 =
+    λ eq. get eq c.remove.new.self q ≡ cond (eq c.args.key q) None (get eq c.args.pools.now q) in
     subst P pool_fun (c.remove.ensures.updates.0 q)
 
 pub returns-clause-unique : goal.returns-clause-unique

@@ -6,7 +6,8 @@ use Rattle.nat_mapping.proofs.tables.remove_source.Goals as goal
 
 pub returns-clause-values : goal.returns-clause-values
 returns-clause-values c q =
-    let P : (SourceKey → SourceKey → Bool) → Type 0 = λ eq. get eq c.remove.new.self q ≡ cond (eq c.args.key q) (None) (get eq c.args.sources.now q) in
+    let P : (SourceKey → SourceKey → Bool) → Type 0 =
+    λ eq. get eq c.remove.new.self q ≡ cond (eq c.args.key q) (None) (get eq c.args.sources.now q) in
     subst P source_fun (c.remove.ensures.updates.0 q)
 
 pub returns-clause-unique : goal.returns-clause-unique

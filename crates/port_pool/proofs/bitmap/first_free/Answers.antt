@@ -6,7 +6,8 @@ use Rattle.port_pool.proofs.bitmap.first_free.Goals as goal
 pub returns-then-word-ne0 : goal.returns-then-word-ne0
 returns-then-word-ne0 c =
     let matches_parity = c.ranges.mask in
-    rw c.lowest_bit_before.ensures (met (is_open c.args.words.now c.args.mask) c.args.from (c.args.from / 64) (first_word c.args.words.now c.args.mask c.args.from) c.args.to
+    rw c.lowest_bit_before.ensures (met (is_open c.args.words.now c.args.mask) c.args.from (c.args.from / 64)
+    (first_word c.args.words.now c.args.mask c.args.from) c.args.to
     (shows_first c.args.words.now c.args.mask c.args.from (omega arith))
     (λ k low high. absurd (omega arith))
     (omega arith))
@@ -17,7 +18,8 @@ words-init c =
     record {
       after = omega arith;
       none = subst (λ to. NoneWithin (is_open c.args.words.now c.args.mask) c.args.from to) e
-          (missed (is_open c.args.words.now c.args.mask) c.args.from (c.args.from / 64) (first_word c.args.words.now c.args.mask c.args.from)
+          (missed (is_open c.args.words.now c.args.mask) c.args.from (c.args.from / 64)
+          (first_word c.args.words.now c.args.mask c.args.from)
           (shows_first c.args.words.now c.args.mask c.args.from (omega arith))
           (λ k low high. absurd (omega arith))
           c.if-word-ne0.false);
@@ -39,7 +41,9 @@ words-preserved c =
 pub returns-then-word-ne0-2 : goal.returns-then-word-ne0-2
 returns-then-word-ne0-2 c =
     let after = c.words.invariant.after in
-    rw c.lowest_bit_before-then-word-ne0-2.ensures (met (is_open c.args.words.now c.args.mask) c.args.from c.words.i (later_word c.args.words.now c.args.mask c.words.i) c.args.to
+    rw c.lowest_bit_before-then-word-ne0-2.ensures
+    (met (is_open c.args.words.now c.args.mask) c.args.from c.words.i
+    (later_word c.args.words.now c.args.mask c.words.i) c.args.to
     (shows_later c.args.words.now c.args.mask c.args.from c.words.i (omega arith) after)
     c.words.invariant.none
     (omega arith))

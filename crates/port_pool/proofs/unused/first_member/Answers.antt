@@ -9,9 +9,12 @@ between p a a' b b' r e e' f = subst (λ x. IsFirst p x b' r) e (subst (λ y. Is
 
 pub returns-in-Some : goal.returns-in-Some
 returns-in-Some c = first_up c.args.span.parity c.args.s c.args.span.low c.args.span.high c.in-Some.found
-    (between (matches_parity c.args.span.parity) c.max.result (max c.args.span.low c.args.s) (c.from-end.result + 1) (c.args.span.high + 1) (Some c.in-Some.found) (cc) (cc) c.in-Some.ensures)
+    (between (matches_parity c.args.span.parity) c.max.result (max c.args.span.low c.args.s) (c.from-end.result + 1)
+    (c.args.span.high + 1) (Some c.in-Some.found) (cc) (cc) c.in-Some.ensures)
 
 pub returns-in-None : goal.returns-in-None
 returns-in-None c = first_least c.args.span.parity c.args.s c.args.span.low c.args.span.high c.first_within-in-None.result
-    (between (matches_parity c.args.span.parity) c.max.result (max c.args.span.low c.args.s) (c.from-end.result + 1) (c.args.span.high + 1) None (cc) (cc) c.in-None.ensures)
-    (between (matches_parity c.args.span.parity) c.from-low.result c.args.span.low c.min.result (min (c.args.span.high + 1) c.args.s) c.first_within-in-None.result (cc) (cc) c.first_within-in-None.ensures)
+    (between (matches_parity c.args.span.parity) c.max.result (max c.args.span.low c.args.s) (c.from-end.result + 1)
+    (c.args.span.high + 1) None (cc) (cc) c.in-None.ensures)
+    (between (matches_parity c.args.span.parity) c.from-low.result c.args.span.low c.min.result
+    (min (c.args.span.high + 1) c.args.s) c.first_within-in-None.result (cc) (cc) c.first_within-in-None.ensures)

@@ -3,17 +3,19 @@ use Rattle.std.proofs.lemmas.Grind.{common_steps}
 use Rattle.std.proofs.lemmas.List.{take_at}
 use borrow.Rule.Slice.PartMut.{post_of}
 use Rattle.rewrite.specs.Rewritten.{rewritten}
-use Rattle.rewrite.proofs.Inward.{length-rewritten}
+use Rattle.rewrite.proofs.InnerDatagram.{length-rewritten}
 use Rattle.rewrite.proofs.sending.emit.Goals as goal
 
-patched : (old packet d new items : List ℕ) (n s k : ℕ) → d ≡ old ++ packet → s ≡ length old → length new ≡ length packet → n ≡ length d → take n (take s d ++ (new ++ post_of s (length d - s) d) ++ drop k items) ≡ old ++ new
+patched : (old packet d new items : List ℕ) (n s k : ℕ) → d ≡ old ++ packet → s ≡ length old
+    → length new ≡ length packet → n ≡ length d
+    → take n (take s d ++ (new ++ post_of s (length d - s) d) ++ drop k items) ≡ old ++ new
 patched old packet d new items n s k is start same len =
     let front : take s d ≡ old = grind (arith, common_steps) in
     let back : post_of s (length d - s) d ≡ [] = grind (arith, common_steps) in
     let whole : length (old ++ new) ≡ n = grind (arith, common_steps) in
     rw (front, back) (grind (arith, common_steps, take_at (old ++ new) (drop k items) n whole))
 
--- what the function gets of a vector that was extended
+-- the slice of the extended vector that is passed on
 lent : (old packet d : List ℕ) (s : ℕ) → d ≡ old ++ packet → s ≡ length old → take (length d - s) (drop s d) ≡ packet
 lent old packet d s is start = grind (arith, common_steps)
 
@@ -39,7 +41,8 @@ returns-clause-ok c =
     let part : take (length d - s) (drop s d) ≡ packet = lent old packet d s is start in
     let sent : c.rewrite_packet.new.packet ≡ rewritten packet change = c.rewrite_packet.ensures ∙ ap (λ l. rewritten l change) part in
     let same : length c.rewrite_packet.new.packet ≡ length packet = ap (λ l. length l) sent ∙ length-rewritten packet change in
-    patched old packet d c.rewrite_packet.new.packet c.extend_from_slice.new.self.items _ s _ is start same (omega (arith, c.deref_mut.ensures.len)) ∙ ap (λ l. old ++ l) sent
+    patched old packet d c.rewrite_packet.new.packet c.extend_from_slice.new.self.items _ s _ is start same
+    (omega (arith, c.deref_mut.ensures.len)) ∙ ap (λ l. old ++ l) sent
 
 pub returns-in_err-extend_from_slice-clause-same_length : goal.returns-in_err-extend_from_slice-clause-same_length
 returns-in_err-extend_from_slice-clause-same_length c = length-rewritten c.args.view.now.packet.now c.args.change.now

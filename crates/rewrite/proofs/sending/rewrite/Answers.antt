@@ -9,4 +9,8 @@ returns c =
     let start = c.args.start in
     let change = c.args.change.now in
     c.write.ensures ∙ ap (λ f. with_fields start p f) (c.changed.ensures ∙ ap (λ f. changed_fields change f) c.read.ensures.fields)
-    ∙ whole_is start p change (record { small = c.read.ensures.bytes; long = c.requires.long; whole = omega (arith, c.requires.whole) }) c.requires.whole
+    ∙ whole_is start p change (record {
+      small = c.read.ensures.bytes;
+      long = c.requires.long;
+      whole = omega (arith, c.requires.whole);
+    }) c.requires.whole

@@ -15,30 +15,49 @@ to c = c.queue_of-queue.ensures.queue ∙ ap queue_of (sym c.fill-key.ensures.fi
 
 few : (c : After-oldest_of) → c.fill-key.result < MAX_KEYS
 few c =
-    let both = and_parts (nat_lt (slab_len c.args.self.now.slots) c.args.self.now.slots.capacity) (nat_lt c.args.self.now.slots.vacant_key MAX_KEYS) c.requires.room in
+    let both = and_parts (nat_lt (slab_len c.args.self.now.slots) c.args.self.now.slots.capacity)
+    (nat_lt c.args.self.now.slots.vacant_key MAX_KEYS) c.requires.room in
     let below : c.args.self.now.slots.vacant_key < MAX_KEYS = ltb-true c.args.self.now.slots.vacant_key MAX_KEYS both.1 in
     omega (arith, below, c.fill-key.ensures.key)
 
-made : (c : After-oldest_of) → held_of c.fill-key.result c.fill-key.ensures.fills.slot ≡ begun_with (record { 0 = c.fill-key.result }) c.args.connection c.args.flags
+made : (c : After-oldest_of) → held_of c.fill-key.result c.fill-key.ensures.fills.slot
+    ≡ begun_with (record { 0 = c.fill-key.result }) c.args.connection c.args.flags
 made c =
     c.fill-key.ensures.fills.holds
-    ∙ ap (λ (f : Flags). record (begun_with (record { 0 = c.fill-key.result }) c.args.connection c.args.flags) { from_reply = f }) c.none.ensures
+    ∙ ap (λ (f : Flags). record (begun_with (record { 0 = c.fill-key.result }) c.args.connection
+    c.args.flags) { from_reply = f }) c.none.ensures
 
 pub push_back-requires-clause-rings : goal.push_back-requires-clause-rings
-push_back-requires-clause-rings c = fill_order c.args.self.now c.fill-key.new.slots c.fill-key.result c.fill-key.ensures.fills.slot c.requires.table c.fill-key.ensures.free c.fill-key.ensures.fills.updates c.fill-key.ensures.fills.no_queue c.fill-key.ensures.fills.no_order
+push_back-requires-clause-rings c = fill_order c.args.self.now c.fill-key.new.slots c.fill-key.result
+    c.fill-key.ensures.fills.slot c.requires.table c.fill-key.ensures.free c.fill-key.ensures.fills.updates
+    c.fill-key.ensures.fills.no_queue c.fill-key.ensures.fills.no_order
 
 pub push_back-requires-2-clause-rings : goal.push_back-requires-2-clause-rings
-push_back-requires-2-clause-rings c = begun_rings c.args.self.now c.fill-key.new.slots c.fill-key.result c.fill-key.ensures.fills.slot c.requires.table c.fill-key.ensures.free c.fill-key.ensures.fills.updates c.fill-key.ensures.fills.no_queue c.fill-key.ensures.fills.no_order c.push_back.new.slots c.push_back.new.heads c.push_back.ensures.except_links
+push_back-requires-2-clause-rings c = begun_rings c.args.self.now c.fill-key.new.slots c.fill-key.result
+    c.fill-key.ensures.fills.slot c.requires.table c.fill-key.ensures.free c.fill-key.ensures.fills.updates
+    c.fill-key.ensures.fills.no_queue c.fill-key.ensures.fills.no_order c.push_back.new.slots c.push_back.new.heads
+    c.push_back.ensures.except_links
 
 pub returns-clause-table : goal.returns-clause-table
 returns-clause-table c =
     let long : length c.args.self.now.oldest ≡ 5 = search rules in
-    begun_table c.args.self.now c.fill-key.new.slots c.fill-key.result c.fill-key.ensures.fills.slot c.requires.table c.fill-key.ensures.free c.fill-key.ensures.fills.updates c.fill-key.ensures.fills.no_queue c.fill-key.ensures.fills.no_order c.push_back.new.slots c.push_back.new.heads c.push_back.ensures.except_links c.push_back-2.new.slots c.push_back-2.new.heads c.queue_of-queue.result c.oldest_of.result c.args.connection.last c.push_back.ensures.rings c.push_back.ensures.lists c.push_back-2.ensures.except_links c.push_back-2.ensures.rings c.push_back-2.ensures.lists (to (goal.at.returns-clause-table c).After-oldest_of)
-    c.requires.later (ap (λ (h : ConntrackEntry). h.last) c.fill-key.ensures.fills.holds) c.oldest_of.ensures.oldest long c.queue_of-queue.ensures.range (few (goal.at.returns-clause-table c).After-oldest_of)
+    begun_table c.args.self.now c.fill-key.new.slots c.fill-key.result c.fill-key.ensures.fills.slot c.requires.table
+    c.fill-key.ensures.free c.fill-key.ensures.fills.updates c.fill-key.ensures.fills.no_queue
+    c.fill-key.ensures.fills.no_order c.push_back.new.slots c.push_back.new.heads c.push_back.ensures.except_links
+    c.push_back-2.new.slots c.push_back-2.new.heads c.queue_of-queue.result c.oldest_of.result
+    c.args.connection.last c.push_back.ensures.rings c.push_back.ensures.lists c.push_back-2.ensures.except_links
+    c.push_back-2.ensures.rings c.push_back-2.ensures.lists (to (goal.at.returns-clause-table c).After-oldest_of)
+    c.requires.later (ap (λ (h : ConntrackEntry). h.last) c.fill-key.ensures.fills.holds) c.oldest_of.ensures.oldest
+    long c.queue_of-queue.ensures.range (few (goal.at.returns-clause-table c).After-oldest_of)
 
 pub returns-clause-held : goal.returns-clause-held
 returns-clause-held c =
-    begun_held c.args.self.now c.fill-key.new.slots c.fill-key.result c.fill-key.ensures.fills.slot c.requires.table c.fill-key.ensures.free c.fill-key.ensures.fills.updates c.fill-key.ensures.fills.no_queue c.fill-key.ensures.fills.no_order c.push_back.new.slots c.push_back.new.heads c.push_back.ensures.except_links c.push_back-2.new.slots c.push_back-2.new.heads c.queue_of-queue.result c.oldest_of.result c.args.connection.last c.push_back.ensures.rings c.push_back.ensures.lists c.push_back-2.ensures.except_links c.push_back-2.ensures.rings c.push_back-2.ensures.lists (to (goal.at.returns-clause-held c).After-oldest_of)
+    begun_held c.args.self.now c.fill-key.new.slots c.fill-key.result c.fill-key.ensures.fills.slot c.requires.table
+    c.fill-key.ensures.free c.fill-key.ensures.fills.updates c.fill-key.ensures.fills.no_queue
+    c.fill-key.ensures.fills.no_order c.push_back.new.slots c.push_back.new.heads c.push_back.ensures.except_links
+    c.push_back-2.new.slots c.push_back-2.new.heads c.queue_of-queue.result c.oldest_of.result
+    c.args.connection.last c.push_back.ensures.rings c.push_back.ensures.lists c.push_back-2.ensures.except_links
+    c.push_back-2.ensures.rings c.push_back-2.ensures.lists (to (goal.at.returns-clause-held c).After-oldest_of)
     ∙ ap (λ (h : ConntrackEntry). held_by c.args.self.now ++ h ∷ []) (made (goal.at.returns-clause-held c).After-oldest_of)
 
 pub returns-clause-few : goal.returns-clause-few
@@ -46,5 +65,11 @@ returns-clause-few c = few (goal.at.returns-clause-few c).After-oldest_of
 
 pub returns-clause-slots : goal.returns-clause-slots
 returns-clause-slots c =
-    subst (λ h. Sets (slots_of c.args.self.now) (held_at c.push_back-2.new.slots) c.fill-key.result (Some h)) (made (goal.at.returns-clause-slots c).After-oldest_of)
-    (begun_sets c.args.self.now c.fill-key.new.slots c.fill-key.result c.fill-key.ensures.fills.slot c.requires.table c.fill-key.ensures.free c.fill-key.ensures.fills.updates c.fill-key.ensures.fills.no_queue c.fill-key.ensures.fills.no_order c.push_back.new.slots c.push_back.new.heads c.push_back.ensures.except_links c.push_back-2.new.slots c.push_back-2.new.heads c.queue_of-queue.result c.oldest_of.result c.args.connection.last c.push_back.ensures.rings c.push_back.ensures.lists c.push_back-2.ensures.except_links c.push_back-2.ensures.rings c.push_back-2.ensures.lists (to (goal.at.returns-clause-slots c).After-oldest_of))
+    subst (λ h. Sets (slots_of c.args.self.now) (held_at c.push_back-2.new.slots) c.fill-key.result (Some h))
+    (made (goal.at.returns-clause-slots c).After-oldest_of)
+    (begun_sets c.args.self.now c.fill-key.new.slots c.fill-key.result c.fill-key.ensures.fills.slot c.requires.table
+    c.fill-key.ensures.free c.fill-key.ensures.fills.updates c.fill-key.ensures.fills.no_queue
+    c.fill-key.ensures.fills.no_order c.push_back.new.slots c.push_back.new.heads c.push_back.ensures.except_links
+    c.push_back-2.new.slots c.push_back-2.new.heads c.queue_of-queue.result c.oldest_of.result
+    c.args.connection.last c.push_back.ensures.rings c.push_back.ensures.lists c.push_back-2.ensures.except_links
+    c.push_back-2.ensures.rings c.push_back-2.ensures.lists (to (goal.at.returns-clause-slots c).After-oldest_of))

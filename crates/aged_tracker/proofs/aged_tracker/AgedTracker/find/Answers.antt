@@ -15,7 +15,10 @@ read-requires c =
 pub returns-in-None-clause-belonging : goal.returns-in-None-clause-belonging
 returns-in-None-clause-belonging c =
     let none : get same_tuple c.self.inside.keys c.args.tuple ≡ None = sym c.key_of.ensures ∙ c.in-None.is in
-    rw (← c.self.view_is) (belongs_none (slots_of c.self.inside.slots) (get same_tuple c.self.inside.keys) c.self.invariant.keyed (keys_in (order_of c.self.inside.slots) 0) (slot_listed c.self.inside.slots c.self.invariant.table) c.self.inside.limits c.args.now c.args.tuple c.args.flags none)
+    rw (← c.self.view_is) (belongs_none (slots_of c.self.inside.slots)
+    (get same_tuple c.self.inside.keys) c.self.invariant.keyed (keys_in (order_of c.self.inside.slots) 0)
+    (slot_listed c.self.inside.slots c.self.invariant.table) c.self.inside.limits c.args.now c.args.tuple
+    c.args.flags none)
 
 pub returns-in-None-clause-distinct : goal.returns-in-None-clause-distinct
 returns-in-None-clause-distinct c = rw (← c.self.view_is) (distinct_by c.self.inside.slots c.self.invariant.table)
@@ -26,7 +29,11 @@ returns-in-None-clause-apart c = rw (← c.self.view_is) (apart_by c.self.inside
 pub returns-in-Some-clause-belonging : goal.returns-in-Some-clause-belonging
 returns-in-Some-clause-belonging c =
     let found : get same_tuple c.self.inside.keys c.args.tuple ≡ Some c.in-Some.key = sym c.key_of.ensures ∙ c.in-Some.is in
-    rw (← c.self.view_is) (c.belonging.ensures ∙ belongs_some (slots_of c.self.inside.slots) (get same_tuple c.self.inside.keys) c.self.invariant.keyed (keys_in (order_of c.self.inside.slots) 0) (slot_listed c.self.inside.slots c.self.invariant.table) c.self.inside.limits c.args.now c.args.tuple c.args.flags c.in-Some.key c.read.result found c.read.ensures.held)
+    rw (← c.self.view_is) (c.belonging.ensures
+    ∙ belongs_some (slots_of c.self.inside.slots) (get same_tuple c.self.inside.keys) c.self.invariant.keyed
+    (keys_in (order_of c.self.inside.slots) 0)
+    (slot_listed c.self.inside.slots c.self.invariant.table) c.self.inside.limits c.args.now c.args.tuple
+    c.args.flags c.in-Some.key c.read.result found c.read.ensures.held)
 
 pub returns-in-Some-clause-distinct : goal.returns-in-Some-clause-distinct
 returns-in-Some-clause-distinct c = rw (← c.self.view_is) (distinct_by c.self.inside.slots c.self.invariant.table)

@@ -9,9 +9,12 @@ remove-held-requires-clause-is_held c = slot_of c.self.inside.slots c.self.invar
 
 pub invariant_of-self : goal.invariant_of-self
 invariant_of-self c =
-    aged_ended c.self.inside.slots c.remove-held.new.self (get same_tuple c.self.inside.keys) (get same_tuple c.remove_tuple-2.new.keys) c.self.inside.live c.self.invariant c.args.id c.remove-held.result
+    aged_ended c.self.inside.slots c.remove-held.new.self (get same_tuple c.self.inside.keys)
+    (get same_tuple c.remove_tuple-2.new.keys) c.self.inside.live c.self.invariant c.args.id c.remove-held.result
     c.remove-held.ensures.table c.remove-held.ensures.held c.remove-held.ensures.value c.remove-held.ensures.slots
     (λ q. c.remove_tuple-2.ensures.keys q ∙ ap (cond (same_tuple c.remove-held.result.reply q) None) (c.remove_tuple.ensures.keys q))
 
 pub returns-clause-aged : goal.returns-clause-aged
-returns-clause-aged c = rw (← c.self.view_is) (handed_over c.self.inside.slots c.self.invariant.table c.args.id c.remove-held.result c.remove-held.ensures.value) ∙ ap Some (sym c.aged.ensures)
+returns-clause-aged c = rw (← c.self.view_is)
+    (handed_over c.self.inside.slots c.self.invariant.table c.args.id c.remove-held.result c.remove-held.ensures.value)
+    ∙ ap Some (sym c.aged.ensures)

@@ -8,6 +8,8 @@ use Rattle.aged_tracker.proofs.aged_tracker.AgedTrackerTracker.reserve_one.Goals
 
 pub invariant_of-self-2 : goal.invariant_of-self-2
 invariant_of-self-2 c =
-    aged_grown c.self.inside.slots c.reserve_one.new.self (get same_tuple c.self.inside.keys) (get same_tuple c.reserve.new.self) c.self.inside.live c.self.invariant
+    aged_grown c.self.inside.slots c.reserve_one.new.self (get same_tuple c.self.inside.keys)
+    (get same_tuple c.reserve.new.self) c.self.inside.live c.self.invariant
     c.reserve_one.ensures.table c.reserve_one.ensures.held c.reserve_one.ensures.slots
-    (λ q. let P : (Tuple → Tuple → Bool) → Type 0 = λ eq. get eq c.reserve.new.self q ≡ get eq c.self.inside.keys q in subst P same_fun (c.reserve.ensures.entries.2 q))
+    (λ q. let P : (Tuple → Tuple → Bool) → Type 0 = λ eq. get eq c.reserve.new.self q ≡ get eq c.self.inside.keys q in
+    subst P same_fun (c.reserve.ensures.entries.2 q))

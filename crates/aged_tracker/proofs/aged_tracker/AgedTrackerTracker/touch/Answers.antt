@@ -8,6 +8,8 @@ touch-requires-clause-is_held c = slot_of c.self.inside.slots c.self.invariant.t
 
 pub invariant_of-self : goal.invariant_of-self
 invariant_of-self c =
-    aged_touched c.self.inside.slots c.touch.new.self (get same_tuple c.self.inside.keys) (get same_tuple c.self.inside.keys) c.self.inside.live c.self.invariant c.args.id c.args.direction c.args.flags c.args.mark c.args.now
+    aged_touched c.self.inside.slots c.touch.new.self (get same_tuple c.self.inside.keys)
+    (get same_tuple c.self.inside.keys) c.self.inside.live c.self.invariant c.args.id c.args.direction c.args.flags
+    c.args.mark c.args.now
     (slot_of c.self.inside.slots c.self.invariant.table c.args.id (rw (← c.self.view_is) at c.requires.is_held))
     c.touch.ensures.table c.touch.ensures.held c.touch.ensures.slots

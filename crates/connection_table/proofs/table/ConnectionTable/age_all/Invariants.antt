@@ -5,7 +5,7 @@ use Rattle.nat_mapping.specs.Mappings.{HoldsSame}
 use Rattle.translation.specs.LiveMappings.{mappings_in}
 use Rattle.connection_table.proofs.table.ConnectionTable.age_all.Given as goal
 
--- those that are live stay, and their mappings alone are held
+-- the live entries stay, and their mappings alone are held
 abbrev pub invariant-loop-aged : goal.invariant-loop-aged
 invariant-loop-aged g l =
     let held = g.T.Tracker.held l.self-inside.tracker in

@@ -2,16 +2,26 @@ use Rattle.std.proofs.Common.{not, refl, sym, ap}
 use Rattle.std.specs.Option.{option_map}
 use Rattle.conntrack.specs.ConntrackEntry.{aged_of, is_live}
 use Rattle.conntrack.proofs.Lists.{filter_where_none}
-use Rattle.conntrack.proofs.Names.{found_by_name, has_id-found, length-without, live_at-without_expired}
+use Rattle.conntrack.proofs.Ids.{found_by_id, has_id-found, length-without, live_at-without_expired}
 use Rattle.conntrack.proofs.list_tracker.ListTrackerTracker.age.Goals as goal
 
 pub returns-in-None-clause-none : goal.returns-in-None-clause-none
-returns-in-None-clause-none c = (refl, filter_where_none (is_live c.args.self.now.limits c.args.now) _ (rw c.deref.ensures.value at (sym c.in-None.ensures)))
+returns-in-None-clause-none c = (
+  refl,
+  filter_where_none (is_live c.args.self.now.limits c.args.now) _
+      (rw c.deref.ensures.value at (sym c.in-None.ensures)),
+)
 
 pub returns-in-Some-clause-some : goal.returns-in-Some-clause-some
 returns-in-Some-clause-some c =
     let found = rw c.deref.ensures.value at (sym c.in-Some.ensures) in
-    rw c.aged.ensures (ap (option_map aged_of) (found_by_name (λ h. not (is_live c.args.self.now.limits c.args.now h)) _ _ c.args.self.now.distinct found), c.remove_entry.ensures.items, rw c.remove_entry.ensures.items (live_at-without_expired c.args.self.now.limits _ _ _ c.args.self.now.distinct found))
+    rw c.aged.ensures (
+      ap (option_map aged_of)
+          (found_by_id (λ h. not (is_live c.args.self.now.limits c.args.now h)) _ _ c.args.self.now.distinct found),
+      c.remove_entry.ensures.items,
+      rw c.remove_entry.ensures.items
+          (live_at-without_expired c.args.self.now.limits _ _ _ c.args.self.now.distinct found),
+    )
 
 pub returns-in-Some-clause-fewer : goal.returns-in-Some-clause-fewer
 returns-in-Some-clause-fewer c =

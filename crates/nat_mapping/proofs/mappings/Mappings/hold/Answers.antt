@@ -5,7 +5,8 @@ use Rattle.nat_mapping.proofs.mappings.Mappings.hold.Goals as goal
 
 pub add-requires-clause-one_to_one : goal.add-requires-clause-one_to_one
 add-requires-clause-one_to_one c =
-    one_to_one_alike _ _ (more_alike c.reserve.new.self.held c.args.self.now.held c.args.m (λ q. sym (c.reserve.ensures.held q))) c.requires.one_to_one
+    one_to_one_alike _ _ (more_alike c.reserve.new.self.held c.args.self.now.held c.args.m
+    (λ q. sym (c.reserve.ensures.held q))) c.requires.one_to_one
 
 pub add-requires-clause-few : goal.add-requires-clause-few
 add-requires-clause-few c = omega (arith, c.reserve.ensures.held c.args.m, c.requires.few)

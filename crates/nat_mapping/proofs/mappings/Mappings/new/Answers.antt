@@ -13,7 +13,8 @@ invariant_of-result c = record {
     held = λ k h e. absurd (none-some h (sym (ap (lookup (same_source k)) c.with_hasher.ensures.empty) ∙ e));
     out = λ k h e. absurd (none-some h (sym (ap (lookup (same_source k)) c.with_hasher.ensures.empty) ∙ e));
     back = λ o i e. absurd (none-some i (sym (ap (lookup (same_inbound o)) c.with_hasher-2.ensures.empty) ∙ e));
-    ports = λ k p some. c.new.ensures.taken k p ∙ ap is_some (sym (ap (lookup (same_inbound (inbound_at k p))) c.with_hasher-2.ensures.empty));
+    ports = λ k p some. c.new.ensures.taken k p
+        ∙ ap is_some (sym (ap (lookup (same_inbound (inbound_at k p))) c.with_hasher-2.ensures.empty));
   };
   pooled = c.new.ensures.pooled;
 }

@@ -20,8 +20,11 @@ unreachable-requires c =
     let m = c.args.m in
     let is : held_by c.self.inside.sources.entries ≡ c.args.self.now.held = ap (λ v. v.held) c.self.view_is in
     let L : List Mapping → Type 0 = λ held. Contains held m in
-    let found = held_found c.self.inside.sources c.self.inside.inbounds c.self.inside.pools c.self.invariant m (subst L (sym is) c.requires) in
-    let none : get same_source c.self.inside.sources (source_key_of m) ≡ None = ap (get same_source c.self.inside.sources) (sym c.source_key-key.ensures) ∙ sym c.find_source.ensures ∙ c.in-None.is in
+    let found = held_found c.self.inside.sources c.self.inside.inbounds c.self.inside.pools c.self.invariant m
+    (subst L (sym is) c.requires) in
+    let none : get same_source c.self.inside.sources (source_key_of m) ≡ None =
+    ap (get same_source c.self.inside.sources) (sym c.source_key-key.ensures) ∙ sym c.find_source.ensures
+    ∙ c.in-None.is in
     none-some found.0 (sym none ∙ found.1.0)
 
 pub invariant_of-self : goal.invariant_of-self
@@ -30,11 +33,15 @@ invariant_of-self c =
     let is : held_by c.self.inside.sources.entries ≡ c.args.self.now.held = ap (λ v. v.held) c.self.view_is in
     let L : List Mapping → Type 0 = λ held. Contains held m in
     let h : MappedPort = c.in-Some.mapped in
-    let found : get same_source c.self.inside.sources (source_key_of m) ≡ Some h = ap (get same_source c.self.inside.sources) (sym c.source_key-key.ensures) ∙ sym c.find_source.ensures ∙ c.in-Some.is in
-    let port : h.port ≡ m.external.port = held_port c.self.inside.sources c.self.inside.inbounds c.self.inside.pools c.self.invariant m (subst L (sym is) c.requires) h found in
+    let found : get same_source c.self.inside.sources (source_key_of m) ≡ Some h =
+    ap (get same_source c.self.inside.sources) (sym c.source_key-key.ensures) ∙ sym c.find_source.ensures
+    ∙ c.in-Some.is in
+    let port : h.port ≡ m.external.port = held_port c.self.inside.sources c.self.inside.inbounds c.self.inside.pools
+    c.self.invariant m (subst L (sym is) c.requires) h found in
     let fewer : MappedPort = record { port = h.port; holders = h.holders - 1 } in
     let S : SourceKey → Type 0 = λ k. SourceSet c.self.inside.sources c.update_source.new.sources k (Some fewer) in
-    changed c.self.inside.sources c.self.inside.inbounds c.self.inside.pools c.self.invariant m c.update_source.new.sources h fewer found port refl c.update_source.ensures.unique
+    changed c.self.inside.sources c.self.inside.inbounds c.self.inside.pools c.self.invariant m
+    c.update_source.new.sources h fewer found port refl c.update_source.ensures.unique
     (subst S c.source_key-key.ensures c.update_source.ensures.values) (omega (arith, c.if-mapped-gt1.true))
 
 pub returns-then-mapped-gt1-clause-held : goal.returns-then-mapped-gt1-clause-held
@@ -43,13 +50,17 @@ returns-then-mapped-gt1-clause-held c =
     let is : held_by c.self.inside.sources.entries ≡ c.args.self.now.held = ap (λ v. v.held) c.self.view_is in
     let L : List Mapping → Type 0 = λ held. Contains held m in
     let h : MappedPort = c.in-Some.mapped in
-    let found : get same_source c.self.inside.sources (source_key_of m) ≡ Some h = ap (get same_source c.self.inside.sources) (sym c.source_key-key.ensures) ∙ sym c.find_source.ensures ∙ c.in-Some.is in
-    let port : h.port ≡ m.external.port = held_port c.self.inside.sources c.self.inside.inbounds c.self.inside.pools c.self.invariant m (subst L (sym is) c.requires) h found in
+    let found : get same_source c.self.inside.sources (source_key_of m) ≡ Some h =
+    ap (get same_source c.self.inside.sources) (sym c.source_key-key.ensures) ∙ sym c.find_source.ensures
+    ∙ c.in-Some.is in
+    let port : h.port ≡ m.external.port = held_port c.self.inside.sources c.self.inside.inbounds c.self.inside.pools
+    c.self.invariant m (subst L (sym is) c.requires) h found in
     let fewer : MappedPort = record { port = h.port; holders = h.holders - 1 } in
     let S : SourceKey → Type 0 = λ k. SourceSet c.self.inside.sources c.update_source.new.sources k (Some fewer) in
     let H : List Mapping → Type 0 = λ held. HoldsSame held (m ∷ held_by c.update_source.new.sources.entries) in
     subst H is
-    (one_held_fewer c.self.inside.sources c.self.inside.inbounds c.self.inside.pools c.self.invariant m c.update_source.new.sources h fewer found port refl c.update_source.ensures.unique
+    (one_held_fewer c.self.inside.sources c.self.inside.inbounds c.self.inside.pools c.self.invariant m
+    c.update_source.new.sources h fewer found port refl c.update_source.ensures.unique
     (subst S c.source_key-key.ensures c.update_source.ensures.values) (omega (arith, c.if-mapped-gt1.true)))
 
 pub invariant_of-self-else-mapped-gt1 : goal.invariant_of-self-else-mapped-gt1
@@ -58,12 +69,17 @@ invariant_of-self-else-mapped-gt1 c =
     let is : held_by c.self.inside.sources.entries ≡ c.args.self.now.held = ap (λ v. v.held) c.self.view_is in
     let L : List Mapping → Type 0 = λ held. Contains held m in
     let h : MappedPort = c.in-Some.mapped in
-    let found : get same_source c.self.inside.sources (source_key_of m) ≡ Some h = ap (get same_source c.self.inside.sources) (sym c.source_key-key.ensures) ∙ sym c.find_source.ensures ∙ c.in-Some.is in
-    let port : h.port ≡ m.external.port = held_port c.self.inside.sources c.self.inside.inbounds c.self.inside.pools c.self.invariant m (subst L (sym is) c.requires) h found in
+    let found : get same_source c.self.inside.sources (source_key_of m) ≡ Some h =
+    ap (get same_source c.self.inside.sources) (sym c.source_key-key.ensures) ∙ sym c.find_source.ensures
+    ∙ c.in-Some.is in
+    let port : h.port ≡ m.external.port = held_port c.self.inside.sources c.self.inside.inbounds c.self.inside.pools
+    c.self.invariant m (subst L (sym is) c.requires) h found in
     let S : SourceKey → Type 0 = λ k. SourceSet c.self.inside.sources c.remove_source.new.sources k None in
     let O : InboundKey → Type 0 = λ k. InboundSet c.self.inside.inbounds c.remove_inbound.new.inbounds k None in
     let P : PoolKey → Type 0 = λ k. PortSet (taken_in c.self.inside.pools) (taken_in c.give.new.self) k m.external.port false in
-    ended c.self.inside.sources c.self.inside.inbounds c.self.inside.pools c.self.invariant m c.remove_source.new.sources c.remove_inbound.new.inbounds c.give.new.self c.remove_source.ensures.unique c.give.ensures.pooled h found port
+    ended c.self.inside.sources c.self.inside.inbounds c.self.inside.pools c.self.invariant m
+    c.remove_source.new.sources c.remove_inbound.new.inbounds c.give.new.self c.remove_source.ensures.unique
+    c.give.ensures.pooled h found port
     (subst S c.source_key-key.ensures c.remove_source.ensures.values)
     (subst O c.inbound_key.ensures c.remove_inbound.ensures.values)
     (subst P c.pool_key.ensures c.give.ensures.taken)
@@ -74,13 +90,18 @@ returns-else-mapped-gt1-clause-held c =
     let is : held_by c.self.inside.sources.entries ≡ c.args.self.now.held = ap (λ v. v.held) c.self.view_is in
     let L : List Mapping → Type 0 = λ held. Contains held m in
     let h : MappedPort = c.in-Some.mapped in
-    let found : get same_source c.self.inside.sources (source_key_of m) ≡ Some h = ap (get same_source c.self.inside.sources) (sym c.source_key-key.ensures) ∙ sym c.find_source.ensures ∙ c.in-Some.is in
-    let port : h.port ≡ m.external.port = held_port c.self.inside.sources c.self.inside.inbounds c.self.inside.pools c.self.invariant m (subst L (sym is) c.requires) h found in
+    let found : get same_source c.self.inside.sources (source_key_of m) ≡ Some h =
+    ap (get same_source c.self.inside.sources) (sym c.source_key-key.ensures) ∙ sym c.find_source.ensures
+    ∙ c.in-Some.is in
+    let port : h.port ≡ m.external.port = held_port c.self.inside.sources c.self.inside.inbounds c.self.inside.pools
+    c.self.invariant m (subst L (sym is) c.requires) h found in
     let S : SourceKey → Type 0 = λ k. SourceSet c.self.inside.sources c.remove_source.new.sources k None in
     let H : List Mapping → Type 0 = λ held. HoldsSame held (m ∷ held_by c.remove_source.new.sources.entries) in
     let some : 0 < h.holders = c.self.invariant.sound.held (source_key_of m) h found in
     subst H is
-    (ended_held c.self.inside.sources c.self.inside.inbounds c.self.inside.pools c.self.invariant m c.remove_source.new.sources c.remove_inbound.new.inbounds c.give.new.self c.remove_source.ensures.unique c.give.ensures.pooled h found port
+    (ended_held c.self.inside.sources c.self.inside.inbounds c.self.inside.pools c.self.invariant m
+    c.remove_source.new.sources c.remove_inbound.new.inbounds c.give.new.self c.remove_source.ensures.unique
+    c.give.ensures.pooled h found port
     (omega (arith, some, c.if-mapped-gt1.false))
     (subst S c.source_key-key.ensures c.remove_source.ensures.values))
 

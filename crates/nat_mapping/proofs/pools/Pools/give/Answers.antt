@@ -18,10 +18,13 @@ pub keep_spare-requires-clause-spare : goal.keep_spare-requires-clause-spare
 keep_spare-requires-clause-spare c =
     let key = c.args.key in
     let P : Bool → Type 0 = λ b. OnTrue b ((p : ℕ) → is_taken_by (get same_pool c.give_port.new.pools key) p ≡ false) in
-    let unused : (p : ℕ) → is_taken_by (get same_pool c.give_port.new.pools key) p ≡ false = subst P c.if-give_port.true c.give_port.ensures.unused in
+    let unused : (p : ℕ) → is_taken_by (get same_pool c.give_port.new.pools key) p ≡ false =
+    subst P c.if-give_port.true c.give_port.ensures.unused in
     let is : get same_pool c.give_port.new.pools key ≡ Some c.in-Some.pool = sym c.remove_pool.ensures.value ∙ c.in-Some.is in
     let bitmap : has_pool key.kind ≡ true = sym c.has_pool.ensures ∙ c.if-not-has_pool.false in
-    let order : pool_order c.in-Some.pool ≡ order_of key.kind = c.requires.pooled.used.order key (pool_order c.in-Some.pool) (sym (c.give_port.ensures.orders key) ∙ ap order_by is) in
+    let order : pool_order c.in-Some.pool ≡ order_of key.kind =
+    c.requires.pooled.used.order key (pool_order c.in-Some.pool)
+    (sym (c.give_port.ensures.orders key) ∙ ap order_by is) in
     let R : Order → Type 0 = λ o. o ≢ Zero in
     record { unused = λ p. ap (λ o. is_taken_by o p) (sym is) ∙ unused p; bitmap = subst R (sym order) (row_order key.kind bitmap) }
 
@@ -31,11 +34,13 @@ returns-in-Some-clause-pooled c =
     let mid = get same_pool c.give_port.new.pools in
     let new = get same_pool c.remove_pool.new.pools in
     let P : Bool → Type 0 = λ b. OnTrue b ((p : ℕ) → is_taken_by (get same_pool c.give_port.new.pools key) p ≡ false) in
-    let unused : (p : ℕ) → is_taken_by (get same_pool c.give_port.new.pools key) p ≡ false = subst P c.if-give_port.true c.give_port.ensures.unused in
+    let unused : (p : ℕ) → is_taken_by (get same_pool c.give_port.new.pools key) p ≡ false =
+    subst P c.if-give_port.true c.give_port.ensures.unused in
     let sets = sets_by same_pool pool_test mid new key None c.remove_pool.ensures.pools in
     record {
       unique = c.remove_pool.ensures.unique;
-      used = used_ended (orders_in c.args.self.now) (λ q. order_by (new q)) (taken_in c.args.self.now) (λ q p. is_taken_by (new q) p) key c.args.port c.requires.pooled.used
+      used = used_ended (orders_in c.args.self.now) (λ q. order_by (new q)) (taken_in c.args.self.now)
+          (λ q p. is_taken_by (new q) p) key c.args.port c.requires.pooled.used
           (record { at = ap order_by sets.at; off = λ q apart. ap order_by (sets.off q apart) ∙ c.give_port.ensures.orders q })
           (λ q p. end_free mid new key unused sets q p ∙ c.give_port.ensures.taken q p);
       spares = c.keep_spare.ensures.spares;
@@ -47,10 +52,12 @@ returns-else-give_port-clause-pooled c =
     let key = c.args.key in
     let mid = get same_pool c.give_port.new.pools in
     let P : Bool → Type 0 = λ b. OnFalse b ((p : ℕ) × (is_taken_by (get same_pool c.give_port.new.pools key) p ≡ true)) in
-    let some : (p : ℕ) × (is_taken_by (get same_pool c.give_port.new.pools key) p ≡ true) = subst P c.if-give_port.false c.give_port.ensures.used in
+    let some : (p : ℕ) × (is_taken_by (get same_pool c.give_port.new.pools key) p ≡ true) =
+    subst P c.if-give_port.false c.give_port.ensures.used in
     record {
       unique = c.give_port.ensures.unique;
-      used = used_kept (orders_in c.args.self.now) (λ q. order_by (mid q)) (taken_in c.args.self.now) (λ q p. is_taken_by (mid q) p) key c.args.port c.requires.pooled.used
+      used = used_kept (orders_in c.args.self.now) (λ q. order_by (mid q)) (taken_in c.args.self.now)
+          (λ q p. is_taken_by (mid q) p) key c.args.port c.requires.pooled.used
           c.give_port.ensures.orders c.give_port.ensures.taken some;
       spares = c.requires.pooled.spares;
       few = c.requires.pooled.few;

@@ -22,7 +22,9 @@ returns-in_err-reserve-clause-pooled c =
     let key : PoolKey = record { kind = Tcp; address = 0 } in
     record {
       unique = subst U pool_fun c.reserve.ensures.unique;
-      used = used_same (orders_in c.args.self.now) (λ q. order_by (get same_pool c.reserve.new.self q)) (taken_in c.args.self.now) (λ q p. is_taken_by (get same_pool c.reserve.new.self q) p) key 0 c.requires.pooled.used
+      used = used_same (orders_in c.args.self.now) (λ q. order_by (get same_pool c.reserve.new.self q))
+          (taken_in c.args.self.now) (λ q p. is_taken_by (get same_pool c.reserve.new.self q) p) key 0
+          c.requires.pooled.used
           (λ q. ap order_by (same q)) (λ q p. ap (λ o. is_taken_by o p) (same q));
       spares = c.requires.pooled.spares;
       few = c.requires.pooled.few;
@@ -36,7 +38,9 @@ returns-clause-pooled c =
     let key : PoolKey = record { kind = Tcp; address = 0 } in
     record {
       unique = subst U pool_fun c.reserve.ensures.unique;
-      used = used_same (orders_in c.args.self.now) (λ q. order_by (get same_pool c.reserve.new.self q)) (taken_in c.args.self.now) (λ q p. is_taken_by (get same_pool c.reserve.new.self q) p) key 0 c.requires.pooled.used
+      used = used_same (orders_in c.args.self.now) (λ q. order_by (get same_pool c.reserve.new.self q))
+          (taken_in c.args.self.now) (λ q p. is_taken_by (get same_pool c.reserve.new.self q) p) key 0
+          c.requires.pooled.used
           (λ q. ap order_by (same q)) (λ q p. ap (λ o. is_taken_by o p) (same q));
       spares = c.fill_spares.ensures.spares;
       few = c.fill_spares.ensures.few;

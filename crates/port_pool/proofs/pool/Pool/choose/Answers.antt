@@ -6,18 +6,25 @@ use Rattle.port_pool.proofs.ChoiceLaws.{found_free, none_free, port_itself, iden
 use Rattle.port_pool.proofs.pool.Pool.choose.Goals as goal
 
 pub returns-clause-free : goal.returns-clause-free
-returns-clause-free c = found_free (is_taken c.args.self.now) (candidates (order_of c.args.self.now) c.args.s c.args.range) c.first_candidate.result c.first_candidate.ensures
+returns-clause-free c = found_free (is_taken c.args.self.now)
+    (candidates (order_of c.args.self.now) c.args.s c.args.range) c.first_candidate.result c.first_candidate.ensures
 
 pub returns-clause-none : goal.returns-clause-none
-returns-clause-none c = none_free (is_taken c.args.self.now) (candidates (order_of c.args.self.now) c.args.s c.args.range) c.first_candidate.result c.first_candidate.ensures
+returns-clause-none c = none_free (is_taken c.args.self.now)
+    (candidates (order_of c.args.self.now) c.args.s c.args.range) c.first_candidate.result c.first_candidate.ensures
 
 pub returns-clause-number : goal.returns-clause-number
-returns-clause-number c = zero_alone (λ p. not (is_taken c.args.self.now p)) (order_of c.args.self.now) c.args.s c.args.range c.first_candidate.result c.first_candidate.ensures
+returns-clause-number c = zero_alone (λ p. not (is_taken c.args.self.now p))
+    (order_of c.args.self.now) c.args.s c.args.range c.first_candidate.result c.first_candidate.ensures
 
 pub returns-clause-port : goal.returns-clause-port
 returns-clause-port c is has free =
-    c.first_candidate.ensures ∙ port_itself (λ p. not (is_taken c.args.self.now p)) (order_of c.args.self.now) c.args.s c.args.range is has (not_from_false (is_taken c.args.self.now c.args.s) free)
+    c.first_candidate.ensures ∙ port_itself (λ p. not (is_taken c.args.self.now p))
+    (order_of c.args.self.now) c.args.s c.args.range is has
+    (not_from_false (is_taken c.args.self.now c.args.s) free)
 
 pub returns-clause-identifier : goal.returns-clause-identifier
 returns-clause-identifier c is free =
-    c.first_candidate.ensures ∙ identifier_itself (λ p. not (is_taken c.args.self.now p)) (order_of c.args.self.now) c.args.s c.args.range is (omega arith) (not_from_false (is_taken c.args.self.now c.args.s) free)
+    c.first_candidate.ensures ∙ identifier_itself (λ p. not (is_taken c.args.self.now p))
+    (order_of c.args.self.now) c.args.s c.args.range is (omega arith)
+    (not_from_false (is_taken c.args.self.now c.args.s) free)

@@ -11,7 +11,7 @@ use Rattle.port_pool.specs.Candidates.{candidates, numbers, preferred, ports_of}
 use Rattle.port_pool.proofs.SpanLaws.{starting_at-same, all_match_parity}
 use Rattle.port_pool.proofs.pool.Pool.first_candidate.Goals as goal
 
--- the first number that is free, by what the pool has
+-- the first free number, by the kind of the pool
 abbrev IsFree : ℕ → Option CandidateRange → Option ℕ → TakenNumbers → Type 0
 IsFree s range r n = r ≡ find (λ p. not (taken_in n p)) (candidates (order_in n) s range)
 
@@ -19,15 +19,17 @@ pub returns-in-Ports : goal.returns-in-Ports
 unfolding candidates is_taken order_of
 returns-in-Ports c =
     subst (IsFree c.args.s c.args.range c.first_from.result) (sym c.in-Ports.is)
-    (c.first_from.ensures ∙ starting_at-same c.args.s (members c.ports_span.result) (preferred c.args.s (ports_of c.args.range)) c.ports_span.ensures (λ k. not (bit c.in-Ports.bitmap k)))
+    (c.first_from.ensures ∙ starting_at-same c.args.s (members c.ports_span.result)
+    (preferred c.args.s (ports_of c.args.range)) c.ports_span.ensures (λ k. not (bit c.in-Ports.bitmap k)))
 
 pub returns-in-Identifiers : goal.returns-in-Identifiers
 unfolding candidates is_taken order_of
 returns-in-Identifiers c =
     subst (IsFree c.args.s c.args.range c.first_from-in-Identifiers.result) (sym c.in-Identifiers.is)
-    (c.first_from-in-Identifiers.ensures ∙ starting_at-same c.args.s _ (numbers 0 65535) (all_match_parity (numbers 0 65535)) (λ k. not (bit c.in-Identifiers.bitmap k)))
+    (c.first_from-in-Identifiers.ensures ∙ starting_at-same c.args.s _ (numbers 0 65535)
+    (all_match_parity (numbers 0 65535)) (λ k. not (bit c.in-Identifiers.bitmap k)))
 
--- of 0 alone
+-- 0 alone
 zero_free : (taken : Bool) → then_some (not taken) 0 ≡ find (λ p. not (taken && p == 0)) (0 ∷ [])
 zero_free true = refl
 zero_free false = refl
