@@ -181,8 +181,7 @@ impl UnreadablePart {
                 return Ok(word);
             }
         }
-        self.wrapper
-            .end_of_prefix(alloc, text, self.part, &found)
+        self.wrapper.end_of_prefix(alloc, text, self.part, &found)
     }
 }
 
