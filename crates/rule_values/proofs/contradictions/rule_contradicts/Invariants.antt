@@ -3,7 +3,7 @@ use Rattle.std.specs.List.{list_any}
 use Rattle.nft_tree.specs.Tree.{statement}
 use Rattle.rule_values.specs.TypedValues.{statement_maps}
 use Rattle.rule_values.specs.Faults.{map_contradicts}
-use Rattle.rule_values.proofs.contradictions.rule_contradicts.ElementData as goal
+use Rattle.rule_values.proofs.contradictions.rule_contradicts.Given as goal
 
 -- no map of the statements so far contradicts itself
 abbrev pub invariant-loop-stmt : goal.invariant-loop-stmt

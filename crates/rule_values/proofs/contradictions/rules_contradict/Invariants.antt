@@ -3,7 +3,7 @@ use Rattle.std.specs.List.{list_any}
 use Rattle.nft_tree.specs.Tree.{rule_tree}
 use Rattle.rule_values.specs.TypedValues.{rule_maps}
 use Rattle.rule_values.specs.Faults.{map_contradicts}
-use Rattle.rule_values.proofs.contradictions.rules_contradict.ElementData as goal
+use Rattle.rule_values.proofs.contradictions.rules_contradict.Given as goal
 
 -- no map of the rules so far contradicts itself
 abbrev pub invariant-loop-rule : goal.invariant-loop-rule

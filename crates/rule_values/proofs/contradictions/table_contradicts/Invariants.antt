@@ -3,7 +3,7 @@ use Rattle.std.specs.List.{list_any}
 use Rattle.nft_tree.specs.Tree.{item_tree}
 use Rattle.rule_values.specs.TypedValues.{item_maps}
 use Rattle.rule_values.specs.Faults.{map_contradicts}
-use Rattle.rule_values.proofs.contradictions.table_contradicts.ElementData as goal
+use Rattle.rule_values.proofs.contradictions.table_contradicts.Given as goal
 
 -- no map of the items so far contradicts itself
 abbrev pub invariant-loop-item : goal.invariant-loop-item

@@ -5,7 +5,7 @@ use Rattle.rule_values.specs.TypedValues.{joined_ranges}
 use Rattle.rule_values.specs.steps.Checks.{fails}
 use Rattle.rule_values.specs.steps.Views.{key_types_of}
 use Rattle.rule_values.proofs.Joined.{joined_from}
-use Rattle.rule_values.proofs.values.joined_fail.ElementData as goal
+use Rattle.rule_values.proofs.values.joined_fail.Given as goal
 
 -- the result is that for the remaining values
 abbrev pub invariant-loop-part : goal.invariant-loop-part
