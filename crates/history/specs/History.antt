@@ -67,7 +67,7 @@ pub record IsEntry (e : Entry) (history : List Entry) (entry_view : views.Entry)
   pub bytes : entry_view.length ≡ e.length
   pub events : entry_view.events.now ≡ e.events
   pub outcome : entry_view.outcome ≡ e.outcome
-  pub begun : entry_view.begun ≡ is_creation e.tracked.what
+  pub begun : entry_view.begun ≡ is_creation e.tracked.change
 
 -- the newest entry is lent, and none of an empty history
 abbrev pub IsNewest : Option views.Entry → List Entry → Type 0

@@ -35,11 +35,11 @@ dropped_more k history e o n is were =
     ∙ sym (sum_by-cons (λ (x : Entry). cond (is_dropped_for k x.outcome) 1 0) e history)
 
 -- one more where a record began a connection
-pub begun_more : (history : List Entry) (e : Entry) (begins : Bool) (n : ℕ) → begins ≡ is_creation e.tracked.what
+pub begun_more : (history : List Entry) (e : Entry) (begins : Bool) (n : ℕ) → begins ≡ is_creation e.tracked.change
     → n ≡ begun history → more_if begins n ≡ begun (e ∷ history)
 begun_more history e begins n is were =
-    ap (λ (b : Bool). more_if b n) is ∙ ap (more_if (is_creation e.tracked.what)) were
-    ∙ sym (sum_by-cons (λ (x : Entry). cond (is_creation x.tracked.what) 1 0) e history)
+    ap (λ (b : Bool). more_if b n) is ∙ ap (more_if (is_creation e.tracked.change)) were
+    ∙ sym (sum_by-cons (λ (x : Entry). cond (is_creation x.tracked.change) 1 0) e history)
 
 -- what is added for a test is one where it holds
 pub more_by_test : (b : Bool) (n : ℕ) → n + bool_byte b ≡ more_if b n

@@ -239,7 +239,7 @@ dropped cause history = count_by (λ e. is_dropped_for cause e.outcome) history
 
 -- how many began a connection
 abbrev pub begun : List Entry → ℕ
-begun history = count_by (λ e. is_creation e.tracked.what) history
+begun history = count_by (λ e. is_creation e.tracked.change) history
 
 abbrev pub drop_line : (Cause → ℕ) → Cause → Text
 drop_line lost cause = line (codes "drop" ++ and_word (report_word cause)) (lost cause)
