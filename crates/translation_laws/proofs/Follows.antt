@@ -108,8 +108,8 @@ pub next_follows : (setup : Setup) (history : List Entry) (r : Recorded) (e : En
 next_follows setup history r e n =
     let held = live_at_record setup history r in
     let now = moment_after history r in
-    let processes = subst (λ (l : Option Lookup). ProcessesRecord setup held l n.arrived n.packet_result) n.looked
+    let processes = subst (λ (l : Option Lookup). ProcessesRecord setup held l n.arrived n.packet_result) n.lookup_result
     n.processes in
     subst (Follows held now) (sym (n.is
-    ∙ ap (λ (l : Option Lookup). entry_of now l n.arrived n.packet_result) n.looked))
+    ∙ ap (λ (l : Option Lookup). entry_of now l n.arrived n.packet_result) n.lookup_result))
     (processing_follows setup held now n.arrived n.packet_result processes)

@@ -194,8 +194,8 @@ pub passes_with : (setup : Setup) (history : List Entry) (r : Recorded) (e : Ent
 passes_with setup history r e n t lookup_tuple interface passed =
     let held = live_at_record setup history r in
     let now = moment_after history r in
-    let is = n.is ∙ ap (λ (l : Option Lookup). entry_of now l n.arrived n.packet_result) n.looked in
-    let processes = subst (λ (l : Option Lookup). ProcessesRecord setup held l n.arrived n.packet_result) n.looked
+    let is = n.is ∙ ap (λ (l : Option Lookup). entry_of now l n.arrived n.packet_result) n.lookup_result in
+    let processes = subst (λ (l : Option Lookup). ProcessesRecord setup held l n.arrived n.packet_result) n.lookup_result
     n.processes in
     let tuple : tuple_in (record_lookup held n.arrived) n.packet_result.confirmation ≡ Some t =
     sym (ap (λ (x : Entry). x.lookup_tuple) is) ∙ lookup_tuple in

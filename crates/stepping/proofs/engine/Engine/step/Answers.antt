@@ -38,7 +38,7 @@ invariant_of-self g c =
       );
       small = c.process_record-ended.ensures.small;
       later = rw follows.held (none_later-after c.none_later.ensures.packet now follows.id (record_lookup _ has.arrived)
-          has.process_record.confirmation _ aged);
+          has.packet_result.confirmation _ aged);
       room = λ ready. absurd (never ready);
       long = λ ready. absurd (never ready);
     }
