@@ -56,6 +56,6 @@ returns-in-Dropped-clause-noted c = λ rules trace history written e r is.
     r is c.self.invariant.tallies_fit c.requires.few (omega arith) (omega arith)
     (rw c.in-Dropped.is (omega arith)) (rw c.in-Dropped.is (omega arith))
     (λ cause. rw c.in-Dropped.is (drop_more _ _ _ c.report_index.ensures.report_index
-    (omega (arith, c.report_index.ensures.within, c.self.written)) cause))
+    (omega (arith, c.report_index.ensures.within, c.self.told)) cause))
     (ap (λ n. c.self.inside.begun + n) c.from.ensures ∙ more_by_test c.args.entry.now.begun c.self.inside.begun)
     c.count_events.ensures (cc)
