@@ -43,7 +43,7 @@ module _ (first second : Traversal) (f : Facts) (es : List Event) (e : HookResul
     → HookResult) (runs : first f es e) (more : (g : Facts) (later : List Event)
     → second g later (next g later)) where
   then_by : (b : Bool) → continues e.verdict ≡ b → Then first second f es (cond b (next e.facts e.events) e)
-  then_by true is = meaning.continues e runs (on e.verdict is) (more e.facts e.events)
+  then_by true is = meaning.goes_on e runs (on e.verdict is) (more e.facts e.events)
   then_by false is = meaning.stops runs (off e.verdict is)
 
   thens : Then first second f es (then_continue e next)

@@ -108,7 +108,7 @@ module _ (plant : PlantTree) (number : ℕ) (t : TableTree) where
   no_more false = refl
 
   call_path : (a : Caller) (s : Statement) (v : VerdictTree) (e : Call Caller) → ((x : Call Caller) → Contains (statement_calls s) x → CallsOf t a x) → Chooses t s v → Contains (verdict_calls v) e → CallPath a e
-  call_path a s v e calls verdicts.identity called = record { along = e ∷ []; path = (calls e called, refl); as_deep = no_more e.is_jump }
+  call_path a s v e calls verdicts.itself called = record { along = e ∷ []; path = (calls e called, refl); as_deep = no_more e.is_jump }
   call_path a s v e calls (verdicts.of_pairs {ps = ps} has) called = record { along = e ∷ []; path = (calls e (in_pairs ps v e has called), refl); as_deep = no_more e.is_jump }
   call_path a s v e calls (verdicts.of_map {name = name} m found has) called =
       let to_map : Call Caller = record { to = a_map name; is_jump = false } in

@@ -45,17 +45,17 @@ use Rattle.translation_laws.proofs.Lifted.{IsKept}
 
 -- what is known of candidates
 abbrev pub CandidatesAlike : Type 0
-CandidatesAlike = (s p : ℕ) → Contains (candidates orders.PortInterval s None) p → same_class_and_parity s p ≡ true
+CandidatesAlike = (s p : ℕ) → Contains (candidates orders.Ports s None) p → same_class_and_parity s p ≡ true
 
 fresh_alike : CandidatesAlike → (mappings : List Mapping) (kind : Kind) (internal : Endpoint) (address port : ℕ)
     → has_ports kind ≡ true
     → first_free_port kind internal address None mappings ≡ Some port → same_class_and_parity internal.port port ≡ true
 fresh_alike all mappings Tcp internal address port ports e =
     all internal.port port (found_so (λ q. not (is_port_held Tcp address mappings q))
-    (candidates orders.PortInterval internal.port None) port e).0
+    (candidates orders.Ports internal.port None) port e).0
 fresh_alike all mappings Udp internal address port ports e =
     all internal.port port (found_so (λ q. not (is_port_held Udp address mappings q))
-    (candidates orders.PortInterval internal.port None) port e).0
+    (candidates orders.Ports internal.port None) port e).0
 fresh_alike all mappings EchoRequest internal address port ports e = cc
 fresh_alike all mappings EchoReply internal address port ports e = cc
 fresh_alike all mappings (Other number) internal address port ports e = cc
