@@ -58,7 +58,7 @@ class Replay:
             self.rounds += 1
             self.run()
             # answers that don't go to this ruleset's ends yet are dropped, which is no reason to cut
-            self.take(self.decide(cuts and (self.rounds > 1 or like is not None)))
+            self.take(cuts and (self.rounds > 1 or like is not None))
         self.numbers = {number: name.decode() for name, number in self.names.items()}
 
     def run(self):
@@ -71,7 +71,10 @@ class Replay:
 
     def decide(self, cuts):
         decisions = Decisions(self, cuts)
-        decisions.make()
+        try:
+            decisions.make()
+        except StopIteration:
+            raise Refused(f"the run of {self.rules}: more records passed than packets left") from None
         return decisions
 
     def join(self, decisions):
@@ -81,10 +84,11 @@ class Replay:
             return True
         return False
 
-    def take(self, decisions):
-        """Takes the decisions of a round, and settles if they are those of the round before."""
+    def take(self, with_cuts):
+        """Decides after a round, and settles if the decisions are those of the round before."""
+        decisions = self.decide(with_cuts)
         joins = self.join(decisions)
-        if joins or self.rounds == 1 and self.cuts and not any(decisions.to):
+        if joins or self.cuts and not with_cuts and not any(decisions.to):
             decisions = self.decide(self.cuts)
         self.settled = decisions.to == self.to and decisions.ends == self.ends
         self.to, self.ends, self.cut = decisions.to, decisions.ends, decisions.cut
