@@ -3,7 +3,7 @@ import os
 from collections import Counter, namedtuple
 
 from toolbox.captures import (
-    BROADCAST, LINUX_SLL2, MULTICAST, OTHER_STATION, PROTOCOL_AT, SENT_BY_US, TO_US, header_of, packet_at,
+    BROADCAST, LINUX_SLL2, MULTICAST, OTHER_STATION, PROTOCOL_AT, TO_US, header_of, packet_at,
     records)
 from toolbox.commands import plural
 from toolbox.flows import BEGUN, MOST_READ, OWN, TRANSLATED, Flows
@@ -121,7 +121,7 @@ class Checkup:
             listed = ", ".join(f"index {index}: {number}" for index, number in self.lacking.most_common(MOST_LISTED))
             rest = ", .." if len(self.lacking) > MOST_LISTED else ""
             yield Finding(
-                "interfaces", True,
+                "interfaces", bool(self.alone),
                 f"{plural(lacking, 'record')} of interfaces that the box file lacks ({listed}{rest})",
                 "they are dropped for `interface` or `link`: right for bridge ports and devices below a VLAN; else add the "
                 "interface (tools/box-from-ip)", {"records": lacking, "by_index": dict(self.lacking)})
