@@ -3,7 +3,7 @@ import os
 from collections import Counter, namedtuple
 
 from toolbox.captures import (
-    BROADCAST, LINUX_SLL2, MULTICAST, OTHER_STATION, PROTOCOL_AT, SENT_BY_US, TO_US, header_of, packet_at,
+    BROADCAST, LINUX_SLL2, MULTICAST, OTHER_STATION, PROTOCOL_AT, TO_US, header_of, packet_at,
     records)
 from toolbox.commands import plural
 from toolbox.flows import BEGUN, MOST_READ, OWN, TRANSLATED, Flows
@@ -102,7 +102,8 @@ class Checkup:
 
     def of_file(self):
         if self.cut:
-            yield Finding("snap length", True, f"{plural(self.cut, 'record')} cut by the snap length ({self.header.snaplen})",
+            yield Finding("snap length", True,
+                          f"{plural(self.cut, 'record')} cut by the snap length ({self.header.snaplen})",
                           "they are dropped for `truncated`: capture with tcpdump -s 0", {"records": self.cut})
         if self.end and self.end < os.path.getsize(self.capture):
             yield Finding("torn", True, "the file ends within a record",
@@ -118,56 +119,63 @@ class Checkup:
         lacking = sum(self.lacking.values())
         if lacking:
             listed = ", ".join(f"index {index}: {number}" for index, number in self.lacking.most_common(MOST_LISTED))
+            rest = ", .." if len(self.lacking) > MOST_LISTED else ""
             yield Finding(
-                "interfaces", lacking > self.types[SENT_BY_US], f"{plural(lacking, 'record')} of interfaces that the box file "
-                f"lacks ({listed}{', ..' if len(self.lacking) > MOST_LISTED else ''})",
-                "they are dropped for `interface` or `link`: right for bridge ports and devices below a VLAN; else add the interface "
-                "(tools/box-from-ip)", {"records": lacking, "by_index": dict(self.lacking)})
+                "interfaces", bool(self.alone),
+                f"{plural(lacking, 'record')} of interfaces that the box file lacks ({listed}{rest})",
+                "they are dropped for `interface` or `link`: right for bridge ports and devices below a VLAN; else add the "
+                "interface (tools/box-from-ip)", {"records": lacking, "by_index": dict(self.lacking)})
         alone = sum(self.alone.values())
         if alone:
             yield Finding(
                 "bridge", True, f"{plural(alone, 'packet')} entered by interfaces that the box file lacks (index "
                 f"{', '.join(map(str, sorted(self.alone)[:MOST_LISTED]))}) and seen on none that it has",
-                "bridged from port to port, if these are bridge ports: with net.bridge.bridge-nf-call-iptables=1 Linux shows "
-                "them to prerouting, forward and postrouting; a run doesn't (docs/CAPTURES.md)", {"packets": alone})
+                "bridged from port to port, if these are bridge ports: with net.bridge.bridge-nf-call-iptables=1 Linux "
+                "shows them to prerouting, forward and postrouting; a run doesn't (docs/CAPTURES.md)",
+                {"packets": alone})
 
     def of_packets(self):
         own = sum(self.own_sources.values())
         if own:
             addresses = ", ".join(address_text(address) for address, _ in self.own_sources.most_common(MOST_LISTED))
-            yield Finding("own source", True, f"{plural(own, 'record')} from the box's own addresses ({addresses}) taken as entering",
-                          "captured without -Q in: what the box sent is replayed as if it came. Capture with tcpdump -Q in, "
-                          "or on all interfaces with -i any -y LINUX_SLL2", {"records": own})
+            yield Finding("own source", True,
+                          f"{plural(own, 'record')} from the box's own addresses ({addresses}) taken as entering",
+                          "captured without -Q in: what the box sent is replayed as if it came. Capture with tcpdump "
+                          "-Q in, or on all interfaces with -i any -y LINUX_SLL2", {"records": own})
         if self.by_loopback:
             yield Finding("loopback", True, f"{plural(self.by_loopback, 'record')} of the box's own by lo",
                           "they are replayed as if they came from outside: capture with 'not ifindex 1'",
                           {"records": self.by_loopback})
         if self.fragments:
             yield Finding("fragments", True, plural(self.fragments, "fragment"),
-                          "dropped for `fragment`; Linux puts them together where connections are tracked", {"records": self.fragments})
+                          "dropped for `fragment`; Linux puts them together where connections are tracked",
+                          {"records": self.fragments})
         if self.joined:
             yield Finding("joined", False, f"{plural(self.joined, 'packet')} longer than {LONGEST_PACKET} bytes",
-                          "joined by the card or the kernel (GRO, LRO): counters count them as the box does", {"packets": self.joined})
+                          "joined by the card or the kernel (GRO, LRO): counters count them as the box does",
+                          {"packets": self.joined})
         for name, number in self.not_ip.most_common():
             share = 100 * number / self.count
-            yield Finding(name, name == "IPv6" and share >= 1, f"{plural(number, 'record')} of {name}, {share:.1f} % of all",
+            yield Finding(name, name == "IPv6" and share >= 1,
+                          f"{plural(number, 'record')} of {name}, {share:.1f} % of all",
                           "no rule sees them: a table of family inet counts IPv4 alone here", {"records": number})
-        for kinds, name in (((OTHER_STATION,), "frames for other stations"), ((BROADCAST, MULTICAST), "broadcasts and multicasts")):
+        for kinds, name in (((OTHER_STATION,), "frames for other stations"),
+                            ((BROADCAST, MULTICAST), "broadcasts and multicasts")):
             number = sum(self.types[kind] for kind in kinds)
             if number:
                 yield Finding(name, False, f"{number} {name}", "dropped for `link`: no rule sees them", {"records": number})
 
     def of_flows(self):
         flows = self.flows
-        own = sum(1 for record in range(1, flows.count + 1) if flows.of[record] and flows.flags[flows.of[record]] & OWN)
+        own = sum(1 for flow in flows.of if flow and flows.flags[flow] & OWN)
         if own:
             yield Finding("answers to the box", True, f"{plural(own, 'record')} with answers to packets of the box itself",
                           "on Linux they are established; here they are new, since a run has no packets of the box, and "
                           "input drops them, or a mapping leads them inside", {"records": own})
-        midway = [flow for flow in range(1, flows.number() + 1) if flows.kind[flow] == TCP and not flows.flags[flow] & (BEGUN | OWN)]
+        midway = sum(kind == TCP and not known & (BEGUN | OWN) for kind, known in zip(flows.kind, flows.flags))
         if midway:
-            yield Finding("no beginning", True, f"{plural(len(midway), 'TCP flow')} without a SYN in the capture",
-                          "they began before it: new at their first packet here, established on Linux", {"flows": len(midway)})
+            yield Finding("no beginning", True, f"{plural(midway, 'TCP flow')} without a SYN in the capture",
+                          "they began before it: new at their first packet here, established on Linux", {"flows": midway})
         yield from self.of_answers()
         yield from self.of_copies()
 
@@ -199,6 +207,7 @@ def of_run(replay):
     elsewhere = [record for record, place in enumerate(to) if place]
     if elsewhere:
         count = len({flows.of[record] for record in elsewhere})
-        yield Finding("ports", True, f"{plural(len(elsewhere), 'answer')} of {plural(count, 'flow')} go to ports that Linux chose "
-                      "and a run doesn't", "they are dropped, or led to another host: replay what tools/align makes of the "
-                      "capture", {"records": len(elsewhere), "flows": count})
+        yield Finding("ports", True,
+                      f"{plural(len(elsewhere), 'answer')} of {plural(count, 'flow')} to ports that Linux chose and a run doesn't",
+                      "they are dropped, or led to another host: replay what tools/align makes of the capture",
+                      {"records": len(elsewhere), "flows": count})

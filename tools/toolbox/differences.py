@@ -7,7 +7,7 @@ from toolbox.captures import records
 from toolbox.flows import BEGUN, SIDE
 from toolbox.packets import ANSWER, ASK, TCP, UDP, address_text, describe, inverse
 from toolbox.replay import ELSEWHERE, LOCAL, NOT_SENT, PASSED
-from toolbox.reports import Decision, event_of, records_of
+from toolbox.reports import Decision, event_of, events_of_some
 from toolbox.rulesets import TRANSLATIONS, read_ruleset
 
 OPENED, BLOCKED, REWRITTEN, OTHERWISE = "opened", "blocked", "rewritten only", "dropped otherwise"
@@ -39,9 +39,8 @@ class Sight:
 
     def decisions(self, wanted):
         """Of each wanted record in order its events, and how it ended."""
-        for record, events, _ in records_of(self.replay.files.report):
-            if wanted[record]:
-                yield tuple(events), self.replay.outcome(record)
+        for record, events in zip(wanted, events_of_some(self.replay.files.report, wanted)):
+            yield tuple(events), self.replay.outcome(record)
 
 
 def differing(old, new):
@@ -182,7 +181,8 @@ class Groups:
         """Groups the differences, and gives each record as (record, its bytes, its group)."""
         if not any(self.what):
             return
-        decisions = zip(*(sight.decisions(self.what) for sight in self.sights))
+        wanted = array("I", (record for record, kind in enumerate(self.what) if kind))
+        decisions = zip(*(sight.decisions(wanted) for sight in self.sights))
         for record, _, _, _, _, _, data in records(self.flows_of.path, 160):
             if self.what[record]:
                 (before, outcome_before), (after, outcome_after) = next(decisions)

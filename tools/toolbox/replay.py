@@ -49,7 +49,8 @@ class Replay:
         self.names = {b"passed": PASSED, b"local": LOCAL}
         self.to, self.ends = (like.to, like.ends) if like else (array("I", bytes(4 * (flows.count + 1))), [])
         self.cut = bytearray(flows.number() + 1)
-        self.rounds, self.settled, self.written_to = 0, as_captured, None
+        self.rounds, self.settled = 0, as_captured
+        self.plan = like.plan if like else Plan(flows, files)
         if as_captured:
             self.run()
             if not flows.copies or flows.aligned:
@@ -58,7 +59,7 @@ class Replay:
             self.rounds += 1
             self.run()
             # answers that don't go to this ruleset's ends yet are dropped, which is no reason to cut
-            self.take(self.decide(cuts and (self.rounds > 1 or like is not None)))
+            self.take(cuts and (self.rounds > 1 or like is not None))
         self.numbers = {number: name.decode() for name, number in self.names.items()}
 
     def run(self):
@@ -71,7 +72,10 @@ class Replay:
 
     def decide(self, cuts):
         decisions = Decisions(self, cuts)
-        decisions.make()
+        try:
+            decisions.make()
+        except StopIteration:
+            raise Refused(f"the run of {self.rules}: more records passed than packets left") from None
         return decisions
 
     def join(self, decisions):
@@ -81,10 +85,11 @@ class Replay:
             return True
         return False
 
-    def take(self, decisions):
-        """Takes the decisions of a round, and settles if they are those of the round before."""
+    def take(self, with_cuts):
+        """Decides after a round, and settles if the decisions are those of the round before."""
+        decisions = self.decide(with_cuts)
         joins = self.join(decisions)
-        if joins or self.rounds == 1 and self.cuts and not any(decisions.to):
+        if joins or self.cuts and not with_cuts and not any(decisions.to):
             decisions = self.decide(self.cuts)
         self.settled = decisions.to == self.to and decisions.ends == self.ends
         self.to, self.ends, self.cut = decisions.to, decisions.ends, decisions.cut
@@ -104,27 +109,44 @@ class Replay:
         return [record for record, place in enumerate(self.to) if place not in (AS_CAPTURED, NOT_SENT)]
 
     def written(self):
-        """The capture as it would have been. What isn't sent becomes a record of the same length and time that no rule
-        sees, so that numbers stay."""
-        if self.written_to == (self.to, self.ends):
-            return self.files.replayed
+        """The path of the capture as it would have been."""
+        return self.plan.write(self.to, self.ends)
+
+
+class Plan:
+    """The capture as it would have been, in a file. What isn't sent becomes a record of the same length and time that no
+    rule sees, so that numbers stay."""
+
+    def __init__(self, flows, files):
+        self.flows, self.path = flows, files.replayed
+        self.to, self.ends = None, None
+        self.lengths = struct.Struct(header_of(flows.path).order + "I")
+
+    def write(self, to, ends):
+        """Writes what differs from what was written before, and answers the file's path."""
+        if self.to is None:
+            shutil.copyfile(self.flows.path, self.path)
+            self.to, self.ends = array("I", bytes(4 * len(to))), []
+        if (to, ends) != (self.to, self.ends):
+            same_ends = ends == self.ends
+            with open(self.flows.path, "rb") as source, open(self.path, "r+b", buffering=0) as target:
+                for record, (place, before) in enumerate(zip(to, self.to)):
+                    if (place or before) and not (place == before and (same_ends or place == NOT_SENT)):
+                        self.write_record(record, place, ends, source.fileno(), target.fileno())
+            self.to, self.ends = to, ends
+        return self.path
+
+    def write_record(self, record, place, ends, source, target):
         flows = self.flows
-        shutil.copyfile(flows.path, self.files.replayed)
-        lengths = struct.Struct(header_of(flows.path).order + "I")
-        with open(flows.path, "rb") as source, open(self.files.replayed, "r+b", buffering=0) as target:
-            read, write = source.fileno(), target.fileno()
-            for record, place in enumerate(self.to):
-                if place == AS_CAPTURED:
-                    continue
-                offset = flows.offset[record]
-                if place == NOT_SENT:
-                    silence(write, offset, flows.link_type)
-                    continue
-                head = os.pread(read, MOST_CHANGED, offset - 8)
-                packet = head[8 + flows.at:8 + lengths.unpack_from(head)[0]]
-                os.pwrite(write, with_destination(packet, self.ends[place - 1]), offset + flows.at)
-        self.written_to = self.to, self.ends
-        return self.files.replayed
+        offset = flows.offset[record]
+        head = os.pread(source, MOST_CHANGED, offset - 8)
+        data = head[8:8 + self.lengths.unpack_from(head)[0]]
+        if place == NOT_SENT:
+            silence(target, offset, flows.link_type)
+            return
+        if place != AS_CAPTURED:
+            data = data[:flows.at] + with_destination(data[flows.at:], ends[place - 1])
+        os.pwrite(target, data, offset)
 
 
 def silence(file, offset, link_type):
@@ -147,6 +169,7 @@ class Decisions:
         self.to, self.ends, self.places = array("I", bytes(4 * (flows.count + 1))), [], {}
         self.cut = bytearray(len(flows.first))
         self.opened = bytearray(len(flows.first))  # PASSED, LOCAL: an opener went through; 4: a SYN and ACK did
+        self.fine = bytearray(len(flows.first))  # whose beginning went through: it is cut no more
         # by flow times two, and side: the tuple with which its packets have to come, the one with which they last left
         self.choice, self.left_as = {}, {}
         # without copies a run tells which later flow is the other side of an earlier one
@@ -156,7 +179,7 @@ class Decisions:
     def make(self):
         flows, outcomes, leaving = self.flows, self.outcomes, self.leaving
         of, role, seen, tuples, known, cuts = flows.of, flows.role, flows.seen, flows.tuples, flows.flags, self.cuts
-        choice, left_as = self.choice, self.left_as
+        choice, left_as, fine = self.choice, self.left_as, self.fine
         for record in range(1, flows.count + 1):
             outcome = outcomes[record]
             frame = next(leaving)[6] if outcome == PASSED else None
@@ -167,7 +190,7 @@ class Decisions:
                     self.look_for_error(record)
                 continue
             side = what & SIDE
-            if cuts and known[flow] & BEGUN and self.is_cut(record, flow):
+            if cuts and known[flow] & BEGUN and not fine[flow] and self.is_cut(record, flow):
                 self.to[record] = NOT_SENT
                 continue
             if outcome == PASSED or outcome == LOCAL:
@@ -192,26 +215,27 @@ class Decisions:
                     self.learn(record, flow, side, left)
 
     def is_cut(self, record, flow):
+        """Whether a record isn't sent, since what comes before it in its flow didn't go through."""
         if self.spared and self.spared[flow]:
             return False
-        if not self.cut[flow] and self.stops(record, flow):
-            self.cut[flow] = STOPPED
-        return self.cut[flow]
-
-    def stops(self, record, flow):
-        """Whether what comes before this record didn't go through, so that it wouldn't have been sent."""
+        if self.cut[flow]:
+            return True
         flows, opened = self.flows, self.opened[flow]
         answered, acked = flows.answered[flow], flows.acked[flow]
         if answered and record >= answered and not opened & (PASSED | LOCAL):
-            return True
-        return bool(acked and record >= acked and flows.flags[flow] & SAW_SYN_ACK and not opened & 4)
+            self.cut[flow] = STOPPED
+        elif acked and record >= acked and flows.flags[flow] & SAW_SYN_ACK and not opened & 4:
+            self.cut[flow] = STOPPED
+        elif flows.kind[flow] == TCP and acked and record >= acked or flows.kind[flow] != TCP and answered and record >= answered:
+            self.fine[flow] = 1
+        return self.cut[flow]
 
     def send_to(self, record, flow, side, came, wanted):
         """Sends a record to the end that the ruleset chose; not where it comes from another host than the ruleset sent
         the flow to: that one's answers aren't known. Answers whether it is sent."""
         if source_end(came) != source_end(wanted):
             if self.cuts and side and self.flows.flags[flow] & BEGUN:
-                self.cut[flow], self.to[record] = ELSEWHERE, NOT_SENT
+                self.goes_elsewhere(record, flow)
                 return False
             return True
         end = destination_end(wanted)
@@ -228,8 +252,11 @@ class Decisions:
             return False
         if not self.flows.flags[flow] & BEGUN:
             return False
-        self.cut[flow], self.to[record] = ELSEWHERE, NOT_SENT
+        self.goes_elsewhere(record, flow)
         return True
+
+    def goes_elsewhere(self, record, flow):
+        self.cut[flow], self.fine[flow], self.to[record] = ELSEWHERE, 0, NOT_SENT
 
     def look_for_join(self, record, flow):
         """Whether this flow is the other side of an earlier one, as what left of that one tells."""

@@ -1,11 +1,12 @@
 """Reports of nftrun run --trace (README.md, "Reading the report"), streamed."""
+import mmap
 import re
 from collections import Counter, namedtuple
 
 from toolbox.commands import Refused
 
 CHUNK = 1 << 20
-OUTCOME = re.compile(rb"^trace \d+ outcome (\w+)$", re.MULTILINE)
+OUTCOME = re.compile(rb"\ntrace [0-9]+ outcome (\w+)")
 EVENT = re.compile(rb"^(trace|log) [0-9]+ (.*)$", re.MULTILINE)
 TOTAL = re.compile(rb"[a-z]+(?: [a-z]+)? [0-9]+")
 COUNTER = re.compile(rb"counter (\S+ \S+ \S+) ([0-9]+) ([0-9]+) packets ([0-9]+) bytes ([0-9]+)")
@@ -81,20 +82,47 @@ def event_of(event):
 
 def outcomes_of(path, names):
     """Of each record (from 1) the number of its outcome in `names`, which grows: a byte a record."""
-    outcomes, rest = bytearray(1), b""
+    outcomes, rest = bytearray(1), b"\n"
     with open(path, "rb") as file:
-        while True:
-            chunk = file.read(CHUNK)
+        while chunk := file.read(CHUNK):
             whole = rest + chunk
-            end = whole.rfind(b"\n") + 1
+            end = whole.rfind(b"\n")
             for name in OUTCOME.findall(whole, 0, end):
                 number = names.get(name)
                 if number is None:
                     number = names[name] = len(names) + 1
                 outcomes.append(number)
             rest = whole[end:]
-            if not chunk:
-                return outcomes
+    return outcomes
+
+
+def events_of_some(path, wanted):
+    """The events of each wanted record, whose numbers rise, as `records_of` has them. The report is whole and has a trace;
+    what stands between is passed over."""
+    with open(path, "rb") as file, mmap.mmap(file.fileno(), 0, access=mmap.ACCESS_READ) as report:
+        at = 0
+        for number in wanted:
+            begin = report.find(b"\n", outcome_place(report, number - 1, at)) + 1 if number > 1 else 0
+            at = outcome_place(report, number, begin)
+            yield [event_in(line) for line in report[begin:at].split(b"\n")[:-1]]
+
+
+def outcome_place(report, number, at):
+    """Where the line of a record's outcome begins, at or behind the line that begins at `at`."""
+    head = b"trace %d outcome " % number
+    if report[at:at + len(head)] == head:
+        return at
+    found = report.find(b"\n" + head, at)
+    if found < 0:
+        raise Refused(f"no report with a trace: it lacks the outcome of record {number}")
+    return found + 1
+
+
+def event_in(line):
+    """What stands behind `trace N ` or `log N `."""
+    word, _, rest = line.partition(b" ")
+    what = rest.partition(b" ")[2]
+    return b"log " + what if word == b"log" else what
 
 
 class Summary:

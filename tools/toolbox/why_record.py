@@ -1,13 +1,11 @@
 """One record of a run: how it came, the rules on its way, what translation made of it, and its flow."""
-from itertools import islice
-
 from toolbox.boxes import Box
 from toolbox.captures import LINK_LENGTHS, LINUX_SLL2, RECORD_HEADER, header_of, interface_of, packet_at, records
 from toolbox.commands import Refused
 from toolbox.flows import ERROR, SIDE, Flows
 from toolbox.packets import TCP, describe, destination_end, end_text, flags_text, inverse, source_end, tuple_at
 from toolbox.replay import AS_CAPTURED, Replay
-from toolbox.reports import Decision, event_of, records_of, text_of
+from toolbox.reports import Decision, event_of, events_of_some
 from toolbox.rulesets import TRANSLATIONS, read_ruleset
 
 OUT_LINK = LINK_LENGTHS[LINUX_SLL2]
@@ -52,8 +50,8 @@ class Why:
         self.came_by = self.box.interface_name(index)
 
     def read_events(self):
-        _, events, outcome = next(islice(records_of(self.replay.files.report), self.record - 1, None))
-        self.outcome = text_of(outcome)
+        events = next(events_of_some(self.replay.files.report, [self.record]))
+        self.outcome = self.replay.outcome(self.record)
         self.events = [event_of(event) for event in events]
         self.decisions = [event for event in self.events if isinstance(event, Decision)]
 
