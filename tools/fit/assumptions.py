@@ -22,6 +22,7 @@ ASSUMPTIONS = {
     "header": Assumption(("miss", "hit"), "headers aren't so"),
     "route": Assumption(("miss", "hit"), "routes aren't so"),
     "meta": Assumption(("miss", "hit"), "packets aren't so"),
+    "setting": Assumption(("ignored", REFUSE), "no helper expects a connection, and no idle limit or zone that is set makes a difference"),
     "layer2": Assumption(("accept", REFUSE), "what bridge and netdev tables judge passes unchanged"),
     "nat": Assumption(("first", "last"), "the first address or port of the range is taken"),
     "offload": Assumption(("slow", REFUSE), "every packet meets the forward chains"),

@@ -191,7 +191,7 @@ class ExpressionReader:
             return self.drawn()
         if word == "fib":
             return self.fib()
-        if word in META and not (word == "meta"):
+        if word in META and not (word == "ipsec" and after.text in ("in", "out")):
             self.at += 1
             return Selector(f"meta {word}")
         if word not in FIELDS or after.kind != "word":
@@ -227,6 +227,8 @@ class ExpressionReader:
     def lookup_selector(self):
         """`rt nexthop`, `socket cgroupv2 level 1`, `osf name`, `ipsec in reqid`."""
         token, after = self.take(), self.take("word")
+        if token.text == "rt" and after.text in ("type", "hdrlength", "nexthdr", "seg-left"):
+            return Selector(f"rt0 {after.text}")         # the routing header of IPv6
         if token.text != "ipsec" and after.text not in FIELDS[token.text]:
             raise NotFitted(f"nft(8) has no `{token.text} {after.text}`")
         words = [token.text, after.text]

@@ -138,9 +138,10 @@ LEFT_OUT = {
     "tcp option maxseg size": ("outcome", "packets leave with their old segment size"),
     "ether saddr": ("outcome", "link addresses aren't shown"),
     "ether daddr": ("outcome", "link addresses aren't shown"),
-    "ct helper": ("guess", "helper"),
-    "ct expectation": ("guess", "helper"),
-    "ct timeout": ("guess", "ct"),
+    "ct helper": ("guess", "setting"),
+    "ct expectation": ("guess", "setting"),
+    "ct timeout": ("guess", "setting"),
+    "ct zone": ("guess", "setting"),
 }
 
 # Words of nft(8) that nftrun hasn't

@@ -1,15 +1,11 @@
 """The whole ruleset: what of it is left out, what leads where, and the text that it becomes."""
-from .changes import Changes
-from .facts import CHAIN_HOOKS, MARKS, PRIORITIES
+from .facts import CHAIN_HOOKS, MARKS
 from .marks import Marks
 from .order import Order
 from .rules import RuleFitter, marks_read
-from .scanner import slice_of, spelled
 from .sets import Sets
 from .statements import RuleReader
-from .tree import Chain, Named, NotFitted, Rule, Verdict, names_in
-
-ROW_LIMIT = 16384
+from .tree import Chain, NotFitted, Rule, Verdict, names_in
 
 
 class Fitter:
@@ -65,12 +61,14 @@ class Fitter:
             rule.statements, rule.comment = RuleReader(rule.tokens).rule()
         except (NotFitted, RecursionError) as fault:
             rule.statements, rule.fault = [], str(fault) if isinstance(fault, NotFitted) else "expressions nested too deeply"
+        counters = rule.counters_before
         for index, it in enumerate(rule.statements):
             if it.kind == "verdict" and isinstance(it.parts[0].target, list):
-                inner = self.named_chain(table, chain, number, rule, it.parts[0])
+                inner = self.named_chain(table, chain, number, rule, it.parts[0], counters)
                 rule.statements[index] = it._replace(parts=(Verdict(it.parts[0].word, inner.name),))
+            counters += counters_in(it.tokens)
 
-    def named_chain(self, table, chain, number, rule, verdict):
+    def named_chain(self, table, chain, number, rule, verdict, counters):
         """A chain of its own for the rules in braces behind `jump` or `goto`."""
         count = 1
         while f"fitted_{count}" in table.chains:
@@ -81,7 +79,9 @@ class Fitter:
         table.chains[inner.name] = inner
         self.changes.tell(rule.token, "same", f"{verdict.word} {{ .. }}", f"{verdict.word} {inner.name}", "a chain of its own")
         for index, one in enumerate(inner.rules, 1):
+            one.counters_before = counters
             self.read_rule(table, inner, index, one)
+            counters += counters_in(one.tokens)
         return inner
 
     # what leads where
@@ -188,3 +188,7 @@ class Fitter:
         if kind not in ("filter", "nat"):
             raise NotFitted(f"a chain of type {kind}")
         return [f"type {kind} hook {head.hook} priority {self.order.priority_text(chain)}; policy {chain.policy or 'accept'};"]
+
+
+def counters_in(tokens):
+    return sum(it.kind == "word" and it.text == "counter" for it in tokens)

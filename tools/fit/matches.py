@@ -4,7 +4,7 @@ from ipaddress import IPv4Address
 from .assumptions import ASSUMPTIONS
 from .facts import BITS, KNOWN, MARKS, NEVER_IN_IPV4, SHORT, TCP_FLAGS, TYPES, WORDS, assumption_of, first_word
 from .network import Network, spelled_networks
-from .numbers import bits_named, constant, constant_number, holds, name_of, number_of, number_part, spell_part
+from .numbers import bits_named, constant, constant_number, holds, name_of, number_of, spell_part
 from .sets import parts_are_plain
 from .tree import (Anything, Calculation, Drawn, Elements, Joined, Listed, Masked, Named, NotFitted, One, Piece, Prefix,
                    Range, Selector, Value)
@@ -45,17 +45,17 @@ class Matches:
             self.tell("same", self.never(), "a packet that is forwarded is of no process")
             self.die()
             return
-        if name == "ct zone" and self.fitter.sets_zones:
-            raise NotFitted("zones of connections, which rules set")
         fact = KNOWN.get(name)
         self.keep_header(name)
-        if fact is None:
+        if fact is None or name == "ct zone" and self.fitter.sets_zones:
             self.guess_match(assumption_of(name), self.usual_answer(assumption_of(name), operator))
             return
         answer = holds(fact.value, operator, right, "32", fact.words)
-        if answer is None:
+        if answer is None and fact.assumption:
+            self.guess_match(fact.assumption, self.usual_answer(fact.assumption, operator))
+        elif answer is None:
             raise NotFitted("a value that isn't known")
-        if fact.assumption:
+        elif fact.assumption:
             self.guess_match(fact.assumption, answer, fact.why)
         else:
             self.tell("same", (fact.needs or "left out, as it always holds") if answer else self.never(), fact.why)
@@ -250,6 +250,9 @@ class Matches:
     # bits
 
     def match_bits(self, name, kind, operator, right, reading):
+        if kind == "tcp_flag" and operator in ("<", ">", "<=", ">="):
+            self.match_order_of_flags(0xFF, operator, right)
+            return
         if kind == "tcp_flag":
             self.put_spelled(self.flags_text(operator, right), reading=reading)
             return
@@ -261,7 +264,10 @@ class Matches:
             raise NotFitted("a state that isn't known")
         if operator == "!":
             text = " ".join(f"{name} != {word}" for word in words)
-            self.tell("same", text, "none of them")
+            why = "none of them"
+            if kind == "ct_status":
+                why += "; so nftrun reads it, nft(8) would compare the whole value"
+            self.tell("same", text, why)
             self.put(text)
         elif operator == "!=" and (kind == "ct_status" or len(words) > 1):
             self.match_unequal(name, words)
@@ -344,9 +350,8 @@ class Matches:
     def match_masked_flags(self, mask, operator, right):
         mask = constant_number(mask)
         if operator not in ("", "==", "!="):
-            if operator != ">" or holds(0, "==", right, "8", TCP_FLAGS) is not True:
-                raise NotFitted(f"`{operator}` with flags")
-            operator, right = "!=", number_part(0)
+            self.match_order_of_flags(mask, operator, right)
+            return
         if not isinstance(right, Elements):
             sign = "!=" if operator == "!=" else "=="
             self.put_spelled(f"tcp flags & ({flag_names(mask)}) {sign} {flag_words(right, ' | ')}")
@@ -360,6 +365,16 @@ class Matches:
         else:
             self.tell("same", "a rule for each value", "a mask before a list")
             self.split([[self.piece(it)] for it in texts])
+
+    def match_order_of_flags(self, mask, operator, right):
+        """The values of the flags for which an order holds, in a list."""
+        answers = [holds(it & mask, operator, constant(right), "8", {}) for it in range(256)]
+        if None in answers:
+            raise NotFitted("a value that isn't known")
+        found = [hex(it) for it in range(256) if answers[it]]
+        text = f"tcp flags {{ {', '.join(found)} }}" if len(found) > 1 else f"tcp flags == {found[0]}" if found else self.never()
+        self.tell("same", text, "all values for which it holds")
+        self.put(text)
 
     def match_mark(self, name, mask, operator, right):
         """The marks that rules write are known, so those for which the match holds can be listed."""

@@ -58,9 +58,9 @@ class Network:
         raise NotFitted(f"`fib .. type {word}`")
 
     def reached_by(self, name):
-        """The addresses whose best route leads to the interface, as ranges of text. The box's own addresses and those of
-        broadcast have none, as in the kernel."""
-        routes = [(net, None) for net in self.own() + self.broadcast()] + self.routes
+        """The addresses whose best route leads to the interface, as ranges of text. The box's own addresses have none, as
+        in the kernel; those of broadcast have that of their network."""
+        routes = [(net, None) for net in self.own()] + self.routes
         bounds = sorted({0, 1 << 32} | {int(net[0]) for net, _ in routes} | {int(net[-1]) + 1 for net, _ in routes})
         ranges = []
         for low, after in zip(bounds, bounds[1:]):

@@ -19,6 +19,8 @@ def number_of(value, kind, words=None):
         return as_number(value.text)
     if value.kind == "address":
         return int(address_of(value.text))
+    if value.kind == "string" and words is not None:     # `iifgroup "default"`
+        return words.get(value.text.strip('"'))
     if value.kind != "word":
         return None
     if words is not None or kind in WORDS and value.text in WORDS[kind]:

@@ -23,7 +23,7 @@ class RuleFitter(Matches, JoinedKeys, Maps, Writes, Translations, Effects):
     def __init__(self, fitter, table, chain, rule):
         self.fitter, self.table, self.chain, self.rule = fitter, table, chain, rule
         self.before, self.lines, self.is_dead = [], [[]], False
-        self.told, self.counters, self.statement, self.index = Changes(), 0, None, 0
+        self.told, self.counters, self.statement, self.index = Changes(), rule.counters_before, None, 0
         # what runs in chains of output alone meets no packet of a capture
         self.never_runs = chain.hooks == {"output"}
 
@@ -129,7 +129,7 @@ class RuleFitter(Matches, JoinedKeys, Maps, Writes, Translations, Effects):
 
     def count_counters(self):
         number = sum(it.kind == "counter" for it in self.rule.statements)
-        self.lines[0] += [Piece("", "effect", (), it) for it in range(1, number + 1)]
+        self.lines[0] += [Piece("", "effect", (), it) for it in range(self.counters + 1, self.counters + number + 1)]
 
     def leading_matches(self):
         """The matches before all else, and a vmap right behind them."""

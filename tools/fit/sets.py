@@ -136,8 +136,10 @@ class Sets:
         lines += [f"size {found.size}"] if found.size is not None else []
         lines += ["auto-merge"] if found.merges else []
         lines += [f"comment {found.comment}"] if found.comment else []
-        elements = []
-        for it in self.kept(found):
+        elements, kept = [], self.kept(found)
+        if len(types) == 1 and not found.is_map:         # `*` has all others
+            kept = [it for it in kept if isinstance(it.key[0], Anything)] or kept
+        for it in kept:
             try:
                 text = " . ".join(spell_part(part, kind) for part, kind in zip(it.key, types, strict=True))
             except ValueError:

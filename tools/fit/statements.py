@@ -1,7 +1,7 @@
 """Reads rules, statement by statement."""
 from .expressions import ExpressionReader
 from .facts import VERDICTS
-from .tree import Bound, Calculation, Drawn, Joined, NotFitted, Selector, Statement, Translation
+from .tree import Bound, Calculation, Drawn, Joined, Listed, NotFitted, Selector, Statement, Translation
 
 LOG_OPTIONS = ("prefix", "level", "group", "flags", "snaplen", "queue-threshold")
 LOG_FLAGS = set("tcp sequence options ip skuid ether all".split())
@@ -55,6 +55,8 @@ class RuleReader(ExpressionReader):
             operand = self.operand()
             if left == Selector("meta priority") and self.skip(":"):
                 self.take()
+            while self.skip(","):                        # `ct event set new,destroy`
+                operand = Listed((operand, self.operand()))
             return "set", (left, operand)
         if self.skip("vmap"):
             return "vmap", (left, self.mapping())

@@ -4,6 +4,7 @@ from .matches import rules_text, shown
 from .numbers import range_of, spell_number, spell_part
 from .tree import Drawn, Joined, Lookup, NotFitted, One, Prefix, Range, Selector, Value
 
+MOST_ADDRESSES = 1024                                    # that translation of prefixes may become
 PARTS = (One, Range, Prefix, Lookup)
 
 
@@ -16,7 +17,8 @@ class Translations:
         if any(one is not None and not isinstance(one, PARTS) for one in (it.address, it.ports)):
             raise NotFitted("translation to what isn't an address or a port")
         if it.prefix:
-            raise NotFitted("translation of prefixes")
+            self.translate_prefixes(it)
+            return
         if it.flags:
             self.tell("outcome", "left out", "nftrun chooses ports in its own way", what=" ".join(it.flags))
         if it.kind in ("snat", "dnat") and it.address is None:
@@ -32,6 +34,22 @@ class Translations:
                 self.put(text, "end")
             else:
                 self.put_spelled(text, kind="end")
+
+    def translate_prefixes(self, it):
+        """`snat ip prefix to ip saddr map { 10.1.0.0/24 : 10.2.0.0/24 }`: each address to its own."""
+        if not isinstance(it.address, Lookup) or it.address.key not in (Selector("ip saddr"), Selector("ip daddr")):
+            raise NotFitted("translation of prefixes but by a map of addresses")
+        pairs = []
+        for one in self.mapping(it.address.map, verdicts=False)[0]:
+            if not all(isinstance(part, Prefix) for part in (one.key[0], one.data[0])) or one.key[0].length != one.data[0].length:
+                raise NotFitted("translation of prefixes that aren't of one length")
+            ends = [range_of(part[0], "ipv4_addr") for part in (one.key, one.data)]
+            if ends[0][1] - ends[0][0] + len(pairs) >= MOST_ADDRESSES:
+                raise NotFitted(f"translation of prefixes with more than {MOST_ADDRESSES} addresses")
+            pairs += zip(*(range(low, high + 1) for low, high in ends))
+        listed = ", ".join(f"{spell_number(old, 'ipv4_addr')} : {spell_number(new, 'ipv4_addr')}" for old, new in pairs)
+        self.tell("same", f"a map of {len(pairs)} addresses", "each address has its own")
+        self.put(f"{it.kind}{self.to()}{it.address.key.name} map {{ {listed} }}", "end")
 
     def address_of_rule(self, kind):
         """`dnat to :80` keeps the address; nftrun wants it said, which the rule may do."""

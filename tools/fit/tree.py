@@ -44,6 +44,7 @@ class Rule:
     def __init__(self, tokens):
         self.tokens = tokens
         self.statements, self.comment, self.fault = None, None, None
+        self.counters_before = 0                         # of the operator's rule, where this was in braces within it
 
     @property
     def token(self):
