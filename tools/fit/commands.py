@@ -275,7 +275,7 @@ class Commands:
         try:
             elements = ExpressionReader(tokens).elements(found.is_map).list
         except NotFitted as fault:
-            self.changes.refuse(tokens[0], f"elements of {found.name}", str(fault))
+            found.fault = tokens[0], str(fault)          # nftrun may take them as they are
             return
         known = {it.key for it in found.elements}
         found.elements += [it for it in elements if it.key not in known or found.is_map]

@@ -3,7 +3,7 @@ from .facts import NEVER_IN_IPV4, TRANSPORTS, first_word
 from .numbers import spell_value
 from .profile import takes
 from .sets import verdict_text
-from .tree import Lookup, NotFitted, Selector, Value, selectors_in
+from .tree import Lookup, Missing, NotFitted, Selector, Value, selectors_in
 
 
 class Effects:
@@ -11,7 +11,7 @@ class Effects:
 
     def fit_verdict(self, verdict):
         if verdict.target is not None and verdict.target not in self.table.chains:
-            raise NotFitted(f"there is no chain {verdict.target}")
+            raise Missing(f"there is no chain {verdict.target}")
         if verdict.word == "continue" and not self.is_last():
             self.tell("same", "left out", "a packet goes on in the rule")
             return
@@ -79,7 +79,7 @@ class Effects:
         """Where a named counter starts; the first rule that names it starts there."""
         what, token, body = self.table.objects.get(name, (None, None, ()))
         if what != "counter":
-            raise NotFitted(f"there is no counter {name}")
+            raise Missing(f"there is no counter {name}")
         numbers = [int(it.text) for it in body if it.kind == "number"]
         self.table.objects[name] = (what, token, ())
         return tuple(numbers[:2]) if len(numbers) >= 2 else (0, 0)
@@ -115,7 +115,7 @@ class Effects:
         if bound.name is not None:
             what, _, body = self.table.objects.get(bound.name, (None, None, ()))
             if what != bound.kind:
-                raise NotFitted(f"there is no {bound.kind} {bound.name}")
+                raise Missing(f"there is no {bound.kind} {bound.name}")
             over = any(it.text == "over" for it in body)
         way = self.way(bound.kind)
         passes = (way == "under") != bool(over)

@@ -5,7 +5,7 @@ from .order import Order
 from .rules import RuleFitter, marks_read
 from .sets import Sets
 from .statements import RuleReader
-from .tree import Chain, NotFitted, Rule, Verdict, names_in
+from .tree import Chain, NotFitted, Rule, Verdict, counters_in, names_in
 
 
 class Fitter:
@@ -188,7 +188,3 @@ class Fitter:
         if kind not in ("filter", "nat"):
             raise NotFitted(f"a chain of type {kind}")
         return [f"type {kind} hook {head.hook} priority {self.order.priority_text(chain)}; policy {chain.policy or 'accept'};"]
-
-
-def counters_in(tokens):
-    return sum(it.kind == "word" and it.text == "counter" for it in tokens)

@@ -3,8 +3,9 @@ from .assumptions import ASSUMPTIONS
 from .facts import KNOWN, LONGEST_KEY, TYPES, assumption_of
 from .matches import rules_text, shown
 from .numbers import holds, name_of, range_of, spell_number, spell_part, width_of
+from .profile import takes
 from .sets import parts_are_plain
-from .tree import Anything, Elements, Named, NotFitted, One, Selector, Value
+from .tree import Anything, Elements, Named, Missing, NotFitted, One, Selector, Value
 
 MOST_KEYS = 512                                          # that ranges in joined keys may become
 FEW_KEYS = 32                                            # as which ranges are written out, where they needn't be
@@ -18,7 +19,7 @@ class JoinedKeys:
         if isinstance(right, Named):
             found = self.table.sets.get(right.name)
             if found is None:
-                raise NotFitted(f"there is no set {right.name}")
+                raise Missing(f"there is no set {right.name}")
             if self.is_hit(right.name, operator):
                 return
             names = self.joined_names(left, [it.key for it in found.elements])
@@ -26,10 +27,21 @@ class JoinedKeys:
                 self.put_spelled(f"{' . '.join(map(shown, names[0]))} {'!= ' if is_not else ''}@{right.name}", names[0])
                 return
             self.look_up(names, is_not)
+        elif isinstance(right, Elements) and self.is_taken(left, right):
+            self.put(self.statement_text(), "match", [it.name for it in left.parts])
         elif isinstance(right, Elements):
             self.look_up(self.joined_names(left, [it.key for it in right.list]), is_not)
         else:
             raise NotFitted("joined keys without a list")
+
+    def is_taken(self, left, right):
+        """Whether nftrun has the joined keys as they stand."""
+        names = [getattr(it, "name", "") for it in left.parts]
+        if not takes(self.statement_text(), "statement") or any(it not in TYPES for it in names):
+            return False
+        kinds, keys = [TYPES[it] for it in names], [it.key for it in right.list]
+        plain = all(len(key) == len(kinds) and parts_are_plain(key, kinds) for key in keys)
+        return plain and sum(map(width_of, kinds)) <= LONGEST_KEY and self.names_of_interfaces(names, keys) == names
 
     def look_up(self, names_and_keys, is_not):
         if names_and_keys is None:

@@ -4,7 +4,7 @@ from .facts import KNOWN, MARKS, TYPES, assumption_of
 from .matches import flag_names, rules_text, shown
 from .numbers import constant_number, holds, spell_part
 from .sets import parts_are_plain, verdict_text
-from .tree import Anything, Calculation, Drawn, Elements, Joined, NotFitted, Selector, Verdict
+from .tree import Anything, Calculation, Drawn, Elements, Joined, Missing, NotFitted, Selector, Verdict
 
 
 class Maps:
@@ -17,7 +17,7 @@ class Maps:
         else:
             found = self.table.sets.get(mapping.name)
             if found is None or not found.is_map:
-                raise NotFitted(f"there is no map {mapping.name}")
+                raise Missing(f"there is no map {mapping.name}")
             elements, plain = self.fitter.sets.kept(found), self.fitter.sets.is_plain(found) and not self.fitter.sets.by_name(found)
             if (self.table.family, self.table.name, mapping.name) in self.fitter.added_to:
                 self.guess_of_map(mapping.name)
@@ -39,7 +39,7 @@ class Maps:
         elements, plain = self.mapping(mapping, verdicts=True)
         for it in elements:
             if isinstance(it.data.target, str) and it.data.target not in self.table.chains:
-                raise NotFitted(f"there is no chain {it.data.target}")
+                raise Missing(f"there is no chain {it.data.target}")
             if isinstance(it.data.target, list):
                 raise NotFitted("a chain in braces within a map")
         self.has_continue = any(it.data.word == "continue" for it in elements) and not self.is_last()

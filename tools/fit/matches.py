@@ -6,7 +6,7 @@ from .facts import BITS, KNOWN, MARKS, NEVER_IN_IPV4, SHORT, TCP_FLAGS, TYPES, W
 from .network import Network, spelled_networks
 from .numbers import bits_named, constant, constant_number, holds, name_of, number_of, spell_part
 from .sets import parts_are_plain
-from .tree import (Anything, Calculation, Drawn, Elements, Joined, Listed, Masked, Named, NotFitted, One, Piece, Prefix,
+from .tree import (Anything, Calculation, Drawn, Elements, Joined, Listed, Masked, Named, Missing, NotFitted, One, Piece, Prefix,
                    Range, Selector, Value)
 
 OWNERS = ("meta skuid", "meta skgid", "meta cgroup")
@@ -211,7 +211,7 @@ class Matches:
     def match_set(self, name, operator, named):
         found = self.table.sets.get(named.name)
         if found is None:
-            raise NotFitted(f"there is no set {named.name}")
+            raise Missing(f"there is no set {named.name}")
         if not self.fitter.sets.is_plain(found):
             raise NotFitted(f"the set {named.name} has no place in nftrun's language")
         if self.is_hit(named.name, operator):

@@ -9,7 +9,7 @@ from .numbers import holds
 from .profile import takes
 from .scanner import place, shown, slice_of, spelled
 from .translation import Translations
-from .tree import Calculation, Joined, NotFitted, Piece, Selector, selectors_in
+from .tree import Calculation, Joined, Missing, NotFitted, Piece, Selector, counters_in, selectors_in
 from .writes import Writes
 
 ENDS = ("verdict", "vmap", "nat", "reject", "queue")     # statements after which a rule goes no further
@@ -34,6 +34,9 @@ class RuleFitter(Matches, JoinedKeys, Maps, Writes, Translations, Effects):
                 raise NotFitted(self.rule.fault)
             self.fit()
         except (NotFitted, RecursionError) as fault:
+            stands = slice_of(self.rule.tokens)
+            if not isinstance(fault, Missing) and stands is not None and takes(stands, "rule"):
+                return [(stands, tuple(range(1, counters_in(self.rule.tokens) + 1)))]      # nftrun takes it as it is
             return self.not_fitted(str(fault) if isinstance(fault, NotFitted) else "expressions nested too deeply")
         for it in self.told.list:
             if self.never_runs and it.grade != "same":

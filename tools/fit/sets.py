@@ -1,4 +1,6 @@
 """Named sets and maps: which of them nftrun has, and their text."""
+import re
+
 from .expressions import ExpressionReader
 from .facts import LONGEST_KEY, TYPES, WIDTHS, WORDS
 from .numbers import name_of, spell_part, width_of
@@ -65,14 +67,14 @@ class Sets:
         names = [name_of(it.key[0]) for it in found.elements]
         if all(map(self.is_index, names)):
             return False
-        if any(it is None or it.isdigit() for it in names):
+        if any(it is None or is_number(it) for it in names):
             raise NotFitted(f"names and numbers of interfaces in the set {found.name}; --box BOX tells the names")
         return True
 
     def is_index(self, name):
         """Whether `iif NAME` can stay: it asks for an interface of the box."""
         network = self.fitter.network
-        return name is not None and (name.isdigit() or network is not None and name in network.names())
+        return name is not None and (is_number(name) or network is not None and name in network.names())
 
     # text
 
@@ -85,6 +87,8 @@ class Sets:
 
     def lines_of(self, table, found):
         changes = self.fitter.changes
+        if found.fault is not None and (found.slices is None or not self.is_taken(found)):
+            changes.refuse(found.fault[0], f"elements of {found.name}", found.fault[1])
         if not self.is_plain(found):
             is_foreign = any(it not in WIDTHS and not it.isdigit() for it in self.key_types(found))
             why = "no rule of IPv4 that nftrun reads looks into it" if is_foreign else "its elements stand in the rules that use it"
@@ -102,8 +106,12 @@ class Sets:
 
     def stands(self, found):
         """Whether nftrun takes the fields of the set as they are."""
+        return self.is_taken(found) and self.has_known_words(found)
+
+    @staticmethod
+    def is_taken(found):
         text = f"{found.word} x {{\n" + "\n".join(found.slices) + "\n}"
-        return takes(f"table x {{\n{text}\n}}", "ruleset") and self.has_known_words(found)
+        return takes(f"table x {{\n{text}\n}}", "ruleset")
 
     def has_known_words(self, found):
         types, data = self.key_types(found), self.data_types(found)
@@ -150,6 +158,10 @@ class Sets:
         if elements:
             lines.append("elements = { " + ",\n\t\t\t     ".join(elements) + " }")
         return lines
+
+
+def is_number(text):
+    return re.fullmatch("0x[0-9A-Fa-f]+|[0-9]+", text) is not None
 
 
 def verdict_text(verdict):

@@ -69,7 +69,7 @@ class Translations:
         if address is not None:
             text += self.to() + spell_part(address, "ipv4_addr")
         if ports is not None:
-            text += (" to " if address is None else "") + ":" + spell_part(ports, "inet_service")
+            text += (" to " if address is None else "") + ":" + ports_text(ports)
         return text
 
     def to(self):
@@ -128,6 +128,14 @@ class Translations:
             self.split(ways)
         else:
             raise NotFitted("translation by what nftrun doesn't read")
+
+
+def ports_text(part):
+    """Ports of a translation are numbers."""
+    found = range_of(part, "inet_service") if isinstance(part, (One, Range)) else None
+    if found is None:
+        raise NotFitted("a port that isn't known")
+    return "-".join(map(str, dict.fromkeys(found)))
 
 
 def joined_maps(one, other):

@@ -38,6 +38,10 @@ class NotFitted(Exception):
     """A part that isn't understood, or that the language of nftrun can't say; the text says why."""
 
 
+class Missing(NotFitted):
+    """A name that stands for nothing."""
+
+
 class Rule:
     """A rule's tokens, and what they say once it was read."""
 
@@ -68,6 +72,7 @@ class Set:
         self.flags, self.elements, self.comment = [], [], None
         self.size, self.timeout, self.merges, self.counts = None, False, False, False
         self.slices = []                                 # its fields as they stand, or None where these changed
+        self.fault = None                                # (token, why) where its elements aren't understood
         self.word = "map" if is_map else "set"
 
 
@@ -94,3 +99,8 @@ def names_in(it):
     elif isinstance(it, (tuple, list)):
         for part in it:
             yield from names_in(part)
+
+
+def counters_in(tokens):
+    """How many counters a rule has, by its tokens."""
+    return sum(it.kind == "word" and it.text == "counter" for it in tokens)
