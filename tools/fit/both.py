@@ -45,7 +45,7 @@ def tried(path, fit, guess, usual, names, folder):
     if not found:
         return False, f"{name}={way} or {name}={other}: no record changes"
     shown = " ".join(map(str, found[:SHOWN])) + (" .." if len(found) > SHOWN else "")
-    return True, f"{name}={way} or {name}={other}: {len(found)} records change: {shown}"
+    return True, f"{name}={way} or {name}={other}: {'1 record changes' if len(found) == 1 else f'{len(found)} records change'}: {shown}"
 
 
 def run(path, fitted, names, folder, name):

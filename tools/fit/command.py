@@ -34,7 +34,7 @@ def fit(path, network, chosen=(), only=None):
     stays = changes.is_all_reading() and takes(source.text, "ruleset")
     if stays:
         for it in changes.list:
-            changes.warnings.append((it.place, f"{it.what}: {it.why}; write `{it.to}`"))
+            changes.warnings.append((it.place, f"{it.what}: {it.why}; nftrun reads what Linux does as {it.to}"))
         changes.list.clear()
         return Fitted(source.text, plain_rows(fitter), changes, assumptions, True)
     head = f"# by fit-ruleset from {commands.printable(os.path.basename(path))}: {changes.worst()}\n"
@@ -111,10 +111,11 @@ def run(names):
     tell(fitted.changes)
     worst = fitted.changes.worst()
     count = len(fitted.changes.list)
-    summary = "nothing changed" if fitted.stays else f"{count} changes, the worst: {worst}"
+    changes = "1 change" if count == 1 else f"{count} changes"
+    summary = "nothing changed" if fitted.stays else f"{changes}, the worst: {worst}"
     if worst == "refused":
         number = sum(it.grade == "refused" for it in fitted.changes.list)
-        raise Refused(f"{names.rules}: {number} of {count} changes can't be made")
+        raise Refused(f"{names.rules}: {number} of {count} changes can't be made, as told above")
     if GRADES.index(worst) > GRADES.index(names.at_most):
         print(f"{NAME}: {summary}, which is worse than {names.at_most}: nothing is written", file=sys.stderr)
         return WORSE

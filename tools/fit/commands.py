@@ -52,12 +52,14 @@ class Commands:
     def take(self, *texts):
         token = self.peek()
         if token.kind == "end":
-            last = self.tokens[-1] if self.tokens else END
-            raise refuse(last, "the text ends too early")
+            raise self.torn()
         if texts and token.text not in texts:
             raise refuse(token, f"`{shown(token)}` where `{texts[0]}` is wanted")
         self.at += 1
         return token
+
+    def torn(self):
+        return refuse(self.tokens[-1] if self.tokens else END, "the text ends too early")
 
     def end(self):
         if self.peek().kind == "newline" or self.has(";"):
@@ -360,6 +362,8 @@ class Commands:
             self.definition()
         else:
             tokens = self.to_end()
+            if self.peek().kind == "end":
+                raise self.torn()
             if not tokens:
                 raise refuse(self.peek(), f"`{shown(self.peek())}` isn't understood in a chain")
             chain.rules.append(Rule(tokens))

@@ -282,7 +282,8 @@ class Matches:
     def match_unequal(self, name, words):
         """nft(8) compares with all the bits at once, which no packet's value equals: `!=` always holds."""
         to = self.always() if name == "ct state" else "ct direction { original, reply }"
-        why = f"nft(8) compares with {' and '.join(words)} as one value, which none equals, so it always holds; nftrun would read `none of them`"
+        meant = f"{name} != {{ {', '.join(words)} }}" if name == "ct state" else f"{name} ! {','.join(words)}"
+        why = f"nft(8) compares with the whole value, so it always holds; nftrun would read `none of them`, which nft(8) spells `{meant}`"
         self.tell("same", to, why, reads=True)
         self.put(to)
 

@@ -65,7 +65,11 @@ class RuleFitter(Matches, JoinedKeys, Maps, Writes, Translations, Effects):
             why = "the first does what is done once, and a packet meets one of the others" if self.before else "a packet meets one of them"
             self.fitter.changes.tell(self.rule.token, "same", "the rule", f"{len(lines)} rules", why + "; their counters are to be added")
         comment = f" comment {self.rule.comment}" if self.rule.comment else ""
-        return [(" ".join(it.text for it in line) + comment, tuple(it.counter for it in line if it.counter)) for line in lines]
+        texts = [" ".join(it.text for it in line if it.text) + comment for line in lines]
+        for text in texts:
+            if not takes(text, "rule"):
+                return self.not_fitted(f"it would become `{text}`, which nftrun hasn't")
+        return [(text, tuple(it.counter for it in line if it.counter)) for text, line in zip(texts, lines)]
 
     @staticmethod
     def start_once(lines):
