@@ -5,7 +5,7 @@ tree         what expressions, statements and rules are
 expressions  reads selectors, values, element lists and operators
 statements   reads rules
 commands     reads a file: definitions, includes, commands and blocks; what they leave loaded
-profile      recognises the language of nftrun (docs/LANGUAGE.md)
+profile      recognises the language of nftrun (docs/SPEC.md)
 facts        words, types and what is known of selectors that nftrun doesn't read
 assumptions  the guesses, and what may be chosen instead
 changes      what was changed, and how much that matters

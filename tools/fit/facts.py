@@ -1,7 +1,7 @@
 """Words, types and what is known of selectors: of those that nftrun reads, and of those that it doesn't."""
 from collections import namedtuple
 
-# What nftrun's language has (docs/LANGUAGE.md)
+# What nftrun's language has (docs/SPEC.md)
 
 PROTOCOLS = {"icmp": 1, "igmp": 2, "tcp": 6, "udp": 17, "gre": 47, "esp": 50, "ah": 51, "ipv6-icmp": 58, "sctp": 132}
 SERVICES = {"ssh": 22, "smtp": 25, "domain": 53, "http": 80, "ntp": 123, "https": 443}

@@ -1,4 +1,4 @@
-"""Recognises the language that nftrun reads: its tokens and its grammar, as docs/LANGUAGE.md spells them.
+"""Recognises the language that nftrun reads: its tokens and its grammar, as docs/SPEC.md spells them.
 
 What is recognised here isn't refused with E01 to E06; what the check refuses (N01 to N15) it alone judges.
 """
