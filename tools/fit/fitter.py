@@ -99,11 +99,13 @@ class Fitter:
         """From which hooks packets come to a chain."""
         for table in self.tables.values():
             for base in table.chains.values():
-                todo = [base.name] if base.head else []
+                todo, seen = [base.name] if base.head else [], set()
                 while todo:
                     chain = table.chains.get(todo.pop())
-                    if chain and base.head.hook not in chain.hooks:
+                    if chain and chain.name not in seen:
+                        seen.add(chain.name)
                         chain.hooks.add(base.head.hook)
+                        chain.is_early |= self.order.is_early(base)
                         for rule in chain.rules:
                             todo += self.targets(table, rule)
 

@@ -152,12 +152,11 @@ class Maps:
 
     def draw(self, drawn, elements, then):
         """What numgen or a hash gives is assumed."""
-        way = self.way("random")
-        number = self.drawn(drawn, way)
+        number, way = self.number_drawn(drawn)
         chosen = [it for it in elements if holds(number, "", it.key[0], "32", {})][:1]
         pieces = then(chosen[0].data) if chosen else [self.piece(self.never())]
         self.keep_tests(drawn.over)
-        self.guess("random", way, pieces[-1].text)
+        self.tell_drawn(way, pieces[-1].text)
         self.lines = [line + pieces for line in self.lines]
 
 

@@ -85,18 +85,25 @@ class Matches:
             self.put(self.never())                       # what follows is told all the same
 
     def match_drawn(self, drawn, operator, right):
-        way = self.way("random")
-        answer = holds(self.drawn(drawn, way), operator, right, "32", {})
+        number, way = self.number_drawn(drawn)
+        answer = holds(number, operator, right, "32", {})
         if answer is None:
             raise NotFitted("a value that isn't known")
         self.keep_tests(drawn.over)
-        self.guess("random", way, "always" if answer else self.never())
+        self.tell_drawn(way, "always" if answer else self.never())
         if not answer:
             self.put(self.never())
 
-    @staticmethod
-    def drawn(drawn, way):
-        return drawn.offset + (0 if way == "first" else drawn.modulus - 1)
+    def number_drawn(self, drawn):
+        """The number that is drawn, and how that was guessed: None where there is one number alone."""
+        way = self.way("random") if drawn.modulus > 1 else None
+        return drawn.offset + (drawn.modulus - 1 if way == "last" else 0), way
+
+    def tell_drawn(self, way, to):
+        if way is None:
+            self.tell("same", to, "there is one number alone")
+        else:
+            self.guess("random", way, to)
 
     # routing
 
@@ -165,6 +172,8 @@ class Matches:
 
     def match_plain(self, name, operator, right):
         kind, reading = TYPES[name], ""
+        if name == "ct state" and self.chain.is_early:
+            self.told.warn(self.rule.token, "before connections are looked for (priority -200), Linux reads ct state as invalid, nftrun as nothing: no match on it holds")
         if kind in ("tcp_flag", "ct_status") and isinstance(right, Elements) and len(right.list) == 1:
             right = right.list[0].key[0]
             operator = "!=" if operator == "!=" else ""

@@ -23,6 +23,13 @@ class Order:
             raise NotFitted(f"the priority `{' '.join(words)}`")
         return (named or 0) + int(text, 0)
 
+    def is_early(self, chain):
+        """Whether a base chain is run before connections are looked for."""
+        try:
+            return chain.head.hook == "prerouting" and self.number(chain) <= EARLY
+        except NotFitted:
+            return False                                 # told where the chain is written
+
     def priority_text(self, chain):
         number = self.number(chain)
         if chain.head.type == "nat" and number <= EARLY:

@@ -60,6 +60,7 @@ class Chain:
         self.name, self.token = name, token
         self.head, self.policy, self.notes, self.rules = None, None, [], []
         self.hooks = set()                               # from which hooks packets come here
+        self.is_early = False                            # whether some come before connections are looked for
         self.made_for = None                             # (chain, number) of the rule whose part it was
 
 

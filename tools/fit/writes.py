@@ -49,10 +49,9 @@ class Writes:
         elif isinstance(operand, Selector) and operand.name in MARKS:
             self.put_spelled(f"{name} set {operand.name}", [operand.name], "mark")
         elif isinstance(operand, Drawn):
-            way = self.way("random")
-            number = self.drawn(operand, way)
+            number, way = self.number_drawn(operand)
             self.keep_tests(operand.over)
-            self.guess("random", way, str(number))
+            self.tell_drawn(way, str(number))
             self.put(f"{name} set {number}", "mark")
         elif isinstance(operand, Calculation):
             self.set_calculated(name, operand)
