@@ -57,7 +57,13 @@ def plain_rows(fitter):
         place = f"{table.family} {table.name} {chain.name}"
         number = chain.rules.index(rule) + 1
         counters = tuple(range(1, sum(it.kind == "counter" for it in rule.statements) + 1))
-        rows.append((place, number, rulemap.Origin(place, number, rule.token.source.name, rule.token.line, shown(rule.tokens), counters)))
+        rows.append(
+            (
+                place,
+                number,
+                rulemap.Origin(place, number, rule.token.source.name, rule.token.line, shown(rule.tokens), counters),
+            )
+        )
     return rows
 
 
@@ -78,16 +84,34 @@ def chosen_of(words):
 
 def parsed_arguments():
     parser = argparse.ArgumentParser(
-        prog=NAME, formatter_class=argparse.RawDescriptionHelpFormatter,
-        description="Rewrites a ruleset that nft(8) takes into the language of nftrun, and tells on standard error what it changed.",
-        epilog="Status: 0 FITTED is written, 1 a change is worse than --at-most, 2 refused. docs/FIT.md has the constructs.\n"
-               f"--assume: {listed()}")
+        prog=NAME,
+        formatter_class=argparse.RawDescriptionHelpFormatter,
+        description="Rewrites a ruleset that nft(8) takes into the language of nftrun, and tells on standard error what\n"
+        "it changed.",
+        epilog="Status: 0 FITTED is written, 1 a change is worse than --at-most, 2 refused.\n"
+        "docs/FIT.md has the constructs.\n"
+        f"--assume: {listed()}",
+    )
     parser.add_argument("rules", metavar="RULES", help="what `nft -f` takes or `nft list ruleset` prints")
-    parser.add_argument("--box", metavar="BOX", help="the box file: its addresses, routes and interfaces answer `fib` and `iif`")
+    parser.add_argument(
+        "--box", metavar="BOX", help="the box file: its addresses, routes and interfaces answer `fib` and `iif`"
+    )
     parser.add_argument("--map", metavar="FILE", help="writes the map from fitted rules to the old ones")
-    parser.add_argument("--assume", metavar="WHAT=HOW", action="append", default=[], help="decides a kind of guess in the other way")
-    parser.add_argument("--at-most", metavar="GRADE", choices=GRADES[:3], default="guess", help="same, outcome or guess: the worst grade that is written (guess)")
-    parser.add_argument("--both", metavar="IN", help="tries each guess both ways over the capture IN, which wants --box; writes no ruleset")
+    parser.add_argument(
+        "--assume", metavar="WHAT=HOW", action="append", default=[], help="decides a kind of guess in the other way"
+    )
+    parser.add_argument(
+        "--at-most",
+        metavar="GRADE",
+        choices=GRADES[:3],
+        default="guess",
+        help="same, outcome or guess: the worst grade that is written (guess)",
+    )
+    parser.add_argument(
+        "--both",
+        metavar="IN",
+        help="tries each guess both ways over the capture IN, which wants --box; writes no ruleset",
+    )
     return parser.parse_args()
 
 
@@ -163,5 +187,10 @@ def check(data, names):
         file.flush()
         done = subprocess.run([program, "check", "--explain", file.name, names.box], capture_output=True, check=False)
     if done.returncode:
-        remark = done.stderr.decode("utf-8", "surrogateescape").replace(file.name, "the fitted ruleset").strip().split("\n")[0]
+        remark = (
+            done.stderr.decode("utf-8", "surrogateescape")
+            .replace(file.name, "the fitted ruleset")
+            .strip()
+            .split("\n")[0]
+        )
         raise Refused(f"{names.rules}: nftrun refuses what it becomes: {remark}")

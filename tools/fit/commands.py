@@ -277,7 +277,7 @@ class Commands:
         try:
             elements = ExpressionReader(tokens).elements(found.is_map).list
         except NotFitted as fault:
-            found.fault = tokens[0], str(fault)          # nftrun may take them as they are
+            found.fault = tokens[0], str(fault)  # nftrun may take them as they are
             return
         known = {it.key for it in found.elements}
         found.elements += [it for it in elements if it.key not in known or found.is_map]
@@ -288,7 +288,9 @@ class Commands:
         token = self.peek()
         key = self.family(), self.name()
         if key in self.tables and self.has("{"):
-            self.changes.tell_once(token, "same", f"table {' '.join(key)} again", "one block", "its blocks are joined")
+            self.changes.tell_once(
+                token, "same", f"table {' '.join(key)} again", "one block", "its blocks are joined"
+            )
         table = self.tables.setdefault(key, Table(*key, token))
         if not self.skip("{"):
             return
@@ -305,7 +307,9 @@ class Commands:
         elif self.skip("flags"):
             flags = [it.text for it in self.to_end() if it.kind == "word"]
             table.is_dormant |= "dormant" in flags
-            self.changes.tell(token, "same", f"flags {', '.join(flags)}", "left out", "they change no packet, but for `dormant`")
+            self.changes.tell(
+                token, "same", f"flags {', '.join(flags)}", "left out", "they change no packet, but for `dormant`"
+            )
         elif self.has("chain", "set", "map", *OBJECTS):
             what = self.take().text
             if what == "ct":
@@ -373,8 +377,8 @@ class Commands:
         words = [it.text for it in self.to_end()]
         if len(words) < 3 or words[1] != "hook" or "priority" not in words:
             raise refuse(first, "the type, hook and priority of a chain are wanted")
-        priority = words[words.index("priority") + 1:]
-        if len(priority) == 1 and "-" in priority[0].strip("-"):         # filter-5 is one word
+        priority = words[words.index("priority") + 1 :]
+        if len(priority) == 1 and "-" in priority[0].strip("-"):  # filter-5 is one word
             name, _, offset = priority[0].partition("-")
             priority = [name, "-", offset]
         return Head(words[0], words[2], tuple(priority))
@@ -385,9 +389,13 @@ class Commands:
                 continue
             start = self.at
             self.set_line(found)
-            line = slice_of(self.tokens[start:self.at])
+            line = slice_of(self.tokens[start : self.at])
             if found.slices is not None:
-                if is_new and line is not None and not any(it.kind == "variable" for it in self.tokens[start:self.at]):
+                if (
+                    is_new
+                    and line is not None
+                    and not any(it.kind == "variable" for it in self.tokens[start : self.at])
+                ):
                     found.slices.append(line)
                 else:
                     found.slices = None
@@ -428,7 +436,7 @@ def types_of(words):
     if ":" not in words:
         return words, None
     at = words.index(":")
-    return words[:at], words[at + 1:]
+    return words[:at], words[at + 1 :]
 
 
 def included(pattern, from_file):

@@ -71,7 +71,11 @@ class Effects:
         """An object that a map gives: the rule goes on where the map has the key."""
         if what != "counter":
             raise NotFitted(f"{what} by a map")
-        self.tell("outcome", "left out", "which counter of the map it is isn't shown; keys that it hasn't end the rule as before")
+        self.tell(
+            "outcome",
+            "left out",
+            "which counter of the map it is isn't shown; keys that it hasn't end the rule as before",
+        )
         elements, _ = self.mapping(lookup.map, verdicts=False)
         self.find_key(lookup.key, elements)
 
@@ -121,7 +125,7 @@ class Effects:
         passes = (way == "under") != bool(over)
         self.guess(bound.kind, way, "always" if passes else self.never())
         if not passes:
-            self.put(self.never())                       # what follows is told all the same
+            self.put(self.never())  # what follows is told all the same
 
     def fit_dynamic(self, word, name, key, data, bounds):
         """A rule that changes a set: it goes on where the key has a value, and where its bounds hold."""
@@ -130,7 +134,9 @@ class Effects:
             self.die()
             return
         if name in self.table.sets and self.fitter.is_read(self.table, name):
-            self.tell("outcome", "left out", f"nothing is kept in {name}; what is guessed of it is told where rules read it")
+            self.tell(
+                "outcome", "left out", f"nothing is kept in {name}; what is guessed of it is told where rules read it"
+            )
         else:
             self.tell("outcome", "left out", f"what is in {name} isn't shown")
         self.keep_tests(key, data)
@@ -142,7 +148,12 @@ class Effects:
     def keep_tests(self, *operands):
         """A statement that reads `tcp sport` also asks for TCP, where it is left out too."""
         for header in dict.fromkeys(first_word(it.name) for it in selectors_in(operands)):
-            if header in TRANSPORTS and not all(any(it.text.startswith((f"{header} ", f"meta l4proto {header}")) and it.kind == "match" for it in line) for line in self.lines):
+            if header in TRANSPORTS and not all(
+                any(
+                    it.text.startswith((f"{header} ", f"meta l4proto {header}")) and it.kind == "match" for it in line
+                )
+                for line in self.lines
+            ):
                 self.put(f"meta l4proto {spell_value(Value('word', header), 'inet_proto')}")
         for selector in selectors_in(operands):
             if selector.name.startswith("ct ") and selector.name not in ("ct state",):

@@ -1,12 +1,33 @@
 """Reads expressions: selectors, values, lists of elements, and what joins them."""
 from .facts import FIELDS, META, TCP_FLAGS, VERDICTS
 from .scanner import END
-from .tree import (Anything, Calculation, Drawn, Element, Elements, Joined, Listed, Lookup, Masked, Named, NotFitted,
-                   One, Prefix, Range, Selector, Value, Verdict)
+from .tree import (
+    Anything,
+    Calculation,
+    Drawn,
+    Element,
+    Elements,
+    Joined,
+    Listed,
+    Lookup,
+    Masked,
+    Named,
+    NotFitted,
+    One,
+    Prefix,
+    Range,
+    Selector,
+    Value,
+    Verdict,
+)
 
 # operators between expressions, the loosest first, in both spellings
-CALCULATIONS = ({"|": "|", "or": "|"}, {"^": "^", "xor": "^"}, {"&": "&", "and": "&"},
-                {"<<": "<<", ">>": ">>", "lshift": "<<", "rshift": ">>"})
+CALCULATIONS = (
+    {"|": "|", "or": "|"},
+    {"^": "^", "xor": "^"},
+    {"&": "&", "and": "&"},
+    {"<<": "<<", ">>": ">>", "lshift": "<<", "rshift": ">>"},
+)
 COMPARISONS = {"eq": "==", "ne": "!=", "lt": "<", "gt": ">", "le": "<=", "ge": ">="}
 OPTION_FIELDS = set("kind length size count left right tsval tsecr ptr type value addr".split())
 VALUES = ("number", "address", "six", "mac", "time", "word", "string", "wild")
@@ -148,7 +169,9 @@ class ExpressionReader:
                 self.take()
             elif self.has("counter", "limit", "quota", "ct", "last"):
                 found.append(self.take().text)
-                while self.peek().kind in ("number", "time", "word", "mark") and not self.has(",", "}", ":", "timeout", "expires", "comment"):
+                while self.peek().kind in ("number", "time", "word", "mark") and not self.has(
+                    ",", "}", ":", "timeout", "expires", "comment"
+                ):
                     self.at += 1
             else:
                 return found
@@ -200,7 +223,11 @@ class ExpressionReader:
             return self.option()
         if word in ("rt", "socket", "osf", "ipsec"):
             return self.lookup_selector()
-        if word == "ct" and after.text in ("count", "helper", "timeout", "expectation") and (after.text == "count" or self.has("set", ahead=2)):
+        if (
+            word == "ct"
+            and after.text in ("count", "helper", "timeout", "expectation")
+            and (after.text == "count" or self.has("set", ahead=2))
+        ):
             return None
         if after.text not in FIELDS[word]:
             raise NotFitted(f"nft(8) has no `{word} {after.text}`")
@@ -228,7 +255,7 @@ class ExpressionReader:
         """`rt nexthop`, `socket cgroupv2 level 1`, `osf name`, `ipsec in reqid`."""
         token, after = self.take(), self.take("word")
         if token.text == "rt" and after.text in ("type", "hdrlength", "nexthdr", "seg-left"):
-            return Selector(f"rt0 {after.text}")         # the routing header of IPv6
+            return Selector(f"rt0 {after.text}")  # the routing header of IPv6
         if token.text != "ipsec" and after.text not in FIELDS[token.text]:
             raise NotFitted(f"nft(8) has no `{token.text} {after.text}`")
         words = [token.text, after.text]

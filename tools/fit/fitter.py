@@ -27,10 +27,17 @@ class Fitter:
         self.find_hooks()
         self.marks = Marks(self)
         self.warn_of_marks()
-        self.added_to = {(table.family, table.name, it.parts[1]) for table, _, rule in self.rules()
-                         for it in rule.statements if it.kind == "dynamic"}
-        self.sets_zones = any(it.kind == "set" and getattr(it.parts[0], "name", "") == "ct zone"
-                              for _, _, rule in self.rules() for it in rule.statements)
+        self.added_to = {
+            (table.family, table.name, it.parts[1])
+            for table, _, rule in self.rules()
+            for it in rule.statements
+            if it.kind == "dynamic"
+        }
+        self.sets_zones = any(
+            it.kind == "set" and getattr(it.parts[0], "name", "") == "ct zone"
+            for _, _, rule in self.rules()
+            for it in rule.statements
+        )
         self.order.settle()
         return "\n".join(self.table_text(table) for table in self.tables.values())
 
@@ -60,7 +67,10 @@ class Fitter:
         try:
             rule.statements, rule.comment = RuleReader(rule.tokens).rule()
         except (NotFitted, RecursionError) as fault:
-            rule.statements, rule.fault = [], str(fault) if isinstance(fault, NotFitted) else "expressions nested too deeply"
+            rule.statements, rule.fault = (
+                [],
+                str(fault) if isinstance(fault, NotFitted) else "expressions nested too deeply",
+            )
         counters = rule.counters_before
         for index, it in enumerate(rule.statements):
             if it.kind == "verdict" and isinstance(it.parts[0].target, list):
@@ -77,7 +87,9 @@ class Fitter:
         inner.made_for = chain.made_for or (chain, number)
         inner.rules = [Rule(tokens) for tokens in verdict.target]
         table.chains[inner.name] = inner
-        self.changes.tell(rule.token, "same", f"{verdict.word} {{ .. }}", f"{verdict.word} {inner.name}", "a chain of its own")
+        self.changes.tell(
+            rule.token, "same", f"{verdict.word} {{ .. }}", f"{verdict.word} {inner.name}", "a chain of its own"
+        )
         for index, one in enumerate(inner.rules, 1):
             one.counters_before = counters
             self.read_rule(table, inner, index, one)
@@ -114,13 +126,19 @@ class Fitter:
             return
         for _, _, rule in self.rules():
             if any(it.kind in ("match", "vmap") and marks_read(it.parts[0]) for it in rule.statements):
-                self.changes.warn(rule.token, "a mark is asked for that no rule writes: in nftrun each mark begins at 0")
+                self.changes.warn(
+                    rule.token, "a mark is asked for that no rule writes: in nftrun each mark begins at 0"
+                )
                 return
 
     def is_read(self, table, name):
         """Whether some rule looks into the set."""
-        return any(it.kind not in ("dynamic",) and name in names_in(it.parts)
-                   for other, _, rule in self.rules() if other is table for it in rule.statements)
+        return any(
+            it.kind not in ("dynamic",) and name in names_in(it.parts)
+            for other, _, rule in self.rules()
+            if other is table
+            for it in rule.statements
+        )
 
     def guess(self, token, what, to, name):
         """A guess about what isn't a rule; NotFitted never: where it is refused, that is told."""
@@ -162,7 +180,9 @@ class Fitter:
             made_for = chain.made_for or (chain, old)
             for text, counters in RuleFitter(self, table, chain, rule).fitted():
                 number += 1
-                self.rows.append((place, number, f"{table.family} {table.name} {made_for[0].name}", made_for[1], rule, counters))
+                self.rows.append(
+                    (place, number, f"{table.family} {table.name} {made_for[0].name}", made_for[1], rule, counters)
+                )
                 lines.append(text)
         return [f"\tchain {chain.name} {{", *("\t\t" + it for it in lines), "\t}", ""]
 
@@ -180,13 +200,23 @@ class Fitter:
             if is_idle:
                 self.changes.tell(chain.token, "same", what, "no hook", "it has no rules")
             else:
-                self.changes.tell(chain.token, "outcome", what, "no hook",
-                                  "packets to the box keep their source, and its counters stay; what is forwarded doesn't meet it")
+                self.changes.tell(
+                    chain.token,
+                    "outcome",
+                    what,
+                    "no hook",
+                    "packets to the box keep their source, and its counters stay; what is forwarded doesn't meet it",
+                )
             return []
         kind = head.type
         if kind == "route":
-            self.changes.tell(chain.token, "same", what, f"type filter hook {head.hook}", "nftrun runs no chain of output")
+            self.changes.tell(
+                chain.token, "same", what, f"type filter hook {head.hook}", "nftrun runs no chain of output"
+            )
             kind = "filter"
         if kind not in ("filter", "nat"):
             raise NotFitted(f"a chain of type {kind}")
-        return [f"type {kind} hook {head.hook} priority {self.order.priority_text(chain)}; policy {chain.policy or 'accept'};"]
+        return [
+            f"type {kind} hook {head.hook} priority {self.order.priority_text(chain)};"
+            f" policy {chain.policy or 'accept'};"
+        ]

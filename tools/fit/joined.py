@@ -7,8 +7,8 @@ from .profile import takes
 from .sets import parts_are_plain
 from .tree import Anything, Elements, Named, Missing, NotFitted, One, Selector, Value
 
-MOST_KEYS = 512                                          # that ranges in joined keys may become
-FEW_KEYS = 32                                            # as which ranges are written out, where they needn't be
+MOST_KEYS = 512  # that ranges in joined keys may become
+FEW_KEYS = 32  # as which ranges are written out, where they needn't be
 
 
 class JoinedKeys:
@@ -24,7 +24,9 @@ class JoinedKeys:
                 return
             names = self.joined_names(left, [it.key for it in found.elements])
             if names is not None and self.fitter.sets.is_plain(found) and len(names[0]) == len(left.parts):
-                self.put_spelled(f"{' . '.join(map(shown, names[0]))} {'!= ' if is_not else ''}@{right.name}", names[0])
+                self.put_spelled(
+                    f"{' . '.join(map(shown, names[0]))} {'!= ' if is_not else ''}@{right.name}", names[0]
+                )
                 return
             self.look_up(names, is_not)
         elif isinstance(right, Elements) and self.is_taken(left, right):
@@ -52,7 +54,11 @@ class JoinedKeys:
             kinds = [TYPES[it] for it in names]
             self.put_spelled(ways[0][0].text, names, plain=all(parts_are_plain(key, kinds) for key in keys))
             return
-        self.tell("same", "a rule for each way" if ways else self.never(), "nftrun has no joined keys with ranges, or of more than 128 bits")
+        self.tell(
+            "same",
+            "a rule for each way" if ways else self.never(),
+            "nftrun has no joined keys with ranges, or of more than 128 bits",
+        )
         self.split(ways, names)
 
     def joined_names(self, left, keys):
@@ -83,9 +89,13 @@ class JoinedKeys:
             assumption = fact.assumption if fact else assumption
             way = self.way(assumption)
             is_usual = way == ASSUMPTIONS[assumption].ways[0]
-            kept = keys if not is_usual else [key for key in keys if fact and holds(fact.value, "", key[index], "32", fact.words)]
+            kept = (
+                keys
+                if not is_usual
+                else [key for key in keys if fact and holds(fact.value, "", key[index], "32", fact.words)]
+            )
             self.guess(assumption, way, f"without {name}")
-        return [key[:index] + key[index + 1:] for key in kept]
+        return [key[:index] + key[index + 1 :] for key in kept]
 
     # ways to say that joined values are one of some keys
 
@@ -104,8 +114,16 @@ class JoinedKeys:
         if sum(map(width_of, kinds)) <= LONGEST_KEY:
             exact = expanded(keys, kinds)
             if exact is not None and (is_not or overlaps or len(exact) <= max(FEW_KEYS, 2 * len(keys))):
-                listed = ", ".join(" . ".join(spell_part(part, kind) for part, kind in zip(key, kinds)) for key in exact)
-                return [[self.piece(f"{' . '.join(map(shown, names))} {'!= ' if is_not else ''}{{ {listed} }}", reads=names)]]
+                listed = ", ".join(
+                    " . ".join(spell_part(part, kind) for part, kind in zip(key, kinds)) for key in exact
+                )
+                return [
+                    [
+                        self.piece(
+                            f"{' . '.join(map(shown, names))} {'!= ' if is_not else ''}{{ {listed} }}", reads=names
+                        )
+                    ]
+                ]
         if is_not:
             raise NotFitted("`!=` with joined keys that have wide ranges, or more than 128 bits")
         if overlaps:
@@ -116,7 +134,9 @@ class JoinedKeys:
         """Indices of interfaces become names where the box isn't known to have them."""
         out = []
         for index, name in enumerate(names):
-            stays = TYPES[name] != "iface_index" or all(self.fitter.sets.is_index(name_of(key[index])) for key in keys)
+            stays = TYPES[name] != "iface_index" or all(
+                self.fitter.sets.is_index(name_of(key[index])) for key in keys
+            )
             out.append(name if stays else name + "name")
         return out
 
@@ -129,10 +149,14 @@ class JoinedKeys:
                 low, high = range_of(Anything(), kind)
                 if kind == "ifname":
                     raise NotFitted("any interface in joined keys")
-                pieces.append(self.piece(f"{shown(name)} {spell_number(low, kind)}-{spell_number(high, kind)}", reads=[name]))
+                pieces.append(
+                    self.piece(f"{shown(name)} {spell_number(low, kind)}-{spell_number(high, kind)}", reads=[name])
+                )
                 continue
             listed = ", ".join(spell_part(it, kind) for it in parts)
-            pieces.append(self.piece(f"{shown(name)} {'{ ' + listed + ' }' if len(parts) > 1 else listed}", reads=[name]))
+            pieces.append(
+                self.piece(f"{shown(name)} {'{ ' + listed + ' }' if len(parts) > 1 else listed}", reads=[name])
+            )
         return pieces
 
     def choose(self, left, elements, then):
@@ -150,9 +174,15 @@ class JoinedKeys:
                 by_data.setdefault(it.data, []).append(key)
         for data, keys in by_data.items():
             ways += [way + then(data) for way in self.ways(names, list(dict.fromkeys(keys)))]
-        if len(by_data) > 1 and overlap([key for keys in by_data.values() for key in keys], [TYPES[it] for it in names]):
+        if len(by_data) > 1 and overlap(
+            [key for keys in by_data.values() for key in keys], [TYPES[it] for it in names]
+        ):
             raise NotFitted("a map with joined keys that overlap")
-        self.tell("same", rules_text(len(ways)) if ways else self.never(), "nftrun has no maps over joined keys" if ways else "the map is empty")
+        self.tell(
+            "same",
+            rules_text(len(ways)) if ways else self.never(),
+            "nftrun has no maps over joined keys" if ways else "the map is empty",
+        )
         self.split(ways, names)
 
 
@@ -161,7 +191,7 @@ def grouped(keys, kinds):
     several = 0 if kinds[-1] == "ifname" else len(kinds) - 1
     groups = {}
     for key in keys:
-        groups.setdefault(key[:several] + key[several + 1:], []).append(key)
+        groups.setdefault(key[:several] + key[several + 1 :], []).append(key)
     return groups.values()
 
 
@@ -192,8 +222,11 @@ def numbers_of(part, kind):
 
 def overlap(keys, kinds):
     """Whether a value may be in two of the keys."""
-    return any(all(meet(*parts) for parts in zip(one, other, kinds))
-               for index, one in enumerate(keys) for other in keys[index + 1:])
+    return any(
+        all(meet(*parts) for parts in zip(one, other, kinds))
+        for index, one in enumerate(keys)
+        for other in keys[index + 1 :]
+    )
 
 
 def meet(one, other, kind):
@@ -201,7 +234,12 @@ def meet(one, other, kind):
         return True
     if kind in ("ifname", "iface_index"):
         one, other = name_of(one), name_of(other)
-        return one == other or one.endswith("*") and other.startswith(one[:-1]) or other.endswith("*") and one.startswith(other[:-1])
+        return (
+            one == other
+            or one.endswith("*")
+            and other.startswith(one[:-1])
+            or other.endswith("*")
+            and one.startswith(other[:-1])
+        )
     one, other = range_of(one, kind), range_of(other, kind)
     return one is None or other is None or one[0] <= other[1] and other[0] <= one[1]
-

@@ -18,7 +18,8 @@ class Maps:
             found = self.table.sets.get(mapping.name)
             if found is None or not found.is_map:
                 raise Missing(f"there is no map {mapping.name}")
-            elements, plain = self.fitter.sets.kept(found), self.fitter.sets.is_plain(found) and not self.fitter.sets.by_name(found)
+            sets = self.fitter.sets
+            elements, plain = sets.kept(found), sets.is_plain(found) and not sets.by_name(found)
             if (self.table.family, self.table.name, mapping.name) in self.fitter.added_to:
                 self.guess_of_map(mapping.name)
         if any(isinstance(it.data, Verdict) != verdicts for it in elements):
@@ -74,7 +75,8 @@ class Maps:
             self.die()
             return
         else:
-            text = f"{shown(name)} vmap {{ {', '.join(spell_part(it.key[0], kind) + ' : ' + verdict_text(it.data) for it in named)} }}"
+            listed = ", ".join(f"{spell_part(it.key[0], kind)} : {verdict_text(it.data)}" for it in named)
+            text = f"{shown(name)} vmap {{ {listed} }}"
         if rest:
             self.catch_all(shown(name), kind, named, rest[0], text)
             return
@@ -84,7 +86,11 @@ class Maps:
     def catch_all(self, name, kind, named, rest, text):
         """`*` in a map is a rule behind it, for all that the map hasn't."""
         keys = ", ".join(spell_part(it.key[0], kind) for it in named)
-        behind = [self.piece(f"{name} != {{ {keys} }}"), *self.ending(rest.data)] if named else [self.piece(self.always()), *self.ending(rest.data)]
+        behind = (
+            [self.piece(f"{name} != {{ {keys} }}"), *self.ending(rest.data)]
+            if named
+            else [self.piece(self.always()), *self.ending(rest.data)]
+        )
         ways = [[self.piece(text, "end")], behind] if named else [behind]
         self.tell("same", f"{rules_text(len(ways))}, the last one with {behind[0].text}", "nftrun has no `*` in maps")
         self.split(ways, [name])
@@ -133,7 +139,13 @@ class Maps:
         name = left.left.name
         if name == "tcp flags":
             mask = flag_names(constant_number(left.right))
-            ways = [[self.piece(f"tcp flags & ({mask}) == {flag_names(constant_number(it.key[0]))}"), *self.ending(it.data)] for it in elements]
+            ways = [
+                [
+                    self.piece(f"tcp flags & ({mask}) == {flag_names(constant_number(it.key[0]))}"),
+                    *self.ending(it.data),
+                ]
+                for it in elements
+            ]
             self.tell("same", rules_text(len(ways)), "a mask before a map")
             self.split(ways)
             return
@@ -141,9 +153,15 @@ class Maps:
         if name not in MARKS or values is None:
             raise NotFitted("a mask before a map")
         mask = constant_number(left.right, {})
-        found = [(it, e.data) for it in sorted(values) for e in elements if holds(it & mask, "", e.key[0], "mark", {})]
+        found = [
+            (it, e.data) for it in sorted(values) for e in elements if holds(it & mask, "", e.key[0], "mark", {})
+        ]
         why = f"of the marks that rules write ({', '.join(map(hex, sorted(values)))}) these; each mark begins at 0"
-        text = f"{name} vmap {{ {', '.join(f'{it:#x} : {verdict_text(data)}' for it, data in found)} }}" if found else self.never()
+        text = (
+            f"{name} vmap {{ {', '.join(f'{it:#x} : {verdict_text(data)}' for it, data in found)} }}"
+            if found
+            else self.never()
+        )
         self.tell("same", text, why)
         if found:
             self.put(text, "end", [name])
@@ -158,5 +176,3 @@ class Maps:
         self.keep_tests(drawn.over)
         self.tell_drawn(way, pieces[-1].text)
         self.lines = [line + pieces for line in self.lines]
-
-

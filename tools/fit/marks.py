@@ -3,7 +3,7 @@ from .facts import MARKS
 from .numbers import calculated, range_of
 from .tree import Calculation, Drawn, Lookup, Named, One, Selector
 
-MOST = 512                                               # of marks that are followed
+MOST = 512  # of marks that are followed
 
 
 class Marks:
@@ -12,8 +12,12 @@ class Marks:
     def __init__(self, fitter):
         self.fitter = fitter
         self.values = {name: {0} for name in MARKS}
-        self.writes = [(table, it.parts[0].name, it.parts[1]) for table, _, rule in fitter.rules() for it in rule.statements
-                       if it.kind == "set" and getattr(it.parts[0], "name", "") in MARKS]
+        self.writes = [
+            (table, it.parts[0].name, it.parts[1])
+            for table, _, rule in fitter.rules()
+            for it in rule.statements
+            if it.kind == "set" and getattr(it.parts[0], "name", "") in MARKS
+        ]
         while self.grow():
             pass
 
@@ -46,10 +50,18 @@ class Marks:
         return None
 
     def data_of(self, table, mapping):
-        elements = table.sets[mapping.name].elements if isinstance(mapping, Named) and mapping.name in table.sets else getattr(mapping, "list", [])
+        elements = (
+            table.sets[mapping.name].elements
+            if isinstance(mapping, Named) and mapping.name in table.sets
+            else getattr(mapping, "list", [])
+        )
         found = set()
         for element in elements:
-            number = range_of(element.data[0], "mark") if isinstance(element.data, tuple) and len(element.data) == 1 and isinstance(element.data[0], One) else None
+            number = (
+                range_of(element.data[0], "mark")
+                if isinstance(element.data, tuple) and len(element.data) == 1 and isinstance(element.data[0], One)
+                else None
+            )
             if number is None:
                 return None
             found.add(number[0])

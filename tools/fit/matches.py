@@ -6,8 +6,24 @@ from .facts import BITS, KNOWN, MARKS, NEVER_IN_IPV4, SHORT, TCP_FLAGS, TYPES, W
 from .network import Network, spelled_networks
 from .numbers import bits_named, constant, constant_number, holds, name_of, number_of, spell_part
 from .sets import parts_are_plain
-from .tree import (Anything, Calculation, Drawn, Elements, Joined, Listed, Masked, Named, Missing, NotFitted, One, Piece, Prefix,
-                   Range, Selector, Value)
+from .tree import (
+    Anything,
+    Calculation,
+    Drawn,
+    Elements,
+    Joined,
+    Listed,
+    Masked,
+    Named,
+    Missing,
+    NotFitted,
+    One,
+    Piece,
+    Prefix,
+    Range,
+    Selector,
+    Value,
+)
 
 OWNERS = ("meta skuid", "meta skgid", "meta cgroup")
 WITHOUT_OWNER = {"prerouting", "forward", "postrouting", "output"}
@@ -79,10 +95,14 @@ class Matches:
         way = self.way(assumption)
         is_usual = way == ASSUMPTIONS[assumption].ways[0]
         answer = usual if is_usual else not usual
-        why = f"assumed: {fact}; --assume {assumption}={ASSUMPTIONS[assumption].ways[1]} takes the other" if fact and is_usual else None
+        why = (
+            f"assumed: {fact}; --assume {assumption}={ASSUMPTIONS[assumption].ways[1]} takes the other"
+            if fact and is_usual
+            else None
+        )
         self.guess(assumption, way, "always" if answer else self.never(), why=why)
         if not answer:
-            self.put(self.never())                       # what follows is told all the same
+            self.put(self.never())  # what follows is told all the same
 
     def match_drawn(self, drawn, operator, right):
         number, way = self.number_drawn(drawn)
@@ -112,12 +132,20 @@ class Matches:
         parts = keys.split(" . ")
         network = self.fitter.network
         fields = [it for it in parts if it in ("saddr", "daddr")]
-        if result == "type" and len(fields) == 1 and set(parts) <= {*fields, "iif"} and (network or self.type_words(right) == ["multicast"]):
+        if (
+            result == "type"
+            and len(fields) == 1
+            and set(parts) <= {*fields, "iif"}
+            and (network or self.type_words(right) == ["multicast"])
+        ):
             self.match_fib_type(fields[0], "iif" in parts, operator, right)
         elif result in ("oif", "oifname") and network and set(parts) == {"saddr", "iif"} and right in YES_NO:
             self.match_reverse_path((right.value.text == "exists") != (operator == "!="))
         else:
-            self.guess_match("fib", self.usual_answer("fib", operator) if right not in YES_NO else self.guess_of_route(operator, right))
+            self.guess_match(
+                "fib",
+                self.usual_answer("fib", operator) if right not in YES_NO else self.guess_of_route(operator, right),
+            )
 
     @staticmethod
     def guess_of_route(operator, right):
@@ -126,7 +154,13 @@ class Matches:
 
     @staticmethod
     def type_words(right):
-        items = [it.key[0] for it in right.list] if isinstance(right, Elements) else right.items if isinstance(right, Listed) else [right]
+        items = (
+            [it.key[0] for it in right.list]
+            if isinstance(right, Elements)
+            else right.items
+            if isinstance(right, Listed)
+            else [right]
+        )
         return [it.value.text if isinstance(it, One) else "" for it in items]
 
     def match_fib_type(self, field, by_interface, operator, right):
@@ -138,14 +172,17 @@ class Matches:
             self.tell("same", text, "the addresses of the box file")
             self.put(text)
             return
-        ways = [[self.piece(f'iifname "{name}"'), self.piece(self.type_text(field, words, operator, name))] for name in network.names()]
+        ways = [
+            [self.piece(f'iifname "{name}"'), self.piece(self.type_text(field, words, operator, name))]
+            for name in network.names()
+        ]
         self.tell("same", f"{rules_text(len(ways))}, one for each interface", "the addresses of the box file")
         self.split(ways)
 
     def type_text(self, field, words, operator, name):
         network = self.fitter.network or Network()
         is_not = operator in ("!=", "!")
-        if "unicast" in words:                           # all that is of no other type
+        if "unicast" in words:  # all that is of no other type
             words = [it for it in ("local", "broadcast", "multicast") if it not in words]
             is_not = not is_not
         networks = [net for word in words for net in network.of_type(word, name)]
@@ -159,10 +196,16 @@ class Matches:
         for name in self.fitter.network.names():
             reached = ", ".join(self.fitter.network.reached_by(name))
             if reached:
-                ways.append([self.piece(f'iifname "{name}"'), self.piece(f"ip saddr {'' if wants else '!= '}{{ {reached} }}")])
+                ways.append(
+                    [self.piece(f'iifname "{name}"'), self.piece(f"ip saddr {'' if wants else '!= '}{{ {reached} }}")]
+                )
             elif not wants:
                 ways.append([self.piece(f'iifname "{name}"')])
-        self.tell("same", f"{rules_text(len(ways))}, one for each interface" if ways else self.never(), "by the best route of each address, as the box file has them")
+        self.tell(
+            "same",
+            f"{rules_text(len(ways))}, one for each interface" if ways else self.never(),
+            "by the best route of each address, as the box file has them",
+        )
         self.split(ways)
 
     def piece(self, text, kind="match", reads=()):
@@ -173,7 +216,11 @@ class Matches:
     def match_plain(self, name, operator, right):
         kind, reading = TYPES[name], ""
         if name == "ct state" and self.chain.is_early:
-            self.told.warn(self.rule.token, "before connections are looked for (priority -200), Linux reads ct state as invalid, nftrun as nothing: no match on it holds")
+            self.told.warn(
+                self.rule.token,
+                "before connections are looked for (priority -200), Linux reads ct state as invalid, nftrun as nothing:"
+                " no match on it holds",
+            )
         if kind in ("tcp_flag", "ct_status") and isinstance(right, Elements) and len(right.list) == 1:
             right = right.list[0].key[0]
             operator = "!=" if operator == "!=" else ""
@@ -215,7 +262,9 @@ class Matches:
         if kind == "ct_status":
             self.warn_of_status()
         plain = parts_are_plain(parts, [kind] * len(parts)) and self.stays(name)
-        self.put_spelled(f"{shown(name)} {'!= ' if operator in ('!=', '!') else ''}{{ {listed} }}", [name], plain=plain)
+        self.put_spelled(
+            f"{shown(name)} {'!= ' if operator in ('!=', '!') else ''}{{ {listed} }}", [name], plain=plain
+        )
 
     def match_set(self, name, operator, named):
         found = self.table.sets.get(named.name)
@@ -225,7 +274,11 @@ class Matches:
             raise NotFitted(f"the set {named.name} has no place in nftrun's language")
         if self.is_hit(named.name, operator):
             return
-        new = "meta " + name.split()[1] + "name" if TYPES[name] == "iface_index" and self.fitter.sets.by_name(found) else name
+        new = (
+            "meta " + name.split()[1] + "name"
+            if TYPES[name] == "iface_index" and self.fitter.sets.by_name(found)
+            else name
+        )
         self.put_spelled(f"{shown(new)} {'!= ' if operator == '!=' else ''}@{named.name}", [name], plain=new == name)
 
     def is_hit(self, name, operator):
@@ -292,7 +345,8 @@ class Matches:
         """nft(8) compares with all the bits at once, which no packet's value equals: `!=` always holds."""
         to = self.always() if name == "ct state" else "ct direction { original, reply }"
         meant = f"{name} != {{ {', '.join(words)} }}" if name == "ct state" else f"{name} ! {','.join(words)}"
-        why = f"nft(8) compares with the whole value, so it always holds; nftrun would read `none of them`, which nft(8) spells `{meant}`"
+        why = "nft(8) compares with the whole value, so it always holds; nftrun would read `none of them`,"
+        why += f" which nft(8) spells `{meant}`"
         self.tell("same", to, why, reads=True)
         self.put(to)
 
@@ -326,7 +380,8 @@ class Matches:
         if isinstance(right, Masked):
             if operator not in ("", "==", "!="):
                 raise NotFitted(f"`tcp flags {operator}` with a mask")
-            return f"tcp flags {'!= ' if operator == '!=' else ''}{flag_words(right.value, ',')} / {flag_words(right.mask, ',')}"
+            sign = "!= " if operator == "!=" else ""
+            return f"tcp flags {sign}{flag_words(right.value, ',')} / {flag_words(right.mask, ',')}"
         if operator == "!":
             return f"tcp flags & ({flag_words(right, ' | ')}) == 0"
         if operator == "!=":
@@ -367,7 +422,10 @@ class Matches:
             self.put_spelled(f"tcp flags & ({flag_names(mask)}) {sign} {flag_words(right, ' | ')}")
             return
         values = [constant_number(it.key[0]) for it in right.list]
-        texts = [f"tcp flags & ({flag_names(mask)}) {'!=' if operator == '!=' else '=='} {flag_names(it)}" for it in dict.fromkeys(values)]
+        texts = [
+            f"tcp flags & ({flag_names(mask)}) {'!=' if operator == '!=' else '=='} {flag_names(it)}"
+            for it in dict.fromkeys(values)
+        ]
         if operator == "!=":
             self.tell("same", " ".join(texts), "one after the other")
             for text in texts:
@@ -382,7 +440,13 @@ class Matches:
         if None in answers:
             raise NotFitted("a value that isn't known")
         found = [hex(it) for it in range(256) if answers[it]]
-        text = f"tcp flags {{ {', '.join(found)} }}" if len(found) > 1 else f"tcp flags == {found[0]}" if found else self.never()
+        text = (
+            f"tcp flags {{ {', '.join(found)} }}"
+            if len(found) > 1
+            else f"tcp flags == {found[0]}"
+            if found
+            else self.never()
+        )
         self.tell("same", text, "all values for which it holds")
         self.put(text)
 
@@ -407,7 +471,11 @@ class Matches:
     def match_masked_address(self, name, mask, operator, right):
         number = number_of(mask.value, "ipv4_addr") if isinstance(mask, One) else None
         length = bin(number or 0).count("1")
-        if number != (0xFFFFFFFF << 32 - length) & 0xFFFFFFFF or not isinstance(right, One) or operator not in ("", "==", "!="):
+        if (
+            number != (0xFFFFFFFF << 32 - length) & 0xFFFFFFFF
+            or not isinstance(right, One)
+            or operator not in ("", "==", "!=")
+        ):
             raise NotFitted("a mask of addresses that isn't a prefix")
         base = number_of(right.value, "ipv4_addr")
         if base is None:
@@ -425,7 +493,11 @@ class Matches:
     def match_masked_state(self, name, mask, operator, right):
         """`ct state & (established | related) != 0`."""
         words = self.bit_words(mask)
-        if any(it not in WORDS[TYPES[name]] for it in words) or holds(0, "", right, "32", {}) is not True or operator not in ("", "==", "!="):
+        if (
+            any(it not in WORDS[TYPES[name]] for it in words)
+            or holds(0, "", right, "32", {}) is not True
+            or operator not in ("", "==", "!=")
+        ):
             raise NotFitted(f"a mask of {name}")
         text = f"{name} {','.join(words)}" if operator == "!=" else " ".join(f"{name} != {word}" for word in words)
         self.tell("same", text, "one of them" if operator == "!=" else "none of them")
@@ -476,5 +548,3 @@ def flag_words(it, between):
 
 def flag_names(number):
     return " | ".join(bits_named(number, TCP_FLAGS))
-
-

@@ -1,4 +1,4 @@
-"""The box file, for what rules ask of routing: the addresses of the box, and by which interface an address is reached."""
+"""The box file, for what rules ask of routing: the box's addresses, and by which interface an address is reached."""
 from ipaddress import IPv4Address, IPv4Interface, IPv4Network
 
 from .commands import read_text
@@ -58,8 +58,8 @@ class Network:
         raise NotFitted(f"`fib .. type {word}`")
 
     def reached_by(self, name):
-        """The addresses whose best route leads to the interface, as ranges of text. The box's own addresses have none, as
-        in the kernel; those of broadcast have that of their network."""
+        """The addresses whose best route leads to the interface, as ranges of text. The box's own addresses have
+        none, as in the kernel; those of broadcast have that of their network."""
         routes = [(net, None) for net in self.own()] + self.routes
         bounds = sorted({0, 1 << 32} | {int(net[0]) for net, _ in routes} | {int(net[-1]) + 1 for net, _ in routes})
         ranges = []

@@ -19,7 +19,7 @@ def number_of(value, kind, words=None):
         return as_number(value.text)
     if value.kind == "address":
         return int(address_of(value.text))
-    if value.kind == "string" and words is not None:     # `iifgroup "default"`
+    if value.kind == "string" and words is not None:  # `iifgroup "default"`
         return words.get(value.text.strip('"'))
     if value.kind != "word":
         return None
@@ -43,7 +43,7 @@ def range_of(part, kind, words=None):
     """The least and the greatest number that a part stands for, or None."""
     width = width_of(kind)
     if isinstance(part, Anything):
-        return 0, 2 ** width - 1
+        return 0, 2**width - 1
     if isinstance(part, One):
         number = number_of(part.value, kind, words)
         return None if number is None else (number, number)
@@ -152,7 +152,13 @@ def holds(number, operator, right, kind, words=None):
 
 
 def calculated(operator, left, right):
-    results = {"&": left & right, "|": left | right, "^": left ^ right, "<<": left << min(right, 64), ">>": left >> min(right, 64)}
+    results = {
+        "&": left & right,
+        "|": left | right,
+        "^": left ^ right,
+        "<<": left << min(right, 64),
+        ">>": left >> min(right, 64),
+    }
     return results[operator] & 0xFFFFFFFF
 
 

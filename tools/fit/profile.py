@@ -19,10 +19,33 @@ CUT = re.compile(
       | (?P<mark>==|!=|>=|<=|[{}(),;:./\-+=@&|<>])""",
     re.VERBOSE,
 )
-NUMBERED = {"ip saddr", "ip daddr", "ip protocol", "meta l4proto", "ip ttl", "ip length", "meta length", "tcp sport",
-            "tcp dport", "udp sport", "udp dport", "th sport", "th dport", "tcp flags", "icmp type", "meta mark",
-            "meta iifname", "meta oifname", "meta iif", "meta oif", "ct mark", "meta nfproto", "ct state",
-            "ct direction", "ct status"}
+NUMBERED = {
+    "ip saddr",
+    "ip daddr",
+    "ip protocol",
+    "meta l4proto",
+    "ip ttl",
+    "ip length",
+    "meta length",
+    "tcp sport",
+    "tcp dport",
+    "udp sport",
+    "udp dport",
+    "th sport",
+    "th dport",
+    "tcp flags",
+    "icmp type",
+    "meta mark",
+    "meta iifname",
+    "meta oifname",
+    "meta iif",
+    "meta oif",
+    "ct mark",
+    "meta nfproto",
+    "ct state",
+    "ct direction",
+    "ct status",
+}
 BITS = ("ct state", "ct status", "tcp flags")
 FIRST_WORDS = {it.split()[0] for it in NUMBERED}
 OPERATORS = ("==", "!=", "<", ">", "<=", ">=")
@@ -53,7 +76,13 @@ def is_sound(found):
     if found.lastgroup == "address":
         return all(len(it) <= 3 and int(it) <= 255 and (it == "0" or it[0] != "0") for it in text.split("."))
     if found.lastgroup == "number":
-        return text.startswith("0x") and len(text.lstrip("0x")) <= 16 or (text == "0" or text[0] != "0") and len(text) < 21 and int(text) < 1 << 64
+        return (
+            text.startswith("0x")
+            and len(text.lstrip("0x")) <= 16
+            or (text == "0" or text[0] != "0")
+            and len(text) < 21
+            and int(text) < 1 << 64
+        )
     return True
 
 

@@ -12,7 +12,7 @@ from .translation import Translations
 from .tree import Calculation, Joined, Missing, NotFitted, Piece, Selector, counters_in, selectors_in
 from .writes import Writes
 
-ENDS = ("verdict", "vmap", "nat", "reject", "queue")     # statements after which a rule goes no further
+ENDS = ("verdict", "vmap", "nat", "reject", "queue")  # statements after which a rule goes no further
 MOST_LINES = 512
 NO_PACKET = "no packet comes so far in the rule"
 
@@ -36,7 +36,7 @@ class RuleFitter(Matches, JoinedKeys, Maps, Writes, Translations, Effects):
         except (NotFitted, RecursionError) as fault:
             stands = slice_of(self.rule.tokens)
             if not isinstance(fault, Missing) and stands is not None and takes(stands, "rule"):
-                return [(stands, tuple(range(1, counters_in(self.rule.tokens) + 1)))]      # nftrun takes it as it is
+                return [(stands, tuple(range(1, counters_in(self.rule.tokens) + 1)))]  # nftrun takes it as it is
             return self.not_fitted(str(fault) if isinstance(fault, NotFitted) else "expressions nested too deeply")
         for it in self.told.list:
             if self.never_runs and it.grade != "same":
@@ -55,15 +55,27 @@ class RuleFitter(Matches, JoinedKeys, Maps, Writes, Translations, Effects):
 
     def texts(self):
         stands = slice_of(self.rule.tokens)
-        if not self.told.list and len(self.lines) == 1 and not self.before and stands is not None and takes(stands, "rule"):
+        if (
+            not self.told.list
+            and len(self.lines) == 1
+            and not self.before
+            and stands is not None
+            and takes(stands, "rule")
+        ):
             return [(stands, tuple(it.counter for it in self.lines[0] if it.counter))]
         lines = self.before + [line or [Piece(self.always())] for line in self.lines]
         self.start_once(lines)
         if len(lines) > MOST_LINES:
             return self.not_fitted(f"it becomes more than {MOST_LINES} rules")
         if len(lines) > 1:
-            why = "the first does what is done once, and a packet meets one of the others" if self.before else "a packet meets one of them"
-            self.fitter.changes.tell(self.rule.token, "same", "the rule", f"{len(lines)} rules", why + "; their counters are to be added")
+            why = (
+                "the first does what is done once, and a packet meets one of the others"
+                if self.before
+                else "a packet meets one of them"
+            )
+            self.fitter.changes.tell(
+                self.rule.token, "same", "the rule", f"{len(lines)} rules", why + "; their counters are to be added"
+            )
         comment = f" comment {self.rule.comment}" if self.rule.comment else ""
         texts = [" ".join(it.text for it in line if it.text) + comment for line in lines]
         for text in texts:
@@ -118,7 +130,7 @@ class RuleFitter(Matches, JoinedKeys, Maps, Writes, Translations, Effects):
             return False
         stands = slice_of(self.rule.tokens)
         if stands is not None and takes(stands, "rule"):
-            self.lines = [[Piece(stands)]]               # it is told by nothing: `texts` takes it as it stands
+            self.lines = [[Piece(stands)]]  # it is told by nothing: `texts` takes it as it stands
             self.count_counters()
             return True
         self.put(self.never())
@@ -131,7 +143,13 @@ class RuleFitter(Matches, JoinedKeys, Maps, Writes, Translations, Effects):
             elif it.kind == "verdict":
                 self.fit_verdict(*it.parts)
                 break
-        self.told.tell(self.rule.token, "same", shown(self.rule.tokens), " ".join(it.text for it in self.lines[0]), "no IPv4 packet meets it")
+        self.told.tell(
+            self.rule.token,
+            "same",
+            shown(self.rule.tokens),
+            " ".join(it.text for it in self.lines[0]),
+            "no IPv4 packet meets it",
+        )
         return True
 
     def count_counters(self):
@@ -199,7 +217,9 @@ class RuleFitter(Matches, JoinedKeys, Maps, Writes, Translations, Effects):
             return
         if len(ways) > 1:
             if any(self.fitter.marks.may_change(name) for name in MARKS if name in reads) and self.goes_on():
-                raise NotFitted("a choice by a mark, behind which a packet meets the next rule, maybe with another mark")
+                raise NotFitted(
+                    "a choice by a mark, behind which a packet meets the next rule, maybe with another mark"
+                )
             self.do_once()
         self.lines = [line + list(way) for line in self.lines for way in ways]
         if len(self.lines) > MOST_LINES:
@@ -220,7 +240,9 @@ class RuleFitter(Matches, JoinedKeys, Maps, Writes, Translations, Effects):
         if last.kind in ("nat", "reject", "queue"):
             return False
         if last.kind == "vmap":
-            return any(it.data.word in ("jump", "continue") for it in self.fitter.sets.elements_of(self.table, last.parts[1]))
+            return any(
+                it.data.word in ("jump", "continue") for it in self.fitter.sets.elements_of(self.table, last.parts[1])
+            )
         return last.kind != "verdict" or last.parts[0].word in ("jump", "continue")
 
     # what is told
@@ -249,5 +271,3 @@ def marks_read(it):
     if isinstance(it, Joined):
         return any(map(marks_read, it.parts))
     return isinstance(it, Calculation) and (marks_read(it.left) or marks_read(it.right))
-
-

@@ -28,13 +28,13 @@ class Sets:
         """The types of the key's parts; `?` for one that nftrun hasn't."""
         if found.typeof is None:
             return list(found.types)
-        return selector_types(found.typeof[:colon(found.typeof)])
+        return selector_types(found.typeof[: colon(found.typeof)])
 
     def data_types(self, found):
         if found.typeof is None:
             return found.data
         at = colon(found.typeof)
-        rest = found.typeof[at + 1:]
+        rest = found.typeof[at + 1 :]
         if not rest:
             return None
         return ["verdict"] if rest[0].text == "verdict" else selector_types(rest)
@@ -58,7 +58,10 @@ class Sets:
             return False
         if any(isinstance(it.data, Verdict) != (data[0] == "verdict") for it in found.elements):
             return False
-        return not any(isinstance(it.key[0], Anything) or not isinstance(it.data, Verdict) and not isinstance(it.data[0], One) for it in found.elements)
+        return not any(
+            isinstance(it.key[0], Anything) or not isinstance(it.data, Verdict) and not isinstance(it.data[0], One)
+            for it in found.elements
+        )
 
     def by_name(self, found):
         """Whether a set of interfaces holds names that the box hasn't, so that it becomes one of names."""
@@ -91,7 +94,11 @@ class Sets:
             changes.refuse(found.fault[0], f"elements of {found.name}", found.fault[1])
         if not self.is_plain(found):
             is_foreign = any(it not in WIDTHS and not it.isdigit() for it in self.key_types(found))
-            why = "no rule of IPv4 that nftrun reads looks into it" if is_foreign else "its elements stand in the rules that use it"
+            why = (
+                "no rule of IPv4 that nftrun reads looks into it"
+                if is_foreign
+                else "its elements stand in the rules that use it"
+            )
             changes.tell(found.token, "same", f"{found.word} {found.name}", "left out", why)
             return []
         self.tell_of_time(table, found)
@@ -99,7 +106,13 @@ class Sets:
             changes.tell(found.token, "outcome", f"counters of {found.name}", "none", "they aren't shown")
         by_name = self.by_name(found)
         if by_name:
-            changes.tell(found.token, "same", f"{found.word} {found.name} of indices", "of names", "names compare alike, and ask for no interface of the box")
+            changes.tell(
+                found.token,
+                "same",
+                f"{found.word} {found.name} of indices",
+                "of names",
+                "names compare alike, and ask for no interface of the box",
+            )
         stands = found.slices is not None and not by_name and self.stands(found)
         body = found.slices if stands else self.anew(found, "ifname" if by_name else None)
         return [f"\t{found.word} {found.name} {{", *("\t\t" + it for it in body), "\t}", ""]
@@ -116,19 +129,31 @@ class Sets:
     def has_known_words(self, found):
         types, data = self.key_types(found), self.data_types(found)
         keys = all(parts_are_plain(it.key, types) for it in found.elements)
-        return keys and all(isinstance(it.data, Verdict) or it.data is None or parts_are_plain(it.data, data) for it in found.elements)
+        return keys and all(
+            isinstance(it.data, Verdict) or it.data is None or parts_are_plain(it.data, data) for it in found.elements
+        )
 
     def tell_of_time(self, table, found):
         changes, foreign = self.fitter.changes, [it for it in found.flags if it not in OWN_FLAGS]
         if any(set(it.extras) & ENDING for it in found.elements) or found.timeout and found.elements:
             self.fitter.guess(found.token, f"timeouts of {found.name}", "none", "timeout")
         elif (table.family, table.name, found.name) not in self.fitter.added_to and (foreign or found.timeout):
-            changes.tell(found.token, "same", f"flags {','.join(foreign)} of {found.name}" if foreign else f"timeout of {found.name}", "none",
-                         "no rule adds to it, and no element runs out")
+            changes.tell(
+                found.token,
+                "same",
+                f"flags {','.join(foreign)} of {found.name}" if foreign else f"timeout of {found.name}",
+                "none",
+                "no rule adds to it, and no element runs out",
+            )
 
     def kept(self, found):
         """The elements, but for those that are assumed to have run out."""
-        if self.fitter.assumptions.chosen_way("timeout", self.fitter.changes_place(found.token), f"timeouts of {found.name}") != "gone":
+        if (
+            self.fitter.assumptions.chosen_way(
+                "timeout", self.fitter.changes_place(found.token), f"timeouts of {found.name}"
+            )
+            != "gone"
+        ):
             return found.elements
         return [it for it in found.elements if not (set(it.extras) & ENDING or found.timeout)]
 
@@ -145,7 +170,7 @@ class Sets:
         lines += ["auto-merge"] if found.merges else []
         lines += [f"comment {found.comment}"] if found.comment else []
         elements, kept = [], self.kept(found)
-        if len(types) == 1 and not found.is_map:         # `*` has all others
+        if len(types) == 1 and not found.is_map:  # `*` has all others
             kept = [it for it in kept if isinstance(it.key[0], Anything)] or kept
         for it in kept:
             try:
@@ -187,8 +212,14 @@ def parts_are_plain(parts, kinds):
         for value in part:
             if getattr(value, "kind", "number") in ("wild", "six", "mac", "time"):
                 return False
-            if getattr(value, "kind", "") == "word" and kind not in ("ifname", "iface_index") and value.text not in WORDS.get(kind, {}):
+            if (
+                getattr(value, "kind", "") == "word"
+                and kind not in ("ifname", "iface_index")
+                and value.text not in WORDS.get(kind, {})
+            ):
                 return False
-            if getattr(value, "kind", "") == "string" and (kind not in ("ifname", "iface_index") or value.text.endswith("*")):
+            if getattr(value, "kind", "") == "string" and (
+                kind not in ("ifname", "iface_index") or value.text.endswith("*")
+            ):
                 return False
     return True

@@ -8,8 +8,10 @@ LOG_FLAGS = set("tcp sequence options ip skuid ether all".split())
 NAT_FLAGS = ("random", "fully-random", "persistent")
 UNITS = ("packets", "bytes", "kbytes", "mbytes", "packet")
 # statements by their first word, for which `read_WORD` reads the rest
-STATEMENTS = set("counter log limit quota reject notrack last snat dnat masquerade redirect queue dup flow meter "
-                 "synproxy tproxy fwd xt".split())
+STATEMENTS = set(
+    "counter log limit quota reject notrack last snat dnat masquerade redirect queue dup flow meter "
+    "synproxy tproxy fwd xt".split()
+)
 
 
 class RuleReader(ExpressionReader):
@@ -24,7 +26,7 @@ class RuleReader(ExpressionReader):
                 comment = self.take("string").text
                 continue
             kind, parts = self.statement()
-            statements.append(Statement(kind, tuple(self.tokens[start:self.at]), parts))
+            statements.append(Statement(kind, tuple(self.tokens[start : self.at]), parts))
         return statements, comment
 
     def statement(self):
@@ -55,7 +57,7 @@ class RuleReader(ExpressionReader):
             operand = self.operand()
             if left == Selector("meta priority") and self.skip(":"):
                 self.take()
-            while self.skip(","):                        # `ct event set new,destroy`
+            while self.skip(","):  # `ct event set new,destroy`
                 operand = Listed((operand, self.operand()))
             return "set", (left, operand)
         if self.skip("vmap"):
@@ -84,7 +86,11 @@ class RuleReader(ExpressionReader):
         while self.has(*LOG_OPTIONS):
             name = self.take().text
             value = [self.take()]
-            while name == "flags" and (self.has(",") or value[-1].text in ("tcp", "ip", ",")) and self.has(",", *LOG_FLAGS):
+            while (
+                name == "flags"
+                and (self.has(",") or value[-1].text in ("tcp", "ip", ","))
+                and self.has(",", *LOG_FLAGS)
+            ):
                 value.append(self.take())
             options[name] = value
         return "log", (options,)
@@ -107,7 +113,7 @@ class RuleReader(ExpressionReader):
         self.take("word", "rate")
         over = self.over()
         self.number()
-        if self.peek().kind == "word":                   # mbytes/second is one word
+        if self.peek().kind == "word":  # mbytes/second is one word
             if "/" not in self.take().text:
                 self.take("mark", "/")
                 self.take("word")
@@ -205,7 +211,7 @@ class RuleReader(ExpressionReader):
         family = self.family()
         prefix = self.skip("prefix")
         self.skip("interval")
-        if self.has("addr") and self.has(".", ahead=1):          # addr . port
+        if self.has("addr") and self.has(".", ahead=1):  # addr . port
             self.at += 3
         has_to = self.skip("to")
         address = ports = None
@@ -213,7 +219,7 @@ class RuleReader(ExpressionReader):
             ports = self.operand()
         elif has_to or (kind in ("snat", "dnat") and self.peek().kind != "end"):
             address = self.operand()
-            if kind in ("masquerade", "redirect"):               # `redirect to tcp dport map { .. }`
+            if kind in ("masquerade", "redirect"):  # `redirect to tcp dport map { .. }`
                 address, ports = None, address
             elif self.skip(":"):
                 ports = self.operand()
@@ -226,7 +232,9 @@ class RuleReader(ExpressionReader):
     def family(self):
         """`ip` or `ip6` before `to`; `ip` also begins a selector, as in `snat ip saddr map ..`."""
         after = self.peek(1)
-        if self.has("ip", "ip6") and (after.text in ("to", "prefix", "interval", ":", "addr") or after.kind in ("address", "six")):
+        if self.has("ip", "ip6") and (
+            after.text in ("to", "prefix", "interval", ":", "addr") or after.kind in ("address", "six")
+        ):
             return self.take().text
         return ""
 
@@ -275,7 +283,7 @@ class RuleReader(ExpressionReader):
         self.name()
         if self.skip("size"):
             self.number()
-        self.tokens = [*self.tokens[:self.at], name._replace(kind="word"), *self.tokens[self.at:]]
+        self.tokens = [*self.tokens[: self.at], name._replace(kind="word"), *self.tokens[self.at :]]
         kind, parts = self.change_of_set("add")
         return kind, parts
 

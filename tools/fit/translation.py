@@ -4,7 +4,7 @@ from .matches import rules_text, shown
 from .numbers import range_of, spell_number, spell_part
 from .tree import Drawn, Joined, Lookup, NotFitted, One, Prefix, Range, Selector, Value
 
-MOST_ADDRESSES = 1024                                    # that translation of prefixes may become
+MOST_ADDRESSES = 1024  # that translation of prefixes may become
 PARTS = (One, Range, Prefix, Lookup)
 
 
@@ -41,13 +41,18 @@ class Translations:
             raise NotFitted("translation of prefixes but by a map of addresses")
         pairs = []
         for one in self.mapping(it.address.map, verdicts=False)[0]:
-            if not all(isinstance(part, Prefix) for part in (one.key[0], one.data[0])) or one.key[0].length != one.data[0].length:
+            if (
+                not all(isinstance(part, Prefix) for part in (one.key[0], one.data[0]))
+                or one.key[0].length != one.data[0].length
+            ):
                 raise NotFitted("translation of prefixes that aren't of one length")
             ends = [range_of(part[0], "ipv4_addr") for part in (one.key, one.data)]
             if ends[0][1] - ends[0][0] + len(pairs) >= MOST_ADDRESSES:
                 raise NotFitted(f"translation of prefixes with more than {MOST_ADDRESSES} addresses")
             pairs += zip(*(range(low, high + 1) for low, high in ends))
-        listed = ", ".join(f"{spell_number(old, 'ipv4_addr')} : {spell_number(new, 'ipv4_addr')}" for old, new in pairs)
+        listed = ", ".join(
+            f"{spell_number(old, 'ipv4_addr')} : {spell_number(new, 'ipv4_addr')}" for old, new in pairs
+        )
         self.tell("same", f"a map of {len(pairs)} addresses", "each address has its own")
         self.put(f"{it.kind}{self.to()}{it.address.key.name} map {{ {listed} }}", "end")
 
@@ -55,7 +60,13 @@ class Translations:
         """`dnat to :80` keeps the address; nftrun wants it said, which the rule may do."""
         name = "ip saddr" if kind == "snat" else "ip daddr"
         for it in self.rule.statements:
-            if it.kind == "match" and it.parts[0] == Selector(name) and it.parts[1] in ("", "==") and isinstance(it.parts[2], One) and it.parts[2].value.kind == "address":
+            if (
+                it.kind == "match"
+                and it.parts[0] == Selector(name)
+                and it.parts[1] in ("", "==")
+                and isinstance(it.parts[2], One)
+                and it.parts[2].value.kind == "address"
+            ):
                 self.tell("same", f"to {it.parts[2].value.text}", f"the rule asks for this {name}")
                 return it.parts[2]
         raise NotFitted("translation of the port alone, where the rule doesn't ask for one address")
@@ -109,12 +120,19 @@ class Translations:
 
     @staticmethod
     def is_plain_lookup(key, it, elements):
-        return isinstance(key, Selector) and key.name in TYPES and it.ports is None and elements and all(
-            len(one.data) == 1 and isinstance(one.data[0], One) for one in elements)
+        return (
+            isinstance(key, Selector)
+            and key.name in TYPES
+            and it.ports is None
+            and elements
+            and all(len(one.data) == 1 and isinstance(one.data[0], One) for one in elements)
+        )
 
     def translate_ports_by_map(self, it):
         elements, _ = self.mapping(it.ports.map, verdicts=False)
-        self.choose_translation(it.ports.key, elements, lambda data: [self.piece(self.nat_text(it.kind, it.address, data[0]), "end")])
+        self.choose_translation(
+            it.ports.key, elements, lambda data: [self.piece(self.nat_text(it.kind, it.address, data[0]), "end")]
+        )
 
     def choose_translation(self, key, elements, translating):
         if isinstance(key, Joined):
@@ -123,8 +141,15 @@ class Translations:
             self.draw(key, elements, translating)
         elif isinstance(key, Selector) and key.name in TYPES:
             name, kind = self.by_name(key.name, [one.key[0] for one in elements])
-            ways = [[self.piece(f"{shown(name)} {spell_part(one.key[0], kind)}"), *translating(one.data)] for one in elements]
-            self.tell("same", rules_text(len(ways)) if ways else self.never(), "nftrun has no maps of ports, and none of both")
+            ways = [
+                [self.piece(f"{shown(name)} {spell_part(one.key[0], kind)}"), *translating(one.data)]
+                for one in elements
+            ]
+            self.tell(
+                "same",
+                rules_text(len(ways)) if ways else self.never(),
+                "nftrun has no maps of ports, and none of both",
+            )
             self.split(ways)
         else:
             raise NotFitted("translation by what nftrun doesn't read")

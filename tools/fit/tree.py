@@ -6,25 +6,25 @@ Value = namedtuple("Value", "kind text")
 One = namedtuple("One", "value")
 Range = namedtuple("Range", "low high")
 Prefix = namedtuple("Prefix", "value length")
-Anything = namedtuple("Anything", "")                    # the catch-all element `*`
+Anything = namedtuple("Anything", "")  # the catch-all element `*`
 
 # expressions
-Selector = namedtuple("Selector", "name")                # "ip saddr"
-Joined = namedtuple("Joined", "parts")                   # a . b
+Selector = namedtuple("Selector", "name")  # "ip saddr"
+Joined = namedtuple("Joined", "parts")  # a . b
 Calculation = namedtuple("Calculation", "operator left right")
 Drawn = namedtuple("Drawn", "kind modulus offset over")  # numgen, jhash, symhash
-Listed = namedtuple("Listed", "items")                   # a,b
-Masked = namedtuple("Masked", "value mask")              # a / b
-Named = namedtuple("Named", "name")                      # @name
+Listed = namedtuple("Listed", "items")  # a,b
+Masked = namedtuple("Masked", "value mask")  # a / b
+Named = namedtuple("Named", "name")  # @name
 Lookup = namedtuple("Lookup", "key map")
 Elements = namedtuple("Elements", "list")
 # `key` is a tuple of parts; `data` a tuple of parts, a Verdict, or None in a set; `extras` are words
 Element = namedtuple("Element", "key data extras")
 
 # statements
-Verdict = namedtuple("Verdict", "word target")           # target: a name, a list of rules (tokens), or None
+Verdict = namedtuple("Verdict", "word target")  # target: a name, a list of rules (tokens), or None
 Statement = namedtuple("Statement", "kind tokens parts")
-Bound = namedtuple("Bound", "kind over name")            # limit, quota, connections
+Bound = namedtuple("Bound", "kind over name")  # limit, quota, connections
 Translation = namedtuple("Translation", "kind family address ports flags prefix")
 
 # A part of a fitted rule. `kind` is match, effect (it counts or tells), mark (it writes one) or end; `reads` the
@@ -48,7 +48,7 @@ class Rule:
     def __init__(self, tokens):
         self.tokens = tokens
         self.statements, self.comment, self.fault = None, None, None
-        self.counters_before = 0                         # of the operator's rule, where this was in braces within it
+        self.counters_before = 0  # of the operator's rule, where this was in braces within it
 
     @property
     def token(self):
@@ -59,9 +59,9 @@ class Chain:
     def __init__(self, name, token):
         self.name, self.token = name, token
         self.head, self.policy, self.notes, self.rules = None, None, [], []
-        self.hooks = set()                               # from which hooks packets come here
-        self.is_early = False                            # whether some come before connections are looked for
-        self.made_for = None                             # (chain, number) of the rule whose part it was
+        self.hooks = set()  # from which hooks packets come here
+        self.is_early = False  # whether some come before connections are looked for
+        self.made_for = None  # (chain, number) of the rule whose part it was
 
 
 class Set:
@@ -72,8 +72,8 @@ class Set:
         self.types, self.data, self.typeof = [], None, None
         self.flags, self.elements, self.comment = [], [], None
         self.size, self.timeout, self.merges, self.counts = None, False, False, False
-        self.slices = []                                 # its fields as they stand, or None where these changed
-        self.fault = None                                # (token, why) where its elements aren't understood
+        self.slices = []  # its fields as they stand, or None where these changed
+        self.fault = None  # (token, why) where its elements aren't understood
         self.word = "map" if is_map else "set"
 
 

@@ -23,7 +23,7 @@ class Writes:
             self.guess(why, way, "left out")
         else:
             self.tell(grade, "left out", why)
-        if not name.startswith("ct "):                   # these do nothing where there is no connection
+        if not name.startswith("ct "):  # these do nothing where there is no connection
             self.keep_tests(left)
         if isinstance(operand, Lookup):
             self.keep_lookup(operand)
@@ -102,7 +102,9 @@ class Writes:
         listed = ", ".join(f"{spell_part(it.key[0], kind)} : {spell_part(it.data[0], data_kind)}" for it in elements)
         if not listed:
             raise NotFitted("a map without elements")
-        words = isinstance(mapping, Elements) and all(parts_are_plain(it.key, (kind,)) and parts_are_plain(it.data, (data_kind,)) for it in elements)
+        words = isinstance(mapping, Elements) and all(
+            parts_are_plain(it.key, (kind,)) and parts_are_plain(it.data, (data_kind,)) for it in elements
+        )
         return f"{shown(name)} map {{ {listed} }}", words and name == key.name
 
 

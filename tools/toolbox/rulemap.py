@@ -84,8 +84,16 @@ def write(path, ruleset, rules, rows):
     with open(path, "w", encoding="ascii") as file:
         print(json.dumps(head), file=file)
         for chain, rule, origin in rows:
-            row = {"chain": chain, "rule": rule, "was-chain": origin.chain, "was": origin.rule, "file": origin.file,
-                   "line": origin.line, "text": origin.text, "counters": list(origin.counters)}
+            row = {
+                "chain": chain,
+                "rule": rule,
+                "was-chain": origin.chain,
+                "was": origin.rule,
+                "file": origin.file,
+                "line": origin.line,
+                "text": origin.text,
+                "counters": list(origin.counters),
+            }
             print(json.dumps(row), file=file)
 
 
@@ -118,8 +126,19 @@ def parsed(path, number, line):
 def row_of(path, number, line):
     row = parsed(path, number, line)
     try:
-        kinds = {"chain": str, "was-chain": str, "file": str, "text": str, "rule": int, "was": int, "line": int, "counters": list}
-        if not all(type(row[name]) is kind for name, kind in kinds.items()) or not all(type(it) is int for it in row["counters"]):
+        kinds = {
+            "chain": str,
+            "was-chain": str,
+            "file": str,
+            "text": str,
+            "rule": int,
+            "was": int,
+            "line": int,
+            "counters": list,
+        }
+        if not all(type(row[name]) is kind for name, kind in kinds.items()) or not all(
+            type(it) is int for it in row["counters"]
+        ):
             raise ValueError
         origin = Origin(row["was-chain"], row["was"], row["file"], row["line"], row["text"], tuple(row["counters"]))
         return (row["chain"], row["rule"]), origin
