@@ -16,7 +16,7 @@ from .commands import Commands
 from .fitter import Fitter
 from .network import Network
 from .profile import takes
-from .scanner import Refused, shown
+from .scanner import Refused
 
 NAME = "fit-ruleset"
 DONE, WORSE = 0, 1
@@ -45,7 +45,7 @@ def rows_of(fitter):
     """The map's rows, for rulemap.write."""
     rows = []
     for chain, number, old_chain, old, rule, counters in fitter.rows:
-        origin = rulemap.Origin(old_chain, old, rule.token.source.name, rule.token.line, shown(rule.tokens), counters)
+        origin = rulemap.Origin(old_chain, old, rule.token.source.name, rule.token.line, rule.text, counters)
         rows.append((chain, number, origin))
     return rows
 
@@ -61,7 +61,7 @@ def plain_rows(fitter):
             (
                 place,
                 number,
-                rulemap.Origin(place, number, rule.token.source.name, rule.token.line, shown(rule.tokens), counters),
+                rulemap.Origin(place, number, rule.token.source.name, rule.token.line, rule.text, counters),
             )
         )
     return rows

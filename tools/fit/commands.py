@@ -3,7 +3,7 @@ import glob
 import os
 
 from .expressions import ExpressionReader, as_number
-from .scanner import END, Refused, Source, moved, refuse, scan, slice_of
+from .scanner import END, Refused, Source, moved, refuse, scan, shown, slice_of
 from .tree import Chain, Head, NotFitted, Rule, Set, Table
 
 FAMILIES = ("ip", "ip6", "inet", "arp", "bridge", "netdev")
@@ -20,7 +20,7 @@ class Commands:
         self.changes = changes
         self.tables, self.order = {}, []
         self.variables, self.including = {}, []
-        self.tokens, self.at = [], 0
+        self.tokens, self.at, self.taken = [], 0, []
 
     def read(self, path):
         source = Source(path, read_text(path))
@@ -54,7 +54,7 @@ class Commands:
         if token.kind == "end":
             raise self.torn()
         if texts and token.text not in texts:
-            raise refuse(token, f"`{shown(token)}` where `{texts[0]}` is wanted")
+            raise refuse(token, f"`{spoken(token)}` where `{texts[0]}` is wanted")
         self.at += 1
         return token
 
@@ -72,7 +72,7 @@ class Commands:
         if token.kind == "variable":
             token = self.expanded([token])[0]
         if token.kind not in ("word", "string"):
-            raise refuse(token, f"`{shown(token)}` is no name")
+            raise refuse(token, f"`{spoken(token)}` is no name")
         return token.text.strip('"')
 
     def to_end(self):
@@ -86,6 +86,7 @@ class Commands:
                 depth += (token.text in "{(") - (token.text in "})")
             taken.append(token)
             self.at += 1
+        self.taken = taken
         return self.expanded(taken)
 
     def expanded(self, tokens):
@@ -119,7 +120,7 @@ class Commands:
             self.changes.tell(token, "same", word, "left out", "it changes nothing that is loaded")
             self.to_end()
         else:
-            raise refuse(token, f"the command `{shown(token)}` isn't understood")
+            raise refuse(token, f"the command `{spoken(token)}` isn't understood")
 
     def definition(self):
         token = self.take()
@@ -254,7 +255,7 @@ class Commands:
                 what += " " + self.take("helper", "timeout", "expectation").text
             self.item(self.table_of(), what, token)
         else:
-            raise refuse(token, f"`{verb} {shown(token)}` isn't understood")
+            raise refuse(token, f"`{verb} {spoken(token)}` isn't understood")
 
     def add_rule(self, verb):
         chain = self.one_of(self.table_of().chains, "chain")
@@ -269,7 +270,7 @@ class Commands:
             where = index + (verb != "insert")
         tokens = self.to_end()
         if tokens:
-            chain.rules.insert(where, Rule(tokens))
+            chain.rules.insert(where, Rule(tokens, shown(self.taken)))
 
     def add_elements(self, found, tokens):
         if not tokens:
@@ -316,7 +317,7 @@ class Commands:
                 what += " " + self.take("helper", "timeout", "expectation").text
             self.item(table, what, token)
         else:
-            raise refuse(token, f"`{shown(token)}` isn't understood in a table")
+            raise refuse(token, f"`{spoken(token)}` isn't understood in a table")
 
     def item(self, table, what, token):
         name = self.name()
@@ -369,8 +370,8 @@ class Commands:
             if self.peek().kind == "end":
                 raise self.torn()
             if not tokens:
-                raise refuse(self.peek(), f"`{shown(self.peek())}` isn't understood in a chain")
-            chain.rules.append(Rule(tokens))
+                raise refuse(self.peek(), f"`{spoken(self.peek())}` isn't understood in a chain")
+            chain.rules.append(Rule(tokens, shown(self.taken)))
 
     def head(self):
         first = self.peek()
@@ -427,7 +428,7 @@ class Commands:
             self.take("=")
             self.add_elements(found, self.to_end())
         else:
-            raise refuse(token, f"`{shown(token)}` isn't understood in a {found.word}")
+            raise refuse(token, f"`{spoken(token)}` isn't understood in a {found.word}")
 
 
 def types_of(words):
@@ -459,6 +460,6 @@ def read_text(path):
         raise Refused(f"{path}: {error.strerror}") from None
 
 
-def shown(token):
+def spoken(token):
     """A token in a message: a newline is named."""
     return "the end of the line" if token.kind == "newline" else token.text

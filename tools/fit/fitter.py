@@ -3,6 +3,7 @@ from .facts import CHAIN_HOOKS, MARKS
 from .marks import Marks
 from .order import Order
 from .rules import RuleFitter, marks_read
+from .scanner import shown
 from .sets import Sets
 from .statements import RuleReader
 from .tree import Chain, NotFitted, Rule, Verdict, counters_in, names_in
@@ -85,7 +86,7 @@ class Fitter:
             count += 1
         inner = Chain(f"fitted_{count}", rule.token)
         inner.made_for = chain.made_for or (chain, number)
-        inner.rules = [Rule(tokens) for tokens in verdict.target]
+        inner.rules = [Rule(tokens, shown(tokens)) for tokens in verdict.target]
         table.chains[inner.name] = inner
         self.changes.tell(
             rule.token, "same", f"{verdict.word} {{ .. }}", f"{verdict.word} {inner.name}", "a chain of its own"

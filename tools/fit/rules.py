@@ -46,7 +46,7 @@ class RuleFitter(Matches, JoinedKeys, Maps, Writes, Translations, Effects):
         return self.texts()
 
     def not_fitted(self, why):
-        text = shown(self.rule.tokens)
+        text = self.rule.text
         if self.never_runs:
             self.fitter.changes.tell(self.rule.token, "same", text, self.never(), "nftrun runs no chain of output")
         else:
@@ -146,7 +146,7 @@ class RuleFitter(Matches, JoinedKeys, Maps, Writes, Translations, Effects):
         self.told.tell(
             self.rule.token,
             "same",
-            shown(self.rule.tokens),
+            self.rule.text,
             " ".join(it.text for it in self.lines[0]),
             "no IPv4 packet meets it",
         )

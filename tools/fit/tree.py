@@ -43,10 +43,10 @@ class Missing(NotFitted):
 
 
 class Rule:
-    """A rule's tokens, and what they say once it was read."""
+    """A rule's tokens, and what they say once it was read. `text` is as the operator wrote it."""
 
-    def __init__(self, tokens):
-        self.tokens = tokens
+    def __init__(self, tokens, text):
+        self.tokens, self.text = tokens, text
         self.statements, self.comment, self.fault = None, None, None
         self.counters_before = 0  # of the operator's rule, where this was in braces within it
 
