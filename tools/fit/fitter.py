@@ -160,8 +160,9 @@ class Fitter:
         for name, (what, token, _) in table.objects.items():
             why = "rules count for themselves" if what == "counter" else "what it does is told where rules name it"
             self.changes.tell(token, "same", f"{what} {name}", "left out", why)
-        chains = [line for chain in table.chains.values() for line in self.chain_lines(table, chain)]
+        # sets first: what is guessed of their elements decides for the rules that have them
         sets = [line for found in table.sets.values() for line in self.sets.lines(table, found)]
+        chains = [line for chain in table.chains.values() for line in self.chain_lines(table, chain)]
         notes = [f"\tcomment {note}" for note in table.notes]
         body = notes + sets + chains
         while body and not body[-1]:

@@ -22,21 +22,21 @@ class JoinedKeys:
                 raise Missing(f"there is no set {right.name}")
             if self.is_hit(right.name, operator):
                 return
-            names = self.joined_names(left, [it.key for it in found.elements])
+            names = self.joined_names(left, [it.key for it in self.fitter.sets.kept(found)])
             if names is not None and self.fitter.sets.is_plain(found) and len(names[0]) == len(left.parts):
                 self.put_spelled(
                     f"{' . '.join(map(shown, names[0]))} {'!= ' if is_not else ''}@{right.name}", names[0]
                 )
                 return
             self.look_up(names, is_not)
-        elif isinstance(right, Elements) and self.is_taken(left, right):
+        elif isinstance(right, Elements) and self.are_taken(left, right):
             self.put(self.statement_text(), "match", [it.name for it in left.parts])
         elif isinstance(right, Elements):
             self.look_up(self.joined_names(left, [it.key for it in right.list]), is_not)
         else:
             raise NotFitted("joined keys without a list")
 
-    def is_taken(self, left, right):
+    def are_taken(self, left, right):
         """Whether nftrun has the joined keys as they stand."""
         names = [getattr(it, "name", "") for it in left.parts]
         if not takes(self.statement_text(), "statement") or any(it not in TYPES for it in names):

@@ -62,6 +62,8 @@ class Matches:
             self.die()
             return
         fact = KNOWN.get(name)
+        if isinstance(right, Named):
+            right = self.elements_named(right)
         self.keep_header(name)
         if fact is None or name == "ct zone" and self.fitter.sets_zones:
             self.guess_match(assumption_of(name), self.usual_answer(assumption_of(name), operator))
@@ -79,6 +81,15 @@ class Matches:
                 self.put(fact.needs)
             if not answer:
                 self.die()
+
+    def elements_named(self, named):
+        """What a named set has, where no rule adds to it."""
+        found = self.table.sets.get(named.name)
+        if found is None:
+            raise Missing(f"there is no set {named.name}")
+        if (self.table.family, self.table.name, named.name) in self.fitter.added_to:
+            return named
+        return Elements(self.fitter.sets.kept(found))
 
     def keep_header(self, name):
         """The protocol that the match asks for first, or the connection that it reads."""
@@ -274,6 +285,8 @@ class Matches:
             raise NotFitted(f"the set {named.name} has no place in nftrun's language")
         if self.is_hit(named.name, operator):
             return
+        if TYPES[name] == "ct_status":
+            self.warn_of_status()
         new = (
             "meta " + name.split()[1] + "name"
             if TYPES[name] == "iface_index" and self.fitter.sets.by_name(found)

@@ -34,9 +34,9 @@ class RuleFitter(Matches, JoinedKeys, Maps, Writes, Translations, Effects):
                 raise NotFitted(self.rule.fault)
             self.fit()
         except (NotFitted, RecursionError) as fault:
-            stands = slice_of(self.rule.tokens)
-            if not isinstance(fault, Missing) and stands is not None and takes(stands, "rule"):
-                return [(stands, tuple(range(1, counters_in(self.rule.tokens) + 1)))]  # nftrun takes it as it is
+            if not isinstance(fault, Missing) and self.is_taken():
+                counters = range(1, counters_in(self.rule.tokens) + 1)
+                return [(slice_of(self.rule.tokens), tuple(self.rule.counters_before + it for it in counters))]
             return self.not_fitted(str(fault) if isinstance(fault, NotFitted) else "expressions nested too deeply")
         for it in self.told.list:
             if self.never_runs and it.grade != "same":
@@ -44,6 +44,16 @@ class RuleFitter(Matches, JoinedKeys, Maps, Writes, Translations, Effects):
             self.fitter.changes.list.append(it)
         self.fitter.changes.warnings += [it for it in self.told.warnings if it not in self.fitter.changes.warnings]
         return self.texts()
+
+    def is_taken(self):
+        """Whether nftrun takes the rule as it stands, with the sets that it names."""
+        stands = slice_of(self.rule.tokens)
+        if stands is None or not takes(stands, "rule"):
+            return False
+        tokens = self.rule.tokens
+        named = [after.text for before, after in zip(tokens, tokens[1:]) if before.text == "@"]
+        sets = [self.table.sets.get(name) for name in named]
+        return all(it is not None and self.fitter.sets.is_plain(it) for it in sets)
 
     def not_fitted(self, why):
         text = self.rule.text

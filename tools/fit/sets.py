@@ -39,6 +39,9 @@ class Sets:
             return None
         return ["verdict"] if rest[0].text == "verdict" else selector_types(rest)
 
+    def is_foreign(self, found):
+        return any(it not in WIDTHS and not it.isdigit() for it in self.key_types(found))
+
     def is_plain(self, found):
         """Whether nftrun has such a set."""
         types, data = self.key_types(found), self.data_types(found)
@@ -92,16 +95,14 @@ class Sets:
         changes = self.fitter.changes
         if found.fault is not None and (found.slices is None or not self.is_taken(found)):
             changes.refuse(found.fault[0], f"elements of {found.name}", found.fault[1])
+        if not self.is_foreign(found):
+            self.tell_of_time(table, found)
         if not self.is_plain(found):
-            is_foreign = any(it not in WIDTHS and not it.isdigit() for it in self.key_types(found))
-            why = (
-                "no rule of IPv4 that nftrun reads looks into it"
-                if is_foreign
-                else "its elements stand in the rules that use it"
-            )
+            why = "its elements stand in the rules that use it"
+            if self.is_foreign(found):
+                why = "nftrun has none of its type; the rules that use it are told for themselves"
             changes.tell(found.token, "same", f"{found.word} {found.name}", "left out", why)
             return []
-        self.tell_of_time(table, found)
         if found.counts or any("counter" in it.extras for it in found.elements):
             changes.tell(found.token, "outcome", f"counters of {found.name}", "none", "they aren't shown")
         by_name = self.by_name(found)
