@@ -23,9 +23,10 @@ Told = namedtuple("Told", "chain number verdict text")
 class Sight:
     """What one ruleset makes of the records, read beside the capture."""
 
-    def __init__(self, replay):
+    def __init__(self, replay, origins=None):
         self.replay = replay
         self.ruleset = read_ruleset(replay.rules)
+        self.origins = origins  # the map of a fitted ruleset
         self.known = {}
 
     def told(self, event):
@@ -33,9 +34,16 @@ class Sight:
         if event not in self.known:
             told, one = None, event_of(event)
             if isinstance(one, Decision) and (one.rule is None or one.verdict in DECIDE):
-                told = Told(one.chain, one.rule, one.verdict, self.ruleset.text_of(one.chain, one.rule))
+                told = self.of_rule(one)
             self.known[event] = told
         return self.known[event]
+
+    def of_rule(self, one):
+        """A decision as the operator's text has it."""
+        origin = self.origins and self.origins.origin(one.chain, one.rule)
+        if origin:
+            return Told(origin.chain, origin.rule, one.verdict, origin.text)
+        return Told(one.chain, one.rule, one.verdict, self.ruleset.text_of(one.chain, one.rule))
 
     def decisions(self, wanted):
         """Of each wanted record in order its events, and how it ended."""

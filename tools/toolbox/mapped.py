@@ -1,0 +1,81 @@
+"""What a report tells of the operator's own rules, through the map of a fitted ruleset (rulemap)."""
+from collections import namedtuple
+
+from toolbox.commands import Refused, plural, printable, read_bytes
+from toolbox.rulemap import map_of
+
+# `rules` are the fitted ones that come from it
+OldRule = namedtuple("OldRule", "chain number file line text rules")
+
+
+def maps_of(paths, *rulesets):
+    """Of each ruleset (a path) its map among those given, or None; refused where one given is of none of them."""
+    texts = [read_bytes(it) for it in rulesets] if paths else []
+    for path in paths:
+        if all(map_of([path], text) is None for text in texts):
+            raise Refused(f"{path}: it is the map of another ruleset")
+    return [map_of(paths, text) for text in texts] or [None] * len(rulesets)
+
+
+class MappedRules:
+    """The operator's rules in the order of his text, with what became of them."""
+
+    def __init__(self, origins, ruleset, hits, reasons):
+        self.origins, self.hits, self.reasons = origins, hits, reasons
+        found = {}
+        for rule in ruleset.rules:
+            origin = origins.origin(*rule.place)
+            if origin is not None:
+                key = origin.file, origin.line, origin.chain, origin.rule
+                if key not in found:
+                    found[key] = OldRule(origin.chain, origin.rule, origin.file, origin.line, origin.text, [])
+                found[key].rules.append(rule)
+        files = list(dict.fromkeys(key[0] for key in found))
+        self.rules = [found[key] for key in sorted(found, key=lambda it: (files.index(it[0]), *it[1:]))]
+
+    def number(self, old):
+        """How often the rule was hit: of several that it became a packet meets one, but for their counters, which are
+        added as the rule had them."""
+        if all(self.hits.number(rule) is None for rule in old.rules):
+            return None
+        decided = sum(self.hits.decided.get(rule.place, 0) for rule in old.rules)
+        logged = sum(self.hits.logged.get(rule.place, 0) for rule in old.rules)
+        counted = {}
+        for rule in old.rules:
+            which = self.origins.origin(*rule.place).counters
+            for counter, packets in zip(which, self.hits.counted.get(rule.place, [])):
+                counted[counter] = counted.get(counter, 0) + packets
+        return max([decided, logged, *counted.values()])
+
+    def mark(self, old):
+        number = self.number(old)
+        if not number and self.is_never(old):
+            return "-"
+        return "?" if number is None else str(number)
+
+    def is_never(self, old):
+        return all(rule.place in self.reasons for rule in old.rules)
+
+    def is_unmet(self, old):
+        seen = [rule for rule in old.rules if self.hits.number(rule) is not None]
+        return bool(seen) and not self.is_never(old) and all(self.hits.is_unmet(rule) for rule in seen)
+
+    def print_rules(self):
+        """Each rule with its hits, below the chain that it stands in."""
+        chain = None
+        for old in self.rules:
+            if old.chain != chain:
+                chain = old.chain
+                print(printable(f"          {chain}"))
+            print(printable(f"{self.mark(old):>8}  {old.file}:{old.line}: {old.number}: {old.text}"))
+
+    def print_unmet(self):
+        unmet = [old for old in self.rules if self.is_unmet(old)]
+        print(f"\n{len(unmet)} of {plural(len(self.rules), 'rule')} met no packet")
+        for old in unmet:
+            print(printable(f"  {old.file}:{old.line}: {old.chain} {old.number}: {old.text}"))
+        never = [old for old in self.rules if not self.number(old) and self.is_never(old)]
+        if never:
+            print(f"\n{plural(len(never), 'rule')} that no packet of a run can meet")
+            for old in never:
+                print(printable(f"  {old.file}:{old.line}: {old.chain} {old.number}: {old.text}"))
