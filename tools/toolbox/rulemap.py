@@ -1,0 +1,140 @@
+"""Maps of rule numbers: from each rule of a fitted ruleset to the operator's own rule.
+
+`fit-ruleset --map FILE` writes such a map, and the commands that print rules of a report read it. It is a file of JSON
+lines. The first one tells what it is, and of which ruleset:
+
+  {"rule-map": 1, "sha256": "SHA-256 of the fitted text, in hexadecimal", "rules": "rules.nft"}
+
+Each further line is a fitted rule, `chain` and `rule` as reports name it, with the rule that it comes from:
+
+  {"chain": "ip filter fwd", "rule": 4, "was-chain": "ip filter fwd", "was": 3, "file": "rules.nft", "line": 12,
+   "text": "tcp dport telnet counter reject", "counters": [1]}
+
+`was` counts the rules of the operator's chain from 1, as they were loaded. Several fitted rules may come from one.
+`counters` has, for each counter of the fitted rule, which counter of the old rule it is; the packets of all fitted
+counters of one old counter are to be added.
+"""
+import hashlib
+import json
+from collections import namedtuple
+
+VERSION = 1
+Origin = namedtuple("Origin", "chain rule file line text counters")
+
+
+class MapFault(ValueError):
+    """A map that can't be used; the text is one line."""
+
+
+class RuleMap:
+    """What one map tells: `origins` by (chain, rule), and whether it is of a given ruleset."""
+
+    def __init__(self, digest, rules, origins):
+        self.digest = digest
+        self.rules = rules
+        self.origins = origins
+
+    def is_of(self, ruleset):
+        """Whether the map was written with this ruleset, given as bytes."""
+        return digest_of(ruleset) == self.digest
+
+    def origin(self, chain, rule):
+        """The old rule of a fitted one, or None where there is none."""
+        return self.origins.get((chain, rule))
+
+    def describe(self, chain, rule):
+        """`rules.nft:12 ip filter fwd 3  # text`, or None where the rule isn't mapped."""
+        origin = self.origin(chain, rule)
+        if origin is None:
+            return None
+        return f"{one_line(origin.file)}:{origin.line} {origin.chain} {origin.rule}  # {one_line(origin.text)}"
+
+    def sums(self, numbers):
+        """Numbers by (chain, rule) of fitted rules, added for each old rule: a dict by (chain, rule)."""
+        total = {}
+        for place, number in numbers.items():
+            origin = self.origins.get(place)
+            if origin is not None:
+                key = origin.chain, origin.rule
+                total[key] = total.get(key, 0) + number
+        return total
+
+    def counter_sums(self, counters):
+        """(packets, bytes) by (chain, rule, which counter of the rule), added for each old counter."""
+        total = {}
+        for (chain, rule, which), (packets, size) in counters.items():
+            origin = self.origins.get((chain, rule))
+            if origin is None or not 1 <= which <= len(origin.counters):
+                continue
+            key = origin.chain, origin.rule, origin.counters[which - 1]
+            before = total.get(key, (0, 0))
+            total[key] = before[0] + packets, before[1] + size
+        return total
+
+
+def digest_of(ruleset):
+    return hashlib.sha256(ruleset).hexdigest()
+
+
+def one_line(text):
+    """The text with what would break a line or move a terminal's cursor spelled out."""
+    return "".join(c if c.isprintable() or "\udc80" <= c <= "\udcff" else c.encode("unicode_escape").decode() for c in text)
+
+
+def write(path, ruleset, rules, rows):
+    """Writes the map of a fitted ruleset (bytes); `rows` are (chain, rule, Origin)."""
+    head = {"rule-map": VERSION, "sha256": digest_of(ruleset), "rules": rules}
+    with open(path, "w", encoding="ascii") as file:
+        print(json.dumps(head), file=file)
+        for chain, rule, origin in rows:
+            row = {"chain": chain, "rule": rule, "was-chain": origin.chain, "was": origin.rule, "file": origin.file,
+                   "line": origin.line, "text": origin.text, "counters": list(origin.counters)}
+            print(json.dumps(row), file=file)
+
+
+def read(path):
+    """The map in a file; MapFault where it is none."""
+    try:
+        with open(path, encoding="ascii") as file:
+            lines = file.read().splitlines()
+    except OSError as error:
+        raise MapFault(f"{path}: {error.strerror}") from None
+    except UnicodeDecodeError:
+        raise MapFault(f"{path}: it is no map of rules") from None
+    head = parsed(path, 1, lines[0] if lines else "")
+    if not isinstance(head, dict) or head.get("rule-map") != VERSION:
+        raise MapFault(f"{path}: it is no map of rules, or one of another version")
+    origins = {}
+    for number, line in enumerate(lines[1:], 2):
+        place, origin = row_of(path, number, line)
+        origins[place] = origin
+    return RuleMap(head.get("sha256"), str(head.get("rules")), origins)
+
+
+def parsed(path, number, line):
+    try:
+        return json.loads(line)
+    except (ValueError, RecursionError):
+        raise MapFault(f"{path}:{number}: it is no line of a map of rules") from None
+
+
+def row_of(path, number, line):
+    row = parsed(path, number, line)
+    try:
+        kinds = {"chain": str, "was-chain": str, "file": str, "text": str, "rule": int, "was": int, "line": int, "counters": list}
+        if not all(type(row[name]) is kind for name, kind in kinds.items()) or not all(type(it) is int for it in row["counters"]):
+            raise ValueError
+        origin = Origin(row["was-chain"], row["was"], row["file"], row["line"], row["text"], tuple(row["counters"]))
+        return (row["chain"], row["rule"]), origin
+    except (KeyError, TypeError, ValueError):
+        raise MapFault(f"{path}:{number}: it is no line of a map of rules") from None
+
+
+def map_of(paths, ruleset):
+    """Of the maps in several files the one of this ruleset (bytes), or None; MapFault where one can't be read."""
+    found = None
+    for path in paths:
+        one = read(path)
+        if one.is_of(ruleset):
+            found = one
+    return found
