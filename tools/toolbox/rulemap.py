@@ -78,7 +78,7 @@ def digest_of(ruleset):
 
 def one_line(text):
     """The text with what would break a line or move a terminal's cursor spelled out."""
-    return "".join(c if c.isprintable() or "\udc80" <= c <= "\udcff" else c.encode("unicode_escape").decode() for c in text)
+    return "".join(c if c.isprintable() else c.encode("unicode_escape").decode() for c in text)
 
 
 def write(path, ruleset, rules, rows):

@@ -1,0 +1,190 @@
+"""The whole ruleset: what of it is left out, what leads where, and the text that it becomes."""
+from .changes import Changes
+from .facts import CHAIN_HOOKS, MARKS, PRIORITIES
+from .marks import Marks
+from .order import Order
+from .rules import RuleFitter, marks_read
+from .scanner import slice_of, spelled
+from .sets import Sets
+from .statements import RuleReader
+from .tree import Chain, Named, NotFitted, Rule, Verdict, names_in
+
+ROW_LIMIT = 16384
+
+
+class Fitter:
+    """`rows` is the map: (chain, new number, old rule's chain, its number, Rule, counters of the old rule)."""
+
+    def __init__(self, commands, assumptions, network):
+        self.tables, self.changes = commands.tables, commands.changes
+        self.assumptions, self.network = assumptions, network
+        self.order = Order(self, commands.order)
+        self.sets = Sets(self)
+        self.rows = []
+
+    def run(self):
+        self.leave_out_tables()
+        for table in self.tables.values():
+            for chain in list(table.chains.values()):
+                for number, rule in enumerate(chain.rules, 1):
+                    self.read_rule(table, chain, number, rule)
+        self.find_hooks()
+        self.marks = Marks(self)
+        self.warn_of_marks()
+        self.added_to = {(table.family, table.name, it.parts[1]) for table, _, rule in self.rules()
+                         for it in rule.statements if it.kind == "dynamic"}
+        self.sets_zones = any(it.kind == "set" and getattr(it.parts[0], "name", "") == "ct zone"
+                              for _, _, rule in self.rules() for it in rule.statements)
+        self.order.settle()
+        return "\n".join(self.table_text(table) for table in self.tables.values())
+
+    def rules(self):
+        for table in self.tables.values():
+            for chain in table.chains.values():
+                for rule in chain.rules:
+                    yield table, chain, rule
+
+    def leave_out_tables(self):
+        for key, table in list(self.tables.items()):
+            what = f"table {table.family} {table.name}"
+            bases = [it for it in table.chains.values() if it.head]
+            if table.is_dormant:
+                self.changes.tell(table.token, "same", what, "left out", "it is dormant")
+            elif table.family in ("ip6", "arp"):
+                self.changes.tell(table.token, "same", what, "left out", "it meets no IPv4 packet")
+            elif table.family in ("bridge", "netdev") and not any(it.rules or it.policy == "drop" for it in bases):
+                self.changes.tell(table.token, "same", what, "left out", "it lets everything pass")
+            elif table.family in ("bridge", "netdev"):
+                self.guess(table.token, what, "left out", "layer2")
+            else:
+                continue
+            del self.tables[key]
+
+    def read_rule(self, table, chain, number, rule):
+        try:
+            rule.statements, rule.comment = RuleReader(rule.tokens).rule()
+        except (NotFitted, RecursionError) as fault:
+            rule.statements, rule.fault = [], str(fault) if isinstance(fault, NotFitted) else "expressions nested too deeply"
+        for index, it in enumerate(rule.statements):
+            if it.kind == "verdict" and isinstance(it.parts[0].target, list):
+                inner = self.named_chain(table, chain, number, rule, it.parts[0])
+                rule.statements[index] = it._replace(parts=(Verdict(it.parts[0].word, inner.name),))
+
+    def named_chain(self, table, chain, number, rule, verdict):
+        """A chain of its own for the rules in braces behind `jump` or `goto`."""
+        count = 1
+        while f"fitted_{count}" in table.chains:
+            count += 1
+        inner = Chain(f"fitted_{count}", rule.token)
+        inner.made_for = chain.made_for or (chain, number)
+        inner.rules = [Rule(tokens) for tokens in verdict.target]
+        table.chains[inner.name] = inner
+        self.changes.tell(rule.token, "same", f"{verdict.word} {{ .. }}", f"{verdict.word} {inner.name}", "a chain of its own")
+        for index, one in enumerate(inner.rules, 1):
+            self.read_rule(table, inner, index, one)
+        return inner
+
+    # what leads where
+
+    def targets(self, table, rule):
+        for it in rule.statements:
+            if it.kind == "verdict" and it.parts[0].target:
+                yield it.parts[0].target
+            elif it.kind == "vmap":
+                for element in self.sets.elements_of(table, it.parts[1]):
+                    if isinstance(element.data, Verdict) and isinstance(element.data.target, str):
+                        yield element.data.target
+
+    def find_hooks(self):
+        """From which hooks packets come to a chain."""
+        for table in self.tables.values():
+            for base in table.chains.values():
+                todo = [base.name] if base.head else []
+                while todo:
+                    chain = table.chains.get(todo.pop())
+                    if chain and base.head.hook not in chain.hooks:
+                        chain.hooks.add(base.head.hook)
+                        for rule in chain.rules:
+                            todo += self.targets(table, rule)
+
+    def warn_of_marks(self):
+        if any(self.marks.may_change(name) for name in MARKS):
+            return
+        for _, _, rule in self.rules():
+            if any(it.kind in ("match", "vmap") and marks_read(it.parts[0]) for it in rule.statements):
+                self.changes.warn(rule.token, "a mark is asked for that no rule writes: in nftrun each mark begins at 0")
+                return
+
+    def is_read(self, table, name):
+        """Whether some rule looks into the set."""
+        return any(it.kind not in ("dynamic",) and name in names_in(it.parts)
+                   for other, _, rule in self.rules() if other is table for it in rule.statements)
+
+    def guess(self, token, what, to, name):
+        """A guess about what isn't a rule; NotFitted never: where it is refused, that is told."""
+        way = self.assumptions.way(name, self.changes_place(token), what)
+        if way == "refuse":
+            self.changes.refuse(token, what, f"as asked: {name}=refuse")
+        else:
+            self.changes.tell(token, "guess", what, to, self.assumptions.why(name, way))
+        return way
+
+    @staticmethod
+    def changes_place(token):
+        return f"{token.source.name}:{token.line}"
+
+    # the text
+
+    def table_text(self, table):
+        for name, (what, token, _) in table.objects.items():
+            why = "rules count for themselves" if what == "counter" else "what it does is told where rules name it"
+            self.changes.tell(token, "same", f"{what} {name}", "left out", why)
+        chains = [line for chain in table.chains.values() for line in self.chain_lines(table, chain)]
+        sets = [line for found in table.sets.values() for line in self.sets.lines(table, found)]
+        notes = [f"\tcomment {note}" for note in table.notes]
+        body = notes + sets + chains
+        while body and not body[-1]:
+            body.pop()
+        return "\n".join([f"table {table.family} {table.name} {{", *body, "}", ""])
+
+    def chain_lines(self, table, chain):
+        lines = [f"comment {note}" for note in chain.notes]
+        if chain.head:
+            try:
+                lines += self.head_lines(chain)
+            except NotFitted as fault:
+                self.changes.refuse(chain.token, f"chain {chain.name}", str(fault))
+        place = f"{table.family} {table.name} {chain.name}"
+        number = 0
+        for old, rule in enumerate(chain.rules, 1):
+            made_for = chain.made_for or (chain, old)
+            for text, counters in RuleFitter(self, table, chain, rule).fitted():
+                number += 1
+                self.rows.append((place, number, f"{table.family} {table.name} {made_for[0].name}", made_for[1], rule, counters))
+                lines.append(text)
+        return [f"\tchain {chain.name} {{", *("\t\t" + it for it in lines), "\t}", ""]
+
+    def head_lines(self, chain):
+        head = chain.head
+        what = f"chain {chain.name}, type {head.type} hook {head.hook}"
+        is_idle = not chain.rules and chain.policy != "drop"
+        if head.hook not in CHAIN_HOOKS:
+            if is_idle:
+                self.changes.tell(chain.token, "same", what, "no hook", "it lets everything pass")
+            else:
+                self.guess(chain.token, what, "no hook", "layer2")
+            return []
+        if head.type == "nat" and head.hook == "input":
+            if is_idle:
+                self.changes.tell(chain.token, "same", what, "no hook", "it has no rules")
+            else:
+                self.changes.tell(chain.token, "outcome", what, "no hook",
+                                  "packets to the box keep their source, and its counters stay; what is forwarded doesn't meet it")
+            return []
+        kind = head.type
+        if kind == "route":
+            self.changes.tell(chain.token, "same", what, f"type filter hook {head.hook}", "nftrun runs no chain of output")
+            kind = "filter"
+        if kind not in ("filter", "nat"):
+            raise NotFitted(f"a chain of type {kind}")
+        return [f"type {kind} hook {head.hook} priority {self.order.priority_text(chain)}; policy {chain.policy or 'accept'};"]

@@ -1,0 +1,451 @@
+"""Matches of one selector: of those that nftrun reads, and of those of which something is known or assumed."""
+from ipaddress import IPv4Address
+
+from .assumptions import ASSUMPTIONS
+from .facts import BITS, KNOWN, MARKS, NEVER_IN_IPV4, SHORT, TCP_FLAGS, TYPES, WORDS, assumption_of, first_word
+from .network import Network, spelled_networks
+from .numbers import bits_named, constant, constant_number, holds, name_of, number_of, number_part, spell_part
+from .sets import parts_are_plain
+from .tree import (Anything, Calculation, Drawn, Elements, Joined, Listed, Masked, Named, NotFitted, One, Piece, Prefix,
+                   Range, Selector, Value)
+
+OWNERS = ("meta skuid", "meta skgid", "meta cgroup")
+WITHOUT_OWNER = {"prerouting", "forward", "postrouting", "output"}
+YES_NO = (One(Value("word", "missing")), One(Value("word", "exists")))
+
+
+class Matches:
+    def fit_match(self, left, operator, right):
+        if isinstance(left, Joined):
+            self.match_joined(left, operator, right)
+        elif isinstance(left, Drawn):
+            self.match_drawn(left, operator, right)
+        elif isinstance(left, Calculation):
+            self.match_masked(left, operator, right)
+        elif self.is_in_ipv4(left):
+            if left.name in TYPES:
+                self.match_plain(left.name, operator, right)
+            else:
+                self.match_known(left.name, operator, right)
+
+    def is_in_ipv4(self, selector):
+        if first_word(selector.name) not in NEVER_IN_IPV4:
+            return True
+        self.tell("same", self.never(), "no IPv4 packet has that header")
+        self.die()
+        return False
+
+    # what nftrun doesn't read
+
+    def match_known(self, name, operator, right):
+        if name.startswith("fib "):
+            self.match_fib(name, operator, right)
+            return
+        if name in OWNERS and self.chain.hooks and self.chain.hooks <= WITHOUT_OWNER:
+            self.tell("same", self.never(), "a packet that is forwarded is of no process")
+            self.die()
+            return
+        if name == "ct zone" and self.fitter.sets_zones:
+            raise NotFitted("zones of connections, which rules set")
+        fact = KNOWN.get(name)
+        self.keep_header(name)
+        if fact is None:
+            self.guess_match(assumption_of(name), self.usual_answer(assumption_of(name), operator))
+            return
+        answer = holds(fact.value, operator, right, "32", fact.words)
+        if answer is None:
+            raise NotFitted("a value that isn't known")
+        if fact.assumption:
+            self.guess_match(fact.assumption, answer, fact.why)
+        else:
+            self.tell("same", (fact.needs or "left out, as it always holds") if answer else self.never(), fact.why)
+            if fact.needs:
+                self.put(fact.needs)
+            if not answer:
+                self.die()
+
+    def keep_header(self, name):
+        """The protocol that the match asks for first, or the connection that it reads."""
+        if name not in KNOWN or not KNOWN[name].needs:
+            self.keep_tests(Selector(name))
+
+    @staticmethod
+    def usual_answer(assumption, operator):
+        """`miss`: the value isn't the one that is named; `hit`: it is."""
+        return (ASSUMPTIONS[assumption].ways[0] == "hit") != (operator in ("!=", "!"))
+
+    def guess_match(self, assumption, usual, fact=None):
+        """A match that nobody can decide: `usual` is its answer by the usual way."""
+        way = self.way(assumption)
+        is_usual = way == ASSUMPTIONS[assumption].ways[0]
+        answer = usual if is_usual else not usual
+        why = f"assumed: {fact}; --assume {assumption}={ASSUMPTIONS[assumption].ways[1]} takes the other" if fact and is_usual else None
+        self.guess(assumption, way, "always" if answer else self.never(), why=why)
+        if not answer:
+            self.put(self.never())                       # what follows is told all the same
+
+    def match_drawn(self, drawn, operator, right):
+        way = self.way("random")
+        answer = holds(self.drawn(drawn, way), operator, right, "32", {})
+        if answer is None:
+            raise NotFitted("a value that isn't known")
+        self.keep_tests(drawn.over)
+        self.guess("random", way, "always" if answer else self.never())
+        if not answer:
+            self.put(self.never())
+
+    @staticmethod
+    def drawn(drawn, way):
+        return drawn.offset + (0 if way == "first" else drawn.modulus - 1)
+
+    # routing
+
+    def match_fib(self, name, operator, right):
+        keys, result = name[4:].rsplit(" ", 1)
+        parts = keys.split(" . ")
+        network = self.fitter.network
+        fields = [it for it in parts if it in ("saddr", "daddr")]
+        if result == "type" and len(fields) == 1 and set(parts) <= {*fields, "iif"} and (network or self.type_words(right) == ["multicast"]):
+            self.match_fib_type(fields[0], "iif" in parts, operator, right)
+        elif result in ("oif", "oifname") and network and set(parts) == {"saddr", "iif"} and right in YES_NO:
+            self.match_reverse_path((right.value.text == "exists") != (operator == "!="))
+        else:
+            self.guess_match("fib", self.usual_answer("fib", operator) if right not in YES_NO else self.guess_of_route(operator, right))
+
+    @staticmethod
+    def guess_of_route(operator, right):
+        """Usually a route to the sender exists."""
+        return (right.value.text == "exists") != (operator == "!=")
+
+    @staticmethod
+    def type_words(right):
+        items = [it.key[0] for it in right.list] if isinstance(right, Elements) else right.items if isinstance(right, Listed) else [right]
+        return [it.value.text if isinstance(it, One) else "" for it in items]
+
+    def match_fib_type(self, field, by_interface, operator, right):
+        """`fib daddr type local`, by the addresses of the box file."""
+        network = self.fitter.network or Network()
+        words = self.type_words(right)
+        if not by_interface:
+            text = self.type_text(field, words, operator, None)
+            self.tell("same", text, "the addresses of the box file")
+            self.put(text)
+            return
+        ways = [[self.piece(f'iifname "{name}"'), self.piece(self.type_text(field, words, operator, name))] for name in network.names()]
+        self.tell("same", f"{len(ways)} rules, one for each interface", "the addresses of the box file")
+        self.split(ways)
+
+    def type_text(self, field, words, operator, name):
+        network = self.fitter.network or Network()
+        is_not = operator in ("!=", "!")
+        if "unicast" in words:                           # all that is of no other type
+            words = [it for it in ("local", "broadcast", "multicast") if it not in words]
+            is_not = not is_not
+        networks = [net for word in words for net in network.of_type(word, name)]
+        if not networks:
+            return self.always() if is_not else self.never()
+        return f"ip {field} {'!= ' if is_not else ''}{{ {spelled_networks(networks)} }}"
+
+    def match_reverse_path(self, wants):
+        """`fib saddr . iif oif exists`: the best route to the sender leads to where the packet came from."""
+        ways = []
+        for name in self.fitter.network.names():
+            reached = ", ".join(self.fitter.network.reached_by(name))
+            if reached:
+                ways.append([self.piece(f'iifname "{name}"'), self.piece(f"ip saddr {'' if wants else '!= '}{{ {reached} }}")])
+            elif not wants:
+                ways.append([self.piece(f'iifname "{name}"')])
+        self.tell("same", f"{len(ways)} rules, one for each interface" if ways else self.never(), "by the best route of each address, as the box file has them")
+        self.split(ways)
+
+    def piece(self, text, kind="match", reads=()):
+        return Piece(text, kind, tuple(reads))
+
+    # what nftrun reads
+
+    def match_plain(self, name, operator, right):
+        kind, reading = TYPES[name], ""
+        if kind in ("tcp_flag", "ct_status") and isinstance(right, Elements) and len(right.list) == 1:
+            right = right.list[0].key[0]
+            operator = "!=" if operator == "!=" else ""
+            reading = "nft(8) reads a list of one as the bit alone, nftrun would compare the whole value"
+        if isinstance(right, Named):
+            self.match_set(name, operator, right)
+        elif isinstance(right, Elements):
+            self.match_elements(Selector(name), operator, right.list)
+        elif kind in BITS:
+            self.match_bits(name, kind, operator, right, reading)
+        else:
+            self.match_value(name, operator, right)
+
+    def match_value(self, name, operator, right):
+        if isinstance(right, Calculation):
+            right = constant(right, WORDS.get(TYPES[name], {}))
+        if isinstance(right, Masked) and name in MARKS:
+            self.match_mark(name, constant_number(right.mask, {}), operator, right.value)
+            return
+        if not isinstance(right, (One, Range, Prefix, Anything)):
+            raise NotFitted("a value that isn't known")
+        name, kind = self.by_name(name, [right])
+        operator = "!=" if operator == "!" else operator
+        sign = "" if operator in ("", "==") else operator + " "
+        self.put_spelled(f"{shown(name)} {sign}{spell_part(right, kind)}", [name], plain=self.stays(name))
+
+    def match_elements(self, selector, operator, elements):
+        name = selector.name
+        if operator not in ("", "==", "!=", "!"):
+            raise NotFitted(f"`{operator}` with a list")
+        parts = [it.key[0] for it in elements]
+        if any(len(it.key) != 1 for it in elements):
+            raise NotFitted("keys of another number of parts")
+        name, kind = self.by_name(name, parts)
+        listed = ", ".join(spell_part(it, kind) for it in parts)
+        if not listed:
+            self.die()
+            return
+        if kind == "ct_status":
+            self.warn_of_status()
+        plain = parts_are_plain(parts, [kind] * len(parts)) and self.stays(name)
+        self.put_spelled(f"{shown(name)} {'!= ' if operator in ('!=', '!') else ''}{{ {listed} }}", [name], plain=plain)
+
+    def match_set(self, name, operator, named):
+        found = self.table.sets.get(named.name)
+        if found is None:
+            raise NotFitted(f"there is no set {named.name}")
+        if not self.fitter.sets.is_plain(found):
+            raise NotFitted(f"the set {named.name} has no place in nftrun's language")
+        if self.is_hit(named.name, operator):
+            return
+        new = "meta " + name.split()[1] + "name" if TYPES[name] == "iface_index" and self.fitter.sets.by_name(found) else name
+        self.put_spelled(f"{shown(new)} {'!= ' if operator == '!=' else ''}@{named.name}", [name], plain=new == name)
+
+    def is_hit(self, name, operator):
+        """A set to which packets add: what it has beside what is listed is guessed. Whether that decided it."""
+        if (self.table.family, self.table.name, name) not in self.fitter.added_to:
+            return False
+        way = self.way("dynamic")
+        if way == "listed":
+            self.guess("dynamic", way, "by what is listed")
+            return False
+        answer = operator not in ("!=", "!")
+        self.keep_tests(self.statement.parts[0])
+        self.guess("dynamic", way, "always" if answer else self.never())
+        if not answer:
+            self.put(self.never())
+        return True
+
+    # interfaces by index
+
+    def by_name(self, name, parts):
+        """`iif NAME` asks for an interface of the box; where it isn't known to be one, `iifname` asks for none."""
+        kind = TYPES[name]
+        if kind != "iface_index" or all(self.fitter.sets.is_index(name_of(it)) for it in parts):
+            return name, kind
+        return name + "name", "ifname"
+
+    def stays(self, name):
+        """Whether a match of an index stays one."""
+        return getattr(self.statement.parts[0], "name", name) == name
+
+    # bits
+
+    def match_bits(self, name, kind, operator, right, reading):
+        if kind == "tcp_flag":
+            self.put_spelled(self.flags_text(operator, right), reading=reading)
+            return
+        words = self.bit_words(right)
+        if kind == "ct_status" and any(it not in WORDS[kind] for it in words):
+            self.match_unknown_status(operator, words)
+            return
+        if any(it not in WORDS[kind] for it in words):
+            raise NotFitted("a state that isn't known")
+        if operator == "!":
+            text = " ".join(f"{name} != {word}" for word in words)
+            self.tell("same", text, "none of them")
+            self.put(text)
+        elif operator == "!=" and (kind == "ct_status" or len(words) > 1):
+            self.match_unequal(name, words)
+        elif operator in ("", "==", "!="):
+            if kind == "ct_status" and operator == "==":
+                self.warn_of_status()
+            sign = operator + " " if operator else ""
+            self.put_spelled(f"{name} {sign}{','.join(words)}", reading=reading)
+        else:
+            raise NotFitted(f"`{name} {operator}`")
+
+    def match_unequal(self, name, words):
+        """nft(8) compares with all the bits at once, which no packet's value equals: `!=` always holds."""
+        to = self.always() if name == "ct state" else "ct direction { original, reply }"
+        why = f"nft(8) compares with {' and '.join(words)} as one value, which none equals, so it always holds; nftrun would read `none of them`"
+        self.tell("same", to, why, reads=True)
+        self.put(to)
+
+    def match_unknown_status(self, operator, words):
+        known = [it for it in words if it in WORDS["ct_status"]]
+        if operator == "" and known:
+            way = self.way("ct")
+            to = f"ct status {','.join(known)}" if way == "miss" else "always"
+            self.guess("ct", way, to)
+            self.put(to if way == "miss" else "ct direction { original, reply }")
+            return
+        self.put("ct direction { original, reply }")
+        self.guess_match("ct", self.usual_answer("ct", operator))
+
+    def warn_of_status(self):
+        self.told.warn(self.rule.token, "Linux has more bits of ct status than nftrun, and compares all of them here")
+
+    @staticmethod
+    def bit_words(right):
+        """The words of `a,b` or `a | b`."""
+        if isinstance(right, Listed):
+            return [word for it in right.items for word in Matches.bit_words(it)]
+        if isinstance(right, Calculation) and right.operator == "|":
+            return Matches.bit_words(right.left) + Matches.bit_words(right.right)
+        if isinstance(right, One) and right.value.kind == "word":
+            return [right.value.text]
+        raise NotFitted("a bit that isn't known")
+
+    @staticmethod
+    def flags_text(operator, right):
+        if isinstance(right, Masked):
+            if operator not in ("", "==", "!="):
+                raise NotFitted(f"`tcp flags {operator}` with a mask")
+            return f"tcp flags {'!= ' if operator == '!=' else ''}{flag_words(right.value, ',')} / {flag_words(right.mask, ',')}"
+        if operator == "!":
+            return f"tcp flags & ({flag_words(right, ' | ')}) == 0"
+        if operator == "!=":
+            return f"tcp flags & 0xff != {flag_words(right, ' | ')}"
+        if operator not in ("", "=="):
+            raise NotFitted(f"`tcp flags {operator}`")
+        return f"tcp flags {'== ' if operator else ''}{flag_words(right, ',')}"
+
+    # masks
+
+    def match_masked(self, left, operator, right):
+        """`SELECTOR & MASK OPERATOR VALUE`."""
+        if left.operator != "&" or not isinstance(left.left, Selector):
+            raise NotFitted("arithmetic in a match")
+        name = left.left.name
+        if not self.is_in_ipv4(left.left):
+            return
+        if isinstance(right, Elements) and len(right.list) == 1:
+            right = right.list[0].key[0]
+        if name == "tcp flags":
+            self.match_masked_flags(left.right, operator, right)
+        elif name in MARKS:
+            self.match_mark(name, constant_number(left.right, {}), operator, right)
+        elif name in ("ip saddr", "ip daddr"):
+            self.match_masked_address(name, left.right, operator, right)
+        elif name in ("ct state", "ct status"):
+            self.match_masked_state(name, left.right, operator, right)
+        else:
+            self.match_masked_other(name, constant_number(left.right, {}), operator, right)
+
+    def match_masked_flags(self, mask, operator, right):
+        mask = constant_number(mask)
+        if operator not in ("", "==", "!="):
+            if operator != ">" or holds(0, "==", right, "8", TCP_FLAGS) is not True:
+                raise NotFitted(f"`{operator}` with flags")
+            operator, right = "!=", number_part(0)
+        if not isinstance(right, Elements):
+            sign = "!=" if operator == "!=" else "=="
+            self.put_spelled(f"tcp flags & ({flag_names(mask)}) {sign} {flag_words(right, ' | ')}")
+            return
+        values = [constant_number(it.key[0]) for it in right.list]
+        texts = [f"tcp flags & ({flag_names(mask)}) {'!=' if operator == '!=' else '=='} {flag_names(it)}" for it in dict.fromkeys(values)]
+        if operator == "!=":
+            self.tell("same", " ".join(texts), "one after the other")
+            for text in texts:
+                self.put(text)
+        else:
+            self.tell("same", "a rule for each value", "a mask before a list")
+            self.split([[self.piece(it)] for it in texts])
+
+    def match_mark(self, name, mask, operator, right):
+        """The marks that rules write are known, so those for which the match holds can be listed."""
+        values = self.fitter.marks.values[name]
+        if values is None:
+            raise NotFitted("a mask of marks that are too many, or not known")
+        answers = {it: holds(it & mask, operator, right, "mark", {}) for it in values}
+        if None in answers.values():
+            raise NotFitted("a value that isn't known")
+        found = [it for it in sorted(values) if answers[it]]
+        why = f"of the marks that rules write ({', '.join(map(hex, sorted(values)))}) these; each mark begins at 0"
+        if not found:
+            self.tell("same", self.never(), why)
+            self.die()
+            return
+        text = f"{name} {{ {', '.join(map(hex, found))} }}"
+        self.tell("same", text, why)
+        self.put(text, "match", [name])
+
+    def match_masked_address(self, name, mask, operator, right):
+        number = number_of(mask.value, "ipv4_addr") if isinstance(mask, One) else None
+        length = bin(number or 0).count("1")
+        if number != (0xFFFFFFFF << 32 - length) & 0xFFFFFFFF or not isinstance(right, One) or operator not in ("", "==", "!="):
+            raise NotFitted("a mask of addresses that isn't a prefix")
+        base = number_of(right.value, "ipv4_addr")
+        if base is None:
+            raise NotFitted("a value that isn't known")
+        is_not = operator == "!="
+        if base & ~number & 0xFFFFFFFF:
+            self.tell("same", "always" if is_not else self.never(), "the value has bits outside of the mask")
+            if not is_not:
+                self.die()
+            return
+        text = f"{name} {'!= ' if is_not else ''}{IPv4Address(base)}/{length}"
+        self.tell("same", text, "a prefix")
+        self.put(text)
+
+    def match_masked_state(self, name, mask, operator, right):
+        """`ct state & (established | related) != 0`."""
+        words = self.bit_words(mask)
+        if any(it not in WORDS[TYPES[name]] for it in words) or holds(0, "", right, "32", {}) is not True or operator not in ("", "==", "!="):
+            raise NotFitted(f"a mask of {name}")
+        text = f"{name} {','.join(words)}" if operator == "!=" else " ".join(f"{name} != {word}" for word in words)
+        self.tell("same", text, "one of them" if operator == "!=" else "none of them")
+        self.put(text)
+
+    def match_masked_other(self, name, mask, operator, right):
+        if name in TYPES:
+            raise NotFitted(f"a mask of {name}")
+        if name == "ip frag-off" and not mask & 0x4000:
+            answer = holds(0, operator, right, "16", {})
+            if answer is None:
+                raise NotFitted("a value that isn't known")
+            self.tell("same", "left out, as it always holds" if answer else self.never(), "nftrun takes no fragments")
+            if not answer:
+                self.die()
+            return
+        self.keep_header(name)
+        fact = KNOWN.get(name)
+        answer = holds(fact.value & mask, operator, right, "32", fact.words) if fact else None
+        if answer is not None:
+            self.guess_match(fact.assumption or "header", answer, fact.why)
+        else:
+            self.guess_match(assumption_of(name), self.usual_answer(assumption_of(name), operator))
+
+
+def shown(name):
+    """A selector as nft(8) lists it."""
+    short = name.removeprefix("meta ")
+    return short if short in SHORT else name
+
+
+def flag_words(it, between):
+    """Flags of TCP, joined; calculated ones as a number."""
+    if isinstance(it, Listed):
+        return between.join(flag_words(one, between) for one in it.items)
+    if isinstance(it, Calculation) and it.operator == "|":
+        return flag_words(it.left, between) + between + flag_words(it.right, between)
+    if isinstance(it, Calculation):
+        return hex(constant_number(it))
+    if isinstance(it, One) and (it.value.kind == "number" or it.value.text in TCP_FLAGS):
+        return it.value.text
+    raise NotFitted("flags that aren't known")
+
+
+def flag_names(number):
+    return " | ".join(bits_named(number, TCP_FLAGS))
+
+

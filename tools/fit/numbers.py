@@ -1,0 +1,186 @@
+"""Values as numbers, and as nftrun spells them."""
+import socket
+from ipaddress import IPv4Address
+
+from .expressions import as_number
+from .facts import MORE_PROTOCOLS, MORE_SERVICES, PROTOCOLS, SERVICES, TCP_FLAGS, WIDTHS, WORDS
+from .tree import Anything, Calculation, Element, Elements, Listed, NotFitted, One, Prefix, Range, Value
+
+NAMED = ("ifname", "iface_index")
+
+
+def width_of(kind):
+    return int(kind) if kind.isdigit() else WIDTHS.get(kind, 32)
+
+
+def number_of(value, kind, words=None):
+    """The number of a value, or None where it has none that is known."""
+    if value.kind == "number":
+        return as_number(value.text)
+    if value.kind == "address":
+        return int(address_of(value.text))
+    if value.kind != "word":
+        return None
+    if words is not None or kind in WORDS and value.text in WORDS[kind]:
+        return (WORDS[kind] if words is None else words).get(value.text)
+    if kind == "inet_service":
+        return service(value.text)
+    if kind == "inet_proto":
+        return protocol(value.text)
+    return None
+
+
+def address_of(text):
+    try:
+        return IPv4Address(text)
+    except ValueError:
+        raise NotFitted(f"`{text}` is no address") from None
+
+
+def range_of(part, kind, words=None):
+    """The least and the greatest number that a part stands for, or None."""
+    width = width_of(kind)
+    if isinstance(part, Anything):
+        return 0, 2 ** width - 1
+    if isinstance(part, One):
+        number = number_of(part.value, kind, words)
+        return None if number is None else (number, number)
+    if isinstance(part, Range):
+        low, high = number_of(part.low, kind, words), number_of(part.high, kind, words)
+        return None if low is None or high is None else (low, high)
+    base = number_of(part.value, kind, words)
+    if base is None or part.length > width:
+        return None
+    host = (1 << width - part.length) - 1
+    return base & ~host, base | host
+
+
+def service(word):
+    known = SERVICES.get(word) or MORE_SERVICES.get(word)
+    try:
+        return known or socket.getservbyname(word)
+    except OSError:
+        raise NotFitted(f"`{word}` is no service that is known here") from None
+
+
+def protocol(word):
+    known = PROTOCOLS.get(word) or MORE_PROTOCOLS.get(word)
+    try:
+        return known or socket.getprotobyname(word)
+    except OSError:
+        raise NotFitted(f"`{word}` is no protocol that is known here") from None
+
+
+def spell_number(number, kind):
+    if kind == "ipv4_addr":
+        return str(IPv4Address(number))
+    return hex(number) if kind == "mark" else str(number)
+
+
+def spell_value(value, kind):
+    if kind in NAMED:
+        if value.kind == "number" and kind == "iface_index":
+            return value.text
+        return spell_name(value.text)
+    if value.kind == "number" and kind == "ipv4_addr":
+        return str(IPv4Address(as_number(value.text) & 0xFFFFFFFF))
+    if value.kind == "number":
+        as_number(value.text)
+        return value.text
+    if value.kind == "address" and kind == "ipv4_addr":
+        return str(address_of(value.text))
+    if value.kind == "word" and value.text in WORDS.get(kind, {}):
+        return value.text
+    if value.kind == "word" and kind == "inet_service":
+        return str(service(value.text))
+    if value.kind == "word" and kind == "inet_proto":
+        return "ipv6-icmp" if value.text == "icmpv6" else str(protocol(value.text))
+    raise NotFitted(f"`{value.text}` isn't a value of {kind}")
+
+
+def spell_name(text):
+    """The name of an interface, quoted; `eth*` and `"eth"*` mean what `"eth*"` means."""
+    name = text.replace('"', "")
+    if not 0 < len(name.removesuffix("*")) <= 15 or "\\" in name or "\n" in name:
+        raise NotFitted(f"`{name}` is no name of an interface")
+    return f'"{name}"'
+
+
+def spell_part(part, kind):
+    if isinstance(part, One):
+        return spell_value(part.value, kind)
+    if isinstance(part, Range):
+        return f"{spell_value(part.low, kind)}-{spell_value(part.high, kind)}"
+    if isinstance(part, Prefix) and kind == "ipv4_addr" and part.length <= 32:
+        return f"{spell_value(part.value, kind)}/{part.length}"
+    if kind in NAMED:
+        raise NotFitted("a range of interfaces")
+    found = range_of(part, kind)
+    if found is None:
+        raise NotFitted(f"a value that isn't of {kind}")
+    return f"{spell_number(found[0], kind)}-{spell_number(found[1], kind)}"
+
+
+def name_of(part):
+    """The name of an interface without quotes, or None where the part is none."""
+    return part.value.text.replace('"', "") if isinstance(part, One) else None
+
+
+def holds(number, operator, right, kind, words=None):
+    """Whether `number OPERATOR right` holds; None where `right` isn't known. Words None: those of the type."""
+    if isinstance(right, Elements):
+        found = [range_of(it.key[0], kind, words) for it in right.list]
+        if None in found:
+            return None
+        return any(low <= number <= high for low, high in found) == (operator not in ("!=", "!"))
+    if isinstance(right, Calculation):
+        right = constant(right)
+    if isinstance(right, Listed):
+        return holds(number, operator, Elements([Element((it,), None, ()) for it in right.items]), kind, words)
+    if not isinstance(right, (One, Range, Prefix, Anything)):
+        return None
+    found = range_of(right, kind, words)
+    if found is None:
+        return None
+    low, high = found
+    orders = {"<": number < low, ">": number > high, "<=": number <= low, ">=": number >= low}
+    if operator in orders:
+        return orders[operator] if low == high else None
+    return (low <= number <= high) == (operator not in ("!=", "!"))
+
+
+def calculated(operator, left, right):
+    results = {"&": left & right, "|": left | right, "^": left ^ right, "<<": left << min(right, 64), ">>": left >> min(right, 64)}
+    return results[operator] & 0xFFFFFFFF
+
+
+def constant(it, words=TCP_FLAGS):
+    """The number that constants joined by | ^ & make, as a part; flags of TCP by name or number."""
+    if isinstance(it, Calculation):
+        return number_part(calculated(it.operator, constant_number(it.left, words), constant_number(it.right, words)))
+    if isinstance(it, Listed):
+        bits = 0
+        for item in it.items:
+            bits |= constant_number(item, words)
+        return number_part(bits)
+    if isinstance(it, One) and it.value.kind == "number":
+        return it
+    if isinstance(it, One) and it.value.kind == "word" and it.value.text in words:
+        return number_part(words[it.value.text])
+    raise NotFitted("a constant that isn't known")
+
+
+def constant_number(it, words=TCP_FLAGS):
+    return as_number(constant(it, words).value.text)
+
+
+def number_part(number):
+    return One(Value("number", hex(number)))
+
+
+def bits_named(number, words):
+    """`fin | syn` for a number made of named bits, else the number."""
+    names = [name for name, bit in words.items() if number & bit == bit]
+    if not names or sum(words[name] for name in names) != number:
+        return [hex(number)]
+    return names
