@@ -10,15 +10,16 @@ from toolbox import commands, rulemap
 from toolbox.program import find_program
 
 from .assumptions import ASSUMPTIONS, Assumptions, listed
+from .both import try_both
 from .changes import GRADES, Changes
 from .commands import Commands
 from .fitter import Fitter
 from .network import Network
 from .profile import takes
-from .scanner import Refused, spelled
+from .scanner import Refused, shown
 
 NAME = "fit-ruleset"
-DONE, WORSE, REFUSED = 0, 1, 2
+DONE, WORSE = 0, 1
 # `text` is what is written, `rows` the map, `stays` whether RULES is taken as it is
 Fitted = namedtuple("Fitted", "text rows changes assumptions stays")
 
@@ -36,7 +37,7 @@ def fit(path, network, chosen=(), only=None):
             changes.warnings.append((it.place, f"{it.what}: {it.why}; write `{it.to}`"))
         changes.list.clear()
         return Fitted(source.text, plain_rows(fitter), changes, assumptions, True)
-    head = f"# by fit-ruleset from {rulemap.one_line(os.path.basename(path))}: {changes.worst()}\n"
+    head = f"# by fit-ruleset from {commands.printable(os.path.basename(path))}: {changes.worst()}\n"
     return Fitted(head + body, rows_of(fitter), changes, assumptions, False)
 
 
@@ -44,7 +45,7 @@ def rows_of(fitter):
     """The map's rows, for rulemap.write."""
     rows = []
     for chain, number, old_chain, old, rule, counters in fitter.rows:
-        origin = rulemap.Origin(old_chain, old, rule.token.source.name, rule.token.line, spelled(rule.tokens), counters)
+        origin = rulemap.Origin(old_chain, old, rule.token.source.name, rule.token.line, shown(rule.tokens), counters)
         rows.append((chain, number, origin))
     return rows
 
@@ -56,13 +57,13 @@ def plain_rows(fitter):
         place = f"{table.family} {table.name} {chain.name}"
         number = chain.rules.index(rule) + 1
         counters = tuple(range(1, sum(it.kind == "counter" for it in rule.statements) + 1))
-        rows.append((place, number, rulemap.Origin(place, number, rule.token.source.name, rule.token.line, spelled(rule.tokens), counters)))
+        rows.append((place, number, rulemap.Origin(place, number, rule.token.source.name, rule.token.line, shown(rule.tokens), counters)))
     return rows
 
 
 def tell(changes):
     for line in changes.lines():
-        print(rulemap.one_line(line), file=sys.stderr)
+        print(commands.printable(line), file=sys.stderr)
 
 
 def chosen_of(words):
@@ -91,47 +92,55 @@ def parsed_arguments():
 
 
 def main():
-    for stream in (sys.stdout, sys.stderr):
-        stream.reconfigure(encoding="utf-8", errors="surrogateescape", newline="\n")
+    commands.run_command(NAME, command)
+
+
+def command():
     try:
-        status = run(parsed_arguments())
-        sys.stdout.flush()
+        return run(parsed_arguments())
     except Refused as refusal:
-        print(f"{NAME}: {rulemap.one_line(str(refusal))}", file=sys.stderr)
-        status = REFUSED
-    except OSError as error:
-        print(f"{NAME}: {error.strerror}", file=sys.stderr)
-        sys.stdout = None
-        status = REFUSED
-    except KeyboardInterrupt:
-        status = 130
-    sys.exit(status)
+        raise commands.Refused(str(refusal)) from None
 
 
 def run(names):
     network = Network(names.box) if names.box else None
     chosen = chosen_of(names.assume)
     if names.both:
-        from .both import try_both
-        return try_both(names, network, chosen)
+        return run_both(names, network, chosen)
     fitted = fit(names.rules, network, chosen)
     tell(fitted.changes)
     worst = fitted.changes.worst()
     count = len(fitted.changes.list)
-    shown = "nothing changed" if fitted.stays else f"{count} changes, the worst: {worst}"
+    summary = "nothing changed" if fitted.stays else f"{count} changes, the worst: {worst}"
     if worst == "refused":
-        print(f"{NAME}: refused: {sum(it.grade == 'refused' for it in fitted.changes.list)} of {count} changes can't be said", file=sys.stderr)
-        return REFUSED
+        number = sum(it.grade == "refused" for it in fitted.changes.list)
+        raise Refused(f"{names.rules}: {number} of {count} changes can't be made")
     if GRADES.index(worst) > GRADES.index(names.at_most):
-        print(f"{NAME}: {shown}, which is worse than {names.at_most}: nothing is written", file=sys.stderr)
+        print(f"{NAME}: {summary}, which is worse than {names.at_most}: nothing is written", file=sys.stderr)
         return WORSE
     data = fitted.text.encode("utf-8", "surrogateescape")
     check(data, names)
     if names.map:
         rulemap.write(names.map, data, names.rules, fitted.rows)
-    print(f"{NAME}: {shown}", file=sys.stderr)
+    print(f"{NAME}: {summary}", file=sys.stderr)
     sys.stdout.buffer.write(data)
     return DONE
+
+
+def run_both(names, network, chosen):
+    if network is None:
+        raise Refused("--both wants --box")
+
+    def fit_with(only):
+        fitted = fit(names.rules, network, chosen, only)
+        if only is None:
+            tell(fitted.changes)
+        return fitted
+
+    kept = try_both(fit_with, names, lambda line: print(commands.printable(line)))
+    if kept is None:
+        raise Refused(f"{names.rules}: refused, as told above")
+    return DONE if kept else WORSE
 
 
 def program_at_hand():

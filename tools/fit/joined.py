@@ -1,7 +1,7 @@
 """Matches and maps over joined keys (`ip saddr . tcp dport`), with ranges or of more bits than nftrun takes."""
 from .assumptions import ASSUMPTIONS
 from .facts import KNOWN, LONGEST_KEY, TYPES, assumption_of
-from .matches import shown
+from .matches import rules_text, shown
 from .numbers import holds, name_of, range_of, spell_number, spell_part, width_of
 from .sets import parts_are_plain
 from .tree import Anything, Elements, Named, NotFitted, One, Selector, Value
@@ -140,7 +140,7 @@ class JoinedKeys:
             ways += [way + then(data) for way in self.ways(names, list(dict.fromkeys(keys)))]
         if len(by_data) > 1 and overlap([key for keys in by_data.values() for key in keys], [TYPES[it] for it in names]):
             raise NotFitted("a map with joined keys that overlap")
-        self.tell("same", f"{len(ways)} rules" if ways else self.never(), "nftrun has no maps over joined keys" if ways else "the map is empty")
+        self.tell("same", rules_text(len(ways)) if ways else self.never(), "nftrun has no maps over joined keys" if ways else "the map is empty")
         self.split(ways, names)
 
 

@@ -1,7 +1,7 @@
 """Maps: verdicts by a key, and what else a map gives."""
 from .assumptions import ASSUMPTIONS
 from .facts import KNOWN, MARKS, TYPES, assumption_of
-from .matches import flag_names, shown
+from .matches import flag_names, rules_text, shown
 from .numbers import constant_number, holds, spell_part
 from .sets import parts_are_plain, verdict_text
 from .tree import Anything, Calculation, Drawn, Elements, Joined, NotFitted, Selector, Verdict
@@ -86,7 +86,7 @@ class Maps:
         keys = ", ".join(spell_part(it.key[0], kind) for it in named)
         behind = [self.piece(f"{name} != {{ {keys} }}"), *self.ending(rest.data)] if named else [self.piece(self.always()), *self.ending(rest.data)]
         ways = [[self.piece(text, "end")], behind] if named else [behind]
-        self.tell("same", f"{len(ways)} rules, the last one with {behind[0].text}", "nftrun has no `*` in maps")
+        self.tell("same", f"{rules_text(len(ways))}, the last one with {behind[0].text}", "nftrun has no `*` in maps")
         self.split(ways, [name])
 
     def choose_known(self, name, elements):
@@ -124,7 +124,7 @@ class Maps:
             text = self.type_text(fields[0], self.type_words(it.key[0]), "", None)
             if text != self.never():
                 ways.append([self.piece(text), *self.ending(it.data)])
-        self.tell("same", f"{len(ways)} rules" if ways else self.never(), "the addresses of the box file")
+        self.tell("same", rules_text(len(ways)) if ways else self.never(), "the addresses of the box file")
         self.split(ways)
 
     def choose_masked(self, left, elements):
@@ -134,7 +134,7 @@ class Maps:
         if name == "tcp flags":
             mask = flag_names(constant_number(left.right))
             ways = [[self.piece(f"tcp flags & ({mask}) == {flag_names(constant_number(it.key[0]))}"), *self.ending(it.data)] for it in elements]
-            self.tell("same", f"{len(ways)} rules", "a mask before a map")
+            self.tell("same", rules_text(len(ways)), "a mask before a map")
             self.split(ways)
             return
         values = self.fitter.marks.values.get(name)

@@ -132,7 +132,7 @@ class Matches:
             self.put(text)
             return
         ways = [[self.piece(f'iifname "{name}"'), self.piece(self.type_text(field, words, operator, name))] for name in network.names()]
-        self.tell("same", f"{len(ways)} rules, one for each interface", "the addresses of the box file")
+        self.tell("same", f"{rules_text(len(ways))}, one for each interface", "the addresses of the box file")
         self.split(ways)
 
     def type_text(self, field, words, operator, name):
@@ -155,7 +155,7 @@ class Matches:
                 ways.append([self.piece(f'iifname "{name}"'), self.piece(f"ip saddr {'' if wants else '!= '}{{ {reached} }}")])
             elif not wants:
                 ways.append([self.piece(f'iifname "{name}"')])
-        self.tell("same", f"{len(ways)} rules, one for each interface" if ways else self.never(), "by the best route of each address, as the box file has them")
+        self.tell("same", f"{rules_text(len(ways))}, one for each interface" if ways else self.never(), "by the best route of each address, as the box file has them")
         self.split(ways)
 
     def piece(self, text, kind="match", reads=()):
@@ -430,6 +430,10 @@ def shown(name):
     """A selector as nft(8) lists it."""
     short = name.removeprefix("meta ")
     return short if short in SHORT else name
+
+
+def rules_text(number):
+    return "a rule" if number == 1 else f"{number} rules"
 
 
 def flag_words(it, between):

@@ -7,7 +7,7 @@ from .maps import Maps
 from .matches import Matches
 from .numbers import holds
 from .profile import takes
-from .scanner import place, slice_of, spelled
+from .scanner import place, shown, slice_of, spelled
 from .translation import Translations
 from .tree import Calculation, Joined, NotFitted, Piece, Selector, selectors_in
 from .writes import Writes
@@ -43,7 +43,7 @@ class RuleFitter(Matches, JoinedKeys, Maps, Writes, Translations, Effects):
         return self.texts()
 
     def not_fitted(self, why):
-        text = spelled(self.rule.tokens)
+        text = shown(self.rule.tokens)
         if self.never_runs:
             self.fitter.changes.tell(self.rule.token, "same", text, self.never(), "nftrun runs no chain of output")
         else:
@@ -124,7 +124,7 @@ class RuleFitter(Matches, JoinedKeys, Maps, Writes, Translations, Effects):
             elif it.kind == "verdict":
                 self.fit_verdict(*it.parts)
                 break
-        self.told.tell(self.rule.token, "same", spelled(self.rule.tokens), " ".join(it.text for it in self.lines[0]), "no IPv4 packet meets it")
+        self.told.tell(self.rule.token, "same", shown(self.rule.tokens), " ".join(it.text for it in self.lines[0]), "no IPv4 packet meets it")
         return True
 
     def count_counters(self):
@@ -222,7 +222,7 @@ class RuleFitter(Matches, JoinedKeys, Maps, Writes, Translations, Effects):
         self.told.tell(self.rule.token, grade, what or self.statement_line(), to, why, reads)
 
     def statement_line(self):
-        return spelled(self.statement.tokens)
+        return shown(self.statement.tokens)
 
     def way(self, name, what=None):
         """How a guess is decided."""

@@ -92,6 +92,14 @@ def slice_of(tokens):
     return tokens[0].source.text[tokens[0].start:tokens[-1].end]
 
 
+def shown(tokens):
+    """Tokens on one line, as they stand in their file where that is possible."""
+    text = slice_of(tokens)
+    if text is None or "#" in text or "\\" in text:
+        return spelled(tokens)
+    return " ".join(text.split())
+
+
 def moved(token, to):
     """The token of a definition, as if it stood where the definition is used."""
     return token._replace(source=to.source, line=to.line, start=-1, end=-1)

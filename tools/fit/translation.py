@@ -1,6 +1,6 @@
 """Translation: snat, dnat, masquerade, redirect."""
 from .facts import TYPES
-from .matches import shown
+from .matches import rules_text, shown
 from .numbers import range_of, spell_number, spell_part
 from .tree import Drawn, Joined, Lookup, NotFitted, One, Prefix, Range, Selector, Value
 
@@ -26,11 +26,12 @@ class Translations:
         elif isinstance(it.ports, Lookup):
             self.translate_ports_by_map(it)
         else:
+            before = len(self.told.list)
             text = self.nat_text(it.kind, it.address, it.ports)
-            if it.flags:
+            if it.flags or len(self.told.list) > before:
                 self.put(text, "end")
             else:
-                self.put_spelled(text, kind="end", plain=not isinstance(it.address, (Range, Prefix)))
+                self.put_spelled(text, kind="end")
 
     def address_of_rule(self, kind):
         """`dnat to :80` keeps the address; nftrun wants it said, which the rule may do."""
@@ -48,10 +49,14 @@ class Translations:
         if isinstance(ports, Range) and kind in ("dnat", "redirect"):
             ports = self.one_of(ports, "inet_service")
         if address is not None:
-            text += " to " + spell_part(address, "ipv4_addr")
+            text += self.to() + spell_part(address, "ipv4_addr")
         if ports is not None:
             text += (" to " if address is None else "") + ":" + spell_part(ports, "inet_service")
         return text
+
+    def to(self):
+        """nft(8) wants the family in tables of inet."""
+        return " ip to " if self.table.family == "inet" else " to "
 
     def one_of(self, part, kind):
         """The first or the last of a range."""
@@ -75,7 +80,7 @@ class Translations:
             elements = joined_maps(elements, self.mapping(it.ports.map, verdicts=False)[0])
         elif self.is_plain_lookup(key, it, elements):
             text, words = self.lookup_text(key, it.address.map, elements, plain, "ipv4_addr")
-            self.put_spelled(f"{it.kind} to {text}", [key.name], "end", plain=words)
+            self.put_spelled(it.kind + self.to() + text, [key.name], "end", plain=words)
             return
 
         def translating(data):
@@ -101,7 +106,7 @@ class Translations:
         elif isinstance(key, Selector) and key.name in TYPES:
             name, kind = self.by_name(key.name, [one.key[0] for one in elements])
             ways = [[self.piece(f"{shown(name)} {spell_part(one.key[0], kind)}"), *translating(one.data)] for one in elements]
-            self.tell("same", f"{len(ways)} rules" if ways else self.never(), "nftrun has no maps of ports, and none of both")
+            self.tell("same", rules_text(len(ways)) if ways else self.never(), "nftrun has no maps of ports, and none of both")
             self.split(ways)
         else:
             raise NotFitted("translation by what nftrun doesn't read")

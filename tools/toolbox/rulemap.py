@@ -18,11 +18,13 @@ import hashlib
 import json
 from collections import namedtuple
 
+from toolbox.commands import Refused, printable
+
 VERSION = 1
 Origin = namedtuple("Origin", "chain rule file line text counters")
 
 
-class MapFault(ValueError):
+class MapFault(Refused):
     """A map that can't be used; the text is one line."""
 
 
@@ -47,7 +49,7 @@ class RuleMap:
         origin = self.origin(chain, rule)
         if origin is None:
             return None
-        return f"{one_line(origin.file)}:{origin.line} {origin.chain} {origin.rule}  # {one_line(origin.text)}"
+        return f"{printable(origin.file)}:{origin.line} {origin.chain} {origin.rule}  # {printable(origin.text)}"
 
     def sums(self, numbers):
         """Numbers by (chain, rule) of fitted rules, added for each old rule: a dict by (chain, rule)."""
@@ -74,11 +76,6 @@ class RuleMap:
 
 def digest_of(ruleset):
     return hashlib.sha256(ruleset).hexdigest()
-
-
-def one_line(text):
-    """The text with what would break a line or move a terminal's cursor spelled out."""
-    return "".join(c if c.isprintable() else c.encode("unicode_escape").decode() for c in text)
 
 
 def write(path, ruleset, rules, rows):
