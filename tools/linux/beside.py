@@ -93,6 +93,7 @@ class Beside:
                     raise Refused(f"over {options.seconds} s at record {number}; cut the capture, or say --seconds")
                 self.told.append(replay.send(moment, data, self.link_type))
             self.others = replay.rules.counters()
+            self.own_packets = replay.rules.own_packets
             self.lost = replay.traces.lost
             replay.close()
         finally:
@@ -109,18 +110,23 @@ class Beside:
                 self.differences.append(difference)
                 self.explained[number] = explain(difference, self.ruleset, self.box, history)
         self.counters = list(counter_differences(self.run.counters, self.others))
-        self.of_counters = [self.sections_of_counter(one.counter) for one in self.counters]
+        self.of_counters = [self.sections_of_counter(*one) for one in self.counters]
 
-    def sections_of_counter(self, counter):
+    def sections_of_counter(self, counter, other):
         """The sections of the records at which the counter's rule or its chain was met otherwise."""
         chain = self.ruleset.by_name.get(counter.chain)
         if chain and chain.hook == "output":
             return ["output-chains"]
-        found = Counter()
+        found, rest = Counter(), other.packets - counter.packets if other else 0
         for difference in self.differences:
             explanation = self.explained[difference.number]
-            if explanation and met(difference.said, counter) != met(difference.told, counter):
+            more = met(difference.told, counter) - met(difference.said, counter)
+            rest -= more
+            if explanation and more:
                 found[explanation.section] += 1
+        # what is left is of packets that the box sent
+        if chain and chain.hook in ("postrouting", None) and 0 < rest <= self.own_packets:
+            found["box-sends"] += 1
         return [section for section, _ in found.most_common()]
 
     def unexplained(self):

@@ -5,11 +5,14 @@ from collections import namedtuple
 from linux.differences import BYTES, OUTCOME, first_differing
 from linux.history import is_lone_syn
 from toolbox.packets import (
-    ACK, ASK, FIN, ICMP, ICMP_ERRORS, RST, SYN, TCP, UDP, address_text, checksum, error_tuple_at, inverse, tuple_at)
+    ACK, ANSWER, ASK, FIN, ICMP, ICMP_ERRORS, RST, SYN, TCP, UDP, address_text, checksum, error_tuple_at, inverse, tuple_at)
 
 SCTP, REDIRECT = 132, 5
 QUERIES = (13, 14, 15, 16, 17, 18)
 MULTICAST_FROM = 224
+# what gives a connection other ends: its later packets differ by it, whatever else is seen of them
+ENDS = ("port-taken", "port-for-two", "several-ports", "port-zero", "masquerade-address", "clash", "no-ports",
+        "invalid-untranslated")
 # `follows` is the record that it follows from, or None
 Explanation = namedtuple("Explanation", "section follows")
 
@@ -59,14 +62,20 @@ class Case:
 
 def section_of(case):
     """The first of the rules below that fits, as an Explanation, or None."""
-    for rule in (by_packet, by_addresses, by_ports, by_state, by_rules):
+    for rule in (by_packet, by_addresses, by_ports):
         section = rule(case)
         if section:
             return Explanation(section, None)
-    if case.conversation:
-        for number, section in case.conversation.sections.items():
-            if number < case.number:
-                return Explanation(section, number)
+    earlier = case.conversation.sections if case.conversation else {}
+    for number, section in earlier.items():
+        if section in ENDS and not case.has_wrong_checksum():
+            return Explanation(section, number)
+    for rule in (by_state, by_rules):
+        section = rule(case)
+        if section:
+            return Explanation(section, None)
+    for number, section in earlier.items():
+        return Explanation(section, number)
     return None
 
 
@@ -129,7 +138,7 @@ def by_ports(case):
 
 def led_inside(case):
     """Whether nftrun led a first packet to a host by its mapping, where Linux took it for the box itself."""
-    if case.ours != "new" or case.packet[16:20] not in case.box.addresses or case.theirs == "established":
+    if case.ours != "new" or case.packet[16:20] not in case.box.addresses or case.theirs in ("established", "invalid"):
         return False
     ours, theirs = case.hooks()
     went_on = case.said.outcome == "passed" or ours in ("forward", "postrouting")
@@ -154,8 +163,7 @@ def by_source(case, mine, other):
 
 def by_port(case, mine, other):
     kept_by_linux, kept_by_us = other[4:6] == case.key[4:6], mine[4:6] == case.key[4:6]
-    earlier = [packet for packet in case.conversation.packets if packet.number < case.number]
-    if earlier and case.conversation.sections:
+    if earlier_than(case) and case.conversation.sections:
         return None  # the connection's first packet tells
     if kept_by_linux:
         return "port-for-two"
@@ -199,23 +207,36 @@ def why_invalid(case):
     wrong = case.has_wrong_checksum()
     if case.is_icmp(*ICMP_ERRORS):
         return "icmp-errors" if wrong else None
-    if case.protocol == TCP and not wrong:
-        plain_start = is_lone_syn(case.flags) or case.flags & (SYN | FIN | RST | ACK) == ACK
-        if case.ours == "new" and not plain_start:
-            return "first-without-syn"
-        return "sequence-checksum" if case.ours != "new" else None
-    return "sequence-checksum" if wrong else None
+    if wrong:
+        return "sequence-checksum"
+    if case.key and case.key[12:] == ANSWER:
+        return "idle-limits" if earlier_than(case) and is_idle(case) else None
+    if case.protocol != TCP:
+        return None
+    if any(packet.ours for packet in earlier_than(case)):
+        return "sequence-checksum"
+    plain_start = is_lone_syn(case.flags) or case.flags & (SYN | FIN | RST | ACK) == ACK
+    return None if plain_start else "first-without-syn"
+
+
+def earlier_than(case):
+    """The packets of the same conversation before."""
+    packets = case.conversation.packets if case.conversation else ()
+    return [packet for packet in packets if packet.number < case.number]
+
+
+def is_idle(case):
+    return case.history.gap(case.number, case.moment) >= shortest_limit(case)
 
 
 def why_other_connection(case):
     """Why a packet belongs to a connection here that it doesn't belong to there, or was answered in."""
-    earlier = [packet for packet in case.conversation.packets if packet.number < case.number]
+    earlier = earlier_than(case)
     if not earlier:
         return None
     if is_lone_syn(case.flags) and any(packet.flags & (FIN | RST) for packet in earlier):
         return "syn-when-over"
-    gap = case.history.gap(case.number, case.moment)
-    if gap >= shortest_limit(case):
+    if is_idle(case):
         return "idle-limits"
     if case.theirs == "established" and any(not packet.ours for packet in earlier):
         return "dropped-packets"
@@ -240,6 +261,8 @@ def by_rules(case):
         chain = case.ruleset.by_name.get(decision.chain)
         if chain and chain.hook == "output":
             return "output-chains"
+        if chain and chain.type == "nat" and case.conversation and case.conversation.answered_by_box:
+            return "box-sends"
     for rule in case.rules():
         text = rule.text
         if "untracked" in text or "notrack" in text:
@@ -265,8 +288,7 @@ def early(case, name):
 
 
 def dropped_before(case):
-    return case.conversation is not None and any(
-        packet.number < case.number and not packet.ours for packet in case.conversation.packets)
+    return any(not packet.ours for packet in earlier_than(case))
 
 
 def by_order(case):

@@ -42,6 +42,7 @@ def probe_text(with_states):
  chain own {{ type filter hook output priority {FIRST};
   meta nfproto ipv6 drop
   ip protocol igmp drop
+  counter
  }}
 }}
 """
@@ -53,7 +54,7 @@ class Rules:
     def __init__(self, path):
         command("nft", "-f", path)
         listing = self.listing()
-        self.numbers, self.states = {}, {}
+        self.numbers, self.states, self.own_packets = {}, {}, 0
         counts = {}
         text = json.dumps(listing)
         # connections are kept by Linux only where something asks for them
@@ -79,15 +80,16 @@ class Rules:
         return Decision(chain, rule, event.verdict)
 
     def counters(self):
-        """As the report of nftrun has them; those of the text's own rules."""
+        """As the report of nftrun has them; those of the text's own rules. `own_packets` is how many the box sent."""
         counters, counts = [], {}
         for rule in rules_in(self.listing()):
             chain = name_of_chain(rule)
-            if rule["table"] == PROBE:
-                continue
-            counts[chain] = counts.get(chain, 0) + 1
             here = [expression["counter"] for expression in rule["expr"]
                     if isinstance(expression, dict) and isinstance(expression.get("counter"), dict)]
+            if rule["table"] == PROBE:
+                self.own_packets = sum((counter["packets"] for counter in here), self.own_packets)
+                continue
+            counts[chain] = counts.get(chain, 0) + 1
             for which, counter in enumerate(here, 1):
                 counters.append(RuleCounter(chain, counts[chain], which, counter["packets"], counter["bytes"]))
         return counters

@@ -1,7 +1,7 @@
 """Rulesets with packets as files, run through both, with what came of them stored beside them.
 
-A folder has rules.nft, packets.txt (or a capture in.pcap), expected.txt, and where it isn't the one of the folder above,
-box.txt; options.txt has options of beside-linux. A folder without packets only tells who takes its ruleset.
+A folder has rules.nft and expected.txt, and packets.txt (or a capture in.pcap) and box.txt, which else are those of the
+folder above; options.txt has options of beside-linux. A folder without packets only tells who takes its ruleset.
 """
 import argparse
 import os
@@ -19,13 +19,18 @@ from toolbox.packets import describe
 SAME, DIFFERS = 0, 1
 
 
+def beside_or_above(folder, name):
+    """The path of a file of the folder, or where it has none, of the one above."""
+    path = os.path.join(folder, name)
+    return path if os.path.exists(path) else os.path.join(folder, "..", name)
+
+
 def options_of(folder):
     """The options of beside-linux, as its command line has them by default."""
     options = argparse.Namespace(
-        rules=os.path.join(folder, "rules.nft"), box=os.path.join(folder, "box.txt"),
+        rules=os.path.join(folder, "rules.nft"), box=None,
         capture=os.path.join(folder, "in.pcap"), alike=False, set=[], records=4000, seconds=240, wait=40)
-    if not os.path.exists(options.box):
-        options.box = os.path.join(folder, "..", "box.txt")
+    options.box = beside_or_above(folder, "box.txt")
     extra = os.path.join(folder, "options.txt")
     for word in read_text(extra).split() if os.path.exists(extra) else ():
         if word == "--alike":
@@ -38,14 +43,15 @@ def options_of(folder):
 def outcome_lines(folder):
     """What came of a folder, in lines that don't tell what Linux chose by chance."""
     options = options_of(folder)
-    packets = os.path.join(folder, "packets.txt")
+    packets = beside_or_above(folder, "packets.txt")
     if not os.path.exists(packets) and not os.path.exists(options.capture):
         return loading_lines(options)
+    if os.path.exists(options.capture):
+        return list(lines_of(Beside(options)))
     with program.workspace() as space:
-        if os.path.exists(packets):
-            options.capture = os.path.join(space, "in.pcap")
-            with open(options.capture, "wb") as file:
-                file.write(capture_of(read_text(packets).split("\n"), LabBox(options.box)))
+        options.capture = os.path.join(space, "in.pcap")
+        with open(options.capture, "wb") as file:
+            file.write(capture_of(read_text(packets).split("\n"), LabBox(options.box)))
         return list(lines_of(Beside(options)))
 
 
