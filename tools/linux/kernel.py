@@ -8,11 +8,10 @@ from collections import namedtuple
 from linux.frames import sending_of
 from linux.namespaces import command, write_setting
 from linux.netlink import Connections, Traces
+from linux.telling import PROBE, STATES
 from toolbox.commands import Refused
 from toolbox.reports import Decision, RuleCounter
 
-PROBE = "beside_linux_probe"
-STATES = ("invalid", "new", "established", "related", "untracked")
 FIRST, LAST = -2147483648, 2147483646
 ETHERNET_HEADER, OUTGOING = 14, 4
 # so long it is waited behind what decided, for what the box says of its own
