@@ -100,8 +100,7 @@ def place_svg(ways, name, label, x, y, note):
 
 
 def end_svg(label, many, x, y, outcome, start):
-    line = "" if start[0] + BOX_WIDTH >= x - 8 else (
-        f'<path class="way{"" if many else " none"}" d="M{start[0] + BOX_WIDTH} {y + BOX_HEIGHT / 2} H{x - 8}"/>')
+    line = arrow(start, (x, y), many)
     return (f'{line}<a href="#outcome={outcome}" class="end"><rect x="{x}" y="{y}" width="102" height="{BOX_HEIGHT}" rx="7"/>'
             f'<text class="name" x="{x + 12}" y="{y + 23}">{shown(label)}</text>'
             f'<text class="many" x="{x + 12}" y="{y + 44}">{number(many)}</text></a>')

@@ -73,7 +73,7 @@ class Listing:
         notes = [f'<span class="note">{shown(reason)}</span>'] if reason else []
         notes += [origin_note(met) for met in mets if met.origin]
         return (f'<div class="{kind}" id="L{place}"><span class="no">{place}</span><span class="hits">{"".join(chips)}</span>'
-                f'<code>{coloured(line)}</code>{"".join(notes)}</div>')
+                f'<code class="i{indent_of(line)}">{coloured(line.strip())}</code>{"".join(notes)}</div>')
 
     def chip(self, met):
         label = f"rule {met.rule.number} of {met.rule.chain}"
@@ -94,12 +94,18 @@ class Listing:
         if chain.hook == "output":
             return ""
         return (f'<a class="chip policy {shown(chain.policy)}{"" if hits else " zero"}" href="#policy={index}" '
-                f'title="{shown(word)} of {shown(chain.name)}: {plural(hits, "packet")}">{shown(word)}&nbsp;<b>{number(hits)}</b></a>')
+                f'title="{shown(word)} of {shown(chain.name)}: {plural(hits, "packet")}">{shown(word)} <b>{number(hits)}</b></a>')
 
 
 def origin_note(met):
     origin = met.origin
     return f'<span class="note">was {shown(origin.file)}:{origin.line}, {shown(origin.chain)} {origin.rule}</span>'
+
+
+def indent_of(line):
+    """How many steps of four columns a line is indented, nine at most."""
+    text = line.expandtabs(4)
+    return min(9, (len(text) - len(text.lstrip())) // 4)
 
 
 def coloured(line):

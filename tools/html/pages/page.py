@@ -14,7 +14,7 @@ from toolbox.commands import Refused, check_files, read_bytes
 from toolbox.rulesets import read_ruleset
 
 HERE = os.path.dirname(os.path.realpath(__file__))
-MOST_SENDERS, MOST_UNMET = 20, 200
+MOST_SENDERS = 12
 
 
 def asset(name):
