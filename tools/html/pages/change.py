@@ -3,7 +3,7 @@ from pages.texts import number, plural, shown
 from toolbox.differences import BLOCKED, OPENED, OTHERWISE, REWRITTEN, Groups, Sight, differing
 from toolbox.flows import LEARNED, Flows
 from toolbox.packets import TCP, address_text
-from toolbox.program import find_program, workspace
+from toolbox.program import find_program
 from toolbox.replay import STOPPED, Files, Replay
 
 KINDS = (OPENED, BLOCKED, REWRITTEN, OTHERWISE)
@@ -19,20 +19,17 @@ MEANS = {
 
 class Change:
     """The groups of what differs between two rulesets over a capture. `records` has of each group the first of its
-    records, `group_of` of a record its group's number."""
+    records, `after` is the replay of the new ruleset, whose files are in the folder."""
 
-    def __init__(self, old, new, box, capture):
-        with workspace() as folder:
-            flows = Flows(capture, box)
-            before, after = replays(find_program(), old, new, box.path, flows, folder)
-            self.groups = Groups(flows, Sight(before), Sight(after), differing(before, after))
-            self.group_of = {}
-            self.records = {}
-            for record, _, group in self.groups.each():
-                kept = self.records.setdefault(group.number, [])
-                if len(kept) < MOST_RECORDS:
-                    kept.append(record)
-                    self.group_of[record] = group.number
+    def __init__(self, old, new, box, capture, folder):
+        flows = Flows(capture, box)
+        before, self.after = replays(find_program(), old, new, box.path, flows, folder)
+        self.groups = Groups(flows, Sight(before), Sight(self.after), differing(before, self.after))
+        self.records = {}
+        for record, _, group in self.groups.each():
+            kept = self.records.setdefault(group.number, [])
+            if len(kept) < MOST_RECORDS:
+                kept.append(record)
 
     def of_kind(self, kind):
         chosen = [group for group in self.groups.all if group.kind == kind]

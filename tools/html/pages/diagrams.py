@@ -5,6 +5,7 @@ from pages.model import BEFORE
 from pages.texts import number, plural, seconds_text, shown
 
 CAUSE_CLASSES = 6  # colours of causes; further ones share the last
+AFTER_ALL = ("passed", "local", "not sent")  # what is no drop
 BINS = 80
 CHART_WIDTH, CHART_HEIGHT = 960, 150
 BOX_WIDTH, BOX_HEIGHT, DROP_HEIGHT = 136, 58, 20
@@ -21,7 +22,7 @@ class Ways:
             place = self.place_of(model.ruleset, stage, outcome)
             if place:
                 self.drops[place][outcome] += many
-        self.total = model.count
+        self.total = model.count - model.unsent
         lost = {place: sum(causes.values()) for place, causes in self.drops.items()}
         self.come = {"headers": self.total, "prerouting": self.total - lost["headers"]}
         self.come["routing"] = self.come["prerouting"] - lost["prerouting"]
@@ -32,7 +33,7 @@ class Ways:
 
     @staticmethod
     def place_of(ruleset, stage, outcome):
-        if outcome in ("passed", "local"):
+        if outcome in AFTER_ALL:
             return None
         if outcome in BEFORE:
             return "headers"
@@ -108,7 +109,7 @@ def end_svg(label, many, x, y, outcome, start):
 
 def cause_order(model):
     """The causes that occur, most drops first; their places are their colours."""
-    return [cause for cause, _ in model.causes.most_common() if cause not in ("passed", "local")]
+    return [cause for cause, _ in model.causes.most_common() if cause not in AFTER_ALL]
 
 
 def cause_class(causes, cause):

@@ -8,10 +8,12 @@ from toolbox import program
 from toolbox.captures import IPV4, LINK_LENGTHS, LINUX_SLL2, PROTOCOL_AT, header_of, interface_of, records
 from toolbox.commands import Refused, read_text
 from toolbox.packets import TCP, address_text, describe, error_tuple_at, inverse, tuple_at
+from toolbox.replay import AS_CAPTURED, NOT_SENT
 from toolbox.reports import THROUGH, Decision, Summary, event_of, records_of, text_of
 
 MOST_BYTES = 256  # of a record that are looked at: all headers, also those within an ICMP error
 MOST_SENDERS_KEPT = 100_000
+UNSENT = b"not sent"  # what becomes of a record that its host wouldn't have sent
 OUT_AT = LINK_LENGTHS[LINUX_SLL2]
 ETHERTYPES = {b"\x08\x06": "ARP", b"\x86\xdd": "IPv6", b"\x81\x00": "a frame with a VLAN tag", b"\x88\xa8": "a frame with VLAN tags"}
 # causes of drops before any rule
@@ -88,11 +90,17 @@ class Connections:
 
 
 class Model:
-    """All of it. `most` bounds how many records are kept one by one; numbers are of all."""
+    """All of it. `most` bounds how many records are kept one by one; numbers are of all.
 
-    def __init__(self, rules, box, capture, ruleset, most):
+    `replay` is the capture as it would have been with this ruleset (toolbox.replay), where it is compared with another:
+    answers go to the ports that the ruleset chose, and some records aren't sent."""
+
+    def __init__(self, rules, box, capture, ruleset, most, replay=None):
         self.box, self.ruleset, self.most = box, ruleset, most
         self.header = header_of(capture)
+        self.goes_to = replay.to if replay and any(replay.to) else None
+        self.replayed = replay.files.replayed if self.goes_to else None
+        self.captured, self.unsent = {}, 0  # of a record that was replayed to another end its packet as captured
         self.strings, self.paths = Table(""), Table()
         self.steps, self.outcomes, self.states = Table(), Table(), Table("")
         self.columns, self.connections = Columns(), Connections()
@@ -105,19 +113,24 @@ class Model:
             self.run(rules, box.path, capture, folder)
 
     def run(self, rules, box, capture, folder):
-        path = program.find_program()
+        path, given = program.find_program(), self.replayed or capture
         leaving, report = os.path.join(folder, "out.pcap"), os.path.join(folder, "report")
-        self.torn = program.run(path, rules, box, capture, leaving, report)
+        self.torn = program.run(path, rules, box, given, leaving, report)
         self.summary = Summary(report)
         self.summary.check_whole()
-        told = self.told(path, rules, box, capture, folder)
+        told = self.told(path, rules, box, given, folder)
         left = records(leaving, MOST_BYTES)
-        rows = zip(records(capture, MOST_BYTES), records_of(report), told or plain(report))
-        for record, (_, events, outcome), (state, decisions) in rows:
+        rows = zip(records(given, MOST_BYTES), records(capture, MOST_BYTES), records_of(report), told or plain(report))
+        for record, as_captured, (_, events, outcome), (state, decisions) in rows:
             frame = next(left)[-1] if outcome == b"passed" else None
             for event in events:
                 if event.startswith(b"log "):
                     self.logs[self.place_of(event)] += 1
+            place = self.goes_to[record[0]] if self.goes_to else AS_CAPTURED
+            if place == NOT_SENT:
+                record, outcome = as_captured, UNSENT
+            elif place != AS_CAPTURED and record[0] <= self.most:
+                self.captured[record[0]] = self.words(as_captured[-1], self.packet_at(as_captured[-1]))
             self.take(record, text_of(outcome), state, decisions, frame)
 
     @staticmethod
@@ -153,7 +166,9 @@ class Model:
         for step in steps:
             self.hits[step.chain, step.rule] += 1
         at = self.packet_at(data)
-        if outcome not in THROUGH:
+        if outcome == text_of(UNSENT):
+            self.unsent += 1
+        elif outcome not in THROUGH:
             self.drop_moments.append(moment)
             self.drop_causes.append(self.cause_numbers.number(outcome))
             self.take_sender(number, data, at, outcome)
@@ -235,4 +250,4 @@ def stage_of(outcome, steps):
         return "before"
     if outcome in ("route", "ttl"):
         return outcome
-    return {"passed": "passed", "local": "local"}.get(outcome) or (steps[-1].base if steps else "")
+    return {"passed": "passed", "local": "local", "not sent": "not sent"}.get(outcome) or (steps[-1].base if steps else "")

@@ -4,13 +4,14 @@ import hashlib
 import os
 
 from pages.change import Change
-from pages.diagrams import cause_class, cause_order, drops_svg, ways_svg
+from pages.diagrams import AFTER_ALL, cause_class, cause_order, drops_svg, ways_svg
 from pages.listing import Listing
 from pages.model import Model
 from pages.texts import number, packed, plural, seconds_text, shown
 from toolbox import rulemap
 from toolbox.boxes import Box
 from toolbox.commands import Refused, check_files, read_bytes
+from toolbox.program import workspace
 from toolbox.rulesets import read_ruleset
 
 HERE = os.path.dirname(os.path.realpath(__file__))
@@ -52,12 +53,15 @@ def document(title, body, data):
 class Page:
     """All of it, of files that were named."""
 
-    def __init__(self, options):
+    def __init__(self, options, folder):
         self.options = options
         self.box, self.ruleset = Box(options.box), read_ruleset(options.rules)
         self.origins = self.read_map(options)
-        self.model = Model(options.rules, self.box, options.capture, self.ruleset, options.records)
-        self.change = Change(options.against, options.rules, self.box, options.capture) if options.against else None
+        self.change = self.replay = None
+        if options.against:
+            self.change = Change(options.against, options.rules, self.box, options.capture, folder)
+            self.replay = self.change.after
+        self.model = Model(options.rules, self.box, options.capture, self.ruleset, options.records, self.replay)
         self.listing = Listing(self.model, self.origins)
 
     @staticmethod
@@ -88,9 +92,10 @@ class Page:
 
     def header_html(self, rules, capture):
         model = self.model
-        dropped = model.count - model.causes["passed"] - model.causes["local"]
+        dropped = model.count - sum(model.causes[outcome] for outcome in AFTER_ALL)
         facts = [("records", number(model.count)), ("passed", number(model.causes["passed"])),
                  ("to the box", number(model.causes["local"])), ("dropped", number(dropped)),
+                 *([("not sent", number(model.unsent))] if model.unsent else []),
                  ("connections", number(model.summary.totals["begun"])),
                  ("time", seconds_text((model.last or 0) - (model.first or 0)))]
         cells = "".join(f"<div><dt>{shown(name)}</dt><dd>{value}</dd></div>" for name, value in facts)
@@ -172,6 +177,7 @@ class Page:
             "interfaces": {str(index): name for index, name in self.box.names.items()},
             "addresses": [".".join(map(str, address)) for address in self.box.addresses],
             "causes": cause_order(model), "columns": model.columns.rows, "count": model.count,
+            "captured": {str(record): words for record, words in model.captured.items()},
             "groups": self.change.data() if self.change else [],
         }
 
@@ -205,5 +211,6 @@ def footer_html():
 def page(options, output):
     paths = [options.rules, options.box, options.capture] + [path for path in (options.against, options.map) if path]
     check_files(paths)
-    output.write(Page(options).html())
+    with workspace() as folder:
+        output.write(Page(options, folder).html())
     return 0

@@ -5,6 +5,7 @@
 	const HOOKS = ["prerouting", "input", "forward", "postrouting"];
 	const FLAGS = [["syn", 2], ["ack", 16], ["fin", 1], ["rst", 4], ["psh", 8], ["urg", 32]];
 	const THROUGH = { passed: "passed", local: "to the box" };
+	const UNSENT = "not sent";
 	const at = id => document.getElementById(id);
 	let data, columns, count, times, pathsOf = new Map();
 	let shown = [], from = 0, chosen = -1, label = "", byConnection = null;
@@ -41,6 +42,7 @@
 	const interfaceName = index => data.interfaces[index] || `index ${index}`;
 	const chainOf = place => data.chains[place] || ["?", "", "", 0, 0, false];
 	const ruleOf = (chain, rule) => data.rules.find(one => one[0] === chain && one[1] === rule);
+	const mark = record => goes(record) ? "o go" : outcome(record) === UNSENT ? "o un" : "o";
 	const outcomeWord = record => THROUGH[outcome(record)] || outcome(record);
 
 	function flagsText(record) {
@@ -118,7 +120,7 @@
 	function row(record) {
 		const element = make("div", "row", null,
 			make("span", "n", number(record + 1)), make("span", "p", before(record)),
-			make("span", goes(record) ? "o go" : "o", outcomeWord(record)));
+			make("span", mark(record), outcomeWord(record)));
 		element.setAttribute("role", "option");
 		element.setAttribute("aria-selected", String(record === chosen));
 		element.dataset.record = record;
@@ -230,7 +232,7 @@
 
 	function detail(record) {
 		const head = make("h3", "", null, make("span", "", `Record ${number(record + 1)}`),
-			make("span", goes(record) ? "o go" : "o", outcomeWord(record)));
+			make("span", mark(record), outcomeWord(record)));
 		head.dataset.record = record + 1;
 		return [head, make("p", "when", `${time(record)} s, ${clock(record)}`), ...changeNotes(record), packetList(record), way(record), ...ladder(record)];
 	}
@@ -245,6 +247,8 @@
 		const isIp = columns.ttl[record] >= 0;
 		const entered = [`by ${interfaceName(columns.entering[record])}`, isIp && `TTL ${columns.ttl[record]}`,
 			`${plural(columns.length[record], "byte")}`, flagsText(record)].filter(Boolean).join(" · ");
+		const captured = data.captured[record + 1];
+		if (captured) list.append(make("dt", "", "captured"), make("dd", "meta", `${captured}; replayed to the end that this ruleset chose`));
 		list.append(make("dt", "", "came"), make("dd", "", null, make("div", "before", before(record)), make("div", "meta", entered)));
 		if (columns.after[record]) {
 			const left = [`by ${interfaceName(columns.leaving[record])}`, `TTL ${columns.ttl_after[record]}`].join(" · ");
@@ -282,6 +286,10 @@
 			items.append(stepItem(step));
 		}
 		tell(() => true);
+		if (outcome(record) === UNSENT) {
+			items.append(make("li", "end stop", "not sent: what began its connection didn't go through"));
+			return items;
+		}
 		const text = { passed: `left by ${interfaceName(columns.leaving[record])}`, local: "delivered to the box" }[outcome(record)] || `dropped for ${outcome(record)}`;
 		items.append(make("li", goes(record) ? "end" : "end stop", text));
 		return items;
