@@ -339,7 +339,9 @@
 		for (const one of listed) body.append(rung(one, record));
 		table.append(body);
 		const bound = all.length > LADDER ? `; ${number(start + 1)} to ${number(start + listed.length)} are shown` : "";
-		return [make("h3", "", null, make("span", "", `Connection ${number(columns.connection[record])}`)), make("p", "when", `${plural(all.length, "record")}${bound}`), table];
+		const title = all.some(goes) ? "Its connection" : "Packets of these ends";
+		const begun = all.some(goes) ? "" : "; none went through, so no connection was begun";
+		return [make("h3", "", null, make("span", "", title)), make("p", "when", `${plural(all.length, "record")}${bound}${begun}`), table];
 	}
 
 	function rung(one, here) {
@@ -399,7 +401,7 @@
 	const KEYS = {
 		"/": () => at("search").focus(), "?": () => at("help").showModal(), u: nextUnmet,
 		j: () => move(1), k: () => move(-1), "[": () => page(-1), "]": () => page(1),
-		c: () => { if (connection(chosen).length) choose(connection(chosen), `connection ${columns.connection[chosen]}`); },
+		c: () => { if (connection(chosen).length) choose(connection(chosen), `the connection of record ${number(chosen + 1)}`); },
 	};
 
 	function listen() {
