@@ -8,6 +8,7 @@ from collections import Counter
 from linux.box import LabBox
 from linux.differences import Difference, counter_differences, kinds_of
 from linux.explain import explain
+from linux.frames import LARGEST_PACKET
 from linux.history import History
 from linux.kernel import Replay, set_limits
 from linux.namespaces import Lab, command
@@ -22,6 +23,7 @@ from toolbox.rulesets import read_ruleset
 SAME, DIFFERS, UNEXPLAINED = 0, 1, 3
 NEEDS = {"ip": "iproute2", "nft": "nftables"}
 IPV6 = b"\x86\xdd"
+MOST_BYTES = LARGEST_PACKET + 64  # of a record: behind them comes padding alone
 LIMITS = "/proc/sys/net/netfilter"
 
 
@@ -39,7 +41,7 @@ def check_needs():
 def moments(path, most):
     """The records of a capture as (number, moment, bytes), the moment never going back."""
     header, latest = header_of(path), 0
-    for number, seconds, fraction, _, _, _, data in records(path):
+    for number, seconds, fraction, _, _, _, data in records(path, MOST_BYTES):
         if number > most:
             raise Refused(f"{path}: over {most} records; cut it, or say --records")
         latest = max(latest, seconds * 10**9 + fraction * 10**9 // header.fractions)

@@ -7,7 +7,7 @@ from toolbox.captures import (
 
 IPV4, IPV6 = b"\x08\x00", b"\x86\xdd"
 EVERY_STATION = b"\xff" * 6
-SMALLEST_PAYLOAD = 1
+LARGEST_PACKET = 65535
 
 # `frame` is None where nothing is sent; `why` says it then
 Sending = namedtuple("Sending", "interface frame packet why")
@@ -28,7 +28,7 @@ def sending_of(data, link_type, box, lab):
         to = TO_US if not data[0] & 1 else BROADCAST if data[:6] == EVERY_STATION else MULTICAST
     elif link_type == LINUX_SLL2:
         protocol, interface, to = data[:2], int.from_bytes(data[4:8], "big"), data[10]
-    packet = data[length:]
+    packet = data[length:length + LARGEST_PACKET]
     if protocol not in (IPV4, IPV6):
         return nothing("it carries no IP")
     if protocol == IPV6 and not lab.with_ipv6:
@@ -37,7 +37,7 @@ def sending_of(data, link_type, box, lab):
         return nothing("it entered by an interface that the box file lacks")
     if to == SENT_BY_US:
         return nothing("the box sent it")
-    if len(packet) < SMALLEST_PAYLOAD:
+    if not packet:
         return nothing("it is empty")
     return Sending(interface, address_of(to, interface, lab) + station(1, lab.numbers[interface]) + protocol + packet,
                    packet, None)

@@ -16,6 +16,8 @@ FIRST, LAST = -2147483648, 2147483646
 ETHERNET_HEADER, OUTGOING = 14, 4
 # so long it is waited behind what decided, for what the box says of its own
 GRACE = 0.002
+# so many times the usual is waited for a packet that is under way
+PATIENCE = 5
 FRAME_ROOM = 1 << 17
 
 # `leaves` and `made` are lists of (interface, packet); `where` tells the last hook that a packet was seen in, `state`
@@ -143,20 +145,22 @@ class Replay:
         return self.watch(sending)
 
     def watch(self, sending):
-        events, frames = [], []
-        end = time.monotonic() + self.wait
-        decided = False
+        """Waits until it is decided what becomes of a packet, and shortly for what the box says of its own."""
+        events, frames, decided = [], [], False
+        begun = time.monotonic()
+        end, last_end = begun + self.wait, begun + PATIENCE * self.wait
         while True:
             left = end - time.monotonic()
-            if left <= 0:
-                break
-            select.select([self.traces, *self.lab.cables.values()], [], [], left)
+            if left > 0:
+                select.select([self.traces, *self.lab.cables.values()], [], [], left)
             events += self.traces.read()
             self.take_frames(frames)
             if not decided and is_decided(events, frames):
-                decided = True
-                end = time.monotonic() + GRACE
-        return self.told(sending, events, frames)
+                decided, end = True, time.monotonic() + GRACE
+            elif left <= 0:
+                if decided or not is_under_way(events) or time.monotonic() >= last_end:
+                    return self.told(sending, events, frames)
+                end = min(last_end, time.monotonic() + self.wait)
 
     def take_frames(self, frames):
         """What left by the cables by now, as (interface, packet)."""
@@ -198,6 +202,13 @@ def is_decided(events, frames):
         return True
     seen = {event.chain for event in events if event.table == PROBE}
     return "in9" in seen or ("post9" in seen and bool(frames))
+
+
+def is_under_way(events):
+    """Whether more has to come: nothing was seen yet, or the packet went through postrouting and hasn't left. A machine
+    that is busy may be slow."""
+    seen = {event.chain for event in events if event.table == PROBE}
+    return not seen or "post9" in seen
 
 
 def where_of(seen):

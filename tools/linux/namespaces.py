@@ -67,6 +67,7 @@ class Lab:
         self.router = self.made()
         self.peer = self.made()
         try:
+            self.check_names()
             self.lay_cables()
         except BaseException:
             self.close()
@@ -85,6 +86,11 @@ class Lab:
 
     def close(self):
         self.files.close()
+
+    def check_names(self):
+        for index, name in self.box.names.items():
+            if index == 1 or name == "lo":
+                raise Refused(f"the box file's interface {name} has the index or the name of a namespace's own lo")
 
     def lay_cables(self):
         # the process is in the peer's namespace

@@ -81,7 +81,7 @@ class Listing:
             return f'<span class="chip never" title="{shown(label)}: {shown(met.never)}">no run</span>'
         if met.hits is None:
             return f'<span class="chip" title="{shown(label)}: a report can\'t tell">?</span>'
-        steps = 0 if not self.most else max(met.hits > 0, round(BAR_STEPS * met.hits / self.most))
+        steps = max(1, round(BAR_STEPS * met.hits / self.most)) if met.hits else 0
         title = "; ".join([f"{label}: {plural(met.hits, 'packet')}"] + [
             f"counter {place}: {plural(packets, 'packet')}, {plural(size, 'byte')}"
             for place, (_, packets, size) in enumerate(met.counters, 1)])
@@ -98,8 +98,10 @@ class Listing:
 
 
 def origin_note(met):
+    """Where a fitted rule stood, and as what, where it is another text."""
     origin = met.origin
-    return f'<span class="note">was {shown(origin.file)}:{origin.line}, {shown(origin.chain)} {origin.rule}</span>'
+    text = "" if origin.text.split() == met.rule.text.split() else f": <code>{shown(origin.text)}</code>"
+    return f'<span class="note">was {shown(origin.file)}:{origin.line}, {shown(origin.chain)} {origin.rule}{text}</span>'
 
 
 def indent_of(line):
