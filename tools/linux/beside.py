@@ -164,7 +164,8 @@ def told_text(beside, told):
     elif told.outcome == "unsent":
         text = f"not sent: {told.sending.why}"
     elif told.outcome == "dropped":
-        text = f"dropped by no rule, last seen {told.where if told.where.startswith(('before', 'behind')) else 'in ' + told.where}"
+        where = told.where if told.where.startswith(("before", "behind")) else f"in {told.where}"
+        text = f"dropped by no rule, last seen {where}"
     else:
         text = told.outcome
     if told.made:

@@ -5,7 +5,7 @@ from collections import namedtuple
 from linux.differences import BYTES, OUTCOME, first_differing
 from linux.history import is_lone_syn
 from toolbox.packets import (
-    ACK, ANSWER, ASK, FIN, ICMP, ICMP_ERRORS, RST, SYN, TCP, UDP, address_text, checksum, error_tuple_at, inverse, tuple_at)
+    ACK, ANSWER, ASK, FIN, ICMP, ICMP_ERRORS, RST, SYN, TCP, UDP, checksum, tuple_at)
 
 SCTP, REDIRECT = 132, 5
 QUERIES = (13, 14, 15, 16, 17, 18)

@@ -21,7 +21,7 @@ PATIENCE = 5
 FRAME_ROOM = 1 << 17
 
 # `leaves` and `made` are lists of (interface, packet); `where` tells the last hook that a packet was seen in, `state`
-# its ct state where it was seen, `mended` whether the rules saw a packet that was put together of fragments
+# its ct state where it was seen
 Told = namedtuple("Told", "sending outcome where state decisions leaves made")
 
 
@@ -137,7 +137,7 @@ class Replay:
         self.keep_time(moment)
         sending = sending_of(data, link_type, self.lab.box, self.lab)
         if sending.frame is None:
-            return Told(sending, "unsent", None, None, [], [], [])
+            return Told(sending, "unsent", "", None, [], [], [])
         try:
             self.lab.cables[sending.interface].send(sending.frame)
         except OSError as error:

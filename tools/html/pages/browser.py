@@ -28,7 +28,8 @@ class Browser:
         read_end, self.output = os.pipe()
         self.input, write_end = os.pipe()
         command = [program, "--headless=new", "--no-sandbox", "--disable-gpu", "--hide-scrollbars", "--no-first-run",
-                   "--remote-debugging-pipe", f"--user-data-dir={self.folder.name}", f"--window-size={width},{height}", "about:blank"]
+                   "--remote-debugging-pipe", f"--user-data-dir={self.folder.name}", f"--window-size={width},{height}",
+                   "about:blank"]
 
         def take_ends():
             ends = fcntl.fcntl(read_end, fcntl.F_DUPFD, 10), fcntl.fcntl(write_end, fcntl.F_DUPFD, 10)
@@ -117,7 +118,8 @@ class Browser:
 
     def faults(self):
         """What went wrong in scripts, or was logged."""
-        return [one["params"] for one in self.events if one.get("method") in ("Runtime.exceptionThrown", "Runtime.consoleAPICalled")]
+        names = ("Runtime.exceptionThrown", "Runtime.consoleAPICalled")
+        return [one["params"] for one in self.events if one.get("method") in names]
 
     def close(self):
         try:

@@ -92,9 +92,9 @@ def place_svg(ways, name, label, x, y, note):
              f'<text class="many" x="{x + 12}" y="{y + 44}">{number(many)}</text></g>']
     for place, (cause, dropped) in enumerate(ways.drops[name].most_common()):
         top = y + BOX_HEIGHT + 6 + place * (DROP_HEIGHT + 3)
+        title = f"{plural(dropped, 'packet')} dropped: {shown(cause)}"
         parts.append(
-            f'<a href="#outcome={shown(cause)}&amp;at={name}" class="drop"><title>{plural(dropped, "packet")} dropped: {shown(cause)}'
-            f'</title><rect x="{x + 10}" y="{top}" width="{BOX_WIDTH - 20}" height="{DROP_HEIGHT}" rx="4"/>'
+            f'<a href="#outcome={shown(cause)}&amp;at={name}" class="drop"><title>{title}</title><rect x="{x + 10}" y="{top}" width="{BOX_WIDTH - 20}" height="{DROP_HEIGHT}" rx="4"/>'
             f'<text x="{x + 18}" y="{top + 14}">{shown(cause)}</text>'
             f'<text class="right" x="{x + BOX_WIDTH - 18}" y="{top + 14}">{number(dropped)}</text></a>')
     return "".join(parts)
@@ -130,7 +130,8 @@ def drops_svg(model):
         if share == 0.5 and highest < 2:
             continue
         value, y = round(highest * share), CHART_HEIGHT * (1 - round(highest * share) / highest)
-        parts.append(f'<path class="grid" d="M0 {y:.1f} H{CHART_WIDTH}"/><text class="right" x="-8" y="{y + 4:.1f}">{number(value)}</text>')
+        parts.append(f'<path class="grid" d="M0 {y:.1f} H{CHART_WIDTH}"/>'
+                     f'<text class="right" x="-8" y="{y + 4:.1f}">{number(value)}</text>')
     for place, one in enumerate(bins):
         parts.append(bar_svg(place, one, causes, highest, span))
     parts.append(f'<text x="0" y="{CHART_HEIGHT + 20}">0</text>'

@@ -15,7 +15,8 @@ MOST_BYTES = 256  # of a record that are looked at: all headers, also those with
 MOST_SENDERS_KEPT = 100_000
 UNSENT = b"not sent"  # what becomes of a record that its host wouldn't have sent
 OUT_AT = LINK_LENGTHS[LINUX_SLL2]
-ETHERTYPES = {b"\x08\x06": "ARP", b"\x86\xdd": "IPv6", b"\x81\x00": "a frame with a VLAN tag", b"\x88\xa8": "a frame with VLAN tags"}
+ETHERTYPES = {b"\x08\x06": "ARP", b"\x86\xdd": "IPv6", b"\x81\x00": "a frame with a VLAN tag",
+              b"\x88\xa8": "a frame with VLAN tags"}
 # causes of drops before any rule
 BEFORE = ("link", "interface", "notip", "short", "version", "hlen", "length", "truncated", "checksum", "fragment",
           "transport")

@@ -126,12 +126,13 @@ class Page:
             f'<tr><th scope="row"><a href="#sender={address}">{address}</a></th><td class="num">{number(sender.packets)}</td>'
             f'<td class="share">{shares_svg(sender, causes, most)}</td>'
             f'<td>{", ".join(f"{shown(cause)} {number(many)}" for cause, many in sender.causes.most_common())}</td>'
-            f'<td><a href="#record={sender.first}">record {number(sender.first)}</a></td></tr>' for address, sender in senders)
+            f'<td><a href="#record={sender.first}">record {number(sender.first)}</a></td></tr>'
+            for address, sender in senders)
         many = len(self.model.senders)
         bound = f'<p class="bound">{MOST_SENDERS} of {number(many)} senders are listed.</p>' if many > MOST_SENDERS else ""
         return ('<table class="senders"><thead><tr><th scope="col">sender</th><th scope="col" class="num">packets</th>'
-                f'<th scope="col"></th><th scope="col">cause</th><th scope="col">first</th></tr></thead><tbody>{rows}</tbody></table>'
-                + bound)
+                '<th scope="col"></th><th scope="col">cause</th><th scope="col">first</th></tr></thead>'
+                f'<tbody>{rows}</tbody></table>{bound}')
 
     def work_html(self):
         listing = self.listing
@@ -144,8 +145,9 @@ class Page:
         told = "" if self.model.tells else (
             '<p class="bound">The ruleset has no room for a second run that tells which rules held without deciding: '
             'a <code>?</code> stands at some.</p>')
-        return (f'<div class="work"><section id="rules"><h2>Rules</h2><p class="lead">{", ".join(words)}. The number tells for how '
-                f'many packets a rule held; choose it to see them.</p>{told}<div class="listing">{listing.html()}</div></section>'
+        return (f'<div class="work"><section id="rules"><h2>Rules</h2><p class="lead">{", ".join(words)}. The number tells for '
+                'how many packets a rule held; choose it to see them.</p>'
+                f'{told}<div class="listing">{listing.html()}</div></section>'
                 f'<section id="records" aria-label="Records">{self.records_html()}</section></div>')
 
     def records_html(self):
@@ -168,7 +170,8 @@ class Page:
         return {
             "first": str(model.first or 0),
             "strings": model.strings.all, "paths": model.paths.all,
-            "steps": [[chains.get(step.base, -1), chains.get(step.chain, -1), step.rule, step.verdict] for step in model.steps.all],
+            "steps": [[chains.get(step.base, -1), chains.get(step.chain, -1), step.rule, step.verdict]
+                      for step in model.steps.all],
             "chains": [[chain.name, chain.hook or "", chain.type or "", chain.priority, chain.line, chain.is_early]
                        for chain in self.ruleset.chains],
             "rules": [[chains[met.rule.chain], met.rule.number, met.rule.line, met.rule.text, origin_text(met)]
