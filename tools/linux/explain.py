@@ -5,7 +5,8 @@ from collections import namedtuple
 from linux.differences import BYTES, OUTCOME, first_differing
 from linux.history import is_lone_syn
 from toolbox.packets import (
-    ACK, ANSWER, ASK, FIN, ICMP, ICMP_ERRORS, RST, SYN, TCP, UDP, checksum, tuple_at)
+    ACK, ANSWER, ASK, FIN, ICMP, ICMP_ERRORS, NO_PORT, RST, SYN, TCP, UDP, checksum, destination_end, source_end,
+    tuple_at)
 
 SCTP, REDIRECT = 132, 5
 QUERIES = (13, 14, 15, 16, 17, 18)
@@ -28,8 +29,7 @@ class Case:
         self.is_ipv4 = len(self.packet) >= 20 and self.packet[0] >> 4 == 4
         self.behind = 4 * (self.packet[0] & 15) if self.is_ipv4 else 0
         self.protocol = self.packet[9] if self.is_ipv4 else None
-        found = tuple_at(self.packet, 0) if self.is_ipv4 else None
-        self.key = found[0] if found else None
+        self.key = tuple_at(self.packet, 0) if self.is_ipv4 else None
         self.flags = self.packet[self.behind + 13] if self.key and self.protocol == TCP else 0
         self.conversation = history.known.get(self.number)
         self.ours, self.theirs = self.said.state, self.told.state
@@ -133,7 +133,7 @@ def by_ports(case):
     mine, other = tuple_at(ours, 0), tuple_at(theirs, 0)
     if case.key is None or mine is None or other is None:
         return None
-    return by_source(case, mine[0], other[0])
+    return by_source(case, mine, other)
 
 
 def led_inside(case):
@@ -147,32 +147,31 @@ def led_inside(case):
 
 def by_source(case, mine, other):
     """Of two tuples with which a packet left: why their sources differ."""
-    if mine[6:12] != other[6:12] or mine[:6] == other[:6]:
+    if destination_end(mine) != destination_end(other) or source_end(mine) == source_end(other):
         return None
-    if case.theirs == "invalid" and other[:6] == case.key[:6]:
+    if case.theirs == "invalid" and source_end(other) == source_end(case.key):
         return "invalid-untranslated"
     if mine[:4] != other[:4]:
-        own = case.box.addresses
-        return "masquerade-address" if own.get(mine[:4]) is not None and own.get(mine[:4]) == own.get(other[:4]) else None
-    if mine[4:6] == other[4:6]:
-        return None
-    if case.key[12:] == ASK or case.key[4:6] == b"\0\0":
+        own = case.box.addresses.get(mine[:4])
+        return "masquerade-address" if own is not None and own == case.box.addresses.get(other[:4]) else None
+    if case.key[12:] == ASK or case.key[8:10] == NO_PORT:
         return "port-zero"
     return by_port(case, mine, other)
 
 
 def by_port(case, mine, other):
-    kept_by_linux, kept_by_us = other[4:6] == case.key[4:6], mine[4:6] == case.key[4:6]
+    kept_by_linux, kept_by_us = (one[8:10] == case.key[8:10] for one in (other, mine))
     if earlier_than(case) and case.conversation.sections:
         return None  # the connection's first packet tells
     if kept_by_linux:
         return "port-for-two"
     # nftrun keeps to the end that a host has already
-    ends = case.history.ends.get((case.key[12], case.key[:6]), ())
+    host = source_end(case.key)
+    ends = case.history.ends.get((case.key[12], host), ())
     used_before = any(
-        packet.number < case.number and packet.key[:6] == case.key[:6]
+        packet.number < case.number and source_end(packet.key) == host
         for conversation in set(case.history.known.values()) for packet in conversation.packets)
-    if mine[:6] in ends and used_before:
+    if source_end(mine) in ends and used_before:
         return "several-ports"
     return None if kept_by_us else "port-taken"
 

@@ -1,7 +1,7 @@
 """What came before a record: of each connection its packets, as far as a capture tells, and the ends of translations."""
 from collections import namedtuple
 
-from toolbox.packets import FIN, RST, SYN, TCP, error_tuple_at, inverse, tuple_at
+from toolbox.packets import ACK, FIN, RST, SYN, TCP, error_tuple_at, inverse, source_end, tuple_at
 
 # one packet of a connection: `ours` and `theirs` tell whether it went through by nftrun and by Linux
 Packet = namedtuple("Packet", "number moment key flags ours theirs")
@@ -13,10 +13,6 @@ class Conversation:
     def __init__(self):
         self.packets, self.answered_by_box, self.sections = [], False, {}
 
-    def flags(self, number, wanted):
-        """The keys of earlier packets that have one of the flags."""
-        return [packet.key for packet in self.packets if packet.number < number and packet.flags & wanted]
-
 
 class History:
     """Conversations by the tuples that packets of them come with."""
@@ -24,7 +20,6 @@ class History:
     def __init__(self):
         self.by_tuple = {}
         self.ends = {}  # of nftrun: (kind, internal end): external ends
-        self.taken = {}  # of nftrun: (kind, external end): internal ends
         self.known = {}  # of each record: its conversation
 
     def conversation(self, key):
@@ -39,30 +34,29 @@ class History:
         """Has a record be known."""
         packet = told.sending.packet
         found = tuple_at(packet, 0)
-        key = found[0] if found else error_tuple_at(packet, 0)
+        key = found or error_tuple_at(packet, 0)
         if key is None:
             return
         conversation = self.known[number] = self.conversation(key)
         if not found:
             return
-        flags = packet[found[2] + 13] if key[12] == TCP else 0
+        flags = packet[4 * (packet[0] & 15) + 13] if key[12] == TCP else 0
         conversation.packets.append(Packet(
             number, moment, key, flags, said.outcome in ("passed", "local"), told.outcome in ("passed", "local")))
         for left in ([said.leaves] if said.leaves else []) + told.leaves:
             out = tuple_at(left[1], 0)
             if out:
-                self.by_tuple.setdefault(inverse(out[0]), conversation)
+                self.by_tuple.setdefault(inverse(out), conversation)
         for _, made in told.made:
             answer = tuple_at(made, 0)
             if answer:
-                self.conversation(answer[0]).answered_by_box = True
+                self.conversation(answer).answered_by_box = True
         if said.leaves:
             self.take_mapping(key, tuple_at(said.leaves[1], 0))
 
     def take_mapping(self, key, left):
-        if left and left[0][:6] != key[:6]:
-            self.ends.setdefault((key[12], key[:6]), set()).add(left[0][:6])
-            self.taken.setdefault((key[12], left[0][:6]), set()).add(key[:6])
+        if left and source_end(left) != source_end(key):
+            self.ends.setdefault((key[12], source_end(key)), set()).add(source_end(left))
 
     def gap(self, number, moment):
         """Seconds since the packet before of its conversation, or None."""
@@ -71,4 +65,4 @@ class History:
 
 
 def is_lone_syn(flags):
-    return flags & (SYN | FIN | RST | 16) == SYN
+    return flags & (SYN | FIN | RST | ACK) == SYN

@@ -70,7 +70,8 @@ class Change:
             f'<article class="group"><dl class="rules"><dt>old</dt><dd>{told_html(group.old)}</dd>'
             f'<dt>new</dt><dd>{told_html(group.new)}</dd></dl>'
             f'<p><a href="#group={group.number}"><b>{plural(group.flows, "connection")}</b></a>, '
-            f'{plural(group.packets, "packet")}{unsent}, from {plural(len(hosts), "host")}: {listed(map(address_text, hosts), MOST_HOSTS, len(hosts))}'
+            f'{plural(group.packets, "packet")}{unsent}, from {plural(len(hosts), "host")}: '
+            + listed(map(address_text, hosts), MOST_HOSTS, len(hosts))
             + (f'; to {listed(ports, MOST_PORTS, len(ports))}' if ports else "") +
             f'</p><p class="first">first: <a href="#record={group.first[0]}">record {number(group.first[0])}</a>, '
             f'{shown(group.first[1])}</p></article>')

@@ -94,7 +94,8 @@ def place_svg(ways, name, label, x, y, note):
         top = y + BOX_HEIGHT + 6 + place * (DROP_HEIGHT + 3)
         title = f"{plural(dropped, 'packet')} dropped: {shown(cause)}"
         parts.append(
-            f'<a href="#outcome={shown(cause)}&amp;at={name}" class="drop"><title>{title}</title><rect x="{x + 10}" y="{top}" width="{BOX_WIDTH - 20}" height="{DROP_HEIGHT}" rx="4"/>'
+            f'<a href="#outcome={shown(cause)}&amp;at={name}" class="drop"><title>{title}</title>'
+            f'<rect x="{x + 10}" y="{top}" width="{BOX_WIDTH - 20}" height="{DROP_HEIGHT}" rx="4"/>'
             f'<text x="{x + 18}" y="{top + 14}">{shown(cause)}</text>'
             f'<text class="right" x="{x + BOX_WIDTH - 18}" y="{top + 14}">{number(dropped)}</text></a>')
     return "".join(parts)

@@ -100,7 +100,7 @@ class Model:
         self.box, self.ruleset, self.most = box, ruleset, most
         self.header = header_of(capture)
         self.goes_to = replay.to if replay and any(replay.to) else None
-        self.replayed = replay.files.replayed if self.goes_to else None
+        self.replayed = replay.written() if self.goes_to else None
         self.captured, self.unsent = {}, 0  # of a record that was replayed to another end its packet as captured
         self.strings, self.paths = Table(""), Table()
         self.steps, self.outcomes, self.states = Table(), Table(), Table("")
@@ -207,12 +207,11 @@ class Model:
     def keep(self, number, moment, outcome, state, steps, data, at, length, frame):
         if number > self.most:
             return
-        found = tuple_at(data, at) if at is not None else None
-        error = error_tuple_at(data, at) if at is not None and not found else None
+        key = tuple_at(data, at) if at is not None else None
+        error = error_tuple_at(data, at) if at is not None and not key else None
         left = tuple_at(frame, OUT_AT) if frame else None
-        connection, side = self.connections.take(
-            found[0] if found else error, bool(error), state, left[0] if left else None)
-        flags = data[found[2] + 13] if found and found[0][12] == TCP else -1
+        connection, side = self.connections.take(key or error, bool(error), state, left)
+        flags = data[at + 4 * (data[at] & 15) + 13] if key and key[12] == TCP else -1
         self.columns.add(
             time=moment - (self.last if self.last is not None else moment), path=self.paths.number(
                 tuple(self.steps.number(step) for step in steps)),
