@@ -73,7 +73,7 @@ class Listing:
         notes = [f'<span class="note">{shown(reason)}</span>'] if reason else []
         notes += [origin_note(met) for met in mets if met.origin]
         return (f'<div class="{kind}" id="L{place}"><span class="no">{place}</span><span class="hits">{"".join(chips)}</span>'
-                f'<code class="i{indent_of(line)}">{coloured(line.strip())}</code>{"".join(notes)}</div>')
+                f'<span class="text i{indent_of(line)}"><code>{coloured(line.strip())}</code>{"".join(notes)}</span></div>')
 
     def chip(self, met):
         label = f"rule {met.rule.number} of {met.rule.chain}"

@@ -82,7 +82,7 @@ class Page:
         if self.change:
             old = os.path.basename(self.options.against)
             parts.append(section("changes", "What changes", self.change.html(old, rules)))
-        parts.append(section("ways", "The way of packets", ways_svg(self.model)))
+        parts.append(section("ways", "The way of packets", f'<div class="wide">{ways_svg(self.model)}</div>'))
         parts.append(section("drops", "Drops", self.drops_html()))
         parts.append(self.work_html())
         parts.append(footer_html())
@@ -114,7 +114,7 @@ class Page:
         legend = "".join(
             f'<a href="#outcome={shown(cause)}"><i class="swatch {cause_class(causes, cause)}"></i>{shown(cause)} '
             f'<b>{number(model.causes[cause])}</b></a>' for cause in causes)
-        return (f'<figure>{drops_svg(model)}<figcaption class="legend">{legend}</figcaption></figure>'
+        return (f'<figure><div class="wide">{drops_svg(model)}</div><figcaption class="legend">{legend}</figcaption></figure>'
                 f'<h3>Senders of what was dropped</h3>{self.senders_html(causes)}')
 
     def senders_html(self, causes):
