@@ -1,7 +1,7 @@
 """Rulesets with packets as files, run through both, with what came of them stored beside them.
 
 A folder has rules.nft and expected.txt, and packets.txt (or a capture in.pcap) and box.txt, which else are those of the
-folder above; options.txt has options of beside-linux. A folder without packets only tells who takes its ruleset.
+folder above; from.txt names another folder of the repository that has the rest; options.txt has options of beside-linux. A folder without packets only tells who takes its ruleset.
 """
 import argparse
 import os
@@ -17,20 +17,23 @@ from toolbox.commands import Refused, printable, read_text
 from toolbox.packets import describe
 
 SAME, DIFFERS = 0, 1
+TOP = os.path.join(os.path.dirname(os.path.realpath(__file__)), "..", "..")
 
 
 def beside_or_above(folder, name):
-    """The path of a file of the folder, or where it has none, of the one above."""
-    path = os.path.join(folder, name)
-    return path if os.path.exists(path) else os.path.join(folder, "..", name)
+    """The path of a file of the folder; or of the one that its from.txt names, in the repository; or of the one above."""
+    places = [folder]
+    if os.path.exists(os.path.join(folder, "from.txt")):
+        places.append(os.path.join(TOP, read_text(os.path.join(folder, "from.txt")).strip()))
+    paths = [os.path.join(place, name) for place in places]
+    return next((path for path in paths if os.path.exists(path)), os.path.join(folder, "..", name))
 
 
 def options_of(folder):
     """The options of beside-linux, as its command line has them by default."""
     options = argparse.Namespace(
-        rules=os.path.join(folder, "rules.nft"), box=None,
-        capture=os.path.join(folder, "in.pcap"), alike=False, set=[], records=4000, seconds=240, wait=40)
-    options.box = beside_or_above(folder, "box.txt")
+        rules=beside_or_above(folder, "rules.nft"), box=beside_or_above(folder, "box.txt"),
+        capture=beside_or_above(folder, "in.pcap"), alike=False, set=[], records=4000, seconds=240, wait=40)
     extra = os.path.join(folder, "options.txt")
     for word in read_text(extra).split() if os.path.exists(extra) else ():
         if word == "--alike":

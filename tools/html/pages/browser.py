@@ -99,8 +99,10 @@ class Browser:
         return result["result"].get("value")
 
     def key(self, key):
+        code = {"Escape": 27, "Enter": 13}.get(key, 0)
         for kind in ("keyDown", "keyUp"):
-            self.call("Input.dispatchKeyEvent", type=kind, key=key, text=key if len(key) == 1 else "")
+            self.call("Input.dispatchKeyEvent", type=kind, key=key, windowsVirtualKeyCode=code,
+                      text=key if len(key) == 1 and kind == "keyDown" else "")
 
     def screenshot(self, path, whole=False):
         picture = self.call("Page.captureScreenshot", format="png", captureBeyondViewport=whole)
