@@ -5,11 +5,7 @@ tree         what expressions, statements and rules are
 expressions  reads selectors, values, element lists and operators
 statements   reads rules
 commands     reads a file: definitions, includes, commands and blocks; what they leave loaded
-<<<<<<< HEAD
 profile      recognises the language of nftrun (docs/SPEC.md)
-=======
-profile      recognises the language of nftrun (docs/LANGUAGE.md)
->>>>>>> 5c798104e000152488eb9d25e1b0a40a309277b6
 facts        words, types and what is known of selectors that nftrun doesn't read
 assumptions  the guesses, and what may be chosen instead
 changes      what was changed, and how much that matters

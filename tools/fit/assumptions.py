@@ -22,13 +22,10 @@ ASSUMPTIONS = {
     "header": Assumption(("miss", "hit"), "headers aren't so"),
     "route": Assumption(("miss", "hit"), "routes aren't so"),
     "meta": Assumption(("miss", "hit"), "packets aren't so"),
-<<<<<<< HEAD
     "setting": Assumption(
         ("ignored", REFUSE),
         "no helper expects a connection, and no idle limit or zone that is set makes a difference",
     ),
-=======
->>>>>>> 5c798104e000152488eb9d25e1b0a40a309277b6
     "layer2": Assumption(("accept", REFUSE), "what bridge and netdev tables judge passes unchanged"),
     "nat": Assumption(("first", "last"), "the first address or port of the range is taken"),
     "offload": Assumption(("slow", REFUSE), "every packet meets the forward chains"),
@@ -41,11 +38,7 @@ class Assumptions:
     def __init__(self, chosen=(), only=None):
         self.chosen = dict(chosen)
         self.only = only
-<<<<<<< HEAD
         self.asked = []  # (place of the text, what, name, way) of each guess
-=======
-        self.asked = []                                  # (place of the text, what, name, way) of each guess
->>>>>>> 5c798104e000152488eb9d25e1b0a40a309277b6
 
     def way(self, name, place, what):
         """How a guess is decided; it is remembered."""

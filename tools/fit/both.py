@@ -9,11 +9,7 @@ from .assumptions import ASSUMPTIONS, REFUSE, other_way
 
 # what became of each record: its outcome, and of one that passed what left
 Run = namedtuple("Run", "outcomes leaving")
-<<<<<<< HEAD
 SHOWN = 8  # of the records that a guess changes
-=======
-SHOWN = 8                                                # of the records that a guess changes
->>>>>>> 5c798104e000152488eb9d25e1b0a40a309277b6
 
 
 def try_both(fit, names, write):
@@ -48,17 +44,12 @@ def tried(path, fit, guess, usual, names, folder):
     found = differing(usual, run(path, turned, names, folder, "turned"))
     if not found:
         return False, f"{name}={way} or {name}={other}: no record changes"
-<<<<<<< HEAD
     number = "1 record changes" if len(found) == 1 else f"{len(found)} records change"
     shown = " ".join(map(str, found[:SHOWN])) + (" .." if len(found) > SHOWN else "")
     return (
         True,
         f"{name}={way} or {name}={other}: {number}: {shown}",
     )
-=======
-    shown = " ".join(map(str, found[:SHOWN])) + (" .." if len(found) > SHOWN else "")
-    return True, f"{name}={way} or {name}={other}: {len(found)} records change: {shown}"
->>>>>>> 5c798104e000152488eb9d25e1b0a40a309277b6
 
 
 def run(path, fitted, names, folder, name):

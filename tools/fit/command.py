@@ -16,11 +16,7 @@ from .commands import Commands
 from .fitter import Fitter
 from .network import Network
 from .profile import takes
-<<<<<<< HEAD
 from .scanner import Refused
-=======
-from .scanner import Refused, shown
->>>>>>> 5c798104e000152488eb9d25e1b0a40a309277b6
 
 NAME = "fit-ruleset"
 DONE, WORSE = 0, 1
@@ -38,11 +34,7 @@ def fit(path, network, chosen=(), only=None):
     stays = changes.is_all_reading() and takes(source.text, "ruleset")
     if stays:
         for it in changes.list:
-<<<<<<< HEAD
             changes.warnings.append((it.place, f"{it.what}: {it.why}; nftrun reads what Linux does as {it.to}"))
-=======
-            changes.warnings.append((it.place, f"{it.what}: {it.why}; write `{it.to}`"))
->>>>>>> 5c798104e000152488eb9d25e1b0a40a309277b6
         changes.list.clear()
         return Fitted(source.text, plain_rows(fitter), changes, assumptions, True)
     head = f"# by fit-ruleset from {commands.printable(os.path.basename(path))}: {changes.worst()}\n"
@@ -53,11 +45,7 @@ def rows_of(fitter):
     """The map's rows, for rulemap.write."""
     rows = []
     for chain, number, old_chain, old, rule, counters in fitter.rows:
-<<<<<<< HEAD
         origin = rulemap.Origin(old_chain, old, rule.token.source.name, rule.token.line, rule.text, counters)
-=======
-        origin = rulemap.Origin(old_chain, old, rule.token.source.name, rule.token.line, shown(rule.tokens), counters)
->>>>>>> 5c798104e000152488eb9d25e1b0a40a309277b6
         rows.append((chain, number, origin))
     return rows
 
@@ -69,7 +57,6 @@ def plain_rows(fitter):
         place = f"{table.family} {table.name} {chain.name}"
         number = chain.rules.index(rule) + 1
         counters = tuple(range(1, sum(it.kind == "counter" for it in rule.statements) + 1))
-<<<<<<< HEAD
         rows.append(
             (
                 place,
@@ -77,9 +64,6 @@ def plain_rows(fitter):
                 rulemap.Origin(place, number, rule.token.source.name, rule.token.line, rule.text, counters),
             )
         )
-=======
-        rows.append((place, number, rulemap.Origin(place, number, rule.token.source.name, rule.token.line, shown(rule.tokens), counters)))
->>>>>>> 5c798104e000152488eb9d25e1b0a40a309277b6
     return rows
 
 
@@ -100,7 +84,6 @@ def chosen_of(words):
 
 def parsed_arguments():
     parser = argparse.ArgumentParser(
-<<<<<<< HEAD
         prog=NAME,
         formatter_class=argparse.RawDescriptionHelpFormatter,
         description="Rewrites a ruleset that nft(8) takes into the language of nftrun, and tells on standard error what\n"
@@ -129,18 +112,6 @@ def parsed_arguments():
         metavar="IN",
         help="tries each guess both ways over the capture IN, which wants --box; writes no ruleset",
     )
-=======
-        prog=NAME, formatter_class=argparse.RawDescriptionHelpFormatter,
-        description="Rewrites a ruleset that nft(8) takes into the language of nftrun, and tells on standard error what it changed.",
-        epilog="Status: 0 FITTED is written, 1 a change is worse than --at-most, 2 refused. docs/FIT.md has the constructs.\n"
-               f"--assume: {listed()}")
-    parser.add_argument("rules", metavar="RULES", help="what `nft -f` takes or `nft list ruleset` prints")
-    parser.add_argument("--box", metavar="BOX", help="the box file: its addresses, routes and interfaces answer `fib` and `iif`")
-    parser.add_argument("--map", metavar="FILE", help="writes the map from fitted rules to the old ones")
-    parser.add_argument("--assume", metavar="WHAT=HOW", action="append", default=[], help="decides a kind of guess in the other way")
-    parser.add_argument("--at-most", metavar="GRADE", choices=GRADES[:3], default="guess", help="same, outcome or guess: the worst grade that is written (guess)")
-    parser.add_argument("--both", metavar="IN", help="tries each guess both ways over the capture IN, which wants --box; writes no ruleset")
->>>>>>> 5c798104e000152488eb9d25e1b0a40a309277b6
     return parser.parse_args()
 
 
@@ -164,18 +135,11 @@ def run(names):
     tell(fitted.changes)
     worst = fitted.changes.worst()
     count = len(fitted.changes.list)
-<<<<<<< HEAD
     changes = "1 change" if count == 1 else f"{count} changes"
     summary = "nothing changed" if fitted.stays else f"{changes}, the worst: {worst}"
     if worst == "refused":
         number = sum(it.grade == "refused" for it in fitted.changes.list)
         raise Refused(f"{names.rules}: {number} of {count} changes can't be made, as told above")
-=======
-    summary = "nothing changed" if fitted.stays else f"{count} changes, the worst: {worst}"
-    if worst == "refused":
-        number = sum(it.grade == "refused" for it in fitted.changes.list)
-        raise Refused(f"{names.rules}: {number} of {count} changes can't be made")
->>>>>>> 5c798104e000152488eb9d25e1b0a40a309277b6
     if GRADES.index(worst) > GRADES.index(names.at_most):
         print(f"{NAME}: {summary}, which is worse than {names.at_most}: nothing is written", file=sys.stderr)
         return WORSE
@@ -223,14 +187,10 @@ def check(data, names):
         file.flush()
         done = subprocess.run([program, "check", "--explain", file.name, names.box], capture_output=True, check=False)
     if done.returncode:
-<<<<<<< HEAD
         remark = (
             done.stderr.decode("utf-8", "surrogateescape")
             .replace(file.name, "the fitted ruleset")
             .strip()
             .split("\n")[0]
         )
-=======
-        remark = done.stderr.decode("utf-8", "surrogateescape").replace(file.name, "the fitted ruleset").strip().split("\n")[0]
->>>>>>> 5c798104e000152488eb9d25e1b0a40a309277b6
         raise Refused(f"{names.rules}: nftrun refuses what it becomes: {remark}")

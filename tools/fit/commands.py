@@ -3,11 +3,7 @@ import glob
 import os
 
 from .expressions import ExpressionReader, as_number
-<<<<<<< HEAD
 from .scanner import END, Refused, Source, moved, refuse, scan, shown, slice_of
-=======
-from .scanner import END, Refused, Source, moved, refuse, scan, slice_of
->>>>>>> 5c798104e000152488eb9d25e1b0a40a309277b6
 from .tree import Chain, Head, NotFitted, Rule, Set, Table
 
 FAMILIES = ("ip", "ip6", "inet", "arp", "bridge", "netdev")
@@ -24,11 +20,7 @@ class Commands:
         self.changes = changes
         self.tables, self.order = {}, []
         self.variables, self.including = {}, []
-<<<<<<< HEAD
         self.tokens, self.at, self.taken = [], 0, []
-=======
-        self.tokens, self.at = [], 0
->>>>>>> 5c798104e000152488eb9d25e1b0a40a309277b6
 
     def read(self, path):
         source = Source(path, read_text(path))
@@ -60,7 +52,6 @@ class Commands:
     def take(self, *texts):
         token = self.peek()
         if token.kind == "end":
-<<<<<<< HEAD
             raise self.torn()
         if texts and token.text not in texts:
             raise refuse(token, f"`{spoken(token)}` where `{texts[0]}` is wanted")
@@ -70,15 +61,6 @@ class Commands:
     def torn(self):
         return refuse(self.tokens[-1] if self.tokens else END, "the text ends too early")
 
-=======
-            last = self.tokens[-1] if self.tokens else END
-            raise refuse(last, "the text ends too early")
-        if texts and token.text not in texts:
-            raise refuse(token, f"`{shown(token)}` where `{texts[0]}` is wanted")
-        self.at += 1
-        return token
-
->>>>>>> 5c798104e000152488eb9d25e1b0a40a309277b6
     def end(self):
         if self.peek().kind == "newline" or self.has(";"):
             self.at += 1
@@ -90,11 +72,7 @@ class Commands:
         if token.kind == "variable":
             token = self.expanded([token])[0]
         if token.kind not in ("word", "string"):
-<<<<<<< HEAD
             raise refuse(token, f"`{spoken(token)}` is no name")
-=======
-            raise refuse(token, f"`{shown(token)}` is no name")
->>>>>>> 5c798104e000152488eb9d25e1b0a40a309277b6
         return token.text.strip('"')
 
     def to_end(self):
@@ -108,10 +86,7 @@ class Commands:
                 depth += (token.text in "{(") - (token.text in "})")
             taken.append(token)
             self.at += 1
-<<<<<<< HEAD
         self.taken = taken
-=======
->>>>>>> 5c798104e000152488eb9d25e1b0a40a309277b6
         return self.expanded(taken)
 
     def expanded(self, tokens):
@@ -145,11 +120,7 @@ class Commands:
             self.changes.tell(token, "same", word, "left out", "it changes nothing that is loaded")
             self.to_end()
         else:
-<<<<<<< HEAD
             raise refuse(token, f"the command `{spoken(token)}` isn't understood")
-=======
-            raise refuse(token, f"the command `{shown(token)}` isn't understood")
->>>>>>> 5c798104e000152488eb9d25e1b0a40a309277b6
 
     def definition(self):
         token = self.take()
@@ -284,11 +255,7 @@ class Commands:
                 what += " " + self.take("helper", "timeout", "expectation").text
             self.item(self.table_of(), what, token)
         else:
-<<<<<<< HEAD
             raise refuse(token, f"`{verb} {spoken(token)}` isn't understood")
-=======
-            raise refuse(token, f"`{verb} {shown(token)}` isn't understood")
->>>>>>> 5c798104e000152488eb9d25e1b0a40a309277b6
 
     def add_rule(self, verb):
         chain = self.one_of(self.table_of().chains, "chain")
@@ -303,11 +270,7 @@ class Commands:
             where = index + (verb != "insert")
         tokens = self.to_end()
         if tokens:
-<<<<<<< HEAD
             chain.rules.insert(where, Rule(tokens, shown(self.taken)))
-=======
-            chain.rules.insert(where, Rule(tokens))
->>>>>>> 5c798104e000152488eb9d25e1b0a40a309277b6
 
     def add_elements(self, found, tokens):
         if not tokens:
@@ -315,11 +278,7 @@ class Commands:
         try:
             elements = ExpressionReader(tokens).elements(found.is_map).list
         except NotFitted as fault:
-<<<<<<< HEAD
             found.fault = tokens[0], str(fault)  # nftrun may take them as they are
-=======
-            self.changes.refuse(tokens[0], f"elements of {found.name}", str(fault))
->>>>>>> 5c798104e000152488eb9d25e1b0a40a309277b6
             return
         known = {it.key for it in found.elements}
         found.elements += [it for it in elements if it.key not in known or found.is_map]
@@ -330,13 +289,9 @@ class Commands:
         token = self.peek()
         key = self.family(), self.name()
         if key in self.tables and self.has("{"):
-<<<<<<< HEAD
             self.changes.tell_once(
                 token, "same", f"table {' '.join(key)} again", "one block", "its blocks are joined"
             )
-=======
-            self.changes.tell_once(token, "same", f"table {' '.join(key)} again", "one block", "its blocks are joined")
->>>>>>> 5c798104e000152488eb9d25e1b0a40a309277b6
         table = self.tables.setdefault(key, Table(*key, token))
         if not self.skip("{"):
             return
@@ -353,24 +308,16 @@ class Commands:
         elif self.skip("flags"):
             flags = [it.text for it in self.to_end() if it.kind == "word"]
             table.is_dormant |= "dormant" in flags
-<<<<<<< HEAD
             self.changes.tell(
                 token, "same", f"flags {', '.join(flags)}", "left out", "they change no packet, but for `dormant`"
             )
-=======
-            self.changes.tell(token, "same", f"flags {', '.join(flags)}", "left out", "they change no packet, but for `dormant`")
->>>>>>> 5c798104e000152488eb9d25e1b0a40a309277b6
         elif self.has("chain", "set", "map", *OBJECTS):
             what = self.take().text
             if what == "ct":
                 what += " " + self.take("helper", "timeout", "expectation").text
             self.item(table, what, token)
         else:
-<<<<<<< HEAD
             raise refuse(token, f"`{spoken(token)}` isn't understood in a table")
-=======
-            raise refuse(token, f"`{shown(token)}` isn't understood in a table")
->>>>>>> 5c798104e000152488eb9d25e1b0a40a309277b6
 
     def item(self, table, what, token):
         name = self.name()
@@ -420,30 +367,19 @@ class Commands:
             self.definition()
         else:
             tokens = self.to_end()
-<<<<<<< HEAD
             if self.peek().kind == "end":
                 raise self.torn()
             if not tokens:
                 raise refuse(self.peek(), f"`{spoken(self.peek())}` isn't understood in a chain")
             chain.rules.append(Rule(tokens, shown(self.taken)))
-=======
-            if not tokens:
-                raise refuse(self.peek(), f"`{shown(self.peek())}` isn't understood in a chain")
-            chain.rules.append(Rule(tokens))
->>>>>>> 5c798104e000152488eb9d25e1b0a40a309277b6
 
     def head(self):
         first = self.peek()
         words = [it.text for it in self.to_end()]
         if len(words) < 3 or words[1] != "hook" or "priority" not in words:
             raise refuse(first, "the type, hook and priority of a chain are wanted")
-<<<<<<< HEAD
         priority = words[words.index("priority") + 1 :]
         if len(priority) == 1 and "-" in priority[0].strip("-"):  # filter-5 is one word
-=======
-        priority = words[words.index("priority") + 1:]
-        if len(priority) == 1 and "-" in priority[0].strip("-"):         # filter-5 is one word
->>>>>>> 5c798104e000152488eb9d25e1b0a40a309277b6
             name, _, offset = priority[0].partition("-")
             priority = [name, "-", offset]
         return Head(words[0], words[2], tuple(priority))
@@ -454,7 +390,6 @@ class Commands:
                 continue
             start = self.at
             self.set_line(found)
-<<<<<<< HEAD
             line = slice_of(self.tokens[start : self.at])
             if found.slices is not None:
                 if (
@@ -462,11 +397,6 @@ class Commands:
                     and line is not None
                     and not any(it.kind == "variable" for it in self.tokens[start : self.at])
                 ):
-=======
-            line = slice_of(self.tokens[start:self.at])
-            if found.slices is not None:
-                if is_new and line is not None and not any(it.kind == "variable" for it in self.tokens[start:self.at]):
->>>>>>> 5c798104e000152488eb9d25e1b0a40a309277b6
                     found.slices.append(line)
                 else:
                     found.slices = None
@@ -498,11 +428,7 @@ class Commands:
             self.take("=")
             self.add_elements(found, self.to_end())
         else:
-<<<<<<< HEAD
             raise refuse(token, f"`{spoken(token)}` isn't understood in a {found.word}")
-=======
-            raise refuse(token, f"`{shown(token)}` isn't understood in a {found.word}")
->>>>>>> 5c798104e000152488eb9d25e1b0a40a309277b6
 
 
 def types_of(words):
@@ -511,11 +437,7 @@ def types_of(words):
     if ":" not in words:
         return words, None
     at = words.index(":")
-<<<<<<< HEAD
     return words[:at], words[at + 1 :]
-=======
-    return words[:at], words[at + 1:]
->>>>>>> 5c798104e000152488eb9d25e1b0a40a309277b6
 
 
 def included(pattern, from_file):
@@ -538,10 +460,6 @@ def read_text(path):
         raise Refused(f"{path}: {error.strerror}") from None
 
 
-<<<<<<< HEAD
 def spoken(token):
-=======
-def shown(token):
->>>>>>> 5c798104e000152488eb9d25e1b0a40a309277b6
     """A token in a message: a newline is named."""
     return "the end of the line" if token.kind == "newline" else token.text

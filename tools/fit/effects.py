@@ -3,11 +3,7 @@ from .facts import NEVER_IN_IPV4, TRANSPORTS, first_word
 from .numbers import spell_value
 from .profile import takes
 from .sets import verdict_text
-<<<<<<< HEAD
 from .tree import Lookup, Missing, NotFitted, Selector, Value, selectors_in
-=======
-from .tree import Lookup, NotFitted, Selector, Value, selectors_in
->>>>>>> 5c798104e000152488eb9d25e1b0a40a309277b6
 
 
 class Effects:
@@ -15,11 +11,7 @@ class Effects:
 
     def fit_verdict(self, verdict):
         if verdict.target is not None and verdict.target not in self.table.chains:
-<<<<<<< HEAD
             raise Missing(f"there is no chain {verdict.target}")
-=======
-            raise NotFitted(f"there is no chain {verdict.target}")
->>>>>>> 5c798104e000152488eb9d25e1b0a40a309277b6
         if verdict.word == "continue" and not self.is_last():
             self.tell("same", "left out", "a packet goes on in the rule")
             return
@@ -79,15 +71,11 @@ class Effects:
         """An object that a map gives: the rule goes on where the map has the key."""
         if what != "counter":
             raise NotFitted(f"{what} by a map")
-<<<<<<< HEAD
         self.tell(
             "outcome",
             "left out",
             "which counter of the map it is isn't shown; keys that it hasn't end the rule as before",
         )
-=======
-        self.tell("outcome", "left out", "which counter of the map it is isn't shown; keys that it hasn't end the rule as before")
->>>>>>> 5c798104e000152488eb9d25e1b0a40a309277b6
         elements, _ = self.mapping(lookup.map, verdicts=False)
         self.find_key(lookup.key, elements)
 
@@ -95,11 +83,7 @@ class Effects:
         """Where a named counter starts; the first rule that names it starts there."""
         what, token, body = self.table.objects.get(name, (None, None, ()))
         if what != "counter":
-<<<<<<< HEAD
             raise Missing(f"there is no counter {name}")
-=======
-            raise NotFitted(f"there is no counter {name}")
->>>>>>> 5c798104e000152488eb9d25e1b0a40a309277b6
         numbers = [int(it.text) for it in body if it.kind == "number"]
         self.table.objects[name] = (what, token, ())
         return tuple(numbers[:2]) if len(numbers) >= 2 else (0, 0)
@@ -135,21 +119,13 @@ class Effects:
         if bound.name is not None:
             what, _, body = self.table.objects.get(bound.name, (None, None, ()))
             if what != bound.kind:
-<<<<<<< HEAD
                 raise Missing(f"there is no {bound.kind} {bound.name}")
-=======
-                raise NotFitted(f"there is no {bound.kind} {bound.name}")
->>>>>>> 5c798104e000152488eb9d25e1b0a40a309277b6
             over = any(it.text == "over" for it in body)
         way = self.way(bound.kind)
         passes = (way == "under") != bool(over)
         self.guess(bound.kind, way, "always" if passes else self.never())
         if not passes:
-<<<<<<< HEAD
             self.put(self.never())  # what follows is told all the same
-=======
-            self.put(self.never())                       # what follows is told all the same
->>>>>>> 5c798104e000152488eb9d25e1b0a40a309277b6
 
     def fit_dynamic(self, word, name, key, data, bounds):
         """A rule that changes a set: it goes on where the key has a value, and where its bounds hold."""
@@ -158,13 +134,9 @@ class Effects:
             self.die()
             return
         if name in self.table.sets and self.fitter.is_read(self.table, name):
-<<<<<<< HEAD
             self.tell(
                 "outcome", "left out", f"nothing is kept in {name}; what is guessed of it is told where rules read it"
             )
-=======
-            self.tell("outcome", "left out", f"nothing is kept in {name}; what is guessed of it is told where rules read it")
->>>>>>> 5c798104e000152488eb9d25e1b0a40a309277b6
         else:
             self.tell("outcome", "left out", f"what is in {name} isn't shown")
         self.keep_tests(key, data)
@@ -176,16 +148,12 @@ class Effects:
     def keep_tests(self, *operands):
         """A statement that reads `tcp sport` also asks for TCP, where it is left out too."""
         for header in dict.fromkeys(first_word(it.name) for it in selectors_in(operands)):
-<<<<<<< HEAD
             if header in TRANSPORTS and not all(
                 any(
                     it.text.startswith((f"{header} ", f"meta l4proto {header}")) and it.kind == "match" for it in line
                 )
                 for line in self.lines
             ):
-=======
-            if header in TRANSPORTS and not all(any(it.text.startswith((f"{header} ", f"meta l4proto {header}")) and it.kind == "match" for it in line) for line in self.lines):
->>>>>>> 5c798104e000152488eb9d25e1b0a40a309277b6
                 self.put(f"meta l4proto {spell_value(Value('word', header), 'inet_proto')}")
         for selector in selectors_in(operands):
             if selector.name.startswith("ct ") and selector.name not in ("ct state",):

@@ -1,7 +1,6 @@
 """Reads expressions: selectors, values, lists of elements, and what joins them."""
 from .facts import FIELDS, META, TCP_FLAGS, VERDICTS
 from .scanner import END
-<<<<<<< HEAD
 from .tree import (
     Anything,
     Calculation,
@@ -29,14 +28,6 @@ CALCULATIONS = (
     {"&": "&", "and": "&"},
     {"<<": "<<", ">>": ">>", "lshift": "<<", "rshift": ">>"},
 )
-=======
-from .tree import (Anything, Calculation, Drawn, Element, Elements, Joined, Listed, Lookup, Masked, Named, NotFitted,
-                   One, Prefix, Range, Selector, Value, Verdict)
-
-# operators between expressions, the loosest first, in both spellings
-CALCULATIONS = ({"|": "|", "or": "|"}, {"^": "^", "xor": "^"}, {"&": "&", "and": "&"},
-                {"<<": "<<", ">>": ">>", "lshift": "<<", "rshift": ">>"})
->>>>>>> 5c798104e000152488eb9d25e1b0a40a309277b6
 COMPARISONS = {"eq": "==", "ne": "!=", "lt": "<", "gt": ">", "le": "<=", "ge": ">="}
 OPTION_FIELDS = set("kind length size count left right tsval tsecr ptr type value addr".split())
 VALUES = ("number", "address", "six", "mac", "time", "word", "string", "wild")
@@ -178,13 +169,9 @@ class ExpressionReader:
                 self.take()
             elif self.has("counter", "limit", "quota", "ct", "last"):
                 found.append(self.take().text)
-<<<<<<< HEAD
                 while self.peek().kind in ("number", "time", "word", "mark") and not self.has(
                     ",", "}", ":", "timeout", "expires", "comment"
                 ):
-=======
-                while self.peek().kind in ("number", "time", "word", "mark") and not self.has(",", "}", ":", "timeout", "expires", "comment"):
->>>>>>> 5c798104e000152488eb9d25e1b0a40a309277b6
                     self.at += 1
             else:
                 return found
@@ -227,11 +214,7 @@ class ExpressionReader:
             return self.drawn()
         if word == "fib":
             return self.fib()
-<<<<<<< HEAD
         if word in META and not (word == "ipsec" and after.text in ("in", "out")):
-=======
-        if word in META and not (word == "meta"):
->>>>>>> 5c798104e000152488eb9d25e1b0a40a309277b6
             self.at += 1
             return Selector(f"meta {word}")
         if word not in FIELDS or after.kind != "word":
@@ -240,15 +223,11 @@ class ExpressionReader:
             return self.option()
         if word in ("rt", "socket", "osf", "ipsec"):
             return self.lookup_selector()
-<<<<<<< HEAD
         if (
             word == "ct"
             and after.text in ("count", "helper", "timeout", "expectation")
             and (after.text == "count" or self.has("set", ahead=2))
         ):
-=======
-        if word == "ct" and after.text in ("count", "helper", "timeout", "expectation") and (after.text == "count" or self.has("set", ahead=2)):
->>>>>>> 5c798104e000152488eb9d25e1b0a40a309277b6
             return None
         if after.text not in FIELDS[word]:
             raise NotFitted(f"nft(8) has no `{word} {after.text}`")
@@ -275,11 +254,8 @@ class ExpressionReader:
     def lookup_selector(self):
         """`rt nexthop`, `socket cgroupv2 level 1`, `osf name`, `ipsec in reqid`."""
         token, after = self.take(), self.take("word")
-<<<<<<< HEAD
         if token.text == "rt" and after.text in ("type", "hdrlength", "nexthdr", "seg-left"):
             return Selector(f"rt0 {after.text}")  # the routing header of IPv6
-=======
->>>>>>> 5c798104e000152488eb9d25e1b0a40a309277b6
         if token.text != "ipsec" and after.text not in FIELDS[token.text]:
             raise NotFitted(f"nft(8) has no `{token.text} {after.text}`")
         words = [token.text, after.text]

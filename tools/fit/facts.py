@@ -1,17 +1,12 @@
 """Words, types and what is known of selectors: of those that nftrun reads, and of those that it doesn't."""
 from collections import namedtuple
 
-<<<<<<< HEAD
 # What nftrun's language has (docs/SPEC.md)
-=======
-# What nftrun's language has (docs/LANGUAGE.md)
->>>>>>> 5c798104e000152488eb9d25e1b0a40a309277b6
 
 PROTOCOLS = {"icmp": 1, "igmp": 2, "tcp": 6, "udp": 17, "gre": 47, "esp": 50, "ah": 51, "ipv6-icmp": 58, "sctp": 132}
 SERVICES = {"ssh": 22, "smtp": 25, "domain": 53, "http": 80, "ntp": 123, "https": 443}
 TCP_FLAGS = {"fin": 1, "syn": 2, "rst": 4, "psh": 8, "ack": 16, "urg": 32, "ecn": 64, "cwr": 128}
 ICMP_TYPES = {
-<<<<<<< HEAD
     "echo-reply": 0,
     "destination-unreachable": 3,
     "source-quench": 4,
@@ -87,35 +82,6 @@ TYPES = {
 }
 BITS = ("tcp_flag", "ct_state", "ct_status")
 SHORT = ("iifname", "oifname", "iif", "oif")  # written without `meta`
-=======
-    "echo-reply": 0, "destination-unreachable": 3, "source-quench": 4, "redirect": 5, "echo-request": 8,
-    "router-advertisement": 9, "router-solicitation": 10, "time-exceeded": 11, "parameter-problem": 12,
-    "timestamp-request": 13, "timestamp-reply": 14, "info-request": 15, "info-reply": 16,
-    "address-mask-request": 17, "address-mask-reply": 18,
-}
-# the words of each type, and its width in bits
-WORDS = {
-    "ipv4_addr": {}, "inet_proto": PROTOCOLS, "inet_service": SERVICES, "tcp_flag": TCP_FLAGS, "icmp_type": ICMP_TYPES,
-    "ifname": {}, "iface_index": {}, "mark": {}, "nf_proto": {"ipv4": 2, "ipv6": 10},
-    "ct_state": {"invalid": 1, "established": 2, "related": 4, "new": 8, "untracked": 64},
-    "ct_dir": {"original": 0, "reply": 1}, "ct_status": {"seen-reply": 2, "snat": 16, "dnat": 32},
-}
-WIDTHS = {
-    "ipv4_addr": 32, "inet_proto": 8, "inet_service": 16, "tcp_flag": 8, "icmp_type": 8, "ifname": 128, "iface_index": 32,
-    "mark": 32, "nf_proto": 8, "ct_state": 32, "ct_dir": 8, "ct_status": 32,
-}
-# the type of each selector that nftrun reads; one without a name is its width
-TYPES = {
-    "ip saddr": "ipv4_addr", "ip daddr": "ipv4_addr", "ip protocol": "inet_proto", "meta l4proto": "inet_proto",
-    "ip ttl": "8", "ip length": "16", "meta length": "32", "tcp sport": "inet_service", "tcp dport": "inet_service",
-    "udp sport": "inet_service", "udp dport": "inet_service", "th sport": "inet_service", "th dport": "inet_service",
-    "tcp flags": "tcp_flag", "icmp type": "icmp_type", "meta iifname": "ifname", "meta oifname": "ifname",
-    "meta iif": "iface_index", "meta oif": "iface_index", "meta mark": "mark", "ct mark": "mark",
-    "meta nfproto": "nf_proto", "ct state": "ct_state", "ct direction": "ct_dir", "ct status": "ct_status",
-}
-BITS = ("tcp_flag", "ct_state", "ct_status")
-SHORT = ("iifname", "oifname", "iif", "oif")             # written without `meta`
->>>>>>> 5c798104e000152488eb9d25e1b0a40a309277b6
 PRIORITIES = {"raw": -300, "mangle": -150, "dstnat": -100, "filter": 0, "security": 50, "srcnat": 100}
 CHAIN_HOOKS = ("prerouting", "input", "forward", "output", "postrouting")
 VERDICTS = ("accept", "drop", "continue", "return", "jump", "goto")
@@ -124,17 +90,11 @@ LONGEST_KEY = 128
 
 # What nft(8) has: the fields of each header. Of what isn't here nothing may be assumed.
 
-<<<<<<< HEAD
 META = set(
     "mark iif iifname iiftype oif oifname oiftype skuid skgid nftrace rtclassid ibrname obrname ibriport "
     "obriport pkttype cpu iifgroup oifgroup cgroup time day hour protocol nfproto l4proto priority secpath "
     "iifkind oifkind random sdif sdifname broute secmark ipsec ibrpvid ibrvproto length".split()
 )
-=======
-META = set("mark iif iifname iiftype oif oifname oiftype skuid skgid nftrace rtclassid ibrname obrname ibriport "
-           "obriport pkttype cpu iifgroup oifgroup cgroup time day hour protocol nfproto l4proto priority secpath "
-           "iifkind oifkind random sdif sdifname broute secmark ipsec ibrpvid ibrvproto length".split())
->>>>>>> 5c798104e000152488eb9d25e1b0a40a309277b6
 FIELDS = {
     "meta": META,
     "ip": set("version hdrlength dscp ecn length id frag-off ttl protocol checksum saddr daddr option".split()),
@@ -146,35 +106,25 @@ FIELDS = {
     "dccp": set("sport dport type option".split()),
     "sctp": set("sport dport vtag checksum chunk".split()),
     "icmp": set("type code checksum id sequence gateway mtu".split()),
-<<<<<<< HEAD
     "icmpv6": set(
         "type code checksum parameter-problem packet-too-big id sequence max-delay mtu taddr daddr".split()
     ),
-=======
-    "icmpv6": set("type code checksum parameter-problem packet-too-big id sequence max-delay mtu taddr daddr".split()),
->>>>>>> 5c798104e000152488eb9d25e1b0a40a309277b6
     "igmp": set("type mrt checksum group".split()),
     "ether": set("daddr saddr type".split()),
     "vlan": set("id cfi dei pcp type".split()),
     "ah": set("nexthdr hdrlength reserved spi sequence".split()),
     "esp": {"spi", "sequence"},
     "comp": set("nexthdr flags cpi".split()),
-<<<<<<< HEAD
     "ct": set(
         "state direction status mark expiration helper label l3proto saddr daddr protocol proto-src proto-dst bytes "
         "packets avgpkt zone id event secmark timeout expectation original reply".split()
     ),
-=======
-    "ct": set("state direction status mark expiration helper label l3proto saddr daddr protocol proto-src proto-dst bytes "
-              "packets avgpkt zone id event secmark timeout expectation original reply".split()),
->>>>>>> 5c798104e000152488eb9d25e1b0a40a309277b6
     "arp": set("htype ptype hlen plen operation saddr daddr".split()),
     "gre": {"flags", "version", "protocol"},
     "rt": {"classid", "nexthop", "mtu", "ip", "ip6", "ipsec"},
     "socket": {"transparent", "mark", "wildcard", "cgroupv2"},
     "osf": {"ttl", "name", "version"},
     "ipsec": set(),
-<<<<<<< HEAD
     "hbh": {"nexthdr", "hdrlength"},
     "frag": set("nexthdr frag-off more-fragments id reserved reserved2".split()),
     "mh": set("nexthdr hdrlength type reserved checksum".split()),
@@ -183,17 +133,11 @@ FIELDS = {
     "rt4": {"last-entry", "flags", "tag", "sid"},
     "srh": {"flags", "tag", "sid", "seg-left"},
     "dst": {"nexthdr", "hdrlength"},
-=======
-    "hbh": {"nexthdr", "hdrlength"}, "frag": set("nexthdr frag-off more-fragments id reserved reserved2".split()),
-    "mh": set("nexthdr hdrlength type reserved checksum".split()), "rt0": {"addr"}, "rt2": {"addr"},
-    "rt4": {"last-entry", "flags", "tag", "sid"}, "srh": {"flags", "tag", "sid", "seg-left"}, "dst": {"nexthdr", "hdrlength"},
->>>>>>> 5c798104e000152488eb9d25e1b0a40a309277b6
     "exthdr": {"hbh", "frag", "rt", "dst", "mh", "srh"},
 }
 # headers that no IPv4 packet has, so that a match on them fails under every operator
 NEVER_IN_IPV4 = ("ip6", "icmpv6", "arp", "vlan", "rt0", "rt2", "rt4", "srh", "hbh", "frag", "dst", "mh", "exthdr")
 # the protocol that a match on a header asks for first
-<<<<<<< HEAD
 TRANSPORTS = {
     "tcp": 6,
     "udp": 17,
@@ -207,10 +151,6 @@ TRANSPORTS = {
     "comp": 108,
     "gre": 47,
 }
-=======
-TRANSPORTS = {"tcp": 6, "udp": 17, "icmp": 1, "igmp": 2, "sctp": 132, "dccp": 33, "udplite": 136, "esp": 50, "ah": 51,
-              "comp": 108, "gre": 47}
->>>>>>> 5c798104e000152488eb9d25e1b0a40a309277b6
 
 # Selectors that nftrun doesn't read. A fact: what every packet of a run has, or is assumed to have. `needs` is what
 # must hold of the packet for there to be a value.
@@ -218,20 +158,15 @@ TRANSPORTS = {"tcp": 6, "udp": 17, "icmp": 1, "igmp": 2, "sctp": 132, "dccp": 33
 Fact = namedtuple("Fact", "value assumption why needs words", defaults=("", {}))
 ETHER_TYPES = {"ip": 0x0800, "arp": 0x0806, "ip6": 0x86DD, "vlan": 0x8100, "8021q": 0x8100}
 DSCP = {f"cs{it}": 8 * it for it in range(8)} | {
-<<<<<<< HEAD
     "be": 0,
     "lephb": 1,
     "ef": 46,
     "va": 44,
-=======
-    "be": 0, "lephb": 1, "ef": 46, "va": 44,
->>>>>>> 5c798104e000152488eb9d25e1b0a40a309277b6
     **{f"af{a}{b}": 8 * a + 2 * b for a in range(1, 5) for b in range(1, 4)},
 }
 YES_NO = {"exists": 1, "missing": 0}
 LINK_TYPES = {"ether": 1, "ppp": 512, "ipip": 768, "ipip6": 769, "loopback": 772, "sit": 776, "ipgre": 778}
 PACKET_TYPES = {"host": 0, "unicast": 0, "broadcast": 1, "multicast": 2, "other": 3}
-<<<<<<< HEAD
 ICMP_CODES = {
     "net-unreachable": 0,
     "host-unreachable": 1,
@@ -242,10 +177,6 @@ ICMP_CODES = {
     "host-prohibited": 10,
     "admin-prohibited": 13,
 }
-=======
-ICMP_CODES = {"net-unreachable": 0, "host-unreachable": 1, "prot-unreachable": 2, "port-unreachable": 3,
-              "frag-needed": 4, "net-prohibited": 9, "host-prohibited": 10, "admin-prohibited": 13}
->>>>>>> 5c798104e000152488eb9d25e1b0a40a309277b6
 IN_A_CONNECTION = "ct direction { original, reply }"
 KNOWN = {
     "ip version": Fact(4, None, "every packet is IPv4"),
@@ -271,7 +202,6 @@ KNOWN = {
 }
 # of all other selectors: by the selector or its first word, which assumption is made
 UNKNOWN = {
-<<<<<<< HEAD
     "fib": "fib",
     "ether": "link",
     "meta skuid": "owner",
@@ -289,11 +219,6 @@ UNKNOWN = {
     "meta cpu": "random",
     "meta": "meta",
     "osf": "header",
-=======
-    "fib": "fib", "ether": "link", "meta skuid": "owner", "meta skgid": "owner", "meta cgroup": "owner",
-    "socket": "owner", "meta time": "time", "meta hour": "time", "meta day": "time", "ct helper": "helper", "ct": "ct",
-    "rt": "route", "ipsec": "route", "meta random": "random", "meta cpu": "random", "meta": "meta", "osf": "header",
->>>>>>> 5c798104e000152488eb9d25e1b0a40a309277b6
 }
 # `.. set` of what nftrun doesn't write: how much it matters that it is left out, and why
 LEFT_OUT = {
@@ -308,22 +233,15 @@ LEFT_OUT = {
     "tcp option maxseg size": ("outcome", "packets leave with their old segment size"),
     "ether saddr": ("outcome", "link addresses aren't shown"),
     "ether daddr": ("outcome", "link addresses aren't shown"),
-<<<<<<< HEAD
     "ct helper": ("guess", "setting"),
     "ct expectation": ("guess", "setting"),
     "ct timeout": ("guess", "setting"),
     "ct zone": ("guess", "setting"),
-=======
-    "ct helper": ("guess", "helper"),
-    "ct expectation": ("guess", "helper"),
-    "ct timeout": ("guess", "ct"),
->>>>>>> 5c798104e000152488eb9d25e1b0a40a309277b6
 }
 
 # Words of nft(8) that nftrun hasn't
 
 MORE_SERVICES = {
-<<<<<<< HEAD
     "ftp-data": 20,
     "ftp": 21,
     "telnet": 23,
@@ -388,18 +306,6 @@ MORE_PROTOCOLS = {
     "ipencap": 4,
     "l2tp": 115,
 }
-=======
-    "ftp-data": 20, "ftp": 21, "telnet": 23, "time": 37, "tftp": 69, "bootps": 67, "bootpc": 68, "kerberos": 88,
-    "pop3": 110, "sunrpc": 111, "imap": 143, "imap2": 143, "netbios-ns": 137, "netbios-dgm": 138, "netbios-ssn": 139,
-    "snmp": 161, "snmp-trap": 162, "bgp": 179, "ldap": 389, "microsoft-ds": 445, "submission": 587, "submissions": 465,
-    "isakmp": 500, "syslog": 514, "router": 520, "route": 520, "dhcpv6-client": 546, "dhcpv6-server": 547, "ldaps": 636,
-    "domain-s": 853, "rsync": 873, "imaps": 993, "pop3s": 995, "openvpn": 1194, "ms-sql-s": 1433, "radius": 1812,
-    "radius-acct": 1813, "nfs": 2049, "mysql": 3306, "ipsec-nat-t": 4500, "sip": 5060, "sip-tls": 5061, "mdns": 5353,
-    "postgresql": 5432, "http-alt": 8080, "git": 9418, "ntske": 4460, "xmpp-client": 5222, "xmpp-server": 5269,
-}
-MORE_PROTOCOLS = {"udplite": 136, "dccp": 33, "comp": 108, "ipcomp": 108, "ipv6": 41, "icmpv6": 58, "ospf": 89,
-                  "vrrp": 112, "pim": 103, "ipip": 4, "ipencap": 4, "l2tp": 115}
->>>>>>> 5c798104e000152488eb9d25e1b0a40a309277b6
 
 
 def first_word(name):

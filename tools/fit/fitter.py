@@ -1,5 +1,4 @@
 """The whole ruleset: what of it is left out, what leads where, and the text that it becomes."""
-<<<<<<< HEAD
 from .facts import CHAIN_HOOKS, MARKS
 from .marks import Marks
 from .order import Order
@@ -8,19 +7,6 @@ from .scanner import shown
 from .sets import Sets
 from .statements import RuleReader
 from .tree import Chain, NotFitted, Rule, Verdict, counters_in, names_in
-=======
-from .changes import Changes
-from .facts import CHAIN_HOOKS, MARKS, PRIORITIES
-from .marks import Marks
-from .order import Order
-from .rules import RuleFitter, marks_read
-from .scanner import slice_of, spelled
-from .sets import Sets
-from .statements import RuleReader
-from .tree import Chain, Named, NotFitted, Rule, Verdict, names_in
-
-ROW_LIMIT = 16384
->>>>>>> 5c798104e000152488eb9d25e1b0a40a309277b6
 
 
 class Fitter:
@@ -42,7 +28,6 @@ class Fitter:
         self.find_hooks()
         self.marks = Marks(self)
         self.warn_of_marks()
-<<<<<<< HEAD
         self.added_to = {
             (table.family, table.name, it.parts[1])
             for table, _, rule in self.rules()
@@ -54,12 +39,6 @@ class Fitter:
             for _, _, rule in self.rules()
             for it in rule.statements
         )
-=======
-        self.added_to = {(table.family, table.name, it.parts[1]) for table, _, rule in self.rules()
-                         for it in rule.statements if it.kind == "dynamic"}
-        self.sets_zones = any(it.kind == "set" and getattr(it.parts[0], "name", "") == "ct zone"
-                              for _, _, rule in self.rules() for it in rule.statements)
->>>>>>> 5c798104e000152488eb9d25e1b0a40a309277b6
         self.order.settle()
         return "\n".join(self.table_text(table) for table in self.tables.values())
 
@@ -89,7 +68,6 @@ class Fitter:
         try:
             rule.statements, rule.comment = RuleReader(rule.tokens).rule()
         except (NotFitted, RecursionError) as fault:
-<<<<<<< HEAD
             rule.statements, rule.fault = (
                 [],
                 str(fault) if isinstance(fault, NotFitted) else "expressions nested too deeply",
@@ -102,22 +80,12 @@ class Fitter:
             counters += counters_in(it.tokens)
 
     def named_chain(self, table, chain, number, rule, verdict, counters):
-=======
-            rule.statements, rule.fault = [], str(fault) if isinstance(fault, NotFitted) else "expressions nested too deeply"
-        for index, it in enumerate(rule.statements):
-            if it.kind == "verdict" and isinstance(it.parts[0].target, list):
-                inner = self.named_chain(table, chain, number, rule, it.parts[0])
-                rule.statements[index] = it._replace(parts=(Verdict(it.parts[0].word, inner.name),))
-
-    def named_chain(self, table, chain, number, rule, verdict):
->>>>>>> 5c798104e000152488eb9d25e1b0a40a309277b6
         """A chain of its own for the rules in braces behind `jump` or `goto`."""
         count = 1
         while f"fitted_{count}" in table.chains:
             count += 1
         inner = Chain(f"fitted_{count}", rule.token)
         inner.made_for = chain.made_for or (chain, number)
-<<<<<<< HEAD
         inner.rules = [Rule(tokens, shown(tokens)) for tokens in verdict.target]
         table.chains[inner.name] = inner
         self.changes.tell(
@@ -127,13 +95,6 @@ class Fitter:
             one.counters_before = counters
             self.read_rule(table, inner, index, one)
             counters += counters_in(one.tokens)
-=======
-        inner.rules = [Rule(tokens) for tokens in verdict.target]
-        table.chains[inner.name] = inner
-        self.changes.tell(rule.token, "same", f"{verdict.word} {{ .. }}", f"{verdict.word} {inner.name}", "a chain of its own")
-        for index, one in enumerate(inner.rules, 1):
-            self.read_rule(table, inner, index, one)
->>>>>>> 5c798104e000152488eb9d25e1b0a40a309277b6
         return inner
 
     # what leads where
@@ -151,7 +112,6 @@ class Fitter:
         """From which hooks packets come to a chain."""
         for table in self.tables.values():
             for base in table.chains.values():
-<<<<<<< HEAD
                 todo, seen = [base.name] if base.head else [], set()
                 while todo:
                     chain = table.chains.get(todo.pop())
@@ -159,13 +119,6 @@ class Fitter:
                         seen.add(chain.name)
                         chain.hooks.add(base.head.hook)
                         chain.is_early |= self.order.is_early(base)
-=======
-                todo = [base.name] if base.head else []
-                while todo:
-                    chain = table.chains.get(todo.pop())
-                    if chain and base.head.hook not in chain.hooks:
-                        chain.hooks.add(base.head.hook)
->>>>>>> 5c798104e000152488eb9d25e1b0a40a309277b6
                         for rule in chain.rules:
                             todo += self.targets(table, rule)
 
@@ -174,28 +127,19 @@ class Fitter:
             return
         for _, _, rule in self.rules():
             if any(it.kind in ("match", "vmap") and marks_read(it.parts[0]) for it in rule.statements):
-<<<<<<< HEAD
                 self.changes.warn(
                     rule.token, "a mark is asked for that no rule writes: in nftrun each mark begins at 0"
                 )
-=======
-                self.changes.warn(rule.token, "a mark is asked for that no rule writes: in nftrun each mark begins at 0")
->>>>>>> 5c798104e000152488eb9d25e1b0a40a309277b6
                 return
 
     def is_read(self, table, name):
         """Whether some rule looks into the set."""
-<<<<<<< HEAD
         return any(
             it.kind not in ("dynamic",) and name in names_in(it.parts)
             for other, _, rule in self.rules()
             if other is table
             for it in rule.statements
         )
-=======
-        return any(it.kind not in ("dynamic",) and name in names_in(it.parts)
-                   for other, _, rule in self.rules() if other is table for it in rule.statements)
->>>>>>> 5c798104e000152488eb9d25e1b0a40a309277b6
 
     def guess(self, token, what, to, name):
         """A guess about what isn't a rule; NotFitted never: where it is refused, that is told."""
@@ -216,14 +160,9 @@ class Fitter:
         for name, (what, token, _) in table.objects.items():
             why = "rules count for themselves" if what == "counter" else "what it does is told where rules name it"
             self.changes.tell(token, "same", f"{what} {name}", "left out", why)
-<<<<<<< HEAD
         # sets first: what is guessed of their elements decides for the rules that have them
         sets = [line for found in table.sets.values() for line in self.sets.lines(table, found)]
         chains = [line for chain in table.chains.values() for line in self.chain_lines(table, chain)]
-=======
-        chains = [line for chain in table.chains.values() for line in self.chain_lines(table, chain)]
-        sets = [line for found in table.sets.values() for line in self.sets.lines(table, found)]
->>>>>>> 5c798104e000152488eb9d25e1b0a40a309277b6
         notes = [f"\tcomment {note}" for note in table.notes]
         body = notes + sets + chains
         while body and not body[-1]:
@@ -243,13 +182,9 @@ class Fitter:
             made_for = chain.made_for or (chain, old)
             for text, counters in RuleFitter(self, table, chain, rule).fitted():
                 number += 1
-<<<<<<< HEAD
                 self.rows.append(
                     (place, number, f"{table.family} {table.name} {made_for[0].name}", made_for[1], rule, counters)
                 )
-=======
-                self.rows.append((place, number, f"{table.family} {table.name} {made_for[0].name}", made_for[1], rule, counters))
->>>>>>> 5c798104e000152488eb9d25e1b0a40a309277b6
                 lines.append(text)
         return [f"\tchain {chain.name} {{", *("\t\t" + it for it in lines), "\t}", ""]
 
@@ -267,7 +202,6 @@ class Fitter:
             if is_idle:
                 self.changes.tell(chain.token, "same", what, "no hook", "it has no rules")
             else:
-<<<<<<< HEAD
                 self.changes.tell(
                     chain.token,
                     "outcome",
@@ -288,15 +222,3 @@ class Fitter:
             f"type {kind} hook {head.hook} priority {self.order.priority_text(chain)};"
             f" policy {chain.policy or 'accept'};"
         ]
-=======
-                self.changes.tell(chain.token, "outcome", what, "no hook",
-                                  "packets to the box keep their source, and its counters stay; what is forwarded doesn't meet it")
-            return []
-        kind = head.type
-        if kind == "route":
-            self.changes.tell(chain.token, "same", what, f"type filter hook {head.hook}", "nftrun runs no chain of output")
-            kind = "filter"
-        if kind not in ("filter", "nat"):
-            raise NotFitted(f"a chain of type {kind}")
-        return [f"type {kind} hook {head.hook} priority {self.order.priority_text(chain)}; policy {chain.policy or 'accept'};"]
->>>>>>> 5c798104e000152488eb9d25e1b0a40a309277b6

@@ -3,20 +3,12 @@ from .assumptions import ASSUMPTIONS
 from .facts import KNOWN, LONGEST_KEY, TYPES, assumption_of
 from .matches import rules_text, shown
 from .numbers import holds, name_of, range_of, spell_number, spell_part, width_of
-<<<<<<< HEAD
 from .profile import takes
 from .sets import parts_are_plain
 from .tree import Anything, Elements, Named, Missing, NotFitted, One, Selector, Value
 
 MOST_KEYS = 512  # that ranges in joined keys may become
 FEW_KEYS = 32  # as which ranges are written out, where they needn't be
-=======
-from .sets import parts_are_plain
-from .tree import Anything, Elements, Named, NotFitted, One, Selector, Value
-
-MOST_KEYS = 512                                          # that ranges in joined keys may become
-FEW_KEYS = 32                                            # as which ranges are written out, where they needn't be
->>>>>>> 5c798104e000152488eb9d25e1b0a40a309277b6
 
 
 class JoinedKeys:
@@ -27,7 +19,6 @@ class JoinedKeys:
         if isinstance(right, Named):
             found = self.table.sets.get(right.name)
             if found is None:
-<<<<<<< HEAD
                 raise Missing(f"there is no set {right.name}")
             if self.is_hit(right.name, operator):
                 return
@@ -40,22 +31,11 @@ class JoinedKeys:
             self.look_up(names, is_not)
         elif isinstance(right, Elements) and self.are_taken(left, right):
             self.put(self.statement_text(), "match", [it.name for it in left.parts])
-=======
-                raise NotFitted(f"there is no set {right.name}")
-            if self.is_hit(right.name, operator):
-                return
-            names = self.joined_names(left, [it.key for it in found.elements])
-            if names is not None and self.fitter.sets.is_plain(found) and len(names[0]) == len(left.parts):
-                self.put_spelled(f"{' . '.join(map(shown, names[0]))} {'!= ' if is_not else ''}@{right.name}", names[0])
-                return
-            self.look_up(names, is_not)
->>>>>>> 5c798104e000152488eb9d25e1b0a40a309277b6
         elif isinstance(right, Elements):
             self.look_up(self.joined_names(left, [it.key for it in right.list]), is_not)
         else:
             raise NotFitted("joined keys without a list")
 
-<<<<<<< HEAD
     def are_taken(self, left, right):
         """Whether nftrun has the joined keys as they stand."""
         names = [getattr(it, "name", "") for it in left.parts]
@@ -65,8 +45,6 @@ class JoinedKeys:
         plain = all(len(key) == len(kinds) and parts_are_plain(key, kinds) for key in keys)
         return plain and sum(map(width_of, kinds)) <= LONGEST_KEY and self.names_of_interfaces(names, keys) == names
 
-=======
->>>>>>> 5c798104e000152488eb9d25e1b0a40a309277b6
     def look_up(self, names_and_keys, is_not):
         if names_and_keys is None:
             return
@@ -76,15 +54,11 @@ class JoinedKeys:
             kinds = [TYPES[it] for it in names]
             self.put_spelled(ways[0][0].text, names, plain=all(parts_are_plain(key, kinds) for key in keys))
             return
-<<<<<<< HEAD
         self.tell(
             "same",
             "a rule for each way" if ways else self.never(),
             "nftrun has no joined keys with ranges, or of more than 128 bits",
         )
-=======
-        self.tell("same", "a rule for each way" if ways else self.never(), "nftrun has no joined keys with ranges, or of more than 128 bits")
->>>>>>> 5c798104e000152488eb9d25e1b0a40a309277b6
         self.split(ways, names)
 
     def joined_names(self, left, keys):
@@ -115,7 +89,6 @@ class JoinedKeys:
             assumption = fact.assumption if fact else assumption
             way = self.way(assumption)
             is_usual = way == ASSUMPTIONS[assumption].ways[0]
-<<<<<<< HEAD
             kept = (
                 keys
                 if not is_usual
@@ -123,11 +96,6 @@ class JoinedKeys:
             )
             self.guess(assumption, way, f"without {name}")
         return [key[:index] + key[index + 1 :] for key in kept]
-=======
-            kept = keys if not is_usual else [key for key in keys if fact and holds(fact.value, "", key[index], "32", fact.words)]
-            self.guess(assumption, way, f"without {name}")
-        return [key[:index] + key[index + 1:] for key in kept]
->>>>>>> 5c798104e000152488eb9d25e1b0a40a309277b6
 
     # ways to say that joined values are one of some keys
 
@@ -146,7 +114,6 @@ class JoinedKeys:
         if sum(map(width_of, kinds)) <= LONGEST_KEY:
             exact = expanded(keys, kinds)
             if exact is not None and (is_not or overlaps or len(exact) <= max(FEW_KEYS, 2 * len(keys))):
-<<<<<<< HEAD
                 listed = ", ".join(
                     " . ".join(spell_part(part, kind) for part, kind in zip(key, kinds)) for key in exact
                 )
@@ -157,10 +124,6 @@ class JoinedKeys:
                         )
                     ]
                 ]
-=======
-                listed = ", ".join(" . ".join(spell_part(part, kind) for part, kind in zip(key, kinds)) for key in exact)
-                return [[self.piece(f"{' . '.join(map(shown, names))} {'!= ' if is_not else ''}{{ {listed} }}", reads=names)]]
->>>>>>> 5c798104e000152488eb9d25e1b0a40a309277b6
         if is_not:
             raise NotFitted("`!=` with joined keys that have wide ranges, or more than 128 bits")
         if overlaps:
@@ -171,13 +134,9 @@ class JoinedKeys:
         """Indices of interfaces become names where the box isn't known to have them."""
         out = []
         for index, name in enumerate(names):
-<<<<<<< HEAD
             stays = TYPES[name] != "iface_index" or all(
                 self.fitter.sets.is_index(name_of(key[index])) for key in keys
             )
-=======
-            stays = TYPES[name] != "iface_index" or all(self.fitter.sets.is_index(name_of(key[index])) for key in keys)
->>>>>>> 5c798104e000152488eb9d25e1b0a40a309277b6
             out.append(name if stays else name + "name")
         return out
 
@@ -190,7 +149,6 @@ class JoinedKeys:
                 low, high = range_of(Anything(), kind)
                 if kind == "ifname":
                     raise NotFitted("any interface in joined keys")
-<<<<<<< HEAD
                 pieces.append(
                     self.piece(f"{shown(name)} {spell_number(low, kind)}-{spell_number(high, kind)}", reads=[name])
                 )
@@ -199,12 +157,6 @@ class JoinedKeys:
             pieces.append(
                 self.piece(f"{shown(name)} {'{ ' + listed + ' }' if len(parts) > 1 else listed}", reads=[name])
             )
-=======
-                pieces.append(self.piece(f"{shown(name)} {spell_number(low, kind)}-{spell_number(high, kind)}", reads=[name]))
-                continue
-            listed = ", ".join(spell_part(it, kind) for it in parts)
-            pieces.append(self.piece(f"{shown(name)} {'{ ' + listed + ' }' if len(parts) > 1 else listed}", reads=[name]))
->>>>>>> 5c798104e000152488eb9d25e1b0a40a309277b6
         return pieces
 
     def choose(self, left, elements, then):
@@ -222,7 +174,6 @@ class JoinedKeys:
                 by_data.setdefault(it.data, []).append(key)
         for data, keys in by_data.items():
             ways += [way + then(data) for way in self.ways(names, list(dict.fromkeys(keys)))]
-<<<<<<< HEAD
         if len(by_data) > 1 and overlap(
             [key for keys in by_data.values() for key in keys], [TYPES[it] for it in names]
         ):
@@ -232,11 +183,6 @@ class JoinedKeys:
             rules_text(len(ways)) if ways else self.never(),
             "nftrun has no maps over joined keys" if ways else "the map is empty",
         )
-=======
-        if len(by_data) > 1 and overlap([key for keys in by_data.values() for key in keys], [TYPES[it] for it in names]):
-            raise NotFitted("a map with joined keys that overlap")
-        self.tell("same", rules_text(len(ways)) if ways else self.never(), "nftrun has no maps over joined keys" if ways else "the map is empty")
->>>>>>> 5c798104e000152488eb9d25e1b0a40a309277b6
         self.split(ways, names)
 
 
@@ -245,11 +191,7 @@ def grouped(keys, kinds):
     several = 0 if kinds[-1] == "ifname" else len(kinds) - 1
     groups = {}
     for key in keys:
-<<<<<<< HEAD
         groups.setdefault(key[:several] + key[several + 1 :], []).append(key)
-=======
-        groups.setdefault(key[:several] + key[several + 1:], []).append(key)
->>>>>>> 5c798104e000152488eb9d25e1b0a40a309277b6
     return groups.values()
 
 
@@ -280,16 +222,11 @@ def numbers_of(part, kind):
 
 def overlap(keys, kinds):
     """Whether a value may be in two of the keys."""
-<<<<<<< HEAD
     return any(
         all(meet(*parts) for parts in zip(one, other, kinds))
         for index, one in enumerate(keys)
         for other in keys[index + 1 :]
     )
-=======
-    return any(all(meet(*parts) for parts in zip(one, other, kinds))
-               for index, one in enumerate(keys) for other in keys[index + 1:])
->>>>>>> 5c798104e000152488eb9d25e1b0a40a309277b6
 
 
 def meet(one, other, kind):
@@ -297,7 +234,6 @@ def meet(one, other, kind):
         return True
     if kind in ("ifname", "iface_index"):
         one, other = name_of(one), name_of(other)
-<<<<<<< HEAD
         return (
             one == other
             or one.endswith("*")
@@ -307,9 +243,3 @@ def meet(one, other, kind):
         )
     one, other = range_of(one, kind), range_of(other, kind)
     return one is None or other is None or one[0] <= other[1] and other[0] <= one[1]
-=======
-        return one == other or one.endswith("*") and other.startswith(one[:-1]) or other.endswith("*") and one.startswith(other[:-1])
-    one, other = range_of(one, kind), range_of(other, kind)
-    return one is None or other is None or one[0] <= other[1] and other[0] <= one[1]
-
->>>>>>> 5c798104e000152488eb9d25e1b0a40a309277b6

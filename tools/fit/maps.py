@@ -4,11 +4,7 @@ from .facts import KNOWN, MARKS, TYPES, assumption_of
 from .matches import flag_names, rules_text, shown
 from .numbers import constant_number, holds, spell_part
 from .sets import parts_are_plain, verdict_text
-<<<<<<< HEAD
 from .tree import Anything, Calculation, Drawn, Elements, Joined, Missing, NotFitted, Selector, Verdict
-=======
-from .tree import Anything, Calculation, Drawn, Elements, Joined, NotFitted, Selector, Verdict
->>>>>>> 5c798104e000152488eb9d25e1b0a40a309277b6
 
 
 class Maps:
@@ -21,14 +17,9 @@ class Maps:
         else:
             found = self.table.sets.get(mapping.name)
             if found is None or not found.is_map:
-<<<<<<< HEAD
                 raise Missing(f"there is no map {mapping.name}")
             sets = self.fitter.sets
             elements, plain = sets.kept(found), sets.is_plain(found) and not sets.by_name(found)
-=======
-                raise NotFitted(f"there is no map {mapping.name}")
-            elements, plain = self.fitter.sets.kept(found), self.fitter.sets.is_plain(found) and not self.fitter.sets.by_name(found)
->>>>>>> 5c798104e000152488eb9d25e1b0a40a309277b6
             if (self.table.family, self.table.name, mapping.name) in self.fitter.added_to:
                 self.guess_of_map(mapping.name)
         if any(isinstance(it.data, Verdict) != verdicts for it in elements):
@@ -49,11 +40,7 @@ class Maps:
         elements, plain = self.mapping(mapping, verdicts=True)
         for it in elements:
             if isinstance(it.data.target, str) and it.data.target not in self.table.chains:
-<<<<<<< HEAD
                 raise Missing(f"there is no chain {it.data.target}")
-=======
-                raise NotFitted(f"there is no chain {it.data.target}")
->>>>>>> 5c798104e000152488eb9d25e1b0a40a309277b6
             if isinstance(it.data.target, list):
                 raise NotFitted("a chain in braces within a map")
         self.has_continue = any(it.data.word == "continue" for it in elements) and not self.is_last()
@@ -88,12 +75,8 @@ class Maps:
             self.die()
             return
         else:
-<<<<<<< HEAD
             listed = ", ".join(f"{spell_part(it.key[0], kind)} : {verdict_text(it.data)}" for it in named)
             text = f"{shown(name)} vmap {{ {listed} }}"
-=======
-            text = f"{shown(name)} vmap {{ {', '.join(spell_part(it.key[0], kind) + ' : ' + verdict_text(it.data) for it in named)} }}"
->>>>>>> 5c798104e000152488eb9d25e1b0a40a309277b6
         if rest:
             self.catch_all(shown(name), kind, named, rest[0], text)
             return
@@ -103,15 +86,11 @@ class Maps:
     def catch_all(self, name, kind, named, rest, text):
         """`*` in a map is a rule behind it, for all that the map hasn't."""
         keys = ", ".join(spell_part(it.key[0], kind) for it in named)
-<<<<<<< HEAD
         behind = (
             [self.piece(f"{name} != {{ {keys} }}"), *self.ending(rest.data)]
             if named
             else [self.piece(self.always()), *self.ending(rest.data)]
         )
-=======
-        behind = [self.piece(f"{name} != {{ {keys} }}"), *self.ending(rest.data)] if named else [self.piece(self.always()), *self.ending(rest.data)]
->>>>>>> 5c798104e000152488eb9d25e1b0a40a309277b6
         ways = [[self.piece(text, "end")], behind] if named else [behind]
         self.tell("same", f"{rules_text(len(ways))}, the last one with {behind[0].text}", "nftrun has no `*` in maps")
         self.split(ways, [name])
@@ -160,7 +139,6 @@ class Maps:
         name = left.left.name
         if name == "tcp flags":
             mask = flag_names(constant_number(left.right))
-<<<<<<< HEAD
             ways = [
                 [
                     self.piece(f"tcp flags & ({mask}) == {flag_names(constant_number(it.key[0]))}"),
@@ -168,9 +146,6 @@ class Maps:
                 ]
                 for it in elements
             ]
-=======
-            ways = [[self.piece(f"tcp flags & ({mask}) == {flag_names(constant_number(it.key[0]))}"), *self.ending(it.data)] for it in elements]
->>>>>>> 5c798104e000152488eb9d25e1b0a40a309277b6
             self.tell("same", rules_text(len(ways)), "a mask before a map")
             self.split(ways)
             return
@@ -178,7 +153,6 @@ class Maps:
         if name not in MARKS or values is None:
             raise NotFitted("a mask before a map")
         mask = constant_number(left.right, {})
-<<<<<<< HEAD
         found = [
             (it, e.data) for it in sorted(values) for e in elements if holds(it & mask, "", e.key[0], "mark", {})
         ]
@@ -188,11 +162,6 @@ class Maps:
             if found
             else self.never()
         )
-=======
-        found = [(it, e.data) for it in sorted(values) for e in elements if holds(it & mask, "", e.key[0], "mark", {})]
-        why = f"of the marks that rules write ({', '.join(map(hex, sorted(values)))}) these; each mark begins at 0"
-        text = f"{name} vmap {{ {', '.join(f'{it:#x} : {verdict_text(data)}' for it, data in found)} }}" if found else self.never()
->>>>>>> 5c798104e000152488eb9d25e1b0a40a309277b6
         self.tell("same", text, why)
         if found:
             self.put(text, "end", [name])
@@ -201,21 +170,9 @@ class Maps:
 
     def draw(self, drawn, elements, then):
         """What numgen or a hash gives is assumed."""
-<<<<<<< HEAD
         number, way = self.number_drawn(drawn)
         chosen = [it for it in elements if holds(number, "", it.key[0], "32", {})][:1]
         pieces = then(chosen[0].data) if chosen else [self.piece(self.never())]
         self.keep_tests(drawn.over)
         self.tell_drawn(way, pieces[-1].text)
         self.lines = [line + pieces for line in self.lines]
-=======
-        way = self.way("random")
-        number = self.drawn(drawn, way)
-        chosen = [it for it in elements if holds(number, "", it.key[0], "32", {})][:1]
-        pieces = then(chosen[0].data) if chosen else [self.piece(self.never())]
-        self.keep_tests(drawn.over)
-        self.guess("random", way, pieces[-1].text)
-        self.lines = [line + pieces for line in self.lines]
-
-
->>>>>>> 5c798104e000152488eb9d25e1b0a40a309277b6

@@ -3,11 +3,7 @@ from .facts import MARKS
 from .numbers import calculated, range_of
 from .tree import Calculation, Drawn, Lookup, Named, One, Selector
 
-<<<<<<< HEAD
 MOST = 512  # of marks that are followed
-=======
-MOST = 512                                               # of marks that are followed
->>>>>>> 5c798104e000152488eb9d25e1b0a40a309277b6
 
 
 class Marks:
@@ -16,17 +12,12 @@ class Marks:
     def __init__(self, fitter):
         self.fitter = fitter
         self.values = {name: {0} for name in MARKS}
-<<<<<<< HEAD
         self.writes = [
             (table, it.parts[0].name, it.parts[1])
             for table, _, rule in fitter.rules()
             for it in rule.statements
             if it.kind == "set" and getattr(it.parts[0], "name", "") in MARKS
         ]
-=======
-        self.writes = [(table, it.parts[0].name, it.parts[1]) for table, _, rule in fitter.rules() for it in rule.statements
-                       if it.kind == "set" and getattr(it.parts[0], "name", "") in MARKS]
->>>>>>> 5c798104e000152488eb9d25e1b0a40a309277b6
         while self.grow():
             pass
 
@@ -59,7 +50,6 @@ class Marks:
         return None
 
     def data_of(self, table, mapping):
-<<<<<<< HEAD
         elements = (
             table.sets[mapping.name].elements
             if isinstance(mapping, Named) and mapping.name in table.sets
@@ -72,12 +62,6 @@ class Marks:
                 if isinstance(element.data, tuple) and len(element.data) == 1 and isinstance(element.data[0], One)
                 else None
             )
-=======
-        elements = table.sets[mapping.name].elements if isinstance(mapping, Named) and mapping.name in table.sets else getattr(mapping, "list", [])
-        found = set()
-        for element in elements:
-            number = range_of(element.data[0], "mark") if isinstance(element.data, tuple) and len(element.data) == 1 and isinstance(element.data[0], One) else None
->>>>>>> 5c798104e000152488eb9d25e1b0a40a309277b6
             if number is None:
                 return None
             found.add(number[0])

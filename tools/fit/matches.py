@@ -4,7 +4,6 @@ from ipaddress import IPv4Address
 from .assumptions import ASSUMPTIONS
 from .facts import BITS, KNOWN, MARKS, NEVER_IN_IPV4, SHORT, TCP_FLAGS, TYPES, WORDS, assumption_of, first_word
 from .network import Network, spelled_networks
-<<<<<<< HEAD
 from .numbers import bits_named, constant, constant_number, holds, name_of, number_of, spell_part
 from .sets import parts_are_plain
 from .tree import (
@@ -25,12 +24,6 @@ from .tree import (
     Selector,
     Value,
 )
-=======
-from .numbers import bits_named, constant, constant_number, holds, name_of, number_of, number_part, spell_part
-from .sets import parts_are_plain
-from .tree import (Anything, Calculation, Drawn, Elements, Joined, Listed, Masked, Named, NotFitted, One, Piece, Prefix,
-                   Range, Selector, Value)
->>>>>>> 5c798104e000152488eb9d25e1b0a40a309277b6
 
 OWNERS = ("meta skuid", "meta skgid", "meta cgroup")
 WITHOUT_OWNER = {"prerouting", "forward", "postrouting", "output"}
@@ -68,7 +61,6 @@ class Matches:
             self.tell("same", self.never(), "a packet that is forwarded is of no process")
             self.die()
             return
-<<<<<<< HEAD
         fact = KNOWN.get(name)
         if isinstance(right, Named):
             right = self.elements_named(right)
@@ -82,19 +74,6 @@ class Matches:
         elif answer is None:
             raise NotFitted("a value that isn't known")
         elif fact.assumption:
-=======
-        if name == "ct zone" and self.fitter.sets_zones:
-            raise NotFitted("zones of connections, which rules set")
-        fact = KNOWN.get(name)
-        self.keep_header(name)
-        if fact is None:
-            self.guess_match(assumption_of(name), self.usual_answer(assumption_of(name), operator))
-            return
-        answer = holds(fact.value, operator, right, "32", fact.words)
-        if answer is None:
-            raise NotFitted("a value that isn't known")
-        if fact.assumption:
->>>>>>> 5c798104e000152488eb9d25e1b0a40a309277b6
             self.guess_match(fact.assumption, answer, fact.why)
         else:
             self.tell("same", (fact.needs or "left out, as it always holds") if answer else self.never(), fact.why)
@@ -103,7 +82,6 @@ class Matches:
             if not answer:
                 self.die()
 
-<<<<<<< HEAD
     def elements_named(self, named):
         """What a named set has, where no rule adds to it."""
         found = self.table.sets.get(named.name)
@@ -113,8 +91,6 @@ class Matches:
             return named
         return Elements(self.fitter.sets.kept(found))
 
-=======
->>>>>>> 5c798104e000152488eb9d25e1b0a40a309277b6
     def keep_header(self, name):
         """The protocol that the match asks for first, or the connection that it reads."""
         if name not in KNOWN or not KNOWN[name].needs:
@@ -130,7 +106,6 @@ class Matches:
         way = self.way(assumption)
         is_usual = way == ASSUMPTIONS[assumption].ways[0]
         answer = usual if is_usual else not usual
-<<<<<<< HEAD
         why = (
             f"assumed: {fact}; --assume {assumption}={ASSUMPTIONS[assumption].ways[1]} takes the other"
             if fact and is_usual
@@ -160,26 +135,6 @@ class Matches:
             self.tell("same", to, "there is one number alone")
         else:
             self.guess("random", way, to)
-=======
-        why = f"assumed: {fact}; --assume {assumption}={ASSUMPTIONS[assumption].ways[1]} takes the other" if fact and is_usual else None
-        self.guess(assumption, way, "always" if answer else self.never(), why=why)
-        if not answer:
-            self.put(self.never())                       # what follows is told all the same
-
-    def match_drawn(self, drawn, operator, right):
-        way = self.way("random")
-        answer = holds(self.drawn(drawn, way), operator, right, "32", {})
-        if answer is None:
-            raise NotFitted("a value that isn't known")
-        self.keep_tests(drawn.over)
-        self.guess("random", way, "always" if answer else self.never())
-        if not answer:
-            self.put(self.never())
-
-    @staticmethod
-    def drawn(drawn, way):
-        return drawn.offset + (0 if way == "first" else drawn.modulus - 1)
->>>>>>> 5c798104e000152488eb9d25e1b0a40a309277b6
 
     # routing
 
@@ -188,28 +143,20 @@ class Matches:
         parts = keys.split(" . ")
         network = self.fitter.network
         fields = [it for it in parts if it in ("saddr", "daddr")]
-<<<<<<< HEAD
         if (
             result == "type"
             and len(fields) == 1
             and set(parts) <= {*fields, "iif"}
             and (network or self.type_words(right) == ["multicast"])
         ):
-=======
-        if result == "type" and len(fields) == 1 and set(parts) <= {*fields, "iif"} and (network or self.type_words(right) == ["multicast"]):
->>>>>>> 5c798104e000152488eb9d25e1b0a40a309277b6
             self.match_fib_type(fields[0], "iif" in parts, operator, right)
         elif result in ("oif", "oifname") and network and set(parts) == {"saddr", "iif"} and right in YES_NO:
             self.match_reverse_path((right.value.text == "exists") != (operator == "!="))
         else:
-<<<<<<< HEAD
             self.guess_match(
                 "fib",
                 self.usual_answer("fib", operator) if right not in YES_NO else self.guess_of_route(operator, right),
             )
-=======
-            self.guess_match("fib", self.usual_answer("fib", operator) if right not in YES_NO else self.guess_of_route(operator, right))
->>>>>>> 5c798104e000152488eb9d25e1b0a40a309277b6
 
     @staticmethod
     def guess_of_route(operator, right):
@@ -218,7 +165,6 @@ class Matches:
 
     @staticmethod
     def type_words(right):
-<<<<<<< HEAD
         items = (
             [it.key[0] for it in right.list]
             if isinstance(right, Elements)
@@ -226,9 +172,6 @@ class Matches:
             if isinstance(right, Listed)
             else [right]
         )
-=======
-        items = [it.key[0] for it in right.list] if isinstance(right, Elements) else right.items if isinstance(right, Listed) else [right]
->>>>>>> 5c798104e000152488eb9d25e1b0a40a309277b6
         return [it.value.text if isinstance(it, One) else "" for it in items]
 
     def match_fib_type(self, field, by_interface, operator, right):
@@ -240,25 +183,17 @@ class Matches:
             self.tell("same", text, "the addresses of the box file")
             self.put(text)
             return
-<<<<<<< HEAD
         ways = [
             [self.piece(f'iifname "{name}"'), self.piece(self.type_text(field, words, operator, name))]
             for name in network.names()
         ]
-=======
-        ways = [[self.piece(f'iifname "{name}"'), self.piece(self.type_text(field, words, operator, name))] for name in network.names()]
->>>>>>> 5c798104e000152488eb9d25e1b0a40a309277b6
         self.tell("same", f"{rules_text(len(ways))}, one for each interface", "the addresses of the box file")
         self.split(ways)
 
     def type_text(self, field, words, operator, name):
         network = self.fitter.network or Network()
         is_not = operator in ("!=", "!")
-<<<<<<< HEAD
         if "unicast" in words:  # all that is of no other type
-=======
-        if "unicast" in words:                           # all that is of no other type
->>>>>>> 5c798104e000152488eb9d25e1b0a40a309277b6
             words = [it for it in ("local", "broadcast", "multicast") if it not in words]
             is_not = not is_not
         networks = [net for word in words for net in network.of_type(word, name)]
@@ -272,7 +207,6 @@ class Matches:
         for name in self.fitter.network.names():
             reached = ", ".join(self.fitter.network.reached_by(name))
             if reached:
-<<<<<<< HEAD
                 ways.append(
                     [self.piece(f'iifname "{name}"'), self.piece(f"ip saddr {'' if wants else '!= '}{{ {reached} }}")]
                 )
@@ -283,12 +217,6 @@ class Matches:
             f"{rules_text(len(ways))}, one for each interface" if ways else self.never(),
             "by the best route of each address, as the box file has them",
         )
-=======
-                ways.append([self.piece(f'iifname "{name}"'), self.piece(f"ip saddr {'' if wants else '!= '}{{ {reached} }}")])
-            elif not wants:
-                ways.append([self.piece(f'iifname "{name}"')])
-        self.tell("same", f"{rules_text(len(ways))}, one for each interface" if ways else self.never(), "by the best route of each address, as the box file has them")
->>>>>>> 5c798104e000152488eb9d25e1b0a40a309277b6
         self.split(ways)
 
     def piece(self, text, kind="match", reads=()):
@@ -298,15 +226,12 @@ class Matches:
 
     def match_plain(self, name, operator, right):
         kind, reading = TYPES[name], ""
-<<<<<<< HEAD
         if name == "ct state" and self.chain.is_early:
             self.told.warn(
                 self.rule.token,
                 "before connections are looked for (priority -200), Linux reads ct state as invalid, nftrun as nothing:"
                 " no match on it holds",
             )
-=======
->>>>>>> 5c798104e000152488eb9d25e1b0a40a309277b6
         if kind in ("tcp_flag", "ct_status") and isinstance(right, Elements) and len(right.list) == 1:
             right = right.list[0].key[0]
             operator = "!=" if operator == "!=" else ""
@@ -348,27 +273,18 @@ class Matches:
         if kind == "ct_status":
             self.warn_of_status()
         plain = parts_are_plain(parts, [kind] * len(parts)) and self.stays(name)
-<<<<<<< HEAD
         self.put_spelled(
             f"{shown(name)} {'!= ' if operator in ('!=', '!') else ''}{{ {listed} }}", [name], plain=plain
         )
-=======
-        self.put_spelled(f"{shown(name)} {'!= ' if operator in ('!=', '!') else ''}{{ {listed} }}", [name], plain=plain)
->>>>>>> 5c798104e000152488eb9d25e1b0a40a309277b6
 
     def match_set(self, name, operator, named):
         found = self.table.sets.get(named.name)
         if found is None:
-<<<<<<< HEAD
             raise Missing(f"there is no set {named.name}")
-=======
-            raise NotFitted(f"there is no set {named.name}")
->>>>>>> 5c798104e000152488eb9d25e1b0a40a309277b6
         if not self.fitter.sets.is_plain(found):
             raise NotFitted(f"the set {named.name} has no place in nftrun's language")
         if self.is_hit(named.name, operator):
             return
-<<<<<<< HEAD
         if TYPES[name] == "ct_status":
             self.warn_of_status()
         new = (
@@ -376,9 +292,6 @@ class Matches:
             if TYPES[name] == "iface_index" and self.fitter.sets.by_name(found)
             else name
         )
-=======
-        new = "meta " + name.split()[1] + "name" if TYPES[name] == "iface_index" and self.fitter.sets.by_name(found) else name
->>>>>>> 5c798104e000152488eb9d25e1b0a40a309277b6
         self.put_spelled(f"{shown(new)} {'!= ' if operator == '!=' else ''}@{named.name}", [name], plain=new == name)
 
     def is_hit(self, name, operator):
@@ -412,12 +325,9 @@ class Matches:
     # bits
 
     def match_bits(self, name, kind, operator, right, reading):
-<<<<<<< HEAD
         if kind == "tcp_flag" and operator in ("<", ">", "<=", ">="):
             self.match_order_of_flags(0xFF, operator, right)
             return
-=======
->>>>>>> 5c798104e000152488eb9d25e1b0a40a309277b6
         if kind == "tcp_flag":
             self.put_spelled(self.flags_text(operator, right), reading=reading)
             return
@@ -429,14 +339,10 @@ class Matches:
             raise NotFitted("a state that isn't known")
         if operator == "!":
             text = " ".join(f"{name} != {word}" for word in words)
-<<<<<<< HEAD
             why = "none of them"
             if kind == "ct_status":
                 why += "; so nftrun reads it, nft(8) would compare the whole value"
             self.tell("same", text, why)
-=======
-            self.tell("same", text, "none of them")
->>>>>>> 5c798104e000152488eb9d25e1b0a40a309277b6
             self.put(text)
         elif operator == "!=" and (kind == "ct_status" or len(words) > 1):
             self.match_unequal(name, words)
@@ -451,13 +357,9 @@ class Matches:
     def match_unequal(self, name, words):
         """nft(8) compares with all the bits at once, which no packet's value equals: `!=` always holds."""
         to = self.always() if name == "ct state" else "ct direction { original, reply }"
-<<<<<<< HEAD
         meant = f"{name} != {{ {', '.join(words)} }}" if name == "ct state" else f"{name} ! {','.join(words)}"
         why = "nft(8) compares with the whole value, so it always holds; nftrun would read `none of them`,"
         why += f" which nft(8) spells `{meant}`"
-=======
-        why = f"nft(8) compares with {' and '.join(words)} as one value, which none equals, so it always holds; nftrun would read `none of them`"
->>>>>>> 5c798104e000152488eb9d25e1b0a40a309277b6
         self.tell("same", to, why, reads=True)
         self.put(to)
 
@@ -491,12 +393,8 @@ class Matches:
         if isinstance(right, Masked):
             if operator not in ("", "==", "!="):
                 raise NotFitted(f"`tcp flags {operator}` with a mask")
-<<<<<<< HEAD
             sign = "!= " if operator == "!=" else ""
             return f"tcp flags {sign}{flag_words(right.value, ',')} / {flag_words(right.mask, ',')}"
-=======
-            return f"tcp flags {'!= ' if operator == '!=' else ''}{flag_words(right.value, ',')} / {flag_words(right.mask, ',')}"
->>>>>>> 5c798104e000152488eb9d25e1b0a40a309277b6
         if operator == "!":
             return f"tcp flags & ({flag_words(right, ' | ')}) == 0"
         if operator == "!=":
@@ -530,27 +428,17 @@ class Matches:
     def match_masked_flags(self, mask, operator, right):
         mask = constant_number(mask)
         if operator not in ("", "==", "!="):
-<<<<<<< HEAD
             self.match_order_of_flags(mask, operator, right)
             return
-=======
-            if operator != ">" or holds(0, "==", right, "8", TCP_FLAGS) is not True:
-                raise NotFitted(f"`{operator}` with flags")
-            operator, right = "!=", number_part(0)
->>>>>>> 5c798104e000152488eb9d25e1b0a40a309277b6
         if not isinstance(right, Elements):
             sign = "!=" if operator == "!=" else "=="
             self.put_spelled(f"tcp flags & ({flag_names(mask)}) {sign} {flag_words(right, ' | ')}")
             return
         values = [constant_number(it.key[0]) for it in right.list]
-<<<<<<< HEAD
         texts = [
             f"tcp flags & ({flag_names(mask)}) {'!=' if operator == '!=' else '=='} {flag_names(it)}"
             for it in dict.fromkeys(values)
         ]
-=======
-        texts = [f"tcp flags & ({flag_names(mask)}) {'!=' if operator == '!=' else '=='} {flag_names(it)}" for it in dict.fromkeys(values)]
->>>>>>> 5c798104e000152488eb9d25e1b0a40a309277b6
         if operator == "!=":
             self.tell("same", " ".join(texts), "one after the other")
             for text in texts:
@@ -559,7 +447,6 @@ class Matches:
             self.tell("same", "a rule for each value", "a mask before a list")
             self.split([[self.piece(it)] for it in texts])
 
-<<<<<<< HEAD
     def match_order_of_flags(self, mask, operator, right):
         """The values of the flags for which an order holds, in a list."""
         answers = [holds(it & mask, operator, constant(right), "8", {}) for it in range(256)]
@@ -576,8 +463,6 @@ class Matches:
         self.tell("same", text, "all values for which it holds")
         self.put(text)
 
-=======
->>>>>>> 5c798104e000152488eb9d25e1b0a40a309277b6
     def match_mark(self, name, mask, operator, right):
         """The marks that rules write are known, so those for which the match holds can be listed."""
         values = self.fitter.marks.values[name]
@@ -599,15 +484,11 @@ class Matches:
     def match_masked_address(self, name, mask, operator, right):
         number = number_of(mask.value, "ipv4_addr") if isinstance(mask, One) else None
         length = bin(number or 0).count("1")
-<<<<<<< HEAD
         if (
             number != (0xFFFFFFFF << 32 - length) & 0xFFFFFFFF
             or not isinstance(right, One)
             or operator not in ("", "==", "!=")
         ):
-=======
-        if number != (0xFFFFFFFF << 32 - length) & 0xFFFFFFFF or not isinstance(right, One) or operator not in ("", "==", "!="):
->>>>>>> 5c798104e000152488eb9d25e1b0a40a309277b6
             raise NotFitted("a mask of addresses that isn't a prefix")
         base = number_of(right.value, "ipv4_addr")
         if base is None:
@@ -625,15 +506,11 @@ class Matches:
     def match_masked_state(self, name, mask, operator, right):
         """`ct state & (established | related) != 0`."""
         words = self.bit_words(mask)
-<<<<<<< HEAD
         if (
             any(it not in WORDS[TYPES[name]] for it in words)
             or holds(0, "", right, "32", {}) is not True
             or operator not in ("", "==", "!=")
         ):
-=======
-        if any(it not in WORDS[TYPES[name]] for it in words) or holds(0, "", right, "32", {}) is not True or operator not in ("", "==", "!="):
->>>>>>> 5c798104e000152488eb9d25e1b0a40a309277b6
             raise NotFitted(f"a mask of {name}")
         text = f"{name} {','.join(words)}" if operator == "!=" else " ".join(f"{name} != {word}" for word in words)
         self.tell("same", text, "one of them" if operator == "!=" else "none of them")
@@ -684,8 +561,3 @@ def flag_words(it, between):
 
 def flag_names(number):
     return " | ".join(bits_named(number, TCP_FLAGS))
-<<<<<<< HEAD
-=======
-
-
->>>>>>> 5c798104e000152488eb9d25e1b0a40a309277b6

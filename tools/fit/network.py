@@ -1,8 +1,4 @@
-<<<<<<< HEAD
 """The box file, for what rules ask of routing: the box's addresses, and by which interface an address is reached."""
-=======
-"""The box file, for what rules ask of routing: the addresses of the box, and by which interface an address is reached."""
->>>>>>> 5c798104e000152488eb9d25e1b0a40a309277b6
 from ipaddress import IPv4Address, IPv4Interface, IPv4Network
 
 from .commands import read_text
@@ -62,15 +58,9 @@ class Network:
         raise NotFitted(f"`fib .. type {word}`")
 
     def reached_by(self, name):
-<<<<<<< HEAD
         """The addresses whose best route leads to the interface, as ranges of text. The box's own addresses have
         none, as in the kernel; those of broadcast have that of their network."""
         routes = [(net, None) for net in self.own()] + self.routes
-=======
-        """The addresses whose best route leads to the interface, as ranges of text. The box's own addresses and those of
-        broadcast have none, as in the kernel."""
-        routes = [(net, None) for net in self.own() + self.broadcast()] + self.routes
->>>>>>> 5c798104e000152488eb9d25e1b0a40a309277b6
         bounds = sorted({0, 1 << 32} | {int(net[0]) for net, _ in routes} | {int(net[-1]) + 1 for net, _ in routes})
         ranges = []
         for low, after in zip(bounds, bounds[1:]):

@@ -19,11 +19,8 @@ def number_of(value, kind, words=None):
         return as_number(value.text)
     if value.kind == "address":
         return int(address_of(value.text))
-<<<<<<< HEAD
     if value.kind == "string" and words is not None:  # `iifgroup "default"`
         return words.get(value.text.strip('"'))
-=======
->>>>>>> 5c798104e000152488eb9d25e1b0a40a309277b6
     if value.kind != "word":
         return None
     if words is not None or kind in WORDS and value.text in WORDS[kind]:
@@ -46,11 +43,7 @@ def range_of(part, kind, words=None):
     """The least and the greatest number that a part stands for, or None."""
     width = width_of(kind)
     if isinstance(part, Anything):
-<<<<<<< HEAD
         return 0, 2**width - 1
-=======
-        return 0, 2 ** width - 1
->>>>>>> 5c798104e000152488eb9d25e1b0a40a309277b6
     if isinstance(part, One):
         number = number_of(part.value, kind, words)
         return None if number is None else (number, number)
@@ -159,7 +152,6 @@ def holds(number, operator, right, kind, words=None):
 
 
 def calculated(operator, left, right):
-<<<<<<< HEAD
     results = {
         "&": left & right,
         "|": left | right,
@@ -167,9 +159,6 @@ def calculated(operator, left, right):
         "<<": left << min(right, 64),
         ">>": left >> min(right, 64),
     }
-=======
-    results = {"&": left & right, "|": left | right, "^": left ^ right, "<<": left << min(right, 64), ">>": left >> min(right, 64)}
->>>>>>> 5c798104e000152488eb9d25e1b0a40a309277b6
     return results[operator] & 0xFFFFFFFF
 
 

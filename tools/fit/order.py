@@ -4,13 +4,8 @@ import re
 from .facts import PRIORITIES
 from .tree import NotFitted
 
-<<<<<<< HEAD
 EARLY = -200  # nftrun looks for connections behind these
 STEPS = {"prerouting": -100, "postrouting": 100}  # where nftrun translates
-=======
-EARLY = -200                                             # nftrun looks for connections behind these
-STEPS = {"prerouting": -100, "postrouting": 100}         # where nftrun translates
->>>>>>> 5c798104e000152488eb9d25e1b0a40a309277b6
 
 
 class Order:
@@ -28,7 +23,6 @@ class Order:
             raise NotFitted(f"the priority `{' '.join(words)}`")
         return (named or 0) + int(text, 0)
 
-<<<<<<< HEAD
     def is_early(self, chain):
         """Whether a base chain is run before connections are looked for."""
         try:
@@ -36,8 +30,6 @@ class Order:
         except NotFitted:
             return False  # told where the chain is written
 
-=======
->>>>>>> 5c798104e000152488eb9d25e1b0a40a309277b6
     def priority_text(self, chain):
         number = self.number(chain)
         if chain.head.type == "nat" and number <= EARLY:
@@ -70,7 +62,6 @@ class Order:
         for table in self.fitter.tables.values():
             for chain in table.chains.values():
                 try:
-<<<<<<< HEAD
                     is_run = (
                         chain.head
                         and chain.head.hook in ("prerouting", "input", "forward", "postrouting")
@@ -78,11 +69,6 @@ class Order:
                     )
                 except NotFitted:
                     continue  # told where the chain is written
-=======
-                    is_run = chain.head and chain.head.hook in ("prerouting", "input", "forward", "postrouting") and self.number(chain) is not None
-                except NotFitted:
-                    continue                             # told where the chain is written
->>>>>>> 5c798104e000152488eb9d25e1b0a40a309277b6
                 if is_run and not (chain.head.type == "nat" and chain.head.hook == "input"):
                     found.append(chain)
         return found
@@ -95,19 +81,14 @@ class Order:
         least = priority - len(wanted) + 1
         others = {self.number(it) for it in here if it.head.hook == hook and it not in wanted}
         if others & set(range(least, priority)) or self.crosses(hook, least, priority, last):
-<<<<<<< HEAD
             self.fitter.changes.warn(
                 last.token,
                 f"{what}: Linux runs them in this order, nftrun in that of the text; give them priorities that differ",
             )
-=======
-            self.fitter.changes.warn(last.token, f"{what}: Linux runs them in this order, nftrun in that of the text; give them priorities that differ")
->>>>>>> 5c798104e000152488eb9d25e1b0a40a309277b6
             return
         for index, chain in enumerate(wanted[:-1]):
             self.shifted[chain] = least + index
         to = ", ".join(f"{it.name} at {self.shifted.get(it, priority)}" for it in wanted)
-<<<<<<< HEAD
         self.fitter.changes.tell(
             last.token,
             "same",
@@ -116,9 +97,6 @@ class Order:
             "Linux runs the one first that came last, nftrun the one that is first in the text",
             reads=True,
         )
-=======
-        self.fitter.changes.tell(last.token, "same", what, to, "Linux runs the one first that came last, nftrun the one that is first in the text", reads=True)
->>>>>>> 5c798104e000152488eb9d25e1b0a40a309277b6
 
     @staticmethod
     def crosses(hook, least, most, chain):
@@ -137,7 +115,6 @@ class Order:
                 continue
             number, step = self.number(chain), STEPS.get(chain.head.hook)
             if number == EARLY and chain.head.hook == "prerouting":
-<<<<<<< HEAD
                 self.fitter.changes.warn(
                     chain.token,
                     f"chain {chain.name} at priority -200: nftrun runs it before connections are looked for, Linux"
@@ -160,14 +137,3 @@ class Order:
                 "Linux runs it before translation, as it came after a chain of type nat; nftrun would behind",
                 reads=True,
             )
-=======
-                self.fitter.changes.warn(chain.token, f"chain {chain.name} at priority -200: nftrun runs it before connections are looked for, Linux maybe behind; take -201 or -199")
-            if number != step or not translating or order.index(chain) < translating[0]:
-                continue
-            if any(self.number(it) == step - 1 for it in here if it.head.hook == chain.head.hook):
-                self.fitter.changes.warn(chain.token, f"chain {chain.name} at priority {step}: Linux runs it before translation, nftrun behind")
-                continue
-            self.shifted[chain] = step - 1
-            self.fitter.changes.tell(chain.token, "same", f"chain {chain.name} at priority {step}", f"at {step - 1}",
-                                     "Linux runs it before translation, as it came after a chain of type nat; nftrun would behind", reads=True)
->>>>>>> 5c798104e000152488eb9d25e1b0a40a309277b6

@@ -1,8 +1,4 @@
-<<<<<<< HEAD
 """Recognises the language that nftrun reads: its tokens and its grammar, as docs/SPEC.md spells them.
-=======
-"""Recognises the language that nftrun reads: its tokens and its grammar, as docs/LANGUAGE.md spells them.
->>>>>>> 5c798104e000152488eb9d25e1b0a40a309277b6
 
 What is recognised here isn't refused with E01 to E06; what the check refuses (N01 to N15) it alone judges.
 """
@@ -23,7 +19,6 @@ CUT = re.compile(
       | (?P<mark>==|!=|>=|<=|[{}(),;:./\-+=@&|<>])""",
     re.VERBOSE,
 )
-<<<<<<< HEAD
 NUMBERED = {
     "ip saddr",
     "ip daddr",
@@ -51,12 +46,6 @@ NUMBERED = {
     "ct direction",
     "ct status",
 }
-=======
-NUMBERED = {"ip saddr", "ip daddr", "ip protocol", "meta l4proto", "ip ttl", "ip length", "meta length", "tcp sport",
-            "tcp dport", "udp sport", "udp dport", "th sport", "th dport", "tcp flags", "icmp type", "meta mark",
-            "meta iifname", "meta oifname", "meta iif", "meta oif", "ct mark", "meta nfproto", "ct state",
-            "ct direction", "ct status"}
->>>>>>> 5c798104e000152488eb9d25e1b0a40a309277b6
 BITS = ("ct state", "ct status", "tcp flags")
 FIRST_WORDS = {it.split()[0] for it in NUMBERED}
 OPERATORS = ("==", "!=", "<", ">", "<=", ">=")
@@ -87,7 +76,6 @@ def is_sound(found):
     if found.lastgroup == "address":
         return all(len(it) <= 3 and int(it) <= 255 and (it == "0" or it[0] != "0") for it in text.split("."))
     if found.lastgroup == "number":
-<<<<<<< HEAD
         return (
             text.startswith("0x")
             and len(text.lstrip("0x")) <= 16
@@ -95,9 +83,6 @@ def is_sound(found):
             and len(text) < 21
             and int(text) < 1 << 64
         )
-=======
-        return text.startswith("0x") and len(text.lstrip("0x")) <= 16 or (text == "0" or text[0] != "0") and len(text) < 21 and int(text) < 1 << 64
->>>>>>> 5c798104e000152488eb9d25e1b0a40a309277b6
     return True
 
 

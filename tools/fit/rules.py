@@ -9,17 +9,10 @@ from .numbers import holds
 from .profile import takes
 from .scanner import place, shown, slice_of, spelled
 from .translation import Translations
-<<<<<<< HEAD
 from .tree import Calculation, Joined, Missing, NotFitted, Piece, Selector, counters_in, selectors_in
 from .writes import Writes
 
 ENDS = ("verdict", "vmap", "nat", "reject", "queue")  # statements after which a rule goes no further
-=======
-from .tree import Calculation, Joined, NotFitted, Piece, Selector, selectors_in
-from .writes import Writes
-
-ENDS = ("verdict", "vmap", "nat", "reject", "queue")     # statements after which a rule goes no further
->>>>>>> 5c798104e000152488eb9d25e1b0a40a309277b6
 MOST_LINES = 512
 NO_PACKET = "no packet comes so far in the rule"
 
@@ -30,11 +23,7 @@ class RuleFitter(Matches, JoinedKeys, Maps, Writes, Translations, Effects):
     def __init__(self, fitter, table, chain, rule):
         self.fitter, self.table, self.chain, self.rule = fitter, table, chain, rule
         self.before, self.lines, self.is_dead = [], [[]], False
-<<<<<<< HEAD
         self.told, self.counters, self.statement, self.index = Changes(), rule.counters_before, None, 0
-=======
-        self.told, self.counters, self.statement, self.index = Changes(), 0, None, 0
->>>>>>> 5c798104e000152488eb9d25e1b0a40a309277b6
         # what runs in chains of output alone meets no packet of a capture
         self.never_runs = chain.hooks == {"output"}
 
@@ -45,12 +34,9 @@ class RuleFitter(Matches, JoinedKeys, Maps, Writes, Translations, Effects):
                 raise NotFitted(self.rule.fault)
             self.fit()
         except (NotFitted, RecursionError) as fault:
-<<<<<<< HEAD
             if not isinstance(fault, Missing) and self.is_taken():
                 counters = range(1, counters_in(self.rule.tokens) + 1)
                 return [(slice_of(self.rule.tokens), tuple(self.rule.counters_before + it for it in counters))]
-=======
->>>>>>> 5c798104e000152488eb9d25e1b0a40a309277b6
             return self.not_fitted(str(fault) if isinstance(fault, NotFitted) else "expressions nested too deeply")
         for it in self.told.list:
             if self.never_runs and it.grade != "same":
@@ -59,7 +45,6 @@ class RuleFitter(Matches, JoinedKeys, Maps, Writes, Translations, Effects):
         self.fitter.changes.warnings += [it for it in self.told.warnings if it not in self.fitter.changes.warnings]
         return self.texts()
 
-<<<<<<< HEAD
     def is_taken(self):
         """Whether nftrun takes the rule as it stands, with the sets that it names."""
         stands = slice_of(self.rule.tokens)
@@ -72,10 +57,6 @@ class RuleFitter(Matches, JoinedKeys, Maps, Writes, Translations, Effects):
 
     def not_fitted(self, why):
         text = self.rule.text
-=======
-    def not_fitted(self, why):
-        text = shown(self.rule.tokens)
->>>>>>> 5c798104e000152488eb9d25e1b0a40a309277b6
         if self.never_runs:
             self.fitter.changes.tell(self.rule.token, "same", text, self.never(), "nftrun runs no chain of output")
         else:
@@ -84,7 +65,6 @@ class RuleFitter(Matches, JoinedKeys, Maps, Writes, Translations, Effects):
 
     def texts(self):
         stands = slice_of(self.rule.tokens)
-<<<<<<< HEAD
         if (
             not self.told.list
             and len(self.lines) == 1
@@ -92,16 +72,12 @@ class RuleFitter(Matches, JoinedKeys, Maps, Writes, Translations, Effects):
             and stands is not None
             and takes(stands, "rule")
         ):
-=======
-        if not self.told.list and len(self.lines) == 1 and not self.before and stands is not None and takes(stands, "rule"):
->>>>>>> 5c798104e000152488eb9d25e1b0a40a309277b6
             return [(stands, tuple(it.counter for it in self.lines[0] if it.counter))]
         lines = self.before + [line or [Piece(self.always())] for line in self.lines]
         self.start_once(lines)
         if len(lines) > MOST_LINES:
             return self.not_fitted(f"it becomes more than {MOST_LINES} rules")
         if len(lines) > 1:
-<<<<<<< HEAD
             why = (
                 "the first does what is done once, and a packet meets one of the others"
                 if self.before
@@ -116,12 +92,6 @@ class RuleFitter(Matches, JoinedKeys, Maps, Writes, Translations, Effects):
             if not takes(text, "rule"):
                 return self.not_fitted(f"it would become `{text}`, which nftrun hasn't")
         return [(text, tuple(it.counter for it in line if it.counter)) for text, line in zip(texts, lines)]
-=======
-            why = "the first does what is done once, and a packet meets one of the others" if self.before else "a packet meets one of them"
-            self.fitter.changes.tell(self.rule.token, "same", "the rule", f"{len(lines)} rules", why + "; their counters are to be added")
-        comment = f" comment {self.rule.comment}" if self.rule.comment else ""
-        return [(" ".join(it.text for it in line) + comment, tuple(it.counter for it in line if it.counter)) for line in lines]
->>>>>>> 5c798104e000152488eb9d25e1b0a40a309277b6
 
     @staticmethod
     def start_once(lines):
@@ -170,11 +140,7 @@ class RuleFitter(Matches, JoinedKeys, Maps, Writes, Translations, Effects):
             return False
         stands = slice_of(self.rule.tokens)
         if stands is not None and takes(stands, "rule"):
-<<<<<<< HEAD
             self.lines = [[Piece(stands)]]  # it is told by nothing: `texts` takes it as it stands
-=======
-            self.lines = [[Piece(stands)]]               # it is told by nothing: `texts` takes it as it stands
->>>>>>> 5c798104e000152488eb9d25e1b0a40a309277b6
             self.count_counters()
             return True
         self.put(self.never())
@@ -187,7 +153,6 @@ class RuleFitter(Matches, JoinedKeys, Maps, Writes, Translations, Effects):
             elif it.kind == "verdict":
                 self.fit_verdict(*it.parts)
                 break
-<<<<<<< HEAD
         self.told.tell(
             self.rule.token,
             "same",
@@ -195,18 +160,11 @@ class RuleFitter(Matches, JoinedKeys, Maps, Writes, Translations, Effects):
             " ".join(it.text for it in self.lines[0]),
             "no IPv4 packet meets it",
         )
-=======
-        self.told.tell(self.rule.token, "same", shown(self.rule.tokens), " ".join(it.text for it in self.lines[0]), "no IPv4 packet meets it")
->>>>>>> 5c798104e000152488eb9d25e1b0a40a309277b6
         return True
 
     def count_counters(self):
         number = sum(it.kind == "counter" for it in self.rule.statements)
-<<<<<<< HEAD
         self.lines[0] += [Piece("", "effect", (), it) for it in range(self.counters + 1, self.counters + number + 1)]
-=======
-        self.lines[0] += [Piece("", "effect", (), it) for it in range(1, number + 1)]
->>>>>>> 5c798104e000152488eb9d25e1b0a40a309277b6
 
     def leading_matches(self):
         """The matches before all else, and a vmap right behind them."""
@@ -269,13 +227,9 @@ class RuleFitter(Matches, JoinedKeys, Maps, Writes, Translations, Effects):
             return
         if len(ways) > 1:
             if any(self.fitter.marks.may_change(name) for name in MARKS if name in reads) and self.goes_on():
-<<<<<<< HEAD
                 raise NotFitted(
                     "a choice by a mark, behind which a packet meets the next rule, maybe with another mark"
                 )
-=======
-                raise NotFitted("a choice by a mark, behind which a packet meets the next rule, maybe with another mark")
->>>>>>> 5c798104e000152488eb9d25e1b0a40a309277b6
             self.do_once()
         self.lines = [line + list(way) for line in self.lines for way in ways]
         if len(self.lines) > MOST_LINES:
@@ -296,13 +250,9 @@ class RuleFitter(Matches, JoinedKeys, Maps, Writes, Translations, Effects):
         if last.kind in ("nat", "reject", "queue"):
             return False
         if last.kind == "vmap":
-<<<<<<< HEAD
             return any(
                 it.data.word in ("jump", "continue") for it in self.fitter.sets.elements_of(self.table, last.parts[1])
             )
-=======
-            return any(it.data.word in ("jump", "continue") for it in self.fitter.sets.elements_of(self.table, last.parts[1]))
->>>>>>> 5c798104e000152488eb9d25e1b0a40a309277b6
         return last.kind != "verdict" or last.parts[0].word in ("jump", "continue")
 
     # what is told
@@ -331,8 +281,3 @@ def marks_read(it):
     if isinstance(it, Joined):
         return any(map(marks_read, it.parts))
     return isinstance(it, Calculation) and (marks_read(it.left) or marks_read(it.right))
-<<<<<<< HEAD
-=======
-
-
->>>>>>> 5c798104e000152488eb9d25e1b0a40a309277b6

@@ -56,15 +56,9 @@ def scan(source):
     while at < len(text):
         found = SCANNER.match(text, at)
         if found and found.lastgroup == "six" and not is_six(found[0]):
-<<<<<<< HEAD
             found = NOT_SIX.match(text, at)  # `22:8080:` and the like
         if not found or not found[0]:
             shown = text[at : at + 20].split("\n")[0]
-=======
-            found = NOT_SIX.match(text, at)          # `22:8080:` and the like
-        if not found or not found[0]:
-            shown = text[at:at + 20].split("\n")[0]
->>>>>>> 5c798104e000152488eb9d25e1b0a40a309277b6
             raise Refused(f"{source.name}:{line}: {shown!r} begins nothing that nft(8) knows")
         if found.lastgroup != "blank":
             tokens.append(Token(found.lastgroup, found[0], source, line, at, found.end()))
@@ -95,11 +89,7 @@ def slice_of(tokens):
     """The text of the tokens just as it stands in its file, or None where it isn't all from there."""
     if not tokens or any(it.start < 0 or it.source is not tokens[0].source for it in tokens):
         return None
-<<<<<<< HEAD
     return tokens[0].source.text[tokens[0].start : tokens[-1].end]
-=======
-    return tokens[0].source.text[tokens[0].start:tokens[-1].end]
->>>>>>> 5c798104e000152488eb9d25e1b0a40a309277b6
 
 
 def shown(tokens):

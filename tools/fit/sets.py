@@ -1,9 +1,6 @@
 """Named sets and maps: which of them nftrun has, and their text."""
-<<<<<<< HEAD
 import re
 
-=======
->>>>>>> 5c798104e000152488eb9d25e1b0a40a309277b6
 from .expressions import ExpressionReader
 from .facts import LONGEST_KEY, TYPES, WIDTHS, WORDS
 from .numbers import name_of, spell_part, width_of
@@ -31,31 +28,20 @@ class Sets:
         """The types of the key's parts; `?` for one that nftrun hasn't."""
         if found.typeof is None:
             return list(found.types)
-<<<<<<< HEAD
         return selector_types(found.typeof[: colon(found.typeof)])
-=======
-        return selector_types(found.typeof[:colon(found.typeof)])
->>>>>>> 5c798104e000152488eb9d25e1b0a40a309277b6
 
     def data_types(self, found):
         if found.typeof is None:
             return found.data
         at = colon(found.typeof)
-<<<<<<< HEAD
         rest = found.typeof[at + 1 :]
-=======
-        rest = found.typeof[at + 1:]
->>>>>>> 5c798104e000152488eb9d25e1b0a40a309277b6
         if not rest:
             return None
         return ["verdict"] if rest[0].text == "verdict" else selector_types(rest)
 
-<<<<<<< HEAD
     def is_foreign(self, found):
         return any(it not in WIDTHS and not it.isdigit() for it in self.key_types(found))
 
-=======
->>>>>>> 5c798104e000152488eb9d25e1b0a40a309277b6
     def is_plain(self, found):
         """Whether nftrun has such a set."""
         types, data = self.key_types(found), self.data_types(found)
@@ -75,14 +61,10 @@ class Sets:
             return False
         if any(isinstance(it.data, Verdict) != (data[0] == "verdict") for it in found.elements):
             return False
-<<<<<<< HEAD
         return not any(
             isinstance(it.key[0], Anything) or not isinstance(it.data, Verdict) and not isinstance(it.data[0], One)
             for it in found.elements
         )
-=======
-        return not any(isinstance(it.key[0], Anything) or not isinstance(it.data, Verdict) and not isinstance(it.data[0], One) for it in found.elements)
->>>>>>> 5c798104e000152488eb9d25e1b0a40a309277b6
 
     def by_name(self, found):
         """Whether a set of interfaces holds names that the box hasn't, so that it becomes one of names."""
@@ -91,22 +73,14 @@ class Sets:
         names = [name_of(it.key[0]) for it in found.elements]
         if all(map(self.is_index, names)):
             return False
-<<<<<<< HEAD
         if any(it is None or is_number(it) for it in names):
-=======
-        if any(it is None or it.isdigit() for it in names):
->>>>>>> 5c798104e000152488eb9d25e1b0a40a309277b6
             raise NotFitted(f"names and numbers of interfaces in the set {found.name}; --box BOX tells the names")
         return True
 
     def is_index(self, name):
         """Whether `iif NAME` can stay: it asks for an interface of the box."""
         network = self.fitter.network
-<<<<<<< HEAD
         return name is not None and (is_number(name) or network is not None and name in network.names())
-=======
-        return name is not None and (name.isdigit() or network is not None and name in network.names())
->>>>>>> 5c798104e000152488eb9d25e1b0a40a309277b6
 
     # text
 
@@ -119,7 +93,6 @@ class Sets:
 
     def lines_of(self, table, found):
         changes = self.fitter.changes
-<<<<<<< HEAD
         if found.fault is not None and (found.slices is None or not self.is_taken(found)):
             changes.refuse(found.fault[0], f"elements of {found.name}", found.fault[1])
         if not self.is_foreign(found):
@@ -130,19 +103,10 @@ class Sets:
                 why = "nftrun has none of its type; the rules that use it are told for themselves"
             changes.tell(found.token, "same", f"{found.word} {found.name}", "left out", why)
             return []
-=======
-        if not self.is_plain(found):
-            is_foreign = any(it not in WIDTHS and not it.isdigit() for it in self.key_types(found))
-            why = "no rule of IPv4 that nftrun reads looks into it" if is_foreign else "its elements stand in the rules that use it"
-            changes.tell(found.token, "same", f"{found.word} {found.name}", "left out", why)
-            return []
-        self.tell_of_time(table, found)
->>>>>>> 5c798104e000152488eb9d25e1b0a40a309277b6
         if found.counts or any("counter" in it.extras for it in found.elements):
             changes.tell(found.token, "outcome", f"counters of {found.name}", "none", "they aren't shown")
         by_name = self.by_name(found)
         if by_name:
-<<<<<<< HEAD
             changes.tell(
                 found.token,
                 "same",
@@ -150,44 +114,31 @@ class Sets:
                 "of names",
                 "names compare alike, and ask for no interface of the box",
             )
-=======
-            changes.tell(found.token, "same", f"{found.word} {found.name} of indices", "of names", "names compare alike, and ask for no interface of the box")
->>>>>>> 5c798104e000152488eb9d25e1b0a40a309277b6
         stands = found.slices is not None and not by_name and self.stands(found)
         body = found.slices if stands else self.anew(found, "ifname" if by_name else None)
         return [f"\t{found.word} {found.name} {{", *("\t\t" + it for it in body), "\t}", ""]
 
     def stands(self, found):
         """Whether nftrun takes the fields of the set as they are."""
-<<<<<<< HEAD
         return self.is_taken(found) and self.has_known_words(found)
 
     @staticmethod
     def is_taken(found):
         text = f"{found.word} x {{\n" + "\n".join(found.slices) + "\n}"
         return takes(f"table x {{\n{text}\n}}", "ruleset")
-=======
-        text = f"{found.word} x {{\n" + "\n".join(found.slices) + "\n}"
-        return takes(f"table x {{\n{text}\n}}", "ruleset") and self.has_known_words(found)
->>>>>>> 5c798104e000152488eb9d25e1b0a40a309277b6
 
     def has_known_words(self, found):
         types, data = self.key_types(found), self.data_types(found)
         keys = all(parts_are_plain(it.key, types) for it in found.elements)
-<<<<<<< HEAD
         return keys and all(
             isinstance(it.data, Verdict) or it.data is None or parts_are_plain(it.data, data) for it in found.elements
         )
-=======
-        return keys and all(isinstance(it.data, Verdict) or it.data is None or parts_are_plain(it.data, data) for it in found.elements)
->>>>>>> 5c798104e000152488eb9d25e1b0a40a309277b6
 
     def tell_of_time(self, table, found):
         changes, foreign = self.fitter.changes, [it for it in found.flags if it not in OWN_FLAGS]
         if any(set(it.extras) & ENDING for it in found.elements) or found.timeout and found.elements:
             self.fitter.guess(found.token, f"timeouts of {found.name}", "none", "timeout")
         elif (table.family, table.name, found.name) not in self.fitter.added_to and (foreign or found.timeout):
-<<<<<<< HEAD
             changes.tell(
                 found.token,
                 "same",
@@ -204,14 +155,6 @@ class Sets:
             )
             != "gone"
         ):
-=======
-            changes.tell(found.token, "same", f"flags {','.join(foreign)} of {found.name}" if foreign else f"timeout of {found.name}", "none",
-                         "no rule adds to it, and no element runs out")
-
-    def kept(self, found):
-        """The elements, but for those that are assumed to have run out."""
-        if self.fitter.assumptions.chosen_way("timeout", self.fitter.changes_place(found.token), f"timeouts of {found.name}") != "gone":
->>>>>>> 5c798104e000152488eb9d25e1b0a40a309277b6
             return found.elements
         return [it for it in found.elements if not (set(it.extras) & ENDING or found.timeout)]
 
@@ -227,15 +170,10 @@ class Sets:
         lines += [f"size {found.size}"] if found.size is not None else []
         lines += ["auto-merge"] if found.merges else []
         lines += [f"comment {found.comment}"] if found.comment else []
-<<<<<<< HEAD
         elements, kept = [], self.kept(found)
         if len(types) == 1 and not found.is_map:  # `*` has all others
             kept = [it for it in kept if isinstance(it.key[0], Anything)] or kept
         for it in kept:
-=======
-        elements = []
-        for it in self.kept(found):
->>>>>>> 5c798104e000152488eb9d25e1b0a40a309277b6
             try:
                 text = " . ".join(spell_part(part, kind) for part, kind in zip(it.key, types, strict=True))
             except ValueError:
@@ -248,13 +186,10 @@ class Sets:
         return lines
 
 
-<<<<<<< HEAD
 def is_number(text):
     return re.fullmatch("0x[0-9A-Fa-f]+|[0-9]+", text) is not None
 
 
-=======
->>>>>>> 5c798104e000152488eb9d25e1b0a40a309277b6
 def verdict_text(verdict):
     return verdict.word if verdict.target is None else f"{verdict.word} {verdict.target}"
 
@@ -278,7 +213,6 @@ def parts_are_plain(parts, kinds):
         for value in part:
             if getattr(value, "kind", "number") in ("wild", "six", "mac", "time"):
                 return False
-<<<<<<< HEAD
             if (
                 getattr(value, "kind", "") == "word"
                 and kind not in ("ifname", "iface_index")
@@ -288,10 +222,5 @@ def parts_are_plain(parts, kinds):
             if getattr(value, "kind", "") == "string" and (
                 kind not in ("ifname", "iface_index") or value.text.endswith("*")
             ):
-=======
-            if getattr(value, "kind", "") == "word" and kind not in ("ifname", "iface_index") and value.text not in WORDS.get(kind, {}):
-                return False
-            if getattr(value, "kind", "") == "string" and (kind not in ("ifname", "iface_index") or value.text.endswith("*")):
->>>>>>> 5c798104e000152488eb9d25e1b0a40a309277b6
                 return False
     return True

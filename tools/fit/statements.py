@@ -1,26 +1,17 @@
 """Reads rules, statement by statement."""
 from .expressions import ExpressionReader
 from .facts import VERDICTS
-<<<<<<< HEAD
 from .tree import Bound, Calculation, Drawn, Joined, Listed, NotFitted, Selector, Statement, Translation
-=======
-from .tree import Bound, Calculation, Drawn, Joined, NotFitted, Selector, Statement, Translation
->>>>>>> 5c798104e000152488eb9d25e1b0a40a309277b6
 
 LOG_OPTIONS = ("prefix", "level", "group", "flags", "snaplen", "queue-threshold")
 LOG_FLAGS = set("tcp sequence options ip skuid ether all".split())
 NAT_FLAGS = ("random", "fully-random", "persistent")
 UNITS = ("packets", "bytes", "kbytes", "mbytes", "packet")
 # statements by their first word, for which `read_WORD` reads the rest
-<<<<<<< HEAD
 STATEMENTS = set(
     "counter log limit quota reject notrack last snat dnat masquerade redirect queue dup flow meter "
     "synproxy tproxy fwd xt".split()
 )
-=======
-STATEMENTS = set("counter log limit quota reject notrack last snat dnat masquerade redirect queue dup flow meter "
-                 "synproxy tproxy fwd xt".split())
->>>>>>> 5c798104e000152488eb9d25e1b0a40a309277b6
 
 
 class RuleReader(ExpressionReader):
@@ -35,11 +26,7 @@ class RuleReader(ExpressionReader):
                 comment = self.take("string").text
                 continue
             kind, parts = self.statement()
-<<<<<<< HEAD
             statements.append(Statement(kind, tuple(self.tokens[start : self.at]), parts))
-=======
-            statements.append(Statement(kind, tuple(self.tokens[start:self.at]), parts))
->>>>>>> 5c798104e000152488eb9d25e1b0a40a309277b6
         return statements, comment
 
     def statement(self):
@@ -70,11 +57,8 @@ class RuleReader(ExpressionReader):
             operand = self.operand()
             if left == Selector("meta priority") and self.skip(":"):
                 self.take()
-<<<<<<< HEAD
             while self.skip(","):  # `ct event set new,destroy`
                 operand = Listed((operand, self.operand()))
-=======
->>>>>>> 5c798104e000152488eb9d25e1b0a40a309277b6
             return "set", (left, operand)
         if self.skip("vmap"):
             return "vmap", (left, self.mapping())
@@ -102,15 +86,11 @@ class RuleReader(ExpressionReader):
         while self.has(*LOG_OPTIONS):
             name = self.take().text
             value = [self.take()]
-<<<<<<< HEAD
             while (
                 name == "flags"
                 and (self.has(",") or value[-1].text in ("tcp", "ip", ","))
                 and self.has(",", *LOG_FLAGS)
             ):
-=======
-            while name == "flags" and (self.has(",") or value[-1].text in ("tcp", "ip", ",")) and self.has(",", *LOG_FLAGS):
->>>>>>> 5c798104e000152488eb9d25e1b0a40a309277b6
                 value.append(self.take())
             options[name] = value
         return "log", (options,)
@@ -133,11 +113,7 @@ class RuleReader(ExpressionReader):
         self.take("word", "rate")
         over = self.over()
         self.number()
-<<<<<<< HEAD
         if self.peek().kind == "word":  # mbytes/second is one word
-=======
-        if self.peek().kind == "word":                   # mbytes/second is one word
->>>>>>> 5c798104e000152488eb9d25e1b0a40a309277b6
             if "/" not in self.take().text:
                 self.take("mark", "/")
                 self.take("word")
@@ -235,11 +211,7 @@ class RuleReader(ExpressionReader):
         family = self.family()
         prefix = self.skip("prefix")
         self.skip("interval")
-<<<<<<< HEAD
         if self.has("addr") and self.has(".", ahead=1):  # addr . port
-=======
-        if self.has("addr") and self.has(".", ahead=1):          # addr . port
->>>>>>> 5c798104e000152488eb9d25e1b0a40a309277b6
             self.at += 3
         has_to = self.skip("to")
         address = ports = None
@@ -247,11 +219,7 @@ class RuleReader(ExpressionReader):
             ports = self.operand()
         elif has_to or (kind in ("snat", "dnat") and self.peek().kind != "end"):
             address = self.operand()
-<<<<<<< HEAD
             if kind in ("masquerade", "redirect"):  # `redirect to tcp dport map { .. }`
-=======
-            if kind in ("masquerade", "redirect"):               # `redirect to tcp dport map { .. }`
->>>>>>> 5c798104e000152488eb9d25e1b0a40a309277b6
                 address, ports = None, address
             elif self.skip(":"):
                 ports = self.operand()
@@ -264,13 +232,9 @@ class RuleReader(ExpressionReader):
     def family(self):
         """`ip` or `ip6` before `to`; `ip` also begins a selector, as in `snat ip saddr map ..`."""
         after = self.peek(1)
-<<<<<<< HEAD
         if self.has("ip", "ip6") and (
             after.text in ("to", "prefix", "interval", ":", "addr") or after.kind in ("address", "six")
         ):
-=======
-        if self.has("ip", "ip6") and (after.text in ("to", "prefix", "interval", ":", "addr") or after.kind in ("address", "six")):
->>>>>>> 5c798104e000152488eb9d25e1b0a40a309277b6
             return self.take().text
         return ""
 
@@ -319,11 +283,7 @@ class RuleReader(ExpressionReader):
         self.name()
         if self.skip("size"):
             self.number()
-<<<<<<< HEAD
         self.tokens = [*self.tokens[: self.at], name._replace(kind="word"), *self.tokens[self.at :]]
-=======
-        self.tokens = [*self.tokens[:self.at], name._replace(kind="word"), *self.tokens[self.at:]]
->>>>>>> 5c798104e000152488eb9d25e1b0a40a309277b6
         kind, parts = self.change_of_set("add")
         return kind, parts
 

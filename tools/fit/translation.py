@@ -4,10 +4,7 @@ from .matches import rules_text, shown
 from .numbers import range_of, spell_number, spell_part
 from .tree import Drawn, Joined, Lookup, NotFitted, One, Prefix, Range, Selector, Value
 
-<<<<<<< HEAD
 MOST_ADDRESSES = 1024  # that translation of prefixes may become
-=======
->>>>>>> 5c798104e000152488eb9d25e1b0a40a309277b6
 PARTS = (One, Range, Prefix, Lookup)
 
 
@@ -20,12 +17,8 @@ class Translations:
         if any(one is not None and not isinstance(one, PARTS) for one in (it.address, it.ports)):
             raise NotFitted("translation to what isn't an address or a port")
         if it.prefix:
-<<<<<<< HEAD
             self.translate_prefixes(it)
             return
-=======
-            raise NotFitted("translation of prefixes")
->>>>>>> 5c798104e000152488eb9d25e1b0a40a309277b6
         if it.flags:
             self.tell("outcome", "left out", "nftrun chooses ports in its own way", what=" ".join(it.flags))
         if it.kind in ("snat", "dnat") and it.address is None:
@@ -42,7 +35,6 @@ class Translations:
             else:
                 self.put_spelled(text, kind="end")
 
-<<<<<<< HEAD
     def translate_prefixes(self, it):
         """`snat ip prefix to ip saddr map { 10.1.0.0/24 : 10.2.0.0/24 }`: each address to its own."""
         if not isinstance(it.address, Lookup) or it.address.key not in (Selector("ip saddr"), Selector("ip daddr")):
@@ -64,13 +56,10 @@ class Translations:
         self.tell("same", f"a map of {len(pairs)} addresses", "each address has its own")
         self.put(f"{it.kind}{self.to()}{it.address.key.name} map {{ {listed} }}", "end")
 
-=======
->>>>>>> 5c798104e000152488eb9d25e1b0a40a309277b6
     def address_of_rule(self, kind):
         """`dnat to :80` keeps the address; nftrun wants it said, which the rule may do."""
         name = "ip saddr" if kind == "snat" else "ip daddr"
         for it in self.rule.statements:
-<<<<<<< HEAD
             if (
                 it.kind == "match"
                 and it.parts[0] == Selector(name)
@@ -78,9 +67,6 @@ class Translations:
                 and isinstance(it.parts[2], One)
                 and it.parts[2].value.kind == "address"
             ):
-=======
-            if it.kind == "match" and it.parts[0] == Selector(name) and it.parts[1] in ("", "==") and isinstance(it.parts[2], One) and it.parts[2].value.kind == "address":
->>>>>>> 5c798104e000152488eb9d25e1b0a40a309277b6
                 self.tell("same", f"to {it.parts[2].value.text}", f"the rule asks for this {name}")
                 return it.parts[2]
         raise NotFitted("translation of the port alone, where the rule doesn't ask for one address")
@@ -94,11 +80,7 @@ class Translations:
         if address is not None:
             text += self.to() + spell_part(address, "ipv4_addr")
         if ports is not None:
-<<<<<<< HEAD
             text += (" to " if address is None else "") + ":" + ports_text(ports)
-=======
-            text += (" to " if address is None else "") + ":" + spell_part(ports, "inet_service")
->>>>>>> 5c798104e000152488eb9d25e1b0a40a309277b6
         return text
 
     def to(self):
@@ -138,7 +120,6 @@ class Translations:
 
     @staticmethod
     def is_plain_lookup(key, it, elements):
-<<<<<<< HEAD
         return (
             isinstance(key, Selector)
             and key.name in TYPES
@@ -152,14 +133,6 @@ class Translations:
         self.choose_translation(
             it.ports.key, elements, lambda data: [self.piece(self.nat_text(it.kind, it.address, data[0]), "end")]
         )
-=======
-        return isinstance(key, Selector) and key.name in TYPES and it.ports is None and elements and all(
-            len(one.data) == 1 and isinstance(one.data[0], One) for one in elements)
-
-    def translate_ports_by_map(self, it):
-        elements, _ = self.mapping(it.ports.map, verdicts=False)
-        self.choose_translation(it.ports.key, elements, lambda data: [self.piece(self.nat_text(it.kind, it.address, data[0]), "end")])
->>>>>>> 5c798104e000152488eb9d25e1b0a40a309277b6
 
     def choose_translation(self, key, elements, translating):
         if isinstance(key, Joined):
@@ -168,7 +141,6 @@ class Translations:
             self.draw(key, elements, translating)
         elif isinstance(key, Selector) and key.name in TYPES:
             name, kind = self.by_name(key.name, [one.key[0] for one in elements])
-<<<<<<< HEAD
             ways = [
                 [self.piece(f"{shown(name)} {spell_part(one.key[0], kind)}"), *translating(one.data)]
                 for one in elements
@@ -178,16 +150,11 @@ class Translations:
                 rules_text(len(ways)) if ways else self.never(),
                 "nftrun has no maps of ports, and none of both",
             )
-=======
-            ways = [[self.piece(f"{shown(name)} {spell_part(one.key[0], kind)}"), *translating(one.data)] for one in elements]
-            self.tell("same", rules_text(len(ways)) if ways else self.never(), "nftrun has no maps of ports, and none of both")
->>>>>>> 5c798104e000152488eb9d25e1b0a40a309277b6
             self.split(ways)
         else:
             raise NotFitted("translation by what nftrun doesn't read")
 
 
-<<<<<<< HEAD
 def ports_text(part):
     """Ports of a translation are numbers."""
     found = range_of(part, "inet_service") if isinstance(part, (One, Range)) else None
@@ -196,8 +163,6 @@ def ports_text(part):
     return "-".join(map(str, dict.fromkeys(found)))
 
 
-=======
->>>>>>> 5c798104e000152488eb9d25e1b0a40a309277b6
 def joined_maps(one, other):
     """Elements of two maps of one key, with the data of both; nothing else has both."""
     second = {it.key: it.data for it in other}

@@ -6,7 +6,6 @@ Value = namedtuple("Value", "kind text")
 One = namedtuple("One", "value")
 Range = namedtuple("Range", "low high")
 Prefix = namedtuple("Prefix", "value length")
-<<<<<<< HEAD
 Anything = namedtuple("Anything", "")  # the catch-all element `*`
 
 # expressions
@@ -17,33 +16,15 @@ Drawn = namedtuple("Drawn", "kind modulus offset over")  # numgen, jhash, symhas
 Listed = namedtuple("Listed", "items")  # a,b
 Masked = namedtuple("Masked", "value mask")  # a / b
 Named = namedtuple("Named", "name")  # @name
-=======
-Anything = namedtuple("Anything", "")                    # the catch-all element `*`
-
-# expressions
-Selector = namedtuple("Selector", "name")                # "ip saddr"
-Joined = namedtuple("Joined", "parts")                   # a . b
-Calculation = namedtuple("Calculation", "operator left right")
-Drawn = namedtuple("Drawn", "kind modulus offset over")  # numgen, jhash, symhash
-Listed = namedtuple("Listed", "items")                   # a,b
-Masked = namedtuple("Masked", "value mask")              # a / b
-Named = namedtuple("Named", "name")                      # @name
->>>>>>> 5c798104e000152488eb9d25e1b0a40a309277b6
 Lookup = namedtuple("Lookup", "key map")
 Elements = namedtuple("Elements", "list")
 # `key` is a tuple of parts; `data` a tuple of parts, a Verdict, or None in a set; `extras` are words
 Element = namedtuple("Element", "key data extras")
 
 # statements
-<<<<<<< HEAD
 Verdict = namedtuple("Verdict", "word target")  # target: a name, a list of rules (tokens), or None
 Statement = namedtuple("Statement", "kind tokens parts")
 Bound = namedtuple("Bound", "kind over name")  # limit, quota, connections
-=======
-Verdict = namedtuple("Verdict", "word target")           # target: a name, a list of rules (tokens), or None
-Statement = namedtuple("Statement", "kind tokens parts")
-Bound = namedtuple("Bound", "kind over name")            # limit, quota, connections
->>>>>>> 5c798104e000152488eb9d25e1b0a40a309277b6
 Translation = namedtuple("Translation", "kind family address ports flags prefix")
 
 # A part of a fitted rule. `kind` is match, effect (it counts or tells), mark (it writes one) or end; `reads` the
@@ -57,7 +38,6 @@ class NotFitted(Exception):
     """A part that isn't understood, or that the language of nftrun can't say; the text says why."""
 
 
-<<<<<<< HEAD
 class Missing(NotFitted):
     """A name that stands for nothing."""
 
@@ -69,14 +49,6 @@ class Rule:
         self.tokens, self.text = tokens, text
         self.statements, self.comment, self.fault = None, None, None
         self.counters_before = 0  # of the operator's rule, where this was in braces within it
-=======
-class Rule:
-    """A rule's tokens, and what they say once it was read."""
-
-    def __init__(self, tokens):
-        self.tokens = tokens
-        self.statements, self.comment, self.fault = None, None, None
->>>>>>> 5c798104e000152488eb9d25e1b0a40a309277b6
 
     @property
     def token(self):
@@ -87,14 +59,9 @@ class Chain:
     def __init__(self, name, token):
         self.name, self.token = name, token
         self.head, self.policy, self.notes, self.rules = None, None, [], []
-<<<<<<< HEAD
         self.hooks = set()  # from which hooks packets come here
         self.is_early = False  # whether some come before connections are looked for
         self.made_for = None  # (chain, number) of the rule whose part it was
-=======
-        self.hooks = set()                               # from which hooks packets come here
-        self.made_for = None                             # (chain, number) of the rule whose part it was
->>>>>>> 5c798104e000152488eb9d25e1b0a40a309277b6
 
 
 class Set:
@@ -105,12 +72,8 @@ class Set:
         self.types, self.data, self.typeof = [], None, None
         self.flags, self.elements, self.comment = [], [], None
         self.size, self.timeout, self.merges, self.counts = None, False, False, False
-<<<<<<< HEAD
         self.slices = []  # its fields as they stand, or None where these changed
         self.fault = None  # (token, why) where its elements aren't understood
-=======
-        self.slices = []                                 # its fields as they stand, or None where these changed
->>>>>>> 5c798104e000152488eb9d25e1b0a40a309277b6
         self.word = "map" if is_map else "set"
 
 
@@ -137,11 +100,8 @@ def names_in(it):
     elif isinstance(it, (tuple, list)):
         for part in it:
             yield from names_in(part)
-<<<<<<< HEAD
 
 
 def counters_in(tokens):
     """How many counters a rule has, by its tokens."""
     return sum(it.kind == "word" and it.text == "counter" for it in tokens)
-=======
->>>>>>> 5c798104e000152488eb9d25e1b0a40a309277b6

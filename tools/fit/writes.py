@@ -23,11 +23,7 @@ class Writes:
             self.guess(why, way, "left out")
         else:
             self.tell(grade, "left out", why)
-<<<<<<< HEAD
         if not name.startswith("ct "):  # these do nothing where there is no connection
-=======
-        if not name.startswith("ct "):                   # these do nothing where there is no connection
->>>>>>> 5c798104e000152488eb9d25e1b0a40a309277b6
             self.keep_tests(left)
         if isinstance(operand, Lookup):
             self.keep_lookup(operand)
@@ -53,16 +49,9 @@ class Writes:
         elif isinstance(operand, Selector) and operand.name in MARKS:
             self.put_spelled(f"{name} set {operand.name}", [operand.name], "mark")
         elif isinstance(operand, Drawn):
-<<<<<<< HEAD
             number, way = self.number_drawn(operand)
             self.keep_tests(operand.over)
             self.tell_drawn(way, str(number))
-=======
-            way = self.way("random")
-            number = self.drawn(operand, way)
-            self.keep_tests(operand.over)
-            self.guess("random", way, str(number))
->>>>>>> 5c798104e000152488eb9d25e1b0a40a309277b6
             self.put(f"{name} set {number}", "mark")
         elif isinstance(operand, Calculation):
             self.set_calculated(name, operand)
@@ -113,13 +102,9 @@ class Writes:
         listed = ", ".join(f"{spell_part(it.key[0], kind)} : {spell_part(it.data[0], data_kind)}" for it in elements)
         if not listed:
             raise NotFitted("a map without elements")
-<<<<<<< HEAD
         words = isinstance(mapping, Elements) and all(
             parts_are_plain(it.key, (kind,)) and parts_are_plain(it.data, (data_kind,)) for it in elements
         )
-=======
-        words = isinstance(mapping, Elements) and all(parts_are_plain(it.key, (kind,)) and parts_are_plain(it.data, (data_kind,)) for it in elements)
->>>>>>> 5c798104e000152488eb9d25e1b0a40a309277b6
         return f"{shown(name)} map {{ {listed} }}", words and name == key.name
 
 

@@ -84,7 +84,6 @@ def write(path, ruleset, rules, rows):
     with open(path, "w", encoding="ascii") as file:
         print(json.dumps(head), file=file)
         for chain, rule, origin in rows:
-<<<<<<< HEAD
             row = {
                 "chain": chain,
                 "rule": rule,
@@ -95,10 +94,6 @@ def write(path, ruleset, rules, rows):
                 "text": origin.text,
                 "counters": list(origin.counters),
             }
-=======
-            row = {"chain": chain, "rule": rule, "was-chain": origin.chain, "was": origin.rule, "file": origin.file,
-                   "line": origin.line, "text": origin.text, "counters": list(origin.counters)}
->>>>>>> 5c798104e000152488eb9d25e1b0a40a309277b6
             print(json.dumps(row), file=file)
 
 
@@ -131,7 +126,6 @@ def parsed(path, number, line):
 def row_of(path, number, line):
     row = parsed(path, number, line)
     try:
-<<<<<<< HEAD
         kinds = {
             "chain": str,
             "was-chain": str,
@@ -145,10 +139,6 @@ def row_of(path, number, line):
         if not all(type(row[name]) is kind for name, kind in kinds.items()) or not all(
             type(it) is int for it in row["counters"]
         ):
-=======
-        kinds = {"chain": str, "was-chain": str, "file": str, "text": str, "rule": int, "was": int, "line": int, "counters": list}
-        if not all(type(row[name]) is kind for name, kind in kinds.items()) or not all(type(it) is int for it in row["counters"]):
->>>>>>> 5c798104e000152488eb9d25e1b0a40a309277b6
             raise ValueError
         origin = Origin(row["was-chain"], row["was"], row["file"], row["line"], row["text"], tuple(row["counters"]))
         return (row["chain"], row["rule"]), origin
