@@ -88,7 +88,7 @@ module _ (plant : PlantTree) (tables : List TableTree) (table : TableTree) (b : 
   pub runs-there : (f : Facts) (es : List Event) (end : HookResult) → RunsBaseChain plant tables b f es end
       → end ≡ base_chain_result code start f es
   runs-there f es end r =
-      let same : r.table ≡ table = some_unique (slice_get tables b.number.table) r.table table r.holds holds in
+      let same : r.table ≡ table = some_unique (slice_get tables b.number.table) r.table table r.stands holds in
       let has = subst (λ u. (table_program plant b.number.table u).rules_at b.number.chain ≡ Some r.rules) same r.has in
       let run = subst (λ u. Runs (table_program plant b.number.table u) b.number.chain 1 (at_rule r.rules) f es
       r.after) same r.runs in
