@@ -3,7 +3,7 @@ use Rattle.std.proofs.Common.{◌≡◌, ℕ, Bool, true, false, List, [], ◌�
 use Rattle.std.proofs.Common.{subst, ◌∙◌, arith}
 use Rattle.std.specs.List.{Contains, find}
 use Rattle.std.specs.Option.{option_map}
-use Rattle.std.proofs.lemmas.Bool.{and_parts, and_from, cases_Bool, cond-true, cond-false, true_and_false, eqb-true}
+use Rattle.std.proofs.lemmas.Bool.{and_parts, and_from, cases_Bool, cond-true, cond-false, both_ways, eqb-true}
 use Rattle.std.proofs.lemmas.Option.{none-some, same_Some}
 use Rattle.list_laws.specs.Lists.{Contains-head}
 use Rattle.list_laws.specs.Elements.{Contains-cases, Contains-tail}
@@ -44,7 +44,7 @@ module _ {X : Type 0} (p : X → Bool) where
       later f = by_place (Contains-cases z xs x among)
         where
           by_place : (z ≡ x) ⊎ Contains xs x → Contains xs x
-          by_place (inl e) = absurd (true_and_false (p z) f (subst (λ (w : X). p w ≡ true) (sym e) passes))
+          by_place (inl e) = absurd (both_ways (p z) f (subst (λ (w : X). p w ≡ true) (sym e) passes))
           by_place (inr k) = k
 
 -- ---- equal mappings

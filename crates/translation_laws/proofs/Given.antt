@@ -2,7 +2,7 @@
 use Rattle.std.proofs.Common.{◌≡◌, Bool, true, false, cond, not, ◌&&◌, ◌||◌, List, [], ◌∷◌, Some, None, ◌⊎◌, inl, inr}
 use Rattle.std.proofs.Common.{refl, sym, ap, subst, ◌∙◌, arith}
 use Rattle.std.specs.List.{Contains}
-use Rattle.std.proofs.lemmas.Bool.{and_parts, cases_Bool, true_and_false, or_left, or_right, not-true, cond-true}
+use Rattle.std.proofs.lemmas.Bool.{and_parts, cases_Bool, both_ways, or_left, or_right, not-true, cond-true}
 use Rattle.std.proofs.lemmas.Bool.{cond-false}
 use Rattle.list_laws.specs.Elements.{Contains-cases}
 use Rattle.ip_headers.specs.declared.tuple.Tuple.{Tuple}
@@ -34,7 +34,7 @@ off : (u t : Tuple) (held : List ConntrackEntry) → is_taken u held ≡ false �
 off u t held free taken = by_test (cases_Bool (same_tuple u t))
   where
     by_test : (same_tuple u t ≡ true) ⊎ (same_tuple u t ≡ false) → same_tuple u t ≡ false
-    by_test (inl e) = absurd (true_and_false (is_taken u held) free (subst (λ (v : Tuple). is_taken v held ≡ true)
+    by_test (inl e) = absurd (both_ways (is_taken u held) free (subst (λ (v : Tuple). is_taken v held ≡ true)
         (sym (same_tuple-true u t e)) taken))
     by_test (inr f) = f
 

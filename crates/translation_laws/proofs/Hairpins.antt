@@ -2,7 +2,7 @@
 use Rattle.std.proofs.Common.{◌≡◌, ℕ, ◌-◌, true, false, IsTrue, List, Option, Some, None, Ok, refl, sym, ap, subst, ◌∙◌}
 use Rattle.std.specs.List.{Contains}
 use Rattle.std.specs.Option.{option_map}
-use Rattle.std.proofs.lemmas.Bool.{true_and_false, cond-true, cond-false}
+use Rattle.std.proofs.lemmas.Bool.{both_ways, cond-true, cond-false}
 use Rattle.list_laws.specs.Options.{some_of_map}
 use Rattle.box_file.specs.Box.{PlantTree, owner}
 use Rattle.ip_headers.specs.declared.tuple.Endpoint.{Endpoint}
@@ -62,7 +62,7 @@ accepted : (verdict : HookVerdict) (events : List Event) → IsOpen verdict → 
     → did_nat_act events ≡ false → verdict ≡ Accepted
 accepted Accepted events kept told untold = refl
 accepted Dropped events kept told untold = absurd kept
-accepted (Translated t) events kept told untold = absurd (true_and_false (did_nat_act events) untold told)
+accepted (Translated t) events kept told untold = absurd (both_ways (did_nat_act events) untold told)
 
 -- ---- behind destination NAT
 
@@ -224,7 +224,7 @@ module _ (setup : Setup) (held : List ConntrackEntry) (now : ℕ) (r : Recorded)
   none_so (Ends id) is = tt
   none_so (Found place) is =
       let f = found_so setup held now r e t interface p place is in
-      true_and_false (is_creation e.tracked.change) (ap is_creation f.change) begins
+      both_ways (is_creation e.tracked.change) (ap is_creation f.change) begins
 
   none : IsNone (belongs_in held p.passes.s.tuple p.passes.s.flags)
   none = none_so (belongs_in held p.passes.s.tuple p.passes.s.flags) refl

@@ -2,7 +2,7 @@
 use Rattle.std.proofs.Common.{◌≡◌, ℕ, ◌-◌, Bool, true, false, cond, IsTrue, List, Option, Some, None, Ok, inl, inr}
 use Rattle.std.proofs.Common.{refl, sym, ap, subst, ◌∙◌}
 use Rattle.std.specs.List.{Contains}
-use Rattle.std.proofs.lemmas.Bool.{cases_Bool, cond-false, true_and_false}
+use Rattle.std.proofs.lemmas.Bool.{cases_Bool, cond-false, both_ways}
 use Rattle.std.proofs.lemmas.Option.{same_Some}
 use Rattle.list_laws.specs.Options.{some_of_map}
 use Rattle.ip_headers.specs.declared.tuple.Kind.{Kind}
@@ -179,7 +179,7 @@ module _ (setup : Setup) (held : List ConntrackEntry) (now : ℕ) (r : Recorded)
         let f = found_so (connection_ref h Reply) (given false is) in
         record {
           touched = f.change ∙ sym (touch_is false is);
-          original = λ o. absurd (true_and_false (same_tuple h.original p.passes.s.tuple) is o);
+          original = λ o. absurd (both_ways (same_tuple h.original p.passes.s.tuple) is o);
           reply = λ o. ap tuple_of f.packet ∙ reply_leaves (same_tuple-true h.reply p.passes.s.tuple o);
         }
 

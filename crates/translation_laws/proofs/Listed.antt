@@ -2,7 +2,7 @@
 use Rattle.std.proofs.Common.{◌≡◌, true, false, List, [], ◌∷◌, inl, inr, refl, sym, subst}
 use Rattle.std.specs.Prelude.{map}
 use Rattle.std.specs.List.{Contains}
-use Rattle.std.proofs.lemmas.Bool.{true_and_false, or_left, or_right}
+use Rattle.std.proofs.lemmas.Bool.{both_ways, or_left, or_right}
 use Rattle.list_laws.specs.Elements.{Contains-unmap}
 use Rattle.ip_headers.specs.declared.tuple.Mapping.{Mapping}
 use Rattle.ip_headers.specs.declared.tuple.Tuple.{Tuple}
@@ -36,7 +36,7 @@ apart_listed (x ∷ held) apart = (
       let u = Contains-unmap connection_of held d among in
       let taken = taken_by t held u.0 u.1 (comes_to u.0 t (subst (λ (c : Connection). HasIncoming c t) (sym u.2) later))
       in
-      true_and_false (is_taken t held) (not_behind x held t apart first) taken,
+      both_ways (is_taken t held) (not_behind x held t apart first) taken,
   apart_listed held (parts x held apart).2,
 )
 

@@ -3,7 +3,7 @@ use Rattle.std.specs.Prelude.{filter, map, nat_lt}
 use Rattle.std.proofs.Common.{◌≡◌, ℕ, ◌<◌, Bool, true, false, cond, not, List, [], ◌∷◌, ◌⊎◌, inl, inr, refl, sym, ap}
 use Rattle.std.proofs.Common.{subst, arith}
 use Rattle.std.specs.List.{Contains}
-use Rattle.std.proofs.lemmas.Bool.{and_parts, and_from, cases_Bool, true_and_false, not_from_false, cond-true}
+use Rattle.std.proofs.lemmas.Bool.{and_parts, and_from, cases_Bool, both_ways, not_from_false, cond-true}
 use Rattle.std.proofs.lemmas.Bool.{cond-false}
 use Rattle.std.proofs.lemmas.Bool.Decides.{nat_tests}
 use Rattle.list_laws.specs.Lists.{Contains-head}
@@ -28,7 +28,7 @@ has_filter p (d ∷ cs) c among passes =
     by_place rest (inl e) (inl y) = subst (λ (l : List ℕ). Contains l c)
         (sym (cond-true (p d) (d ∷ filter p cs) (filter p cs) y)) (subst (λ (n : ℕ). Contains (d ∷ filter p cs) n) e
         (Contains-head d (filter p cs)))
-    by_place rest (inl e) (inr n) = absurd (true_and_false (p d) n (subst (λ (k : ℕ). p k ≡ true) (sym e) passes))
+    by_place rest (inl e) (inr n) = absurd (both_ways (p d) n (subst (λ (k : ℕ). p k ≡ true) (sym e) passes))
     by_place rest (inr k) (inl y) = subst (λ (l : List ℕ). Contains l c)
         (sym (cond-true (p d) (d ∷ filter p cs) (filter p cs) y)) (Contains-tail d (filter p cs) c (rest k))
     by_place rest (inr k) (inr n) = subst (λ (l : List ℕ). Contains l c)
