@@ -139,6 +139,8 @@ class Matches:
     # routing
 
     def match_fib(self, name, operator, right):
+        if name.endswith(" oif") and right == One(Value("number", "0")):
+            right = YES_NO[0]  # no interface: there is no such route
         keys, result = name[4:].rsplit(" ", 1)
         parts = keys.split(" . ")
         network = self.fitter.network

@@ -41,8 +41,9 @@ class Network:
         found = [IPv4Network(it.ip) for by, it in self.interfaces if name in (None, by)]
         return [LOOPBACK, *found] if name in (None, "lo") else found
 
-    def broadcast(self):
-        nets = [it.network for _, it in self.interfaces if it.network.prefixlen < 31]
+    def broadcast(self, name=None):
+        """What the kernel takes for broadcast, of one interface's networks or of all."""
+        nets = [it.network for by, it in self.interfaces if it.network.prefixlen < 31 and name in (None, by)]
         return [*BROADCAST, *(IPv4Network(it.broadcast_address) for it in nets)]
 
     def of_type(self, word, name=None):
@@ -50,7 +51,7 @@ class Network:
         if word == "local":
             return self.own(name)
         if word == "broadcast":
-            return self.broadcast()
+            return self.broadcast(name)
         if word == "multicast":
             return [MULTICAST]
         if word in EMPTY_TYPES:
