@@ -15,7 +15,7 @@ from .changes import GRADES, Changes
 from .commands import Commands
 from .fitter import Fitter
 from .network import Network
-from .profile import takes
+from .profile import SIZE, takes
 from .scanner import Refused
 
 NAME = "fit-ruleset"
@@ -53,9 +53,10 @@ def rows_of(fitter):
 def plain_rows(fitter):
     """The map of a ruleset that stays: each rule comes from itself."""
     rows = []
+    numbers = {}
     for table, chain, rule in fitter.rules():
         place = f"{table.family} {table.name} {chain.name}"
-        number = chain.rules.index(rule) + 1
+        number = numbers[place] = numbers.get(place, 0) + 1
         counters = tuple(range(1, sum(it.kind == "counter" for it in rule.statements) + 1))
         rows.append(
             (
@@ -177,6 +178,8 @@ def program_at_hand():
 
 def check(data, names):
     """What is written is of nftrun's grammar, and `nftrun check` takes it, where the program is at hand."""
+    if len(data) > SIZE:
+        raise Refused(f"{names.rules}: what it becomes has {len(data)} bytes, and nftrun takes {SIZE}")
     if not takes(data.decode("utf-8", "surrogateescape"), "ruleset"):
         raise Refused(f"{names.rules}: what it becomes isn't in the language of nftrun; this is a fault of {NAME}")
     program = program_at_hand()

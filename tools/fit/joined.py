@@ -222,11 +222,33 @@ def numbers_of(part, kind):
 
 def overlap(keys, kinds):
     """Whether a value may be in two of the keys."""
+    exact = [exact_key(key, kinds) for key in keys]
+    if None not in exact:
+        return len(set(exact)) < len(exact)
+    if len(keys) > MOST_KEYS:
+        raise NotFitted(f"more than {MOST_KEYS} joined keys with ranges or names that end in `*`")
     return any(
         all(meet(*parts) for parts in zip(one, other, kinds))
         for index, one in enumerate(keys)
         for other in keys[index + 1 :]
     )
+
+
+def exact_key(key, kinds):
+    """The key as numbers and names, or None where a part of it stands for several."""
+    found = []
+    for part, kind in zip(key, kinds):
+        if kind in ("ifname", "iface_index"):
+            name = name_of(part)
+            if name is None or name.endswith("*"):
+                return None
+            found.append(name)
+            continue
+        ends = range_of(part, kind)
+        if ends is None or ends[0] != ends[1]:
+            return None
+        found.append(ends[0])
+    return tuple(found)
 
 
 def meet(one, other, kind):
