@@ -357,4 +357,5 @@ def has_common_end(asked, answer):
 def likeness(came, left):
     """How much of a tuple stayed: the destination, the source, at least its port."""
     same_port = came[8:10] == left[8:10]
-    return ((came[4:8] == left[4:8] and came[10:12] == left[10:12]) + (came[:4] == left[:4] and same_port) + same_port / 2)
+    same_destination = came[4:8] == left[4:8] and came[10:12] == left[10:12]
+    return same_destination + (came[:4] == left[:4] and same_port) + same_port / 2
