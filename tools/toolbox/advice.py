@@ -19,7 +19,7 @@ ADVICE = {
     "noport": "no external port is left for its source: name a larger range, a second address, or none in the rule that "
               "translates",
     "full": "1,048,576 connections live: take a shorter capture, or shorter idle limits in the box file",
-    "clash": "its answers would belong to another connection: docs/TRANSLATION.md, \"When none can be begun\"",
+    "clash": "its answers would belong to another connection: docs/SPEC.md, 7.8",
     "notip": "it isn't IPv4 (ARP, IPv6, a VLAN tag): no rule sees it",
     "truncated": "it was cut by the snap length: capture with tcpdump -s 0",
     "fragment": "fragments are dropped in a run; Linux puts them together where connections are tracked",

@@ -101,7 +101,8 @@ class RecordTexts:
     def __init__(self, flows, box, ruleset, header):
         self.flows, self.link_type = flows, header.link_type
         self.events, self.packets = events_cache(ruleset), PacketTexts()
-        self.names = Cache(lambda index: json.dumps(box.names.get(int.from_bytes(index, "big"), int.from_bytes(index, "big"))))
+        names = {index.to_bytes(4, "big"): name for index, name in box.names.items()}
+        self.names = Cache(lambda index: json.dumps(names.get(index, int.from_bytes(index, "big"))))
         self.outcomes = Cache(lambda outcome: json.dumps(text_of(outcome)))
         self.default = json.dumps(box.default)
         self.digits = len(str(header.fractions)) - 1

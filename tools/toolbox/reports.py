@@ -1,4 +1,4 @@
-"""Reports of nftrun run --trace (README.md, "Reading the report"), streamed."""
+"""Reports of nftrun run --trace (docs/SPEC.md, 9), streamed."""
 import mmap
 import re
 from collections import Counter, namedtuple
