@@ -14,12 +14,12 @@ LINK_KINDS = {
 ADVICE = {
     "passed": "nothing to do: OUT has the packet as it left",
     "local": "nothing to do: it is addressed to this box, and no rule of input dropped it",
-    "ttl": "it came with a TTL of 0 or 1: traceroute, or a routing loop if many do. A router answers its sender, which a run "
-           "doesn't show",
+    "ttl": "it came with a TTL of 0 or 1: traceroute, or a routing loop if many do. A router answers its sender, which a "
+           "run doesn't show",
     "noport": "no external port is left for its source: name a larger range, a second address, or none in the rule that "
               "translates",
     "full": "1,048,576 connections live: take a shorter capture, or shorter idle limits in the box file",
-    "clash": "its answers would belong to another connection: docs/TRANSLATION.md, \"When none can be begun\"",
+    "clash": "its answers would belong to another connection: docs/SPEC.md, 7.8",
     "notip": "it isn't IPv4 (ARP, IPv6, a VLAN tag): no rule sees it",
     "truncated": "it was cut by the snap length: capture with tcpdump -s 0",
     "fragment": "fragments are dropped in a run; Linux puts them together where connections are tracked",
@@ -80,8 +80,8 @@ def about_flow(why):
         return ["its flow has no SYN in the capture, so it began before: on Linux it may be established, here it is new"]
     answered = why.answered_flow() if why.key is not None else None
     if answered:
-        return [f"it would answer flow {answered[0]}, whose last packet came {plural(answered[1], 'second')} before: longer "
-                "than its idle limit (docs/BOX.md), if that one was let through"]
+        return [f"it would answer flow {answered[0]}, whose last packet came {plural(answered[1], 'second')} before: "
+                "longer than its idle limit (docs/BOX.md), if that one was let through"]
     if why.role & (SIDE | ERROR) and why.first_outcome not in ("passed", "local") and first != record:
         return [f"it answers record {first}, which was dropped: look there first (why {first})"]
     return []

@@ -196,8 +196,8 @@ class Checkup:
                           "what Linux chose isn't known, so it can't be aligned: capture without -Q in", {})
         elif translated and not flows.aligned:
             yield Finding("translated", False, f"{plural(translated, 'flow')} translated by Linux",
-                          "it may have chosen other ports than a run does: tools/doctor BOX IN RULES tells, tools/align mends",
-                          {"flows": translated})
+                          "it may have chosen other ports than a run does: tools/doctor BOX IN RULES tells, and "
+                          "tools/align mends", {"flows": translated})
 
 
 def of_run(replay):
@@ -207,7 +207,7 @@ def of_run(replay):
     elsewhere = [record for record, place in enumerate(to) if place]
     if elsewhere:
         count = len({flows.of[record] for record in elsewhere})
-        yield Finding("ports", True,
-                      f"{plural(len(elsewhere), 'answer')} of {plural(count, 'flow')} to ports that Linux chose and a run doesn't",
+        answers = f"{plural(len(elsewhere), 'answer')} of {plural(count, 'flow')}"
+        yield Finding("ports", True, f"{answers} to ports that Linux chose and a run doesn't",
                       "they are dropped, or led to another host: replay what tools/align makes of the capture",
                       {"records": len(elsewhere), "flows": count})

@@ -7,7 +7,8 @@ what a first run made of it (`Flows.join`). Side 0 is that of the flow's first r
 from array import array
 
 from toolbox.captures import ETHERNET, IPV4, LINK_LENGTHS, LINUX_SLL2, PROTOCOL_AT, SENT_BY_US, TO_US, header_of, records
-from toolbox.packets import ACK, FIN, RST, SYN, TCP, error_tuple_at, identity, inverse, tuple_at
+from toolbox.packets import (
+    ACK, FIN, RST, SYN, TCP, destination_end, error_tuple_at, identity, inverse, source_end, tuple_at)
 
 # Of a record: its side, and what it is. An opener comes before any answer to its flow.
 SIDE, OPENER, SYN_ACK, ERROR = 1, 2, 4, 8
@@ -350,11 +351,11 @@ def sequence_of(data, at, place=4):
 
 def has_common_end(asked, answer):
     """Whether a tuple of an answer has an end of the question's: only the other one is translated."""
-    back = inverse(answer)
-    return (asked[4:8] == back[4:8] and asked[10:12] == back[10:12]) or (asked[:4] == back[:4] and asked[8:10] == back[8:10])
+    return destination_end(asked) == source_end(answer) or source_end(asked) == destination_end(answer)
 
 
 def likeness(came, left):
     """How much of a tuple stayed: the destination, the source, at least its port."""
     same_port = came[8:10] == left[8:10]
-    return ((came[4:8] == left[4:8] and came[10:12] == left[10:12]) + (came[:4] == left[:4] and same_port) + same_port / 2)
+    same_destination = came[4:8] == left[4:8] and came[10:12] == left[10:12]
+    return same_destination + (came[:4] == left[:4] and same_port) + same_port / 2

@@ -1,10 +1,11 @@
 """Records as lines of JSON: what came, what left, and the rules on the way."""
 import json
 
-from toolbox.captures import LINK_LENGTHS, LINUX_SLL2, interface_of, packet_at
+from toolbox.captures import LINK_LENGTHS, LINUX_SLL2, packet_at
 from toolbox.flows import SIDE
 from toolbox.packets import (
-    ECHO_REPLY, ECHO_REQUEST, ICMP, PROTOCOL_NAMES, TCP, UDP, address_text, error_tuple_at, inverse)
+    ECHO_REPLY, ECHO_REQUEST, ICMP, PROTOCOL_NAMES, TCP, UDP, address_text, error_tuple_at, inverse,
+    tuple_at)
 from toolbox.reports import Log, event_of, text_of
 
 MOST_CACHED = 1 << 16
@@ -43,7 +44,8 @@ def events_cache(ruleset=None):
 def tuple_json(key):
     """The parts of a tuple."""
     kind = key[12]
-    told = {"protocol": PROTOCOL_NAMES.get(kind, str(kind)), "saddr": address_text(key[:4]), "daddr": address_text(key[4:8])}
+    told = {"protocol": PROTOCOL_NAMES.get(kind, str(kind)),
+            "saddr": address_text(key[:4]), "daddr": address_text(key[4:8])}
     if kind in (TCP, UDP):
         told["sport"], told["dport"] = int.from_bytes(key[8:10], "big"), int.from_bytes(key[10:12], "big")
     elif kind in (ICMP, 255):
@@ -76,15 +78,20 @@ def packet_json(data, at):
 
 
 class PacketTexts:
-    """The JSON of packets; that of TCP and UDP without IP options is kept by their tuple."""
+    """The JSON of packets; that of TCP and UDP is kept by their tuple."""
 
     def __init__(self):
-        self.kept = Cache(lambda key: json.dumps(tuple_json(key)))
+        self.kept, self.addresses = Cache(self.ports_text), Cache(address_text)
+
+    def ports_text(self, key):
+        return (f'{{"protocol": "{PROTOCOL_NAMES[key[12]]}", "saddr": "{self.addresses[key[:4]]}", '
+                f'"daddr": "{self.addresses[key[4:8]]}", "sport": {key[8] << 8 | key[9]}, '
+                f'"dport": {key[10] << 8 | key[11]}}}')
 
     def text(self, data, at):
-        if at is not None and len(data) >= at + 24 and data[at] == 0x45 and data[at + 9] in (TCP, UDP):
-            if not (data[at + 6] & 0x3F or data[at + 7]):
-                return self.kept[data[at + 12:at + 24] + data[at + 9:at + 10]]
+        key = None if at is None else tuple_at(data, at)
+        if key is not None and key[12] in (TCP, UDP):
+            return self.kept[key]
         return json.dumps(packet_json(data, at))
 
 
@@ -92,22 +99,25 @@ class RecordTexts:
     """The line of each record of a run."""
 
     def __init__(self, flows, box, ruleset, header):
-        self.flows, self.box, self.header = flows, box, header
+        self.flows, self.link_type = flows, header.link_type
         self.events, self.packets = events_cache(ruleset), PacketTexts()
-        self.names = Cache(lambda index: json.dumps(box.names.get(index, index)))
+        names = {index.to_bytes(4, "big"): name for index, name in box.names.items()}
+        self.names = Cache(lambda index: json.dumps(names.get(index, int.from_bytes(index, "big"))))
+        self.outcomes = Cache(lambda outcome: json.dumps(text_of(outcome)))
+        self.default = json.dumps(box.default)
         self.digits = len(str(header.fractions)) - 1
 
     def line(self, record, frame, events, outcome):
         """`record` is that of the capture, `frame` what left or None."""
         number, seconds, fraction, _, _, _, data = record
-        flows, link_type = self.flows, self.header.link_type
-        index = self.box.entering() if link_type != LINUX_SLL2 else interface_of(data, link_type)
-        flow = flows.of[number]
-        direction = ("original", "reply")[flows.role[number] & SIDE] if flow else None
-        left = leaving = "null"
+        flow = self.flows.of[number]
+        direction = "null" if not flow else '"reply"' if self.flows.role[number] & SIDE else '"original"'
+        came_by = self.names[data[4:8]] if self.link_type == LINUX_SLL2 else self.default
+        before = self.packets.text(data, packet_at(data, self.link_type))
+        told = self.events[tuple(events)] if events else "[]"
+        after = leaving = "null"
         if frame is not None:
-            left, leaving = self.packets.text(frame, OUT_LINK), self.names[interface_of(frame, LINUX_SLL2)]
+            after, leaving = self.packets.text(frame, OUT_LINK), self.names[frame[4:8]]
         return (f'{{"record": {number}, "time": {seconds}.{fraction:0{self.digits}}, "flow": {flow or "null"}, '
-                f'"direction": {json.dumps(direction)}, "in": {self.names[index]}, '
-                f'"before": {self.packets.text(data, packet_at(data, link_type))}, "events": {self.events[tuple(events)]}, '
-                f'"outcome": {json.dumps(text_of(outcome)) if outcome else "null"}, "out": {leaving}, "after": {left}}}\n')
+                f'"direction": {direction}, "in": {came_by}, "before": {before}, "events": {told}, '
+                f'"outcome": {self.outcomes[outcome]}, "out": {leaving}, "after": {after}}}\n')

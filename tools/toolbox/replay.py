@@ -171,7 +171,7 @@ class Decisions:
         self.opened = bytearray(len(flows.first))  # PASSED, LOCAL: an opener went through; 4: a SYN and ACK did
         self.fine = bytearray(len(flows.first))  # whose beginning went through: it is cut no more
         # by flow times two, and side: the tuple with which its packets have to come, the one with which they last left
-        self.choice, self.left_as = {}, {}
+        self.choice, self.left_as = [None] * (2 * len(flows.first)), [None] * (2 * len(flows.first))
         # without copies a run tells which later flow is the other side of an earlier one
         self.expected = None if flows.copies and not flows.aligned or replay.spared else {}
         self.joined, self.joined_errors = {}, {}
@@ -198,7 +198,7 @@ class Decisions:
                     self.opened[flow] |= outcome
                 elif what & SYN_ACK:
                     self.opened[flow] |= 4
-            wanted = choice.get(2 * flow + side)
+            wanted = choice[2 * flow + side]
             if wanted is not None:
                 came = tuples[seen[record]]
                 if came != wanted and not self.send_to(record, flow, side, came, wanted):
@@ -211,7 +211,7 @@ class Decisions:
                 self.look_for_join(record, flow)
             if frame is not None:
                 left = tuple_at(frame, OUT_LINK)
-                if left is not None and left_as.get(2 * flow + side) != left:
+                if left is not None and left_as[2 * flow + side] != left:
                     self.learn(record, flow, side, left)
 
     def is_cut(self, record, flow):
@@ -226,8 +226,9 @@ class Decisions:
             self.cut[flow] = STOPPED
         elif acked and record >= acked and flows.flags[flow] & SAW_SYN_ACK and not opened & 4:
             self.cut[flow] = STOPPED
-        elif flows.kind[flow] == TCP and acked and record >= acked or flows.kind[flow] != TCP and answered and record >= answered:
-            self.fine[flow] = 1
+        else:
+            last = acked if flows.kind[flow] == TCP else answered
+            self.fine[flow] = 0 < last <= record
         return self.cut[flow]
 
     def send_to(self, record, flow, side, came, wanted):

@@ -1,4 +1,4 @@
-"""Reports of nftrun run --trace (README.md, "Reading the report"), streamed."""
+"""Reports of nftrun run --trace (docs/SPEC.md, 9), streamed."""
 import mmap
 import re
 from collections import Counter, namedtuple
@@ -26,38 +26,26 @@ def text_of(data):
     return data.decode("utf-8", "surrogateescape")
 
 
-def lines_of(path):
-    """The whole lines of a report, as bytes without their end: a log's prefix may hold any byte but that one."""
-    try:
-        with open(path, "rb") as file:
-            for line in file:
-                if line.endswith(b"\n"):
-                    yield line[:-1]
-    except OSError as error:
-        raise Refused(f"{path}: {error.strerror}") from None
-
-
 def records_of(path):
     """Each record of a report, as (number, events, outcome). Events are what stands behind `trace N `, and `log ` with
     what stands behind `log N `, all as bytes; `event_of` reads them. Without a trace there are records only where
     something was logged, and the outcome is None; a report that broke off gives what is whole."""
     current, events = None, []
-    for line in lines_of(path):
-        word, _, rest = line.partition(b" ")
-        if word != b"trace" and word != b"log":
-            break
-        number, _, what = rest.partition(b" ")
-        if number != current:
-            if events:
+    with open(path, "rb") as file:
+        for line in file:
+            is_trace = line.startswith(b"trace ")
+            if line[-1:] != b"\n" or not is_trace and not line.startswith(b"log "):
+                break
+            number, _, what = line[6 if is_trace else 4:-1].partition(b" ")
+            if is_trace and what.startswith(b"outcome "):
+                yield number_of(number), events, what[8:]
+                events = []
+                continue
+            if events and number != current:
                 yield number_of(current), events, None
-            current, events = number, []
-        if word == b"log":
-            events.append(b"log " + what)
-        elif what.startswith(b"outcome "):
-            yield number_of(number), events, what[8:]
-            events = []
-        else:
-            events.append(what)
+                events = []
+            current = number
+            events.append(what if is_trace else b"log " + what)
     if events:
         yield number_of(current), events, None
 

@@ -1,4 +1,4 @@
-"""Rulesets as text (docs/LANGUAGE.md): chains and rules with their numbers, lines and texts.
+"""Rulesets as text (docs/SPEC.md, 1): chains and rules with their numbers, lines and texts.
 
 What nftrun refuses may be read here as anything.
 """

@@ -65,17 +65,17 @@ class Why:
     def behind_mapping(self):
         """The inner end that has this packet's destination as its external one in this run, or None."""
         outside = destination_end(self.key)
-        for value, left in self.left_as.items():
-            if value & 1 == 0 and left[12] == self.key[12] and source_end(left) == outside:
+        for value, left in enumerate(self.left_as):
+            if left and value & 1 == 0 and left[12] == self.key[12] and source_end(left) == outside:
                 inside = source_end(self.flows.tuple_of(self.flows.first[value >> 1]))
                 return inside if inside != outside else None
         return None
 
     def answered_flow(self):
         """An earlier flow that this packet would answer, with how many seconds had gone since its last record; or None."""
-        for value, left in self.left_as.items():
+        for value, left in enumerate(self.left_as):
             flow = value >> 1
-            if flow != self.flow and inverse(left) == self.key:
+            if left and flow != self.flow and inverse(left) == self.key:
                 last = max((number for number, of in enumerate(self.flows.of[:self.record]) if of == flow), default=0)
                 return (flow, self.seconds - self.seconds_of(last)) if last else None
         return None
