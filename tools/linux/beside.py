@@ -67,21 +67,26 @@ def linux_limits():
 
 
 class Beside:
-    """Both runs, and what differs. `lost` tells that the kernel told more than was read."""
+    """Both runs, and what differs. `lost` tells that the kernel told more than was read. With `kernel` that is asked in
+    place of the machine's own: it gives the run what a kernel said before."""
 
-    def __init__(self, options):
+    def __init__(self, options, kernel=None):
         self.options = options
         self.box = LabBox(options.box)
         self.ruleset = read_ruleset(options.rules)
         self.link_type = header_of(options.capture).link_type
         self.records = list(moments(options.capture, options.records))
         self.run = Run(program.find_program(), options.rules, options.box, options.capture)
-        self.replay_all()
+        if kernel:
+            kernel(self)
+        else:
+            self.replay_all()
         self.compare()
 
     def replay_all(self):
         options = self.options
-        lab = Lab(self.box, carries_ipv6(options.capture) and "inet" in self.ruleset.text)
+        self.with_ipv6 = carries_ipv6(options.capture) and "inet" in self.ruleset.text
+        lab = Lab(self.box, self.with_ipv6)
         try:
             replay = Replay(lab, options.rules, options.wait / 1000)
             if options.alike:

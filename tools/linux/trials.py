@@ -1,12 +1,15 @@
 """Rulesets with packets as files, run through both, with what came of them stored beside them.
 
-A folder has rules.nft and expected.txt, and packets.txt (or a capture in.pcap) and box.txt, which else are those of the
-folder above; from.txt names another folder of the repository that has the rest; options.txt has options of beside-linux. A folder without packets only tells who takes its ruleset.
+A folder has rules.nft, and packets.txt (or a capture in.pcap) and box.txt, which else are those of the folder
+above; from.txt names another folder of the repository that has the rest; options.txt has options of beside-linux. A
+folder without packets only tells who takes its ruleset. What came of it is expected.txt, and some have told.json, what
+the kernel said, for tests without one.
 """
 import argparse
 import os
 import subprocess
 
+from linux import stored
 from linux.beside import Beside, differing, versions
 from linux.box import LabBox
 from linux.crafting import capture_of
@@ -43,19 +46,27 @@ def options_of(folder):
     return options
 
 
-def outcome_lines(folder):
-    """What came of a folder, in lines that don't tell what Linux chose by chance."""
+def outcome_lines(folder, kernel=None, keep=None):
+    """What came of a folder, in lines that don't tell what Linux chose by chance. `kernel` is as Beside takes it, `keep`
+    is given the run."""
     options = options_of(folder)
     packets = beside_or_above(folder, "packets.txt")
     if not os.path.exists(packets) and not os.path.exists(options.capture):
         return loading_lines(options)
     if os.path.exists(options.capture):
-        return list(lines_of(Beside(options)))
+        return judged(options, kernel, keep)
     with program.workspace() as space:
         options.capture = os.path.join(space, "in.pcap")
         with open(options.capture, "wb") as file:
             file.write(capture_of(read_text(packets).split("\n"), LabBox(options.box)))
-        return list(lines_of(Beside(options)))
+        return judged(options, kernel, keep)
+
+
+def judged(options, kernel, keep):
+    beside = Beside(options, kernel)
+    if keep:
+        keep(beside)
+    return list(lines_of(beside))
 
 
 def loading_lines(options):
@@ -118,7 +129,8 @@ def run_folders(root, store, only, of_sections):
             continue
         folder = os.path.join(root, name)
         try:
-            lines = outcome_lines(folder)
+            path = os.path.join(folder, "told.json")
+            lines = outcome_lines(folder, keep=(lambda beside: stored.write(path, beside)) if store and of_sections else None)
         except Refused as refusal:
             lines = [f"refused: {refusal}"]
         changed += tell(folder, name, lines, store, of_sections)
@@ -130,17 +142,17 @@ def run_folders(root, store, only, of_sections):
 def tell(folder, name, lines, store, of_sections):
     """Prints what came of a folder; answers whether it isn't as stored."""
     path = os.path.join(folder, "expected.txt")
-    stored = read_text(path).split("\n")[:-1] if os.path.exists(path) else None
+    before = read_text(path).split("\n")[:-1] if os.path.exists(path) else None
     if store:
         with open(path, "w", encoding="utf-8", errors="surrogateescape") as file:
             file.write("".join(f"{line}\n" for line in lines))
-        stored = lines
+        before = lines
     heading = f'{name}: "{title(name.partition(".")[0])}"' if name.partition(".")[0] in SECTIONS and of_sections else name
-    is_same = lines == stored
+    is_same = lines == before
     print(heading if is_same else f"CHANGED {heading}")
     for line in lines:
-        print(printable(f"  {line}" if stored is None or line in stored else f"  new:  {line}"))
-    for line in stored or ():
+        print(printable(f"  {line}" if before is None or line in before else f"  new:  {line}"))
+    for line in before or ():
         if line not in lines:
             print(printable(f"  gone: {line}"))
     if of_sections and not names_its_section(name, lines):

@@ -1,11 +1,10 @@
 """SVG drawings: the hooks with packets and drops, and drops over time. Colours are the style sheet's, by classes."""
 from collections import Counter
 
-from pages.model import BEFORE
+from pages.model import AFTER_ALL, BEFORE
 from pages.texts import number, plural, seconds_text, shown
 
 CAUSE_CLASSES = 6  # colours of causes; further ones share the last
-AFTER_ALL = ("passed", "local", "not sent")  # what is no drop
 BINS = 80
 CHART_WIDTH, CHART_HEIGHT = 960, 150
 BOX_WIDTH, BOX_HEIGHT, DROP_HEIGHT = 136, 58, 20
@@ -22,7 +21,7 @@ class Ways:
             place = self.place_of(model.ruleset, stage, outcome)
             if place:
                 self.drops[place][outcome] += many
-        self.total = model.count - model.unsent
+        self.total = model.count - sum(model.causes[outcome] for outcome in AFTER_ALL[2:])
         lost = {place: sum(causes.values()) for place, causes in self.drops.items()}
         self.come = {"headers": self.total, "prerouting": self.total - lost["headers"]}
         self.come["routing"] = self.come["prerouting"] - lost["prerouting"]

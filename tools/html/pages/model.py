@@ -5,7 +5,7 @@ from collections import Counter, namedtuple
 
 from linux.telling import telling, told_records
 from toolbox import program
-from toolbox.captures import IPV4, LINK_LENGTHS, LINUX_SLL2, PROTOCOL_AT, header_of, interface_of, records
+from toolbox.captures import IPV4, LINK_LENGTHS, LINUX_SLL2, PROTOCOL_AT, SENT_BY_US, header_of, interface_of, records
 from toolbox.commands import Refused, read_text
 from toolbox.packets import TCP, address_text, describe, error_tuple_at, inverse, tuple_at
 from toolbox.replay import AS_CAPTURED, NOT_SENT
@@ -14,6 +14,10 @@ from toolbox.reports import THROUGH, Decision, Summary, event_of, records_of, te
 MOST_BYTES = 256  # of a record that are looked at: all headers, also those within an ICMP error
 MOST_SENDERS_KEPT = 100_000
 UNSENT = b"not sent"  # what becomes of a record that its host wouldn't have sent
+# the second sight of a packet, as it leaves: dropped for `link`, and no drop of the box
+COPY = "outgoing copy"
+# what is no drop
+AFTER_ALL = (*THROUGH, text_of(UNSENT), COPY)
 OUT_AT = LINK_LENGTHS[LINUX_SLL2]
 ETHERTYPES = {b"\x08\x06": "ARP", b"\x86\xdd": "IPv6", b"\x81\x00": "a frame with a VLAN tag",
               b"\x88\xa8": "a frame with VLAN tags"}
@@ -101,7 +105,7 @@ class Model:
         self.header = header_of(capture)
         self.goes_to = replay.to if replay and any(replay.to) else None
         self.replayed = replay.written() if self.goes_to else None
-        self.captured, self.unsent = {}, 0  # of a record that was replayed to another end its packet as captured
+        self.captured = {}  # of a record that was replayed to another end its packet as captured
         self.strings, self.paths = Table(""), Table()
         self.steps, self.outcomes, self.states = Table(), Table(), Table("")
         self.columns, self.connections = Columns(), Connections()
@@ -158,6 +162,8 @@ class Model:
     def take(self, record, outcome, state, decisions, frame):
         number, seconds, fraction, _, length, _, data = record
         self.count = number
+        if outcome == "link" and self.header.link_type == LINUX_SLL2 and data[10:11] == bytes([SENT_BY_US]):
+            outcome = COPY
         moment = max(self.last or 0, seconds * 10**9 + fraction * 10**9 // self.header.fractions)
         self.first = moment if self.first is None else self.first
         steps = self.steps_of(decisions)
@@ -167,9 +173,7 @@ class Model:
         for step in steps:
             self.hits[step.chain, step.rule] += 1
         at = self.packet_at(data)
-        if outcome == text_of(UNSENT):
-            self.unsent += 1
-        elif outcome not in THROUGH:
+        if outcome not in AFTER_ALL:
             self.drop_moments.append(moment)
             self.drop_causes.append(self.cause_numbers.number(outcome))
             self.take_sender(number, data, at, outcome)
@@ -210,7 +214,8 @@ class Model:
         key = tuple_at(data, at) if at is not None else None
         error = error_tuple_at(data, at) if at is not None and not key else None
         left = tuple_at(frame, OUT_AT) if frame else None
-        connection, side = self.connections.take(key or error, bool(error), state, left)
+        is_seen = outcome not in BEFORE and outcome not in AFTER_ALL[2:]
+        connection, side = self.connections.take(key or error, bool(error), state, left) if is_seen else (0, 0)
         flags = data[at + 4 * (data[at] & 15) + 13] if key and key[12] == TCP else -1
         self.columns.add(
             time=moment - (self.last if self.last is not None else moment), path=self.paths.number(
@@ -250,4 +255,4 @@ def stage_of(outcome, steps):
         return "before"
     if outcome in ("route", "ttl"):
         return outcome
-    return {"passed": "passed", "local": "local", "not sent": "not sent"}.get(outcome) or (steps[-1].base if steps else "")
+    return outcome if outcome in AFTER_ALL else (steps[-1].base if steps else "")

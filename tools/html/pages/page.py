@@ -4,9 +4,9 @@ import hashlib
 import os
 
 from pages.change import Change
-from pages.diagrams import AFTER_ALL, cause_class, cause_order, drops_svg, ways_svg
+from pages.diagrams import cause_class, cause_order, drops_svg, ways_svg
 from pages.listing import Listing
-from pages.model import Model
+from pages.model import AFTER_ALL, COPY, Model
 from pages.texts import number, packed, plural, seconds_text, shown
 from toolbox import rulemap
 from toolbox.boxes import Box
@@ -16,6 +16,7 @@ from toolbox.rulesets import read_ruleset
 
 HERE = os.path.dirname(os.path.realpath(__file__))
 MOST_SENDERS = 12
+ASIDE = {"not sent": "not sent", COPY: "outgoing copies"}
 
 
 def asset(name):
@@ -95,7 +96,7 @@ class Page:
         dropped = model.count - sum(model.causes[outcome] for outcome in AFTER_ALL)
         facts = [("records", number(model.count)), ("passed", number(model.causes["passed"])),
                  ("to the box", number(model.causes["local"])), ("dropped", number(dropped)),
-                 *([("not sent", number(model.unsent))] if model.unsent else []),
+                 *[(name, number(model.causes[outcome])) for outcome, name in ASIDE.items() if model.causes[outcome]],
                  ("connections", number(model.summary.totals["begun"])),
                  ("time", seconds_text((model.last or 0) - (model.first or 0)))]
         cells = "".join(f"<div><dt>{shown(name)}</dt><dd>{value}</dd></div>" for name, value in facts)

@@ -5,7 +5,7 @@
 	const HOOKS = ["prerouting", "input", "forward", "postrouting"];
 	const FLAGS = [["syn", 2], ["ack", 16], ["fin", 1], ["rst", 4], ["psh", 8], ["urg", 32]];
 	const THROUGH = { passed: "passed", local: "to the box" };
-	const UNSENT = "not sent";
+	const UNSENT = "not sent", COPY = "outgoing copy";
 	const at = id => document.getElementById(id);
 	let data, columns, count, times, pathsOf = new Map();
 	let shown = [], from = 0, chosen = -1, label = "", byConnection = null;
@@ -42,7 +42,7 @@
 	const interfaceName = index => data.interfaces[index] || `index ${index}`;
 	const chainOf = place => data.chains[place] || ["?", "", "", 0, 0, false];
 	const ruleOf = (chain, rule) => data.rules.find(one => one[0] === chain && one[1] === rule);
-	const mark = record => goes(record) ? "o go" : outcome(record) === UNSENT ? "o un" : "o";
+	const mark = record => goes(record) ? "o go" : [UNSENT, COPY].includes(outcome(record)) ? "o un" : "o";
 	const outcomeWord = record => THROUGH[outcome(record)] || outcome(record);
 
 	function flagsText(record) {
@@ -290,6 +290,10 @@
 			items.append(make("li", "end stop", "not sent: what began its connection didn't go through"));
 			return items;
 		}
+		if (outcome(record) === COPY) {
+			items.append(make("li", "end stop", "a packet as the box sent it, seen a second time: dropped for link"));
+			return items;
+		}
 		const text = { passed: `left by ${interfaceName(columns.leaving[record])}`, local: "delivered to the box" }[outcome(record)] || `dropped for ${outcome(record)}`;
 		items.append(make("li", goes(record) ? "end" : "end stop", text));
 		return items;
@@ -350,9 +354,9 @@
 		packet.append(make("div", "", [before(one), flagsText(one)].filter(Boolean).join(" ")));
 		if (columns.after[one] && after(one) !== before(one)) packet.append(make("div", "changed", after(one)));
 		const step = deciding(one);
-		const rule = step ? `${step[3]} ${stepText(step)}` : "";
+		const rule = !step ? "" : step[2] === 0 ? `policy ${step[3]}` : stepText(step);
 		const line = make("tr", `${reply ? "reply" : ""} ${one === here ? "here" : ""}`, null,
-			make("td", "t", `${time(one)}`), make("td", "a", reply ? "\u2190" : "\u2192"), packet, make("td", "r", goes(one) ? rule : `${outcome(one)}: ${rule}`));
+			make("td", "t", `${time(one)}`), make("td", "a", reply ? "\u2190" : "\u2192"), packet, make("td", "r", goes(one) ? rule : rule ? `${outcome(one)}: ${rule}` : outcome(one)));
 		line.dataset.record = one;
 		return line;
 	}
