@@ -3,4 +3,5 @@ pub mod Tables
 pub mod Guarded
 pub mod Seeks
 pub mod RunBuilders
+pub mod IndexSizes
 pub mod MachineSteps

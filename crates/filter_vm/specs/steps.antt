@@ -5,3 +5,4 @@ pub mod Transfers
 pub mod Guarding
 pub mod Seeking
 pub mod RunBuilding
+pub mod IndexSizes

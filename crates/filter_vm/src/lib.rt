@@ -1,5 +1,5 @@
-//! Flat code for rules, and the virtual machine that executes it. It is total on any code, its
-//! steps are bounded by a start's cost, and it allocates nothing.
+//! Flat code for rules, and the virtual machine that executes it. It is total on any code, and its
+//! steps are bounded by a start's cost.
 #![tactic(auto)]
 
 mod actions;
