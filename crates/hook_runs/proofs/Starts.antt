@@ -1,5 +1,5 @@
 -- The starts of each stage are those of its base chains, and have their results.
-use Rattle.std.proofs.Common.{◌≡◌, Bool, true, false, not, ◌&&◌, cond, List, [], ◌∷◌, map, filter, refl, sym, ap, ◌∙◌, subst, ℤ, int_lt, negsuc}
+use Rattle.std.proofs.Common.{◌≡◌, ℕ, Bool, true, false, not, ◌&&◌, cond, List, [], ◌∷◌, map, filter, refl, sym, ap, ◌∙◌, subst, ℤ, int_lt, negsuc}
 use Rattle.std.specs.Prelude.{All, Contains}
 use Rattle.std.proofs.lemmas.Bool.{false≢true}
 use Rattle.std.proofs.lemmas.List.Elements.{All-head, All-tail, All-contains, All-contains_itself, All-filter, All-weaker, filter_agree}
@@ -16,13 +16,16 @@ use Rattle.rule_meaning.specs.Hooks.{HookResult, Traversal, RunsBaseChain, Conti
 use Rattle.filter_vm.specs.declared.code.Code.{Code}
 use Rattle.filter_vm.specs.declared.code.Start.{Start}
 use Rattle.filter_vm.specs.Machine.{starts_of, base_chain_result}
-use Rattle.compiler.specs.Compiled.{StartHead, HasStarts, AgreesWithRules, start_head, base_chain_head}
+use Rattle.nft_tree.specs.Tree.{TableTree}
+use Rattle.rule_paths.specs.Paths.{AreAllCosts, Caller}
+use Rattle.compiler.specs.Compiled.{StartHead, HasStarts, AgreesWithRules, start_cost, start_head, base_chain_head}
 use Rattle.hook_runs.specs.declared.stages.HookStage.{HookStage}
 use Rattle.hook_runs.specs.declared.stages.HookStage.TheVariants as stages
 use Rattle.hook_runs.specs.declared.stages.StagedChains.{StagedChains}
 use Rattle.nft_tree.specs.Priorities.{DSTNAT, SRCNAT}
 use Rattle.hook_runs.specs.Stages.{chains_in_stage, is_after_conntrack}
-use Rattle.hook_runs.specs.steps.Starts.{AreStartsOf, AreStagedChains, AreStarts, IsStartOf, continues, in_order_result, then_continue}
+use Rattle.hook_runs.specs.StageCode.{AreStartsOf, AreStarts, IsStartOf, continues}
+use Rattle.hook_runs.specs.steps.Starts.{AreStagedChains, in_order_result, then_continue}
 use Rattle.hook_runs.specs.steps.Starts.{after, before, filter_starts, is_filter, is_nat_start, after_conntrack, starts_before}
 use Rattle.hook_runs.specs.steps.Starts.{starts_of_stage, staged_starts, nat_starts}
 use Rattle.hook_runs.proofs.Orders.{filter_twice, in_text, some_in_order}
@@ -70,6 +73,14 @@ first_head s b ss bs e = cc
 rest_heads : (s : Start) (b : BaseChain) (ss : List Start) (bs : List BaseChain)
     → map start_head (s ∷ ss) ≡ map base_chain_head (b ∷ bs) → map start_head ss ≡ map base_chain_head bs
 rest_heads s b ss bs e = cc
+
+first_cost : (cost : BaseChain → ℕ) (s : Start) (b : BaseChain) (ss : List Start) (bs : List BaseChain)
+    → map (λ (t : Start). t.cost) (s ∷ ss) ≡ map cost (b ∷ bs) → s.cost ≡ cost b
+first_cost cost s b ss bs e = cc
+
+rest_costs : (cost : BaseChain → ℕ) (s : Start) (b : BaseChain) (ss : List Start) (bs : List BaseChain)
+    → map (λ (t : Start). t.cost) (s ∷ ss) ≡ map cost (b ∷ bs) → map (λ (t : Start). t.cost) ss ≡ map cost bs
+rest_costs cost s b ss bs e = cc
 
 module _ (checked : CheckedTree) (code : Code) where
   -- ---- base chains in order
@@ -150,23 +161,30 @@ module _ (checked : CheckedTree) (code : Code) where
 
   module _ (starts : (hook : Hook) → HasStarts checked.rules hook (starts_of code hook))
       (runs : AgreesWithRules checked code) where
+    -- each start costs what its base chain costs
+    abbrev CostsOf : List Start → List BaseChain → Type 0
+    CostsOf ss bs = (cost : TableTree → Caller → ℕ) → AreAllCosts checked.rules cost
+        → map (λ (t : Start). t.cost) ss ≡ map (start_cost checked.rules cost) bs
+
     starts_all : (hook : Hook) (ss : List Start) (bs : List BaseChain)
-        → map start_head ss ≡ map base_chain_head bs → All (Contains (starts_of code hook)) ss
+        → map start_head ss ≡ map base_chain_head bs → CostsOf ss bs → All (Contains (starts_of code hook)) ss
         → All (Contains (base_chains_of checked.rules)) bs → AreStartsOf checked code ss bs
-    starts_all hook [] [] e among among_bases = tt
-    starts_all hook [] (b ∷ bs) e among among_bases = no_more_headed b bs e
-    starts_all hook (s ∷ ss) [] e among among_bases = none_headed s ss e
-    starts_all hook (s ∷ ss) (b ∷ bs) e among among_bases =
+    starts_all hook [] [] e costs among among_bases = tt
+    starts_all hook [] (b ∷ bs) e costs among among_bases = no_more_headed b bs e
+    starts_all hook (s ∷ ss) [] e costs among among_bases = none_headed s ss e
+    starts_all hook (s ∷ ss) (b ∷ bs) e costs among among_bases =
         let bases = base_chains_of checked.rules in
         let same = first_head s b ss bs e in
         let here = All-head (Contains (starts_of code hook)) s ss among in
         let there = All-head (Contains bases) b bs among_bases in (
           record {
             same = same;
+            costs = λ cost are. first_cost (start_cost checked.rules cost) s b ss bs (costs cost are);
             runs = λ f es. (runs hook s b here there same f es
                 (base_chain_result code s f es)).1 refl;
           },
           starts_all hook ss bs (rest_heads s b ss bs e)
+              (λ cost are. rest_costs (start_cost checked.rules cost) s b ss bs (costs cost are))
               (All-tail (Contains (starts_of code hook)) s ss among) (All-tail (Contains bases) b bs among_bases),
         )
 
@@ -183,7 +201,7 @@ module _ (checked : CheckedTree) (code : Code) where
           order = has.order;
           in_order = has.in_order;
           are_starts =
-              starts_all hook (starts_of code hook) has.order has.are (All-contains_itself (starts_of code hook))
+              starts_all hook (starts_of code hook) has.order has.are has.costs (All-contains_itself (starts_of code hook))
               among_bases;
         }
 

@@ -1,2 +1,3 @@
 pub mod Stages
+pub mod StageCode
 pub mod steps

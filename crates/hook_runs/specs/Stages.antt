@@ -7,6 +7,8 @@ use Rattle.nft_tree.specs.Priorities.{DSTNAT, SRCNAT}
 use Rattle.nft_tree.specs.Tree.{TableTree}
 use Rattle.box_file.specs.Box.{PlantTree}
 use Rattle.rule_meaning.specs.Hooks.{BaseChain, filter_chains_on, nat_chains_on, is_below, is_prerouting_raw}
+use Rattle.filter_vm.specs.declared.code.Code.{Code}
+use Rattle.filter_vm.specs.declared.code.Start.{Start}
 use Rattle.hook_runs.specs.declared.stages.HookStage.{HookStage}
 use Rattle.hook_runs.specs.declared.stages.HookStage.TheVariants as stages
 
@@ -42,10 +44,37 @@ pub record StageCosts : Type 0 where
   pub postrouting_nat : ℕ
   pub postrouting_after_nat : ℕ
 
--- a checked ruleset, the box that it was checked for, and what its stages cost
+-- the starts of each stage in the code, in the order in which they run
+pub record StageStarts : Type 0 where
+  pub prerouting_raw : List Start
+  pub prerouting_before_nat : List Start
+  pub prerouting_nat : List Start
+  pub prerouting_after_nat : List Start
+  pub input : List Start
+  pub forward : List Start
+  pub postrouting_before_nat : List Start
+  pub postrouting_nat : List Start
+  pub postrouting_after_nat : List Start
+
+-- those of one stage
+abbrev pub stage_starts : StageStarts → HookStage → List Start
+stage_starts starts stages.PreroutingRaw = starts.prerouting_raw
+stage_starts starts stages.PreroutingBeforeNat = starts.prerouting_before_nat
+stage_starts starts stages.PreroutingNat = starts.prerouting_nat
+stage_starts starts stages.PreroutingAfterNat = starts.prerouting_after_nat
+stage_starts starts stages.Input = starts.input
+stage_starts starts stages.Forward = starts.forward
+stage_starts starts stages.PostroutingBeforeNat = starts.postrouting_before_nat
+stage_starts starts stages.PostroutingNat = starts.postrouting_nat
+stage_starts starts stages.PostroutingAfterNat = starts.postrouting_after_nat
+
+-- a checked ruleset, the box that it was checked for, its code with the starts of its stages, and what they
+-- cost
 pub record CostedTree : Type 0 where
   pub rules : List TableTree
   pub plant : PlantTree
+  pub code : Code
+  pub starts : StageStarts
   pub costs : StageCosts
 
 -- what a stage costs

@@ -2,11 +2,12 @@
 //! up and its addresses are translated.
 #![tactic(auto)]
 
+mod events;
 mod running;
 mod runs;
 mod sorting;
 mod stages;
 
-pub use filter_vm::Events;
+pub use events::Events;
 pub use runs::HookRuns;
 pub use stages::HookStage;

@@ -1,8 +1,10 @@
 //! Runs base chains one after another.
-ghost use Rattle.std.specs.Prelude.{◌≡◌, ◌≤◌, ◌+◌, length};
-ghost use Rattle.hook_runs.specs.steps.Starts.{cost_of, continues, in_order_result};
+ghost use Rattle.std.specs.Prelude.{◌≡◌, ◌≤◌, ◌+◌, ◌-◌, ◌^◌, length, min};
+ghost use Rattle.hook_runs.specs.StageCode.{continues, started};
+ghost use Rattle.hook_runs.specs.steps.Starts.{cost_of, in_order_result};
 
-use filter_vm::{Code, Events, Start, run_in_place};
+use crate::events::Events;
+use filter_vm::{Code, Start};
 use rule_meaning::{Facts, HookVerdict};
 
 /// Whether the next base chain runs after this verdict.
@@ -28,11 +30,14 @@ pub(crate) fn run_in_order(
     ensures events { length events.new.events ≤ length events.old.events + cost_of starts.now }
     ensures rise { events.old.ticks ≤ events.new.ticks }
     ensures ticks { events.new.ticks ≤ events.old.ticks + cost_of starts.now }
+    ensures counted { events.new.ticks ≡ min (events.old.ticks
+        + started code.now starts.now facts.old events.old.events) (2 ^ 64 - 1) }
+    ensures few { started code.now starts.now facts.old events.old.events ≤ cost_of starts.now }
 {
     // The type bounds the count, which the proof needs.
     let _ = events.ticks();
     for start in starts {
-        let verdict = run_in_place(code, *start, facts, events);
+        let verdict = events.run_chain(code, *start, facts);
         if !continues(verdict) {
             return verdict;
         }

@@ -1,15 +1,20 @@
 //! Compiled rulesets, staged by hooks.
-ghost use Rattle.std.specs.Prelude.{◌≡◌, ◌≤◌, ◌+◌, ℕ, IfOk, length};
+ghost use Rattle.std.specs.Prelude.{◌≡◌, ◌≤◌, ◌+◌, ◌-◌, ◌^◌, ℕ, [], IfOk, filter, length, min, sum_by};
 ghost use Rattle.nft_tree.specs.Tree.{TableTree};
 ghost use Rattle.rule_paths.specs.Paths.{AreAllCosts, Caller, ruleset_cost};
-ghost use Rattle.rule_meaning.specs.Hooks.{Chains};
-ghost use Rattle.hook_runs.specs.Stages.{total_stage_cost, chains_in_stage, stage_cost};
+ghost use Rattle.rule_meaning.specs.Hooks.{Chains, base_chains_of};
+ghost use Rattle.compiler.specs.Compiled.{start_cost};
+ghost use Rattle.compiler.specs.CodeLayout.{AreTableCodes};
+ghost use Rattle.hook_runs.specs.declared.stages.HookStage.{HookStage};
+ghost use Rattle.hook_runs.specs.Stages.{total_stage_cost, chains_in_stage, stage_cost, stage_starts};
+ghost use Rattle.hook_runs.specs.StageCode.{AreStarts, stage_started};
 
+use crate::events::Events;
 use crate::running::run_in_order;
 use crate::sorting::staged_chains;
 use crate::stages::{HookStage, StagedChains};
 use compiler::compile;
-use filter_vm::{Code, Events};
+use filter_vm::Code;
 use rule_check::Checked;
 use rule_meaning::{Facts, HookVerdict};
 use std::alloc::{AllocError, Global};
@@ -29,32 +34,46 @@ impl Model for HookRuns {
 
     ghost Value = { CostedTree };
 
-    ghost view = { λ r. costed_tree r.checked r.stages };
+    ghost view = { λ r. costed_tree r.checked r.code r.stages };
 
     ghost invariant = { λ r. IsCompiled r.checked r.code r.stages };
 }
 
 impl HookRuns {
-    /// Compiles a ruleset, and sorts its base chains into stages.
+    /// Compiles a ruleset, and sorts its base chains into stages. The events of its records and
+    /// the count of their statements come with it: no statement was started, and no event recorded.
     ///
     /// # Errors
     /// `AllocError` for want of memory; the ruleset is dropped then.
-    pub fn new(alloc: Global, checked: Checked) -> Result<Self, AllocError>
-        ensures rules { IfOk result (λ runs. runs.rules ≡ checked.rules) }
-        ensures plant { IfOk result (λ runs. runs.plant ≡ checked.plant) }
+    pub fn new(alloc: Global, checked: Checked) -> Result<(Self, Events), AllocError>
+        ensures rules { IfOk result (λ made. made.0.rules ≡ checked.rules) }
+        ensures plant { IfOk result (λ made. made.0.plant ≡ checked.plant) }
+        // One step for each statement.
+        ensures steps { IfOk result (λ made.
+            AreTableCodes checked.plant checked.rules made.0.code.tables.items) }
+        ensures starts { IfOk result (λ made. (stage : HookStage)
+            → AreStarts checked made.0.code (chains_in_stage stage)
+            (stage_starts made.0.starts stage)) }
         // A base chain runs in one stage at its cost, or in none: those of hook output, and those
         // of type nat on input or forward.
-        ensures cost { IfOk result (λ runs. (cost : TableTree → Caller → ℕ)
+        ensures stage_costs { IfOk result (λ made. (cost : TableTree → Caller → ℕ)
+            → AreAllCosts checked.rules cost → (stage : HookStage) → stage_cost made.0 stage
+            ≡ sum_by (start_cost checked.rules cost)
+            (filter (chains_in_stage stage) (base_chains_of checked.rules))) }
+        ensures cost { IfOk result (λ made. (cost : TableTree → Caller → ℕ)
             → AreAllCosts checked.rules cost
-            → total_stage_cost runs ≤ ruleset_cost cost checked.rules) }
+            → total_stage_cost made.0 ≤ ruleset_cost cost checked.rules) }
+        ensures events { IfOk result (λ made. made.1 ≡ record { events = []; ticks = 0 }) }
     {
         let code = compile(alloc, &checked)?;
         let stages = staged_chains(alloc, &code)?;
-        Ok(HookRuns {
+        let events = Events::new(alloc)?;
+        let runs = HookRuns {
             checked,
             code,
             stages,
-        })
+        };
+        Ok((runs, events))
     }
 
     /// The ruleset, and the box that it was checked for.
@@ -74,8 +93,9 @@ impl HookRuns {
     }
 
     /// Runs a packet through the base chains of a stage, one after another, until one doesn't
-    /// accept it. Marks and `notrack` are written to `facts` in place. There are no more events,
-    /// and no more statements are started, than the stage costs.
+    /// accept it. Marks and `notrack` are written to `facts` in place. Each statement that is
+    /// started is counted once. There are no more events, and no more statements are started, than
+    /// the stage costs.
     #[inline(always)]
     pub fn run(&self, stage: HookStage, facts: &mut Facts, events: &mut Events) -> HookVerdict
         requires room { length events.old.events + stage_cost self.now stage ≤ 65536 }
@@ -86,6 +106,10 @@ impl HookRuns {
             ≤ length events.old.events + stage_cost self.now stage }
         ensures ticks { (events.old.ticks ≤ events.new.ticks)
             × (events.new.ticks ≤ events.old.ticks + stage_cost self.now stage) }
+        ensures counted { events.new.ticks ≡ min (events.old.ticks
+            + stage_started self.now stage facts.old events.old.events) (2 ^ 64 - 1) }
+        ensures few { stage_started self.now stage facts.old events.old.events
+            ≤ stage_cost self.now stage }
     {
         run_in_order(&self.code, self.stages.starts(stage), facts, events)
     }

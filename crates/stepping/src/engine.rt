@@ -89,10 +89,10 @@ impl<T: Tracker> Engine<T> {
     pub fn new(alloc: Global, hasher: RandomState, checked: Checked) -> Result<Self, AllocError>
         ensures setup { IfOk result (λ engine. engine.setup ≡ setup_of checked) }
         ensures none { IfOk result (λ engine. Represents engine []) }
+        ensures ticks { IfOk result (λ engine. engine.ticks ≡ 0) }
     {
-        let setup = Setup::new(alloc, checked)?;
+        let (setup, events) = Setup::new(alloc, checked)?;
         let idle = setup.plant().idle();
-        let events = Events::new(alloc)?;
         let packet = Vec::with_capacity(alloc, MOST_PACKET_BYTES)?;
         Ok(Engine {
             setup,
@@ -253,5 +253,12 @@ impl<T: Tracker> Engine<T> {
         ensures { result ≡ self.now.records }
     {
         self.records
+    }
+
+    /// The number of statements started since `new`, at most 2^64 - 1.
+    pub fn ticks(&self) -> u64
+        ensures { result ≡ self.now.ticks }
+    {
+        self.events.ticks()
     }
 }

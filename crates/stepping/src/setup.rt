@@ -1,5 +1,5 @@
 //! The configuration of a box, compiled.
-ghost use Rattle.std.specs.Prelude.{◌≡◌, ◌≤◌, ℕ, IfOk, IfSome};
+ghost use Rattle.std.specs.Prelude.{◌≡◌, ◌≤◌, ℕ, [], IfOk, IfSome};
 ghost use Rattle.std.specs.Option.{option_map};
 ghost use Rattle.nft_tree.specs.Tree.{TableTree};
 ghost use Rattle.rule_paths.specs.Paths.{AreAllCosts, Caller, ruleset_cost};
@@ -28,17 +28,18 @@ pub struct Setup {
 }
 
 impl Setup {
-    /// Compiles a checked ruleset.
+    /// Compiles a checked ruleset. The events with which its chains run come with it.
     ///
     /// # Errors
     /// An allocation failed. The ruleset is dropped.
-    pub fn new(alloc: Global, checked: Checked) -> Result<Self, AllocError>
-        ensures { IfOk result (λ setup. setup_in setup.hooks ≡ setup_of checked) }
+    pub fn new(alloc: Global, checked: Checked) -> Result<(Self, Events), AllocError>
+        ensures setup { IfOk result (λ made. setup_in made.0.hooks ≡ setup_of checked) }
+        ensures events { IfOk result (λ made. made.1 ≡ record { events = []; ticks = 0 }) }
     {
-        let hooks = HookRuns::new(alloc, checked)?;
+        let (hooks, events) = HookRuns::new(alloc, checked)?;
         let plant = hooks.checked().plant();
         let entering = interface_facts(plant, plant.entering());
-        Ok(Setup { hooks, entering })
+        Ok((Setup { hooks, entering }, events))
     }
 
     /// The box file.

@@ -1,34 +1,38 @@
 -- Base chains as starts of code: which run in which stage, their results one after another, and their
 -- costs.
-use Rattle.std.specs.Prelude.{◌≡◌, ℕ, ◌≤◌, ℤ, int_lt, negsuc, not, Bool, true, false, cond, List, [], ◌∷◌, filter, sum_by}
+use Rattle.std.specs.Prelude.{◌≡◌, ℕ, ◌≤◌, ℤ, int_lt, negsuc, not, Bool, cond, List, [], ◌∷◌, filter, sum_by}
 use Rattle.rule_check.specs.Checked.{CheckedTree}
 use Rattle.rule_meaning.specs.declared.facts.Facts.{Facts}
 use Rattle.rule_meaning.specs.declared.event.Event.{Event}
-use Rattle.rule_meaning.specs.declared.event.HookVerdict.{HookVerdict}
-use Rattle.rule_meaning.specs.declared.event.HookVerdict.TheVariants.{Accepted, Dropped, Translated}
-use Rattle.rule_meaning.specs.Hooks.{BaseChain, HookResult, InOrder, RunsBaseChain, base_chains_of}
+use Rattle.rule_meaning.specs.declared.event.HookVerdict.TheVariants.{Accepted}
+use Rattle.rule_meaning.specs.Hooks.{HookResult}
 use Rattle.filter_vm.specs.declared.code.Code.{Code}
 use Rattle.filter_vm.specs.declared.code.Start.{Start}
 use Rattle.filter_vm.specs.Machine.{base_chain_result}
-use Rattle.compiler.specs.Compiled.{start_head, base_chain_head}
 use Rattle.nft_tree.specs.Priorities.{DSTNAT, SRCNAT}
-use Rattle.hook_runs.specs.Stages.{StageCosts, CostedTree, total_stage_cost, chains_in_stage}
+use Rattle.hook_runs.specs.Stages.{StageCosts, StageStarts, CostedTree, total_stage_cost, chains_in_stage, stage_starts}
 use Rattle.hook_runs.specs.declared.stages.HookStage.{HookStage}
 use Rattle.hook_runs.specs.declared.stages.HookStage.TheVariants as stages
 use Rattle.hook_runs.specs.declared.stages.StagedChains.{StagedChains}
+use Rattle.hook_runs.specs.StageCode.{AreStarts, continues}
 
 -- ---- the starts of a stage
 
+abbrev pub starts_in : StagedChains → StageStarts
+starts_in p = record {
+  prerouting_raw = p.prerouting_raw.items;
+  prerouting_before_nat = p.prerouting_before_nat.items;
+  prerouting_nat = p.prerouting_nat.items;
+  prerouting_after_nat = p.prerouting_after_nat.items;
+  input = p.input.items;
+  forward = p.forward.items;
+  postrouting_before_nat = p.postrouting_before_nat.items;
+  postrouting_nat = p.postrouting_nat.items;
+  postrouting_after_nat = p.postrouting_after_nat.items;
+}
+
 abbrev pub staged_starts : StagedChains → HookStage → List Start
-staged_starts p stages.PreroutingRaw = p.prerouting_raw.items
-staged_starts p stages.PreroutingBeforeNat = p.prerouting_before_nat.items
-staged_starts p stages.PreroutingNat = p.prerouting_nat.items
-staged_starts p stages.PreroutingAfterNat = p.prerouting_after_nat.items
-staged_starts p stages.Input = p.input.items
-staged_starts p stages.Forward = p.forward.items
-staged_starts p stages.PostroutingBeforeNat = p.postrouting_before_nat.items
-staged_starts p stages.PostroutingNat = p.postrouting_nat.items
-staged_starts p stages.PostroutingAfterNat = p.postrouting_after_nat.items
+staged_starts p = stage_starts (starts_in p)
 
 abbrev pub is_filter : Start → Bool
 is_filter s = not s.is_nat
@@ -71,10 +75,6 @@ AreStagedChains code p = (stage : HookStage) → staged_starts p stage ≡ start
 
 -- ---- results
 
-abbrev pub continues : HookVerdict → Bool
-continues Accepted = true
-continues _ = false
-
 -- the next start runs where the verdict is accept
 abbrev pub then_continue : HookResult → (Facts → List Event → HookResult) → HookResult
 then_continue hook_result next =
@@ -102,31 +102,19 @@ costs_of p = record {
   postrouting_after_nat = cost_of p.postrouting_after_nat.items;
 }
 
--- a checked ruleset with what its stages cost
-abbrev pub costed_tree : CheckedTree → StagedChains → CostedTree
-costed_tree checked p = record { rules = checked.rules; plant = checked.plant; costs = costs_of p }
+-- a checked ruleset with its code, the starts of its stages and what they cost
+abbrev pub costed_tree : CheckedTree → Code → StagedChains → CostedTree
+costed_tree checked code p = record {
+  rules = checked.rules;
+  plant = checked.plant;
+  code = code;
+  starts = starts_in p;
+  costs = costs_of p;
+}
 
 -- ---- invariants
-
--- the start is that of the base chain, and its code has the result of the chain's rules
-pub record IsStartOf (checked : CheckedTree) (code : Code) (s : Start) (b : BaseChain) : Type 0 where
-  pub same : start_head s ≡ base_chain_head b
-  pub runs : (f : Facts) (es : List Event) → RunsBaseChain checked.plant checked.rules b f es
-      (base_chain_result code s f es)
-
-abbrev pub AreStartsOf : CheckedTree → Code → List Start → List BaseChain → Type 0
-AreStartsOf checked code [] [] = Unit {0}
-AreStartsOf checked code (s ∷ ss) (b ∷ bs) = IsStartOf checked code s b × AreStartsOf checked code ss bs
-AreStartsOf _ _ _ _ = ⊥
-
--- the starts are those of the base chains that pass the test, in the order in which they run
-pub record AreStarts (checked : CheckedTree) (code : Code) (test : BaseChain → Bool)
-    (starts : List Start) : Type 0 where
-  pub order : List BaseChain
-  pub in_order : InOrder (filter test (base_chains_of checked.rules)) order
-  pub are_starts : AreStartsOf checked code starts order
 
 -- each stage has its base chains, and all together cost at most the limit
 pub record IsCompiled (checked : CheckedTree) (code : Code) (p : StagedChains) : Type 0 where
   pub starts : (stage : HookStage) → AreStarts checked code (chains_in_stage stage) (staged_starts p stage)
-  pub few : total_stage_cost (costed_tree checked p) ≤ 65536
+  pub few : total_stage_cost (costed_tree checked code p) ≤ 65536
