@@ -1,14 +1,14 @@
 -- A packet rewritten to the endpoints of a tuple has that tuple.
 use Rattle.std.proofs.Common.{◌≡◌, ℕ, ◌+◌, ◌*◌, ◌%◌, ◌<◌, ◌≤◌, inl, inr, ⊎_elim, Option, Some, None, List, length}
-use Rattle.std.proofs.Common.{get_or, take, drop, Bool, true, false, refl, sym, ap, ◌∙◌, arith}
-use Rattle.std.specs.Prelude.{◌==◌, ◌||◌, if◌then◌else◌}
+use Rattle.std.proofs.Common.{get_or, take, drop, Bool, true, false, refl, sym, ap, subst, ◌∙◌, arith}
+use Rattle.std.specs.Prelude.{◌==◌, ◌&&◌, ◌||◌, if◌then◌else◌}
 use Rattle.std.specs.Option.{option_map}
 use Rattle.std.proofs.lemmas.Bool.{eqb-true, ne_eqb, cases_eq}
 use Rattle.std.proofs.lemmas.List.{get_or-set_other, length-set}
 use Rattle.ip_headers.specs.declared.tuple.Kind.{Kind}
 use Rattle.ip_headers.specs.declared.tuple.Kind.TheVariants.{Tcp, Udp, EchoRequest, EchoReply, Other}
 use Rattle.ip_headers.specs.declared.tuple.Tuple.{Tuple}
-use Rattle.ip_headers.specs.Bytes.{u16_at, u32_at, with_u16, with_u32}
+use Rattle.ip_headers.specs.Bytes.{byte_at, u16_at, u32_at, with_u16, with_u32}
 use Rattle.ip_headers.specs.Header.{header_len, payload_at, payload_of, protocol, protocol_at, total_len, source, destination}
 use Rattle.ip_headers.specs.Passing.{Passes}
 use Rattle.ip_headers.specs.Transport.{icmp_type, transport_is_malformed}
@@ -16,11 +16,12 @@ use Rattle.ip_headers.specs.Tuple.{kind_of, port_from, port_to, tuple_of, tuple_
 use Rattle.rewrite.specs.declared.change.Change.{Change}
 use Rattle.rewrite.specs.declared.change.PortsOrIdentifier.TheVariants.{Ports, Identifier}
 use Rattle.rewrite.specs.Endpoints.{PortsMatchKind, between, ports_or_identifier}
-use Rattle.rewrite.specs.Rewritten.{write_if_some, replaced, with_destination, with_numbers, with_ports, with_source, with_ttl}
+use Rattle.rewrite.specs.Rewritten.{has_identifier, write_if_some, replaced, with_destination, with_numbers, with_ports, with_source, with_ttl}
 use Rattle.rewrite.proofs.Places.{length-word, length-number, number_apart, number_written, word_apart, word_written}
+use Rattle.rewrite.proofs.Whole.{is_icmp}
 use Rattle.rewrite.proofs.Lengths.{length-named}
 use Rattle.rewrite.proofs.Sent.{named_byte, sent, sent_byte, sent_header, sent_icmp, sent_icmp_byte}
-use Rattle.rewrite.proofs.Sent.{sent_tcp, sent_udp, timed, timed_payload, timed_protocol}
+use Rattle.rewrite.proofs.Sent.{sent_tcp, sent_udp, timed, timed_byte, timed_payload, timed_protocol}
 use Rattle.rewrite.proofs.Passed.{payload_byte, tcp_room, within}
 
 -- ---- fields of the payload
@@ -31,6 +32,9 @@ word_of_payload xs h n i j is lt =
     let high : get_or (drop h (take n xs)) i 0 ≡ get_or xs j 0 = rw is (payload_byte xs h n i (omega (arith, is, lt))) in
     let low : get_or (drop h (take n xs)) (i + 1) 0 ≡ get_or xs (j + 1) 0 = rw next (payload_byte xs h n (i + 1) (omega (arith, is, lt))) in
     rw (high, low) refl
+
+first_of_payload : (xs : List ℕ) (h n j : ℕ) → j ≡ h + 0 → j < n → get_or (drop h (take n xs)) 0 0 ≡ get_or xs j 0
+first_of_payload xs h n j is lt = rw is (payload_byte xs h n 0 (omega (arith, is, lt)))
 
 word_same : (xs ys : List ℕ) (k : ℕ) → get_or xs k 0 ≡ get_or ys k 0 → get_or xs (k + 1) 0 ≡ get_or ys (k + 1) 0 → u16_at xs k ≡ u16_at ys k
 word_same xs ys k a b = rw (a, b) refl
@@ -98,8 +102,8 @@ ports_there : (t : List ℕ) (number offset from to : ℕ) → protocol_at 0 t �
 ports_there t number offset from to is here some = rw (is, some, here) refl
 
 identifier_there : (t : List ℕ) (number offset id : ℕ) → protocol_at 0 t ≡ number → payload_at 0 t ≡ offset
-    → (number == 1) ≡ true → with_numbers 0 t (Identifier id) ≡ with_u16 t (offset + 4) id
-identifier_there t number offset id is here some = rw (is, some, here) refl
+    → has_identifier number (byte_at t offset) ≡ true → with_numbers 0 t (Identifier id) ≡ with_u16 t (offset + 4) id
+identifier_there t number offset id is here some = rw (is, here, some) refl
 
 length-timed : (p : List ℕ) (change : Change) → length (timed p change) ≡ length p
 length-timed p change =
@@ -170,17 +174,25 @@ udp_ports p change from to ok seventeen e =
     (ported p t (replaced 0 p change) (sent p change) from to r (omega (arith, length-timed p change, enough, within p ok, ok.head.whole))
     (λ k past lt. sent_udp p change k (omega (arith, ok.head.long)) seventeen past (inl (omega (arith, lt)))))
 
-icmp_identifier : (p : List ℕ) (change : Change) (id : ℕ) → Passes p → protocol p ≡ 1
+icmp_identifier : (p : List ℕ) (change : Change) (id : ℕ) → Passes p
+    → has_identifier (protocol p) (icmp_type (payload_of p)) ≡ true
     → change.numbers ≡ Some (Identifier id) → u16_at (payload_of (sent p change)) 4 ≡ id
-icmp_identifier p change id ok one e =
+icmp_identifier p change id ok there e =
     let t = timed p change in
     let q = sent p change in
     let offset = payload_at 0 p in
     let same = same_head p change ok in
+    let one = is_icmp (protocol p) (icmp_type (payload_of p)) there in
     let enough = icmp_long (payload_of p) (rw one at ok.transport) in
     let long : 12 ≤ offset = omega (arith, ok.head.long) in
+    let first : byte_at t offset ≡ icmp_type (payload_of p) =
+    timed_byte p change offset (omega (arith, ok.head.long)) (inr (omega (arith, ok.head.long)))
+    ∙ sym (first_of_payload p (header_len p) (total_len p) offset (omega arith) (omega (arith, enough, within p ok))) in
+    let echo : has_identifier 1 (byte_at t offset) ≡ true =
+    subst (λ (m : ℕ). has_identifier 1 m ≡ true) (sym first)
+    (subst (λ (n : ℕ). has_identifier n (icmp_type (payload_of p)) ≡ true) one there) in
     let r : replaced 0 p change ≡ with_u16 t (offset + 4) id = ap (λ o. write_if_some (with_numbers 0) t o) e
-    ∙ identifier_there t 1 offset id (timed_protocol p change ∙ one) (timed_payload p change) refl in
+    ∙ identifier_there t 1 offset id (timed_protocol p change ∙ one) (timed_payload p change) echo in
     rw (same.header, same.total)
     (word_of_payload q (header_len p) (total_len p) 4 (offset + 4) (omega arith) (omega (arith, enough, within p ok))
     ∙ word_same q (replaced 0 p change) (offset + 4)
@@ -212,16 +224,20 @@ by_udp false false true false true number e = cc
 by_udp false false true false false number e = cc
 by_udp false false false d f number e = cc
 
-by_ask : (a b c d f : Bool) (number : ℕ) → kind_by a b c d f number ≡ Some EchoRequest → c ≡ true
+by_ask : (a b c d f : Bool) (number : ℕ) → kind_by a b c d f number ≡ Some EchoRequest → (c && (d || f)) ≡ true
 by_ask true b c d f number e = cc
 by_ask false true c d f number e = cc
-by_ask false false true d f number e = refl
+by_ask false false true true f number e = refl
+by_ask false false true false true number e = cc
+by_ask false false true false false number e = cc
 by_ask false false false d f number e = cc
 
-by_answer : (a b c d f : Bool) (number : ℕ) → kind_by a b c d f number ≡ Some EchoReply → c ≡ true
+by_answer : (a b c d f : Bool) (number : ℕ) → kind_by a b c d f number ≡ Some EchoReply → (c && (d || f)) ≡ true
 by_answer true b c d f number e = cc
 by_answer false true c d f number e = cc
-by_answer false false true d f number e = refl
+by_answer false false true true f number e = cc
+by_answer false false true false true number e = refl
+by_answer false false true false false number e = cc
 by_answer false false false d f number e = cc
 
 tcp_number : (number : ℕ) (payload : List ℕ) → kind_of number payload ≡ Some Tcp → number ≡ 6
@@ -232,13 +248,15 @@ udp_number : (number : ℕ) (payload : List ℕ) → kind_of number payload ≡ 
 udp_number number payload e = eqb-true number 17
     (by_udp (number == 6) (number == 17) (number == 1) (icmp_type payload == 8) (icmp_type payload == 0) number e)
 
-ask_number : (number : ℕ) (payload : List ℕ) → kind_of number payload ≡ Some EchoRequest → number ≡ 1
-ask_number number payload e = eqb-true number 1
-    (by_ask (number == 6) (number == 17) (number == 1) (icmp_type payload == 8) (icmp_type payload == 0) number e)
+ask_there : (number : ℕ) (payload : List ℕ) → kind_of number payload ≡ Some EchoRequest
+    → has_identifier number (icmp_type payload) ≡ true
+ask_there number payload e =
+    by_ask (number == 6) (number == 17) (number == 1) (icmp_type payload == 8) (icmp_type payload == 0) number e
 
-answer_number : (number : ℕ) (payload : List ℕ) → kind_of number payload ≡ Some EchoReply → number ≡ 1
-answer_number number payload e = eqb-true number 1
-    (by_answer (number == 6) (number == 17) (number == 1) (icmp_type payload == 8) (icmp_type payload == 0) number e)
+answer_there : (number : ℕ) (payload : List ℕ) → kind_of number payload ≡ Some EchoReply
+    → has_identifier number (icmp_type payload) ≡ true
+answer_there number payload e =
+    by_answer (number == 6) (number == 17) (number == 1) (icmp_type payload == 8) (icmp_type payload == 0) number e
 
 kind_same : (number : ℕ) (x y : List ℕ) → (number ≡ 1 → get_or x 0 0 ≡ get_or y 0 0) → kind_of number x ≡ kind_of number y
 kind_same number x y same =
@@ -253,8 +271,8 @@ suits : (kind : Kind) (p : List ℕ) (change : Change) (from to : ℕ) → Passe
     → (port_from kind (payload_of (sent p change)) ≡ from) × (port_to kind (payload_of (sent p change)) ≡ to)
 suits Tcp p change from to ok is e h = tcp_ports p change from to ok (tcp_number (protocol p) (payload_of p) is) e
 suits Udp p change from to ok is e h = udp_ports p change from to ok (udp_number (protocol p) (payload_of p) is) e
-suits EchoRequest p change from to ok is e h = (icmp_identifier p change from ok (ask_number (protocol p) (payload_of p) is) e, sym h)
-suits EchoReply p change from to ok is e h = (sym h, icmp_identifier p change to ok (answer_number (protocol p) (payload_of p) is) e)
+suits EchoRequest p change from to ok is e h = (icmp_identifier p change from ok (ask_there (protocol p) (payload_of p) is) e, sym h)
+suits EchoReply p change from to ok is e h = (sym h, icmp_identifier p change to ok (answer_there (protocol p) (payload_of p) is) e)
 suits (Other number) p change from to ok is e h = (sym h.0, sym h.1)
 
 sent_kind : (p : List ℕ) (change : Change) → Passes p

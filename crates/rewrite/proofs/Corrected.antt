@@ -57,6 +57,11 @@ update_checksum-is over offset old now words c kept =
     (chosen words.is_same now offset (u16_at old offset) _ _ kept
     (corrected-by (u16_at old offset) (words_sum (over old)) (words_sum (over now)) words.old words.new c.sum))
 
+-- it stays where none of the covered bytes changed
+pub update_checksum-kept : (over : List ℕ → List ℕ) (offset : ℕ) (old now : List ℕ) → over old ≡ over now
+    → update_checksum over offset old now ≡ now
+update_checksum-kept over offset old now e = rw (same_bytes-from (over old) (over now) e) refl
+
 pub update_udp_checksum-is : (over : List ℕ → List ℕ) (offset : ℕ) (old now : List ℕ) (words : ChecksumDelta)
     → Covers words (over old) (over now) → with_u16 now offset (u16_at old offset) ≡ now
     → update_udp_checksum over offset old now ≡ with_u16 now offset (updated_udp_checksum words (u16_at old offset))

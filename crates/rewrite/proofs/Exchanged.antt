@@ -1,7 +1,7 @@
 -- The changed words of a datagram under a checksum that covers the whole of it.
 use Rattle.std.proofs.Common.{◌≡◌, ℕ, zero, suc, ◌+◌, ◌*◌, ◌/◌, ◌%◌, ◌<◌, ◌≤◌, inl, inr, ⊎_elim, Option, Some, None}
 use Rattle.std.proofs.Common.{List, length, length-drop, get_or, set, drop, true, false, refl, sym, ap, ◌∙◌, arith}
-use Rattle.std.proofs.lemmas.Bool.{eqb-true, eq-eqb, ne_eqb, and_parts, and_from, cases_eq, cases_lt}
+use Rattle.std.proofs.lemmas.Bool.{eqb-true, eq-eqb, ne_eqb, and_parts, and_from, cases_Bool, cases_eq, cases_lt}
 use Rattle.std.proofs.lemmas.List.{drop-set-add, get_or-drop, get_or-set_other, get_or-set_same, set-get_or}
 use Rattle.ip_headers.specs.Bytes.{byte_at, u16_at, u32_at, with_u16, with_u32}
 use Rattle.ip_headers.specs.Header.{header_len, payload_at, protocol_at}
@@ -10,8 +10,8 @@ use Rattle.rewrite.specs.declared.change.PortsOrIdentifier.{PortsOrIdentifier}
 use Rattle.rewrite.specs.declared.checksum.ChecksumDelta.{ChecksumDelta}
 use Rattle.rewrite.specs.declared.fields.Fields.{Fields}
 use Rattle.rewrite.specs.declared.fields.TransportFields.{TransportFields}
-use Rattle.rewrite.specs.declared.fields.TransportFields.TheVariants.{Tcp, Udp, Icmp, Other}
-use Rattle.rewrite.specs.Rewritten.{with_ports}
+use Rattle.rewrite.specs.declared.fields.TransportFields.TheVariants.{Tcp, Udp, Echo, Other}
+use Rattle.rewrite.specs.Rewritten.{has_identifier, with_ports}
 use Rattle.rewrite.specs.steps.Fields.{and_transport_words, combined, transport_fields_of, transport_words}
 use Rattle.rewrite.specs.steps.Fields.{changed_transport_fields, changed_fields, fields_at, fields_change, len_of}
 use Rattle.rewrite.specs.steps.Fields.{u32_change, ports_named, with_transport_fields, with_fields, u16_change}
@@ -22,7 +22,7 @@ use Rattle.rewrite.proofs.Places.{number_written, rest_in, word_kept, word_of_re
 use Rattle.rewrite.proofs.Parts.{IsEven, words_sum-number}
 use Rattle.rewrite.proofs.Corrected.{Covers}
 use Rattle.rewrite.proofs.Covered.{IsDatagram, covers_to, length-timed, pair_words, scaled, timed, timed_byte}
-use Rattle.rewrite.proofs.Whole.{of_cut_tcp, of_icmp, of_other, of_tcp, of_udp}
+use Rattle.rewrite.proofs.Whole.{of_cut_tcp, of_echo, of_other, of_tcp, of_udp}
 
 -- ---- even offsets
 
@@ -282,9 +282,9 @@ fields_room start p room =
     (λ not_six. ⊎_elim
     (λ seventeen. rw (of_udp number p offset seventeen) room)
     (λ not_seventeen. ⊎_elim
-    (λ one. rw (of_icmp number p offset one) six_bytes)
-    (λ not_one. rw (of_other number (drop offset p) (ne_eqb _ _ not_six) (ne_eqb _ _ not_seventeen) (ne_eqb _ _ not_one)) none)
-    (cases_eq number 1))
+    (λ there. rw (of_echo number p offset there) six_bytes)
+    (λ gone. rw (of_other number p offset (ne_eqb _ _ not_six) (ne_eqb _ _ not_seventeen) gone) none)
+    (cases_Bool (has_identifier number (byte_at p offset))))
     (cases_eq number 17))
     (cases_eq number 6)
 
@@ -322,13 +322,13 @@ carried_exchanged a start w p t numbers addresses d room c =
     rw is (behind_ports a start 6 _ with_two p t ports.0 ports.1 d six_past refl long
     (ports_exchanged a start w p t ports.0 ports.1 d four c)))
     (λ not_seventeen. ⊎_elim
-    (λ one.
-    let is = of_icmp number p offset one in
+    (λ there.
+    let is = of_echo number p offset there in
     rw is (identifier_exchanged a start w p t _ _ d (rw is at room) c))
-    (λ not_one.
-    let is = of_other number (drop offset p) (ne_eqb _ _ not_six) (ne_eqb _ _ not_seventeen) (ne_eqb _ _ not_one) in
+    (λ gone.
+    let is = of_other number p offset (ne_eqb _ _ not_six) (ne_eqb _ _ not_seventeen) gone in
     rw is (none_more _ _ _ (none_more _ _ _ (none_more w (drop a p) (drop a t) c))))
-    (cases_eq number 1))
+    (cases_Bool (has_identifier number (byte_at p offset))))
     (cases_eq number 17))
     (cases_eq number 6)
 
@@ -347,7 +347,7 @@ carried_byte offset t (Udp from to sum) k lt =
     byte_apart (with_ports offset t from to) (offset + 6) sum k (inl (omega (arith, lt)))
     ∙ byte_apart (with_u16 t offset from) (offset + 2) to k (inl (omega (arith, lt)))
     ∙ byte_apart t offset from k (inl lt)
-carried_byte offset t (Icmp number sum) k lt =
+carried_byte offset t (Echo number sum) k lt =
     byte_apart (with_u16 t (offset + 4) number) (offset + 2) sum k (inl (omega (arith, lt)))
     ∙ byte_apart t (offset + 4) number k (inl (omega (arith, lt)))
 carried_byte offset t Other k lt = refl
@@ -371,7 +371,7 @@ length-carried_fields offset t (Tcp from to (Some sum)) = length-word (with_port
     ∙ length-word (with_u16 t offset from) (offset + 2) to ∙ length-word t offset from
 length-carried_fields offset t (Udp from to sum) = length-word (with_ports offset t from to) (offset + 6) sum
     ∙ length-word (with_u16 t offset from) (offset + 2) to ∙ length-word t offset from
-length-carried_fields offset t (Icmp number sum) =
+length-carried_fields offset t (Echo number sum) =
     length-word (with_u16 t (offset + 4) number) (offset + 2) sum ∙ length-word t (offset + 4) number
 length-carried_fields offset t Other = refl
 

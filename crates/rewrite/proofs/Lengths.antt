@@ -1,9 +1,9 @@
 -- Lengths of packets, and that their fields are there.
 use Rattle.std.proofs.Common.{◌≡◌, ℕ, ◌+◌, ◌≤◌, Option, Some, None, List, length, drop, take}
 use Rattle.std.proofs.Common.{length-take, length-drop, Bool, true, false, refl, ◌∙◌, arith}
-use Rattle.std.specs.Prelude.{◌==◌, ◌||◌, if◌then◌else◌}
+use Rattle.std.specs.Prelude.{◌==◌, ◌&&◌, ◌||◌, if◌then◌else◌}
 use Rattle.std.proofs.lemmas.List.{length-set}
-use Rattle.ip_headers.specs.Bytes.{u16_at, with_u16}
+use Rattle.ip_headers.specs.Bytes.{byte_at, u16_at, with_u16}
 use Rattle.ip_headers.specs.Header.{header_len, payload_at, payload_of, protocol, protocol_at, total_len}
 use Rattle.ip_headers.specs.Passing.{Passes}
 use Rattle.ip_headers.specs.Transport.{icmp_is_malformed, tcp_is_malformed, transport_is_malformed, udp_is_malformed}
@@ -11,7 +11,7 @@ use Rattle.rewrite.specs.declared.change.Change.{Change}
 use Rattle.rewrite.specs.declared.change.PortsOrIdentifier.{PortsOrIdentifier}
 use Rattle.rewrite.specs.declared.change.PortsOrIdentifier.TheVariants.{Ports, Identifier}
 use Rattle.rewrite.specs.declared.fields.TransportFields.{TransportFields}
-use Rattle.rewrite.specs.declared.fields.TransportFields.TheVariants.{Tcp, Udp, Icmp, Other}
+use Rattle.rewrite.specs.declared.fields.TransportFields.TheVariants.{Tcp, Udp, Echo, Other}
 use Rattle.rewrite.specs.Rewritten.{payload_in, header_in, write_if_some, pseudo_header_and_payload, update_checksum}
 use Rattle.rewrite.specs.Rewritten.{update_udp_checksum, replaced, update_transport_checksum, update_checksums}
 use Rattle.rewrite.specs.Rewritten.{same_bytes, with_destination, with_numbers, with_ports, with_source, with_ttl}
@@ -33,26 +33,27 @@ abbrev judged : Bool → Bool → Bool → List ℕ → Bool
 judged a b c payload = if a then tcp_is_malformed payload
     else (if b then udp_is_malformed payload else (if c then icmp_is_malformed payload else false))
 
-abbrev shown : Bool → Bool → Bool → TransportFields → TransportFields → TransportFields → TransportFields
-shown a b c x y z = if a then x else (if b then y else (if c then z else Other))
+abbrev shown : Bool → Bool → Bool → Bool → TransportFields → TransportFields → TransportFields → TransportFields
+shown a b c d x y z = if a then x else (if b then y else (if c && d then z else Other))
 
 pub tcp_fields : (from to n : ℕ) (sum : Option ℕ) → 18 ≤ n → len_of (Tcp from to sum) ≤ n
 tcp_fields from to n None long = omega (arith, long)
 tcp_fields from to n (Some sum) long = long
 
-enough : (a b c : Bool) (payload : List ℕ) (from to : ℕ) (sum : Option ℕ) (one other udp id icmp : ℕ)
-    → judged a b c payload ≡ false → len_of (shown a b c (Tcp from to sum) (Udp one other udp) (Icmp id icmp))
+enough : (a b c d : Bool) (payload : List ℕ) (from to : ℕ) (sum : Option ℕ) (one other udp id icmp : ℕ)
+    → judged a b c payload ≡ false → len_of (shown a b c d (Tcp from to sum) (Udp one other udp) (Echo id icmp))
     ≤ length payload
-enough true b c payload from to sum one other udp id icmp right = tcp_fields from to (length payload) sum (tcp_long payload right)
-enough false true c payload from to sum one other udp id icmp right = udp_long payload right
-enough false false true payload from to sum one other udp id icmp right = icmp_long payload right
-enough false false false payload from to sum one other udp id icmp right = omega arith
+enough true b c d payload from to sum one other udp id icmp right = tcp_fields from to (length payload) sum (tcp_long payload right)
+enough false true c d payload from to sum one other udp id icmp right = udp_long payload right
+enough false false true true payload from to sum one other udp id icmp right = icmp_long payload right
+enough false false true false payload from to sum one other udp id icmp right = omega arith
+enough false false false d payload from to sum one other udp id icmp right = omega arith
 
 enough_of : (number : ℕ) (payload rest : List ℕ) → transport_is_malformed number payload ≡ false
     → len_of (transport_fields_of number rest) ≤ length payload
-enough_of number payload rest right = enough (number == 6) (number == 17) (number == 1) payload (u16_at rest 0)
-    (u16_at rest 2) (tcp_checksum_of rest) (u16_at rest 0) (u16_at rest 2) (u16_at rest 6) (u16_at rest 4)
-    (u16_at rest 2) right
+enough_of number payload rest right = enough (number == 6) (number == 17) (number == 1)
+    (byte_at rest 0 == 8 || byte_at rest 0 == 0) payload (u16_at rest 0) (u16_at rest 2) (tcp_checksum_of rest)
+    (u16_at rest 0) (u16_at rest 2) (u16_at rest 6) (u16_at rest 4) (u16_at rest 2) right
 
 pub has_fields : (p : List ℕ) → Passes p → HasFields 0 p
 has_fields p ok =

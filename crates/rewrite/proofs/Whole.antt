@@ -1,9 +1,10 @@
 -- Writing the changed fields gives the rewritten datagram.
 use Rattle.std.proofs.Common.{◌≡◌, ℕ, ◌+◌, ◌<◌, ◌≤◌, inl, inr, ⊎_elim, Option, Some, None, List, length}
-use Rattle.std.proofs.Common.{length-drop, get_or, set, drop, true, false, refl, sym, ap, ◌∙◌, arith}
+use Rattle.std.proofs.Common.{length-drop, get_or, set, drop, add-zero, true, false, refl, sym, ap, subst}
+use Rattle.std.proofs.Common.{◌∙◌, arith}
 use Rattle.std.specs.Prelude.{◌==◌, ◌||◌, unwrap_or}
 use lib.Dec.{leb}
-use Rattle.std.proofs.lemmas.Bool.{ne_eqb, le-leb, lt-leb, cases_eq, cases_lt, or_from}
+use Rattle.std.proofs.lemmas.Bool.{ne_eqb, eqb-true, and_parts, cases_Bool, le-leb, lt-leb, cases_eq, cases_lt, or_from}
 use Rattle.std.proofs.lemmas.List.{set-get_or, get_or-drop}
 use Rattle.ip_headers.specs.Bytes.{byte_at, u16_at, u32_at, with_u16, with_u32}
 use Rattle.ip_headers.specs.Header.{header_len, payload_at, protocol_at}
@@ -11,18 +12,18 @@ use Rattle.rewrite.specs.declared.change.Change.{Change}
 use Rattle.rewrite.specs.declared.change.PortsOrIdentifier.{PortsOrIdentifier}
 use Rattle.rewrite.specs.declared.change.PortsOrIdentifier.TheVariants.{Ports, Identifier}
 use Rattle.rewrite.specs.declared.fields.TransportFields.{TransportFields}
-use Rattle.rewrite.specs.declared.fields.TransportFields.TheVariants.{Tcp, Udp, Icmp, Other}
+use Rattle.rewrite.specs.declared.fields.TransportFields.TheVariants.{Tcp, Udp, Echo, Other}
 use Rattle.rewrite.specs.Rewritten.{payload_in, header_in, write_if_some, pseudo_header_and_payload, update_checksum}
 use Rattle.rewrite.specs.Rewritten.{update_udp_checksum, replaced, update_transport_checksum, update_checksums}
-use Rattle.rewrite.specs.Rewritten.{update_header_checksum, with_numbers, with_ports, with_ttl}
+use Rattle.rewrite.specs.Rewritten.{has_identifier, update_header_checksum, with_numbers, with_ports, with_ttl}
 use Rattle.rewrite.specs.steps.Fields.{transport_fields_of, changed_transport_fields, changed_fields, fields_at}
 use Rattle.rewrite.specs.steps.Fields.{identifier_named, len_of, ports_named, updated_checksum, tcp_checksum_of}
 use Rattle.rewrite.specs.steps.Fields.{with_transport_fields, with_fields}
 use Rattle.rewrite.proofs.Places.{byte_apart, Bytes4, number_byte_apart, number_apart, number_kept}
 use Rattle.rewrite.proofs.Places.{word_kept, word_after, byte_of_part, word_of_rest}
 use Rattle.rewrite.proofs.Parts.{bytes4, ports_kept}
-use Rattle.rewrite.proofs.Corrected.{update_checksum-is, update_udp_checksum-is}
-use Rattle.rewrite.proofs.Covered.{timed, timed_byte, head_of, IsDatagram, same_byte-len, header_words}
+use Rattle.rewrite.proofs.Corrected.{update_checksum-is, update_checksum-kept, update_udp_checksum-is}
+use Rattle.rewrite.proofs.Covered.{timed, timed_byte, timed_rest, head_of, IsDatagram, same_byte-len, header_words}
 use Rattle.rewrite.proofs.Covered.{header_covered, pair_words, pseudo_covered, carried_covered}
 
 -- ---- a field without a new value is written as it was
@@ -47,17 +48,18 @@ write_ports (Some (Identifier other)) start t number offset from to is at_place 
 
 write_identifier : (numbers : Option PortsOrIdentifier) (start : ℕ) (t : List ℕ) (number offset old : ℕ)
     → protocol_at start t ≡ number → payload_at start t ≡ offset → (number == 6 || number == 17) ≡ false
-    → (number == 1) ≡ true → with_u16 t (offset + 4) old ≡ t
+    → has_identifier number (byte_at t offset) ≡ true → with_u16 t (offset + 4) old ≡ t
     → write_if_some (with_numbers start) t numbers ≡ with_u16 t (offset + 4) (identifier_named numbers old)
 write_identifier None start t number offset old is at_place none some kept = sym kept
 write_identifier (Some (Ports one other)) start t number offset old is at_place none some kept = rw (is, none) (sym kept)
-write_identifier (Some (Identifier other)) start t number offset old is at_place none some kept = rw (is, some, at_place) refl
+write_identifier (Some (Identifier other)) start t number offset old is at_place none some kept = rw (is, at_place, some) refl
 
-write_none : (numbers : Option PortsOrIdentifier) (start : ℕ) (t : List ℕ) (number : ℕ) → protocol_at start t ≡ number
-    → (number == 6 || number == 17) ≡ false → (number == 1) ≡ false → write_if_some (with_numbers start) t numbers ≡ t
-write_none None start t number is a b = refl
-write_none (Some (Ports one other)) start t number is a b = rw (is, a) refl
-write_none (Some (Identifier other)) start t number is a b = rw (is, b) refl
+write_none : (numbers : Option PortsOrIdentifier) (start : ℕ) (t : List ℕ) (number offset : ℕ)
+    → protocol_at start t ≡ number → payload_at start t ≡ offset → (number == 6 || number == 17) ≡ false
+    → has_identifier number (byte_at t offset) ≡ false → write_if_some (with_numbers start) t numbers ≡ t
+write_none None start t number offset is at_place a b = refl
+write_none (Some (Ports one other)) start t number offset is at_place a b = rw (is, a) refl
+write_none (Some (Identifier other)) start t number offset is at_place a b = rw (is, at_place, b) refl
 
 -- ---- the header's fields
 
@@ -109,7 +111,7 @@ carried_head start n offset t (Udp from to checksum) le =
     word_after (with_ports offset t from to) start n (offset + 6) checksum (omega (arith, le))
     ∙ word_after (with_u16 t offset from) start n (offset + 2) to (omega (arith, le))
     ∙ word_after t start n offset from le
-carried_head start n offset t (Icmp identifier checksum) le =
+carried_head start n offset t (Echo identifier checksum) le =
     word_after (with_u16 t (offset + 4) identifier) start n (offset + 2) checksum (omega (arith, le))
     ∙ word_after t start n (offset + 4) identifier (omega (arith, le))
 carried_head start n offset t Other le = refl
@@ -276,13 +278,33 @@ of_udp number p offset is = rw (
   sym (word_of_rest p offset 6 (offset + 6) refl),
 ) refl
 
-pub of_icmp : (number : ℕ) (p : List ℕ) (offset : ℕ) → number ≡ 1
-    → transport_fields_of number (drop offset p) ≡ Icmp (u16_at p (offset + 4)) (u16_at p (offset + 2))
-of_icmp number p offset is = rw (is, sym (word_of_rest p offset 4 (offset + 4) refl), sym (word_of_rest p offset 2 (offset + 2) refl)) refl
+first_of_rest : (p : List ℕ) (offset : ℕ) → byte_at (drop offset p) 0 ≡ byte_at p offset
+first_of_rest p offset = get_or-drop offset p 0 0 ∙ rw add-zero refl
 
-pub of_other : (number : ℕ) (rest : List ℕ) → (number == 6) ≡ false → (number == 17) ≡ false → (number == 1) ≡ false
-    → transport_fields_of number rest ≡ Other
-of_other number rest a b c = rw (a, b, c) refl
+-- an identifier stands in ICMP messages alone
+pub is_icmp : (number message : ℕ) → has_identifier number message ≡ true → number ≡ 1
+is_icmp number message is = eqb-true number 1 (and_parts (number == 1) (message == 8 || message == 0) is).0
+
+pub of_echo : (number : ℕ) (p : List ℕ) (offset : ℕ) → has_identifier number (byte_at p offset) ≡ true
+    → transport_fields_of number (drop offset p) ≡ Echo (u16_at p (offset + 4)) (u16_at p (offset + 2))
+of_echo number p offset is =
+    let one : number ≡ 1 = is_icmp number (byte_at p offset) is in
+    let there : has_identifier number (byte_at (drop offset p) 0) ≡ true = rw (first_of_rest p offset) is in
+    let six : (number == 6) ≡ false = rw one refl in
+    let seventeen : (number == 17) ≡ false = rw one refl in
+    rw (
+      six,
+      seventeen,
+      there,
+      sym (word_of_rest p offset 4 (offset + 4) refl),
+      sym (word_of_rest p offset 2 (offset + 2) refl),
+    ) refl
+
+pub of_other : (number : ℕ) (p : List ℕ) (offset : ℕ) → (number == 6) ≡ false → (number == 17) ≡ false
+    → has_identifier number (byte_at p offset) ≡ false → transport_fields_of number (drop offset p) ≡ Other
+of_other number p offset a b c =
+    let gone : has_identifier number (byte_at (drop offset p) 0) ≡ false = rw (first_of_rest p offset) c in
+    rw (a, b, gone) refl
 
 carried_tcp : (start : ℕ) (p : List ℕ) (from to ttl : ℕ) (numbers : Option PortsOrIdentifier) → IsDatagram start p
     → payload_at start p + 18 ≤ length p → protocol_at start p ≡ 6 → IsCarried start p from to ttl numbers
@@ -335,34 +357,58 @@ carried_udp start p from to ttl numbers d room is =
     ∙ ap (λ c. with_transport_fields offset t (changed_transport_fields numbers (pair_words start p from to) c))
     (sym (of_udp (protocol_at start p) p offset is))
 
-carried_icmp : (start : ℕ) (p : List ℕ) (from to ttl : ℕ) (numbers : Option PortsOrIdentifier) → IsDatagram start p
-    → payload_at start p + 6 ≤ length p → protocol_at start p ≡ 1 → IsCarried start p from to ttl numbers
-carried_icmp start p from to ttl numbers d room is =
+carried_echo : (start : ℕ) (p : List ℕ) (from to ttl : ℕ) (numbers : Option PortsOrIdentifier) → IsDatagram start p
+    → payload_at start p + 6 ≤ length p
+    → has_identifier (protocol_at start p) (byte_at p (payload_at start p)) ≡ true
+    → IsCarried start p from to ttl numbers
+carried_echo start p from to ttl numbers d room there =
     let offset = payload_at start p in
     let t = timed start p from to ttl in
     let b = timed_behind start p from to ttl d in
+    let is : protocol_at start p ≡ 1 = is_icmp (protocol_at start p) (byte_at p offset) there in
+    let type_there : has_identifier 1 (byte_at t offset) ≡ true =
+    subst (λ (m : ℕ). has_identifier 1 m ≡ true) (sym (b.bytes offset (omega arith)))
+    (subst (λ (n : ℕ). has_identifier n (byte_at p offset) ≡ true) is there) in
     let number = identifier_named numbers (u16_at p (offset + 4)) in
     let now = with_u16 t (offset + 4) number in
     let written : write_if_some (with_numbers start) t numbers ≡ now =
-    write_identifier numbers start t 1 offset (u16_at p (offset + 4)) (b.protocol ∙ is) b.payload refl refl
+    write_identifier numbers start t 1 offset (u16_at p (offset + 4)) (b.protocol ∙ is) b.payload refl type_there
     (kept_behind start p t (offset + 4) b (omega arith)) in
     let right = update_checksum-is (payload_in start) (offset + 2) p now _
     (carried_covered start p from to ttl number d room) (kept_past_identifier start p t number b) in
     ap (λ l. update_transport_checksum start p l) written ∙ by_icmp start p now is ∙ right
     ∙ ap (λ c. with_transport_fields offset t (changed_transport_fields numbers (pair_words start p from to) c))
-    (sym (of_icmp (protocol_at start p) p offset is))
+    (sym (of_echo (protocol_at start p) p offset there))
+
+-- the payload stays, and so does its checksum
+kept_other : (start : ℕ) (p : List ℕ) (from to ttl : ℕ) → IsDatagram start p
+    → (protocol_at start p == 6) ≡ false → (protocol_at start p == 17) ≡ false
+    → update_transport_checksum start p (timed start p from to ttl) ≡ timed start p from to ttl
+kept_other start p from to ttl d x y =
+    let offset = payload_at start p in
+    let t = timed start p from to ttl in
+    let b = timed_behind start p from to ttl d in
+    let rest : payload_in start t ≡ payload_in start p =
+    ap (λ n. drop n t) b.payload ∙ timed_rest start offset p from to ttl (omega (arith, d.long)) in
+    ⊎_elim
+    (λ one. by_icmp start p t one ∙ update_checksum-kept (payload_in start) (offset + 2) p t (sym rest))
+    (λ not_one. by_other start p t x y (ne_eqb _ _ not_one))
+    (cases_eq (protocol_at start p) 1)
 
 carried_other : (start : ℕ) (p : List ℕ) (from to ttl : ℕ) (numbers : Option PortsOrIdentifier) → IsDatagram start p
-    → (protocol_at start p == 6) ≡ false → (protocol_at start p == 17) ≡ false → (protocol_at start p == 1) ≡ false
+    → (protocol_at start p == 6) ≡ false → (protocol_at start p == 17) ≡ false
+    → has_identifier (protocol_at start p) (byte_at p (payload_at start p)) ≡ false
     → IsCarried start p from to ttl numbers
 carried_other start p from to ttl numbers d x y z =
     let offset = payload_at start p in
     let t = timed start p from to ttl in
     let b = timed_behind start p from to ttl d in
+    let none : has_identifier (protocol_at start p) (byte_at t offset) ≡ false = rw (b.bytes offset (omega arith)) z in
     ap (λ l. update_transport_checksum start p l)
-    (write_none numbers start t (protocol_at start p) b.protocol (or_from _ _ x y) z) ∙ by_other start p t x y z
+    (write_none numbers start t (protocol_at start p) offset b.protocol b.payload (or_from _ _ x y) none)
+    ∙ kept_other start p from to ttl d x y
     ∙ ap (λ c. with_transport_fields offset t (changed_transport_fields numbers (pair_words start p from to) c))
-    (sym (of_other (protocol_at start p) (drop offset p) x y z))
+    (sym (of_other (protocol_at start p) p offset x y z))
 
 is_carried : (start : ℕ) (p : List ℕ) (from to ttl : ℕ) (numbers : Option PortsOrIdentifier) → IsDatagram start p
     → payload_at start p + len_of (carried_at start p) ≤ length p → IsCarried start p from to ttl numbers
@@ -377,9 +423,9 @@ is_carried start p from to ttl numbers d room =
     (λ not_six. ⊎_elim
     (λ seventeen. carried_udp start p from to ttl numbers d (rw (of_udp number p offset seventeen) at room) seventeen)
     (λ not_seventeen. ⊎_elim
-    (λ one. carried_icmp start p from to ttl numbers d (rw (of_icmp number p offset one) at room) one)
-    (λ not_one. carried_other start p from to ttl numbers d (ne_eqb _ _ not_six) (ne_eqb _ _ not_seventeen) (ne_eqb _ _ not_one))
-    (cases_eq number 1))
+    (λ there. carried_echo start p from to ttl numbers d (rw (of_echo number p offset there) at room) there)
+    (λ none. carried_other start p from to ttl numbers d (ne_eqb _ _ not_six) (ne_eqb _ _ not_seventeen) none)
+    (cases_Bool (has_identifier number (byte_at p offset))))
     (cases_eq number 17))
     (cases_eq number 6)
 

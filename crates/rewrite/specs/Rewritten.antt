@@ -3,7 +3,7 @@
 use Rattle.std.specs.Prelude.{ℕ, ◌+◌, ◌-◌, ◌%◌, ◌==◌, ◌&&◌, ◌||◌, nat_le, Bool, true, false}
 use Rattle.std.specs.Prelude.{List, [], ◌∷◌, ◌++◌, length, take, drop, slice_set, is_some}
 use Rattle.std.specs.Prelude.{Option, Some, None, if◌then◌else◌}
-use Rattle.ip_headers.specs.Bytes.{u16_at, with_u16, with_u32}
+use Rattle.ip_headers.specs.Bytes.{byte_at, u16_at, with_u16, with_u32}
 use Rattle.ip_headers.specs.Sum.{words_sum}
 use Rattle.ip_headers.specs.Header.{header, protocol_at, payload_at}
 use Rattle.ip_headers.specs.Tuple.{inner_tuple_of}
@@ -33,13 +33,19 @@ with_ttl start bytes ttl = slice_set bytes (start + 8) ttl
 abbrev pub with_ports : ℕ → List ℕ → ℕ → ℕ → List ℕ
 with_ports offset bytes from to = with_u16 (with_u16 bytes offset from) (offset + 2) to
 
--- writes ports for TCP and UDP alone, and an identifier for ICMP alone
+-- only the messages echo request (8) and echo reply (0) of ICMP have an identifier (RFC 792): in others other
+-- fields stand in its place
+abbrev pub has_identifier : ℕ → ℕ → Bool
+has_identifier number message = number == 1 && (message == 8 || message == 0)
+
+-- writes ports for TCP and UDP alone, and an identifier for ICMP echo request and echo reply alone
 abbrev pub with_numbers : ℕ → List ℕ → PortsOrIdentifier → List ℕ
 with_numbers start bytes (Ports from to) =
     if protocol_at start bytes == 6 || protocol_at start bytes == 17
     then with_ports (payload_at start bytes) bytes from to else bytes
 with_numbers start bytes (Identifier number) =
-    if protocol_at start bytes == 1 then with_u16 bytes (payload_at start bytes + 4) number else bytes
+    if has_identifier (protocol_at start bytes) (byte_at bytes (payload_at start bytes))
+    then with_u16 bytes (payload_at start bytes + 4) number else bytes
 
 -- the given fields are replaced, the checksums are as they were
 abbrev pub replaced : ℕ → List ℕ → Change → List ℕ

@@ -20,7 +20,8 @@ pub struct Change {
     pub source: Option<u32>,
     /// The destination address.
     pub destination: Option<u32>,
-    /// Ports or identifier. Ignored where the packet's protocol has none.
+    /// Ports or identifier. Ports are ignored unless the packet is TCP or UDP, an identifier unless
+    /// it is an ICMP echo request or echo reply.
     pub numbers: Option<PortsOrIdentifier>,
     /// The time to live.
     pub ttl: Option<u8>,

@@ -28,12 +28,15 @@ pub fn checksum_change()
         ≡ tcp 0x4006 0x8ee2 b_to_a 0 }
 {}
 
-/// IP options with an odd last byte, and an ICMP identifier.
+/// IP options with an odd last byte, and an ICMP identifier, which only echo messages have: an
+/// error stays as it was received.
 pub fn other_packets()
     ensures odd { rewritten (odd 0x4011 0x8bd8 0xc0a8 0x010a 5000 0x025b) from_e_port_8000
         ≡ odd 0x3f11 0x1289 0xcb00 0x7101 8000 0x7c53 }
     ensures echo { rewritten (echo 0x4001 0x8ef3 0xe5ca 0x1234) identifier_2
         ≡ echo 0x4001 0x8ef3 0xf7fc 2 }
+    ensures error { rewritten (unreachable 0x4001 0x148d e 0x5389 (inner_udp 0x1594 e 0x95b0))
+        identifier_2 ≡ unreachable 0x4001 0x148d e 0x5389 (inner_udp 0x1594 e 0x95b0) }
 {}
 
 /// An ICMP error that comes back through the NAT quotes the datagram as it was sent. A quoted TCP

@@ -33,10 +33,12 @@ pub(crate) enum TransportFields {
         to: u16,
         checksum: u16,
     },
-    Icmp {
+    /// ICMP echo request and echo reply.
+    Echo {
         identifier: u16,
         checksum: u16,
     },
+    /// Nothing that a change may replace: other ICMP messages too.
     Other,
 }
 
@@ -120,7 +122,7 @@ impl Fields {
                 parts.set_destination_port(to);
                 parts.set_udp_checksum(checksum);
             }
-            TransportFields::Icmp {
+            TransportFields::Echo {
                 identifier,
                 checksum,
             } => {
@@ -150,9 +152,21 @@ impl TransportFields {
                 to: BigEndian::read_u16(&payload[2..]),
                 checksum: BigEndian::read_u16(&payload[6..]),
             },
-            1 => TransportFields::Icmp {
-                identifier: BigEndian::read_u16(&payload[4..]),
-                checksum: BigEndian::read_u16(&payload[2..]),
+            1 => TransportFields::read_icmp(payload),
+            _ => TransportFields::Other,
+        }
+    }
+
+    /// Reads the fields of an ICMP message. Only echo request (8) and echo reply (0) have an
+    /// identifier.
+    fn read_icmp(message: &[u8]) -> TransportFields
+        requires { len_of (transport_fields_of 1 message.now) ≤ length message.now }
+        ensures { result ≡ transport_fields_of 1 message.now }
+    {
+        match message[0] {
+            0 | 8 => TransportFields::Echo {
+                identifier: BigEndian::read_u16(&message[4..]),
+                checksum: BigEndian::read_u16(&message[2..]),
             },
             _ => TransportFields::Other,
         }
@@ -165,7 +179,7 @@ impl TransportFields {
         match *self {
             TransportFields::Tcp { from, to, checksum } => (from, to, checksum.unwrap_or(0)),
             TransportFields::Udp { from, to, checksum } => (from, to, checksum),
-            TransportFields::Icmp {
+            TransportFields::Echo {
                 identifier,
                 checksum,
             } => (identifier, 0, checksum),
@@ -203,12 +217,12 @@ impl TransportFields {
                     checksum: words.update_udp(checksum),
                 }
             }
-            TransportFields::Icmp {
+            TransportFields::Echo {
                 identifier,
                 checksum,
             } => {
                 let other = named_identifier(numbers, identifier);
-                TransportFields::Icmp {
+                TransportFields::Echo {
                     identifier: other,
                     checksum: ChecksumDelta::word(identifier, other).update(checksum),
                 }

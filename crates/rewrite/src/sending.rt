@@ -15,12 +15,9 @@ use std::alloc::AllocError;
 /// updated incrementally (RFC 1624), all else as received. A wrong checksum stays wrong by as much.
 /// The datagram that an ICMP error quotes is rewritten likewise (RFC 5508, section 4.2).
 ///
-/// Except for one copy the work doesn't depend on the packet's length.
-///
 /// # Errors
 ///
-/// Where the buffer had to grow and memory ran out; then it is unchanged. A buffer with room for
-/// 65,535 more bytes needn't grow.
+/// Where the buffer had no room for the packet and memory ran out; then its bytes are unchanged.
 pub fn emit(view: &View, change: &Change, out: &mut Vec<u8>) -> Result<(), AllocError>
     ensures ok { OnOk result (out.new.items
         ≡ out.old.items ++ rewritten view.now.packet.now change.now) }

@@ -10,8 +10,8 @@ use Rattle.rewrite.specs.declared.change.PortsOrIdentifier.TheVariants.{Ports, I
 use Rattle.rewrite.specs.declared.checksum.ChecksumDelta.{ChecksumDelta}
 use Rattle.rewrite.specs.declared.fields.Fields.{Fields}
 use Rattle.rewrite.specs.declared.fields.TransportFields.{TransportFields}
-use Rattle.rewrite.specs.declared.fields.TransportFields.TheVariants.{Tcp, Udp, Icmp, Other}
-use Rattle.rewrite.specs.Rewritten.{corrected, or_all_ones, with_ports}
+use Rattle.rewrite.specs.declared.fields.TransportFields.TheVariants.{Tcp, Udp, Echo, Other}
+use Rattle.rewrite.specs.Rewritten.{corrected, has_identifier, or_all_ones, with_ports}
 
 -- ---- changes of the words under a checksum
 
@@ -46,7 +46,7 @@ abbrev pub transport_fields_of : ℕ → List ℕ → TransportFields
 transport_fields_of number payload =
     if number == 6 then Tcp (u16_at payload 0) (u16_at payload 2) (tcp_checksum_of payload)
     else (if number == 17 then Udp (u16_at payload 0) (u16_at payload 2) (u16_at payload 6)
-    else (if number == 1 then Icmp (u16_at payload 4) (u16_at payload 2)
+    else (if has_identifier number (byte_at payload 0) then Echo (u16_at payload 4) (u16_at payload 2)
     else Other))
 
 abbrev pub fields_at : ℕ → List ℕ → Fields
@@ -63,7 +63,7 @@ abbrev pub len_of : TransportFields → ℕ
 len_of (Tcp from to None) = 4
 len_of (Tcp from to (Some checksum)) = 18
 len_of (Udp from to checksum) = 8
-len_of (Icmp identifier checksum) = 6
+len_of (Echo identifier checksum) = 6
 len_of Other = 0
 
 -- the datagram has all fields
@@ -93,9 +93,9 @@ changed_transport_fields numbers addresses (Tcp from to checksum) =
 changed_transport_fields numbers addresses (Udp from to checksum) =
     let ports = ports_named numbers from to in
     Udp ports.0 ports.1 (updated_udp_checksum (combined addresses (port_change (from, to) ports)) checksum)
-changed_transport_fields numbers addresses (Icmp number checksum) =
+changed_transport_fields numbers addresses (Echo number checksum) =
     let other = identifier_named numbers number in
-    Icmp other (updated_checksum (u16_change number other) checksum)
+    Echo other (updated_checksum (u16_change number other) checksum)
 changed_transport_fields numbers addresses Other = Other
 
 -- the change of the two addresses
@@ -124,7 +124,7 @@ changed_fields change fields = record {
 abbrev pub transport_words : TransportFields → ℕ × ℕ × ℕ
 transport_words (Tcp from to checksum) = (from, to, unwrap_or checksum 0)
 transport_words (Udp from to checksum) = (from, to, checksum)
-transport_words (Icmp identifier checksum) = (identifier, 0, checksum)
+transport_words (Echo identifier checksum) = (identifier, 0, checksum)
 transport_words Other = (0, 0, 0)
 
 abbrev pub and_transport_words : ChecksumDelta → ℕ × ℕ × ℕ → ℕ × ℕ × ℕ → ChecksumDelta
@@ -149,7 +149,7 @@ with_transport_fields offset bytes (Tcp from to (Some checksum)) =
     with_u16 (with_ports offset bytes from to) (offset + 16) checksum
 with_transport_fields offset bytes (Udp from to checksum) =
     with_u16 (with_ports offset bytes from to) (offset + 6) checksum
-with_transport_fields offset bytes (Icmp identifier checksum) =
+with_transport_fields offset bytes (Echo identifier checksum) =
     with_u16 (with_u16 bytes (offset + 4) identifier) (offset + 2) checksum
 with_transport_fields offset bytes Other = bytes
 

@@ -9,3 +9,7 @@ returns-clause-odd c = refl
 pub returns-clause-echo : goal.returns-clause-echo
 unfolding rewritten
 returns-clause-echo c = refl
+
+pub returns-clause-error : goal.returns-clause-error
+unfolding rewritten
+returns-clause-error c = refl
