@@ -124,8 +124,8 @@ impl Replay {
         })
     }
 
-    /// Processes all records. Before each read all output is written and flushed. Returns the fault
-    /// at which the records stop, `None` at their end.
+    /// Processes all records. Before each read all output is written. Returns the fault at which the
+    /// records stop, `None` at their end.
     ///
     /// # Errors
     /// `Device`; or `Memory` at a record, and then the output of the records before it is written
@@ -188,8 +188,7 @@ impl Replay {
         }
     }
 
-    /// Writes and flushes pending output before a read that may block, and where many notes are
-    /// pending.
+    /// Writes pending output before a read that may block, and where many notes are pending.
     fn flush_before_read<W: Write, W2: Write>(
         &mut self,
         sent: &mut Counted<W>,

@@ -41,7 +41,7 @@ pub struct Summary {
 /// Nothing is read of the capture before the texts are accepted, and nothing is written before its
 /// header is accepted. A capture that ends inside a record is no error: its whole records are
 /// processed, and the summary says so. Before each read, all output of the records so far is
-/// written and flushed; at most one buffer is read ahead.
+/// written, though not flushed; at most one buffer is read ahead.
 ///
 /// # Errors
 /// The first refusal, of the rules' text, the box file, the ruleset on the box, the capture's

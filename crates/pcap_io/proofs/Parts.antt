@@ -1,11 +1,14 @@
 -- Written and buffered bytes.
-use Rattle.std.proofs.Common.{◌≡◌, ℕ, ◌<◌, ◌-◌, ◌==◌, ◌&&◌, if◌then◌else◌, Bool, List, [], ◌++◌, length, take, drop}
+use Rattle.std.proofs.Common.{◌≡◌, ℕ, ◌+◌, ◌<◌, ◌≤◌, ◌-◌, ◌^◌, ◌==◌, ◌&&◌, if◌then◌else◌, Bool, true, false, List, []}
+use Rattle.std.proofs.Common.{◌++◌, length, take, drop, length-take}
 use Rattle.std.proofs.Common.{append_assoc, append-nil, length-drop, ap, sym, subst, ◌∙◌, arith}
 use Rattle.std.proofs.lemmas.List.{take-append-drop}
 use Rattle.std.proofs.Math.Seq.{take-length}
+use Rattle.std.specs.Prelude.{nat_lt}
 use Rattle.std.specs.declared.option.Option.{Option}
 use Rattle.std.specs.Io.KnownBytes.{Appends}
 use Rattle.std.proofs.KnownBytes.{Appends-nil, Keeps-refl, Keeps-trans}
+use Rattle.pcap_io.specs.Counting.{one_more}
 use Rattle.pcap_io.specs.Buffering.{AppendsBuffered}
 
 -- what a write took moves from the rest to what is done
@@ -22,6 +25,19 @@ pub ruleset kept_rules = (Keeps-refl, Keeps-trans)
 -- a write that took some bytes isn't counted
 pub took_some : (n : ℕ) (b : Bool) (x y : ℕ) → 0 < n → (if (n == 0) && b then x else y) ≡ y
 took_some n b x y some = grind arith
+
+at_most_one : (b : Bool) (n : ℕ) → (if b then n + 1 else n) ≤ n + 1
+at_most_one true n = omega arith
+at_most_one false n = omega arith
+
+-- one more write took some of the rest
+pub one_written : (n : ℕ) (rest : List ℕ) (before after start bytes : ℕ) → 0 < n → n ≤ length rest
+    → after ≡ (if (n == 0) && nat_lt 0 (length rest) then before else one_more before)
+    → before + length rest ≤ start + bytes → after + length (take (length rest - n) (drop n rest)) ≤ start + bytes
+one_written n rest before after start bytes some fits counted few =
+    let risen : after ≤ before + 1 = rw (counted ∙ took_some n (nat_lt 0 (length rest)) before (one_more before) some)
+    (at_most_one (nat_lt before (2 ^ 64 - 1)) before) in
+    omega (arith, risen, few, some, fits, length-take (length rest - n) (drop n rest), length-drop n rest)
 
 -- ---- buffered bytes
 

@@ -1,4 +1,4 @@
--- Counts of failed calls (own), and writes that stop early.
+-- Counts of calls by how they ended (own), and writes that stop early.
 use Rattle.std.specs.Prelude.{◌≡◌, ◌+◌, ◌-◌, ◌^◌, ◌++◌, ◌==◌, ◌&&◌, nat_lt, if◌then◌else◌}
 use Rattle.std.specs.Prelude.{ℕ, List, length, Option, Result, MatchResult}
 use Rattle.std.specs.Io.KnownBytes.{Appends}
@@ -17,9 +17,19 @@ CountsWrite before after r buf =
     MatchResult r (λ n. after ≡ (if (n == 0) && nat_lt 0 (length buf) then one_more before else before))
     (λ _. after ≡ one_more before)
 
+-- so is a write that doesn't fail: one that takes some bytes, or has none to take
+abbrev pub CountsWritten : {E : Type 0} → ℕ → ℕ → Result ℕ E → List ℕ → Type 0
+CountsWritten before after r buf =
+    MatchResult r (λ n. after ≡ (if (n == 0) && nat_lt 0 (length buf) then before else one_more before))
+    (λ _. after ≡ before)
+
 -- a failed flush is counted
 abbrev pub CountsFlush : {A E : Type 0} → ℕ → ℕ → Result A E → Type 0
 CountsFlush before after r = MatchResult r (λ _. after ≡ before) (λ _. after ≡ one_more before)
+
+-- so is a flush that doesn't fail
+abbrev pub CountsFlushed : {A E : Type 0} → ℕ → ℕ → Result A E → Type 0
+CountsFlushed before after r = MatchResult r (λ _. after ≡ one_more before) (λ _. after ≡ before)
 
 -- known bytes grow by a prefix of these
 abbrev pub AppendsPrefix : Option (List ℕ) → Option (List ℕ) → List ℕ → Type 0

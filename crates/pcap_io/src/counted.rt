@@ -1,31 +1,38 @@
-//! A reader or writer that counts its failed calls.
+//! A reader or writer that counts its calls by how they ended.
 ghost use Rattle.std.specs.Prelude.{◌≡◌, true, false, MatchResult};
 ghost use Rattle.std.specs.Io.{ReadsAtMost, WritesAtMost};
 ghost use Rattle.std.specs.Io.KnownBytes.{ReadConsumes, WriteAppends, Keeps};
 ghost use Rattle.pcap_io.specs.Counting as counting;
-ghost use Rattle.pcap_io.specs.Counting.{CountsRead, CountsWrite, CountsFlush};
+ghost use Rattle.pcap_io.specs.Counting.{CountsRead, CountsWrite, CountsWritten, CountsFlush, CountsFlushed};
 
 use std::io;
 use std::io::{Read, Write};
 
-/// A reader or writer, the number of its failed calls, and whether all written bytes are flushed.
+/// A reader or writer, the numbers of its failed calls and of the writes and flushes that didn't
+/// fail, and whether all written bytes are flushed.
 #[derive(Drop)]
 pub struct Counted<T> {
     inner: T,
     failures: u64,
+    writes: u64,
+    flushes: u64,
     is_flushed: bool,
 }
 
 impl<T> Counted<T> {
-    /// Wraps `inner`: no failed calls, and nothing to flush.
+    /// Wraps `inner`: no calls yet, and nothing to flush.
     pub fn new(inner: T) -> Self
         ensures inner { result.inner ≡ inner }
         ensures failures { result.failures ≡ 0 }
+        ensures writes { result.writes ≡ 0 }
+        ensures flushes { result.flushes ≡ 0 }
         ensures flushed { result.is_flushed ≡ true }
     {
         Counted {
             inner,
             failures: 0,
+            writes: 0,
+            flushes: 0,
             is_flushed: true,
         }
     }
@@ -52,11 +59,11 @@ impl<T> Counted<T> {
     }
 }
 
-/// The number after `failures`, saturating.
-fn one_more(failures: u64) -> u64
-    ensures { result ≡ counting.one_more failures }
+/// The number after `count`, saturating.
+fn one_more(count: u64) -> u64
+    ensures { result ≡ counting.one_more count }
 {
-    failures.saturating_add(1)
+    count.saturating_add(1)
 }
 
 impl<R: Read> Read for Counted<R> {
@@ -67,6 +74,8 @@ impl<R: Read> Read for Counted<R> {
         ensures bytes { ReadConsumes (R.remaining self.old.inner) (R.remaining self.new.inner)
             result buf.new }
         ensures counts { CountsRead self.old.failures self.new.failures result }
+        ensures writes { self.new.writes ≡ self.old.writes }
+        ensures flushes { self.new.flushes ≡ self.old.flushes }
         ensures flushed { self.new.is_flushed ≡ self.old.is_flushed }
     {
         let result = self.inner.read(buf);
@@ -85,6 +94,8 @@ impl<W: Write> Write for Counted<W> {
         ensures bytes { WriteAppends (W.contents self.old.inner) (W.contents self.new.inner) result
             buf.now }
         ensures counts { CountsWrite self.old.failures self.new.failures result buf.now }
+        ensures writes { CountsWritten self.old.writes self.new.writes result buf.now }
+        ensures flushes { self.new.flushes ≡ self.old.flushes }
         ensures flushed { self.new.is_flushed ≡ false }
     {
         // A failed call may have written some bytes.
@@ -97,6 +108,8 @@ impl<W: Write> Write for Counted<W> {
         };
         if has_failed {
             self.failures = one_more(self.failures);
+        } else {
+            self.writes = one_more(self.writes);
         }
         result
     }
@@ -104,12 +117,17 @@ impl<W: Write> Write for Counted<W> {
     fn flush(&mut self) -> io::Result<()>
         ensures bytes { Keeps (W.contents self.old.inner) (W.contents self.new.inner) }
         ensures counts { CountsFlush self.old.failures self.new.failures result }
+        ensures writes { self.new.writes ≡ self.old.writes }
+        ensures flushes { CountsFlushed self.old.flushes self.new.flushes result }
         ensures flushed { MatchResult result (λ _. self.new.is_flushed ≡ true) (λ _.
             self.new.is_flushed ≡ self.old.is_flushed) }
     {
         let result = self.inner.flush();
         match &result {
-            Ok(()) => self.is_flushed = true,
+            Ok(()) => {
+                self.flushes = one_more(self.flushes);
+                self.is_flushed = true;
+            }
             Err(_) => self.failures = one_more(self.failures),
         }
         result

@@ -1,5 +1,5 @@
 //! A read buffer of constant size.
-ghost use Rattle.std.specs.Prelude.{◌≡◌, ◌<◌, ◌≤◌, ◌+◌, ◌++◌, [], length, take, drop, true, false, IfOk, OnOk, OnErr};
+ghost use Rattle.std.specs.Prelude.{◌≡◌, ◌<◌, ◌≤◌, ◌+◌, ◌++◌, [], length, take, drop, vec_len, vec_capacity, true, false, IfOk, OnOk, OnErr};
 ghost use Rattle.std.specs.Io.KnownBytes.{Keeps};
 ghost use Rattle.pcap_io.specs.Counting.{one_more};
 ghost use Rattle.pcap_io.specs.CaptureStates.{READ_AHEAD};
@@ -18,7 +18,7 @@ pub const BUFFER_BYTES: usize = 262_160;
 /// Bytes that were read: the ones taken last, and behind them the ones not taken yet.
 #[derive(Drop)]
 pub struct ReadBuffer {
-    /// Of constant length.
+    /// Of constant length and capacity.
     bytes: Vec<u8>,
     /// The offset of the first byte that isn't taken yet.
     start: usize,
@@ -29,7 +29,7 @@ pub struct ReadBuffer {
 }
 
 impl Model for ReadBuffer {
-    ghost use Rattle.std.specs.Prelude.{◌≡◌, ◌≤◌, take, slice_range, length};
+    ghost use Rattle.std.specs.Prelude.{◌≡◌, ◌≤◌, take, slice_range, length, vec_capacity};
     ghost use Rattle.pcap_io.specs.CaptureStates.{READ_AHEAD};
     ghost use Rattle.pcap_io.specs.steps.ReadAhead.{BufferState};
 
@@ -42,7 +42,7 @@ impl Model for ReadBuffer {
     } };
 
     ghost invariant = { λ b. (b.start ≤ b.end) × (b.end ≤ length b.bytes.items)
-        × (length b.bytes.items ≡ READ_AHEAD) };
+        × (length b.bytes.items ≡ READ_AHEAD) × (vec_capacity b.bytes ≡ READ_AHEAD) };
 }
 
 impl ReadBuffer {
@@ -51,7 +51,7 @@ impl ReadBuffer {
         ensures { IfOk result (λ buffer. buffer ≡ record { taken = []; held = []; ended = false }) }
     {
         Ok(ReadBuffer {
-            bytes: vec![in alloc; 0u8; BUFFER_BYTES]?,
+            bytes: zeros(alloc, BUFFER_BYTES)?,
             start: 0,
             end: 0,
             is_ended: false,
@@ -128,4 +128,16 @@ impl ReadBuffer {
     {
         &self.bytes[self.start - count..self.start]
     }
+}
+
+/// So many zeros, with room for no more.
+fn zeros(alloc: Global, count: usize) -> Result<Vec<u8>, AllocError>
+    ensures whole { IfOk result (λ bytes. vec_len bytes ≡ count) }
+    ensures exact { IfOk result (λ bytes. vec_capacity bytes ≡ count) }
+{
+    let mut bytes = Vec::with_capacity(alloc, count)?;
+    while bytes.len() < count {
+        bytes.push_reserved(0);
+    }
+    Ok(bytes)
 }

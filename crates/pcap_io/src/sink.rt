@@ -1,5 +1,5 @@
 //! Writes a capture packet by packet, through one buffer.
-ghost use Rattle.std.specs.Prelude.{◌≡◌, ◌++◌, ◌+◌, ◌<◌, ◌≤◌, [], true, IfOk, OnOk, OnErr, IsErrOf, length, Err, vec_capacity};
+ghost use Rattle.std.specs.Prelude.{◌≡◌, ◌++◌, ◌+◌, ◌<◌, ◌≤◌, [], true, IfOk, OnOk, OnErr, IsErrOf, length, Err};
 ghost use Rattle.std.specs.Io.KnownBytes.{Appends};
 ghost use Rattle.pcap_io.specs.Counting.{one_more, AppendsPrefix};
 ghost use Rattle.pcap_io.specs.Buffering.{AppendsBuffered};
@@ -9,6 +9,7 @@ ghost use Rattle.pcap_io.specs.Sll2 as Sll2;
 
 use crate::counted::Counted;
 use crate::whole::{DeviceFailed, write_whole};
+use arrayvec::ArrayVec;
 use byteorder::{ByteOrder, LittleEndian};
 use std::alloc::{AllocError, Global};
 use std::io::Write;
@@ -81,19 +82,16 @@ impl From<AllocError> for SinkError {
 /// dropped writes nothing more.
 #[derive(Drop)]
 pub struct Sink {
-    buffered: Vec<u8>,
+    /// Of constant size: it can't grow.
+    buffered: Box<ArrayVec<u8, BUFFER_BYTES>>,
 }
 
 impl Model for Sink {
-    ghost use Rattle.std.specs.Prelude.{◌≤◌, vec_len, vec_capacity};
-    ghost use Rattle.pcap_io.specs.Buffering.{SinkState, BUFFER_BYTES};
+    ghost use Rattle.pcap_io.specs.Buffering.{SinkState};
 
     ghost Value = { SinkState };
 
-    ghost view = { λ s. record { buffered = s.buffered.items } };
-
-    ghost invariant = { λ s. (vec_len s.buffered ≤ BUFFER_BYTES)
-        × (BUFFER_BYTES ≤ vec_capacity s.buffered) };
+    ghost view = { λ s. record { buffered = s.buffered.value.items } };
 }
 
 impl Sink {
@@ -112,8 +110,10 @@ impl Sink {
         ensures no_failure { OnOk result (writer.new.failures ≡ writer.old.failures) }
         ensures device { IsErrOf result SinkError.Device
             → writer.new.failures ≡ one_more writer.old.failures }
+        ensures writes { writer.new.writes ≤ writer.old.writes + length sll2_header }
+        ensures flushes { writer.new.flushes ≡ writer.old.flushes }
     {
-        let buffered = Vec::with_capacity(alloc, BUFFER_BYTES)?;
+        let buffered = Box::new(alloc, ArrayVec::new()).map_err(AllocError::from)?;
         write_whole(writer, &HEADER)?;
         Ok(Sink { buffered })
     }
@@ -137,10 +137,12 @@ impl Sink {
             (sll2_record (sent leaving.now)) ≤ buffer.BUFFER_BYTES → writer.new ≡ writer.old }
         ensures no_failure { OnOk result (writer.new.failures ≡ writer.old.failures) }
         ensures device { OnErr result (writer.new.failures ≡ one_more writer.old.failures) }
+        ensures writes { writer.new.writes ≤ writer.old.writes + length self.old.buffered }
+        ensures flushes { writer.new.flushes ≡ writer.old.flushes }
     {
         let length = RECORD_HEADER_BYTES + LINK_HEADER_BYTES + leaving.packet.len();
         if BUFFER_BYTES - self.buffered.len() < length {
-            write_whole(writer, &self.buffered)?;
+            write_whole(writer, self.buffered.as_slice())?;
             self.buffered.clear();
         }
         append(&mut self.buffered, &headers(leaving));
@@ -162,11 +164,13 @@ impl Sink {
         ensures err { OnErr result (self.new ≡ self.old) }
         ensures no_failure { OnOk result (writer.new.failures ≡ writer.old.failures) }
         ensures device { OnErr result (writer.new.failures ≡ one_more writer.old.failures) }
+        ensures writes { writer.new.writes ≤ writer.old.writes + length self.old.buffered }
+        ensures flushes { writer.new.flushes ≡ writer.old.flushes }
     {
         if self.buffered.is_empty() {
             return Ok(());
         }
-        write_whole(writer, &self.buffered)?;
+        write_whole(writer, self.buffered.as_slice())?;
         self.buffered.clear();
         Ok(())
     }
@@ -185,8 +189,11 @@ impl Sink {
         ensures err { OnErr result (self.new ≡ self.old) }
         ensures no_failure { OnOk result (writer.new.failures ≡ writer.old.failures) }
         ensures device { OnErr result (writer.new.failures ≡ one_more writer.old.failures) }
+        ensures writes { writer.new.writes ≤ writer.old.writes + length self.old.buffered }
+        ensures flushes { OnOk result (writer.new.flushes ≡ one_more writer.old.flushes) }
+        ensures unflushed { OnErr result (writer.new.flushes ≡ writer.old.flushes) }
     {
-        write_whole(writer, &self.buffered)?;
+        write_whole(writer, self.buffered.as_slice())?;
         if writer.flush().is_err() {
             return Err(DeviceFailed);
         }
@@ -195,13 +202,12 @@ impl Sink {
     }
 }
 
-/// Appends within the capacity, so that nothing is allocated.
-fn append(buffered: &mut Vec<u8>, bytes: &[u8])
-    requires { length buffered.old.items + length bytes.now ≤ vec_capacity buffered.old }
-    ensures items { buffered.new.items ≡ buffered.old.items ++ bytes.now }
-    ensures capacity { vec_capacity buffered.old ≤ vec_capacity buffered.new }
+/// Appends bytes for which there is room.
+fn append(buffered: &mut ArrayVec<u8, BUFFER_BYTES>, bytes: &[u8])
+    requires { length buffered.old.items + length bytes.now ≤ buffer.BUFFER_BYTES }
+    ensures { buffered.new.items ≡ buffered.old.items ++ bytes.now }
 {
-    buffered.extend_from_slice(bytes).unwrap();
+    buffered.try_extend_from_slice(bytes).unwrap();
 }
 
 /// The record's header and the link header, which precede the packet.

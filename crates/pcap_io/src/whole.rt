@@ -1,5 +1,5 @@
 //! Writes a whole byte string, by as many calls as it takes.
-ghost use Rattle.std.specs.Prelude.{◌≡◌, OnOk, OnErr};
+ghost use Rattle.std.specs.Prelude.{◌≡◌, ◌≤◌, ◌+◌, length, OnOk, OnErr};
 ghost use Rattle.std.specs.Io.KnownBytes.{Appends};
 ghost use Rattle.pcap_io.specs.Counting.{one_more, AppendsPrefix};
 
@@ -24,6 +24,9 @@ pub fn write_whole<W: Write>(writer: &mut Counted<W>, bytes: &[u8]) -> Result<()
     ensures part { OnErr result (AppendsPrefix (W.contents writer.old.inner)
         (W.contents writer.new.inner) bytes.now) }
     ensures device { OnErr result (writer.new.failures ≡ one_more writer.old.failures) }
+    // Each write but a failed one takes some bytes, so there is none where there are none to write.
+    ensures writes { writer.new.writes ≤ writer.old.writes + length bytes.now }
+    ensures flushes { writer.new.flushes ≡ writer.old.flushes }
 {
     let mut rest = bytes;
     while !rest.is_empty() {

@@ -23,6 +23,7 @@ pub fn put_counters<W: Write>(
     ensures puts { Puts result page.old.text.items (W.contents writer.old.inner) page.new.text.items
         (W.contents writer.new.inner) (tables_text tallies.now 0 (tables_of rules.now)) }
     ensures counts { CountsFailure result writer.old.failures writer.new.failures }
+    ensures flushes { writer.new.flushes ≡ writer.old.flushes }
 {
     for (number, table) in rules.tables.iter().enumerate() {
         put_table(page, writer, tallies, number, table)?;
@@ -42,6 +43,7 @@ fn put_table<W: Write>(
         (W.contents writer.new.inner) (chains_text tallies.now (table_tree table.now) number 0
         (chains_of (table_tree table.now))) }
     ensures counts { CountsFailure result writer.old.failures writer.new.failures }
+    ensures flushes { writer.new.flushes ≡ writer.old.flushes }
 {
     let mut chain_number = 0;
     for item in &table.items {
@@ -67,6 +69,7 @@ fn put_chain<W: Write>(
         (W.contents writer.new.inner) (rules_text tallies.now (table_tree found.entry.table.now)
         (chain_tree found.entry.chain.now) table chain 1 (chain_tree found.entry.chain.now).rules) }
     ensures counts { CountsFailure result writer.old.failures writer.new.failures }
+    ensures flushes { writer.new.flushes ≡ writer.old.flushes }
 {
     for (before, rule) in found.chain.rules.iter().enumerate() {
         let first = Location {
@@ -95,6 +98,7 @@ fn put_rule<W: Write>(
         (table_tree found.entry.table.now) (chain_tree found.entry.chain.now) (position_of first) 1
         (rule_tree rule.now).statements) }
     ensures counts { CountsFailure result writer.old.failures writer.new.failures }
+    ensures flushes { writer.new.flushes ≡ writer.old.flushes }
 {
     let mut number = 1;
     for (before, statement) in rule.statements.iter().enumerate() {
@@ -124,6 +128,7 @@ fn put_counter<W: Write>(
         (chain_tree found.entry.chain.now) position.rule number
         (tally_or_zero tallies.now (position_of position))) }
     ensures counts { CountsFailure result writer.old.failures writer.new.failures }
+    ensures flushes { writer.new.flushes ≡ writer.old.flushes }
 {
     let tally = tallies.at(position).unwrap_or(Tally {
         packets: 0,

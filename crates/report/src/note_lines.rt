@@ -26,6 +26,7 @@ pub fn put_notes<W: Write>(
     ensures puts { Puts result page.old.text.items (W.contents writer.old.inner) page.new.text.items
         (W.contents writer.new.inner) (flat_map (note_line (tables_of rules.now)) notes.now) }
     ensures counts { CountsFailure result writer.old.failures writer.new.failures }
+    ensures flushes { writer.new.flushes ≡ writer.old.flushes }
 {
     for note in notes {
         put_note(page, writer, rules, *note)?;
@@ -42,6 +43,7 @@ fn put_note<W: Write>(
     ensures puts { Puts result page.old.text.items (W.contents writer.old.inner) page.new.text.items
         (W.contents writer.new.inner) (note_line (tables_of rules.now) note) }
     ensures counts { CountsFailure result writer.old.failures writer.new.failures }
+    ensures flushes { writer.new.flushes ≡ writer.old.flushes }
 {
     match note {
         Note::Logged(number, position) => put_log(page, writer, rules, number, position),
@@ -66,6 +68,7 @@ fn put_log<W: Write>(
         (W.contents writer.new.inner) (on_chain (tables_of rules.now) position.rule.table
         position.rule.chain (log_line number position)) }
     ensures counts { CountsFailure result writer.old.failures writer.new.failures }
+    ensures flushes { writer.new.flushes ≡ writer.old.flushes }
 {
     let Some(found) = find(rules, position.rule.table, position.rule.chain) else {
         return Ok(());
@@ -99,6 +102,7 @@ fn put_verdict<W: Write>(
         (W.contents writer.new.inner) (on_chain (tables_of rules.now) rule.table rule.chain
         (verdict_line number rule.rule verdict)) }
     ensures counts { CountsFailure result writer.old.failures writer.new.failures }
+    ensures flushes { writer.new.flushes ≡ writer.old.flushes }
 {
     let Some(found) = find(rules, rule.table, rule.chain) else {
         return Ok(());
@@ -133,6 +137,7 @@ fn put_policy<W: Write>(
         (W.contents writer.new.inner) (on_chain (tables_of rules.now) chain.table chain.chain
         (policy_line number policy)) }
     ensures counts { CountsFailure result writer.old.failures writer.new.failures }
+    ensures flushes { writer.new.flushes ≡ writer.old.flushes }
 {
     let Some(found) = find(rules, chain.table, chain.chain) else {
         return Ok(());
@@ -163,6 +168,7 @@ fn put_outcome<W: Write>(
     ensures puts { Puts result page.old.text.items (W.contents writer.old.inner) page.new.text.items
         (W.contents writer.new.inner) (outcome_line true number outcome) }
     ensures counts { CountsFailure result writer.old.failures writer.new.failures }
+    ensures flushes { writer.new.flushes ≡ writer.old.flushes }
 {
     let word = outcome_word(outcome);
     page.put_all(

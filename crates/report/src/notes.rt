@@ -1,10 +1,11 @@
 //! Notes: the lines of the report that aren't written yet.
-ghost use Rattle.std.specs.Prelude.{◌≡◌, ◌≤◌, ◌+◌, ◌++◌, length, vec_len, vec_capacity};
+ghost use Rattle.std.specs.Prelude.{◌≡◌, ◌≤◌, ◌+◌, ◌++◌, length, vec_len, vec_capacity, IsOk, OnOk, OnErr};
 ghost use Rattle.report.specs.steps.Noting.{noted, noted_event};
 
 use history::{Entry, Outcome};
 use nft_tree::{Policy, RuleNo};
 use rule_meaning::{ChainNo, Event, RuleVerdict, StatementPosition};
+use std::alloc::AllocError;
 
 /// One line of the report, about the record of this number.
 #[derive(Clone, Copy)]
@@ -35,6 +36,25 @@ impl Note {
             _ => None,
         }
     }
+}
+
+/// Reserves so many more notes. Where they are reserved already, no memory is taken.
+///
+/// # Errors
+/// An allocation failed.
+pub fn reserve_notes(notes: &mut Vec<Note>, count: usize) -> Result<(), AllocError>
+    ensures items { notes.new.items ≡ notes.old.items }
+    ensures ok { OnOk result (vec_len notes.new + count ≤ vec_capacity notes.new) }
+    ensures grows { vec_capacity notes.old ≤ vec_capacity notes.new }
+    ensures succeeds { vec_len notes.old + count ≤ vec_capacity notes.old → IsOk result }
+    ensures spared { vec_len notes.old + count ≤ vec_capacity notes.old
+        → vec_capacity notes.new ≡ vec_capacity notes.old }
+    ensures err { OnErr result (vec_capacity notes.new ≡ vec_capacity notes.old) }
+{
+    if count <= notes.capacity() - notes.len() {
+        return Ok(());
+    }
+    notes.reserve(count)
 }
 
 /// Notes the lines of an entry. The caller has reserved a note for each event and one for the

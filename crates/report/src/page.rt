@@ -1,5 +1,5 @@
 //! A text that is written page by page.
-ghost use Rattle.std.specs.Prelude.{◌≡◌, [], OnOk, OnErr};
+ghost use Rattle.std.specs.Prelude.{◌≡◌, ◌≤◌, ◌+◌, [], length, OnOk, OnErr};
 ghost use Rattle.std.specs.Io.KnownBytes.{Appends};
 ghost use Rattle.pcap_io.specs.Counting.{AppendsPrefix};
 ghost use Rattle.report.specs.steps.Paging.{CountsFailure, Puts, piece_text, pieces_text};
@@ -37,6 +37,9 @@ impl Page {
         ensures puts { Puts result self.old.text.items (W.contents writer.old.inner)
             self.new.text.items (W.contents writer.new.inner) bytes.now }
         ensures counts { CountsFailure result writer.old.failures writer.new.failures }
+        ensures flushes { writer.new.flushes ≡ writer.old.flushes }
+        ensures room { length self.old.text.items + length bytes.now ≤ PAGE_BYTES
+            → writer.new ≡ writer.old }
     {
         if bytes.len() <= self.text.remaining_capacity() {
             self.text.try_extend_from_slice(bytes).unwrap();
@@ -59,6 +62,7 @@ impl Page {
         ensures puts { Puts result self.old.text.items (W.contents writer.old.inner)
             self.new.text.items (W.contents writer.new.inner) (piece_text piece.entry) }
         ensures counts { CountsFailure result writer.old.failures writer.new.failures }
+        ensures flushes { writer.new.flushes ≡ writer.old.flushes }
     {
         match piece {
             Piece::Text(text) => self.put(writer, text),
@@ -82,6 +86,7 @@ impl Page {
         ensures puts { Puts result self.old.text.items (W.contents writer.old.inner)
             self.new.text.items (W.contents writer.new.inner) (pieces_text pieces.now) }
         ensures counts { CountsFailure result writer.old.failures writer.new.failures }
+        ensures flushes { writer.new.flushes ≡ writer.old.flushes }
     {
         for piece in pieces {
             self.put_piece(writer, *piece)?;
@@ -89,7 +94,8 @@ impl Page {
         Ok(())
     }
 
-    /// Writes what waits. After an `Err` the writer holds a beginning of it.
+    /// Writes what waits; makes no call where nothing does. After an `Err` the writer holds a
+    /// beginning of it.
     pub fn send<W: Write>(&mut self, writer: &mut Counted<W>) -> Result<(), DeviceFailed>
         ensures ok { OnOk result (Appends (W.contents writer.old.inner)
             (W.contents writer.new.inner) self.old.text.items) }
@@ -97,7 +103,12 @@ impl Page {
         ensures part { OnErr result (AppendsPrefix (W.contents writer.old.inner)
             (W.contents writer.new.inner) self.old.text.items) }
         ensures counts { CountsFailure result writer.old.failures writer.new.failures }
+        ensures flushes { writer.new.flushes ≡ writer.old.flushes }
+        ensures none { self.old.text.items ≡ [] → writer.new ≡ writer.old }
     {
+        if self.text.is_empty() {
+            return Ok(());
+        }
         write_whole(writer, self.text.as_slice())?;
         self.text.clear();
         Ok(())

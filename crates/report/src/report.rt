@@ -11,7 +11,7 @@ ghost use Rattle.report.specs.steps.Totals.{rest_text};
 
 use crate::counter_lines::put_counters;
 use crate::note_lines::put_notes;
-use crate::notes::{Note, note_entry};
+use crate::notes::{Note, note_entry, reserve_notes};
 use crate::page::Page;
 use crate::tallies::RulesetTallies;
 use crate::total_lines::{Totals, put_totals};
@@ -28,8 +28,7 @@ pub const MOST_NOTES: usize = 65_537;
 /// How many notes are reserved at first: those of one record, and some that wait for `drain`.
 pub const INITIAL_NOTES: usize = 70_000;
 
-/// The report so far: totals, counters, and the notes that aren't written yet. Its size doesn't
-/// depend on the number of records.
+/// The report so far: totals, counters, and the notes that aren't written yet.
 pub struct Report {
     records: u64,
     passed: u64,
@@ -114,9 +113,11 @@ impl Report {
         ensures same { self.new ≡ record self.old { room = self.new.room } }
         ensures grows { self.old.room ≤ self.new.room }
         ensures succeeds { MOST_NOTES ≤ self.old.room → IsOk result }
+        // Then no memory is taken either.
+        ensures spared { MOST_NOTES ≤ self.old.room → self.new ≡ self.old }
         ensures err { OnErr result (self.new ≡ self.old) }
     {
-        self.notes.reserve(MOST_NOTES)
+        reserve_notes(&mut self.notes, MOST_NOTES)
     }
 
     /// Adds the entry of one more record, of the rules given to `new`.
@@ -136,9 +137,12 @@ impl Report {
             entry.now.events.now + 1 }
         ensures left { self.old.room + length self.old.notes ≤ self.new.room + length
             self.new.notes }
+        // No memory is taken where the notes are reserved.
+        ensures spared { length entry.now.events.now + 1 ≤ self.old.room
+            → self.new.room + length self.new.notes ≡ self.old.room + length self.old.notes }
         ensures err { OnErr result (self.new ≡ self.old) }
     {
-        self.notes.reserve(entry.events.len() + 1)?;
+        reserve_notes(&mut self.notes, entry.events.len() + 1)?;
         note_entry(&mut self.notes, entry, self.traces);
         self.tallies.count_events(entry.events, entry.length);
         self.records += 1;
@@ -194,6 +198,7 @@ impl Report {
         ensures err { OnErr result (self.new ≡ self.old) }
         ensures no_failure { OnOk result (writer.new.failures ≡ writer.old.failures) }
         ensures device { OnErr result (writer.new.failures ≡ one_more writer.old.failures) }
+        ensures flushes { writer.new.flushes ≡ writer.old.flushes }
     {
         if self.notes.is_empty() {
             return Ok(());
@@ -204,7 +209,7 @@ impl Report {
     }
 
     /// Writes the rest of the report (the notes, the counters and the totals) and flushes the
-    /// writer. `live` is the number of live connections, and `torn` says whether the capture ends
+    /// writer once. `live` is the number of live connections, and `torn` says whether the capture ends
     /// inside a record.
     ///
     /// # Errors
@@ -230,6 +235,8 @@ impl Report {
             ++ closing_lines (tables_of rules.now) history live torn)) }
         ensures no_failure { OnOk result (writer.new.failures ≡ writer.old.failures) }
         ensures device { OnErr result (writer.new.failures ≡ one_more writer.old.failures) }
+        ensures flushes { OnOk result (writer.new.flushes ≡ one_more writer.old.flushes) }
+        ensures unflushed { OnErr result (writer.new.flushes ≡ writer.old.flushes) }
     {
         let totals = Totals {
             records: self.records,
@@ -257,6 +264,7 @@ fn write_notes<W: Write>(
     ensures wrote_text { WroteText result (W.contents writer.old.inner)
         (W.contents writer.new.inner) (flat_map (note_line (tables_of rules.now)) notes.now) }
     ensures counts { CountsFailure result writer.old.failures writer.new.failures }
+    ensures flushes { writer.new.flushes ≡ writer.old.flushes }
 {
     let mut page = Page::new();
     put_notes(&mut page, writer, rules, notes)?;
@@ -276,6 +284,7 @@ fn write_rest<W: Write>(
         totals.now.records totals.now.passed totals.now.local totals.now.dropped.now
         totals.now.begun totals.now.live totals.now.torn) }
     ensures counts { CountsFailure result writer.old.failures writer.new.failures }
+    ensures flushes { writer.new.flushes ≡ writer.old.flushes }
 {
     let mut page = Page::new();
     put_notes(&mut page, writer, rules, notes)?;

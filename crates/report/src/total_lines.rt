@@ -38,6 +38,7 @@ pub fn put_totals<W: Write>(
         totals.now.local (drops_in totals.now.dropped.now) totals.now.begun totals.now.live
         totals.now.torn) }
     ensures counts { CountsFailure result writer.old.failures writer.new.failures }
+    ensures flushes { writer.new.flushes ≡ writer.old.flushes }
 {
     page.put_all(
         writer,
@@ -76,6 +77,7 @@ fn put_drops<W: Write>(
     ensures puts { Puts result page.old.text.items (W.contents writer.old.inner) page.new.text.items
         (W.contents writer.new.inner) (flat_map (drop_line (drops_in dropped.now)) causes.now) }
     ensures counts { CountsFailure result writer.old.failures writer.new.failures }
+    ensures flushes { writer.new.flushes ≡ writer.old.flushes }
 {
     for cause in causes {
         put_drop(page, writer, *cause, dropped[cause.report_index()])?;
@@ -93,6 +95,7 @@ fn put_drop<W: Write>(
     ensures puts { Puts result page.old.text.items (W.contents writer.old.inner) page.new.text.items
         (W.contents writer.new.inner) (drop_line (λ _. lost) cause) }
     ensures counts { CountsFailure result writer.old.failures writer.new.failures }
+    ensures flushes { writer.new.flushes ≡ writer.old.flushes }
 {
     let word = cause.report_word().as_bytes();
     page.put_all(

@@ -1,6 +1,6 @@
 use Rattle.std.proofs.Common.{arith, ◌++◌, ◌∙◌, take}
 use Rattle.std.proofs.KnownBytes.{Appends-trans}
-use Rattle.pcap_io.proofs.Parts.{moved_on, took_some}
+use Rattle.pcap_io.proofs.Parts.{moved_on, one_written, took_some}
 use Rattle.pcap_io.proofs.whole.write_whole.Goals as goal
 
 pub loop-rest-preserved : goal.loop-rest-preserved
@@ -13,4 +13,7 @@ loop-rest-preserved g c =
       );
       no_failure = c.in-Ok.ensures.counts ∙ took_some c.in-Ok.count _ _ _ (grind (arith, c.in-Ok.count-test))
           ∙ c.loop-rest.invariant.no_failure;
+      writes = one_written c.in-Ok.count c.loop-rest.rest.now _ _ _ _ (grind (arith, c.in-Ok.count-test))
+          c.in-Ok.ensures.bound c.in-Ok.ensures.writes c.loop-rest.invariant.writes;
+      flushes = c.write.ensures.flushes ∙ c.loop-rest.invariant.flushes;
     }

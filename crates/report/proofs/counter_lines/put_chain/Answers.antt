@@ -27,4 +27,5 @@ loop-before-preserved g c =
           c.rule-item.is))
           c.in_ok-put_rule.ensures.puts;
       no_failure = c.in_ok-put_rule.ensures.counts ∙ c.loop-before.invariant.no_failure;
+      flushes = c.in_ok-put_rule.ensures.flushes ∙ c.loop-before.invariant.flushes;
     }

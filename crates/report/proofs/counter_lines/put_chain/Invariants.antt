@@ -14,4 +14,5 @@ invariant-loop-before g l = record {
       (rules_text l.tallies (table_tree l.found.table.now) (chain_tree l.found.chain.now) l.table l.chain 1
       (chain_tree l.found.chain.now).rules);
   no_failure : l.writer.failures ≡ l.initial.writer.failures;
+  flushes : l.writer.flushes ≡ l.initial.writer.flushes;
 }

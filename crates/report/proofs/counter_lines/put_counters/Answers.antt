@@ -24,4 +24,5 @@ loop-number-preserved g c =
           (rw (← c.deref-table-items.ensures.value) c.table-item.is))
           c.in_ok-put_table.ensures.puts;
       no_failure = c.in_ok-put_table.ensures.counts ∙ c.loop-number.invariant.no_failure;
+      flushes = c.in_ok-put_table.ensures.flushes ∙ c.loop-number.invariant.flushes;
     }

@@ -12,4 +12,5 @@ invariant-loop-number g l = record {
       (tables_text l.tallies l.number (map table_tree (drop l.number l.rules.tables.items)))
       (tables_text l.tallies 0 (tables_of l.rules));
   no_failure : l.writer.failures ≡ l.initial.writer.failures;
+  flushes : l.writer.flushes ≡ l.initial.writer.flushes;
 }

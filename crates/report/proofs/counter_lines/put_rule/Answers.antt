@@ -36,6 +36,7 @@ loop-before-preserved g c =
             ∙ sym c.is_some.ensures ∙ w.if-is_some.true))
             w.in_ok-put_counter.ensures.puts;
         no_failure = w.in_ok-put_counter.ensures.counts ∙ c.loop-before.invariant.no_failure;
+        flushes = w.in_ok-put_counter.ensures.flushes ∙ c.loop-before.invariant.flushes;
         few = omega arith;
       })
       | else-is_some w ↦ rw (w.page-is, w.writer-is, w.number-is) (record {
@@ -48,6 +49,7 @@ loop-before-preserved g c =
             (rw (← c.deref-statement-items.ensures.value) c.statement-item.is) (ap is_some (sym c.counter.ensures)
             ∙ sym c.is_some.ensures ∙ w.if-is_some.false));
         no_failure = c.loop-before.invariant.no_failure;
+        flushes = c.loop-before.invariant.flushes;
         few = omega arith;
       })
     ]

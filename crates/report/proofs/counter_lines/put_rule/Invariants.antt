@@ -15,5 +15,6 @@ invariant-loop-before g l = record {
       (statements_text l.tallies (table_tree l.found.table.now) (chain_tree l.found.chain.now) (position_of l.first) 1
       (rule_tree l.rule).statements);
   no_failure : l.writer.failures ≡ l.initial.writer.failures;
+  flushes : l.writer.flushes ≡ l.initial.writer.flushes;
   few : l.number ≤ l.before + 1;
 }

@@ -28,6 +28,7 @@ loop-item-preserved g c =
             (rw (← c.deref-item-items.ensures.value) c.item-item.is) w.in-Some.ensures)
             w.in_ok-put_chain.ensures.puts;
         no_failure = w.in_ok-put_chain.ensures.counts ∙ c.loop-item.invariant.no_failure;
+        flushes = w.in_ok-put_chain.ensures.flushes ∙ c.loop-item.invariant.flushes;
         few = omega arith;
       })
       | in_default w ↦ rw (w.page-is, w.writer-is, w.chain_number-is) (record {
@@ -38,6 +39,7 @@ loop-item-preserved g c =
             (rw (← c.deref-item-items.ensures.value) c.loop-item-test.true)
             (rw (← c.deref-item-items.ensures.value) c.item-item.is) w.in_default.ensures);
         no_failure = c.loop-item.invariant.no_failure;
+        flushes = c.loop-item.invariant.flushes;
         few = omega arith;
       })
     ]

@@ -15,5 +15,6 @@ invariant-loop-item g l = record {
       (chains_among (drop l.item-index l.table.items.items)))
       (chains_text l.tallies (table_tree l.table) l.number 0 (chains_of (table_tree l.table)));
   no_failure : l.writer.failures ≡ l.initial.writer.failures;
+  flushes : l.writer.flushes ≡ l.initial.writer.flushes;
   few : l.chain_number ≤ l.item-index;
 }

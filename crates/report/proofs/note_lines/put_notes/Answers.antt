@@ -17,4 +17,5 @@ loop-note-preserved g c = record {
   left = left_more _ _ _ _ _ _ _ _ _ _ c.loop-note.invariant.left
       (written_at (note_line (tables_of c.args.rules.now)) _ _ _ c.loop-note-test.true) c.in_ok-put_note.ensures.puts;
   no_failure = c.in_ok-put_note.ensures.counts ∙ c.loop-note.invariant.no_failure;
+  flushes = c.in_ok-put_note.ensures.flushes ∙ c.loop-note.invariant.flushes;
 }

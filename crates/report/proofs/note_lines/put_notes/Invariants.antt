@@ -12,4 +12,5 @@ invariant-loop-note g l = record {
       (g.W.Write.contents l.writer.inner) (flat_map (note_line (tables_of l.rules)) (drop l.note-index l.notes))
       (flat_map (note_line (tables_of l.rules)) l.notes);
   no_failure : l.writer.failures ≡ l.initial.writer.failures;
+  flushes : l.writer.flushes ≡ l.initial.writer.flushes;
 }

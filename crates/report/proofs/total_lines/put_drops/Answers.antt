@@ -18,4 +18,5 @@ loop-cause-preserved g c = record {
       _ _ _ c.loop-cause-test.true)
       (rw c.report_index.ensures.report_index at c.in_ok-put_drop.ensures.puts);
   no_failure = c.in_ok-put_drop.ensures.counts ∙ c.loop-cause.invariant.no_failure;
+  flushes = c.in_ok-put_drop.ensures.flushes ∙ c.loop-cause.invariant.flushes;
 }

@@ -12,4 +12,5 @@ invariant-loop-cause g l = record {
       (g.W.Write.contents l.writer.inner) (flat_map (drop_line (drops_in l.dropped)) (drop l.cause-index l.causes))
       (flat_map (drop_line (drops_in l.dropped)) l.causes);
   no_failure : l.writer.failures ≡ l.initial.writer.failures;
+  flushes : l.writer.flushes ≡ l.initial.writer.flushes;
 }

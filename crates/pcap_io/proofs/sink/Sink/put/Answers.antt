@@ -1,4 +1,4 @@
-use Rattle.std.proofs.Common.{[], ◌++◌, ap, subst, ◌∙◌}
+use Rattle.std.proofs.Common.{◌≡◌, [], ◌++◌, ap, subst, ◌∙◌}
 use Rattle.std.proofs.lemmas.Result.{err_from_is_err_and}
 use Rattle.pcap_io.specs.steps.Written.{part_first}
 use Rattle.pcap_io.specs.Counting.{AppendsPrefix}
@@ -11,7 +11,8 @@ use Rattle.pcap_io.proofs.sink.Sink.put.Goals.{then-len-length+in_ok-write_whole
 pub returns-in_err-write_whole-clause-part : goal.returns-in_err-write_whole-clause-part
 returns-in_err-write_whole-clause-part g c =
     let p = err_from_is_err_and c.from_residual.result c.from_residual.ensures.1 in
-    let is = c.deref.ensures.value ∙ ap (λ v. v.buffered) c.self.view_is in
+    let is = c.as_slice.ensures.value ∙ ap (λ v. v.items) c.deref-then-len-length.ensures
+    ∙ ap (λ v. v.buffered) c.self.view_is in
     rw p.1 (part_first _ _ c.args.self.now.buffered (sll2_record (sent c.args.leaving.now)) (subst (AppendsPrefix _ _)
     is c.in_err-write_whole.ensures.part))
 
@@ -20,15 +21,15 @@ returns-clause-ok g c =
     let a = g.W.Write.contents c.args.writer.now.inner in
     let b = g.W.Write.contents c.if-len-length.writer.inner in
     let old = c.args.self.now.buffered in
-    let mid = c.if-len-length.self-inside.buffered.items in
+    let mid = c.if-len-length.self-inside.buffered.value.items in
     let so_far : AppendsBuffered old a b mid [] = elim c.if-len-length.branch [
-      | then-len-length+in_ok-write_whole w ↦ rw (w.writer-is, w.self-inside-is) (drained _ _ old w.deref.result.now _
-          w.in_ok-write_whole.ensures.ok (w.deref.ensures.value ∙ ap (λ v. v.buffered) c.self.view_is)
-          w.clear.ensures.items)
+      | then-len-length+in_ok-write_whole w ↦ rw (w.writer-is, w.self-inside-is) (drained _ _ old w.as_slice.result.now _
+          w.in_ok-write_whole.ensures.ok (w.as_slice.ensures.value ∙ ap (λ v. v.items) w.deref-then-len-length.ensures
+          ∙ ap (λ v. v.buffered) c.self.view_is)
+          w.clear.ensures)
       | else-len-length w ↦ rw (w.writer-is, w.self-inside-is) (left_buffered _ old _ (ap (λ v. v.buffered)
           c.self.view_is))
     ] in
+    let all : c.append-2.new.buffered.items ≡ (mid ++ c.headers.result) ++ c.args.leaving.now.packet.now = cc in
     buffers_more a b old mid c.headers.result c.args.leaving.now.packet.now c.append-2.new.buffered.items
-    (sll2_record (sent c.args.leaving.now)) so_far
-    (c.append-2.ensures.items ∙ ap (λ l. l ++ c.args.leaving.now.packet.now) c.append.ensures.items)
-    c.headers.ensures.bytes
+    (sll2_record (sent c.args.leaving.now)) so_far all c.headers.ensures.bytes

@@ -15,4 +15,5 @@ loop-piece-preserved g c = record {
   left = left_more _ _ _ _ _ _ _ _ _ _ c.loop-piece.invariant.left (written_at piece_text _ _ _ c.loop-piece-test.true)
       c.in_ok-put_piece.ensures.puts;
   no_failure = c.in_ok-put_piece.ensures.counts ∙ c.loop-piece.invariant.no_failure;
+  flushes = c.in_ok-put_piece.ensures.flushes ∙ c.loop-piece.invariant.flushes;
 }

@@ -8,4 +8,5 @@ invariant-loop-piece g l = record {
   left : PutsAllBut l.initial.self.text.items (g.W.Write.contents l.initial.writer.inner) l.self.text.items
       (g.W.Write.contents l.writer.inner) (pieces_text (drop l.piece-index l.pieces)) (pieces_text l.pieces);
   no_failure : l.writer.failures ≡ l.initial.writer.failures;
+  flushes : l.writer.flushes ≡ l.initial.writer.flushes;
 }
