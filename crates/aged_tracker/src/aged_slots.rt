@@ -28,14 +28,14 @@ const ECHO: usize = 3;
 const OTHER: usize = 4;
 
 /// The slots, a list through all of them in the order of their creation, and a queue for each
-/// timeout. `steps` counts each slot that a call reads or writes; slots are accessed here alone.
+/// timeout. In `steps` calls count the slots that they read or write.
 #[derive(Drop)]
 pub struct AgedSlots {
     slots: Slab<Slot>,
     order: [Link; LISTS],
     queues: [Link; LISTS],
-    // The moment of the last packet of each queue's front, so that finding no expired entry visits
-    // no slot.
+    // The moment of the last packet of each queue's front, by which `expired` tells whether the
+    // front has expired.
     oldest: [Moment; LISTS],
 }
 
@@ -138,6 +138,7 @@ impl AgedSlots {
         ensures table { IsTable result }
         ensures held { held_by result ≡ [] }
         ensures slots { (key : ℕ) → slots_of result key ≡ None }
+        ensures room { has_room result ≡ false }
     {
         AgedSlots {
             slots: Slab::new(alloc),
@@ -287,7 +288,7 @@ impl AgedSlots {
         slot.held(key)
     }
 
-    /// The front of a queue, if it has expired. It visits no slot.
+    /// The front of a queue, if it has expired.
     fn expired_front(&self, limits: Limits, queue: usize, now: Moment) -> Option<ConnId>
         requires table { IsTable self.now }
         requires range { queue < 5 }
@@ -308,7 +309,7 @@ impl AgedSlots {
         }
     }
 
-    /// An expired entry, if there is one. It visits no slot.
+    /// An expired entry, if there is one.
     pub fn expired(&self, limits: Limits, now: Moment) -> Option<ConnId>
         requires { IsTable self.now }
         ensures some { IfSome result (λ id.
@@ -329,8 +330,8 @@ impl AgedSlots {
     ///
     /// # Errors
     ///
-    /// `Memory` where memory ran out, or where the next key has no 32-bit node index. The latter
-    /// cannot happen in practice: the slab reuses vacant keys before it grows.
+    /// `Memory` where memory ran out, or where the next key has no 32-bit node index: the slab's
+    /// contracts don't bound its keys by how many slots are in use.
     pub fn reserve_one(&mut self) -> Result<(), Memory>
         requires table { IsTable self.old }
         ensures table { IsTable self.new }

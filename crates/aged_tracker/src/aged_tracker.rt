@@ -1,4 +1,4 @@
-//! A conntrack table whose calls visit few slots.
+//! A conntrack table whose calls count few visited slots.
 ghost use Rattle.std.specs.Prelude.{◌≡◌, ◌+◌, ◌<◌, ◌≤◌, IsTrue, Some, None, cond, is_some};
 ghost use Rattle.conntrack.specs.ConntrackEntry.{have_disjoint_tuples, belongs_in, has_distinct_ids, live_at};
 ghost use Rattle.std.specs.HashMap.{get, spare};
@@ -20,7 +20,7 @@ use std::hash::RandomState;
 use std::marker::Model;
 
 /// Keeps entries in slots that are found by an index of their incoming tuples and expire by queues.
-/// A call visits at most 8 slots, however many entries there are.
+/// A call counts at most 8 visited slots, however many entries there are.
 #[derive(Drop)]
 pub struct AgedTracker {
     slots: AgedSlots,

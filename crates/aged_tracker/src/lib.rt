@@ -1,4 +1,4 @@
-//! A conntrack table with an index of tuples and expiry queues, so that each call visits few slots,
+//! A conntrack table with an index of tuples and expiry queues. Each call counts few visited slots,
 //! however many entries there are.
 #![tactic(auto)]
 

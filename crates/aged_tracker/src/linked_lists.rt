@@ -1,5 +1,5 @@
-//! Circular doubly linked lists of slots, each with a head. `steps` counts each slot that is read
-//! or written.
+//! Circular doubly linked lists of slots, each with a head. In `steps` calls count the slots that
+//! they read or write.
 ghost use Rattle.std.specs.Prelude.{◌≡◌, ◌+◌, ◌<◌, ◌≤◌, ◌++◌, ◌∷◌, [], ℕ, List, Some, None, IfSome, slice_get};
 ghost use Rattle.slab.specs.Slab.{get, ContainsKey, Updates};
 ghost use Rattle.futures.specs.Links.{Joins};
@@ -233,7 +233,7 @@ pub fn push_back(
     set_list(slots, slot_list, key, Some(list as u8));
 }
 
-/// The first key of a list. It visits no slot.
+/// The first key of a list.
 pub fn front(
     slots: &Slab<Slot>,
     heads: &[Link; LISTS],

@@ -50,11 +50,13 @@ impl<T: Tracker> Model for ConnectionTable<T> {
 }
 
 impl<T: Tracker> ConnectionTable<T> {
-    /// An empty table with these timeouts. It doesn't allocate. Its hash tables use `hasher`, whose
-    /// keys must be unknown to the senders of packets; no result depends on them.
+    /// An empty table with these timeouts, with no memory reserved for a connection. Its hash
+    /// tables use `hasher`, whose keys must be unknown to the senders of packets; no result depends
+    /// on them.
     pub fn new(alloc: Global, hasher: RandomState, idle: Limits) -> Self
         ensures held { result.held ≡ [] }
         ensures limits { result.limits ≡ idle }
+        ensures room { result.has_room ≡ false }
     {
         ConnectionTable {
             tracker: T::new(alloc, hasher, idle),

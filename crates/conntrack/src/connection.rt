@@ -45,7 +45,7 @@ pub enum Phase {
 }
 
 /// Identifies an entry of a table. After the entry's removal another one may get its id.
-#[derive(Clone, Copy, Debug, PartialEq, Eq, Hash)]
+#[derive(Clone, Copy, Debug, PartialEq, Eq)]
 pub struct ConnId(pub usize);
 
 /// A conntrack entry.

@@ -14,7 +14,7 @@ use ip_headers::Tuple;
 use std::alloc::Global;
 use std::hash::RandomState;
 
-/// Keeps entries in a list, in the order of their creation. Each call visits the whole list.
+/// Keeps entries in a list, in the order of their creation.
 #[derive(Drop)]
 pub struct ListTracker {
     conns: Vec<ConntrackEntry>,

@@ -31,9 +31,9 @@ pub enum BeginError {
     Clash,
 }
 
-/// A conntrack table. Moments must not fall from call to call. `steps` counts the slots that a call
-/// visits; a call never lowers it. The clauses `distinct` and `apart` are lemmas about the
-/// receiver, not about the result.
+/// A conntrack table. Moments must not fall from call to call. In `steps` a table counts the slots
+/// that it visits: a call never lowers the count, and raises it by `max_slots` at most. The clauses
+/// `distinct` and `apart` are lemmas about the receiver, not about the result.
 pub trait Tracker: Drop {
     ghost use Rattle.conntrack.specs.declared.connection.ConntrackEntry.{ConntrackEntry};
     ghost use Rattle.box_file.specs.declared.limits.Limits.{Limits};
@@ -47,16 +47,18 @@ pub trait Tracker: Drop {
     /// Whether memory for the next `begin` is reserved.
     ghost has_room: { Self → Bool };
 
-    /// How many slots a call may visit, if that is bounded.
+    /// How many visited slots a call may count, if that is bounded.
     ghost max_slots: { Option ℕ };
 
-    /// An empty table with these timeouts. A table that hashes tuples uses `hasher`, whose keys
-    /// must be unknown to the senders of packets; no result depends on them.
+    /// An empty table with these timeouts, with no memory reserved for an entry. A table that
+    /// hashes tuples uses `hasher`, whose keys must be unknown to the senders of packets; no result
+    /// depends on them.
     fn new(alloc: Global, hasher: RandomState, idle: Limits) -> Self
     where
         Self: Sized,
         ensures held { held result ≡ [] }
-        ensures limits { limits result ≡ idle };
+        ensures limits { limits result ≡ idle }
+        ensures room { has_room result ≡ false };
 
     /// Looks up a packet with this tuple and these flags among the entries that are live at a
     /// moment. `distinct` and `apart` are lemmas about the table.

@@ -5,4 +5,5 @@ pub mod Header
 pub mod Passing
 pub mod Tuple
 pub mod Same
+pub mod HashWords
 pub mod steps

@@ -3,13 +3,17 @@ ghost use Rattle.std.specs.Prelude.{◌≡◌, ◌≤◌, true, length};
 ghost use Rattle.ip_headers.specs.Header.{protocol};
 ghost use Rattle.ip_headers.specs.Transport.{icmp_type};
 ghost use Rattle.ip_headers.specs.Tuple.{inner_tuple, inverse, inverse_kind, is_error_type, echo_kind, tuple_in};
+ghost use Rattle.ip_headers.specs.HashWords.{hash_word, hash_words, kind_number};
 ghost use Rattle.ip_headers.specs.steps.Ports.{kind_and_ports, kind_with_ports, has_ports};
+ghost use Rattle.std.specs.Cmp.Rules.{hashing};
+ghost use Rattle.std.proofs.Common.{rules};
 
 use crate::transport::{ICMP, TCP, UDP};
 use byteorder::{BigEndian, ByteOrder};
+use std::hash::{Hash, Hasher};
 
 /// An address and a port (RFC 4787, section 4.1). The port is 0 for kinds without ports.
-#[derive(Clone, Copy, Debug, PartialEq, Eq, Hash)]
+#[derive(Clone, Copy, Debug, PartialEq, Eq)]
 pub struct Endpoint {
     /// The address in host byte order: the first octet is the most significant byte.
     pub address: u32,
@@ -18,7 +22,7 @@ pub struct Endpoint {
 }
 
 /// A protocol, as far as tuples distinguish it: ports of different kinds are never the same.
-#[derive(Clone, Copy, Debug, PartialEq, Eq, Hash)]
+#[derive(Clone, Copy, Debug, PartialEq, Eq)]
 pub enum Kind {
     /// TCP.
     Tcp,
@@ -33,7 +37,7 @@ pub enum Kind {
 }
 
 /// A packet's kind, source and destination: what connection tracking identifies it by.
-#[derive(Clone, Copy, Debug, PartialEq, Eq, Hash)]
+#[derive(Clone, Copy, Debug, PartialEq, Eq)]
 pub struct Tuple {
     /// The protocol.
     pub kind: Kind,
@@ -45,7 +49,7 @@ pub struct Tuple {
 
 /// A NAT mapping: an internal endpoint and the external one that translation puts in its place (RFC
 /// 4787, section 4.1).
-#[derive(Clone, Copy, Debug, PartialEq, Eq, Hash)]
+#[derive(Clone, Copy, Debug, PartialEq, Eq)]
 pub struct Mapping {
     /// The protocol.
     pub kind: Kind,
@@ -55,7 +59,43 @@ pub struct Mapping {
     pub external: Endpoint,
 }
 
+impl Hash for Tuple {
+    ghost hash_input = { hash_words };
+
+    ghost respects_eq = { Prim.search (hashing, rules) };
+
+    // Two words in place of a write for each field.
+    fn hash<H: Hasher>(&self, state: &mut H) {
+        state.write_u64(self.source.hash_word(self.kind));
+        state.write_u64(self.destination.hash_word(self.kind));
+    }
+}
+
+impl Endpoint {
+    /// The endpoint and a kind in one word, by which tables hash them. Equal words are those of
+    /// equal endpoints and kinds ([`hash_words_differ`](crate::laws::hash_words_differ)).
+    pub fn hash_word(self, kind: Kind) -> u64
+        ensures { result ≡ hash_word kind self }
+    {
+        let kind_and_port = u64::from(kind.number()) * 65_536 + u64::from(self.port);
+        kind_and_port * 4_294_967_296 + u64::from(self.address)
+    }
+}
+
 impl Kind {
+    /// Its number among kinds.
+    fn number(self) -> u16
+        ensures { result ≡ kind_number self }
+    {
+        match self {
+            Self::Tcp => 256,
+            Self::Udp => 257,
+            Self::EchoRequest => 258,
+            Self::EchoReply => 259,
+            Self::Other(number) => u16::from(number),
+        }
+    }
+
     /// The kind of packets in the other direction: echo request and echo reply change places.
     pub fn inverse(self) -> Self
         ensures value { result ≡ inverse_kind self }

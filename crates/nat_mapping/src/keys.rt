@@ -1,13 +1,17 @@
 //! The keys of mappings.
 ghost use Rattle.std.specs.Prelude.{◌≡◌};
+ghost use Rattle.std.specs.Cmp.Rules.{hashing};
+ghost use Rattle.std.proofs.Common.{rules};
 ghost use Rattle.nat_mapping.specs.Mappings.{order_of};
-ghost use Rattle.nat_mapping.specs.steps.Keys.{has_pool, inbound_key_of, pool_key_of, source_key_of};
+ghost use Rattle.nat_mapping.specs.steps.Keys.{has_pool, inbound_key_of, inbound_writes, pool_key_of, pool_writes, source_key_of, source_writes};
 
+use ip_headers::laws::hash_words_differ;
 use ip_headers::{Endpoint, Kind, Mapping};
 use port_pool::Order;
+use std::hash::{Hash, Hasher};
 
 /// An internal endpoint and an external address. There is one mapping for each at most.
-#[derive(Clone, Copy, Debug, PartialEq, Eq, Hash)]
+#[derive(Clone, Copy, Debug, PartialEq, Eq)]
 pub(crate) struct SourceKey {
     pub(crate) kind: Kind,
     pub(crate) internal: Endpoint,
@@ -15,14 +19,14 @@ pub(crate) struct SourceKey {
 }
 
 /// An external endpoint. There is one mapping for each at most.
-#[derive(Clone, Copy, Debug, PartialEq, Eq, Hash)]
+#[derive(Clone, Copy, Debug, PartialEq, Eq)]
 pub(crate) struct InboundKey {
     pub(crate) kind: Kind,
     pub(crate) external: Endpoint,
 }
 
 /// An external address and a kind, which have ports of their own.
-#[derive(Clone, Copy, Debug, PartialEq, Eq, Hash)]
+#[derive(Clone, Copy, Debug, PartialEq, Eq)]
 pub(crate) struct PoolKey {
     pub(crate) kind: Kind,
     pub(crate) address: u32,
@@ -33,6 +37,90 @@ pub(crate) struct PoolKey {
 pub(crate) struct MappedPort {
     pub(crate) port: u16,
     pub(crate) holders: usize,
+}
+
+impl Hash for SourceKey {
+    ghost hash_input = { source_writes };
+
+    ghost respects_eq = { Prim.search (hashing, rules) };
+
+    fn hash<H: Hasher>(&self, state: &mut H) {
+        let external = Endpoint {
+            address: self.address,
+            port: 0,
+        };
+        state.write_u64(self.internal.hash_word(self.kind));
+        state.write_u64(external.hash_word(self.kind));
+    }
+}
+
+impl Hash for InboundKey {
+    ghost hash_input = { inbound_writes };
+
+    ghost respects_eq = { Prim.search (hashing, rules) };
+
+    fn hash<H: Hasher>(&self, state: &mut H) {
+        state.write_u64(self.external.hash_word(self.kind));
+    }
+}
+
+impl Hash for PoolKey {
+    ghost hash_input = { pool_writes };
+
+    ghost respects_eq = { Prim.search (hashing, rules) };
+
+    fn hash<H: Hasher>(&self, state: &mut H) {
+        let external = Endpoint {
+            address: self.address,
+            port: 0,
+        };
+        state.write_u64(external.hash_word(self.kind));
+    }
+}
+
+/// Keys are equal where their hashes take the same bytes. It does nothing.
+fn source_hashes_differ(one: SourceKey, other: SourceKey)
+    ensures { ⟦<SourceKey as Hash>⟧.hash_input one ≡ ⟦<SourceKey as Hash>⟧.hash_input other
+        → one ≡ other }
+{
+    let first = Endpoint {
+        address: one.address,
+        port: 0,
+    };
+    let second = Endpoint {
+        address: other.address,
+        port: 0,
+    };
+    hash_words_differ(one.kind, one.internal, other.kind, other.internal);
+    hash_words_differ(one.kind, first, other.kind, second);
+    hash_words_differ(other.kind, other.internal, one.kind, one.internal);
+    hash_words_differ(other.kind, second, one.kind, first);
+}
+
+/// The same of inbound keys.
+fn inbound_hashes_differ(one: InboundKey, other: InboundKey)
+    ensures { ⟦<InboundKey as Hash>⟧.hash_input one ≡ ⟦<InboundKey as Hash>⟧.hash_input other
+        → one ≡ other }
+{
+    hash_words_differ(one.kind, one.external, other.kind, other.external);
+    hash_words_differ(other.kind, other.external, one.kind, one.external);
+}
+
+/// The same of keys of pools.
+fn pool_hashes_differ(one: PoolKey, other: PoolKey)
+    ensures { ⟦<PoolKey as Hash>⟧.hash_input one ≡ ⟦<PoolKey as Hash>⟧.hash_input other
+        → one ≡ other }
+{
+    let first = Endpoint {
+        address: one.address,
+        port: 0,
+    };
+    let second = Endpoint {
+        address: other.address,
+        port: 0,
+    };
+    hash_words_differ(one.kind, first, other.kind, second);
+    hash_words_differ(other.kind, second, one.kind, first);
 }
 
 impl MappedPort {

@@ -38,8 +38,7 @@ pub enum MapError {
     NoPort,
 }
 
-/// The mappings of a NAT. Connections hold them: a mapping is live while it has a holder. Each call
-/// takes constant time.
+/// The mappings of a NAT. Connections hold them: a mapping is live while it has a holder.
 #[derive(Drop)]
 pub struct Mappings {
     sources: HashMap<SourceKey, MappedPort, RandomState>,
@@ -66,8 +65,8 @@ impl Model for Mappings {
 }
 
 impl Mappings {
-    /// No mappings. It doesn't allocate. Its tables hash by `hasher`, whose keys must be unknown to
-    /// the senders of packets; no result depends on them.
+    /// No mappings, and no pools of ports. Its tables hash by `hasher`, whose keys must be unknown
+    /// to the senders of packets; no result depends on them.
     pub fn new(alloc: Global, hasher: RandomState) -> Self
         ensures held { result.held ≡ [] }
         ensures pools { result.pools ≡ 0 }
@@ -80,7 +79,7 @@ impl Mappings {
     }
 
     /// The external port of an internal endpoint at an external address: the one that it is mapped
-    /// to there, else the first candidate that is free. It holds nothing and doesn't allocate.
+    /// to there, else the first candidate that is free. It holds nothing.
     ///
     /// # Errors
     ///

@@ -1,8 +1,7 @@
 //! Port allocation at one external address of a NAT: ports of TCP and UDP, and ICMP identifiers.
 //!
 //! A port keeps its class and parity where possible, and its number where that is free (RFC 4787,
-//! section 4.2). Only `Pool::new` allocates. A choice reads the 1,024 words of a bitmap twice at
-//! most.
+//! section 4.2).
 #![tactic(auto)]
 
 mod bitmap;

@@ -29,7 +29,7 @@ enum TakenNumbers {
 impl Pool {
     ghost use Rattle.port_pool.specs.Taken.{is_taken, order_of};
 
-    /// A pool with no number taken. One of `Order::Zero` doesn't allocate.
+    /// A pool with no number taken. One of `Order::Zero` needs no memory.
     ///
     /// # Errors
     ///
@@ -58,7 +58,7 @@ impl Pool {
         }
     }
 
-    /// Whether no number is taken, in constant time.
+    /// Whether no number is taken.
     pub fn is_unused(&self) -> bool
         ensures unused { OnTrue result ((p : ℕ) → is_taken self.now p ≡ false) }
         ensures used { OnFalse result ((p : ℕ) × (is_taken self.now p ≡ true)) }

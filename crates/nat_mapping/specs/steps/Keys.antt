@@ -1,9 +1,11 @@
 -- The keys of mappings.
-use Rattle.std.specs.Prelude.{ℕ, Bool, true, false, ◌==◌, ◌&&◌}
+use Rattle.std.specs.Prelude.{ℕ, Bool, true, false, ◌==◌, ◌&&◌, List, ◌++◌}
+use Rattle.std.specs.Hash as fed
 use Rattle.ip_headers.specs.declared.tuple.Kind.{Kind}
 use Rattle.ip_headers.specs.declared.tuple.Kind.TheVariants.{Other}
 use Rattle.ip_headers.specs.declared.tuple.Endpoint.{Endpoint}
 use Rattle.ip_headers.specs.declared.tuple.Mapping.{Mapping}
+use Rattle.ip_headers.specs.HashWords.{hash_word}
 use Rattle.ip_headers.specs.Same.{same_kind, same_endpoint}
 use Rattle.nat_mapping.specs.declared.keys.SourceKey.{SourceKey}
 use Rattle.nat_mapping.specs.declared.keys.InboundKey.{InboundKey}
@@ -48,3 +50,16 @@ inbound_at key port = record { kind = key.kind; external = record { address = ke
 -- the key of the mapping between an external endpoint and an internal one
 abbrev pub source_at : InboundKey → Endpoint → SourceKey
 source_at key internal = record { kind = key.kind; internal = internal; address = key.external.address }
+
+-- ---- the writes of a key's hash
+
+abbrev pub source_writes : SourceKey → List (List ℕ)
+source_writes key =
+    fed.u64 (hash_word key.kind key.internal)
+    ++ fed.u64 (hash_word key.kind (record { address = key.address; port = 0 }))
+
+abbrev pub inbound_writes : InboundKey → List (List ℕ)
+inbound_writes key = fed.u64 (hash_word key.kind key.external)
+
+abbrev pub pool_writes : PoolKey → List (List ℕ)
+pool_writes key = fed.u64 (hash_word key.kind (record { address = key.address; port = 0 }))
