@@ -49,7 +49,7 @@ heads word rest is e =
 
 -- ---- words with a flag
 
-abbrev plain_left : Text → Bool → Bool → List Text → Bool
+abbrev pub plain_left : Text → Bool → Bool → List Text → Bool
 plain_left flag t met rest = cond t true (are_plain (cond met rest (without_flag flag rest)))
 
 -- n operands and the flag, which may be met or not, after a `--` or before it
@@ -110,7 +110,7 @@ flag_turn flag met n word rest some e = go (bytes_eq word (codes "--")) refl (by
 
 -- ---- the words of a run
 
-abbrev file_left : Bool → Option Text → List Text → Bool
+abbrev pub file_left : Bool → Option Text → List Text → Bool
 file_left true file rest = true
 file_left false None rest = names_file rest
 file_left false (Some f) rest = true

@@ -5,4 +5,5 @@ pub mod Formed
 pub mod Reading
 pub mod Rows
 pub mod ParseSteps
+pub mod Taken
 pub mod Words

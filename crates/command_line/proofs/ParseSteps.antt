@@ -1,17 +1,19 @@
 -- How clap parses one word, for a command whose flags have no short form.
-use Rattle.std.proofs.Common.{◌==◌, ◌+◌, eqb-true, take, not, ◌≡◌, ◌∙◌, ◌⊎◌, ◌||◌, ℕ, Bool, cond, codes, true, false, zero, suc, refl, sym, ap, subst, arith, List, [], ◌∷◌, length, Option, Some, None, inl, inr, true≢false}
+use Rattle.std.proofs.Common.{◌==◌, ◌&&◌, ◌+◌, eqb-true, take, not, ◌≡◌, ◌∙◌, ◌⊎◌, ◌||◌, ℕ, Bool, cond, codes, true, false, zero, suc, refl, sym, ap, subst, arith, List, [], ◌∷◌, length, Option, Some, None, inl, inr, true≢false}
 use Rattle.std.specs.Prelude.{slice_get, fold, option_and_then}
 use Rattle.std.specs.Option.{option_map_or}
-use Rattle.std.specs.Str.{bytes_eq, chars}
+use Rattle.std.specs.Str.{IsUtf8, bytes_eq, chars, encode_utf8_all}
 use Rattle.std.specs.List.{list_any, before_first, position_or_len}
 use Rattle.std.proofs.lemmas.List.{take_all}
-use Rattle.clap.specs.Lexer.{has_byte, long_of, long_of_rest, short_of, strip_byte}
+use Rattle.std.proofs.lemmas.Str.{chars_past_char, encodes-chars}
+use Rattle.clap.specs.Lexer.{has_byte, long_of, long_of_rest, short_of, short_of_rest, strip_byte}
 use Rattle.clap.specs.Walk.{Waiting, option, positional, long_word, plain_word, Held, Outcome, Row, Step, Text, Walk, after_flag, after_step, subcommand_met, idle, plain, value, trailing, arg_by_index, arg_by_long, arg_by_short, bundle_met, bundle_step, long_or_other, short_or_plain, subcommand_or_other, to_positional, walked}
 use Rattle.clap.specs.Simple.{Shape}
 use Rattle.clap.specs.Kinds.{Kinds, or_else}
 use Rattle.clap.specs.Faults.{bundle_step_fault, flag_word_fault, flags_fault, long_fault, other_fault, short_fault, step_fault, walk_fault}
 use Rattle.clap.specs.declared.error.kind.ErrorKind.{ErrorKind}
 use Rattle.std.specs.Prelude.{unwrap_or}
+use Rattle.command_line.specs.CommandLine.{is_plain_word}
 
 -- ---- lists of kinds
 
@@ -51,7 +53,66 @@ none_met idle word = refl
 none_met (option id) word = refl
 none_met positional word = refl
 
+-- what stands behind a hyphen begins with a character
+no_first : (cs : List ℕ) → slice_get cs 0 ≡ None → cs ≡ []
+no_first [] e = refl
+no_first (c ∷ cs) e = cc
+
+character_behind : (x : ℕ) (rest : Text) → IsUtf8 (45 ∷ x ∷ rest) → slice_get (chars (x ∷ rest)) 0 ≡ None → ⊥
+unfolding lib.Utf8.encode
+character_behind x rest utf8 e =
+    let none : chars (x ∷ rest) ≡ [] = no_first (chars (x ∷ rest)) e in
+    let all : chars (45 ∷ x ∷ rest) ≡ 45 ∷ chars (x ∷ rest) =
+    chars_past_char (45 ∷ x ∷ rest) (x ∷ rest) 45 utf8 refl in
+    let same : encode_utf8_all (45 ∷ []) ≡ 45 ∷ x ∷ rest =
+    sym (ap encode_utf8_all (all ∙ ap (λ cs. 45 ∷ cs) none)) ∙ encodes-chars (45 ∷ x ∷ rest) utf8 in
+    let bad : 1 ≡ suc (suc (length rest)) = ap length same in
+    absurd (omega arith)
+
+-- `--` is itself, and a word with more behind two hyphens has a long name
+no_double : (rest : Text) → bytes_eq rest [] ≡ false → option_and_then long_of_rest (Some rest) ≡ None → ⊥
+no_double [] is long = true≢false is
+no_double (y ∷ ys) is long = cc
+
+-- a text is no flag, or begins with no hyphen
+abbrev pub Plain : Text → Type 0
+Plain word = IsUtf8 word → is_plain_word word ≡ true
+
 module _ (s : Shape) (asks : AsksHelp s) where
+  -- a word that has no long name and no fault is plain
+  plain_so : (word : Text) (rows : List Row) (pending : Option (Text × List Text))
+      → bytes_eq word (codes "--") ≡ false → long_of word ≡ None
+      → option_map_or (λ flags. flags_fault s.rules s.args_override_self (length flags) flags 0
+      (at rows pending)) (short_of word) [] ≡ [] → Plain word
+  unfolding flags_fault
+  plain_so [] rows pending is long e utf8 = refl
+  plain_so (c ∷ []) rows pending is long e utf8 = refl
+  plain_so (c ∷ x ∷ rest) rows pending is long e utf8 = go (c == 45) refl (x == 45) refl is long e
+    where
+      faults : Option Text → Kinds
+      faults u = option_map_or (λ flags. flags_fault s.rules s.args_override_self (length flags) flags 0
+          (at rows pending)) u []
+
+      first : (o : Option ℕ) → slice_get (chars (x ∷ rest)) 0 ≡ o → c ≡ 45
+          → bundle_step_fault s.rules s.args_override_self o (x ∷ rest) 0 (at rows pending)
+          (flags_fault s.rules s.args_override_self (length rest)) ≡ [] → ⊥
+      first None none hyphen f =
+          character_behind x rest (subst (λ (k : ℕ). IsUtf8 (k ∷ x ∷ rest)) hyphen utf8) none
+      first (Some k) some hyphen f = asks k _ _ _ f
+
+      go : (b : Bool) → (c == 45) ≡ b → (d : Bool) → (x == 45) ≡ d
+          → (b && (d && bytes_eq rest [])) ≡ false
+          → option_and_then long_of_rest (option_and_then (strip_byte 45) (cond b (Some (x ∷ rest)) None)) ≡ None
+          → faults (option_and_then short_of_rest (cond b (Some (x ∷ rest)) None)) ≡ []
+          → not (c == 45) ≡ true
+      go false hyphen d second is long f = ap not hyphen
+      go true hyphen true second is long f =
+          absurd (no_double rest is (ap (λ (t : Bool). option_and_then long_of_rest (cond t (Some rest) None))
+          (sym second) ∙ long))
+      go true hyphen false second is long f =
+          absurd (first (slice_get (chars (x ∷ rest)) 0) refl (eqb-true c 45 hyphen)
+          (ap (λ (t : Bool). faults (cond t None (Some (x ∷ rest)))) (sym second) ∙ f))
+
   bundle_plain : (k : ℕ) (flags : Text) (rows : List Row) (pending : Option (Text × List Text))
       → flags_fault s.rules s.args_override_self k flags 0 (at rows pending) ≡ []
       → bundle_met s.rules k flags 0 plain (at rows pending) ≡ (at rows pending, plain)
@@ -88,7 +149,7 @@ module _ (s : Shape) (asks : AsksHelp s) where
 
   abbrev pub IsPlain : Waiting → ℕ → Text → Held → Type 0
   IsPlain waiting p word h = (bytes_eq word (codes "--") ≡ false) × (long_of word ≡ None)
-      × (met_as waiting p word h ≡ plain_word s.rules waiting word h)
+      × (met_as waiting p word h ≡ plain_word s.rules waiting word h) × Plain word
 
   -- without a fault the word is `--`, a long flag, or a value
   pub word_is : (waiting : Waiting) (p : ℕ) (word : Text) (rows : List Row) (pending : Option (Text × List Text))
@@ -119,6 +180,7 @@ module _ (s : Shape) (asks : AsksHelp s) where
         same,
         other is None same
             ∙ short_plain waiting word (short_of word) rows pending e,
+        plain_so word rows pending is same e,
       ))
 
   abbrev pub after_met : Waiting → Held → ℕ → Text → Held × Step → Walk
@@ -139,7 +201,7 @@ module _ (s : Shape) (asks : AsksHelp s) where
       (long_word s.rules waiting word q.0 q.1 (at rows pending))) rest ≡ []
       → Out (end_of s (after_met waiting (at rows pending) p word
       (long_word s.rules waiting word q.0 q.1 (at rows pending))) rest))
-      → (bytes_eq word (codes "--") ≡ false → long_of word ≡ None
+      → (bytes_eq word (codes "--") ≡ false → long_of word ≡ None → Plain word
       → step_fault s p (plain_word s.rules waiting word (at rows pending)).0
       (plain_word s.rules waiting word (at rows pending)).1 ≡ []
       → walk_fault s [] (after_met waiting (at rows pending) p word
@@ -175,7 +237,7 @@ module _ (s : Shape) (asks : AsksHelp s) where
           elim (word_is waiting p word rows pending (first_nil faults steps here)) [
             | inl q ↦ subst made (sym q.1) (dashes q.0 (subst walks q.1 left))
             | inr (inl q) ↦ subst made (sym q.4) (flag q.0 q.1 q.2 q.3 (subst walks q.4 left))
-            | inr (inr q) ↦ subst made (sym q.2) (other q.0 q.1
+            | inr (inr q) ↦ subst made (sym q.2) (other q.0 q.1 q.3
                 (subst (λ (k : Held × Step). step_fault s p k.0 k.1 ≡ []) q.2 (then_nil faults steps here))
                 (subst walks q.2 left))
           ]

@@ -34,12 +34,13 @@ use Rattle.clap.specs.Matches.{one_text}
 use Rattle.clap.specs.Values.{bool_text}
 use Rattle.clap.proofs.WalkLemmas.{one_text-rows}
 use Rattle.clap.specs.declared.parser.matches.ValueSource.TheVariants.{CommandLine, DefaultValue}
-use Rattle.command_line.specs.CommandLine.{RequestsTask, as_report, has_flag, name_of_file, operands, report_option, report_of, without_flag, without_report}
+use Rattle.command_line.specs.CommandLine.{AreTexts, RequestsTask, as_report, has_flag, is_check, is_explain, is_run, name_of_file, operands, report_option, report_of, without_flag, without_report}
 use Rattle.command_line.specs.steps.Given.{HasTask, GivesTask}
 use Rattle.command_line.specs.declared.task.Task.{Task}
 use Rattle.command_line.specs.steps.Program.{flag_rule, path_rule, program_app, report_rule}
 use Rattle.command_line.proofs.Rows.{Holds, appended, appended_anew, check_ends, check_rows, flag_of, has_row-at, holds_more, row, row_at, row_of, run_ends, run_rows, source_of, set_row, unset_row, with_row, Known}
 use Rattle.command_line.proofs.ParseSteps.{AsksHelp, at, end_of, first_nil, long_text, not_nil, walk_with, idle_walk, then_nil, trail, parse_step, word_is}
+use Rattle.command_line.proofs.Taken.{CheckWords, CodeWords, RunWords, check_end, check_formed, code_end, code_formed, run_end, run_formed}
 use Rattle.command_line.proofs.Words.{Seen, View, flag_dashes, flag_end, flag_met, flag_plain, flag_view, no_flag, view, view_attached, view_dashes, view_end, view_flag, view_plain, view_waits, waiting_view}
 use Rattle.command_line.specs.declared.task.Task.TheVariants.{Run, Check, Explain}
 
@@ -228,11 +229,11 @@ abbrev pub IsRun : View → List Row → Type 0
 IsRun v rows = (a : Text) × (b : Text) × (c : Text) × (d : Text) × (v.0.0 ≡ a ∷ b ∷ c ∷ d ∷ [])
     × Holds (run_ends (Some a) (Some b) (Some c) (Some d) v.0.1 v.1) rows
 
--- where the walk ends with no fault and with nothing that is required missing
-abbrev GivesRun : View → Walk → Type 0
-GivesRun v w = settle_fault run.rules run.args_override_self w.held ≡ []
+-- where the walk ends with no fault and with nothing that is required missing; P is what holds of the words
+abbrev GivesRun : View → Type 0 → Walk → Type 0
+GivesRun v P w = settle_fault run.rules run.args_override_self w.held ≡ []
     → check_fault run (finished run.rules w.held) false ≡ []
-    → IsRun v (finished run.rules w.held)
+    → IsRun v (finished run.rules w.held) × P
 
 same_either : {A : Type 0} (b : Bool) (x : A) → cond b x x ≡ x
 same_either true x = refl
@@ -324,8 +325,8 @@ abbrev pub waits_for_file : List Row → ℕ → Bool → Walk
 waits_for_file rows p t = walk_with (option (codes "report")) (at rows (Some (codes "report", []))) p t
 
 module _ (a b c d : Option Text) (p : ℕ) (front : List Text → List Text) where
-  abbrev Out : View → Walk → Type 0
-  Out v w = GivesRun ((front v.0.0, v.0.1), v.1) w
+  abbrev Out : View → Type 0 → Walk → Type 0
+  Out v P w = GivesRun ((front v.0.0, v.0.1), v.1) P w
 
   -- where a file for the report isn't expected any more, the next word is a path
   abbrev Stops : Type 0
@@ -346,17 +347,19 @@ module _ (a b c d : Option Text) (p : ℕ) (front : List Text → List Text) whe
       → Holds (run_rows a b c d met file) (so_far run rows pending) → step_fault run p (at rows pending) value ≡ []
       → walk_fault run [] (next_walk t word rows pending) rest ≡ []
       → Out ((word ∷ (view t met file rest).0.0, (view t met file rest).0.1), (view t met file rest).1)
-      (end_of run (next_walk t word rows pending) rest)
+      (RunWords t false met file rest) (end_of run (next_walk t word rows pending) rest)
 
   abbrev Goes : Bool → Bool → Option Text → List Text → List Row → Pending → Type 0
   Goes t met file rest rows pending = Holds (run_rows a b c d met file) (so_far run rows pending)
       → walk_fault run [] (idle_walk (at rows pending) p t) rest ≡ []
-      → Out (view t met file rest) (end_of run (idle_walk (at rows pending) p t) rest)
+      → Out (view t met file rest) (RunWords t false met file rest)
+      (end_of run (idle_walk (at rows pending) p t) rest)
 
   abbrev Waits : Bool → List Text → List Row → Type 0
   Waits met rest rows = Holds (run_rows a b c d met None) rows
       → walk_fault run [] (waits_for_file rows p false) rest ≡ []
-      → Out (waiting_view met rest) (end_of run (waits_for_file rows p false) rest)
+      → Out (waiting_view met rest) (RunWords false true met None rest)
+      (end_of run (waits_for_file rows p false) rest)
 
   module _ (stops : Stops) (finish : Finish) (next : Next) where
     abbrev Unsettled : List Row → List Text → Type 0
@@ -389,7 +392,7 @@ module _ (a b c d : Option Text) (p : ℕ) (front : List Text → List Text) whe
         rest Faulty e
         (λ is left. doomed_trail idle rows vs rest never left)
         (λ q is long fault left. absurd (never (run_flag q _ fault).1))
-        (λ is long steps left. absurd (doomed_step rows vs never steps))
+        (λ is long plain steps left. absurd (doomed_step rows vs never steps))
 
     empty_file : (rows : List Row) → Unsettled rows []
     empty_file rows e = not_nil _ _ e
@@ -404,7 +407,7 @@ module _ (a b c d : Option Text) (p : ℕ) (front : List Text → List Text) whe
         (Some (codes "report", [])) p word rest Faulty e
         (λ dashes left. doomed_trail (option (codes "report")) rows [] rest (empty_file rows) left)
         (λ q dashes long fault left. absurd (empty_file rows (run_flag q _ fault).1))
-        (λ dashes long steps left. doomed rows (word ∷ []) rest
+        (λ dashes long plain steps left. doomed rows (word ∷ []) rest
         (λ s. again (codes "report") (row (codes "report") f) rows is s) left)
 
     -- the flag
@@ -415,7 +418,7 @@ module _ (a b c d : Option Text) (p : ℕ) (front : List Text → List Text) whe
         (at rows pending) ≡ []
         → walk_fault run [] (idle_walk (at (flagged (codes "trace") (so_far run rows pending)) None) p false) rest ≡ []
         → (met ≡ false → Goes false true file rest (flagged (codes "trace") (so_far run rows pending)) None)
-        → Out (view false met file (word ∷ rest)) (end_of run
+        → Out (view false met file (word ∷ rest)) (RunWords false false met file (word ∷ rest)) (end_of run
         (idle_walk (at (flagged (codes "trace") (so_far run rows pending)) None) p false) rest)
     at_flag met file word rest rows pending h is long fault left goes =
         let all = so_far run rows pending in
@@ -427,9 +430,13 @@ module _ (a b c d : Option Text) (p : ℕ) (front : List Text → List Text) whe
         let so = goes unmet (subst (Holds (run_rows a b c d true file))
         (sym (flagged_row (codes "trace") all none)) more) left in
         let W : Walk = end_of run (idle_walk (at (flagged (codes "trace") all) None) p false) rest in
-        subst (λ (m : Bool). Out (view false m file (word ∷ rest)) W) (sym unmet)
-        (subst (λ (v : View). Out v W) (sym (view_flag file word rest is (ap report_option long)
-        (flag_text word (codes "trace") long))) so)
+        let same = flag_text word (codes "trace") long in
+        let seen : Out (view false false file (word ∷ rest)) (RunWords false false true file rest) W =
+        subst (λ (v : View). Out v (RunWords false false true file rest) W)
+        (sym (view_flag file word rest is (ap report_option long) same)) so in
+        subst (λ (m : Bool). Out (view false m file (word ∷ rest)) (RunWords false false m file (word ∷ rest)) W)
+        (sym unmet) (λ completes checks.
+        let got = seen completes checks in (got.0, inr (inl (same, refl, got.1))))
 
     -- the file for the report, in the same word
     at_file : (f : Text) (met : Bool) (file : Option Text) (word : Text) (rest : List Text) (rows : List Row)
@@ -440,7 +447,7 @@ module _ (a b c d : Option Text) (p : ℕ) (front : List Text → List Text) whe
         (at rows pending) ≡ []
         → walk_fault run [] (idle_walk (at (reported f (so_far run rows pending)) None) p false) rest ≡ []
         → Goes false met (Some f) rest (reported f (so_far run rows pending)) None
-        → Out (view false met file (word ∷ rest)) (end_of run
+        → Out (view false met file (word ∷ rest)) (RunWords false false met file (word ∷ rest)) (end_of run
         (idle_walk (at (reported f (so_far run rows pending)) None) p false) rest)
     at_file f met (Some g) word rest rows pending h is long fault left goes =
         absurd (again (codes "report") (row (codes "report") g) (so_far run rows pending) h.1.1.1.1.0
@@ -452,7 +459,12 @@ module _ (a b c d : Option Text) (p : ℕ) (front : List Text → List Text) whe
         let so = goes (subst (Holds (run_rows a b c d met (Some f)))
         (sym (settled_row (codes "report") f all h.1.1.1.1.0)) more) left in
         let W : Walk = end_of run (idle_walk (at (reported f all) None) p false) rest in
-        subst (λ (v : View). Out v W) (sym (view_attached met f word rest is (ap report_option long))) so
+        let seen : Out (view false met None (word ∷ rest)) (RunWords false false met (Some f) rest) W =
+        subst (λ (v : View). Out v (RunWords false false met (Some f) rest) W)
+        (sym (view_attached met f word rest is (ap report_option long))) so in
+        λ completes checks.
+        let got = seen completes checks in
+        (got.0, inr (inr (inl (f, ap report_option long, refl, got.1))))
 
     -- the file for the report, in the next word
     at_option : (met : Bool) (file : Option Text) (word : Text) (rest : List Text) (rows : List Row) (pending : Pending)
@@ -460,12 +472,18 @@ module _ (a b c d : Option Text) (p : ℕ) (front : List Text → List Text) whe
         → bytes_eq word (codes "--") ≡ false → long_of word ≡ Some (codes "report", None)
         → walk_fault run [] (waits_for_file (so_far run rows pending) p false) rest ≡ []
         → Waits met rest (so_far run rows pending)
-        → Out (view false met file (word ∷ rest)) (end_of run (waits_for_file (so_far run rows pending) p false) rest)
+        → Out (view false met file (word ∷ rest)) (RunWords false false met file (word ∷ rest))
+        (end_of run (waits_for_file (so_far run rows pending) p false) rest)
     at_option met (Some g) word rest rows pending h is long left waits =
         λ completes checks. absurd (twice g (so_far run rows pending) rest h.1.1.1.1.0 left completes)
     at_option met None word rest rows pending h is long left waits =
         let W : Walk = end_of run (waits_for_file (so_far run rows pending) p false) rest in
-        subst (λ (v : View). Out v W) (sym (view_waits met word rest is (ap report_option long))) (waits h left)
+        let seen : Out (view false met None (word ∷ rest)) (RunWords false true met None rest) W =
+        subst (λ (v : View). Out v (RunWords false true met None rest) W)
+        (sym (view_waits met word rest is (ap report_option long))) (waits h left) in
+        λ completes checks.
+        let got = seen completes checks in
+        (got.0, inr (inr (inr (inl (ap report_option long, refl, got.1)))))
 
     -- one more word
     one : (met : Bool) (file : Option Text) (word : Text) (rest : List Text) (rows : List Row) (pending : Pending)
@@ -475,17 +493,29 @@ module _ (a b c d : Option Text) (p : ℕ) (front : List Text → List Text) whe
         → Waits met rest (so_far run rows pending)
         → Goes false met file (word ∷ rest) rows pending
     one met file word rest rows pending dashes flags files waits h e =
-        parse_step run run_asks idle rows pending p word rest (Out (view false met file (word ∷ rest))) e
-        (λ is left. subst (λ (v : View). Out v (end_of run (idle_walk (at rows pending) p true) rest))
-        (sym (view_dashes met file word rest is)) (dashes h left))
+        parse_step run run_asks idle rows pending p word rest (Out (view false met file (word ∷ rest)) Taken) e
+        (λ is left.
+        let W : Walk = end_of run (idle_walk (at rows pending) p true) rest in
+        let seen : Out (view false met file (word ∷ rest)) (RunWords true false met file rest) W =
+        subst (λ (v : View). Out v (RunWords true false met file rest) W)
+        (sym (view_dashes met file word rest is)) (dashes h left) in
+        λ completes checks. ((seen completes checks).0, inl is))
         flag
-        (λ is long steps left.
+        (λ is long plain steps left.
         let bare : as_report word ≡ None = ap report_option long in
         let unflagged : bytes_eq word (codes "--trace") ≡ false = no_flag word (codes "--trace") refl long in
-        subst (λ (v : View). Out v (end_of run (next_walk false word rows pending) rest))
+        let W : Walk = end_of run (next_walk false word rows pending) rest in
+        let seen : Out (view false met file (word ∷ rest)) (RunWords false false met file rest) W =
+        subst (λ (v : View). Out v (RunWords false false met file rest) W)
         (sym (view_plain met file word rest is bare unflagged))
-        (next false met file word rest rows pending h steps left))
+        (next false met file word rest rows pending h steps left) in
+        λ completes checks.
+        let got = seen completes checks in
+        (got.0, inr (inr (inr (inr (long, plain, got.1))))))
       where
+        Taken : Type 0
+        Taken = RunWords false false met file (word ∷ rest)
+
         moved : Text × Option Text → Walk
         moved q = let m = long_word run.rules idle word q.0 q.1 (at rows pending) in
             after_step run.rules word (idle_walk (at rows pending) p false) m.0 m.1
@@ -493,7 +523,7 @@ module _ (a b c d : Option Text) (p : ℕ) (front : List Text → List Text) whe
         At : Text × Option Text → Type 0
         At q = bytes_eq word (codes "--") ≡ false → long_of word ≡ Some q
             → long_fault run.rules run.args_override_self (arg_by_long run.rules q.0) q.1 (at rows pending) ≡ []
-            → walk_fault run [] (moved q) rest ≡ [] → Out (view false met file (word ∷ rest))
+            → walk_fault run [] (moved q) rest ≡ [] → Out (view false met file (word ∷ rest)) Taken
             (end_of run (moved q) rest)
 
         report_at : (v : Option Text) → At (codes "report", v)
@@ -513,22 +543,27 @@ module _ (a b c d : Option Text) (p : ℕ) (front : List Text → List Text) whe
         → Waits met (word ∷ rest) rows
     file_word met word rest rows goes h e =
         parse_step run run_asks (option (codes "report")) rows (Some (codes "report", [])) p word rest
-        (Out (waiting_view met (word ∷ rest))) e
+        (Out (waiting_view met (word ∷ rest)) (RunWords false true met None (word ∷ rest))) e
         (λ is left. λ completes checks. absurd (doomed_trail (option (codes "report")) rows [] rest
         (empty_file rows) left completes))
         (λ q is long fault left. absurd (empty_file rows (run_flag q _ fault).1))
-        (λ is long steps left. goes (subst (Holds (run_rows a b c d met (Some word)))
+        (λ is long plain steps left. λ completes checks.
+        let got = goes (subst (Holds (run_rows a b c d met (Some word)))
         (sym (settled_row (codes "report") word rows h.1.1.1.1.0))
-        (holds_more (run_rows a b c d met None) rows (row (codes "report") word) h.1.1.1.1.0 h)) left)
+        (holds_more (run_rows a b c d met None) rows (row (codes "report") word) h.1.1.1.1.0 h)) left completes checks in
+        (got.0, (plain, got.1)))
 
     mutual
       walk_on : (t met : Bool) (file : Option Text) (rest : List Text) (rows : List Row) (pending : Pending)
           → Goes t met file rest rows pending
-      walk_on t met file [] rows pending h e = λ completes checks.
-          subst (λ (v : View). IsRun ((front v.0.0, v.0.1), v.1) (finished run.rules (at rows pending)))
-          (sym (view_end t met file)) (finish met file (so_far run rows pending) h checks)
+      walk_on t met file [] rows pending h e = λ completes checks. (
+        subst (λ (v : View). IsRun ((front v.0.0, v.0.1), v.1) (finished run.rules (at rows pending)))
+            (sym (view_end t met file)) (finish met file (so_far run rows pending) h checks),
+        run_end t met file,
+      )
       walk_on true met file (word ∷ rest) rows pending h e =
-          trail run run_asks idle rows pending p word rest (Out (view true met file (word ∷ rest))) e
+          trail run run_asks idle rows pending p word rest
+          (Out (view true met file (word ∷ rest)) (RunWords true false met file (word ∷ rest))) e
           (λ steps left. next true met file word rest rows pending h steps left)
       walk_on false met file (word ∷ rest) rows pending h e = one met file word rest rows pending
           (walk_on true met file rest rows pending)
@@ -575,7 +610,8 @@ run3 a b c = walk_on (Some a) (Some b) (Some c) None 4 (λ ops. a ∷ b ∷ c �
     let all = so_far run rows pending in
     let same = moves run (goes_on (codes "output") pending) t rows pending (codes "output") word 5 in
     let v = view t met file rest in
-    subst (λ (w : Walk). GivesRun ((a ∷ b ∷ c ∷ word ∷ v.0.0, v.0.1), v.1) (end_of run w rest)) (sym same)
+    subst (λ (w : Walk). GivesRun ((a ∷ b ∷ c ∷ word ∷ v.0.0, v.0.1), v.1) (RunWords t false met file rest)
+    (end_of run w rest)) (sym same)
     (run4 a b c word t met file rest all (pending_value (codes "output") word)
     (taken_row (codes "output") word (run_rows (Some a) (Some b) (Some c) None met file) all h.1.1.1.0 h)
     (subst (λ (w : Walk). walk_fault run [] w rest ≡ []) same left)))
@@ -588,7 +624,8 @@ run2 a b = walk_on (Some a) (Some b) None None 3 (λ ops. a ∷ b ∷ ops) (λ r
     let all = so_far run rows pending in
     let same = moves run (goes_on (codes "input") pending) t rows pending (codes "input") word 4 in
     let v = view t met file rest in
-    subst (λ (w : Walk). GivesRun ((a ∷ b ∷ word ∷ v.0.0, v.0.1), v.1) (end_of run w rest)) (sym same)
+    subst (λ (w : Walk). GivesRun ((a ∷ b ∷ word ∷ v.0.0, v.0.1), v.1) (RunWords t false met file rest)
+    (end_of run w rest)) (sym same)
     (run3 a b word t met file rest all (pending_value (codes "input") word)
     (taken_row (codes "input") word (run_rows (Some a) (Some b) None None met file) all h.1.1.0 h)
     (subst (λ (w : Walk). walk_fault run [] w rest ≡ []) same left)))
@@ -601,7 +638,8 @@ run1 a = walk_on (Some a) None None None 2 (λ ops. a ∷ ops) (λ rows vs e. in
     let all = so_far run rows pending in
     let same = moves run (goes_on (codes "plant") pending) t rows pending (codes "plant") word 3 in
     let v = view t met file rest in
-    subst (λ (w : Walk). GivesRun ((a ∷ word ∷ v.0.0, v.0.1), v.1) (end_of run w rest)) (sym same)
+    subst (λ (w : Walk). GivesRun ((a ∷ word ∷ v.0.0, v.0.1), v.1) (RunWords t false met file rest)
+    (end_of run w rest)) (sym same)
     (run2 a word t met file rest all (pending_value (codes "plant") word)
     (taken_row (codes "plant") word (run_rows (Some a) None None None met file) all h.1.0 h)
     (subst (λ (w : Walk). walk_fault run [] w rest ≡ []) same left)))
@@ -614,7 +652,8 @@ run0 = walk_on None None None None 1 (λ ops. ops) (λ rows vs e. inl e)
     let all = so_far run rows pending in
     let same = moves run (goes_on (codes "rules") pending) t rows pending (codes "rules") word 2 in
     let v = view t met file rest in
-    subst (λ (w : Walk). GivesRun ((word ∷ v.0.0, v.0.1), v.1) (end_of run w rest)) (sym same)
+    subst (λ (w : Walk). GivesRun ((word ∷ v.0.0, v.0.1), v.1) (RunWords t false met file rest)
+    (end_of run w rest)) (sym same)
     (run1 word t met file rest all (pending_value (codes "rules") word)
     (taken_row (codes "rules") word (run_rows None None None None met file) all h.0 h)
     (subst (λ (w : Walk). walk_fault run [] w rest ≡ []) same left)))
@@ -624,15 +663,16 @@ run0 = walk_on None None None None 1 (λ ops. ops) (λ rows vs e. inl e)
 abbrev pub IsCheck : Seen → List Row → Type 0
 IsCheck v rows = (a : Text) × (b : Text) × (v.0 ≡ a ∷ b ∷ []) × Holds (check_ends (Some a) (Some b) v.1) rows
 
-abbrev GivesCheck : Seen → Walk → Type 0
-GivesCheck v w = check_fault check (finished check.rules w.held) false ≡ [] → IsCheck v (finished check.rules w.held)
+abbrev GivesCheck : Seen → Type 0 → Walk → Type 0
+GivesCheck v P w = check_fault check (finished check.rules w.held) false ≡ []
+    → IsCheck v (finished check.rules w.held) × P
 
 abbrev check_view : Bool → Bool → List Text → Seen
 check_view t met rest = flag_view (codes "--all") t met rest
 
 module _ (a b : Option Text) (p : ℕ) (front : List Text → List Text) where
-  abbrev Checked : Seen → Walk → Type 0
-  Checked v w = GivesCheck (front v.0, v.1) w
+  abbrev Checked : Seen → Type 0 → Walk → Type 0
+  Checked v P w = GivesCheck (front v.0, v.1) P w
 
   abbrev check_walk : Bool → Text → List Row → Pending → Walk
   check_walk t word rows pending = to_positional check.rules (arg_by_index check.rules p) word
@@ -647,13 +687,14 @@ module _ (a b : Option Text) (p : ℕ) (front : List Text → List Text) where
   CheckNext = (t met : Bool) (word : Text) (rest : List Text) (rows : List Row) (pending : Pending)
       → Holds (check_rows a b met) (so_far check rows pending) → step_fault check p (at rows pending) value ≡ []
       → walk_fault check [] (check_walk t word rows pending) rest ≡ []
-      → Checked (word ∷ (check_view t met rest).0, (check_view t met rest).1)
+      → Checked (word ∷ (check_view t met rest).0, (check_view t met rest).1) (CheckWords t met rest)
       (end_of check (check_walk t word rows pending) rest)
 
   abbrev Checks : Bool → Bool → List Text → List Row → Pending → Type 0
   Checks t met rest rows pending = Holds (check_rows a b met) (so_far check rows pending)
       → walk_fault check [] (idle_walk (at rows pending) p t) rest ≡ []
-      → Checked (check_view t met rest) (end_of check (idle_walk (at rows pending) p t) rest)
+      → Checked (check_view t met rest) (CheckWords t met rest)
+      (end_of check (idle_walk (at rows pending) p t) rest)
 
   -- the flag
   at_all : (met : Bool) (word : Text) (rest : List Text) (rows : List Row) (pending : Pending)
@@ -663,7 +704,7 @@ module _ (a b : Option Text) (p : ℕ) (front : List Text → List Text) where
       (at rows pending) ≡ []
       → walk_fault check [] (idle_walk (at (flagged (codes "all") (so_far check rows pending)) None) p false) rest ≡ []
       → Checks false true rest (flagged (codes "all") (so_far check rows pending)) None
-      → Checked (check_view false met (word ∷ rest)) (end_of check
+      → Checked (check_view false met (word ∷ rest)) (CheckWords false met (word ∷ rest)) (end_of check
       (idle_walk (at (flagged (codes "all") (so_far check rows pending)) None) p false) rest)
   at_all met word rest rows pending h is long fault left goes =
       let all = so_far check rows pending in
@@ -674,9 +715,12 @@ module _ (a b : Option Text) (p : ℕ) (front : List Text → List Text) where
       holds_more (check_rows a b met) all (set_row (codes "all")) none h in
       let so = goes (subst (Holds (check_rows a b true)) (sym (flagged_row (codes "all") all none)) more) left in
       let W : Walk = end_of check (idle_walk (at (flagged (codes "all") all) None) p false) rest in
-      subst (λ (m : Bool). Checked (check_view false m (word ∷ rest)) W) (sym unmet)
-      (subst (λ (v : Seen). Checked v W) (sym (flag_met (codes "--all") word rest is
-      (flag_text word (codes "all") long))) so)
+      let same = flag_text word (codes "all") long in
+      let seen : Checked (check_view false false (word ∷ rest)) (CheckWords false true rest) W =
+      subst (λ (v : Seen). Checked v (CheckWords false true rest) W)
+      (sym (flag_met (codes "--all") word rest is same)) so in
+      subst (λ (m : Bool). Checked (check_view false m (word ∷ rest)) (CheckWords false m (word ∷ rest)) W)
+      (sym unmet) (λ checks. let got = seen checks in (got.0, inr (inl (same, refl, got.1))))
 
   module _ (finish : CheckEnd) (next : CheckNext) where
     check_one : (met : Bool) (word : Text) (rest : List Text) (rows : List Row) (pending : Pending)
@@ -684,17 +728,27 @@ module _ (a b : Option Text) (p : ℕ) (front : List Text → List Text) where
         → Checks false true rest (flagged (codes "all") (so_far check rows pending)) None
         → Checks false met (word ∷ rest) rows pending
     check_one met word rest rows pending dashes flags h e =
-        parse_step check check_asks idle rows pending p word rest (Checked (check_view false met (word ∷ rest))) e
-        (λ is left. subst (λ (v : Seen). Checked v (end_of check (idle_walk (at rows pending) p true) rest))
-        (sym (flag_dashes (codes "--all") met word rest is)) (dashes h left))
+        parse_step check check_asks idle rows pending p word rest (Checked (check_view false met (word ∷ rest)) Taken) e
+        (λ is left.
+        let W : Walk = end_of check (idle_walk (at rows pending) p true) rest in
+        let seen : Checked (check_view false met (word ∷ rest)) (CheckWords true met rest) W =
+        subst (λ (v : Seen). Checked v (CheckWords true met rest) W)
+        (sym (flag_dashes (codes "--all") met word rest is)) (dashes h left) in
+        λ checks. ((seen checks).0, inl is))
         (λ q is long fault left. subst At (sym (check_flag q (at rows pending) fault))
         (λ i l f w. at_all met word rest rows pending h i l f w flags) is long fault left)
-        (λ is long steps left.
+        (λ is long plain steps left.
         let unflagged : bytes_eq word (codes "--all") ≡ false = no_flag word (codes "--all") refl long in
-        subst (λ (v : Seen). Checked v (end_of check (check_walk false word rows pending) rest))
+        let W : Walk = end_of check (check_walk false word rows pending) rest in
+        let seen : Checked (check_view false met (word ∷ rest)) (CheckWords false met rest) W =
+        subst (λ (v : Seen). Checked v (CheckWords false met rest) W)
         (sym (flag_plain (codes "--all") met word rest is unflagged))
-        (next false met word rest rows pending h steps left))
+        (next false met word rest rows pending h steps left) in
+        λ checks. let got = seen checks in (got.0, inr (inr (long, plain, got.1))))
       where
+        Taken : Type 0
+        Taken = CheckWords false met (word ∷ rest)
+
         moved : Text × Option Text → Walk
         moved q = let m = long_word check.rules idle word q.0 q.1 (at rows pending) in
             after_step check.rules word (idle_walk (at rows pending) p false) m.0 m.1
@@ -702,15 +756,18 @@ module _ (a b : Option Text) (p : ℕ) (front : List Text → List Text) where
         At : Text × Option Text → Type 0
         At q = bytes_eq word (codes "--") ≡ false → long_of word ≡ Some q
             → long_fault check.rules check.args_override_self (arg_by_long check.rules q.0) q.1 (at rows pending) ≡ []
-            → walk_fault check [] (moved q) rest ≡ [] → Checked (check_view false met (word ∷ rest))
+            → walk_fault check [] (moved q) rest ≡ [] → Checked (check_view false met (word ∷ rest)) Taken
             (end_of check (moved q) rest)
 
     check_on : (t met : Bool) (rest : List Text) (rows : List Row) (pending : Pending) → Checks t met rest rows pending
-    check_on t met [] rows pending h e = λ checks.
-        subst (λ (v : Seen). IsCheck (front v.0, v.1) (finished check.rules (at rows pending)))
-        (sym (flag_end (codes "--all") t met)) (finish met (so_far check rows pending) h checks)
+    check_on t met [] rows pending h e = λ checks. (
+      subst (λ (v : Seen). IsCheck (front v.0, v.1) (finished check.rules (at rows pending)))
+          (sym (flag_end (codes "--all") t met)) (finish met (so_far check rows pending) h checks),
+      check_end t met,
+    )
     check_on true met (word ∷ rest) rows pending h e =
-        trail check check_asks idle rows pending p word rest (Checked (check_view true met (word ∷ rest))) e
+        trail check check_asks idle rows pending p word rest
+        (Checked (check_view true met (word ∷ rest)) (CheckWords true met (word ∷ rest))) e
         (λ steps left. next true met word rest rows pending h steps left)
     check_on false met (word ∷ rest) rows pending h e = check_one met word rest rows pending
         (check_on true met rest rows pending) (check_on false true rest
@@ -738,7 +795,7 @@ check1 a = check_on (Some a) None 2 (λ ops. a ∷ ops)
     let all = so_far check rows pending in
     let same = moves check (goes_on (codes "plant") pending) t rows pending (codes "plant") word 3 in
     let v = check_view t met rest in
-    subst (λ (w : Walk). GivesCheck (a ∷ word ∷ v.0, v.1) (end_of check w rest)) (sym same)
+    subst (λ (w : Walk). GivesCheck (a ∷ word ∷ v.0, v.1) (CheckWords t met rest) (end_of check w rest)) (sym same)
     (check2 a word t met rest all (pending_value (codes "plant") word)
     (taken_row (codes "plant") word (check_rows (Some a) None met) all h.1.0 h)
     (subst (λ (w : Walk). walk_fault check [] w rest ≡ []) same left)))
@@ -751,7 +808,7 @@ check0 = check_on None None 1 (λ ops. ops)
     let all = so_far check rows pending in
     let same = moves check (goes_on (codes "rules") pending) t rows pending (codes "rules") word 2 in
     let v = check_view t met rest in
-    subst (λ (w : Walk). GivesCheck (word ∷ v.0, v.1) (end_of check w rest)) (sym same)
+    subst (λ (w : Walk). GivesCheck (word ∷ v.0, v.1) (CheckWords t met rest) (end_of check w rest)) (sym same)
     (check1 word t met rest all (pending_value (codes "rules") word)
     (taken_row (codes "rules") word (check_rows None None met) all h.0 h)
     (subst (λ (w : Walk). walk_fault check [] w rest ≡ []) same left)))
@@ -761,9 +818,9 @@ check0 = check_on None None 1 (λ ops. ops)
 abbrev pub IsExplaining : List Text → List Row → Type 0
 IsExplaining ops rows = (a : Text) × (ops ≡ a ∷ []) × (rows ≡ row (codes "code") a ∷ [])
 
-abbrev GivesExplain : List Text → Walk → Type 0
-GivesExplain ops w = check_fault explaining (finished explaining.rules w.held) false ≡ []
-    → IsExplaining ops (finished explaining.rules w.held)
+abbrev GivesExplain : List Text → Type 0 → Walk → Type 0
+GivesExplain ops P w = check_fault explaining (finished explaining.rules w.held) false ≡ []
+    → IsExplaining ops (finished explaining.rules w.held) × P
 
 abbrev operands_from : Bool → List Text → List Text
 operands_from t rest = cond t rest (operands rest)
@@ -778,36 +835,47 @@ operands_by word rest b is = ap (λ (d : Bool). cond d rest (word ∷ operands r
 
 explaining1 : (a : Text) (t : Bool) (rest : List Text)
     → walk_fault explaining [] (idle_walk (at [] (pending_value (codes "code") a)) 2 t) rest ≡ []
-    → GivesExplain (a ∷ operands_from t rest) (end_of explaining
+    → GivesExplain (a ∷ operands_from t rest) (CodeWords t rest) (end_of explaining
     (idle_walk (at [] (pending_value (codes "code") a)) 2 t) rest)
-explaining1 a t [] e = λ _. (a, ap (λ (l : List Text). a ∷ l) (none_left t), refl)
+explaining1 a t [] e = λ _. ((a, ap (λ (l : List Text). a ∷ l) (none_left t), refl), code_end t)
 explaining1 a true (word ∷ rest) e =
     trail explaining explaining_asks idle [] (pending_value (codes "code") a) 2 word rest
-    (GivesExplain (a ∷ word ∷ rest)) e (λ bad left. not_nil _ _ bad)
+    (GivesExplain (a ∷ word ∷ rest) (CodeWords true (word ∷ rest))) e (λ bad left. not_nil _ _ bad)
 explaining1 a false (word ∷ rest) e =
     parse_step explaining explaining_asks idle [] (pending_value (codes "code") a) 2 word rest
-    (GivesExplain (a ∷ operands (word ∷ rest))) e
-    (λ is left. subst (λ (ops : List Text). GivesExplain (a ∷ ops)
-    (end_of explaining (idle_walk (at [] (pending_value (codes "code") a)) 2 true) rest))
-    (sym (operands_by word rest true is)) (explaining1 a true rest left))
+    (GivesExplain (a ∷ operands (word ∷ rest)) (CodeWords false (word ∷ rest))) e
+    (λ is left.
+    let W : Walk = end_of explaining (idle_walk (at [] (pending_value (codes "code") a)) 2 true) rest in
+    let seen : GivesExplain (a ∷ operands (word ∷ rest)) (CodeWords true rest) W =
+    subst (λ (ops : List Text). GivesExplain (a ∷ ops) (CodeWords true rest) W)
+    (sym (operands_by word rest true is)) (explaining1 a true rest left) in
+    λ checks. ((seen checks).0, inl is))
     (λ q is long fault left. absurd (no_long_telling q _ fault))
-    (λ is long bad left. not_nil _ _ bad)
+    (λ is long plain bad left. not_nil _ _ bad)
 
 explaining0 : (t : Bool) (rest : List Text) → walk_fault explaining [] (idle_walk (at [] None) 1 t) rest ≡ []
-    → GivesExplain (operands_from t rest) (end_of explaining (idle_walk (at [] None) 1 t) rest)
+    → GivesExplain (operands_from t rest) (CodeWords t rest) (end_of explaining (idle_walk (at [] None) 1 t) rest)
 explaining0 t [] e = λ bad. not_nil _ _ bad
 explaining0 true (word ∷ rest) e =
-    trail explaining explaining_asks idle [] None 1 word rest (GivesExplain (word ∷ rest)) e
+    trail explaining explaining_asks idle [] None 1 word rest
+    (GivesExplain (word ∷ rest) (CodeWords true (word ∷ rest))) e
     (λ steps left. explaining1 word true rest left)
 explaining0 false (word ∷ rest) e =
-    parse_step explaining explaining_asks idle [] None 1 word rest (GivesExplain (operands (word ∷ rest))) e
-    (λ is left. subst (λ (ops : List Text). GivesExplain ops
-    (end_of explaining (idle_walk (at [] None) 1 true) rest)) (sym (operands_by word rest true is))
-    (explaining0 true rest left))
+    parse_step explaining explaining_asks idle [] None 1 word rest
+    (GivesExplain (operands (word ∷ rest)) (CodeWords false (word ∷ rest))) e
+    (λ is left.
+    let W : Walk = end_of explaining (idle_walk (at [] None) 1 true) rest in
+    let seen : GivesExplain (operands (word ∷ rest)) (CodeWords true rest) W =
+    subst (λ (ops : List Text). GivesExplain ops (CodeWords true rest) W)
+    (sym (operands_by word rest true is)) (explaining0 true rest left) in
+    λ checks. ((seen checks).0, inl is))
     (λ q is long fault left. absurd (no_long_telling q _ fault))
-    (λ is long steps left. subst (λ (ops : List Text). GivesExplain ops
-    (end_of explaining (idle_walk (at [] (pending_value (codes "code") word)) 2 false) rest))
-    (sym (operands_by word rest false is)) (explaining1 word false rest left))
+    (λ is long plain steps left.
+    let W : Walk = end_of explaining (idle_walk (at [] (pending_value (codes "code") word)) 2 false) rest in
+    let seen : GivesExplain (operands (word ∷ rest)) (CodeWords false rest) W =
+    subst (λ (ops : List Text). GivesExplain ops (CodeWords false rest) W)
+    (sym (operands_by word rest false is)) (explaining1 word false rest left) in
+    λ checks. let got = seen checks in (got.0, inr (plain, got.1)))
 
 -- ---- all the words
 
@@ -857,9 +925,10 @@ first = idle_walk nothing_held 1 false
 
 -- a subcommand's name, the words after it and the rows that it has of them
 abbrev pub IsTask : Text → List Text → List Row → Type 0
-IsTask name rest rows = ((name ≡ codes "run") × IsRun (view false false None rest) rows)
-    ⊎ (((name ≡ codes "check") × IsCheck (check_view false false rest) rows)
-    ⊎ ((name ≡ codes "explain") × IsExplaining (operands rest) rows))
+IsTask name rest rows =
+    ((name ≡ codes "run") × IsRun (view false false None rest) rows × RunWords false false false None rest)
+    ⊎ (((name ≡ codes "check") × IsCheck (check_view false false rest) rows × CheckWords false false rest)
+    ⊎ ((name ≡ codes "explain") × IsExplaining (operands rest) rows × CodeWords false rest))
 
 -- without a fault the words are a subcommand's name and its values
 abbrev pub Reads : List Text → Option (Text × List Text) → Type 0
@@ -887,39 +956,24 @@ level_nil s rest e =
 run_reads : (rest : List Text) → entered_fault whole (Some (codes "run", rest)) ≡ []
     → Reads (codes "run" ∷ rest) (Some (codes "run", rest))
 run_reads rest e =
-    let level = level_nil run rest e in (
-      codes "run",
-      rest,
-      _,
-      refl,
-      refl,
-      inl (
-        refl,
-        run0 false false None rest [] None
-            (refl, (refl, (refl, (refl, (refl, (refl, tt)))))) level.0 level.1 level.2,
-      ),
-    )
+    let level = level_nil run rest e in
+    let got = run0 false false None rest [] None
+    (refl, (refl, (refl, (refl, (refl, (refl, tt)))))) level.0 level.1 level.2 in
+    (codes "run", rest, _, refl, refl, inl (refl, got.0, got.1))
 
 check_reads : (rest : List Text) → entered_fault whole (Some (codes "check", rest)) ≡ []
     → Reads (codes "check" ∷ rest) (Some (codes "check", rest))
 check_reads rest e =
-    let level = level_nil check rest e in (
-      codes "check",
-      rest,
-      _,
-      refl,
-      refl,
-      inr (inl (
-        refl,
-        check0 false false rest [] None (refl, (refl, (refl, tt))) level.0 level.2,
-      )),
-    )
+    let level = level_nil check rest e in
+    let got = check0 false false rest [] None (refl, (refl, (refl, tt))) level.0 level.2 in
+    (codes "check", rest, _, refl, refl, inr (inl (refl, got.0, got.1)))
 
 explaining_reads : (rest : List Text) → entered_fault whole (Some (codes "explain", rest)) ≡ []
     → Reads (codes "explain" ∷ rest) (Some (codes "explain", rest))
 explaining_reads rest e =
     let level = level_nil explaining rest e in
-    (codes "explain", rest, _, refl, refl, inr (inr (refl, explaining0 false rest level.0 level.2)))
+    let got = explaining0 false rest level.0 level.2 in
+    (codes "explain", rest, _, refl, refl, inr (inr (refl, got.0, got.1)))
 
 stray : (rest : List Text) → walk_fault top names (idle_walk nothing_held 1 true) rest ≡ []
     → ended (fold (walked top.rules names) (idle_walk nothing_held 1 true) rest) ≡ [] → ⊥
@@ -1055,8 +1109,9 @@ pub is_run_task : (words : List Text) (name : Text) (rows : List Row) (got : Has
     → bytes_eq name (codes "check") ≡ false
     → bytes_eq name (codes "explain") ≡ false
     → (words ≡ got.0 ∷ codes "run" ∷ got.1) × IsRun (view false false None got.1) rows
+    × RunWords false false false None got.1
 is_run_task words name rows got other last = elim got.3 [
-  | inl q ↦ (got.2 ∙ ap (λ (n : Text). got.0 ∷ n ∷ got.1) q.0, q.1)
+  | inl q ↦ (got.2 ∙ ap (λ (n : Text). got.0 ∷ n ∷ got.1) q.0, q.1, q.2)
   | inr (inl q) ↦ absurd (true≢false (subst (λ (n : Text). bytes_eq n (codes "check") ≡ false) q.0 other))
   | inr (inr q) ↦ absurd (true≢false (subst (λ (n : Text). bytes_eq n (codes "explain") ≡ false) q.0 last))
 ]
@@ -1064,19 +1119,20 @@ is_run_task words name rows got other last = elim got.3 [
 pub is_check_task : (words : List Text) (name : Text) (rows : List Row) (got : HasRead words name rows)
     → bytes_eq name (codes "check") ≡ true
     → (words ≡ got.0 ∷ codes "check" ∷ got.1) × IsCheck (check_view false false got.1) rows
+    × CheckWords false false got.1
 is_check_task words name rows got same = elim got.3 [
   | inl q ↦ absurd (true≢false (sym (subst (λ (n : Text). bytes_eq n (codes "check") ≡ true) q.0 same)))
-  | inr (inl q) ↦ (got.2 ∙ ap (λ (n : Text). got.0 ∷ n ∷ got.1) q.0, q.1)
+  | inr (inl q) ↦ (got.2 ∙ ap (λ (n : Text). got.0 ∷ n ∷ got.1) q.0, q.1, q.2)
   | inr (inr q) ↦ absurd (true≢false (sym (subst (λ (n : Text). bytes_eq n (codes "check") ≡ true) q.0 same)))
 ]
 
 pub is_explain_task : (words : List Text) (name : Text) (rows : List Row) (got : HasRead words name rows)
     → bytes_eq name (codes "explain") ≡ true
-    → (words ≡ got.0 ∷ codes "explain" ∷ got.1) × IsExplaining (operands got.1) rows
+    → (words ≡ got.0 ∷ codes "explain" ∷ got.1) × IsExplaining (operands got.1) rows × CodeWords false got.1
 is_explain_task words name rows got same = elim got.3 [
   | inl q ↦ absurd (true≢false (sym (subst (λ (n : Text). bytes_eq n (codes "explain") ≡ true) q.0 same)))
   | inr (inl q) ↦ absurd (true≢false (sym (subst (λ (n : Text). bytes_eq n (codes "explain") ≡ true) q.0 same)))
-  | inr (inr q) ↦ (got.2 ∙ ap (λ (n : Text). got.0 ∷ n ∷ got.1) q.0, q.1)
+  | inr (inr q) ↦ (got.2 ∙ ap (λ (n : Text). got.0 ∷ n ∷ got.1) q.0, q.1, q.2)
 ]
 
 -- the value of a path, by its row
@@ -1140,7 +1196,7 @@ file_is f file result rows is at_id read =
     ∙ ap (option_and_then (λ (r : Row). slice_get r.values 0)) at_id ∙ first_value_of file
 
 pub requests_run : (words rest : List Text) (program a b c d : Text) (met : Bool) (file : Option (Bor Text))
-    (r p i o : Bor Text) → words ≡ program ∷ codes "run" ∷ rest
+    (r p i o : Bor Text) → words ≡ program ∷ codes "run" ∷ rest → (AreTexts rest → is_run rest ≡ true)
     → operands (without_flag (codes "--trace") (without_report rest)) ≡ a ∷ b ∷ c ∷ d ∷ []
     → name_of_file file ≡ report_of rest → met ≡ has_flag (codes "--trace") (without_report rest)
     → r.now ≡ a → p.now ≡ b → i.now ≡ c → o.now ≡ d
@@ -1150,30 +1206,30 @@ pub requests_run : (words rest : List Text) (program a b c d : Text) (met : Bool
       paths =
           record { rules = r; plant = p; input = i; output = o };
     }))
-requests_run words rest program a b c d met file r p i o is ops files flags er ep ei eo =
+requests_run words rest program a b c d met file r p i o is formed ops files flags er ep ei eo =
     subst (λ (ws : List Text). RequestsTask ws (Run (record {
       trace = met;
       report = file;
       paths =
           record { rules = r; plant = p; input = i; output = o };
     }))) (sym is)
-    (refl, files, flags, ops ∙ λ j. sym er j ∷ sym ep j ∷ sym ei j ∷ sym eo j ∷ [])
+    (refl, formed, files, flags, ops ∙ λ j. sym er j ∷ sym ep j ∷ sym ei j ∷ sym eo j ∷ [])
 
 pub requests_check : (words rest : List Text) (program a b : Text) (met : Bool) (r p : Bor Text)
-    → words ≡ program ∷ codes "check" ∷ rest
+    → words ≡ program ∷ codes "check" ∷ rest → (AreTexts rest → is_check rest ≡ true)
     → operands (without_flag (codes "--all") rest) ≡ a ∷ b ∷ [] → met ≡ has_flag (codes "--all") rest
     → r.now ≡ a → p.now ≡ b → RequestsTask words (Check (record { all = met; texts = record { rules = r; plant = p } }))
-requests_check words rest program a b met r p is ops flags er ep =
+requests_check words rest program a b met r p is formed ops flags er ep =
     subst (λ (ws : List Text). RequestsTask ws (Check
     (record { all = met; texts = record { rules = r; plant = p } }))) (sym is)
-    (refl, flags, ops ∙ λ j. sym er j ∷ sym ep j ∷ [])
+    (refl, formed, flags, ops ∙ λ j. sym er j ∷ sym ep j ∷ [])
 
 pub requests_explain : (words rest : List Text) (program a : Text) (code : Bor Text)
-    → words ≡ program ∷ codes "explain" ∷ rest → operands rest ≡ a ∷ []
+    → words ≡ program ∷ codes "explain" ∷ rest → (AreTexts rest → is_explain rest ≡ true) → operands rest ≡ a ∷ []
     → code.now ≡ a → RequestsTask words (Explain code)
-requests_explain words rest program a code is ops e =
+requests_explain words rest program a code is formed ops e =
     subst (λ (ws : List Text). RequestsTask ws (Explain code)) (sym is)
-    (refl, ops ∙ λ j. sym e j ∷ [])
+    (refl, formed, ops ∙ λ j. sym e j ∷ [])
 
 pub refused : (app : App) (words : List Text) (e : Error) → app ≡ program_app
     → (is_simple_and_free app ≡ true → HasKind (fault_of app words) e)
@@ -1220,7 +1276,8 @@ task_requested words name f (Run task) got gives =
     let is = is_run_task words name (rows_of f) got gives.0 gives.1 in
     let rows = is.1 in
     requests_run words got.1 got.0 rows.0 rows.1 rows.2 rows.3 task.trace task.report task.paths.rules
-    task.paths.plant task.paths.input task.paths.output is.0 rows.4
+    task.paths.plant task.paths.input task.paths.output is.0
+    (λ texts. run_formed got.1 rows.0 rows.1 rows.2 rows.3 texts is.2 rows.4) rows.4
     (file_is f _ _ (rows_of f) refl rows.5.1.1.1.1.0 gives.3)
     (flag_is f (codes "trace") _ _ (rows_of f) refl rows.5.1.1.1.1.1.0 gives.2.0 gives.2.1)
     (same_value _ task.paths.rules.now rows.0 gives.4 (path_is f (codes "rules") rows.0 (rows_of f) refl rows.5.0))
@@ -1232,12 +1289,14 @@ task_requested words name f (Run task) got gives =
 task_requested words name f (Check task) got gives =
     let is = is_check_task words name (rows_of f) got gives.0 in
     let rows = is.1 in
-    requests_check words got.1 got.0 rows.0 rows.1 task.all task.texts.rules task.texts.plant is.0 rows.2
+    requests_check words got.1 got.0 rows.0 rows.1 task.all task.texts.rules task.texts.plant is.0
+    (λ texts. check_formed got.1 rows.0 rows.1 texts is.2 rows.2) rows.2
     (flag_is f (codes "all") _ _ (rows_of f) refl rows.3.1.1.0 gives.1.0 gives.1.1)
     (same_value _ task.texts.rules.now rows.0 gives.2 (path_is f (codes "rules") rows.0 (rows_of f) refl rows.3.0))
     (same_value _ task.texts.plant.now rows.1 gives.3 (path_is f (codes "plant") rows.1 (rows_of f) refl rows.3.1.0))
 task_requested words name f (Explain code) got gives =
     let is = is_explain_task words name (rows_of f) got gives.0 in
     let rows = is.1 in
-    requests_explain words got.1 got.0 rows.0 code is.0 rows.1
+    requests_explain words got.1 got.0 rows.0 code is.0
+    (λ texts. code_formed got.1 rows.0 texts is.2 rows.1) rows.1
     (same_value _ code.now rows.0 gives.1 (value_is f (codes "code") rows.0 _ rows.2 refl))

@@ -4,7 +4,7 @@ use Rattle.std.specs.Prelude.{◌≡◌, ◌==◌, ◌&&◌, ◌||◌, ℕ, Bool
 use Rattle.std.specs.Prelude.{Option, Some, None, codes, drop, if◌then◌else◌, false, option_map, slice_get}
 use Rattle.std.specs.Borrow.{Bor}
 use Rattle.std.specs.Option.{option_map_or}
-use Rattle.std.specs.Str.{bytes_eq}
+use Rattle.std.specs.Str.{IsUtf8, bytes_eq}
 use Rattle.clap.specs.Lexer.{long_of}
 use Rattle.clap.specs.Words.{Text}
 use Rattle.command_line.specs.declared.task.Task.{Task}
@@ -66,20 +66,6 @@ path_texts p = p.rules.now ∷ p.plant.now ∷ p.input.now ∷ p.output.now ∷ 
 abbrev pub name_of_file : Option (Bor Text) → Option Text
 name_of_file file = option_map (λ f. f.now) file
 
--- the words request this task: they are the program's name and either `run`, the report's file, the flag
--- of the trace and four paths, or `check`, the flag of all faults and two paths, or `explain` and a code
-abbrev pub RequestsTask : List Text → Task → Type 0
-RequestsTask (program ∷ name ∷ rest) (Run task) =
-    (name ≡ codes "run") × (name_of_file task.report ≡ report_of rest)
-    × (task.trace ≡ has_flag (codes "--trace") (without_report rest))
-    × (operands (without_flag (codes "--trace") (without_report rest)) ≡ path_texts task.paths)
-RequestsTask (program ∷ name ∷ rest) (Check task) =
-    (name ≡ codes "check") × (task.all ≡ has_flag (codes "--all") rest)
-    × (operands (without_flag (codes "--all") rest) ≡ task.texts.rules.now ∷ task.texts.plant.now ∷ [])
-RequestsTask (program ∷ name ∷ rest) (Explain code) =
-    (name ≡ codes "explain") × (operands rest ≡ code.now ∷ [])
-RequestsTask _ _ = ⊥
-
 -- the word is an operand anywhere: it is `-`, or doesn't begin with a hyphen
 abbrev pub is_plain_word : Text → Bool
 is_plain_word (c ∷ x ∷ rest) = not (c == 45)
@@ -118,6 +104,26 @@ is_check rest = are_operands 2 (without_flag (codes "--all") rest)
 -- a code
 abbrev pub is_explain : List Text → Bool
 is_explain rest = are_operands 1 rest
+
+-- each word is the UTF-8 of a text, as each word of the program is
+abbrev pub AreTexts : List Text → Type 0
+AreTexts [] = Unit {0}
+AreTexts (word ∷ rest) = IsUtf8 word × AreTexts rest
+
+-- the words request this task: they are the program's name and either `run`, the report's file, the flag
+-- of the trace and four paths, or `check`, the flag of all faults and two paths, or `explain` and a code;
+-- no other word is among them, so none that begins with a hyphen is taken for a path before a `--`
+abbrev pub RequestsTask : List Text → Task → Type 0
+RequestsTask (program ∷ name ∷ rest) (Run task) =
+    (name ≡ codes "run") × (AreTexts rest → is_run rest ≡ true) × (name_of_file task.report ≡ report_of rest)
+    × (task.trace ≡ has_flag (codes "--trace") (without_report rest))
+    × (operands (without_flag (codes "--trace") (without_report rest)) ≡ path_texts task.paths)
+RequestsTask (program ∷ name ∷ rest) (Check task) =
+    (name ≡ codes "check") × (AreTexts rest → is_check rest ≡ true) × (task.all ≡ has_flag (codes "--all") rest)
+    × (operands (without_flag (codes "--all") rest) ≡ task.texts.rules.now ∷ task.texts.plant.now ∷ [])
+RequestsTask (program ∷ name ∷ rest) (Explain code) =
+    (name ≡ codes "explain") × (AreTexts rest → is_explain rest ≡ true) × (operands rest ≡ code.now ∷ [])
+RequestsTask _ _ = ⊥
 
 -- the words are a task
 abbrev pub is_well_formed : List Text → Bool
