@@ -1,11 +1,13 @@
-//! Tests of the crates below the engine, each alone: lexer and parser, box files, captures,
-//! headers, interval and rule tables, ports, NAT mappings, and rewriting.
+//! Tests of the crates below the engine, each alone: lexer and parser, box files, compiled rules,
+//! captures, headers, interval and rule tables, ports, NAT mappings, and rewriting.
 #![tactic(auto)]
 
 #[cfg(test)]
 mod box_files;
 #[cfg(test)]
 mod captures;
+#[cfg(test)]
+mod compiled;
 #[cfg(test)]
 mod headers;
 #[cfg(test)]
@@ -26,3 +28,5 @@ mod rulesets;
 mod seek_tables;
 #[cfg(test)]
 mod support;
+#[cfg(test)]
+mod trees;

@@ -1,10 +1,11 @@
 //! Diagnostics of faults. Each text of `data/faults` but a few has a fault after some valid lines;
-//! `lines.txt` has what `--explain` and `--all` print for it, below a line `== NAME`.
+//! `lines.txt` has what `--explain` and `--all` print for it, or `check` where it is accepted, below a
+//! line `== NAME`.
 //!
 //! Rulesets are judged on the box `box.txt`, box files with the ruleset `whole.nft`; of a capture
 //! the fault's position is printed.
 use anyhow::Result;
-use engine::judge;
+use engine::{Counts, judge};
 use fault_search::{SourcePaths, Sources, all_faults, capture_location, explained};
 use std::alloc::{AllocError, Global};
 use std::fs;
@@ -84,12 +85,23 @@ fn path(alloc: Global, name: &str) -> Result<String, AllocError> {
 
 /// The diagnostics of a ruleset on a box.
 fn diagnostics_of_texts(alloc: Global, sources: Sources<'_>) -> Result<String, AllocError> {
-    let Err(fault) = judge(alloc, sources.rules, sources.plant) else {
-        return String::from_str(alloc, "accepted");
+    let fault = match judge(alloc, sources.rules, sources.plant) {
+        Ok(counts) => return accepted(alloc, counts),
+        Err(fault) => fault,
     };
     let lines = explained(alloc, fault, sources)?;
     let faults = all_faults(alloc, sources)?;
     format!(in alloc; "nftrun: {fault}\n{}\n{}", lines.as_str(), faults.as_str())
+}
+
+/// What is counted in an accepted ruleset.
+fn accepted(alloc: Global, counts: Counts) -> Result<String, AllocError> {
+    let Counts {
+        tables,
+        chains,
+        rules,
+    } = counts;
+    format!(in alloc; "accepted tables {tables} chains {chains} rules {rules}")
 }
 
 /// The position at which a capture is refused.

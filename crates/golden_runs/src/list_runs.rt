@@ -1,12 +1,12 @@
 //! Runs with the plain list tracker. They process each record as `engine::run` does, which has the
 //! aged tracker.
-use crate::rows::{Row, Written};
+use crate::rows::{Input, Row, Written};
 use anyhow::Result;
 use box_file::Plant;
 use conntrack::ListTracker;
 use nft_parser::parse;
 use nft_tree::Ruleset;
-use pcap_io::{Capture, CaptureError, CaptureFault, Counted, Failing, Record, Sink, Slow};
+use pcap_io::{Capture, CaptureError, CaptureFault, Counted, Record, Sink};
 use report::Report;
 use rule_check::check;
 use std::alloc::Global;
@@ -94,17 +94,17 @@ impl ListRun {
         Ok(None)
     }
 
-    /// Steps the capture's records, read as the row says.
-    fn run(&mut self, alloc: Global, row: &Row<'_>, capture: &[u8]) -> Result<()> {
-        let mut reader = Counted::new(Failing::new(Slow::new(capture, row.pace), row.reads));
+    /// Steps the capture's records.
+    fn run(&mut self, alloc: Global, input: Input<'_>) -> Result<()> {
+        let mut reader = input.reader();
         let mut records = Capture::open(alloc, &mut reader)?;
         let stop = self.play(&mut records, &mut reader)?;
         self.finish(stop)
     }
 
     /// The outputs of the whole run.
-    fn written(mut self, alloc: Global, row: &Row<'_>, capture: &[u8]) -> Result<Written> {
-        self.run(alloc, row, capture)?;
+    fn written(mut self, alloc: Global, input: Input<'_>) -> Result<Written> {
+        self.run(alloc, input)?;
         Ok(self.outputs.written())
     }
 
@@ -147,9 +147,9 @@ pub fn run_listed(
     row: &Row<'_>,
     rules: &[u8],
     plant: &[u8],
-    capture: &[u8],
+    input: Input<'_>,
 ) -> Result<Written> {
     let engine = engine_of(alloc, hasher, rules, plant)?;
     let listed = ListRun::new(alloc, engine, row.trace)?;
-    listed.written(alloc, row, capture)
+    listed.written(alloc, input)
 }

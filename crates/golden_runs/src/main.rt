@@ -19,11 +19,15 @@
 //!   (`records` and `passed` are by default the numbers of lines `in` and `out`);
 //! * `status ..` if the run ends with another status than `done`; `broken ..` if there are no
 //!   totals then, and `refused ..` if nothing at all is written;
-//! * `pace NUMBER`, the most bytes of a call; `slowly`, if 1, 2, 3, 5 and 7 must give the same;
-//!   `reads NUMBER`, the calls of the reader before one fails.
+//! * `pace NUMBER`, the most bytes of a call, and `reads NUMBER`, the calls of the reader before one
+//!   fails.
 //!
-//! Each row that isn't refused before its first record is run once more with the plain list tracker
-//! (`list_runs`), and must write the same bytes.
+//! Each line but `in`, `out`, `nft` and bytes stands once in a row. One that can't be read is printed:
+//! those of `unreadable.txt` have to be.
+//!
+//! Each row is run again with readers of 1, 2, 3 and 7 bytes a call and writers of 1 and 5. If it isn't
+//! refused before its first record it is run once more with the plain list tracker (`list_runs`). All
+//! runs must write the same bytes.
 //!
 //! `again NAME` starts a row with the records of the one before and the same output, `anew NAME`
 //! one with those records and no output. `#` starts a comment.
@@ -48,7 +52,7 @@ use std::{fs, str};
 const OUTPUT: &str = "longer.pcap";
 
 /// The files of rows.
-static FILES: [&str; 10] = [
+static FILES: [&str; 11] = [
     "connections.rows",
     "limits.rows",
     "translation.rows",
@@ -59,6 +63,7 @@ static FILES: [&str; 10] = [
     "reports.rows",
     "rules.rows",
     "histories.rows",
+    "unreadable.txt",
 ];
 
 /// The expected diagnostics.
@@ -142,12 +147,17 @@ impl<'t> RowReader<'t> {
         Ok(())
     }
 
-    /// Takes a line of the current row.
+    /// Takes a line of the current row, or a comment.
     fn take_line(&mut self, rt: &HostRuntime, line: &'t str) -> Result<()> {
-        if let Some(open) = &mut self.open {
-            if !line.starts_with('#') && !open.take(rt.alloc(), line)? {
-                println!(rt; "can't be read: {line}")?;
-            }
+        if line.starts_with('#') {
+            return Ok(());
+        }
+        let is_read = match &mut self.open {
+            Some(open) => open.take(rt.alloc(), line)?,
+            None => line.is_empty(),
+        };
+        if !is_read {
+            println!(rt; "can't be read: {line}")?;
         }
         Ok(())
     }
@@ -178,17 +188,15 @@ fn try_row(rt: &HostRuntime, row: &Row<'_>) -> Result<()> {
     Ok(())
 }
 
-/// The most bytes of a call in a slow run.
-static PACES: [usize; 5] = [1, 2, 3, 5, 7];
+/// The most bytes of a call in each slow run: of the reader, and of a writer. Not all pairs, which
+/// would double the time.
+static PACES: [(usize, usize); 4] = [(1, 1), (2, 5), (3, 1), (7, 5)];
 
-/// Runs a row with these rules, at each of its paces.
+/// Runs a row with these rules, on both trackers and at each pace.
 fn try_rules(rt: &HostRuntime, row: &Row<'_>, rules: &[u8], plant: &[u8]) -> Result<()> {
     let capture = row.capture(rt.alloc())?;
-    run_on_both_trackers(rt, row, rules, plant, &capture)?;
-    if row.slowly {
-        try_slowly(rt, row, rules, plant, &capture)?;
-    }
-    Ok(())
+    let whole = run_on_both_trackers(rt, row, rules, plant, &capture)?;
+    try_slowly(rt, row, rules, plant, &capture, &whole)
 }
 
 /// Runs a row with these rules, with both trackers unless it is refused.
@@ -198,18 +206,19 @@ fn run_on_both_trackers(
     rules: &[u8],
     plant: &[u8],
     capture: &[u8],
-) -> Result<()> {
+) -> Result<RunResult> {
     // New keys for each row: no result depends on them.
     let hasher = RandomState::new(rt)?;
-    let given = run_over(rt.alloc(), hasher, row, rules, plant, capture, row.pace);
+    let input = row.input(capture);
+    let given = run_over(rt.alloc(), hasher, row, rules, plant, input, row.pace);
     compare(rt, row, &given)?;
     if !row.is_refused() {
-        let written = run_listed(rt.alloc(), hasher, row, rules, plant, capture)?;
+        let written = run_listed(rt.alloc(), hasher, row, rules, plant, input)?;
         if written != given.written {
             println!(rt; "{}: the list tracker gives another output", row.name)?;
         }
     }
-    Ok(())
+    Ok(given)
 }
 
 /// Runs a row with these rules at each pace.
@@ -219,13 +228,26 @@ fn try_slowly(
     rules: &[u8],
     plant: &[u8],
     capture: &[u8],
+    whole: &RunResult,
 ) -> Result<()> {
-    for &most in &PACES {
+    for &(reader, writer) in &PACES {
         let hasher = RandomState::new(rt)?;
-        let given = run_over(rt.alloc(), hasher, row, rules, plant, capture, most);
-        compare(rt, row, &given)?;
+        let input = row.slow_input(capture, reader);
+        let given = run_over(rt.alloc(), hasher, row, rules, plant, input, writer);
+        if !is_same(rt, &given, whole)? {
+            println!(rt;
+                "{}: another result with {reader} bytes a read and {writer} a write",
+                row.name
+            )?;
+        }
     }
     Ok(())
+}
+
+/// Whether two runs have the same status and outputs.
+fn is_same(rt: &HostRuntime, one: &RunResult, other: &RunResult) -> Result<bool> {
+    let status = one.status.to_string(rt.alloc())?;
+    Ok(status == other.status.to_string(rt.alloc())? && one.written == other.written)
 }
 
 /// Prints the differences of a run from its row.

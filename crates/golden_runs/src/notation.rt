@@ -31,9 +31,13 @@ pub fn output_packet(words: &mut SplitWhitespace<'_>) -> Option<OutputPacket> {
         return Some(output_packet);
     };
     output_packet.endpoints = Some(endpoints(word, words)?);
-    if let Some("about") = words.next() {
-        let word = words.next()?;
-        output_packet.about = Some(endpoints(word, words)?);
+    match words.next() {
+        Some("about") => {
+            let word = words.next()?;
+            output_packet.about = Some(endpoints(word, words)?);
+        }
+        Some(_) => return None,
+        None => {}
     }
     Some(output_packet)
 }

@@ -57,11 +57,10 @@ pub struct Row<'t> {
     pub rulesets: Vec<&'t str>,
     /// Whether the run has a trace.
     pub trace: bool,
-    /// The most bytes of a call, and whether fewer must give the same.
+    /// The most bytes of a call.
     pub pace: usize,
-    pub slowly: bool,
     /// The calls of the reader before one fails.
-    pub reads: usize,
+    reads: usize,
     /// The expected status.
     pub status: &'t str,
     ending: Ending,
@@ -76,8 +75,27 @@ pub struct Row<'t> {
     leaving: Vec<Vec<u8>>,
     /// The lines of the report before the totals.
     lines: String,
-    /// Lines of totals that aren't 0, and of `records` and `passed` where they aren't the default.
-    totals: Vec<&'t str>,
+    /// Totals that aren't 0, and `records` and `passed` where they aren't the default.
+    totals: Vec<(&'t str, &'t str)>,
+    /// The settings and totals given so far.
+    given: Vec<&'t str>,
+}
+
+/// The capture of a run, and how it is read.
+#[derive(Clone, Copy)]
+pub struct Input<'c> {
+    capture: &'c [u8],
+    /// The most bytes of a call.
+    most: usize,
+    /// The calls before one fails.
+    reads: usize,
+}
+
+impl<'c> Input<'c> {
+    /// A reader of the capture.
+    pub fn reader(self) -> Counted<Failing<Slow<&'c [u8]>>> {
+        Counted::new(Failing::new(Slow::new(self.capture, self.most), self.reads))
+    }
 }
 
 /// The outputs of a run.
@@ -103,7 +121,6 @@ impl<'t> Row<'t> {
             rulesets: Vec::new(alloc),
             trace: false,
             pace: usize::MAX,
-            slowly: false,
             reads: usize::MAX,
             status: "done",
             ending: Ending::Totals,
@@ -115,6 +132,7 @@ impl<'t> Row<'t> {
             leaving: Vec::new(alloc),
             lines: String::new(alloc),
             totals: Vec::new(alloc),
+            given: Vec::new(alloc),
         }
     }
 
@@ -125,12 +143,12 @@ impl<'t> Row<'t> {
         self.rulesets = Vec::new(alloc);
         self.trace = false;
         self.pace = usize::MAX;
-        self.slowly = false;
         self.reads = usize::MAX;
         self.status = "done";
         self.ending = Ending::Totals;
         self.lines = String::new(alloc);
         self.totals = Vec::new(alloc);
+        self.given = Vec::new(alloc);
     }
 
     /// Starts another row with the same records and no output.
@@ -156,18 +174,21 @@ impl<'t> Row<'t> {
 
     /// Takes a record.
     fn take_input(&mut self, mut words: SplitWhitespace<'_>) -> Result<bool, AllocError> {
-        match input_record(&mut words) {
-            Some(one) => self.input_record.push(one)?,
-            None => return Ok(false),
-        }
+        let (Some(one), None) = (input_record(&mut words), words.next()) else {
+            return Ok(false);
+        };
+        self.input_record.push(one)?;
         Ok(true)
     }
 
-    /// Takes a forwarded packet.
+    /// Takes a forwarded packet: one of the records before it.
     fn take_output(&mut self, mut words: SplitWhitespace<'_>) -> Result<bool, AllocError> {
-        match output_packet(&mut words) {
-            Some(one) => self.output_packet.push(one)?,
-            None => return Ok(false),
+        let (Some(one), None) = (output_packet(&mut words), words.next()) else {
+            return Ok(false);
+        };
+        match self.input_record.get(one.index) {
+            Some(record) if record.packet.is_some() => self.output_packet.push(one)?,
+            _ => return Ok(false),
         }
         Ok(true)
     }
@@ -179,33 +200,75 @@ impl<'t> Row<'t> {
         Ok(true)
     }
 
-    /// Takes a setting of the run, its status, or a total.
+    /// Takes a setting of the run, its status, or a total; `false` if it is none of them, or given
+    /// twice.
     fn take_setting(
         &mut self,
-        word: &str,
+        word: &'t str,
         line: &'t str,
-        mut words: SplitWhitespace<'t>,
+        words: SplitWhitespace<'t>,
     ) -> Result<bool, AllocError> {
         match word {
-            "rules" => self.rules = words.next(),
             "nft" => self.rulesets.push(rest(line, "nft "))?,
-            "box" => self.plant = words.next().unwrap_or(""),
-            "trace" => self.trace = true,
-            "slowly" => self.slowly = true,
-            "pace" => self.pace = number(&mut words),
-            "reads" => self.reads = number(&mut words),
-            "status" => self.end(rest(line, "status "), Ending::Totals),
-            "broken" => self.end(rest(line, "broken "), Ending::Nothing),
-            "refused" => self.end(rest(line, "refused "), Ending::Refused),
-            _ => self.totals.push(line)?,
+            "rules" | "box" | "trace" | "pace" | "reads" => {
+                return Ok(self.is_first(word)? && self.set(word, words));
+            }
+            "status" => return self.end(rest(line, "status "), Ending::Totals),
+            "broken" => return self.end(rest(line, "broken "), Ending::Nothing),
+            "refused" => return self.end(rest(line, "refused "), Ending::Refused),
+            _ => return self.take_total(line),
         }
         Ok(true)
     }
 
-    /// Sets the status and the ending.
-    fn end(&mut self, status: &'t str, ending: Ending) {
-        self.status = status;
-        self.ending = ending;
+    /// Whether the row has no such setting or total yet; from now on it has.
+    fn is_first(&mut self, name: &'t str) -> Result<bool, AllocError> {
+        for given in &self.given {
+            if *given == name {
+                return Ok(false);
+            }
+        }
+        self.given.push(name)?;
+        Ok(true)
+    }
+
+    /// Sets what the first word names; `false` if the words after it can't be read.
+    fn set(&mut self, word: &str, mut words: SplitWhitespace<'t>) -> bool {
+        let value = words.next();
+        if words.next().is_some() {
+            return false;
+        }
+        match (word, value) {
+            ("trace", None) => self.trace = true,
+            ("rules", Some(_)) => self.rules = value,
+            ("box", Some(file)) => self.plant = file,
+            ("pace", Some(number)) => return set_number(&mut self.pace, number),
+            ("reads", Some(number)) => return set_number(&mut self.reads, number),
+            _ => return false,
+        }
+        true
+    }
+
+    /// Takes a total: its name, a blank and a number.
+    fn take_total(&mut self, line: &'t str) -> Result<bool, AllocError> {
+        let Some((name, number)) = line.rsplit_once(' ') else {
+            return Ok(false);
+        };
+        if !is_total(name) || number.parse::<u64>().is_err() || !self.is_first(name)? {
+            return Ok(false);
+        }
+        self.totals.push((name, number))?;
+        Ok(true)
+    }
+
+    /// Sets the status and the ending; `false` if the row has them already.
+    fn end(&mut self, status: &'t str, ending: Ending) -> Result<bool, AllocError> {
+        let is_first = self.is_first("status")?;
+        if is_first {
+            self.status = status;
+            self.ending = ending;
+        }
+        Ok(is_first)
     }
 
     /// Takes a line of a word and bytes; `false` if it can't be read.
@@ -215,6 +278,9 @@ impl<'t> Row<'t> {
             Ok(bytes) => bytes,
             Err(_) => return Ok(false),
         };
+        if word == "header" && !self.is_first("header")? {
+            return Ok(false);
+        }
         match word {
             "header" => self.header = Some(bytes),
             "captured" => self.captured.extend_from_slice(&bytes)?,
@@ -247,6 +313,33 @@ impl<'t> Row<'t> {
         let mut all = capture(alloc, header, &self.input_record)?;
         all.extend_from_slice(&self.captured)?;
         Ok(all)
+    }
+
+    /// The capture, read as the row says.
+    pub fn input<'c>(&self, capture: &'c [u8]) -> Input<'c> {
+        Input {
+            capture,
+            most: self.pace,
+            reads: self.reads,
+        }
+    }
+
+    /// The capture, read with at most this many bytes a call. The read that fails comes after as many
+    /// bytes as in `input`.
+    pub fn slow_input<'c>(&self, capture: &'c [u8], most: usize) -> Input<'c> {
+        if self.reads == usize::MAX {
+            return Input {
+                capture,
+                most,
+                reads: usize::MAX,
+            };
+        }
+        let length = self.reads.saturating_mul(self.pace).min(capture.len());
+        Input {
+            capture: &capture[..length],
+            most,
+            reads: length.div_ceil(most.max(1)),
+        }
     }
 
     /// The expected output capture.
@@ -299,20 +392,33 @@ impl<'t> Row<'t> {
 
     /// The total of this name, if the row has it.
     fn total(&self, name: &str) -> Option<&str> {
-        for line in &self.totals {
-            if let Some(number) = line.strip_prefix(name) {
-                return Some(number.trim());
+        for (given, number) in &self.totals {
+            if *given == name {
+                return Some(*number);
             }
         }
         None
     }
 }
 
-/// The next word as a number; 0 if it is none.
-fn number(words: &mut SplitWhitespace<'_>) -> usize {
-    match words.next() {
-        Some(word) => word.parse::<usize>().unwrap_or(0),
-        None => 0,
+/// Whether a report has a total of this name.
+fn is_total(name: &str) -> bool {
+    for total in &TOTALS {
+        if *total == name {
+            return true;
+        }
+    }
+    false
+}
+
+/// Sets the number that the word spells; `false` if it spells none.
+fn set_number(number: &mut usize, word: &str) -> bool {
+    match word.parse::<usize>() {
+        Ok(spelled) => {
+            *number = spelled;
+            true
+        }
+        Err(_) => false,
     }
 }
 
@@ -321,17 +427,18 @@ fn rest<'t>(line: &'t str, word: &str) -> &'t str {
     line.strip_prefix(word).unwrap_or("")
 }
 
-/// Runs the row with these rules on this box over the capture, with at most this many bytes a call.
+/// Runs the row with these rules on this box over the capture; a writer takes at most `most` bytes a
+/// call.
 pub fn run_over(
     alloc: Global,
     hasher: RandomState,
     row: &Row<'_>,
     rules: &[u8],
     plant: &[u8],
-    capture: &[u8],
+    input: Input<'_>,
     most: usize,
 ) -> RunResult {
-    let mut reader = Counted::new(Failing::new(Slow::new(capture, most), row.reads));
+    let mut reader = input.reader();
     let mut sent = Counted::new(Slow::new(Vec::new(alloc), most));
     let mut report = Counted::new(Slow::new(Vec::new(alloc), most));
     let answer = run(

@@ -1,4 +1,5 @@
 //! The connections that an engine lists, with the plain list tracker and with the aged one.
+use crate::device_failures::ROUTER;
 use crate::support::{BOX, bytes, hasher};
 use aged_tracker::AgedTracker;
 use box_file::Plant;
@@ -11,8 +12,11 @@ use std::process::Abort;
 use stepping::Engine;
 
 /// Packets that leave by `wan` are masqueraded, and their connections marked.
-const ROUTER: &[u8] =
+const MARKING: &[u8] =
     b"table ip nat { chain post { type nat hook postrouting priority srcnat; oifname \"wan\" ct mark set 7 masquerade } }";
+
+/// The rules of a router, and the mark of each of its connections.
+static ROUTERS: [(&[u8], u32); 2] = [(MARKING, 7), (ROUTER, 0)];
 
 /// SLL2 headers of packets from `lan` and from `wan`.
 const BY_LAN: &str = "0800000000000002000100060200000000010000";
@@ -134,10 +138,10 @@ static LISTED: [(&[Sent], &[Masqueraded]); 4] = [
     ),
 ];
 
-/// A masquerading router, before its first record.
-fn router<R: Abort + AllocGlobal, T: Tracker>(rt: &R) -> Engine<T> {
+/// A router with these rules, before its first record.
+fn router<R: Abort + AllocGlobal, T: Tracker>(rt: &R, rules: &[u8]) -> Engine<T> {
     let hasher = hasher().expect(rt, "keys");
-    let tree = parse(rt.alloc(), ROUTER).expect(rt, "rules");
+    let tree = parse(rt.alloc(), rules).expect(rt, "rules");
     let plant = Plant::read(rt.alloc(), BOX).expect(rt, "a box");
     let checked = check(rt.alloc(), tree, plant).expect(rt, "an accepted ruleset");
     Engine::new(rt.alloc(), hasher, checked).expect(rt, "memory")
@@ -169,9 +173,13 @@ fn listed_by<R: Abort + AllocGlobal, T: Tracker>(
     engine.connections(rt.alloc()).expect(rt, "memory")
 }
 
-/// The connections that a router lists after these records.
-fn listed_after<R: Abort + AllocGlobal, T: Tracker>(rt: &R, records: &[Sent]) -> Vec<Connection> {
-    let mut engine: Engine<T> = router(rt);
+/// The connections that a router with these rules lists after these records.
+fn listed_after<R: Abort + AllocGlobal, T: Tracker>(
+    rt: &R,
+    rules: &[u8],
+    records: &[Sent],
+) -> Vec<Connection> {
+    let mut engine: Engine<T> = router(rt, rules);
     listed_by(rt, &mut engine, records)
 }
 
@@ -183,14 +191,14 @@ fn between(kind: Kind, source: Endpoint, destination: Endpoint) -> Tuple {
     }
 }
 
-/// A masqueraded connection of an internal host.
-fn masqueraded(connection: Masqueraded) -> Connection {
+/// A masqueraded connection of an internal host, with this mark.
+fn masqueraded(connection: Masqueraded, mark: u32) -> Connection {
     let (kind, internal, peer, port, last) = connection;
     let external = Endpoint { port, ..EXTERNAL };
     Connection {
         original: between(kind, internal, peer),
         reply: between(kind, peer, external),
-        mark: 7,
+        mark,
         last,
         source: Some(Mapping {
             kind,
@@ -201,20 +209,26 @@ fn masqueraded(connection: Masqueraded) -> Connection {
     }
 }
 
-/// Whether exactly these are listed, in this order.
-fn are_listed(all: &[Connection], expected: &[Masqueraded]) -> bool {
+/// Whether exactly these are listed, in this order and with this mark.
+fn are_listed(all: &[Connection], expected: &[Masqueraded], mark: u32) -> bool {
     all.len() == expected.len()
         && all.iter().zip(expected).all(|(connection, &expected_one)| *connection
-            == masqueraded(expected_one))
+            == masqueraded(expected_one, mark))
+}
+
+/// A router with these rules lists the connections of each row.
+fn lists<R: Abort + AllocGlobal, T: Tracker>(rt: &R, rules: &[u8], mark: u32) {
+    for (records, expected) in &LISTED {
+        let all = listed_after::<_, T>(rt, rules, records);
+        assert!(rt; are_listed(&all, expected, mark));
+    }
 }
 
 #[test]
 fn live_connections_are_listed(rt: HostRuntime) {
-    for (records, expected) in &LISTED {
-        let in_a_list = listed_after::<_, ListTracker>(&rt, records);
-        assert!(&rt; are_listed(&in_a_list, expected));
-        let in_slots = listed_after::<_, AgedTracker>(&rt, records);
-        assert!(&rt; are_listed(&in_slots, expected));
+    for &(rules, mark) in &ROUTERS {
+        lists::<_, ListTracker>(&rt, rules, mark);
+        lists::<_, AgedTracker>(&rt, rules, mark);
     }
 }
 
@@ -243,10 +257,18 @@ fn are_hairpins_to_the_own_host(all: &[Connection]) -> bool {
         && all[2].dest == mapping
 }
 
+/// A router with these rules lists the hairpins.
+fn lists_hairpins<R: Abort + AllocGlobal, T: Tracker>(rt: &R, rules: &[u8]) {
+    let all = listed_after::<_, T>(rt, rules, &TO_OWN_EXTERNAL);
+    assert!(rt; are_hairpins_to_the_own_host(&all));
+}
+
 /// Hairpinning to the host's own external endpoint: replies have the first packet's tuple, and the
 /// connection doesn't clash with itself.
 #[test]
 fn a_hairpin_to_the_own_host_is_listed(rt: HostRuntime) {
-    let all = listed_after::<_, ListTracker>(&rt, &TO_OWN_EXTERNAL);
-    assert!(&rt; are_hairpins_to_the_own_host(&all));
+    for &(rules, _) in &ROUTERS {
+        lists_hairpins::<_, ListTracker>(&rt, rules);
+        lists_hairpins::<_, AgedTracker>(&rt, rules);
+    }
 }

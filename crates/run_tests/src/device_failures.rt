@@ -22,7 +22,7 @@ pub struct Row {
 }
 
 /// A masquerading firewall: hosts of `lan` share the box's address, and only replies come in.
-const ROUTER: &[u8] = b"table ip nat {
+pub const ROUTER: &[u8] = b"table ip nat {
  chain post { type nat hook postrouting priority srcnat; policy accept;
   oifname \"wan\" masquerade
  }

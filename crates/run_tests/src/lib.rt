@@ -13,4 +13,6 @@ mod program_calls;
 #[cfg(test)]
 mod retry;
 #[cfg(test)]
+mod statements;
+#[cfg(test)]
 mod support;

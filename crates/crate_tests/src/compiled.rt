@@ -1,0 +1,161 @@
+//! Rulesets as code: what a base chain costs, the numbers of elements and names, and how many rules
+//! are merged and dropped.
+use crate::support::{check_row, repeated};
+use box_file::Plant;
+use compiler::compile;
+use filter_vm::{Action, Code, CodeSize, Step};
+use nft_parser::parse;
+use nft_tree::{Hook, Operator, Selector};
+use rule_check::check;
+use std::alloc::Global;
+
+/// Two interfaces and a default route.
+const BOX: &[u8] = b"interface 2 lan 192.168.1.1/24
+interface 3 wan 203.0.113.1/24
+route 0.0.0.0/0 wan
+default lan
+";
+
+/// What the tests ask of code, so that one function alone holds it.
+#[derive(Clone, Copy)]
+struct CodeFacts {
+    forward_cost: Option<u32>,
+    element: Option<u128>,
+    names: Option<(u128, u128)>,
+    size: CodeSize,
+}
+
+/// What is asked of the ruleset's code on this box; `None` if it is refused.
+fn facts_of(alloc: Global, rules: &[u8]) -> Option<CodeFacts> {
+    let tree = parse(alloc, rules).ok()?;
+    let plant = Plant::read(alloc, BOX).ok()?;
+    let checked = check(alloc, tree, plant).ok()?;
+    let code = compile(alloc, &checked).ok()?;
+    Some(CodeFacts {
+        forward_cost: forward_cost(&code),
+        element: only_element(&code),
+        names: names_compared(&code),
+        size: code.size(),
+    })
+}
+
+/// The cost of the base chain on forward, if there is one of them.
+fn forward_cost(code: &Code) -> Option<u32> {
+    match code.starts(Hook::Forward) {
+        [start] => Some(start.cost),
+        _ => None,
+    }
+}
+
+/// The number of the only set, if it has one.
+fn only_element(code: &Code) -> Option<u128> {
+    let [table] = code.tables.as_slice() else {
+        return None;
+    };
+    let [set] = table.code().lookups.sets.as_slice() else {
+        return None;
+    };
+    match set.pieces() {
+        [(range, ())] if range.low() == range.high() => Some(range.low()),
+        _ => None,
+    }
+}
+
+/// The numbers that the first match compares input names with.
+fn names_compared(code: &Code) -> Option<(u128, u128)> {
+    let table = code.tables.first()?;
+    match table.code().steps.list().first()? {
+        Step::Statement(statement) => match &statement.action {
+            Action::Compare(Selector::InputName, Operator::Equal, range) => {
+                Some((range.low(), range.high()))
+            }
+            _ => None,
+        },
+        Step::EndOfChain => None,
+    }
+}
+
+/// A base chain of one rule: as many statements as a ruleset may have, and one more.
+#[test]
+fn a_chain_costs_one_more_than_its_statements(rt: HostRuntime) {
+    let head = b"table ip t { chain fwd { type filter hook forward priority 0; ";
+    let most = repeated(rt.alloc(), head, b"counter ", 65_535, b"} }").expect(&rt, "a text");
+    let facts = facts_of(rt.alloc(), &most).expect(&rt, "code");
+    assert!(rt; facts.forward_cost == Some(65_536));
+    let more = repeated(rt.alloc(), head, b"counter ", 65_536, b"} }").expect(&rt, "a text");
+    assert!(rt; facts_of(rt.alloc(), &more).is_none());
+}
+
+/// A concatenation's number has its parts' bits, the first part highest: here an address and a port.
+#[test]
+fn an_element_of_two_parts_is_one_number(rt: HostRuntime) {
+    let rules = b"table ip t { chain fwd { type filter hook forward priority 0;
+ip daddr . udp dport { 198.51.100.7 . 53 } accept } }";
+    let facts = facts_of(rt.alloc(), rules).expect(&rt, "code");
+    assert!(rt; facts.element == Some(0xc633_6407_0035));
+}
+
+/// A name, and the numbers that it stands for: its bytes, filled up to 16.
+static NAMES: [(&[u8], (u128, u128)); 3] = [
+    (
+        b"table ip t { chain fwd { type filter hook forward priority 0; iifname \"la*\" accept } }",
+        (
+            0x6c61_0000_0000_0000_0000_0000_0000_0000,
+            0x6c61_ffff_ffff_ffff_ffff_ffff_ffff_ffff,
+        ),
+    ),
+    (
+        b"table ip t { chain fwd { type filter hook forward priority 0; iifname \"la\" accept } }",
+        (
+            0x6c61_0000_0000_0000_0000_0000_0000_0000,
+            0x6c61_0000_0000_0000_0000_0000_0000_0000,
+        ),
+    ),
+    (
+        b"table ip t { chain fwd { type filter hook forward priority 0; iifname \"lan\" accept } }",
+        (
+            0x6c61_6e00_0000_0000_0000_0000_0000_0000,
+            0x6c61_6e00_0000_0000_0000_0000_0000_0000,
+        ),
+    ),
+];
+
+#[test]
+fn interface_names_are_numbers(rt: HostRuntime) {
+    for (row, &(rules, numbers)) in NAMES.iter().enumerate() {
+        let facts = facts_of(rt.alloc(), rules).expect(&rt, "code");
+        check_row(&rt, row, facts.names == Some(numbers));
+    }
+}
+
+/// A ruleset, and how many of its rules are merged and dropped.
+static SIZES: [(&[u8], usize, usize); 3] = [
+    (
+        b"table ip t { chain fwd { type filter hook forward priority 0;
+ip saddr 10.0.0.0/8 accept; ip saddr 10.1.0.0/16 drop; ip saddr 11.0.0.0/8 drop } }",
+        2,
+        1,
+    ),
+    (
+        b"table ip t { chain fwd { type filter hook forward priority 0;
+ip saddr 10.0.0.1 meta mark set 1; meta mark 1 drop } }",
+        0,
+        0,
+    ),
+    (
+        b"table ip t { chain fwd { type filter hook forward priority 0;
+accept; counter drop } }",
+        0,
+        1,
+    ),
+];
+
+/// The rules of each row run in `golden_runs` too.
+#[test]
+fn rules_are_merged_and_dropped(rt: HostRuntime) {
+    for (row, &(rules, merged, dropped)) in SIZES.iter().enumerate() {
+        let facts = facts_of(rt.alloc(), rules).expect(&rt, "code");
+        let size = facts.size;
+        check_row(&rt, row, size.merged == merged && size.dropped == dropped);
+    }
+}
