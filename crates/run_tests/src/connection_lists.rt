@@ -63,10 +63,10 @@ const REFUSED: &str =
 
 const BEFORE_THE_LIMIT: u64 = 299_999_999_999;
 
-const AT_THE_LIMIT: u64 = 300_000_000_000;
+pub const AT_THE_LIMIT: u64 = 300_000_000_000;
 
 /// 192.168.1.10:5000, .11:5000 and .11:6000, and the last one's external endpoint.
-const OTHER: Endpoint = Endpoint {
+pub const OTHER: Endpoint = Endpoint {
     address: 0xc0a8_010a,
     port: 5000,
 };
@@ -86,7 +86,7 @@ const EXTERNAL: Endpoint = Endpoint {
     port: 6000,
 };
 
-const NAME_SERVER: Endpoint = Endpoint {
+pub const NAME_SERVER: Endpoint = Endpoint {
     address: 0xc633_6407,
     port: 53,
 };
@@ -103,7 +103,7 @@ const WEB_SERVER: Endpoint = Endpoint {
 
 /// A connection from inside: its kind, its source and destination, its external port, and the time
 /// of its last packet.
-type Masqueraded = (Kind, Endpoint, Endpoint, u16, u64);
+pub type Masqueraded = (Kind, Endpoint, Endpoint, u16, u64);
 
 /// The connections listed after these records, in the order of their creation. Whatever it sends
 /// to, an internal endpoint has one external port; another host gets the next port of that parity,
@@ -139,7 +139,7 @@ static LISTED: [(&[Sent], &[Masqueraded]); 4] = [
 ];
 
 /// A router with these rules, before its first record.
-fn router<R: Abort + AllocGlobal, T: Tracker>(rt: &R, rules: &[u8]) -> Engine<T> {
+pub fn router<R: Abort + AllocGlobal, T: Tracker>(rt: &R, rules: &[u8]) -> Engine<T> {
     let hasher = hasher().expect(rt, "keys");
     let tree = parse(rt.alloc(), rules).expect(rt, "rules");
     let plant = Plant::read(rt.alloc(), BOX).expect(rt, "a box");
@@ -192,7 +192,7 @@ fn between(kind: Kind, source: Endpoint, destination: Endpoint) -> Tuple {
 }
 
 /// A masqueraded connection of an internal host, with this mark.
-fn masqueraded(connection: Masqueraded, mark: u32) -> Connection {
+pub fn masqueraded(connection: Masqueraded, mark: u32) -> Connection {
     let (kind, internal, peer, port, last) = connection;
     let external = Endpoint { port, ..EXTERNAL };
     Connection {

@@ -9,6 +9,8 @@ mod connection_lists;
 #[cfg(test)]
 mod device_failures;
 #[cfg(test)]
+mod large_tables;
+#[cfg(test)]
 mod program_calls;
 #[cfg(test)]
 mod retry;
