@@ -9,4 +9,4 @@ pub mod laws;
 mod sending;
 
 pub use change::{Change, PortsOrIdentifier};
-pub use sending::emit;
+pub use sending::{emit, rewrite_packet};

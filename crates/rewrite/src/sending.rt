@@ -38,7 +38,7 @@ pub fn emit(view: &View, change: &Change, out: &mut Vec<u8>) -> Result<(), Alloc
 
 /// Rewrites a packet, given its view: first the quoted datagram, if that can be translated, then
 /// the packet's own fields.
-fn rewrite_packet(packet: &mut [u8], view: &View, change: &Change)
+pub fn rewrite_packet(packet: &mut [u8], view: &View, change: &Change)
     requires { packet.old ≡ view.now.packet.now }
     ensures { packet.new ≡ rewritten packet.old change.now }
 {

@@ -1,15 +1,18 @@
 -- An engine represents the extended history: its connections and the history's are equal but for ids.
 use Rattle.std.proofs.Common.{◌≡◌, ℕ, ◌+◌, ◌≤◌, Bool, true, false, cond, List, [], ◌∷◌, length, map, Option, Some, None}
 use Rattle.std.proofs.Common.{refl, sym, ap, subst, ◌∙◌, arith}
-use Rattle.std.specs.Prelude.{nat_le, max, IsTrue, Result, Ok, Err, Vec, if◌then◌else◌}
-use Rattle.std.specs.declared.alloc.Global.{Global}
-use Rattle.std.specs.Option.{option_map}
+use Rattle.std.specs.Prelude.{nat_le, max, not, IsTrue, Result, Ok, Err, if◌then◌else◌}
+use Rattle.list_laws.specs.Options.{none_not_some}
+use Rattle.ip_headers.specs.declared.tuple.Mapping.{Mapping}
 use Rattle.ip_headers.specs.declared.tuple.Tuple.{Tuple}
+use Rattle.ip_headers.specs.Header.{transport_of}
+use Rattle.ip_headers.specs.Tuple.{inner_tuple_of, inverse, tuple_of}
 use Rattle.conntrack.specs.declared.belonging.Belonging.{Belonging}
 use Rattle.conntrack.specs.declared.belonging.Belonging.TheVariants.{NotFound, Ends, Found}
 use Rattle.conntrack.specs.declared.connection.ConnId.{ConnId}
 use Rattle.conntrack.specs.declared.connection.Flags.{Flags}
 use Rattle.conntrack.specs.declared.connection.ConntrackEntry.{ConntrackEntry}
+use Rattle.conntrack.specs.Phases.{no_flags}
 use Rattle.box_file.specs.declared.limits.Limits.{Limits}
 use Rattle.conntrack.specs.ConntrackEntry.{IsNoneLater, belongs_in, has_distinct_ids, is_live, is_taken, live_at}
 use Rattle.conntrack.specs.ConntrackEntry.{max_connections, without_id, belonging_without_id}
@@ -25,31 +28,23 @@ use Rattle.rule_meaning.specs.declared.event.Event.{Event}
 use Rattle.history.specs.declared.outcome.Cause.{Cause}
 use Rattle.history.specs.declared.outcome.Cause.TheVariants as causes
 use Rattle.history.specs.declared.outcome.Outcome.{Outcome}
-use Rattle.history.specs.declared.outcome.Outcome.TheVariants.{Passed, Local, Dropped}
 use Rattle.history.specs.Setup.{Setup, limits_of}
 use Rattle.history.specs.History.{Entry, live_in, moment_of, tracked_of}
 use Rattle.filter_vm.specs.Machine as machine
-use Rattle.stepping.specs.declared.process.RecordResult.{RecordResult}
-use Rattle.stepping.specs.declared.lookup_key.LookupKey.{LookupKey}
-use Rattle.ip_headers.specs.declared.tuple.Mapping.{Mapping}
-use Rattle.rule_meaning.specs.Hooks.{HookResult}
-use Rattle.translation.specs.declared.ct_info.NewConnection.{NewConnection}
 use Rattle.translation.specs.declared.ct_info.CtInfo.{CtInfo}
 use Rattle.translation.specs.declared.ct_info.CtInfo.TheVariants.{Tracked, Related, New, Invalid, Untracked}
 use Rattle.translation.specs.LiveMappings.{mappings_in}
-use Rattle.ip_headers.specs.Tuple.{inner_tuple_of, inverse}
-use Rattle.conntrack.specs.Phases.{no_flags}
-use Rattle.translation.specs.CtInfos.{error_ct_info, ct_facts_of, ct_info_by}
-use Rattle.stepping.specs.Carried.{ReceivedPacket, with_ct}
-use Rattle.stepping.specs.Lookups.{Lookup, error_belonging, look_up, mappings_beside, lookup_key_of, unless_notrack}
-use Rattle.stepping.specs.Lookups.{ct_info_of, ct_info_unless_notrack}
-use Rattle.stepping.specs.Paths.{PathResult, RunsHooks, dropped}
-use Rattle.stepping.specs.Confirmations.{PacketResult, begun_unless, confirmed_by, port_choice_in, refusal, reply_to}
-use Rattle.stepping.specs.Confirmations.{confirmed_result, confirmed_unless_dropped, unconfirmed}
-use Rattle.stepping.specs.Next.{ProcessesRecord, ProcessesAfterLookup, Next, record_lookup, at_moment, entry_of}
-use Rattle.stepping.specs.Next.{leaving, live_at_record, moment_after, tracked_by}
+use Rattle.translation.specs.CtInfos.{error_ct_info, ct_info_by}
+use Rattle.stepping.specs.declared.process.RecordResult.{RecordResult}
+use Rattle.stepping.specs.Carried.{ReceivedPacket, carried}
+use Rattle.stepping.specs.Lookups.{belonging_by_tuple, belonging_of, ct_info_by_tuple, error_belonging, flags_in}
+use Rattle.stepping.specs.Lookups.{looked_up_info, lookup_tuple_of, others_beside}
+use Rattle.stepping.specs.Paths.{PathState, StepResult, Continue, Drop, stops, goes_on, Hooks}
+use Rattle.stepping.specs.Confirmations.{confirmation_of, confirmed, refusal, reply_to, unless_refused}
+use Rattle.stepping.specs.Next.{HooksAndConfirm, Path, Next, arrival_of, entry_of, entry_without_packet, final_state}
+use Rattle.stepping.specs.Next.{live_at_record, moment_after, tracked_as, tuple_in, with_info}
 use Rattle.stepping.specs.Representing.{EngineState, Represents, ShownEntry, newest_of}
-use Rattle.stepping.specs.steps.Processing.{HasProcessedRecord, IsBeforeFirst, held_after, newest_in}
+use Rattle.stepping.specs.steps.Processing.{HasProcessed, IsBeforeFirst, held_after, held_by, newest_in}
 
 -- ---- what is known of connections
 
@@ -115,12 +110,24 @@ none_later-aged law limits latest now held aged is le h =
 pub none_later-after : ((held : List ConntrackEntry) (belonging : Belonging) (id : ConnId) (p : Arrival)
     (confirmation : Confirmation) → IsNoneLater p.moment held
     → IsNoneLater p.moment (after_packet belonging id p confirmation held))
-    → (now : ℕ) (id : ConnId) (lookup : Option Lookup) (confirmation : Option Confirmation) (held : List ConntrackEntry)
-    → IsNoneLater now held → IsNoneLater now (held_after now id lookup confirmation held)
-none_later-after law now id None confirmation held h = h
-none_later-after law now id (Some l) None held h = h
-none_later-after law now id (Some l) (Some confirmation) held h =
-    law held l.belonging id (at_moment now l.lookup_key) confirmation h
+    → (now : ℕ) (id : ConnId) (p : List ℕ) (r : StepResult) (held : List ConntrackEntry) → IsNoneLater now held
+    → IsNoneLater now (held_after now id p r held)
+none_later-after law now id p r held h = by_key (tuple_in p r)
+  where
+    by_key : (key : Option Tuple) → IsNoneLater now (held_by now id p key (confirmation_of r) held)
+    by_key None = h
+    by_key (Some t) = law held (belonging_of held p) id (arrival_of now p t) (confirmation_of r) h
+
+-- nor does a record
+pub none_later-processed : ((held : List ConntrackEntry) (belonging : Belonging) (id : ConnId) (p : Arrival)
+    (confirmation : Confirmation) → IsNoneLater p.moment held
+    → IsNoneLater p.moment (after_packet belonging id p confirmation held))
+    → (setup : Setup) (arrived : Result ReceivedPacket Cause) (now : ℕ) (held new : List ConntrackEntry)
+    (ended : RecordResult) (events : List Event) (packet : List ℕ)
+    → HasProcessed setup arrived now held new ended events packet → IsNoneLater now held → IsNoneLater now new
+none_later-processed law setup (Err cause) now held new ended events packet has h = rw has.0 h
+none_later-processed law setup (Ok a) now held new ended events packet has h =
+    rw has.follows.held (none_later-after law now has.follows.id a.packet has.r held h)
 
 -- ---- what doesn't depend on ids
 
@@ -144,88 +151,47 @@ begins_nameless NotFound p (Confirmed mark reply source dest) = refl
 begins_nameless (Ends id) p (Confirmed mark reply source dest) = refl
 begins_nameless (Found found) p (Confirmed mark reply source dest) = refl
 
--- ---- the connections held and those of the history, equal but for ids
-
 -- why a connection can't begin, by the number held and its reply tuple
 abbrev refused_of : ℕ → Bool → Option Cause
-refused_of number taken = if nat_le max_connections number then Some causes.Full else (if taken then Some causes.Clash
-    else None)
+refused_of number taken = if nat_le max_connections number then Some causes.Full
+    else (if taken then Some causes.Clash else None)
 
--- a new connection among these live mappings, by its refusal
-abbrev begun_by : Option Cause → List Mapping → NewConnection → PathResult → PacketResult
-begun_by None mappings new_connection path_result = record {
-  outcome = path_result.outcome;
-  events = path_result.events;
-  confirmation = Some (Confirmed path_result.mark (reply_to new_connection) new_connection.source new_connection.dest);
-  info = path_result.info;
-  port_choice = port_choice_in mappings new_connection.has_port_range new_connection.source;
-}
-begun_by (Some cause) mappings new_connection path_result = unconfirmed (dropped cause path_result.events)
+-- the step that drops a path's packet isn't the look-up
+continues_not : (cause : Cause) (s t : PathState) → Drop cause s ≡ Continue t → ⊥
+continues_not cause s t is = cc
 
-begun_is : (refused : Option Cause) (others : List ConntrackEntry) (new_connection : NewConnection)
-    (path_result : PathResult)
-    → begun_unless refused others new_connection path_result
-    ≡ begun_by refused (mappings_in others) new_connection path_result
-begun_is None others new_connection path_result = refl
-begun_is (Some cause) others new_connection path_result = refl
+-- ---- the connections held and those of the history, equal but for ids
 
-module _ (alike : AreAlike) where
-  refusal_same : (reply : Tuple) (held live : List ConntrackEntry) → map without_id held ≡ map without_id live
-      → refusal reply held ≡ refusal reply live
-  refusal_same reply held live same = ap (λ (n : ℕ). refused_of n (is_taken reply held)) (alike.number held live same)
+module _ (alike : AreAlike) (held live : List ConntrackEntry) (same : map without_id held ≡ map without_id live) where
+  refusal_same : (reply : Tuple) → refusal reply held ≡ refusal reply live
+  refusal_same reply = ap (λ (n : ℕ). refused_of n (is_taken reply held)) (alike.number held live same)
       ∙ ap (refused_of (length live)) (alike.taken held live reply same)
 
-  begun_beside : (new_connection : NewConnection) (held live : List ConntrackEntry) (path_result : PathResult)
-      → map without_id held ≡ map without_id live
-      → begun_unless (refusal (reply_to new_connection) held) held new_connection path_result
-      ≡ begun_unless (refusal (reply_to new_connection) live) live new_connection path_result
-  begun_beside new_connection held live path_result same =
-      begun_is (refusal (reply_to new_connection) held) held new_connection path_result
-      ∙ ap (λ (refused : Option Cause). begun_by refused (mappings_in held) new_connection path_result)
-      (refusal_same (reply_to new_connection) held live same)
-      ∙ ap (λ (mappings : List Mapping). begun_by (refusal (reply_to new_connection) live) mappings new_connection
-      path_result) (alike.mappings held live same)
-      ∙ sym (begun_is (refusal (reply_to new_connection) live) live new_connection path_result)
+  confirmed_same : (info : CtInfo) (s : PathState) → confirmed held info s ≡ confirmed live info s
+  confirmed_same (New d) s = ap (λ (refused : Option Cause). unless_refused refused s) (refusal_same (reply_to d))
+  confirmed_same (Tracked connection) s = refl
+  confirmed_same (Related connection) s = refl
+  confirmed_same Invalid s = refl
+  confirmed_same Untracked s = refl
 
-  counted_beside : (info : CtInfo) (held live : List ConntrackEntry) (path_result : PathResult)
-      → map without_id held ≡ map without_id live
-      → confirmed_by info held path_result ≡ confirmed_by info live path_result
-  counted_beside (Tracked of) held live path_result same = refl
-  counted_beside (New new_connection) held live path_result same =
-      begun_beside new_connection held live path_result same
-  counted_beside (Related of) held live path_result same = refl
-  counted_beside Invalid held live path_result same = refl
-  counted_beside Untracked held live path_result same = refl
+  hooks_same : (setup : Setup) (s : PathState) (r : StepResult) → HooksAndConfirm setup held s r
+      → HooksAndConfirm setup live s r
+  hooks_same setup s r (stops cause t hooks) = stops cause t (beside setup s (Drop cause t) hooks)
+    where
+      beside : (setup : Setup) (s : PathState) (r : StepResult) → Hooks setup (mappings_in held) s r
+          → Hooks setup (mappings_in live) s r
+      beside setup s r hooks = subst (λ (m : List Mapping). Hooks setup m s r) (alike.mappings held live same) hooks
+  hooks_same setup s r (goes_on t q hooks confirm) =
+      goes_on t q (subst (λ (m : List Mapping). Hooks setup m s (Continue t)) (alike.mappings held live same) hooks)
+      (confirm ∙ confirmed_same t.info t)
 
 module _ (alike : AreAlike) (held live : List ConntrackEntry) (same : map without_id held ≡ map without_id live)
-    (d : IsTrue (has_distinct_ids held)) (d' : IsTrue (has_distinct_ids live)) where
-  module _ (s : LookupKey) where
-    abbrev one : Lookup
-    one = look_up held s
-
-    abbrev other : Lookup
-    other = look_up live s
-
-    belongs_same : belonging_without_id one.belonging ≡ belonging_without_id other.belonging
-    belongs_same = alike.belonging held live s.tuple s.flags same
-
-    others_same : map without_id one.others ≡ map without_id other.others
-    others_same = alike.ended held live s.tuple s.flags same d d'
-
-    confirmed_unless_dropped_same : (outcome : Outcome) (path_result : PathResult)
-        → confirmed_unless_dropped outcome one.others path_result
-        ≡ confirmed_unless_dropped outcome other.others path_result
-    confirmed_unless_dropped_same (Dropped cause) path_result = refl
-    confirmed_unless_dropped_same (Passed interface) path_result =
-        counted_beside alike path_result.info one.others other.others path_result others_same
-    confirmed_unless_dropped_same Local path_result =
-        counted_beside alike path_result.info one.others other.others path_result others_same
-
-  abbrev in_held : Option LookupKey → Option Lookup
-  in_held lookup_key = option_map (look_up held) lookup_key
-
-  abbrev in_live : Option LookupKey → Option Lookup
-  in_live lookup_key = option_map (look_up live) lookup_key
+    (d : IsTrue (has_distinct_ids held)) (d' : IsTrue (has_distinct_ids live)) (p : List ℕ) where
+  -- what the packet belongs to
+  belongs_same : (key : Option Tuple) → belonging_without_id (belonging_by_tuple held (flags_in (transport_of p)) key)
+      ≡ belonging_without_id (belonging_by_tuple live (flags_in (transport_of p)) key)
+  belongs_same None = refl
+  belongs_same (Some t) = alike.belonging held live t (flags_in (transport_of p)) same
 
   -- its state
   error_same : (inner : Option Tuple) → error_ct_info (error_belonging held inner)
@@ -236,94 +202,54 @@ module _ (alike : AreAlike) (held live : List ConntrackEntry) (same : map withou
       ∙ ap error_ct_info (alike.belonging held live (inverse t) no_flags same)
       ∙ sym (error_alike (belongs_in live (inverse t) no_flags))
 
-  info_same : (p : List ℕ) (lookup_key : Option LookupKey)
-      → ct_info_of held p (in_held lookup_key) ≡ ct_info_of live p (in_live lookup_key)
-  info_same p None = error_same (inner_tuple_of p)
-  info_same p (Some s) =
-      first_alike s.tuple (one s).belonging ∙ ap (ct_info_by s.tuple) (belongs_same s)
-      ∙ sym (first_alike s.tuple (other s).belonging)
+  by_tuple_same : (key : Option Tuple) → ct_info_by_tuple held p key ≡ ct_info_by_tuple live p key
+  by_tuple_same None = error_same (inner_tuple_of p)
+  by_tuple_same (Some t) =
+      first_alike t (belonging_of held p) ∙ ap (ct_info_by t) (belongs_same (tuple_of p))
+      ∙ sym (first_alike t (belonging_of live p))
 
-  -- the mappings that are live then
-  beside_same : (lookup_key : Option LookupKey)
-      → mappings_beside held (in_held lookup_key) ≡ mappings_beside live (in_live lookup_key)
-  beside_same None = alike.mappings held live same
-  beside_same (Some s) = alike.mappings (one s).others (other s).others (others_same s)
+  info_same : (ct : CtFacts) → looked_up_info ct held p ≡ looked_up_info ct live p
+  info_same Notrack = refl
+  info_same ct = by_tuple_same (tuple_of p)
 
-  -- its result
-  confirmed_same : (lookup_key : Option LookupKey) (path_result : PathResult)
-      → confirmed_result (in_held lookup_key) path_result ≡ confirmed_result (in_live lookup_key) path_result
-  confirmed_same None path_result = refl
-  confirmed_same (Some s) path_result = confirmed_unless_dropped_same s path_result.outcome path_result
+  -- the other connections
+  others_same : (key : Option Tuple) → map without_id (after_end (belonging_by_tuple held (flags_in (transport_of p)) key) held)
+      ≡ map without_id (after_end (belonging_by_tuple live (flags_in (transport_of p)) key) live)
+  others_same None = same
+  others_same (Some t) = alike.ended held live t (flags_in (transport_of p)) same d d'
 
-  -- whether the packet begins a connection
-  began_same : (now : ℕ) (lookup_key : Option LookupKey) (confirmation : Option Confirmation)
-      → is_creation (tracked_by now (in_held lookup_key) confirmation).change
-      ≡ is_creation (tracked_by now (in_live lookup_key) confirmation).change
-  began_same now None confirmation = refl
-  began_same now (Some s) None = refl
-  began_same now (Some s) (Some confirmation) =
-      begins_nameless (one s).belonging (at_moment now s) confirmation
-      ∙ ap (λ (b : Belonging). is_creation (change_of_packet b (at_moment now s) confirmation)) (belongs_same s)
-      ∙ sym (begins_nameless (other s).belonging (at_moment now s) confirmation)
-
-  pub began_alike : (now : ℕ) (arrived : Result ReceivedPacket Cause) (confirmation : Option Confirmation)
-      → is_creation (tracked_by now (record_lookup held arrived) confirmation).change
-      ≡ is_creation (tracked_by now (record_lookup live arrived) confirmation).change
-  began_alike now (Ok a) confirmation = began_same now (lookup_key_of a.packet) confirmation
-  began_alike now (Err cause) confirmation = refl
-
-  -- a packet exempted by `notrack` isn't looked up in either list
-  info_known : (known : CtFacts) (p : List ℕ) (lookup_key : Option LookupKey)
-      → ct_info_unless_notrack known (ct_info_of held p (in_held lookup_key))
-      ≡ ct_info_unless_notrack known (ct_info_of live p (in_live lookup_key))
-  info_known Notrack p lookup_key = refl
-  info_known known p lookup_key = info_same p lookup_key
-
-  beside_known : (known : CtFacts) (lookup_key : Option LookupKey)
-      → mappings_beside held (unless_notrack known (in_held lookup_key))
-      ≡ mappings_beside live (unless_notrack known (in_live lookup_key))
-  beside_known Notrack lookup_key = alike.mappings held live same
-  beside_known known lookup_key = beside_same lookup_key
-
-  confirmed_known : (known : CtFacts) (lookup_key : Option LookupKey) (path_result : PathResult)
-      → confirmed_result (unless_notrack known (in_held lookup_key)) path_result
-      ≡ confirmed_result (unless_notrack known (in_live lookup_key)) path_result
-  confirmed_known Notrack lookup_key path_result = refl
-  confirmed_known known lookup_key path_result = confirmed_same lookup_key path_result
+  beside_same : (info : CtInfo) → map without_id (others_beside info held p) ≡ map without_id (others_beside info live p)
+  beside_same Untracked = same
+  beside_same info = others_same (tuple_of p)
 
   -- its path
-  runs_hooks_same : (setup : Setup) (mappings beside : List Mapping) (info after : CtInfo) (raw : HookResult)
-      (path_result : PathResult) → mappings ≡ beside → info ≡ after
-      → RunsHooks setup mappings info (with_ct (ct_facts_of info) raw.facts) raw.events path_result
-      → RunsHooks setup beside after (with_ct (ct_facts_of after) raw.facts) raw.events path_result
-  runs_hooks_same setup mappings beside info after raw path_result m w runs_hooks =
-      subst (λ (info : CtInfo). RunsHooks setup beside info (with_ct (ct_facts_of info) raw.facts) raw.events
-      path_result) w
-      (subst (λ (mappings : List Mapping).
-      RunsHooks setup mappings info (with_ct (ct_facts_of info) raw.facts) raw.events path_result) m runs_hooks)
+  pub path_same : (setup : Setup) (s : PathState) (r : StepResult) → Path setup held p s r → Path setup live p s r
+  path_same setup s r (stops cause t raw) = stops cause t raw
+  path_same setup s r (goes_on t q raw (stops cause u look)) = absurd (continues_not cause u _ look)
+  path_same setup s r (goes_on t q raw (goes_on u q' look after)) =
+      goes_on t q raw (goes_on u q'
+      (look ∙ ap (λ (info : CtInfo). Continue (with_info info t)) (info_same t.facts.ct))
+      (hooks_same alike (others_beside u.info held p) (others_beside u.info live p) (beside_same u.info) setup u q'
+      after))
 
-  -- its processing
-  pub processes_same : (setup : Setup) (arrived : Result ReceivedPacket Cause) (packet_result : PacketResult)
-      → ProcessesRecord setup held (record_lookup held arrived) arrived packet_result
-      → ProcessesRecord setup live (record_lookup live arrived) arrived packet_result
-  processes_same setup (Err cause) packet_result processes = processes
-  processes_same setup (Ok a) packet_result processes = record {
-    raw = processes.raw;
-    first = processes.first;
-    stopped = processes.stopped;
-    goes_on = λ on.
-        let known = processes.raw.facts.ct in
-        let lookup_key = lookup_key_of a.packet in
-        let before : ProcessesAfterLookup setup held (unless_notrack known (in_held lookup_key))
-        (ct_info_unless_notrack known (ct_info_of held a.packet (in_held lookup_key))) processes.raw packet_result =
-        processes.goes_on on in
-        record {
-          path_result = before.path_result;
-          runs_hooks = runs_hooks_same setup _ _ _ _ processes.raw before.path_result (beside_known known lookup_key)
-              (info_known known a.packet lookup_key) before.runs_hooks;
-          is = before.is ∙ confirmed_known known lookup_key before.path_result;
-        };
-  }
+  -- whether it begins a connection
+  pub began_same : (now : ℕ) (key : Option Tuple) (confirmation : Confirmation)
+      → is_creation (tracked_as now held p key confirmation).change
+      ≡ is_creation (tracked_as now live p key confirmation).change
+  began_same now None confirmation = refl
+  began_same now (Some t) confirmation =
+      begins_nameless (belonging_of held p) (arrival_of now p t) confirmation
+      ∙ ap (λ (b : Belonging). is_creation (change_of_packet b (arrival_of now p t) confirmation))
+      (belongs_same (tuple_of p))
+      ∙ sym (begins_nameless (belonging_of live p) (arrival_of now p t) confirmation)
+
+-- a packet's tuple in its entry is its own
+tuple_is : (info : CtInfo) (p : List ℕ) (t : Tuple) → lookup_tuple_of info p ≡ Some t → tuple_of p ≡ Some t
+tuple_is (Tracked connection) p t is = is
+tuple_is (Related connection) p t is = is
+tuple_is (New d) p t is = is
+tuple_is Invalid p t is = is
+tuple_is Untracked p t is = absurd (none_not_some None t refl is)
 
 -- the connections held after a packet are those of the extended history, but for ids
 module _ (limits : Limits) (alike : AreAlike) (told : IsTold limits) (now : ℕ) (id : ConnId)
@@ -333,41 +259,43 @@ module _ (limits : Limits) (alike : AreAlike) (told : IsTold limits) (now : ℕ)
     abbrev listed : List ConntrackEntry
     listed = live_list limits history now
 
-    abbrev Same : Option Lookup → Option Lookup → Option Confirmation → Type 0
-    Same one other confirmation =
-        map without_id (held_after now id one confirmation held)
-        ≡ map without_id (live_list limits (tracked_by now other confirmation ∷ history)
-        (tracked_by now other confirmation).moment)
+    pub none_same : map without_id held ≡ map without_id (live_list limits (entry_at now ∷ history) now)
+    none_same = same ∙ ap (map without_id) (sym (told.none history now))
 
-    held_after_confirm : (lookup_key : Option LookupKey) (confirmation : Option Confirmation)
-        → Same (option_map (look_up held) lookup_key) (option_map (look_up listed) lookup_key) confirmation
-    held_after_confirm None confirmation = same ∙ ap (map without_id) (sym (told.none history now))
-    held_after_confirm (Some s) None = same ∙ ap (map without_id) (sym (told.none history now))
-    held_after_confirm (Some s) (Some confirmation) =
-        alike.packet held listed id (record { 0 = length history }) (at_moment now s) confirmation same d
-        (told.distinct history now) ∙ ap (map without_id) (sym (told.packet history (at_moment now s) confirmation))
-
-    pub held_same : (arrived : Result ReceivedPacket Cause) (confirmation : Option Confirmation)
-        → Same (record_lookup held arrived) (record_lookup listed arrived) confirmation
-    held_same (Ok a) confirmation = held_after_confirm (lookup_key_of a.packet) confirmation
-    held_same (Err cause) confirmation = same ∙ ap (map without_id) (sym (told.none history now))
+    pub held_same : (p : List ℕ) (key : Option Tuple) (confirmation : Confirmation)
+        → ((t : Tuple) → key ≡ Some t → tuple_of p ≡ Some t)
+        → map without_id (held_by now id p key confirmation held)
+        ≡ map without_id (live_list limits (tracked_as now listed p key confirmation ∷ history)
+        (tracked_as now listed p key confirmation).moment)
+    held_same p None confirmation own = none_same
+    held_same p (Some t) confirmation own =
+        let a = arrival_of now p t in
+        let one : belonging_of held p ≡ belongs_in held t a.flags =
+        ap (belonging_by_tuple held a.flags) (own t refl) in
+        let other : belonging_of listed p ≡ belongs_in listed t a.flags =
+        ap (belonging_by_tuple listed a.flags) (own t refl) in
+        ap (λ (b : Belonging). map without_id (after_packet b id a confirmation held)) one
+        ∙ alike.packet held listed id (record { 0 = length history }) a confirmation same d (told.distinct history now)
+        ∙ ap (map without_id) (sym (told.packet history a confirmation))
+        ∙ ap (λ (b : Belonging). map without_id (live_list limits (updates.entry_of b a confirmation ∷ history) now))
+        (sym other)
 
 -- its entry has the time of the record
-moment_same : (now : ℕ) (lookup : Option Lookup) (confirmation : Option Confirmation)
-    → now ≡ (tracked_by now lookup confirmation).moment
-moment_same now None confirmation = refl
-moment_same now (Some l) None = refl
-moment_same now (Some l) (Some confirmation) = refl
+moment_same : (now : ℕ) (live : List ConntrackEntry) (p : List ℕ) (key : Option Tuple) (confirmation : Confirmation)
+    → now ≡ (tracked_as now live p key confirmation).moment
+moment_same now live p None confirmation = refl
+moment_same now live p (Some t) confirmation = refl
 
 -- ---- an engine
 
--- an engine that isn't ready needs no reservations
-pub never : IsTrue false → ⊥
-never ready = cc
+-- what is reserved is left where no connection began
+pub not_begun : (begun : Bool) → IsTrue (not begun) → begun ≡ false
+not_begun false ready = refl
+not_begun true ready = cc
 
 -- an engine's time is the history's
-pub latest_is : (ended : Option RecordResult) (latest : ℕ) (told : machine.EventsAndTicks) (packet : Vec ℕ Global)
-    (held : List ConntrackEntry) (history : List Entry) → IsBeforeFirst ended latest packet.items held
+pub latest_is : (ended : Option RecordResult) (latest : ℕ) (told : machine.EventsAndTicks) (packet : List ℕ)
+    (held : List ConntrackEntry) (history : List Entry) → IsBeforeFirst ended latest packet held
     → newest_in ended latest told packet ≡ newest_of history → latest ≡ moment_of history
 latest_is None latest told packet held [] port_choice is = port_choice.0
 latest_is None latest told packet held (e ∷ history) port_choice is = absurd (none_is_some _ is)
@@ -448,62 +376,73 @@ module _ (alike : AreAlike) (before after : EngineState) (told : IsTold (limits_
       ap (map without_id) is ∙ alike.live limits before.held (live_in before.setup history) now represents.held
       ∙ ap (map without_id) (sym (told.later (tracked_of history) (moment_of history) now rises))
 
+  abbrev Extends : ℕ → Type 0
+  Extends now = (e : Entry) × Next before.setup history r e × Represents after (e ∷ history)
+      × (ended.outcome ≡ e.outcome)
+
   -- an engine that represents a history represents, after a record at this time, the history with the record's entry
-  stands_at : map without_id held ≡ map without_id (live_at_record before.setup history r)
-      → IsTrue (has_distinct_ids held)
-      → HasProcessedRecord before.setup r (moment_after history r) held after.held ended events packet
+  represents_after : map without_id held ≡ map without_id (live_at_record before.setup history r)
+      → IsTrue (has_distinct_ids held) → (arrived : Result ReceivedPacket Cause) → arrived ≡ carried before.setup r
+      → HasProcessed before.setup arrived (moment_after history r) held after.held ended events packet
       → after.records ≡ before.records + 1
       → after.newest ≡ Some (told_at (moment_after history r) ended events packet)
-      → Represents before history
-      → (e : Entry) × Next before.setup history r e × Represents after (e ∷ history) × (ended.outcome ≡ e.outcome)
-  stands_at same d has more newest represents =
+      → Represents before history → Extends (moment_after history r)
+  represents_after same d (Err cause) is has more newest represents =
+      let now = moment_after history r in
+      let was = represents.records in
+      let e = entry_without_packet now cause in (
+        e,
+        record { entry = rw (← is) refl },
+        record {
+          records = omega arith;
+          newest = newest ∙ shown_is refl (ap (λ (x : RecordResult). x.length) has.1) has.2
+              (ap (λ (x : RecordResult). x.outcome) has.1) has.3 (ap (λ (x : RecordResult). x.begun) has.1);
+          held = ap (map without_id) has.0
+              ∙ none_same limits alike told now (record { 0 = 0 }) held (tracked_of history) same d
+              ∙ sym (ap (λ (setup : Setup). map without_id (live_in setup (e ∷ history))) same_setup);
+        },
+        ap (λ (x : RecordResult). x.outcome) has.1,
+      )
+  represents_after same d (Ok a) is has more newest represents =
       let now = moment_after history r in
       let live = live_at_record before.setup history r in
       let was = represents.records in
-      let follows = has.follows in
       let distinct = told.distinct (tracked_of history) now in
-      let lookup = record_lookup live has.arrived in
-      let e = entry_of now lookup has.arrived has.packet_result in (
+      let key = tuple_in a.packet has.r in
+      let confirmation = confirmation_of has.r in
+      let e = entry_of now live a.packet has.r in (
         e,
         record {
-          arrived = has.arrived;
-          carried = has.carried;
-          lookup = lookup;
-          lookup_result = refl;
-          packet_result = has.packet_result;
-          processes = processes_same alike held live same d distinct before.setup has.arrived has.packet_result
-              has.processes;
-          is = refl;
+          entry = rw (← is) (has.r, path_same alike held live same d distinct a.packet before.setup _ has.r has.path, refl);
         },
         record {
           records = omega arith;
-          newest = newest ∙ shown_is (moment_same now lookup has.packet_result.confirmation) has.long follows.happened
-              follows.ends (has.leaves ∙ ap (leaving has.arrived has.packet_result.info) follows.ends) (follows.begins
-              ∙ began_alike alike held live same d distinct now has.arrived has.packet_result.confirmation);
-          held = ap (map without_id) follows.held
-              ∙ held_same limits alike told now follows.id held (tracked_of history) same d has.arrived
-              has.packet_result.confirmation ∙ sym (ap (λ (setup : Setup). map without_id (live_in setup (e ∷ history)))
-              same_setup);
+          newest = newest ∙ shown_is (moment_same now live a.packet key confirmation) has.long has.happened has.ends
+              has.sent (has.follows.begins ∙ began_same alike held live same d distinct a.packet now key confirmation);
+          held = ap (map without_id) has.follows.held
+              ∙ held_same limits alike told now has.follows.id held (tracked_of history) same d a.packet key confirmation
+              (tuple_is (final_state has.r).info a.packet)
+              ∙ sym (ap (λ (setup : Setup). map without_id (live_in setup (e ∷ history))) same_setup);
         },
-        follows.ends,
+        has.ends,
       )
 
   -- the same by the time that the engine has
   pub next_represents : (latest now : ℕ) → latest ≡ moment_of history → now ≡ max latest r.moment
       → held ≡ live_at limits now before.held → IsTrue (has_distinct_ids held)
-      → HasProcessedRecord before.setup r now held after.held ended events packet
+      → HasProcessed before.setup (carried before.setup r) now held after.held ended events packet
       → after.records ≡ before.records + 1
       → after.newest ≡ Some (told_at now ended events packet)
-      → Represents before history
-      → (e : Entry) × Next before.setup history r e × Represents after (e ∷ history) × (ended.outcome ≡ e.outcome)
+      → Represents before history → Extends now
   next_represents latest now at is aged d has more newest represents =
       let when : now ≡ moment_after history r = is ∙ ap (λ (m : ℕ). max m r.moment) at in
       let rises : moment_of history ≤ now = omega arith in
       let same : map without_id held ≡ map without_id (live_at_record before.setup history r) =
       live_same now rises aged represents
       ∙ ap (λ (m : ℕ). map without_id (live_list limits (tracked_of history) m)) when in
-      stands_at same d
-      (subst (λ (m : ℕ). HasProcessedRecord before.setup r m held after.held ended events packet) when has)
+      represents_after same d (carried before.setup r) refl
+      (subst (λ (m : ℕ). HasProcessed before.setup (carried before.setup r) m held after.held ended events packet) when
+      has)
       more
       (newest ∙ ap (λ (m : ℕ). Some (told_at m ended events packet)) when)
       represents

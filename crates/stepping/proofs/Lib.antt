@@ -1,10 +1,5 @@
-mod Passages
-mod Steps
+mod OnePath
 mod Arrivals
-mod Routing
 mod Confirmations
 mod Processing
 mod Extending
-mod Around
-pub mod Carrying
-mod Entries

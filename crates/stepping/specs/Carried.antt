@@ -1,5 +1,5 @@
 -- The packet of a record, its input interface, and what rules read of it at first.
-use Rattle.std.specs.Prelude.{◌≡◌, ℕ, ◌-◌, List, [], drop, Option, Some, None, Result, Ok, Err, unwrap_or}
+use Rattle.std.specs.Prelude.{ℕ, List, [], drop, Option, Some, None, Result, Ok, Err, unwrap_or}
 use Rattle.std.specs.Option.{option_map}
 use Rattle.box_file.specs.Box.{PlantTree, name_of}
 use Rattle.nft_values.specs.Values.{padded}
@@ -15,7 +15,6 @@ use Rattle.pcap_io.specs.Pcap.{Recorded}
 use Rattle.rule_meaning.specs.declared.facts.Facts.{Facts}
 use Rattle.rule_meaning.specs.declared.facts.Packet.{Packet}
 use Rattle.rule_meaning.specs.declared.facts.Interface.{Interface}
-use Rattle.rule_meaning.specs.declared.facts.CtFacts.{CtFacts}
 use Rattle.rule_meaning.specs.declared.facts.CtFacts.TheVariants.{NotLookedUp}
 use Rattle.history.specs.declared.outcome.Cause.{Cause}
 use Rattle.history.specs.declared.outcome.Cause.TheVariants as causes
@@ -48,20 +47,23 @@ abbrev pub input_interface : Setup → Option ℕ → Option ℕ
 input_interface setup None = Some setup.plant.entering
 input_interface setup (Some index) = option_map (λ name. index) (name_of setup.plant index)
 
--- a record carries this packet, or none for this cause: the first test that fails, of the link header, the
--- input interface and the packet's headers (RFC 791), in this order (own)
-pub data Carries (setup : Setup) (r : Recorded) : Result ReceivedPacket Cause → Type 0 where
-  no_link : (cause : LinkCause) → link_of r.link r.bytes ≡ Err cause
-      → Carries setup r (Err (link_cause cause))
-  no_interface : (link : Link) → link_of r.link r.bytes ≡ Ok link
-      → input_interface setup link.interface ≡ None
-      → Carries setup r (Err causes.Interface)
-  no_header : (link : Link) (index : ℕ) (fault : HeaderFault) → link_of r.link r.bytes ≡ Ok link
-      → input_interface setup link.interface ≡ Some index → fault_of (drop link.packet r.bytes) ≡ Some fault
-      → Carries setup r (Err (cause_of fault))
-  carries : (link : Link) (index : ℕ) → link_of r.link r.bytes ≡ Ok link
-      → input_interface setup link.interface ≡ Some index → fault_of (drop link.packet r.bytes) ≡ None
-      → Carries setup r (Ok (record { interface = index; packet = packet_of (drop link.packet r.bytes) }))
+-- the packet of a record, or why it carries none: the first test that fails, of the link header, the input
+-- interface and the packet's headers (RFC 791), in this order (own)
+abbrev pub carried_with : ℕ → List ℕ → Option HeaderFault → Result ReceivedPacket Cause
+carried_with index bytes (Some fault) = Err (cause_of fault)
+carried_with index bytes None = Ok (record { interface = index; packet = packet_of bytes })
+
+abbrev pub carried_by : List ℕ → Option ℕ → Result ReceivedPacket Cause
+carried_by bytes None = Err causes.Interface
+carried_by bytes (Some index) = carried_with index bytes (fault_of bytes)
+
+abbrev pub carried_after : Setup → List ℕ → Result Link LinkCause → Result ReceivedPacket Cause
+carried_after setup bytes (Err cause) = Err (link_cause cause)
+carried_after setup bytes (Ok link) =
+    carried_by (drop link.packet bytes) (input_interface setup link.interface)
+
+abbrev pub carried : Setup → Recorded → Result ReceivedPacket Cause
+carried setup r = carried_after setup r.bytes (link_of r.link r.bytes)
 
 -- ---- what rules read of it
 
@@ -80,22 +82,11 @@ abbrev pub interface_facts : PlantTree → ℕ → Interface
 interface_facts plant index = record { index = index; name = padded 0 (unwrap_or (name_of plant index) []) }
 
 -- the facts of a received packet: not routed, not looked up, mark 0
-abbrev pub initial_facts : Setup → ReceivedPacket → Facts
-initial_facts setup a = record {
-  packet = packet_facts a.packet;
-  input = interface_facts setup.plant a.interface;
+abbrev pub received_facts : List ℕ → Interface → Facts
+received_facts p input = record {
+  packet = packet_facts p;
+  input = input;
   output = None;
   mark = 0;
   ct = NotLookedUp;
-}
-
--- after the look-up
-abbrev pub with_ct : CtFacts → Facts → Facts
-with_ct known f = record f { ct = known }
-
--- forwarded by this interface, the TTL decremented (RFC 1812, section 5.3.1)
-abbrev pub forwarded_facts : Setup → ℕ → Facts → Facts
-forwarded_facts setup interface f = record f {
-  output = Some (interface_facts setup.plant interface);
-  packet = record f.packet { ttl = f.packet.ttl - 1 };
 }

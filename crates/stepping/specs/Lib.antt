@@ -1,6 +1,5 @@
 pub mod Carried
 pub mod Lookups
-pub mod NatSteps
 pub mod Paths
 pub mod Confirmations
 pub mod Next

@@ -1,124 +1,146 @@
--- A packet's path through the hooks, from its look-up to local delivery or transmission. The order of
--- hooks, NAT and routing is netfilter's (nft(8), ADDRESS FAMILIES and CHAINS).
-use Rattle.std.specs.Prelude.{◌≡◌, ℕ, ◌<◌, ◌≤◌, true, false, List, Some, None}
+-- The steps of a packet's path. Each continues, or drops the packet for a cause. Their order is netfilter's
+-- (nft(8), ADDRESS FAMILIES and CHAINS).
+use Rattle.std.specs.Prelude.{◌≡◌, ℕ, ◌-◌, nat_lt, if◌then◌else◌, List, [], Option, Some, None}
 use Rattle.box_file.specs.Box.{is_own, route}
+use Rattle.ip_headers.specs.declared.tuple.Mapping.{Mapping}
 use Rattle.rule_meaning.specs.declared.facts.Facts.{Facts}
-use Rattle.rule_meaning.specs.declared.facts.CtFacts.{CtFacts}
-use Rattle.rule_meaning.specs.declared.facts.CtFacts.TheVariants.{Known}
+use Rattle.rule_meaning.specs.declared.facts.Interface.{Interface}
 use Rattle.rule_meaning.specs.declared.event.Event.{Event}
 use Rattle.rule_meaning.specs.declared.event.HookVerdict.{HookVerdict}
-use Rattle.rule_meaning.specs.declared.event.HookVerdict.TheVariants.{Translated}
-use Rattle.rule_meaning.specs.Hooks.{Traversal, HookResult, Continues, Stops, Then, Prerouting, Input}
-use Rattle.rule_meaning.specs.Hooks.{Forward, Postrouting}
+use Rattle.rule_meaning.specs.declared.event.HookVerdict.TheVariants.{Dropped}
+use Rattle.rule_meaning.specs.Hooks.{Chains, HookResult, NoChain, Traversal}
+use Rattle.hook_runs.specs.declared.stages.HookStage.{HookStage}
+use Rattle.hook_runs.specs.declared.stages.HookStage.TheVariants as stages
+use Rattle.hook_runs.specs.Stages.{chains_in_stage}
 use Rattle.history.specs.declared.outcome.Cause.{Cause}
 use Rattle.history.specs.declared.outcome.Cause.TheVariants as causes
-use Rattle.history.specs.declared.outcome.Outcome.{Outcome}
-use Rattle.history.specs.declared.outcome.Outcome.TheVariants.{Passed, Local, Dropped}
 use Rattle.history.specs.Setup.{Setup}
-use Rattle.ip_headers.specs.declared.tuple.Mapping.{Mapping}
 use Rattle.translation.specs.declared.ct_info.CtInfo.{CtInfo}
-use Rattle.translation.specs.declared.ct_info.CtInfo.TheVariants.{Invalid}
-use Rattle.stepping.specs.Carried.{forwarded_facts}
-use Rattle.stepping.specs.NatSteps.{RunsDestinationNat, RunsSourceNat}
+use Rattle.translation.specs.declared.ct_info.CtInfo.TheVariants.{New, Untracked}
+use Rattle.translation.specs.CtInfos.{facts_after_destination_nat, facts_after_source_nat}
+use Rattle.translation.specs.Nat.{after_destination_nat, after_source_nat}
+use Rattle.stepping.specs.Carried.{interface_facts, received_facts}
 
--- the outcome by rules, routes and TTL, the events, the mark of its connection, and its state after NAT
-pub record PathResult : Type 0 where
-  pub outcome : Outcome
-  pub events : List Event
-  pub mark : ℕ
+-- ---- steps
+
+-- a packet on its path: what rules read of it, its state in connection tracking, and its events
+pub record PathState : Type 0 where
+  pub facts : Facts
   pub info : CtInfo
+  pub events : List Event
 
--- the mark of its connection, as last set
-abbrev pub mark_in : CtFacts → ℕ
-mark_in (Known c) = c.mark
-mark_in _ = 0
+-- what a step makes of it
+pub data StepResult : Type 0 where
+  Continue : PathState → StepResult
+  Drop : Cause → PathState → StepResult
 
-abbrev pub dropped : Cause → List Event → PathResult
-dropped cause events = record { outcome = Dropped cause; events = events; mark = 0; info = Invalid }
+abbrev pub Step : Type 1
+Step = PathState → StepResult → Type 0
 
--- a packet that the last chains let through
-abbrev pub passed_result : Outcome → CtInfo → HookResult → PathResult
-passed_result outcome info end =
-    record { outcome = outcome; events = end.events; mark = mark_in end.facts.ct; info = info }
+-- the second step follows where the first one continues
+pub data ◌⨾◌ (first second : Step) (s : PathState) : StepResult → Type 0 where
+  stops : (cause : Cause) (t : PathState) → first s (Drop cause t) → (◌⨾◌ first second) s (Drop cause t)
+  goes_on : (t : PathState) (r : StepResult) → first s (Continue t) → second t r
+      → (◌⨾◌ first second) s r
 
--- a packet that stops was dropped by a rule or a policy, or has no free port
-abbrev pub stop_cause : HookVerdict → Cause
-stop_cause (Translated t) = causes.NoPort
-stop_cause _ = causes.Rule
+infixr 5 ◌⨾◌
+-- on arrival: not looked up, so not tracked, and without events
+abbrev pub on_arrival : List ℕ → Interface → PathState
+on_arrival p input = record { facts = received_facts p input; info = Untracked; events = [] }
 
-abbrev pub stopped_result : HookResult → PathResult
-stopped_result end = dropped (stop_cause end.verdict) end.events
+-- ---- chains
 
--- ---- the hooks, with NAT among these live mappings
+-- the facts and the events after chains
+abbrev pub after_chains : HookResult → PathState → PathState
+after_chains end s = record s { facts = end.facts; events = end.events }
 
--- before routing, with destination NAT
-abbrev pub RunsPrerouting : Setup → List Mapping → CtInfo → CtInfo → Traversal
-RunsPrerouting setup mappings info after =
-    Prerouting setup.plant setup.rules (RunsDestinationNat setup mappings info after)
+-- a rule or a policy drops the packet
+abbrev pub unless_dropped : HookVerdict → PathState → StepResult
+unless_dropped Dropped s = Drop causes.Rule s
+unless_dropped _ s = Continue s
 
--- for local delivery
-abbrev pub RunsInput : Setup → Traversal
-RunsInput setup = Input setup.plant setup.rules
+-- the base chains of a stage
+pub record RunsStage (setup : Setup) (stage : HookStage) (s : PathState) (r : StepResult) : Type 0 where
+  pub end : HookResult
+  pub ran : Chains setup.plant setup.rules (chains_in_stage stage) s.facts s.events end
+  pub is : r ≡ unless_dropped end.verdict (after_chains end s)
 
--- for forwarding, with source NAT
-abbrev pub RunsForwardAndPostrouting : Setup → List Mapping → CtInfo → CtInfo → Traversal
-RunsForwardAndPostrouting setup mappings info after =
-    Then (Forward setup.plant setup.rules)
-    (Postrouting setup.plant setup.rules (RunsSourceNat setup mappings info after))
+-- ---- NAT, among these live mappings
+
+-- only the first packet of a connection sees chains of type nat (nft(8), CHAINS)
+abbrev pub NatChains : Setup → HookStage → CtInfo → Traversal
+NatChains setup stage (New new_connection) = Chains setup.plant setup.rules (chains_in_stage stage)
+NatChains setup stage _ = NoChain
+
+abbrev pub destination_nat_result : HookVerdict → CtInfo → PathState → StepResult
+destination_nat_result Dropped info s = Drop causes.Rule s
+destination_nat_result _ info s =
+    Continue (record s { facts = facts_after_destination_nat info s.facts; info = info })
+
+pub record DestinationNat (setup : Setup) (mappings : List Mapping) (s : PathState) (r : StepResult)
+    : Type 0 where
+  pub end : HookResult
+  pub ran : NatChains setup stages.PreroutingNat s.info s.facts s.events end
+  pub is : r ≡ destination_nat_result end.verdict
+      (after_destination_nat setup.plant mappings end.facts s.info end.verdict) (after_chains end s)
+
+-- the packet is dropped where no port is free
+abbrev pub source_nat_result : HookVerdict → Option CtInfo → PathState → StepResult
+source_nat_result Dropped info s = Drop causes.Rule s
+source_nat_result _ None s = Drop causes.NoPort s
+source_nat_result _ (Some info) s =
+    Continue (record s { facts = facts_after_source_nat info s.facts; info = info })
+
+pub record SourceNat (setup : Setup) (mappings : List Mapping) (s : PathState) (r : StepResult)
+    : Type 0 where
+  pub end : HookResult
+  pub ran : NatChains setup stages.PostroutingNat s.info s.facts s.events end
+  pub is : r ≡ source_nat_result end.verdict
+      (after_source_nat setup.plant mappings end.facts s.info end.verdict) (after_chains end s)
 
 -- ---- routing
 
--- the destination and the TTL after prerouting
-abbrev pub destination_of : HookResult → ℕ
-destination_of arrival = arrival.facts.packet.destination
+-- forwarded by this interface, the TTL decremented (RFC 1812, section 5.3.1)
+abbrev pub forwarded_facts : Setup → ℕ → Facts → Facts
+forwarded_facts setup interface f = record f {
+  output = Some (interface_facts setup.plant interface);
+  packet = record f.packet { ttl = f.packet.ttl - 1 };
+}
 
-abbrev pub hops_left : HookResult → ℕ
-hops_left arrival = arrival.facts.packet.ttl
+-- by a route, with a TTL above 1 (RFC 1812, section 5.3.1)
+abbrev pub forwarded_by : Setup → Option ℕ → PathState → StepResult
+forwarded_by setup None s = Drop causes.Route s
+forwarded_by setup (Some interface) s = if nat_lt s.facts.packet.ttl 2 then Drop causes.Ttl s
+    else Continue (record s { facts = forwarded_facts setup interface s.facts })
 
--- forward and postrouting with this output interface
-abbrev pub ForwardsOn : Setup → List Mapping → CtInfo → CtInfo → ℕ → HookResult → HookResult → Type 0
-ForwardsOn setup mappings info after interface arrival departure =
-    RunsForwardAndPostrouting setup mappings info after (forwarded_facts setup interface arrival.facts)
-    arrival.events departure
+-- a packet to an address of the box gets no output interface; the others are forwarded
+abbrev pub routed : Setup → PathState → StepResult
+routed setup s = if is_own setup.plant s.facts.packet.destination then Continue s
+    else forwarded_by setup (route setup.plant s.facts.packet.destination) s
 
--- after prerouting: local delivery or a route, by the destination after NAT; then the TTL (RFC 1812,
--- section 5.3.1), and forward and postrouting
-pub data RunsAfterPrerouting (setup : Setup) (mappings : List Mapping) (info : CtInfo)
-    (arrival : HookResult) : PathResult → Type 0 where
-  delivered : (local : HookResult) → is_own setup.plant (destination_of arrival) ≡ true
-      → RunsInput setup arrival.facts arrival.events local → Continues local.verdict
-      → RunsAfterPrerouting setup mappings info arrival (passed_result Local info local)
-  not_delivered : (local : HookResult) → is_own setup.plant (destination_of arrival) ≡ true
-      → RunsInput setup arrival.facts arrival.events local → Stops local.verdict
-      → RunsAfterPrerouting setup mappings info arrival (stopped_result local)
-  without_route : is_own setup.plant (destination_of arrival) ≡ false
-      → route setup.plant (destination_of arrival) ≡ None
-      → RunsAfterPrerouting setup mappings info arrival (dropped causes.Route arrival.events)
-  at_last_hop : (interface : ℕ) → is_own setup.plant (destination_of arrival) ≡ false
-      → route setup.plant (destination_of arrival) ≡ Some interface → hops_left arrival < 2
-      → RunsAfterPrerouting setup mappings info arrival (dropped causes.Ttl arrival.events)
-  forwarded : (interface : ℕ) (after : CtInfo) (departure : HookResult)
-      → is_own setup.plant (destination_of arrival) ≡ false
-      → route setup.plant (destination_of arrival) ≡ Some interface → 2 ≤ hops_left arrival
-      → ForwardsOn setup mappings info after interface arrival departure → Continues departure.verdict
-      → RunsAfterPrerouting setup mappings info arrival (passed_result (Passed interface) after departure)
-  not_forwarded : (interface : ℕ) (after : CtInfo) (departure : HookResult)
-      → is_own setup.plant (destination_of arrival) ≡ false
-      → route setup.plant (destination_of arrival) ≡ Some interface → 2 ≤ hops_left arrival
-      → ForwardsOn setup mappings info after interface arrival departure → Stops departure.verdict
-      → RunsAfterPrerouting setup mappings info arrival (stopped_result departure)
+abbrev pub Routing : Setup → Step
+Routing setup s r = r ≡ routed setup s
 
--- a packet that prerouting stops is dropped
-abbrev pub RunsUnlessStopped : Setup → List Mapping → CtInfo → HookResult → PathResult → Type 0
-RunsUnlessStopped setup mappings info arrival path_result =
-    (Stops arrival.verdict → path_result ≡ stopped_result arrival)
-    × (Continues arrival.verdict → RunsAfterPrerouting setup mappings info arrival path_result)
+-- ---- the hooks after the look-up
 
--- the path of a packet with this state and these facts, after these events
-pub record RunsHooks (setup : Setup) (mappings : List Mapping) (info : CtInfo) (f : Facts) (es : List Event)
-    (path_result : PathResult) : Type 0 where
-  -- its state after destination NAT
-  pub after : CtInfo
-  pub arrival : HookResult
-  pub arrived : RunsPrerouting setup mappings info after f es arrival
-  pub by : RunsUnlessStopped setup mappings after arrival path_result
+abbrev pub Prerouting : Setup → List Mapping → Step
+Prerouting setup mappings = RunsStage setup stages.PreroutingBeforeNat
+    ⨾ DestinationNat setup mappings
+    ⨾ RunsStage setup stages.PreroutingAfterNat
+
+abbrev pub ForwardAndPostrouting : Setup → List Mapping → Step
+ForwardAndPostrouting setup mappings = RunsStage setup stages.Forward
+    ⨾ RunsStage setup stages.PostroutingBeforeNat
+    ⨾ SourceNat setup mappings
+    ⨾ RunsStage setup stages.PostroutingAfterNat
+
+-- a packet without an output interface is delivered locally
+abbrev pub InputOrForward : Setup → List Mapping → Option Interface → Step
+InputOrForward setup mappings None = RunsStage setup stages.Input
+InputOrForward setup mappings (Some output) = ForwardAndPostrouting setup mappings
+
+abbrev pub AfterRouting : Setup → List Mapping → Step
+AfterRouting setup mappings s r = InputOrForward setup mappings s.facts.output s r
+
+abbrev pub Hooks : Setup → List Mapping → Step
+Hooks setup mappings = Prerouting setup mappings ⨾ Routing setup ⨾ AfterRouting setup mappings

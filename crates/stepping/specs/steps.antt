@@ -1,4 +1,3 @@
-pub mod Traversing
-pub mod RunningHooks
+pub mod Steps
 pub mod Confirming
 pub mod Processing

@@ -1,9 +1,9 @@
 //! The packet of a record.
 ghost use Rattle.std.specs.Prelude.{◌≡◌, IfOk};
-ghost use Rattle.stepping.specs.Carried.{Carries, cause_of, interface_facts, link_cause};
+ghost use Rattle.stepping.specs.Carried.{carried, cause_of, interface_facts, link_cause};
 ghost use Rattle.stepping.specs.Representing.{recorded_of};
-ghost use Rattle.stepping.specs.steps.Traversing.{setup_in};
-ghost use Rattle.stepping.specs.steps.Processing.{arrived_in};
+ghost use Rattle.stepping.specs.steps.Steps.{setup_in};
+ghost use Rattle.stepping.specs.steps.Processing.{received_in};
 
 use crate::setup::Setup;
 use history::Cause;
@@ -24,8 +24,7 @@ pub struct IncomingPacket<'a> {
 /// The first test that fails, of the link header, the input interface and the packet's headers.
 #[inline(always)]
 pub fn carried<'a>(setup: &Setup, record: &Record<'a>) -> Result<IncomingPacket<'a>, Cause>
-    ensures carries { Carries (setup_in setup.now.hooks) (recorded_of record.now)
-        (arrived_in result) }
+    ensures carried { received_in result ≡ carried (setup_in setup.now.hooks) (recorded_of record.now) }
     ensures known { IfOk result (λ incoming.
         incoming.input ≡ interface_facts setup.now.hooks.plant incoming.input.index) }
 {

@@ -1,63 +1,53 @@
 //! The end of a packet's path, as nf_conntrack_confirm: refreshes or begins its connection.
-ghost use Rattle.std.specs.Prelude.{◌≡◌, IsTrue, false, Some, None, Result, Ok};
+ghost use Rattle.std.specs.Prelude.{◌≡◌, IsTrue, false};
 ghost use Rattle.conntrack.specs.ConntrackEntry.{IsNoneLater, is_taken};
+ghost use Rattle.conntrack.specs.declared.belonging.Belonging.{Belonging as TheBelonging};
 ghost use Rattle.translation.specs.declared.ct_info.CtInfo.TheVariants.{New};
 ghost use Rattle.translation.specs.Fitting.{Fits, IsFitting};
 ghost use Rattle.translation.specs.LiveMappings.{mappings_in};
-ghost use Rattle.conntrack.specs.declared.belonging.Belonging.{Belonging as TheBelonging};
-ghost use Rattle.stepping.specs.steps.Confirming.{IsHeld, CanConfirm, Confirms, touched_for};
+ghost use Rattle.stepping.specs.Confirmations.{mark_in};
+ghost use Rattle.stepping.specs.steps.Confirming.{IsHeld, CanConfirm, Confirms, begun_in, touched_for};
 
-use crate::hooks::{HooksPassed, RoutingDecision};
+use crate::state::PacketState;
 use connection_table::ConnectionTable;
 use conntrack::{BeginError, Belonging, Flags, Moment, Tracker};
 use history::Cause;
+use rule_meaning::CtFacts;
 use translation::{CtInfo, NewConnection};
 
-/// The result of a packet that isn't dropped.
-#[derive(Clone, Copy)]
-pub struct ConfirmedPacket {
-    pub decision: RoutingDecision,
-    /// Whether the packet began a connection.
-    pub begun: bool,
-    /// Its final state, which has the tuple with which it leaves.
-    pub info: CtInfo,
-}
-
 /// Confirms a packet that the hooks let through: refreshes its connection, or begins a new one.
+/// Says whether it began one.
 ///
 /// # Errors
 /// `Full` or `Clash` where a new connection can't begin; then it holds no mapping either.
 pub fn confirm<T: Tracker>(
     connections: &mut ConnectionTable<T>,
     belonging: Belonging,
-    info: &CtInfo,
     flags: Flags,
-    hooks_passed: &HooksPassed,
     now: Moment,
-) -> Result<ConfirmedPacket, Cause>
-    requires open { CanConfirm belonging info.now connections.old.held }
+    state: &PacketState,
+) -> Result<bool, Cause>
+    requires confirmable { CanConfirm belonging state.now.info connections.old.held }
     requires later { IsNoneLater now connections.old.held }
     requires room { IsTrue connections.old.has_room }
-    requires fits { Fits info.now (mappings_in connections.old.held) }
-    ensures confirms { Confirms now flags hooks_passed.now belonging info.now connections.old.held
-        connections.new.held result }
+    requires fits { Fits state.now.info (mappings_in connections.old.held) }
+    ensures confirms { Confirms now flags belonging state.now.info (mark_in state.now.facts.ct)
+        connections.old.held connections.new.held result }
     ensures limits { connections.new.limits ≡ connections.old.limits }
+    // Only a new connection takes what is reserved.
+    ensures room { begun_in result ≡ false → IsTrue connections.new.has_room }
 {
-    let confirmed = ConfirmedPacket {
-        decision: hooks_passed.decision,
-        begun: false,
-        info: *info,
-    };
-    match info {
+    let mark = mark_in(state.facts.ct);
+    match &state.info {
         CtInfo::Tracked(_) => {
-            touch(connections, belonging, flags, hooks_passed.mark, now);
-            Ok(confirmed)
+            touch(connections, belonging, flags, mark, now);
+            Ok(false)
         }
-        CtInfo::New(new_connection) => begin(connections, new_connection, flags, hooks_passed, now),
+        CtInfo::New(new_connection) => begin(connections, new_connection, flags, mark, now),
         // An ICMP error doesn't refresh its connection.
-        CtInfo::Related(_) => Ok(confirmed),
-        CtInfo::Invalid => Ok(confirmed),
-        CtInfo::Untracked => Ok(confirmed),
+        CtInfo::Related(_) => Ok(false),
+        CtInfo::Invalid => Ok(false),
+        CtInfo::Untracked => Ok(false),
     }
 }
 
@@ -74,6 +64,7 @@ fn touch<T: Tracker>(
     ensures held { connections.new.held
         ≡ touched_for belonging flags mark now connections.old.held }
     ensures limits { connections.new.limits ≡ connections.old.limits }
+    ensures room { IsTrue connections.old.has_room → IsTrue connections.new.has_room }
 {
     if let Belonging::Found(found) = belonging {
         connections.touch(&found, flags, mark, now);
@@ -88,25 +79,32 @@ fn begin<T: Tracker>(
     connections: &mut ConnectionTable<T>,
     new_connection: &NewConnection,
     flags: Flags,
-    hooks_passed: &HooksPassed,
+    mark: u32,
     now: Moment,
-) -> Result<ConfirmedPacket, Cause>
+) -> Result<bool, Cause>
     requires free { is_taken new_connection.now.original connections.old.held ≡ false }
     requires later { IsNoneLater now connections.old.held }
     requires room { IsTrue connections.old.has_room }
     requires fits { IsFitting new_connection.now (mappings_in connections.old.held) }
     ensures confirms { (belonging : TheBelonging)
-        → Confirms now flags hooks_passed.now belonging (New new_connection.now)
-        connections.old.held connections.new.held result }
+        → Confirms now flags belonging (New new_connection.now) mark connections.old.held
+        connections.new.held result }
     ensures limits { connections.new.limits ≡ connections.old.limits }
+    ensures room { begun_in result ≡ false → IsTrue connections.new.has_room }
 {
-    match connections.begin(new_connection, flags, hooks_passed.mark, now) {
-        Ok(()) => Ok(ConfirmedPacket {
-            decision: hooks_passed.decision,
-            begun: true,
-            info: CtInfo::New(*new_connection),
-        }),
+    match connections.begin(new_connection, flags, mark, now) {
+        Ok(()) => Ok(true),
         Err(BeginError::Full) => Err(Cause::Full),
         Err(BeginError::Clash) => Err(Cause::Clash),
+    }
+}
+
+/// The connection's mark, as last set; 0 without a connection.
+fn mark_in(ct: CtFacts) -> u32
+    ensures { result ≡ mark_in ct }
+{
+    match ct {
+        CtFacts::Known(connection) => connection.mark,
+        CtFacts::NotLookedUp | CtFacts::Notrack | CtFacts::Untracked | CtFacts::Invalid => 0,
     }
 }

@@ -9,7 +9,7 @@ ghost use Rattle.rule_paths.specs.Paths.{AreAllCosts, Caller, ruleset_cost};
 ghost use Rattle.stepping.specs.Next.{Next};
 ghost use Rattle.stepping.specs.Representing.{Represents, sent_packets, packet_of, sends_of, setup_of, recorded_of};
 
-use crate::process::{RecordResult, output_interface, process_record};
+use crate::process::{PacketBuffer, RecordResult, output_interface, process_record};
 use crate::setup::Setup;
 use connection_table::ConnectionTable;
 use conntrack::laws::{independent_of_ids, none_later, one_more_entry};
@@ -24,9 +24,6 @@ use std::hash::RandomState;
 use std::marker::Model;
 use translation::laws::independent_of_ids as mappings_aside;
 
-/// The greatest total length of an IPv4 packet, in bytes.
-const MOST_PACKET_BYTES: usize = 65_535;
-
 /// A box with its ruleset and its state after the records so far. `T` is the connection tracker.
 pub struct Engine<T: Tracker> {
     setup: Setup,
@@ -39,7 +36,7 @@ pub struct Engine<T: Tracker> {
     /// The result of the last record; none before the first.
     ended: Option<RecordResult>,
     /// The packet that the last record forwarded; empty where there is none.
-    packet: Vec<u8>,
+    packet: Box<PacketBuffer>,
     /// All that the next record may need is reserved.
     ready: bool,
 }
@@ -62,7 +59,7 @@ impl<T: Tracker> Drop for Engine<T> {
 
 impl<T: Tracker> Model for Engine<T> {
     ghost use Rattle.stepping.specs.Representing.{EngineState};
-    ghost use Rattle.stepping.specs.steps.Traversing.{setup_in};
+    ghost use Rattle.stepping.specs.steps.Steps.{setup_in};
     ghost use Rattle.stepping.specs.steps.Processing.{IsReady, newest_in};
 
     ghost Value = { EngineState };
@@ -72,12 +69,12 @@ impl<T: Tracker> Model for Engine<T> {
       records = e.records;
       ticks = e.events.ticks;
       held = e.connections.held;
-      newest = newest_in e.ended e.latest e.events e.packet;
+      newest = newest_in e.ended e.latest e.events e.packet.value.items;
       ready = e.ready;
     } };
 
     ghost invariant = { λ e. IsReady (setup_in e.setup.hooks) e.connections e.ended e.latest
-        e.events e.packet e.ready };
+        e.events e.packet.value.items e.ready };
 }
 
 impl<T: Tracker> Engine<T> {
@@ -93,7 +90,7 @@ impl<T: Tracker> Engine<T> {
     {
         let (setup, events) = Setup::new(alloc, checked)?;
         let idle = setup.plant().idle();
-        let packet = Vec::with_capacity(alloc, MOST_PACKET_BYTES)?;
+        let packet = Box::new(alloc, PacketBuffer::new()).map_err(AllocError::from)?;
         Ok(Engine {
             setup,
             connections: ConnectionTable::new(alloc, hasher, idle),
@@ -118,8 +115,6 @@ impl<T: Tracker> Engine<T> {
         if self.ready {
             return Ok(());
         }
-        let missing = MOST_PACKET_BYTES - self.packet.len();
-        self.packet.reserve(missing)?;
         self.connections.reserve()?;
         self.ready = true;
         Ok(())
@@ -153,7 +148,6 @@ impl<T: Tracker> Engine<T> {
         mappings_aside();
         // All allocation first: nothing after it can fail.
         self.reserve()?;
-        self.ready = false;
         self.packet.clear();
         self.events.clear();
         let now = self.latest.max(record.moment);
@@ -171,6 +165,8 @@ impl<T: Tracker> Engine<T> {
         self.records += 1;
         self.latest = now;
         self.ended = Some(ended);
+        // Only a new connection takes what is reserved.
+        self.ready = !ended.begun;
         Ok(ended.outcome)
     }
 
@@ -184,7 +180,7 @@ impl<T: Tracker> Engine<T> {
         Some(Leaving {
             moment: self.latest,
             interface,
-            packet: &self.packet,
+            packet: self.packet.as_slice(),
         })
     }
 
@@ -192,7 +188,7 @@ impl<T: Tracker> Engine<T> {
     pub fn packet(&self) -> &[u8]
         ensures { result.now ≡ packet_of self.now.newest }
     {
-        &self.packet
+        self.packet.as_slice()
     }
 
     /// The entry of the last record; `None` before the first.

@@ -4,14 +4,14 @@
 mod arrival;
 mod confirm;
 mod engine;
-mod facts;
 mod hooks;
+mod interfaces;
 mod laws;
 mod lookup;
-mod lookup_key;
 mod nat;
 mod process;
 mod setup;
+mod state;
 
 pub use engine::Engine;
 pub use laws::one_entry;

@@ -1,107 +1,65 @@
 //! The connection look-up of a packet.
 ghost use Rattle.std.specs.Prelude.{◌≡◌, IsTrue};
-ghost use Rattle.std.specs.Option.{option_map};
 ghost use Rattle.conntrack.specs.ConntrackEntry.{IsNoneLater, live_at};
+ghost use Rattle.filter_vm.specs.Machine.{EventsAndTicks};
 ghost use Rattle.translation.specs.Fitting.{Fits};
 ghost use Rattle.translation.specs.LiveMappings.{mappings_in};
 ghost use Rattle.translation.specs.declared.ct_info.CtInfo.{CtInfo as TheCtInfo};
-ghost use Rattle.translation.specs.CtInfos.{untranslated};
+ghost use Rattle.translation.specs.CtInfos.{error_ct_info, untranslated};
+ghost use Rattle.ip_headers.specs.Header.{transport_of};
 ghost use Rattle.ip_headers.specs.Tuple.{inner_tuple_of};
-ghost use Rattle.translation.specs.CtInfos.{error_ct_info};
-ghost use Rattle.stepping.specs.Lookups.{error_belonging, look_up, lookup_of, others_in, unless_notrack, ct_info_of, ct_info_unless_notrack};
+ghost use Rattle.stepping.specs.Lookups.{error_belonging, flags_in, looked_up_info, others_beside};
+ghost use Rattle.stepping.specs.Next.{with_info};
 ghost use Rattle.stepping.specs.steps.Confirming.{CanConfirm, belonging_in};
+ghost use Rattle.stepping.specs.steps.Steps.{path_state};
 
-use crate::lookup_key::{LookupKey, lookup_key_of};
+use crate::state::PacketState;
 use connection_table::ConnectionTable;
-use conntrack::{Belonging, Moment, Tracker};
-use ip_headers::View;
+use conntrack::{Belonging, Flags, Moment, Tracker};
+use ip_headers::{Transport, View};
 use rule_meaning::CtFacts;
 use translation::CtInfo;
 
-/// The result of a look-up.
-#[derive(Clone, Copy)]
-pub struct LookupResult {
-    /// What the tuple belongs to; nothing for a packet without one, such as an ICMP error.
-    pub belonging: Belonging,
-    /// The packet's state.
-    pub info: CtInfo,
-}
-
-/// Looks up a packet's connection, unless a `notrack` statement was evaluated. All connections held
-/// are live at `now`.
-pub fn look_up_packet<T: Tracker>(
+/// Looks up a packet's connection, unless a `notrack` statement was evaluated, and sets the
+/// packet's state. A lone SYN removes the closing connection that it belongs to, whatever the rules
+/// do. All connections held are live at `now`.
+pub fn look_up<T: Tracker>(
     connections: &mut ConnectionTable<T>,
-    ct: CtFacts,
     view: &View,
+    flags: Flags,
     now: Moment,
-) -> LookupResult
+    state: &mut PacketState,
+) -> Belonging
+    requires flags { flags ≡ flags_in (transport_of view.now.packet.now) }
     requires live { live_at connections.old.limits now connections.old.held ≡ connections.old.held }
     requires later { IsNoneLater now connections.old.held }
     requires room { IsTrue connections.old.has_room }
-    ensures belonging { result.belonging
-        ≡ belonging_in (unless_notrack ct (lookup_of connections.old.held view.now.packet.now)) }
-    ensures info { result.info ≡ ct_info_unless_notrack ct (ct_info_of connections.old.held
-        view.now.packet.now (lookup_of connections.old.held view.now.packet.now)) }
+    ensures step { (events : EventsAndTicks) → path_state state.new events
+        ≡ with_info (looked_up_info state.old.facts.ct connections.old.held view.now.packet.now)
+        (path_state state.old events) }
+    ensures belonging { result
+        ≡ belonging_in state.new.info connections.old.held view.now.packet.now }
     ensures held { connections.new.held
-        ≡ others_in connections.old.held (unless_notrack ct
-        (lookup_of connections.old.held view.now.packet.now)) }
+        ≡ others_beside state.new.info connections.old.held view.now.packet.now }
     ensures limits { connections.new.limits ≡ connections.old.limits }
     ensures later { IsNoneLater now connections.new.held }
     ensures room { IsTrue connections.new.has_room }
     // It can be confirmed, whatever NAT does to it.
-    ensures open { (after : TheCtInfo) → untranslated after ≡ untranslated result.info
-        → CanConfirm result.belonging after connections.new.held }
-    ensures fits { Fits result.info (mappings_in connections.new.held) }
+    ensures confirmable { (after : TheCtInfo) → untranslated after ≡ untranslated state.new.info
+        → CanConfirm result after connections.new.held }
+    ensures fits { Fits state.new.info (mappings_in connections.new.held) }
 {
-    match ct {
-        CtFacts::Notrack => LookupResult {
-            belonging: Belonging::NotFound,
-            info: CtInfo::Untracked,
-        },
-        CtFacts::NotLookedUp | CtFacts::Untracked | CtFacts::Invalid | CtFacts::Known(_) => {
-            look_up(connections, lookup_key_of(view), view, now)
-        }
+    if let CtFacts::Notrack = state.facts.ct {
+        state.set_info(CtInfo::Untracked);
+        return Belonging::NotFound;
     }
-}
-
-/// Looks up a packet by its key, or without one as an ICMP error. All connections held are live at
-/// `now`. A lone SYN removes the closing connection that it belongs to, whatever the rules do.
-fn look_up<T: Tracker>(
-    connections: &mut ConnectionTable<T>,
-    lookup_key: Option<LookupKey>,
-    view: &View,
-    now: Moment,
-) -> LookupResult
-    requires live { live_at connections.old.limits now connections.old.held ≡ connections.old.held }
-    requires later { IsNoneLater now connections.old.held }
-    requires room { IsTrue connections.old.has_room }
-    ensures belonging { result.belonging
-        ≡ belonging_in (option_map (look_up connections.old.held) lookup_key) }
-    ensures info { result.info ≡ ct_info_of connections.old.held view.now.packet.now
-        (option_map (look_up connections.old.held) lookup_key) }
-    ensures held { connections.new.held
-        ≡ others_in connections.old.held (option_map (look_up connections.old.held) lookup_key) }
-    ensures limits { connections.new.limits ≡ connections.old.limits }
-    ensures later { IsNoneLater now connections.new.held }
-    ensures room { IsTrue connections.new.has_room }
-    // It can be confirmed, whatever NAT does to it.
-    ensures open { (after : TheCtInfo) → untranslated after ≡ untranslated result.info
-        → CanConfirm result.belonging after connections.new.held }
-    ensures fits { Fits result.info (mappings_in connections.new.held) }
-{
-    match lookup_key {
-        Some(lookup_key) => {
-            let belonging = connections.look_up(lookup_key.tuple, lookup_key.flags, now);
-            LookupResult {
-                belonging,
-                info: CtInfo::of(lookup_key.tuple, belonging),
-            }
-        }
-        None => LookupResult {
-            belonging: Belonging::NotFound,
-            info: error_ct_info(connections, view, now),
-        },
-    }
+    let Some(tuple) = view.tuple() else {
+        state.set_info(error_ct_info(connections, view, now));
+        return Belonging::NotFound;
+    };
+    let belonging = connections.look_up(tuple, flags, now);
+    state.set_info(CtInfo::of(tuple, belonging));
+    belonging
 }
 
 /// The state of a packet without a tuple: RELATED for an ICMP error about a live connection.
@@ -113,5 +71,15 @@ fn error_ct_info<T: Tracker>(connections: &ConnectionTable<T>, view: &View, now:
     match view.inner_tuple() {
         Some(inner) => CtInfo::of_error(connections.look_up_error(inner, now)),
         None => CtInfo::Invalid,
+    }
+}
+
+/// The TCP flags that conntrack reads.
+pub fn flags_in(transport: Transport) -> Flags
+    ensures { result ≡ flags_in transport }
+{
+    match transport {
+        Transport::Tcp { flags, .. } => Flags::of_byte(flags),
+        Transport::Udp { .. } | Transport::Icmp { .. } | Transport::Other => Flags::none(),
     }
 }

@@ -1,76 +1,98 @@
 //! Destination NAT and source NAT with their nat chains.
 ghost use Rattle.std.specs.Prelude.{◌≡◌, List};
-ghost use Rattle.std.specs.declared.option.Option.{Option};
 ghost use Rattle.ip_headers.specs.declared.tuple.Mapping.{Mapping};
 ghost use Rattle.nat_mapping.specs.Mappings.{HoldsSame};
 ghost use Rattle.hook_runs.specs.Stages.{stage_cost};
-ghost use Rattle.nft_tree.specs.declared.chain.Hook.{Hook};
 ghost use Rattle.translation.specs.Fitting.{Fits};
 ghost use Rattle.translation.specs.CtInfos.{untranslated};
-ghost use Rattle.stepping.specs.NatSteps.{RunsNatChains, RunsDestinationNat, RunsSourceNat, destination_verdict, source_verdict};
-ghost use Rattle.stepping.specs.steps.Traversing.{Traverses, HasRoom, IsNatStage, Spends, setup_in};
+ghost use Rattle.stepping.specs.Paths.{DestinationNat, NatChains, SourceNat};
+ghost use Rattle.stepping.specs.steps.Steps.{HasRoom, Spends, path_state, setup_in, step_result};
 
-use crate::setup::{Setup, verdict_result};
+use crate::setup::Setup;
+use crate::state::PacketState;
 use history::Cause;
 use hook_runs::{Events, HookStage};
 use nat_mapping::Mappings;
-use rule_meaning::{Facts, HookVerdict, NatAction};
+use rule_meaning::HookVerdict;
 use translation::{
     CtInfo, apply_destination_nat, apply_source_nat, update_destination, update_source,
 };
 
-/// Destination NAT: runs the nat chains of prerouting for a new connection, and updates the
-/// packet's state and facts in place.
+/// Destination NAT, by the nat chains of prerouting for a new connection.
+///
+/// # Errors
+/// `Rule`: a rule or a policy drops the packet.
 #[inline(always)]
 pub fn translate_destination(
     setup: &Setup,
     mappings: &Mappings,
-    info: &mut CtInfo,
-    facts: &mut Facts,
+    state: &mut PacketState,
     events: &mut Events,
 ) -> Result<(), Cause>
     requires room { HasRoom events.old setup.now.hooks.costs.prerouting_nat }
-    ensures traverses { (held : List Mapping) → HoldsSame held mappings.now.held
-        → Traverses (RunsDestinationNat (setup_in setup.now.hooks) held info.old info.new) facts.old
-        events.old.events result facts.new events.new.events }
-    ensures fits { (held : List Mapping) → HoldsSame held mappings.now.held → Fits info.old held
-        → Fits info.new held }
-    ensures same { untranslated info.new ≡ untranslated info.old }
+    ensures step { (held : List Mapping) → HoldsSame held mappings.now.held
+        → DestinationNat (setup_in setup.now.hooks) held (path_state state.old events.old)
+        (step_result result (path_state state.new events.new)) }
+    ensures fits { (held : List Mapping) → HoldsSame held mappings.now.held → Fits state.old.info held
+        → Fits state.new.info held }
+    ensures same { untranslated state.new.info ≡ untranslated state.old.info }
     ensures spent { Spends events.old events.new setup.now.hooks.costs.prerouting_nat }
 {
-    let verdict = run_nat_chains(setup, HookStage::PreroutingNat, info, facts, events);
-    *info = apply_destination_nat(setup.plant(), mappings, facts, info, verdict);
-    update_destination(info, facts);
-    verdict_result(destination_verdict(verdict))
+    let verdict = run_nat_chains(setup, HookStage::PreroutingNat, state, events);
+    if let HookVerdict::Dropped = verdict {
+        return Err(Cause::Rule);
+    }
+    if let CtInfo::New(_) = state.info {
+        state.info = apply_destination_nat(
+            setup.plant(),
+            mappings,
+            &state.facts,
+            &state.info,
+            verdict,
+        );
+    }
+    update_destination(&state.info, &mut state.facts);
+    Ok(())
 }
 
-/// Source NAT: runs the nat chains of postrouting for a new connection, and updates the packet's
-/// state and facts in place.
+/// Source NAT, by the nat chains of postrouting for a new connection.
 ///
 /// # Errors
-/// `NoPort` where no port is free.
+/// `Rule`: a rule or a policy drops the packet; `NoPort` where no port is free.
 #[inline(always)]
 pub fn translate_source(
     setup: &Setup,
     mappings: &Mappings,
-    info: &mut CtInfo,
-    facts: &mut Facts,
+    state: &mut PacketState,
     events: &mut Events,
 ) -> Result<(), Cause>
     requires room { HasRoom events.old setup.now.hooks.costs.postrouting_nat }
-    ensures traverses { (held : List Mapping) → HoldsSame held mappings.now.held
-        → Traverses (RunsSourceNat (setup_in setup.now.hooks) held info.old info.new) facts.old
-        events.old.events result facts.new events.new.events }
-    ensures fits { (held : List Mapping) → HoldsSame held mappings.now.held → Fits info.old held
-        → Fits info.new held }
-    ensures same { untranslated info.new ≡ untranslated info.old }
+    ensures step { (held : List Mapping) → HoldsSame held mappings.now.held
+        → SourceNat (setup_in setup.now.hooks) held (path_state state.old events.old)
+        (step_result result (path_state state.new events.new)) }
+    ensures fits { (held : List Mapping) → HoldsSame held mappings.now.held → Fits state.old.info held
+        → Fits state.new.info held }
+    ensures same { untranslated state.new.info ≡ untranslated state.old.info }
     ensures spent { Spends events.old events.new setup.now.hooks.costs.postrouting_nat }
 {
-    let verdict = run_nat_chains(setup, HookStage::PostroutingNat, info, facts, events);
-    let found = apply_source_nat(setup.plant(), mappings, facts, info, verdict);
-    *info = found.unwrap_or(*info);
-    update_source(info, facts);
-    verdict_result(source_verdict(verdict, found))
+    let verdict = run_nat_chains(setup, HookStage::PostroutingNat, state, events);
+    if let HookVerdict::Dropped = verdict {
+        return Err(Cause::Rule);
+    }
+    if let CtInfo::New(_) = state.info {
+        let Some(after) = apply_source_nat(
+            setup.plant(),
+            mappings,
+            &state.facts,
+            &state.info,
+            verdict,
+        ) else {
+            return Err(Cause::NoPort);
+        };
+        state.info = after;
+    }
+    update_source(&state.info, &mut state.facts);
+    Ok(())
 }
 
 /// Runs the nat chains of a hook for a new connection; no other packet sees them.
@@ -78,41 +100,19 @@ pub fn translate_source(
 fn run_nat_chains(
     setup: &Setup,
     stage: HookStage,
-    info: &CtInfo,
-    facts: &mut Facts,
+    state: &mut PacketState,
     events: &mut Events,
 ) -> HookVerdict
     requires room { HasRoom events.old (stage_cost setup.now.hooks stage) }
-    ensures asked { (hook : Hook) → IsNatStage stage hook
-        → RunsNatChains (setup_in setup.now.hooks) hook info.now facts.old events.old.events
-        (record { verdict = result; facts = facts.new; events = events.new.events }) }
+    ensures ran { NatChains (setup_in setup.now.hooks) stage state.old.info state.old.facts
+        events.old.events
+        (record { verdict = result; facts = state.new.facts; events = events.new.events }) }
+    ensures info { state.new.info ≡ state.old.info }
     ensures spent { Spends events.old events.new (stage_cost setup.now.hooks stage) }
 {
-    match info {
-        CtInfo::New(_) => setup.hooks.run(stage, facts, events),
+    match &state.info {
+        CtInfo::New(_) => setup.hooks.run(stage, &mut state.facts, events),
         CtInfo::Tracked(_) | CtInfo::Related(_) | CtInfo::Invalid | CtInfo::Untracked =>
             HookVerdict::Accepted,
-    }
-}
-
-/// The verdict after destination NAT: only a drop stops the packet.
-fn destination_verdict(verdict: HookVerdict) -> HookVerdict
-    ensures { result ≡ destination_verdict verdict }
-{
-    match verdict {
-        HookVerdict::Dropped => HookVerdict::Dropped,
-        HookVerdict::Accepted | HookVerdict::Translated(_) => HookVerdict::Accepted,
-    }
-}
-
-/// The verdict after source NAT: a drop, or no free port, stops the packet.
-fn source_verdict(verdict: HookVerdict, found: Option<CtInfo>) -> HookVerdict
-    ensures { result ≡ source_verdict verdict found }
-{
-    match (verdict, found) {
-        (HookVerdict::Dropped, _) => HookVerdict::Dropped,
-        (HookVerdict::Accepted | HookVerdict::Translated(_), Some(_)) => HookVerdict::Accepted,
-        (HookVerdict::Translated(translation), None) => HookVerdict::Translated(translation),
-        (HookVerdict::Accepted, None) => HookVerdict::Translated(NatAction::Masquerade(None)),
     }
 }

@@ -1,30 +1,37 @@
 //! Processes a record.
-ghost use Rattle.std.specs.Prelude.{◌≡◌, ◌≤◌, IsTrue, false, [], length, vec_capacity};
+ghost use Rattle.std.specs.Prelude.{◌≡◌, IsTrue, false, [], ℕ, Some};
 ghost use Rattle.history.specs.declared.outcome.Outcome.TheVariants as outcomes;
 ghost use Rattle.conntrack.specs.ConntrackEntry.{IsNoneLater, live_at};
 ghost use Rattle.hook_runs.specs.Stages.{total_stage_cost};
-ghost use Rattle.stepping.specs.Carried.{interface_facts};
-ghost use Rattle.stepping.specs.Next.{sent_on};
+ghost use Rattle.translation.specs.declared.ct_info.CtInfo.TheVariants.{Untracked};
+ghost use Rattle.stepping.specs.Carried.{carried};
+ghost use Rattle.stepping.specs.Next.{Path, outcome_by, sent_on};
 ghost use Rattle.stepping.specs.Representing.{recorded_of};
-ghost use Rattle.stepping.specs.steps.Processing.{HasProcessedPacket, HasProcessedRecord, arrived_of, output_interface};
-ghost use Rattle.stepping.specs.steps.RunningHooks.{outcome_of};
-ghost use Rattle.stepping.specs.steps.Traversing.{Spends, setup_in};
+ghost use Rattle.stepping.specs.steps.Confirming.{begun_in};
+ghost use Rattle.stepping.specs.steps.Processing.{Follows, HasProcessed, output_interface};
+ghost use Rattle.stepping.specs.steps.Steps.{Spends, path_state, setup_in, step_result};
 
 use crate::arrival::{IncomingPacket, carried};
-use crate::confirm::{ConfirmedPacket, confirm};
-use crate::facts::{initial_facts, set_ct};
-use crate::hooks::{RoutingDecision, run_hooks};
-use crate::lookup::look_up_packet;
-use crate::lookup_key::flags_in;
+use crate::confirm::confirm;
+use crate::hooks::run_hooks;
+use crate::lookup::{flags_in, look_up};
 use crate::setup::Setup;
+use crate::state::PacketState;
+use arrayvec::ArrayVec;
 use connection_table::ConnectionTable;
 use conntrack::{Moment, Tracker};
 use history::{Cause, Outcome};
 use hook_runs::{Events, HookStage};
 use ip_headers::View;
 use pcap_io::Record;
-use rewrite::emit;
-use translation::CtInfo;
+use rewrite::rewrite_packet;
+use rule_meaning::Interface;
+
+/// The greatest total length of an IPv4 packet, in bytes.
+pub const MOST_PACKET_BYTES: usize = 65_535;
+
+/// The bytes of a packet, in a buffer of constant size.
+pub type PacketBuffer = ArrayVec<u8, MOST_PACKET_BYTES>;
 
 /// The result of a record.
 #[derive(Clone, Copy)]
@@ -44,32 +51,34 @@ pub fn process_record<T: Tracker>(
     now: Moment,
     connections: &mut ConnectionTable<T>,
     events: &mut Events,
-    packet: &mut Vec<u8>,
+    packet: &mut PacketBuffer,
 ) -> RecordResult
     requires live { live_at connections.old.limits now connections.old.held ≡ connections.old.held }
     requires later { IsNoneLater now connections.old.held }
     requires ready { IsTrue connections.old.has_room }
     requires none { events.old.events ≡ [] }
     requires empty { packet.old.items ≡ [] }
-    requires room { 65535 ≤ vec_capacity packet.old }
-    ensures processed { HasProcessedRecord (setup_in setup.now.hooks) (recorded_of record.now) now
-        connections.old.held connections.new.held result events.new.events packet.new.items }
+    ensures processed { HasProcessed (setup_in setup.now.hooks)
+        (carried (setup_in setup.now.hooks) (recorded_of record.now)) now connections.old.held
+        connections.new.held result events.new.events packet.new.items }
     ensures limits { connections.new.limits ≡ connections.old.limits }
+    // Only a new connection takes what is reserved.
+    ensures room { result.begun ≡ false → IsTrue connections.new.has_room }
     ensures spent { Spends events.old events.new (total_stage_cost setup.now.hooks) }
-    ensures small { length packet.new.items ≤ 65535 }
 {
-    let incoming = match carried(setup, record) {
+    let IncomingPacket { input, view } = match carried(setup, record) {
         Ok(incoming) => incoming,
         Err(cause) => return dropped(cause, 0),
     };
-    let length = incoming.view.total_length();
-    match process_packet(setup, &incoming, now, connections, events) {
-        Ok(confirmed) => {
-            send(&incoming.view, &confirmed.info, confirmed.decision, packet);
+    let length = view.total_length();
+    let mut state = PacketState::received(&view, input);
+    match process_packet(setup, &view, now, connections, &mut state, events) {
+        Ok(begun) => {
+            send(&view, &state, packet);
             RecordResult {
-                outcome: outcome_of(confirmed.decision),
+                outcome: outcome_by(state.facts.output),
                 length,
-                begun: confirmed.begun,
+                begun,
             }
         }
         Err(cause) => dropped(cause, length),
@@ -77,75 +86,68 @@ pub fn process_record<T: Tracker>(
 }
 
 /// Processes one packet: raw prerouting, the look-up, the other hooks with routing, and the
-/// confirmation.
+/// confirmation. Says whether it began a connection.
 ///
 /// # Errors
 /// The cause for which the packet is dropped.
 #[inline(always)]
 fn process_packet<T: Tracker>(
     setup: &Setup,
-    incoming: &IncomingPacket,
+    view: &View,
     now: Moment,
     connections: &mut ConnectionTable<T>,
+    state: &mut PacketState,
     events: &mut Events,
-) -> Result<ConfirmedPacket, Cause>
-    requires known { incoming.now.input
-        ≡ interface_facts setup.now.hooks.plant incoming.now.input.index }
+) -> Result<bool, Cause>
     requires live { live_at connections.old.limits now connections.old.held ≡ connections.old.held }
     requires later { IsNoneLater now connections.old.held }
     requires ready { IsTrue connections.old.has_room }
     requires none { events.old.events ≡ [] }
-    ensures processed { HasProcessedPacket (setup_in setup.now.hooks) (arrived_of incoming.now) now
-        connections.old.held connections.new.held result events.new.events }
+    requires not_looked_up { state.old.info ≡ Untracked }
+    ensures path { Path (setup_in setup.now.hooks) connections.old.held view.now.packet.now
+        (path_state state.old events.old) (step_result result (path_state state.new events.new)) }
+    ensures follows { Follows now view.now.packet.now
+        (step_result result (path_state state.new events.new)) (begun_in result)
+        connections.old.held connections.new.held }
     ensures limits { connections.new.limits ≡ connections.old.limits }
+    ensures room { begun_in result ≡ false → IsTrue connections.new.has_room }
     ensures spent { Spends events.old events.new (total_stage_cost setup.now.hooks) }
 {
     // The stages together have no more events than are reserved.
     setup.hooks.costs();
-    let view = &incoming.view;
-    let mut facts = initial_facts(view, incoming.input);
-    setup.run(HookStage::PreroutingRaw, &mut facts, events)?;
-    let lookup_result = look_up_packet(connections, facts.ct, view, now);
-    let mut info = lookup_result.info;
-    set_ct(&mut facts, info.ct());
-    let hooks_passed = run_hooks(setup, connections.mappings(), &mut info, &mut facts, events)?;
+    setup.run(HookStage::PreroutingRaw, state, events)?;
     let flags = flags_in(view.transport());
-    confirm(
-        connections,
-        lookup_result.belonging,
-        &info,
-        flags,
-        &hooks_passed,
-        now,
-    )
+    let belonging = look_up(connections, view, flags, now, state);
+    run_hooks(setup, connections.mappings(), state, events)?;
+    confirm(connections, belonging, flags, now, state)
 }
 
 /// Writes the packet as it leaves, if it is forwarded: with its tuple after NAT and its TTL
 /// decremented.
 #[inline(always)]
-fn send(view: &View, info: &CtInfo, decision: RoutingDecision, packet: &mut Vec<u8>)
+fn send(view: &View, state: &PacketState, packet: &mut PacketBuffer)
     requires empty { packet.old.items ≡ [] }
-    requires room { 65535 ≤ vec_capacity packet.old }
-    ensures sent { packet.new.items ≡ sent_on view.now.packet.now info.now (outcome_of decision) }
-    ensures small { length packet.new.items ≤ 65535 }
+    ensures sent { packet.new.items ≡ sent_on view.now.packet.now state.now.info
+        (outcome_by state.now.facts.output) }
 {
-    let RoutingDecision::Forward(_) = decision else {
+    if state.facts.output.is_none() {
         return;
-    };
-    let change = info.change(view, view.ttl().saturating_sub(1));
-    let Ok(()) = emit(view, &change, packet) else {
+    }
+    let change = state.info.change(view, view.ttl().saturating_sub(1));
+    let Ok(()) = packet.try_extend_from_slice(view.packet) else {
         unreachable!()
     };
+    rewrite_packet(packet.as_mut_slice(), view, &change);
 }
 
-/// The outcome of a routing decision.
+/// The outcome of a packet that isn't dropped: forwarded where it has an output interface.
 #[inline(always)]
-fn outcome_of(decision: RoutingDecision) -> Outcome
-    ensures { result ≡ outcome_of decision }
+fn outcome_by(output: Option<Interface>) -> Outcome
+    ensures { result ≡ outcome_by output }
 {
-    match decision {
-        RoutingDecision::Local => Outcome::Local,
-        RoutingDecision::Forward(interface) => Outcome::Passed(interface),
+    match output {
+        Some(interface) => Outcome::Passed(interface.index),
+        None => Outcome::Local,
     }
 }
 

@@ -3,18 +3,19 @@ ghost use Rattle.std.specs.Prelude.{◌≡◌, ◌≤◌, ℕ, [], IfOk, IfSome}
 ghost use Rattle.std.specs.Option.{option_map};
 ghost use Rattle.nft_tree.specs.Tree.{TableTree};
 ghost use Rattle.rule_paths.specs.Paths.{AreAllCosts, Caller, ruleset_cost};
-ghost use Rattle.rule_meaning.specs.Hooks.{Chains};
-ghost use Rattle.hook_runs.specs.Stages.{total_stage_cost, chains_in_stage, stage_cost};
+ghost use Rattle.hook_runs.specs.Stages.{total_stage_cost, stage_cost};
 ghost use Rattle.stepping.specs.Carried.{input_interface, interface_facts};
 ghost use Rattle.stepping.specs.Representing.{setup_of};
-ghost use Rattle.stepping.specs.steps.Traversing.{Traverses, HasRoom, Spends, verdict_result, setup_in};
+ghost use Rattle.stepping.specs.Paths.{RunsStage};
+ghost use Rattle.stepping.specs.steps.Steps.{HasRoom, Spends, path_state, setup_in, step_result};
 
-use crate::facts::{interface_facts, interface_of};
+use crate::interfaces::{interface_facts, interface_of};
+use crate::state::PacketState;
 use box_file::Plant;
 use history::Cause;
 use hook_runs::{Events, HookRuns, HookStage};
 use rule_check::Checked;
-use rule_meaning::{Facts, HookVerdict, Interface};
+use rule_meaning::{HookVerdict, Interface};
 use std::alloc::{AllocError, Global};
 
 /// The compiled chains of a box, and the input interface of packets whose link header has none.
@@ -64,31 +65,26 @@ impl Setup {
         }
     }
 
-    /// Runs the chains of a stage, which update the facts in place.
+    /// Runs the chains of a stage.
     ///
     /// # Errors
-    /// The cause for which the packet is dropped.
+    /// `Rule`: a rule or a policy drops the packet.
     #[inline(always)]
-    pub fn run(&self, stage: HookStage, facts: &mut Facts, events: &mut Events) -> Result<(), Cause>
+    pub fn run(
+        &self,
+        stage: HookStage,
+        state: &mut PacketState,
+        events: &mut Events,
+    ) -> Result<(), Cause>
         requires room { HasRoom events.old (stage_cost self.now.hooks stage) }
-        ensures traverses { Traverses
-            (Chains self.now.hooks.plant self.now.hooks.rules (chains_in_stage stage)) facts.old
-            events.old.events result facts.new events.new.events }
+        ensures step { RunsStage (setup_in self.now.hooks) stage (path_state state.old events.old)
+            (step_result result (path_state state.new events.new)) }
+        ensures info { state.new.info ≡ state.old.info }
         ensures spent { Spends events.old events.new (stage_cost self.now.hooks stage) }
     {
-        verdict_result(self.hooks.run(stage, facts, events))
-    }
-}
-
-/// The result of a hook's verdict: `Rule` for a drop, `NoPort` for a translation without a free
-/// port.
-#[inline(always)]
-pub fn verdict_result(verdict: HookVerdict) -> Result<(), Cause>
-    ensures { result ≡ verdict_result verdict }
-{
-    match verdict {
-        HookVerdict::Accepted => Ok(()),
-        HookVerdict::Dropped => Err(Cause::Rule),
-        HookVerdict::Translated(_) => Err(Cause::NoPort),
+        match self.hooks.run(stage, &mut state.facts, events) {
+            HookVerdict::Dropped => Err(Cause::Rule),
+            HookVerdict::Accepted | HookVerdict::Translated(_) => Ok(()),
+        }
     }
 }

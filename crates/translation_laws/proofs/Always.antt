@@ -1,42 +1,39 @@
 -- The laws, in each history.
 use Rattle.std.specs.Prelude.{max}
-use Rattle.std.proofs.Common.{◌≤◌, arith, ◌≡◌, ◌≢◌, ℕ, true, false, IsTrue, List, None, Result, Ok, Err, inl, refl, sym}
-use Rattle.std.proofs.Common.{ap, subst, ◌∙◌}
-use Rattle.std.specs.List.{All, Contains}
+use Rattle.std.proofs.Common.{◌≤◌, arith, ◌≡◌, ◌≢◌, ℕ, IsTrue, List, None, Result, Ok, Err, inl, refl, ap, subst}
+use Rattle.std.specs.List.{All}
 use Rattle.std.proofs.lemmas.List.Elements.{All-contains}
-use Rattle.box_file.specs.Box.{owner}
 use Rattle.ip_headers.specs.declared.tuple.Tuple.{Tuple}
-use Rattle.conntrack.specs.declared.connection.Flags.{Flags}
+use Rattle.ip_headers.specs.Header.{fault_of}
 use Rattle.conntrack.specs.declared.connection.ConntrackEntry.{ConntrackEntry}
-use Rattle.conntrack.specs.ConntrackEntry.{have_disjoint_tuples, belongs_in}
+use Rattle.conntrack.specs.ConntrackEntry.{have_disjoint_tuples}
+use Rattle.conntrack.specs.Histories.{NoChange}
 use Rattle.nat_mapping.specs.Mappings.{IsOneToOne}
 use Rattle.history.specs.declared.outcome.Cause.{Cause}
 use Rattle.pcap_io.specs.Pcap.{Recorded}
 use Rattle.history.specs.Setup.{Setup}
 use Rattle.history.specs.History.{Entry, moment_of}
 use Rattle.translation.specs.LiveMappings.{mappings_in}
-use Rattle.translation.specs.Nat.{has_ports, is_same_interface}
-use Rattle.stepping.proofs.Carrying.{one_carried}
-use Rattle.stepping.specs.Carried.{ReceivedPacket}
-use Rattle.stepping.specs.Next.{Next, live_at_record, moment_after}
+use Rattle.stepping.specs.Carried.{ReceivedPacket, carried}
+use Rattle.stepping.specs.Next.{EntryOf, Next, live_at_record, moment_after}
 use Rattle.translation_laws.specs.Histories.{IsHistory, alive_at, latest_choice, listed_at}
-use Rattle.translation_laws.specs.Laws.{AreApart, GivenToOne, Hairpins, KeepsClass, LeavesTranslated, LiveLaws}
-use Rattle.translation_laws.specs.Laws.{OneInternal, OnePort, HistoryLaws, IsHairpinned, WasChosen, mappings_before}
+use Rattle.translation_laws.specs.Laws.{AreApart, BeginsOne, ComesWith, CountsForNone, GivenToOne, Hairpins}
+use Rattle.translation_laws.specs.Laws.{HistoryLaws, IsAccepted, KeepsClass, LeavesTranslated, LiveLaws, OneInternal}
+use Rattle.translation_laws.specs.Laws.{OnePort, WasChosen}
+use Rattle.translation_laws.proofs.Carried.{FaultLaws, IsFaultless, carried_faultless}
 use Rattle.translation_laws.proofs.Chosen.{AllChosen, CandidatesAlike, HasClass, chosen_kept, class_kept}
 use Rattle.translation_laws.proofs.Each.{each_mapping}
+use Rattle.translation_laws.proofs.First.{begins_one}
 use Rattle.translation_laws.proofs.Given.{given_one}
 use Rattle.translation_laws.proofs.Hairpins.{turns_back}
 use Rattle.translation_laws.proofs.Listed.{apart_listed, listed_mapping}
 use Rattle.translation_laws.proofs.Lives.{lives_always}
 use Rattle.translation_laws.proofs.Kept.{MappingLaws, StillApart, after_one, apart_kept, one_to_one_kept}
 use Rattle.translation_laws.proofs.Lifted.{Always, OneEntryMore, lifted, lifted_before}
-use Rattle.translation_laws.proofs.Leaves.{SendingLaws, goes_with}
+use Rattle.translation_laws.proofs.Leaves.{BetweenEnds, GoesSo, goes_so}
 use Rattle.translation_laws.proofs.Made.{IsMade, made_kept}
-use Rattle.translation_laws.proofs.Passing.{passes_with}
-
-abbrev interface_in : Result ReceivedPacket Cause → ℕ
-interface_in (Ok a) = a.interface
-interface_in (Err cause) = 0
+use Rattle.translation_laws.proofs.Passing.{AcceptedWith, accepted_with, belongs_by, dropped_none, passes_accepted}
+use Rattle.translation_laws.proofs.Touched.{touches_own}
 
 -- what the laws follow from
 pub record Known : Type 0 where
@@ -44,7 +41,8 @@ pub record Known : Type 0 where
   pub still : StillApart
   pub laws : MappingLaws
   pub all : CandidatesAlike
-  pub sending : SendingLaws
+  pub sending : BetweenEnds
+  pub faults : FaultLaws
 
 module _ (known : Known) (setup : Setup) where
   abbrev IsOne : List Entry → List ConntrackEntry → Type 0
@@ -97,37 +95,56 @@ module _ (known : Known) (setup : Setup) where
     lives = lives_always setup history now;
   }
 
-  module _ (history : List Entry) (is : IsHistory setup history) (r : Recorded) (e : Entry) (n : Next setup history r e)
-    where
-      hairpins_so : Hairpins setup history r e
-      hairpins_so a carried t lookup_tuple ports m among kind external other begins untold interface passed =
-          let held = live_at_record setup history r in
-          let p = passes_with setup history r e n t lookup_tuple interface passed in
-          let s = p.passes.s in
-          let one = lifted_before known.more setup IsOne (one_to_one_kept known.laws) history is r in
-          let entered : a.interface ≡ p.passes.a.interface =
-          ap interface_in (one_carried setup r (Ok a) p.arrived carried p.carried ∙ p.passes.arrives) in
-          subst (λ (f : Flags). IsHairpinned t m (mappings_before setup history r t f) e) (sym p.flags)
-          (subst (λ (x : Tuple). IsHairpinned x m (mappings_before setup history r x s.flags) e) p.tuple
-          (turns_back setup held (moment_after history r) r e t interface p begins known.laws known.sending
-          (after_one known.laws held (belongs_in held s.tuple s.flags) one)
-          (subst (λ (x : Tuple). has_ports x.kind ≡ true) (sym p.tuple) ports) m
-          (subst (λ (x : Tuple). Contains (mappings_before setup history r x s.flags) m) (sym p.tuple)
-          (subst (λ (f : Flags). Contains (mappings_before setup history r t f) m) p.flags among))
-          (subst (λ (x : Tuple). m.kind ≡ x.kind) (sym p.tuple) kind)
-          (subst (λ (x : Tuple). m.external ≡ x.destination) (sym p.tuple) external)
-          (subst (λ (i : ℕ). is_same_interface i (owner setup.plant m.external.address) ≡ false) entered other) untold))
+  -- the entry of a record
+  module _ (history : List Entry) (is : IsHistory setup history) (r : Recorded) (e : Entry) where
+    abbrev held : List ConntrackEntry
+    held = live_at_record setup history r
 
-      leaves_so : LeavesTranslated setup history r e
-      leaves_so t lookup_tuple h among incoming unended interface passed =
-          let held = live_at_record setup history r in
-          let apart = lifted_before known.more setup IsApart (apart_kept known.still) history is r in
-          let made = lifted_before known.more setup (λ history held. All IsMade held) (made_kept known.laws) history is
-          r
-          in
-          goes_with setup held (moment_after history r) r e t interface
-          (passes_with setup history r e n t lookup_tuple interface passed) known.sending h
-          (All-contains IsMade held h made among) apart among incoming unended
+    abbrev now : ℕ
+    now = moment_after history r
+
+    faultless : (a : ReceivedPacket) → carried setup r ≡ Ok a → fault_of a.packet ≡ None
+    faultless a arrived = subst IsFaultless arrived (carried_faultless known.faults setup r)
+
+    accepted_so : Next setup history r e → (a : ReceivedPacket) (t : Tuple) → ComesWith setup r e a t → IsAccepted e
+        → AcceptedWith setup held now a t e
+    accepted_so n a t comes accepted =
+        accepted_with setup held now a t e
+        (subst (λ (x : Result ReceivedPacket Cause). EntryOf setup held now x e) comes.carries n.entry) comes.tuple
+        comes.tracked accepted
+
+    leaves_so : Next setup history r e → LeavesTranslated setup history r e
+    leaves_so n a t comes h among incoming unended = record {
+      touched = λ accepted. (goes accepted).touched;
+      leaves = λ interface passed. (goes (passes_accepted e interface passed)).leaves interface passed;
+    }
+      where
+        goes : IsAccepted e → GoesSo h t e
+        goes accepted =
+            goes_so setup held now a t e (accepted_so n a t comes accepted) known.sending (faultless a comes.carries) h
+            (All-contains IsMade held h
+            (lifted_before known.more setup (λ history held. All IsMade held) (made_kept known.laws) history is r)
+            among)
+            (lifted_before known.more setup IsApart (apart_kept known.still) history is r) among incoming unended
+
+    begins_so : Next setup history r e → BeginsOne setup history r e
+    begins_so n a t comes new free accepted =
+        begins_one setup held now a t e (accepted_so n a t comes accepted) new free
+
+    dropped_so : Next setup history r e → CountsForNone e
+    dropped_so n cause dropped = by_carried (carried setup r) n.entry
+      where
+        by_carried : (x : Result ReceivedPacket Cause) → EntryOf setup held now x e → e.tracked.change ≡ NoChange
+        by_carried (Err c) q = ap (λ (x : Entry). x.tracked.change) q
+        by_carried (Ok a) q = dropped_none setup held now a e q cause dropped
+
+    hairpins_so : Next setup history r e → Hairpins setup history r e
+    hairpins_so n a t comes ports m among kind external other begins untold interface passed =
+        turns_back setup held now a t e (accepted_so n a t comes (passes_accepted e interface passed)) interface passed
+        begins known.laws known.sending (faultless a comes.carries)
+        (after_one known.laws held (belongs_by held a.packet t)
+        (lifted_before known.more setup IsOne (one_to_one_kept known.laws) history is r)) ports m among kind external
+        other untold
 
   pub history_obeys : (history : List Entry) → IsHistory setup history → HistoryLaws setup history
   history_obeys history is = record {
@@ -137,6 +154,9 @@ module _ (known : Known) (setup : Setup) where
           given = given_always history is (moment_after history r) reached;
           lives = lives_always setup history (moment_after history r);
           leaves = leaves_so history is r e n;
+          touches = touches_own setup history r e n;
+          begins = begins_so history is r e n;
+          dropped = dropped_so history is r e n;
           hairpins = hairpins_so history is r e n;
         };
   }

@@ -5,10 +5,11 @@ use Rattle.std.proofs.Common.{is_some, ◌⊎◌, inl, inr, refl, sym, ap, subst
 use Rattle.std.specs.List.{All, Contains}
 use Rattle.std.proofs.lemmas.Bool.{cases_Bool, cond-true, cond-false}
 use Rattle.std.proofs.lemmas.List.Elements.{All-filter, All-nil, All-weaker}
+use Rattle.std.proofs.lemmas.Option.{none-some}
 use Rattle.list_laws.specs.Options.{none_not_some, some_unique}
 use Rattle.ip_headers.specs.declared.tuple.Endpoint.{Endpoint}
 use Rattle.ip_headers.specs.declared.tuple.Kind.{Kind}
-use Rattle.ip_headers.specs.declared.tuple.Kind.TheVariants.{Tcp, Udp, EchoRequest, EchoReply, Other}
+use Rattle.ip_headers.specs.declared.tuple.Kind.TheVariants.{EchoRequest, EchoReply, Other}
 use Rattle.ip_headers.specs.declared.tuple.Mapping.{Mapping}
 use Rattle.ip_headers.specs.declared.tuple.Tuple.{Tuple}
 use Rattle.port_pool.specs.declared.order.Order.TheVariants as orders
@@ -16,7 +17,7 @@ use Rattle.port_pool.specs.declared.range.CandidateRange.{CandidateRange}
 use Rattle.port_pool.specs.Candidates.{same_class_and_parity, candidates}
 use Rattle.nat_mapping.specs.Mappings.{first_free_port, is_port_held, or_else, port_of, same_mapping, source_of}
 use Rattle.conntrack.specs.declared.belonging.Belonging.{Belonging}
-use Rattle.conntrack.specs.declared.belonging.Belonging.TheVariants.{NotFound, Ends, Found}
+use Rattle.conntrack.specs.declared.belonging.Belonging.TheVariants.{Found}
 use Rattle.conntrack.specs.declared.connection.ConnId.{ConnId}
 use Rattle.conntrack.specs.declared.connection.ConntrackEntry.{ConntrackEntry}
 use Rattle.conntrack.specs.ConntrackEntry.{belongs_in, is_live}
@@ -30,7 +31,6 @@ use Rattle.translation.specs.declared.external.ExternalSource.{ExternalSource}
 use Rattle.translation.specs.LiveMappings.{mappings_in}
 use Rattle.translation.specs.Nat.{has_ports, range_of}
 use Rattle.stepping.specs.Confirmations.{port_choice_by, port_choice_in}
-use Rattle.stepping.specs.Next.{at_moment}
 use Rattle.translation_laws.specs.Histories.{choice_in, is_mapping, latest_choice, or_earlier}
 use Rattle.translation_laws.proofs.Begun.{IsBegun, IsCounted}
 use Rattle.translation_laws.proofs.NewConnections.{NewConnectionSo, SourceSo, stayed, went, with_nat_status_so, end_at}
@@ -50,15 +50,12 @@ CandidatesAlike = (s p : ℕ) → Contains (candidates orders.Ports s None) p �
 fresh_alike : CandidatesAlike → (mappings : List Mapping) (kind : Kind) (internal : Endpoint) (address port : ℕ)
     → has_ports kind ≡ true
     → first_free_port kind internal address None mappings ≡ Some port → same_class_and_parity internal.port port ≡ true
-fresh_alike all mappings Tcp internal address port ports e =
-    all internal.port port (found_so (λ q. not (is_port_held Tcp address mappings q))
-    (candidates orders.Ports internal.port None) port e).0
-fresh_alike all mappings Udp internal address port ports e =
-    all internal.port port (found_so (λ q. not (is_port_held Udp address mappings q))
-    (candidates orders.Ports internal.port None) port e).0
 fresh_alike all mappings EchoRequest internal address port ports e = cc
 fresh_alike all mappings EchoReply internal address port ports e = cc
 fresh_alike all mappings (Other number) internal address port ports e = cc
+fresh_alike all mappings kind internal address port ports e =
+    all internal.port port (found_so (λ q. not (is_port_held kind address mappings q))
+    (candidates orders.Ports internal.port None) port e).0
 
 -- an allocation from all ports
 unnamed : (ports : Option PortInterval) → is_some ports ≡ false → range_of ports ≡ None
@@ -156,6 +153,11 @@ module _ (others : List ConntrackEntry) (t reply : Tuple) (source dest : Option 
 abbrev choice_by : Mapping → Option Bool → Option Mapping → Option Bool
 choice_by m port_choice source = cond (is_mapping m source) port_choice None
 
+chosen_or_earlier : (o earlier : Option Bool) → (o ≢ None) ⊎ (earlier ≢ None) → or_earlier o earlier ≢ None
+chosen_or_earlier None earlier (inl some) = absurd (some refl)
+chosen_or_earlier None earlier (inr some) = some
+chosen_or_earlier (Some has_port_range) earlier some = λ none. none-some has_port_range (sym none)
+
 module _ (m : Mapping) (history : List Entry) (e : Entry) where
   choice_is : (tracked : TrackedPacket) → e.tracked ≡ tracked
       → choice_in m e ≡ choice_by m e.port_choice (begun tracked.change).source
@@ -164,13 +166,6 @@ module _ (m : Mapping) (history : List Entry) (e : Entry) where
   -- an entry that allocates no port keeps the latest choice
   none_chosen : choice_in m e ≡ None → latest_choice m (e ∷ history) ≡ latest_choice m history
   none_chosen none = ap (λ (o : Option Bool). or_earlier o (latest_choice m history)) none
-
-  still_chosen : latest_choice m history ≢ None → latest_choice m (e ∷ history) ≢ None
-  still_chosen chosen = by_choice (choice_in m e)
-    where
-      by_choice : (o : Option Bool) → or_earlier o (latest_choice m history) ≢ None
-      by_choice None = chosen
-      by_choice (Some has_port_range) = λ k. none_not_some (Some has_port_range) has_port_range k refl
 
   -- the latest choice is the entry's, or an earlier one
   choice_or_earlier : (o : Option Bool) (has_port_range : Bool)
@@ -182,7 +177,7 @@ module _ (m : Mapping) (history : List Entry) (e : Entry) where
 chosen_by : (m : Mapping) (port_choice : Option Bool) (source : Option Mapping) (has_port_range : Bool)
     → choice_by m port_choice source ≡ Some has_port_range
     → (source ≡ Some m) × (port_choice ≡ Some has_port_range)
-chosen_by m port_choice None has_port_range e = absurd (none_not_some {A = Bool} None has_port_range refl e)
+chosen_by m port_choice None has_port_range e = absurd (none-some {A = Bool} has_port_range e)
 chosen_by m port_choice (Some n) has_port_range e = by_test (cases_Bool (same_mapping m n))
   where
     by_test : (same_mapping m n ≡ true) ⊎ (same_mapping m n ≡ false) → (Some n ≡ Some m)
@@ -202,104 +197,85 @@ counted_class : CandidatesAlike → (port_choice : Option Bool) (confirmation : 
     → IsCounted port_choice confirmation b p.tuple held → (m : Mapping) → has_ports m.kind ≡ true
     → choice_by m port_choice (begun (change_of_packet b p confirmation)).source ≡ Some false
     → IsTrue (same_class_and_parity m.internal.port m.external.port)
-counted_class all port_choice Unconfirmed NotFound p held c m ports e =
-    absurd (none_not_some {A = Bool} None false refl e)
-counted_class all port_choice Unconfirmed (Ends id) p held c m ports e =
-    absurd (none_not_some {A = Bool} None false refl e)
-counted_class all port_choice Unconfirmed (Found place) p held c m ports e =
-    absurd (none_not_some {A = Bool} None false refl e)
+counted_class all port_choice Unconfirmed b p held c m ports e = absurd (none-some {A = Bool} false e)
 counted_class all port_choice (Confirmed mark reply source dest) (Found place) p held c m ports e =
-    absurd (none_not_some {A = Bool} None false refl e)
-counted_class all port_choice (Confirmed mark reply source dest) NotFound p held c m ports e =
+    absurd (none-some {A = Bool} false e)
+counted_class all port_choice (Confirmed mark reply source dest) b p held c m ports e =
     let so = chosen_by m port_choice source false e in
-    source_alike held p.tuple reply source dest port_choice c all m so.0 so.1 ports
-counted_class all port_choice (Confirmed mark reply source dest) (Ends id) p held c m ports e =
-    let so = chosen_by m port_choice source false e in
-    source_alike (after_end (Ends id) held) p.tuple reply source dest port_choice c all m so.0 so.1 ports
+    source_alike (after_end b held) p.tuple reply source dest port_choice c all m so.0 so.1 ports
 
 pub class_kept : CandidatesAlike → IsKept (λ history held. HasClass history)
 class_kept all = record {
-  first = λ m ports e. absurd (none_not_some {A = Bool} None false refl e);
+  first = λ m ports e. absurd (none-some {A = Bool} false e);
   live = λ limits history held now has. has;
   none = λ history held e now is has m ports latest.
       has m ports (sym (none_chosen m history e (choice_is m history e (updates.entry_at now) is)) ∙ latest);
-  packet = λ history held e id now s confirmation p distinct read is touched has m ports latest.
+  packet = λ history held e id x confirmation p distinct read is touched has m ports latest.
       elim (choice_or_earlier m history e (choice_in m e) false latest) [
-        | inl here ↦ counted_class all e.port_choice confirmation (belongs_in held s.tuple s.flags) (at_moment now s)
-            held touched m ports
-            (sym (choice_is m history e _ is) ∙ here)
+        | inl here ↦ counted_class all e.port_choice confirmation (belongs_in held x.tuple x.flags) x held touched m
+            ports (sym (choice_is m history e _ is) ∙ here)
         | inr earlier ↦ has m ports earlier
       ];
 }
 
 -- ---- the port of each live mapping was allocated
 
+abbrev IsChosen : List Entry → Mapping → Type 0
+IsChosen history m = latest_choice m history ≢ None
+
 abbrev pub AllChosen : List Entry → List ConntrackEntry → Type 0
-AllChosen history held = All (MappingsAre (λ m. latest_choice m history ≢ None)) held
+AllChosen history held = All (MappingsAre (IsChosen history)) held
 
 module _ (laws : MappingLaws) (history : List Entry) (e : Entry) where
-  abbrev Chosen : Mapping → Type 0
-  Chosen m = latest_choice m (e ∷ history) ≢ None
-
   still_all : (held : List ConntrackEntry) → AllChosen history held → AllChosen (e ∷ history) held
   still_all held all =
-      All-weaker (MappingsAre (λ m. latest_choice m history ≢ None)) (MappingsAre Chosen)
-      (λ h one m has. still_chosen m history e (one m has)) held all
+      All-weaker (MappingsAre (IsChosen history)) (MappingsAre (IsChosen (e ∷ history)))
+      (λ h one m has. chosen_or_earlier (choice_in m e) (latest_choice m history) (inr (one m has))) held all
 
   -- what a connection is begun with beside others
   begun_chosen : (others : List ConntrackEntry) (id : ConnId) (p : Arrival) (mark : ℕ) (reply : Tuple)
       (source dest : Option Mapping)
       → ((m : Mapping) → choice_in m e ≡ choice_by m e.port_choice source)
       → AllChosen history others → IsBegun others p.tuple reply source dest e.port_choice
-      → MappingsAre Chosen (begun_by id p mark reply source dest)
+      → MappingsAre (IsChosen (e ∷ history)) (begun_by id p mark reply source dest)
   begun_chosen others id p mark reply source dest is all b m has =
-      elim has [
-        | inl of ↦ by_choice (source_chosen others p.tuple reply source dest e.port_choice b m of) of
-        | inr to ↦ among (dest_held laws (mappings_in others) p.tuple b.new_connection
-            (drafted others p.tuple reply source dest e.port_choice b) m (sym b.to ∙ to))
-      ]
+      chosen_or_earlier (choice_in m e) (latest_choice m history) (by_place has)
     where
-      among : Contains (mappings_in others) m → Chosen m
-      among k = still_chosen m history e (each_mapping (λ n. latest_choice n history ≢ None) others all m k)
+      before : Contains (mappings_in others) m → (choice_in m e ≢ None) ⊎ IsChosen history m
+      before k = inr (each_mapping (IsChosen history) others all m k)
 
-      here : (source ≡ Some m) → choice_in m e ≡ e.port_choice
+      here : source ≡ Some m → choice_in m e ≡ e.port_choice
       here of = is m ∙ ap (choice_by m e.port_choice) of
           ∙ cond-true (same_mapping m m) e.port_choice None (mapping_same m)
 
-      latest : choice_in m e ≢ None → Chosen m
-      latest some = by_option (choice_in m e) some
-        where
-          by_option : (o : Option Bool) → o ≢ None → or_earlier o (latest_choice m history) ≢ None
-          by_option None some = absurd (some refl)
-          by_option (Some has_port_range) some = some
+      by_choice : source ≡ Some m → (e.port_choice ≢ None) ⊎ Contains (mappings_in others) m
+          → (choice_in m e ≢ None) ⊎ IsChosen history m
+      by_choice of (inl some) = inl (λ none. some (sym (here of) ∙ none))
+      by_choice of (inr k) = before k
 
-      by_choice : (e.port_choice ≢ None) ⊎ Contains (mappings_in others) m → source ≡ Some m → Chosen m
-      by_choice (inl port_choice) of = latest (λ none. port_choice (sym (here of) ∙ none))
-      by_choice (inr k) of = among k
+      by_place : (source ≡ Some m) ⊎ (dest ≡ Some m) → (choice_in m e ≢ None) ⊎ IsChosen history m
+      by_place (inl of) = by_choice of (source_chosen others p.tuple reply source dest e.port_choice b m of)
+      by_place (inr to) = before (dest_held laws (mappings_in others) p.tuple b.new_connection
+          (drafted others p.tuple reply source dest e.port_choice b) m (sym b.to ∙ to))
 
   begun_all : (b : Belonging) (id : ConnId) (p : Arrival) (confirmation : Confirmation) (held : List ConntrackEntry)
       → e.tracked ≡ updates.entry_of b p confirmation → AllChosen history (after_end b held)
       → IsCounted e.port_choice confirmation b p.tuple held
-      → IsBegunSo (MappingsAre Chosen) b id p confirmation
+      → IsBegunSo (MappingsAre (IsChosen (e ∷ history))) b id p confirmation
   begun_all (Found place) id p confirmation held is all c = tt
-  begun_all NotFound id p Unconfirmed held is all c = tt
-  begun_all (Ends x) id p Unconfirmed held is all c = tt
-  begun_all NotFound id p (Confirmed mark reply source dest) held is all c =
-      begun_chosen held id p mark reply source dest (λ m. choice_is m history e _ is) all c
-  begun_all (Ends x) id p (Confirmed mark reply source dest) held is all c =
-      begun_chosen (after_end (Ends x) held) id p mark reply source dest (λ m. choice_is m history e _ is) all c
+  begun_all b id p Unconfirmed held is all c = tt
+  begun_all b id p (Confirmed mark reply source dest) held is all c =
+      begun_chosen (after_end b held) id p mark reply source dest (λ m. choice_is m history e _ is) all c
 
 pub chosen_kept : MappingLaws → IsKept AllChosen
 chosen_kept laws = record {
-  first = All-nil (MappingsAre (λ m. latest_choice m [] ≢ None));
-  live = λ limits history held now all.
-      All-filter (is_live limits now) (MappingsAre (λ m. latest_choice m history ≢ None)) held all;
+  first = All-nil (MappingsAre (IsChosen []));
+  live = λ limits history held now all. All-filter (is_live limits now) (MappingsAre (IsChosen history)) held all;
   none = λ history held e now is all. still_all laws history e held all;
-  packet = λ history held e id now s confirmation p distinct read is touched all.
-      let b = belongs_in held s.tuple s.flags in
-      let left = each_after_end (MappingsAre (λ m. latest_choice m history ≢ None)) b held all in
-      each_after_packet (MappingsAre (λ m. latest_choice m (e ∷ history) ≢ None)) (λ direction flags mark now h k. k) b
-      id (at_moment now s) confirmation held
-      (still_all laws history e (after_end b held) left)
-      (begun_all laws history e b id (at_moment now s) confirmation held is left touched);
+  packet = λ history held e id x confirmation p distinct read is touched all.
+      let b = belongs_in held x.tuple x.flags in
+      let left = each_after_end (MappingsAre (IsChosen history)) b held all in
+      each_after_packet (MappingsAre (IsChosen (e ∷ history))) (λ direction flags mark now h k. k) b id x confirmation
+      held (still_all laws history e (after_end b held) left)
+      (begun_all laws history e b id x confirmation held is left touched);
 }

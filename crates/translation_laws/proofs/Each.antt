@@ -10,7 +10,7 @@ use Rattle.list_laws.specs.Elements.{Contains-cases, Contains-tail}
 use Rattle.ip_headers.specs.declared.tuple.Mapping.{Mapping}
 use Rattle.ip_headers.specs.declared.tuple.Tuple.{Tuple}
 use Rattle.conntrack.specs.declared.belonging.Belonging.{Belonging}
-use Rattle.conntrack.specs.declared.belonging.Belonging.TheVariants.{NotFound, Ends, Found}
+use Rattle.conntrack.specs.declared.belonging.Belonging.TheVariants.{Ends, Found}
 use Rattle.conntrack.specs.declared.connection.ConnId.{ConnId}
 use Rattle.conntrack.specs.declared.connection.Direction.{Direction}
 use Rattle.conntrack.specs.declared.connection.Flags.{Flags}
@@ -37,10 +37,8 @@ module _ (P : ConntrackEntry → Type 0) where
   -- so is one that a packet begins
   abbrev pub IsBegunSo : Belonging → ConnId → Arrival → Confirmation → Type 0
   IsBegunSo (Found place) id p confirmation = Unit {0}
-  IsBegunSo NotFound id p Unconfirmed = Unit {0}
-  IsBegunSo (Ends e) id p Unconfirmed = Unit {0}
-  IsBegunSo NotFound id p (Confirmed mark reply source dest) = P (begun_by id p mark reply source dest)
-  IsBegunSo (Ends e) id p (Confirmed mark reply source dest) = P (begun_by id p mark reply source dest)
+  IsBegunSo b id p Unconfirmed = Unit {0}
+  IsBegunSo b id p (Confirmed mark reply source dest) = P (begun_by id p mark reply source dest)
 
   -- a touch keeps it
   abbrev pub IsTouchedSo : Type 0
@@ -65,16 +63,13 @@ module _ (P : ConntrackEntry → Type 0) where
     each_after_packet (Found place) id p Unconfirmed held all begun = all
     each_after_packet (Found place) id p (Confirmed mark reply source dest) held all begun =
         each_touched place.id place.direction p.flags mark p.moment held all
-    each_after_packet NotFound id p Unconfirmed held all begun = all
-    each_after_packet NotFound id p (Confirmed mark reply source dest) held all begun = All-push P held _ all begun
-    each_after_packet (Ends e) id p Unconfirmed held all begun = all
-    each_after_packet (Ends e) id p (Confirmed mark reply source dest) held all begun =
-        All-push P (after_end (Ends e) held) _ all begun
+    each_after_packet b id p Unconfirmed held all begun = all
+    each_after_packet b id p (Confirmed mark reply source dest) held all begun =
+        All-push P (after_end b held) _ all begun
 
   pub each_after_end : (b : Belonging) (held : List ConntrackEntry) → All P held → All P (after_end b held)
-  each_after_end NotFound held all = all
-  each_after_end (Found place) held all = all
   each_after_end (Ends e) held all = All-filter (λ h. not (same_id e h)) P held all
+  each_after_end _ held all = all
 
 -- ---- mappings
 

@@ -6,15 +6,6 @@ use Rattle.history.specs.History.{Entry}
 use Rattle.stepping.specs.Next.{IsHistoryOf, Next}
 use Rattle.translation_laws.specs.Histories.{EntriesFollow, IsHistory}
 
-same_first : (e other : Entry) (history others : List Entry) → e ∷ history ≡ other ∷ others → e ≡ other
-same_first e other history others same = cc
-
-same_rest : (e other : Entry) (history others : List Entry) → e ∷ history ≡ other ∷ others → history ≡ others
-same_rest e other history others same = cc
-
-none_grown : (e : Entry) (history : List Entry) → [] ≡ e ∷ history → ⊥
-none_grown e history same = cc
-
 module _ (setup : Setup) (history : List Entry) (e : Entry) where
   -- an extended history, without its newest entry
   abbrev Before : List Entry → Type 0
@@ -28,14 +19,15 @@ module _ (setup : Setup) (history : List Entry) (e : Entry) where
     where
       by_first : (g.0 ∷ first ≡ e ∷ history) ⊎ Before (g.0 ∷ first) → (first ≡ e ∷ history) ⊎ Before first
       by_first (inl same) =
-          let rest = same_rest g.0 e first history same in
+          let rest : first ≡ history = cc in
+          let newest : g.0 ≡ e = cc in
           inr (
             [],
             sym rest,
             (
               r,
               subst (λ (s : List Entry). Next setup s r e) rest
-                  (subst (λ (x : Entry). Next setup first r x) (same_first g.0 e first history same) g.1),
+                  (subst (λ (x : Entry). Next setup first r x) newest g.1),
             ),
           )
       by_first (inr b) = inr (r ∷ b.0, (g.0, g.1, b.1), b.2)
@@ -46,7 +38,7 @@ before_last setup history e is = by_first (grown_before setup history e is.recor
   where
     by_first : ([] ≡ e ∷ history) ⊎ Before setup history e [] → IsHistory setup history × ((r : Recorded)
         × Next setup history r e)
-    by_first (inl none) = absurd (none_grown e history none)
+    by_first (inl none) = cc
     by_first (inr b) = (record { records = b.0; is_history = b.1 }, b.2)
 
 one_more : (setup : Setup) (records : List Recorded) (first history : List Entry) (r : Recorded) (e : Entry)

@@ -11,7 +11,7 @@ use Rattle.ip_headers.specs.declared.tuple.Tuple.{Tuple}
 use Rattle.port_pool.specs.declared.range.CandidateRange.{CandidateRange}
 use Rattle.nat_mapping.specs.Mappings.{IsOneToOne, inbound_of, source_of}
 use Rattle.conntrack.specs.declared.belonging.Belonging.{Belonging}
-use Rattle.conntrack.specs.declared.belonging.Belonging.TheVariants.{NotFound, Ends, Found}
+use Rattle.conntrack.specs.declared.belonging.Belonging.TheVariants.{Found}
 use Rattle.conntrack.specs.declared.connection.ConnId.{ConnId}
 use Rattle.conntrack.specs.declared.connection.ConntrackEntry.{ConntrackEntry}
 use Rattle.box_file.specs.declared.limits.Limits.{Limits}
@@ -21,7 +21,6 @@ use Rattle.conntrack.specs.Updates.{after_packet}
 use Rattle.translation.specs.declared.ct_info.NewConnection.{NewConnection}
 use Rattle.translation.specs.LiveMappings.{listed, mappings_in}
 use Rattle.translation.specs.Nat.{range_of}
-use Rattle.stepping.specs.Next.{at_moment}
 use Rattle.translation_laws.proofs.Begun.{IsBegun, IsCounted}
 use Rattle.translation_laws.proofs.NewConnections.{NewConnectionSo, SourceSo, stayed, went, with_nat_status_so}
 use Rattle.translation_laws.proofs.Each.{IsBegunSo, MappingsAre, begun_by, each_after_end, each_after_packet}
@@ -42,21 +41,18 @@ pub record StillApart : Type 0 where
 begun_apart : (port_choice : Option Bool) (confirmation : Confirmation) (b : Belonging) (t : Tuple)
     (held : List ConntrackEntry) → IsCounted port_choice confirmation b t held
     → DoesNotClash b confirmation held
-begun_apart port_choice Unconfirmed NotFound t held c = tt
-begun_apart port_choice Unconfirmed (Ends id) t held c = tt
-begun_apart port_choice Unconfirmed (Found place) t held c = tt
-begun_apart port_choice (Confirmed mark reply source dest) (Found place) t held c = tt
-begun_apart port_choice (Confirmed mark reply source dest) NotFound t held c = c.free
-begun_apart port_choice (Confirmed mark reply source dest) (Ends id) t held c = c.free
+begun_apart port_choice confirmation (Found place) t held c = tt
+begun_apart port_choice Unconfirmed b t held c = tt
+begun_apart port_choice (Confirmed mark reply source dest) b t held c = c.free
 
 pub apart_kept : StillApart → IsKept (λ history held. IsTrue (have_disjoint_tuples held))
 apart_kept still = record {
   first = refl;
   live = λ limits history held now apart. still.live limits held now apart;
   none = λ history held e now is apart. apart;
-  packet = λ history held e id now s confirmation p distinct read is touched apart.
-      still.packet held id _ confirmation distinct apart (begun_apart e.port_choice confirmation
-      (belongs_in held s.tuple s.flags) s.tuple held touched);
+  packet = λ history held e id x confirmation p distinct read is touched apart.
+      still.packet held id x confirmation distinct apart
+      (begun_apart e.port_choice confirmation (belongs_in held x.tuple x.flags) x.tuple held touched);
 }
 
 -- ---- one to one
@@ -150,17 +146,11 @@ module _ (laws : MappingLaws) where
   one_after_packet port_choice (Found place) id p Unconfirmed held one c = one
   one_after_packet port_choice (Found place) id p (Confirmed mark reply source dest) held one c =
       among_one held (Found place) id p (Confirmed mark reply source dest) (mappings_in held) one (λ m k. k) tt
-  one_after_packet port_choice NotFound id p Unconfirmed held one c = one
-  one_after_packet port_choice (Ends e) id p Unconfirmed held one c = after_one held (Ends e) one
-  one_after_packet port_choice NotFound id p (Confirmed mark reply source dest) held one c =
-      among_one held NotFound id p (Confirmed mark reply source dest) (listed source ++ mappings_in held)
-      (all_one held held one port_choice id p mark reply source dest c)
-      (Contains-append_right (listed source) (mappings_in held))
-      (its_own held held one port_choice id p mark reply source dest c)
-  one_after_packet port_choice (Ends e) id p (Confirmed mark reply source dest) held one c =
-      let others = after_end (Ends e) held in
-      let one_too = after_one held (Ends e) one in
-      among_one held (Ends e) id p (Confirmed mark reply source dest) (listed source ++ mappings_in others)
+  one_after_packet port_choice b id p Unconfirmed held one c = after_one held b one
+  one_after_packet port_choice b id p (Confirmed mark reply source dest) held one c =
+      let others = after_end b held in
+      let one_too = after_one held b one in
+      among_one held b id p (Confirmed mark reply source dest) (listed source ++ mappings_in others)
       (all_one held others one_too port_choice id p mark reply source dest c)
       (Contains-append_right (listed source) (mappings_in others))
       (its_own held others one_too port_choice id p mark reply source dest c)
@@ -173,7 +163,6 @@ module _ (laws : MappingLaws) where
     };
     live = λ limits history held now one. live_one held limits now one;
     none = λ history held e now is one. one;
-    packet = λ history held e id now s confirmation p distinct read is touched one.
-        one_after_packet e.port_choice (belongs_in held s.tuple s.flags) id (at_moment now s) confirmation held one
-        touched;
+    packet = λ history held e id x confirmation p distinct read is touched one.
+        one_after_packet e.port_choice (belongs_in held x.tuple x.flags) id x confirmation held one touched;
   }

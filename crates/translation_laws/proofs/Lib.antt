@@ -1,5 +1,7 @@
 mod Passed
-mod Goes
+mod AfterNat
+mod Exempt
+mod Passing
 mod Begun
 mod Follows
 mod Each
@@ -10,11 +12,13 @@ mod Given
 mod Listed
 mod Lives
 mod Finds
+mod Found
 mod Made
 mod Chosen
 mod Carried
-mod Passing
 mod Leaves
+mod First
+mod Touched
 mod Hairpins
 mod Entries
 mod Always

@@ -1,6 +1,7 @@
 -- What packets and time preserve of the connections held is true in each history.
-use Rattle.std.proofs.Common.{◌≡◌, ℕ, ◌≤◌, IsTrue, List, [], ◌∷◌, Some, refl, sym, subst, arith}
+use Rattle.std.proofs.Common.{◌≡◌, ℕ, ◌≤◌, IsTrue, List, [], ◌∷◌, Some, sym, ap, subst, arith}
 use Rattle.std.specs.Prelude.{length, max}
+use Rattle.ip_headers.specs.Tuple.{tuple_of}
 use Rattle.conntrack.specs.declared.connection.ConnId.{ConnId}
 use Rattle.conntrack.specs.declared.connection.ConntrackEntry.{ConntrackEntry}
 use Rattle.box_file.specs.declared.limits.Limits.{Limits}
@@ -11,9 +12,7 @@ use Rattle.conntrack.specs.Histories.{TrackedPacket, belongs, live_list}
 use Rattle.pcap_io.specs.Pcap.{Recorded}
 use Rattle.history.specs.Setup.{Setup, limits_of}
 use Rattle.history.specs.History.{Entry, moment_of, tracked_of}
-use Rattle.stepping.specs.declared.lookup_key.LookupKey.{LookupKey}
-use Rattle.stepping.specs.Lookups.{lookup_key_of}
-use Rattle.stepping.specs.Next.{IsHistoryOf, Next, at_moment, live_at_record, moment_after}
+use Rattle.stepping.specs.Next.{IsHistoryOf, Next, arrival_of, live_at_record, moment_after}
 use Rattle.translation_laws.specs.Histories.{IsHistory, alive_at}
 use Rattle.translation_laws.proofs.Begun.{IsCounted}
 use Rattle.translation_laws.proofs.Follows.{Follows, not_looked_up_so, seen_so, next_follows}
@@ -45,13 +44,12 @@ pub record IsKept (Inv : List Entry → List ConntrackEntry → Type 0) : Type 0
       → Inv history (live_at limits now held)
   pub none : (history : List Entry) (held : List ConntrackEntry) (e : Entry) (now : ℕ) → e.tracked ≡ entry_at now
       → Inv history held → Inv (e ∷ history) held
-  pub packet : (history : List Entry) (held : List ConntrackEntry) (e : Entry) (id : ConnId) (now : ℕ) (s : LookupKey)
+  pub packet : (history : List Entry) (held : List ConntrackEntry) (e : Entry) (id : ConnId) (x : Arrival)
       (confirmation : Confirmation) (p : List ℕ)
-      → IsTrue (has_distinct_ids held) → lookup_key_of p ≡ Some s
-      → e.tracked ≡ updates.entry_of (belongs_in held s.tuple s.flags) (at_moment now s) confirmation
-      → IsCounted e.port_choice confirmation (belongs_in held s.tuple s.flags) s.tuple held
-      → Inv history held → Inv (e ∷ history) (after_packet (belongs_in held s.tuple s.flags) id (at_moment now s)
-      confirmation held)
+      → IsTrue (has_distinct_ids held) → tuple_of p ≡ Some x.tuple
+      → e.tracked ≡ updates.entry_of (belongs_in held x.tuple x.flags) x confirmation
+      → IsCounted e.port_choice confirmation (belongs_in held x.tuple x.flags) x.tuple held
+      → Inv history held → Inv (e ∷ history) (after_packet (belongs_in held x.tuple x.flags) id x confirmation held)
 
 module _ (more : OneEntryMore) (setup : Setup) (Inv : List Entry → List ConntrackEntry → Type 0) (kept : IsKept Inv)
   where
@@ -67,16 +65,16 @@ module _ (more : OneEntryMore) (setup : Setup) (Inv : List Entry → List Conntr
           subst (λ (t : TrackedPacket). Inv (e ∷ history) (live_list (limits_of setup) (t ∷ tracked) m)) (sym is)
           (subst (Inv (e ∷ history)) (sym (more.none (limits_of setup) tracked m)) (kept.none history
           (alive_at setup history m) e m is here))
-      at_once (seen_so p s confirmation read is touched) =
+      at_once (seen_so p t confirmation read is touched) =
           subst (λ (t : TrackedPacket). Inv (e ∷ history) (live_list (limits_of setup) (t ∷ tracked) m)) (sym is)
-          (subst (Inv (e ∷ history)) (sym (more.packet (limits_of setup) tracked (at_moment m s) confirmation))
-          (kept.packet history (alive_at setup history m) e (record { 0 = length tracked }) m s confirmation p
-          (more.distinct (limits_of setup) tracked m) read is touched here))
+          (subst (Inv (e ∷ history)) (sym (more.packet (limits_of setup) tracked (arrival_of m p t) confirmation))
+          (kept.packet history (alive_at setup history m) e (record { 0 = length tracked }) (arrival_of m p t)
+          confirmation p (more.distinct (limits_of setup) tracked m) read is touched here))
 
       -- the new entry is of this moment
       its_moment : Follows (alive_at setup history m) m e → e.tracked.moment ≡ m
-      its_moment (not_looked_up_so is) = subst (λ (t : TrackedPacket). t.moment ≡ m) (sym is) refl
-      its_moment (seen_so p s confirmation read is touched) = subst (λ (t : TrackedPacket). t.moment ≡ m) (sym is) refl
+      its_moment (not_looked_up_so is) = ap (λ (t : TrackedPacket). t.moment) is
+      its_moment (seen_so p t confirmation read is touched) = ap (λ (t : TrackedPacket). t.moment) is
 
       from_then : Follows (alive_at setup history m) m e → Holds (e ∷ history)
       from_then so now le =

@@ -6,6 +6,7 @@ use Rattle.std.specs.List.{Contains}
 use Rattle.std.proofs.lemmas.Bool.{and_parts, and_from, cases_Bool, both_ways, not_from_false, cond-true}
 use Rattle.std.proofs.lemmas.Bool.{cond-false}
 use Rattle.std.proofs.lemmas.Bool.Decides.{nat_tests}
+use Rattle.std.proofs.lemmas.List.Elements.{All-contains, filter_passes}
 use Rattle.list_laws.specs.Lists.{Contains-head}
 use Rattle.list_laws.specs.Elements.{Contains-cases, Contains-tail}
 use Rattle.conntrack.specs.ConntrackEntry.{is_live}
@@ -34,19 +35,6 @@ has_filter p (d ∷ cs) c among passes =
     by_place rest (inr k) (inr n) = subst (λ (l : List ℕ). Contains l c)
         (sym (cond-false (p d) (d ∷ filter p cs) (filter p cs) n)) (rest k)
 
-filter_passes : (p : ℕ → Bool) (cs : List ℕ) (c : ℕ) → Contains (filter p cs) c → p c ≡ true
-filter_passes p [] c among = absurd (omega (arith, among.1))
-filter_passes p (d ∷ cs) c among = by_test (λ k. filter_passes p cs c k) (p d) refl among
-  where
-    by_test : (Contains (filter p cs) c → p c ≡ true) → (b : Bool) → p d ≡ b
-        → Contains (cond b (d ∷ filter p cs) (filter p cs)) c → p c ≡ true
-    by_test rest false e k = rest k
-    by_test rest true e k = by_place (Contains-cases d (filter p cs) c k)
-      where
-        by_place : (d ≡ c) ⊎ Contains (filter p cs) c → p c ≡ true
-        by_place (inl s) = subst (λ (n : ℕ). p n ≡ true) s e
-        by_place (inr later) = rest later
-
 below_so : (m n : ℕ) → nat_lt m n ≡ true → m < n
 below_so m n e = grind (arith, nat_tests)
 
@@ -60,7 +48,9 @@ lives_always setup history now c among unended =
     let same = their_names (tracked_of history) (filter alive (begun_in (tracked_of history))) in (
       λ listed. below_so _ _ (and_parts (not (is_ended c (tracked_of history)))
           (is_live (limits_of setup) now (connection_in c (tracked_of history)))
-          (filter_passes alive (begun_in (tracked_of history)) c (subst (λ (l : List ℕ). Contains l c) same listed))).1,
+          (All-contains (λ (k : ℕ). alive k ≡ true) (filter alive (begun_in (tracked_of history))) c
+          (filter_passes alive (begun_in (tracked_of history)))
+          (subst (λ (l : List ℕ). Contains l c) same listed))).1,
       λ lt. subst (λ (l : List ℕ). Contains l c) (sym same) (has_filter alive (begun_in (tracked_of history)) c among
           (and_from (not (is_ended c (tracked_of history)))
           (is_live (limits_of setup) now (connection_in c (tracked_of history)))

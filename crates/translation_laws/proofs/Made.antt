@@ -7,7 +7,7 @@ use Rattle.list_laws.specs.Options.{some_of_map, none_not_some, some_unique}
 use Rattle.list_laws.specs.Elements.{Contains-cases}
 use Rattle.ip_headers.specs.declared.tuple.Endpoint.{Endpoint}
 use Rattle.ip_headers.specs.declared.tuple.Kind.{Kind}
-use Rattle.ip_headers.specs.declared.tuple.Kind.TheVariants.{Tcp, Udp, EchoRequest, EchoReply, Other}
+use Rattle.ip_headers.specs.declared.tuple.Kind.TheVariants.{EchoRequest, EchoReply, Other}
 use Rattle.ip_headers.specs.declared.tuple.Mapping.{Mapping}
 use Rattle.ip_headers.specs.declared.tuple.Tuple.{Tuple}
 use Rattle.ip_headers.specs.Header.{protocol, payload_of}
@@ -18,7 +18,7 @@ use Rattle.port_pool.specs.Candidates.{candidates}
 use Rattle.rewrite.specs.Endpoints.{PortsMatchKind}
 use Rattle.nat_mapping.specs.Mappings.{first_free_port, is_port_held, or_else, port_of, source_of}
 use Rattle.conntrack.specs.declared.belonging.Belonging.{Belonging}
-use Rattle.conntrack.specs.declared.belonging.Belonging.TheVariants.{NotFound, Ends, Found}
+use Rattle.conntrack.specs.declared.belonging.Belonging.TheVariants.{Found}
 use Rattle.conntrack.specs.declared.belonging.LookupState.TheVariants as states
 use Rattle.conntrack.specs.declared.connection.ConnId.{ConnId}
 use Rattle.conntrack.specs.declared.connection.ConntrackEntry.{ConntrackEntry}
@@ -27,9 +27,6 @@ use Rattle.conntrack.specs.Updates.{Arrival, Confirmation, Unconfirmed, Confirme
 use Rattle.translation.specs.declared.ct_info.NewConnection.{NewConnection}
 use Rattle.translation.specs.LiveMappings.{mappings_in}
 use Rattle.translation.specs.Nat.{range_of}
-use Rattle.stepping.specs.declared.lookup_key.LookupKey.{LookupKey}
-use Rattle.stepping.specs.Lookups.{lookup_key_of}
-use Rattle.stepping.specs.Next.{at_moment}
 use Rattle.translation_laws.proofs.Begun.{IsBegun, IsCounted}
 use Rattle.translation_laws.proofs.NewConnections.{NewConnectionSo, SourceSo, stayed, went, with_nat_status_so}
 use Rattle.translation_laws.proofs.NewConnections.{mapping_at, end_at}
@@ -45,41 +42,29 @@ abbrev pub IsShaped : Tuple → Type 0
 IsShaped t = PortsMatchKind t.kind t.source.port t.destination.port
 
 back_suits : (kind : Kind) (from to : ℕ) → PortsMatchKind kind from to → PortsMatchKind (inverse_kind kind) to from
-back_suits Tcp from to h = tt
-back_suits Udp from to h = tt
-back_suits EchoRequest from to h = h
-back_suits EchoReply from to h = h
 back_suits (Other number) from to h = (h.1, h.0)
+back_suits _ from to h = h
 
 pub inverse_shaped : (t : Tuple) → IsShaped t → IsShaped (inverse t)
 inverse_shaped t h = back_suits t.kind t.source.port t.destination.port h
 
 -- one that is read
 read_shaped : (kind : Kind) (datagram payload : List ℕ) → IsShaped (tuple_with kind datagram payload)
-read_shaped Tcp datagram payload = tt
-read_shaped Udp datagram payload = tt
 read_shaped EchoRequest datagram payload = refl
 read_shaped EchoReply datagram payload = refl
 read_shaped (Other number) datagram payload = (refl, refl)
+read_shaped _ datagram payload = tt
 
 tuple_shaped : (p : List ℕ) (t : Tuple) → tuple_of p ≡ Some t → IsShaped t
 tuple_shaped p t e =
     let r = some_of_map (λ (one : Kind). tuple_with one p (payload_of p)) (kind_of (protocol p) (payload_of p)) t e in
     subst IsShaped r.2 (read_shaped r.0 p (payload_of p))
 
-pub lookup_tuple_shaped : (p : List ℕ) (s : LookupKey) → lookup_key_of p ≡ Some s → IsShaped s.tuple
-lookup_tuple_shaped p s e =
-    let r = some_of_map _ (tuple_of p) s e in
-    subst (λ (x : LookupKey). IsShaped x.tuple) r.2 (tuple_shaped p r.0 r.1)
-
 -- ---- the external port of a mapping: 0 where its kind has neither ports nor identifiers
 
 abbrev pub OutsideSuits : Kind → ℕ → Type 0
-OutsideSuits Tcp port = Unit {0}
-OutsideSuits Udp port = Unit {0}
-OutsideSuits EchoRequest port = Unit {0}
-OutsideSuits EchoReply port = Unit {0}
 OutsideSuits (Other number) port = port ≡ 0
+OutsideSuits _ port = Unit {0}
 
 abbrev pub IsPlain : Mapping → Type 0
 IsPlain m = OutsideSuits m.kind m.external.port
@@ -87,25 +72,17 @@ IsPlain m = OutsideSuits m.kind m.external.port
 zero_alone : (s : ℕ) (range : Option CandidateRange) (port : ℕ) → Contains (candidates orders.Zero s range) port
     → port ≡ 0
 unfolding candidates
-zero_alone s range port among = elim (Contains-cases 0 [] port among) [
-  | inl e ↦ sym e
-  | inr none ↦ absurd (omega (
-    arith,
-    none.1,
-  ))
-]
+zero_alone s range port among =
+    elim (Contains-cases 0 [] port among) [ inl e ↦ sym e | inr none ↦ absurd (omega (arith, none.1)) ]
 
 module _ (mappings : List Mapping) (plain : (m : Mapping) → Contains mappings m → IsPlain m) where
   fresh_plain : (kind : Kind) (internal : Endpoint) (address : ℕ) (range : Option CandidateRange) (port : ℕ)
       → first_free_port kind internal address range mappings ≡ Some port → OutsideSuits kind port
-  fresh_plain Tcp internal address range port e = tt
-  fresh_plain Udp internal address range port e = tt
-  fresh_plain EchoRequest internal address range port e = tt
-  fresh_plain EchoReply internal address range port e = tt
   fresh_plain (Other number) internal address range port e =
       zero_alone internal.port range port
       (found_so (λ q. not (is_port_held (Other number) address mappings q)) (candidates orders.Zero internal.port range)
       port e).0
+  fresh_plain _ internal address range port e = tt
 
   source_plain : (kind : Kind) (internal : Endpoint) (address : ℕ) (range : Option CandidateRange) (port : ℕ)
       → source_of kind internal address range mappings ≡ Some port → OutsideSuits kind port
@@ -120,11 +97,9 @@ module _ (mappings : List Mapping) (plain : (m : Mapping) → Contains mappings 
   chosen_suits : (kind : Kind) (from to port : ℕ) → first_state kind ≡ states.New → PortsMatchKind kind from to
       → OutsideSuits kind port
       → PortsMatchKind kind port to
-  chosen_suits Tcp from to port new h o = tt
-  chosen_suits Udp from to port new h o = tt
-  chosen_suits EchoRequest from to port new h o = h
   chosen_suits EchoReply from to port new h o = cc
   chosen_suits (Other number) from to port new h o = (o, h.1)
+  chosen_suits _ from to port new h o = h
 
   module _ (t : Tuple) (d : NewConnection) (new : first_state t.kind ≡ states.New) (shaped : IsShaped t)
       (drafted : NewConnectionSo mappings t d) where
@@ -188,20 +163,17 @@ module _ (laws : MappingLaws) where
       → All IsMade (after_end b held) → IsCounted port_choice confirmation b p.tuple held
       → IsBegunSo IsMade b id p confirmation
   begun_so port_choice (Found place) id p confirmation held shaped all c = tt
-  begun_so port_choice NotFound id p Unconfirmed held shaped all c = tt
-  begun_so port_choice (Ends e) id p Unconfirmed held shaped all c = tt
-  begun_so port_choice NotFound id p (Confirmed mark reply source dest) held shaped all c =
-      begun_made held all port_choice id p shaped mark reply source dest c
-  begun_so port_choice (Ends e) id p (Confirmed mark reply source dest) held shaped all c =
-      begun_made (after_end (Ends e) held) all port_choice id p shaped mark reply source dest c
+  begun_so port_choice b id p Unconfirmed held shaped all c = tt
+  begun_so port_choice b id p (Confirmed mark reply source dest) held shaped all c =
+      begun_made (after_end b held) all port_choice id p shaped mark reply source dest c
 
   pub made_kept : IsKept (λ history held. All IsMade held)
   made_kept = record {
     first = All-nil IsMade;
     live = λ limits history held now all. All-filter (is_live limits now) IsMade held all;
     none = λ history held e now is all. all;
-    packet = λ history held e id now s confirmation p distinct read is touched all.
-        let b = belongs_in held s.tuple s.flags in
+    packet = λ history held e id x confirmation p distinct read is touched all.
+        let b = belongs_in held x.tuple x.flags in
         let left = each_after_end IsMade b held all in
         each_after_packet IsMade (λ direction flags mark now h one. record {
           kinds = one.kinds;
@@ -209,6 +181,6 @@ module _ (laws : MappingLaws) where
           reply = one.reply;
           plain = one.plain;
         })
-        b id (at_moment now s) confirmation held left
-        (begun_so e.port_choice b id (at_moment now s) confirmation held (lookup_tuple_shaped p s read) left touched);
+        b id x confirmation held left
+        (begun_so e.port_choice b id x confirmation held (tuple_shaped p x.tuple read) left touched);
   }

@@ -1,12 +1,12 @@
 -- Destination NAT and source NAT of a new connection.
 use Rattle.std.proofs.Common.{◌≡◌, ℕ, Bool, true, false, cond, List, Option, Some, None, is_some, refl, sym, ap, subst}
 use Rattle.std.proofs.Common.{◌∙◌}
-use Rattle.std.proofs.lemmas.Option.{same_Some}
-use Rattle.list_laws.specs.Options.{some_of_map, none_not_some}
+use Rattle.std.proofs.lemmas.Option.{none-some, same_Some}
+use Rattle.list_laws.specs.Options.{some_of_map}
 use Rattle.box_file.specs.Box.{PlantTree}
 use Rattle.ip_headers.specs.declared.tuple.Endpoint.{Endpoint}
 use Rattle.ip_headers.specs.declared.tuple.Kind.{Kind}
-use Rattle.ip_headers.specs.declared.tuple.Kind.TheVariants.{Tcp, Udp, EchoRequest, EchoReply, Other}
+use Rattle.ip_headers.specs.declared.tuple.Kind.TheVariants.{Tcp, Udp}
 use Rattle.ip_headers.specs.declared.tuple.Mapping.{Mapping}
 use Rattle.ip_headers.specs.declared.tuple.Tuple.{Tuple}
 use Rattle.rewrite.specs.Endpoints.{PortsMatchKind}
@@ -49,26 +49,20 @@ record IsTurned (mappings : List Mapping) (t : Tuple) (d : NewConnection) : Type
 pub ported_suits : (kind : Kind) (from to : ℕ) → has_ports kind ≡ true → PortsMatchKind kind from to
 ported_suits Tcp from to h = tt
 ported_suits Udp from to h = tt
-ported_suits EchoRequest from to h = cc
-ported_suits EchoReply from to h = cc
-ported_suits (Other number) from to h = cc
+ported_suits _ from to h = cc
 
 named_suits : (kind : Kind) (port : Option ℕ) (from old : ℕ) → PortsMatchKind kind from old
     → PortsMatchKind kind from (port_named kind port old)
 named_suits kind None from old h = h
 named_suits Tcp (Some port) from old h = tt
-named_suits Udp (Some port) from old h = tt
-named_suits EchoRequest (Some port) from old h = h
-named_suits EchoReply (Some port) from old h = h
-named_suits (Other number) (Some port) from old h = h
+named_suits _ (Some port) from old h = h
 
 module _ (plant : PlantTree) (mappings : List Mapping) (f : Facts) (t : Tuple) where
   aimed_suits : (how : NatAction) → PortsMatchKind t.kind t.source.port t.destination.port
       → PortsMatchKind t.kind t.source.port (statement_destination plant f (new_connection_of t) how).port
   aimed_suits (translations.Destination address port) h = named_suits t.kind port t.source.port t.destination.port h
   aimed_suits (translations.Redirect port) h = named_suits t.kind port t.source.port t.destination.port h
-  aimed_suits (translations.Source address ports) h = h
-  aimed_suits (translations.Masquerade ports) h = h
+  aimed_suits _ h = h
 
   -- what is behind an endpoint of a kind that has ports
   behind_parts : (b : Bool) (o : Option Endpoint) (i : Endpoint) → cond b o None ≡ Some i → (b ≡ true) × (o ≡ Some i)
@@ -77,34 +71,16 @@ module _ (plant : PlantTree) (mappings : List Mapping) (f : Facts) (t : Tuple) w
 
   turned_so : (verdict : HookVerdict) → IsTurned mappings t (with_destination_nat plant mappings f (new_connection_of t)
       verdict)
-  turned_so (Translated how) = record {
-    kind = refl;
-    source = refl;
-    none = refl;
-    dest = λ m e.
-        absurd (none_not_some None m refl e);
-    shape = aimed_suits how;
-  }
-  turned_so Dropped = record {
-    kind = refl;
-    source = refl;
-    none = refl;
-    dest = λ m e.
-        absurd (none_not_some None m refl e);
-    shape = λ h. h;
-  }
+  turned_so (Translated how) =
+      record { kind = refl; source = refl; none = refl; dest = λ m e. absurd (none-some m e); shape = aimed_suits how }
+  turned_so Dropped =
+      record { kind = refl; source = refl; none = refl; dest = λ m e. absurd (none-some m e); shape = λ h. h }
   turned_so Accepted = by_found (internal_endpoint mappings (new_connection_of t)) refl
     where
       by_found : (o : Option Endpoint) → internal_endpoint mappings (new_connection_of t) ≡ o
           → IsTurned mappings t (to_internal (new_connection_of t) o)
-      by_found None e = record {
-        kind = refl;
-        source = refl;
-        none = refl;
-        dest = λ m k.
-            absurd (none_not_some None m refl k);
-        shape = λ h. h;
-      }
+      by_found None e =
+          record { kind = refl; source = refl; none = refl; dest = λ m k. absurd (none-some m k); shape = λ h. h }
       by_found (Some i) e =
           let parts = behind_parts (has_ports t.kind) (inbound_of t.kind t.destination mappings) i e in
           record {

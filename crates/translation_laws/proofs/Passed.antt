@@ -1,8 +1,10 @@
--- Rules keep the input interface and the earlier events; a NAT statement that takes effect is among their events.
+-- Rules keep the interfaces and the earlier events; a NAT statement and a `notrack` that take effect are among their
+-- events.
 use Rattle.std.proofs.Common.{◌≡◌, ℕ, Bool, true, false, IsTrue, List, [], ◌∷◌, ◌++◌, Option, Some, None, refl, sym}
-use Rattle.std.proofs.Common.{subst, ◌∙◌}
+use Rattle.std.proofs.Common.{◌||◌, ap, subst, ◌∙◌}
 use Rattle.std.specs.List.{list_any}
-use Rattle.std.proofs.lemmas.Bool.{or_left, or_right}
+use Rattle.std.proofs.Math.Bool.{or-false}
+use Rattle.std.proofs.lemmas.Bool.{or_left, or_parts, or_right}
 use Rattle.std.proofs.lemmas.List.Folds.{list_any-append}
 use Rattle.nft_tree.specs.declared.chain.Policy.{Policy}
 use Rattle.nft_tree.specs.declared.chain.Policy.TheVariants as policies
@@ -12,18 +14,19 @@ use Rattle.nft_tree.specs.Tree as tree
 use Rattle.nft_tree.specs.Tree.{Statement, TableTree, VerdictTree}
 use Rattle.box_file.specs.Box.{PlantTree}
 use Rattle.rule_meaning.specs.declared.facts.Facts.{Facts}
+use Rattle.rule_meaning.specs.declared.facts.Interface.{Interface}
 use Rattle.rule_meaning.specs.declared.facts.CtFacts.{CtFacts}
-use Rattle.rule_meaning.specs.declared.facts.CtFacts.TheVariants.{NotLookedUp, Notrack, Untracked, Invalid, Known}
+use Rattle.rule_meaning.specs.declared.facts.CtFacts.TheVariants.{NotLookedUp, Notrack, Known}
 use Rattle.rule_meaning.specs.declared.event.ChainNo.{ChainNo}
-use Rattle.rule_meaning.specs.declared.event.RuleVerdict.{RuleVerdict}
 use Rattle.rule_meaning.specs.declared.event.RuleVerdict.TheVariants.{Translate}
 use Rattle.rule_meaning.specs.declared.event.HookVerdict.{HookVerdict}
-use Rattle.rule_meaning.specs.declared.event.HookVerdict.TheVariants.{Accepted, Dropped, Translated}
+use Rattle.rule_meaning.specs.declared.event.HookVerdict.TheVariants.{Translated}
 use Rattle.rule_meaning.specs.declared.event.Event.{Event}
+use Rattle.rule_meaning.specs.declared.event.Event.TheVariants.{Counted, Logged, Marked, TookPolicy, Untracked}
 use Rattle.rule_meaning.specs.declared.event.StatementPosition.{StatementPosition}
 use Rattle.rule_meaning.specs.declared.event.NatAction.{NatAction}
 use Rattle.rule_meaning.specs.Sets.{Scope, looked_up, data_verdict}
-use Rattle.rule_meaning.specs.Statements.{StatementEffect, pass, fail, note, give, passes_if, with_value, writes}
+use Rattle.rule_meaning.specs.Statements.{StatementEffect, note, give, passes_if, with_value, writes}
 use Rattle.rule_meaning.specs.Statements.{writes_connection, statement_effect, sets_notrack, rule_verdict_of}
 use Rattle.rule_meaning.specs.Statements.{operand_number, nat_action_of}
 use Rattle.rule_meaning.specs.Runs as runs
@@ -31,102 +34,149 @@ use Rattle.rule_meaning.specs.Runs.{Program, Remainder, RunResult, at_end, over,
 use Rattle.rule_meaning.specs.Hooks as hooks
 use Rattle.rule_meaning.specs.Hooks.{BaseChain, HookResult, Traversal, RunsBaseChain, NoChain, Then, InTurn, Chains}
 use Rattle.rule_meaning.specs.Hooks.{with_policy, policy_of, policy_verdict}
-use Rattle.translation_laws.specs.Laws.{did_translate}
+use Rattle.translation_laws.specs.Laws.{did_translate, did_untrack}
 
 -- ---- events
 
 abbrev pub did_nat_act : List Event → Bool
 did_nat_act es = list_any did_translate es
 
-nat_acted_more : (es later : List Event) → IsTrue (did_nat_act es) → IsTrue (did_nat_act (es ++ later))
-nat_acted_more es later t = list_any-append did_translate es later ∙ or_left (did_nat_act es) (did_nat_act later) t
+-- no NAT statement took effect before either
+none_earlier : (es later : List Event) → did_nat_act (es ++ later) ≡ false → did_nat_act es ≡ false
+none_earlier es later none =
+    (or_parts (did_nat_act es) (did_nat_act later) (sym (list_any-append did_translate es later) ∙ none)).0
 
 nat_acted_last : (es : List Event) (e : Event) → IsTrue (did_translate e) → IsTrue (did_nat_act (es ++ e ∷ []))
 nat_acted_last es e is =
     list_any-append did_translate es (e ∷ [])
     ∙ or_right (did_nat_act es) (did_nat_act (e ∷ [])) (or_left (did_translate e) false is)
 
+-- ---- whether a `notrack` took effect
+
+abbrev pub did_exempt : List Event → Bool
+did_exempt es = list_any did_untrack es
+
+-- of a packet that wasn't looked up yet (`None`), and of one that was, with what was so at its look-up (`Some`)
+abbrev pub IfNotLookedUp : Bool → Option Bool → Bool → Type 0
+IfNotLookedUp so None exempt = exempt ≡ so
+IfNotLookedUp so (Some then) exempt = ⊥
+
+abbrev pub IfLookedUp : Option Bool → Bool → Type 0
+IfLookedUp None exempt = ⊥
+IfLookedUp (Some then) exempt = exempt ≡ then
+
+-- what the facts tell of it
+abbrev pub TellExempt : CtFacts → Option Bool → Bool → Type 0
+TellExempt NotLookedUp at_look_up exempt = IfNotLookedUp false at_look_up exempt
+TellExempt Notrack at_look_up exempt = IfNotLookedUp true at_look_up exempt
+TellExempt _ at_look_up exempt = IfLookedUp at_look_up exempt
+
+-- other events don't change it
+no_more : (es later : List Event) → did_exempt later ≡ false → did_exempt (es ++ later) ≡ did_exempt es
+no_more es later none =
+    list_any-append did_untrack es later ∙ ap (λ (b : Bool). did_exempt es || b) none ∙ or-false (did_exempt es)
+
+told_still : (ct : CtFacts) (at_look_up : Option Bool) (es later : List Event) → did_exempt later ≡ false
+    → TellExempt ct at_look_up (did_exempt es) → TellExempt ct at_look_up (did_exempt (es ++ later))
+told_still ct at_look_up es later none told = subst (TellExempt ct at_look_up) (sym (no_more es later none)) told
+
+exempted : (at_look_up : Option Bool) (es : List Event) → TellExempt NotLookedUp at_look_up (did_exempt es)
+    → TellExempt Notrack at_look_up (did_exempt (es ++ Untracked ∷ []))
+exempted None es told =
+    list_any-append did_untrack es (Untracked ∷ []) ∙ or_right (did_exempt es) (did_exempt (Untracked ∷ [])) refl
+exempted (Some then) es told = absurd told
+
 -- ---- from these facts and events to those
 
+abbrev pub interfaces_of : Facts → Interface × Option Interface
+interfaces_of f = (f.input, f.output)
+
 pub record Kept (f g : Facts) (es later : List Event) : Type 0 where
-  pub input : g.input ≡ f.input
-  pub told : IsTrue (did_nat_act es) → IsTrue (did_nat_act later)
+  pub interfaces : interfaces_of g ≡ interfaces_of f
+  pub untold : did_nat_act later ≡ false → did_nat_act es ≡ false
+  pub exempt : (at_look_up : Option Bool) → TellExempt f.ct at_look_up (did_exempt es)
+      → TellExempt g.ct at_look_up (did_exempt later)
 
 -- a NAT statement that took effect is among the events
 abbrev pub RecordsNat : HookVerdict → List Event → Type 0
-RecordsNat Accepted es = Unit {0}
-RecordsNat Dropped es = Unit {0}
 RecordsNat (Translated t) es = IsTrue (did_nat_act es)
+RecordsNat _ es = Unit {0}
 
-pub kept_more : (f : Facts) (es later : List Event) → Kept f f es (es ++ later)
-kept_more f es later = record { input = refl; told = nat_acted_more es later }
+kept_none : (f : Facts) (es : List Event) → Kept f f es es
+kept_none f es = record { interfaces = refl; untold = λ none. none; exempt = λ at_look_up told. told }
 
-pub kept_same : (f : Facts) (es : List Event) → Kept f f es es
-kept_same f es = record { input = refl; told = λ t. t }
+kept_more : (f : Facts) (es later : List Event) → did_exempt later ≡ false → Kept f f es (es ++ later)
+kept_more f es later none = record {
+  interfaces = refl;
+  untold = none_earlier es later;
+  exempt = λ at_look_up told. told_still f.ct at_look_up es later none told;
+}
 
-pub kept_then : (f g h : Facts) (es mid later : List Event) → Kept f g es mid → Kept g h mid later → Kept f h es later
-kept_then f g h es mid later one two = record { input = two.input ∙ one.input; told = λ t. two.told (one.told t) }
-
-pub records_nat_later : (e : HookVerdict) (es later : List Event)
-    → (IsTrue (did_nat_act es) → IsTrue (did_nat_act later)) → RecordsNat e es
-    → RecordsNat e later
-records_nat_later Accepted es later more t = tt
-records_nat_later Dropped es later more t = tt
-records_nat_later (Translated how) es later more t = more t
+kept_then : (f g h : Facts) (es mid later : List Event) → Kept f g es mid → Kept g h mid later → Kept f h es later
+kept_then f g h es mid later one two = record {
+  interfaces = two.interfaces ∙ one.interfaces;
+  untold = λ none. one.untold (two.untold none);
+  exempt = λ at_look_up told. two.exempt at_look_up (one.exempt at_look_up told);
+}
 
 -- ---- statements
 
-abbrev InputKept : Facts → StatementEffect → Type 0
-InputKept f pass = Unit {0}
-InputKept f fail = Unit {0}
-InputKept f (note e g) = g.input ≡ f.input
-InputKept f (give d) = Unit {0}
+-- with this event the facts become those
+abbrev NoteKept : Facts → Event → Facts → Type 0
+NoteKept f e g = (interfaces_of g ≡ interfaces_of f)
+    × ((at_look_up : Option Bool) (es : List Event) → TellExempt f.ct at_look_up (did_exempt es)
+    → TellExempt g.ct at_look_up (did_exempt (es ++ e ∷ [])))
 
-passes_kept : (b : Bool) (f : Facts) → InputKept f (passes_if b)
+abbrev WayKept : Facts → StatementEffect → Type 0
+WayKept f (note e g) = NoteKept f e g
+WayKept f _ = Unit {0}
+
+passes_kept : (b : Bool) (f : Facts) → WayKept f (passes_if b)
 passes_kept true f = tt
 passes_kept false f = tt
 
-value_kept : {A : Type 0} (f : Facts) (k : A → StatementEffect) → ((x : A) → InputKept f (k x)) → (o : Option A)
-    → InputKept f (with_value k o)
+value_kept : {A : Type 0} (f : Facts) (k : A → StatementEffect) → ((x : A) → WayKept f (k x)) → (o : Option A)
+    → WayKept f (with_value k o)
 value_kept f k all None = tt
 value_kept f k all (Some x) = all x
 
-gives_kept : {A : Type 0} (f : Facts) (k : A → RuleVerdict) (o : Option A)
-    → InputKept f (with_value (λ x. give (k x)) o)
-gives_kept f k None = tt
-gives_kept f k (Some x) = tt
+connection_kept : (f : Facts) (t : CtFacts) (n : ℕ) → f.ct ≡ t → WayKept f (writes_connection f t n)
+connection_kept f (Known c) n is = (
+  refl,
+  λ at_look_up es told. told_still (Known c) at_look_up es (Marked marks.Ct n ∷ []) refl
+      (subst (λ (x : CtFacts). TellExempt x at_look_up (did_exempt es)) is told),
+)
+connection_kept f _ n is = tt
 
-connection_kept : (f : Facts) (t : CtFacts) (n : ℕ) → InputKept f (writes_connection f t n)
-connection_kept f NotLookedUp n = tt
-connection_kept f Invalid n = tt
-connection_kept f Notrack n = tt
-connection_kept f Untracked n = tt
-connection_kept f (Known c) n = refl
+writes_kept : (field : MarkField) (f : Facts) (n : ℕ) → WayKept f (writes field f n)
+writes_kept marks.Meta f n =
+    (refl, λ at_look_up es told. told_still f.ct at_look_up es (Marked marks.Meta n ∷ []) refl told)
+writes_kept marks.Ct f n = connection_kept f f.ct n refl
 
-writes_kept : (field : MarkField) (f : Facts) (n : ℕ) → InputKept f (writes field f n)
-writes_kept marks.Meta f n = refl
-writes_kept marks.Ct f n = connection_kept f f.ct n
-
-skips_kept : (f : Facts) (t : CtFacts) → InputKept f (sets_notrack f t)
-skips_kept f NotLookedUp = refl
-skips_kept f Notrack = tt
-skips_kept f Untracked = tt
-skips_kept f Invalid = tt
-skips_kept f (Known c) = tt
+skips_kept : (f : Facts) (t : CtFacts) → f.ct ≡ t → WayKept f (sets_notrack f t)
+skips_kept f NotLookedUp is = (
+  refl,
+  λ at_look_up es told. exempted at_look_up es
+      (subst (λ (x : CtFacts). TellExempt x at_look_up (did_exempt es)) is told),
+)
+skips_kept f _ is = tt
 
 statement_effect_kept : (scope : Scope) (statement_position : StatementPosition) (s : Statement) (f : Facts)
-    → InputKept f (statement_effect scope statement_position s f)
+    → WayKept f (statement_effect scope statement_position s f)
 statement_effect_kept scope statement_position (tree.matching m) f = passes_kept _ f
-statement_effect_kept scope statement_position (tree.counter start) f = refl
-statement_effect_kept scope statement_position (tree.log text) f = refl
+statement_effect_kept scope statement_position (tree.counter start) f =
+    (refl, λ at_look_up es told. told_still f.ct at_look_up es (Counted statement_position ∷ []) refl told)
+statement_effect_kept scope statement_position (tree.log text) f =
+    (refl, λ at_look_up es told. told_still f.ct at_look_up es (Logged statement_position ∷ []) refl told)
 statement_effect_kept scope statement_position (tree.set_mark field operand) f =
     value_kept f (writes field f) (writes_kept field f) (operand_number scope operand f)
 statement_effect_kept scope statement_position (tree.verdict_map s m) f =
-    gives_kept {A = VerdictTree} f (rule_verdict_of scope.table) (looked_up data_verdict scope s m f)
+    value_kept {A = VerdictTree} f (λ x. give (rule_verdict_of scope.table x)) (λ x. tt)
+    (looked_up data_verdict scope s m f)
 statement_effect_kept scope statement_position (tree.verdict v) f = tt
-statement_effect_kept scope statement_position tree.notrack f = skips_kept f f.ct
+statement_effect_kept scope statement_position tree.notrack f = skips_kept f f.ct refl
 statement_effect_kept scope statement_position (tree.nat n) f =
-    gives_kept {A = NatAction} f Translate (nat_action_of scope n f)
+    value_kept {A = NatAction} f (λ x. give (Translate x)) (λ x. tt) (nat_action_of scope n f)
 
 -- ---- a chain
 
@@ -140,17 +190,24 @@ behind f g es mid (over e h later) one two = (kept_then f g h es mid later one t
 
 module _ {S : Type 0} (p : Program S)
     (kept : (statement_position : StatementPosition) (s : S) (f : Facts)
-    → InputKept f (p.effect_of statement_position s f)) where
-  noted : (f g : Facts) (es : List Event) (e : Event) (q : StatementEffect) → q ≡ note e g → InputKept f q
+    → WayKept f (p.effect_of statement_position s f)) where
+  noted : (f g : Facts) (es : List Event) (e : Event) (q : StatementEffect) → q ≡ note e g → WayKept f q
       → Kept f g es (es ++ e ∷ [])
-  noted f g es e q is k = record { input = subst (InputKept f) is k; told = nat_acted_more es (e ∷ []) }
+  noted f g es e q is k =
+      let so : NoteKept f e g = subst (WayKept f) is k in
+      record {
+        interfaces = so.0;
+        untold = none_earlier es (e ∷ []);
+        exempt = λ at_look_up told. so.1 at_look_up es told;
+      }
 
-  taken : (f : Facts) (es later : List Event) (o : RunResult) → RunKept f (es ++ later) o → RunKept f es o
-  taken f es later o two = behind f f es (es ++ later) o (kept_more f es later) two
+  taken : (f : Facts) (es later : List Event) (o : RunResult) → RunKept f (es ++ later) o → did_exempt later ≡ false
+      → RunKept f es o
+  taken f es later o two none = behind f f es (es ++ later) o (kept_more f es later none) two
 
   runs_kept : {c n : ℕ} {l : Remainder S} {f : Facts} {es : List Event} {o : RunResult} → Runs p c n l f es o
       → RunKept f es o
-  runs_kept (runs.chain_ends {f = f} {es = es}) = kept_same f es
+  runs_kept (runs.chain_ends {f = f} {es = es}) = kept_none f es
   runs_kept (runs.next_rule r) = runs_kept r
   runs_kept (runs.rule_ends r) = runs_kept r
   runs_kept (runs.passes w r) = runs_kept r
@@ -158,15 +215,15 @@ module _ {S : Type 0} (p : Program S)
   runs_kept (runs.notes {c = c} {n = n} {k = k} {s = s} {f = f} e g {es = es} {o = o} w r) =
       behind f g es (es ++ e ∷ []) o (noted f g es e (p.effect_of (runs.statement_position p c n k) s f) w
       (kept (runs.statement_position p c n k) s f)) (runs_kept r)
-  runs_kept (runs.accepts {f = f} {es = es} w) = (kept_more f es _, tt)
-  runs_kept (runs.drops {f = f} {es = es} w) = (kept_more f es _, tt)
-  runs_kept (runs.translates t {f = f} {es = es} w) = (kept_more f es _, nat_acted_last es _ refl)
-  runs_kept (runs.continues {f = f} {es = es} {o = o} w r) = taken f es _ o (runs_kept r)
-  runs_kept (runs.returns {f = f} {es = es} w) = kept_more f es _
+  runs_kept (runs.accepts {f = f} {es = es} w) = (kept_more f es _ refl, tt)
+  runs_kept (runs.drops {f = f} {es = es} w) = (kept_more f es _ refl, tt)
+  runs_kept (runs.translates t {f = f} {es = es} w) = (kept_more f es _ refl, nat_acted_last es _ refl)
+  runs_kept (runs.continues {f = f} {es = es} {o = o} w r) = taken f es _ o (runs_kept r) refl
+  runs_kept (runs.returns {f = f} {es = es} w) = kept_more f es _ refl
   runs_kept (runs.jumps t {f = f} g {es = es} later chain {o = o} w at first then) =
-      behind f g es later o (taken f es _ (at_end g later) (runs_kept first)) (runs_kept then)
-  runs_kept (runs.jumps_away t {f = f} {es = es} chain {o = o} w at first ends) = taken f es _ o (runs_kept first)
-  runs_kept (runs.goes t {f = f} {es = es} chain {o = o} w at first) = taken f es _ o (runs_kept first)
+      behind f g es later o (taken f es _ (at_end g later) (runs_kept first) refl) (runs_kept then)
+  runs_kept (runs.jumps_away t {f = f} {es = es} chain {o = o} w at first ends) = taken f es _ o (runs_kept first) refl
+  runs_kept (runs.goes t {f = f} {es = es} chain {o = o} w at first) = taken f es _ o (runs_kept first) refl
 
 -- ---- base chains and hooks
 
@@ -180,24 +237,16 @@ by_policy policies.Drop es = tt
 closed_kept : (number : ChainNo) (policy : Policy) (f : Facts) (es : List Event) (o : RunResult) → RunKept f es o
     → EndKept f es (with_policy number policy o)
 closed_kept number policy f es (at_end g later) k = (
-  kept_then f g g es later _ k (kept_more g later _),
+  kept_then f g g es later _ k (kept_more g later (TookPolicy number policy ∷ []) refl),
   by_policy policy _,
 )
 closed_kept number policy f es (over e g later) k = k
 
-abbrev pub Keeps : Traversal → Type 0
-Keeps passage = (f : Facts) (es : List Event) (end : HookResult) → passage f es end → Kept f end.facts es end.events
-
 abbrev pub KeepsEnd : Traversal → Type 0
 KeepsEnd passage = (f : Facts) (es : List Event) (end : HookResult) → passage f es end → EndKept f es end
 
-pub keeps_then : (first second : Traversal) → Keeps first → Keeps second → Keeps (Then first second)
-keeps_then first second one two f es end (hooks.goes_on m r on s) =
-    kept_then f m.facts end.facts es m.events end.events (one f es m r) (two m.facts m.events end s)
-keeps_then first second one two f es end (hooks.stops r ends) = one f es end r
-
 pub nothing_kept : KeepsEnd NoChain
-nothing_kept f es end is = subst (EndKept f es) (sym is) (kept_same f es, tt)
+nothing_kept f es end is = subst (EndKept f es) (sym is) (kept_none f es, tt)
 
 then_kept : (first second : Traversal) → KeepsEnd first → KeepsEnd second → KeepsEnd (Then first second)
 then_kept first second one two f es end (hooks.goes_on m r on s) =
@@ -220,6 +269,3 @@ module _ (plant : PlantTree) (tables : List TableTree) where
 
   pub chains_kept : (test : BaseChain → Bool) → KeepsEnd (Chains plant tables test)
   chains_kept test f es end r = in_turn_kept r.order f es end r.run
-
-  pub chains_keep : (test : BaseChain → Bool) → Keeps (Chains plant tables test)
-  chains_keep test f es end r = (chains_kept test f es end r).0

@@ -6,18 +6,21 @@ use Rattle.std.specs.List.{Contains, list_any}
 use Rattle.box_file.specs.Box.{owner}
 use Rattle.ip_headers.specs.declared.tuple.Mapping.{Mapping}
 use Rattle.ip_headers.specs.declared.tuple.Tuple.{Tuple}
+use Rattle.ip_headers.specs.Header.{transport_of}
 use Rattle.ip_headers.specs.Same.{same_tuple}
 use Rattle.ip_headers.specs.Tuple.{inverse, tuple_of}
 use Rattle.conntrack.specs.declared.belonging.Belonging.{Belonging}
 use Rattle.conntrack.specs.declared.belonging.Belonging.TheVariants.{Ends, Found}
+use Rattle.conntrack.specs.declared.belonging.LookupState.TheVariants as states
 use Rattle.conntrack.specs.declared.connection.Connection.{Connection}
+use Rattle.conntrack.specs.declared.connection.Direction.{Direction}
 use Rattle.conntrack.specs.declared.connection.Direction.TheVariants.{Original, Reply}
 use Rattle.conntrack.specs.declared.connection.Flags.{Flags}
 use Rattle.conntrack.specs.declared.connection.ConntrackEntry.{ConntrackEntry}
 use Rattle.conntrack.specs.Phases.{is_closing, is_lone_syn}
-use Rattle.conntrack.specs.ConntrackEntry.{belongs_in, is_incoming, limit_of, connection_ref}
-use Rattle.conntrack.specs.Histories.{ConnectionChange, Begins, Touches, begun_in, connection_in}
-use Rattle.conntrack.specs.Histories.{is_creation, is_ended}
+use Rattle.conntrack.specs.ConntrackEntry.{belongs_in, first_state, is_incoming, limit_of, connection_ref}
+use Rattle.conntrack.specs.Histories.{ConnectionChange, NoChange, Begins, Touches, Creation, begun_in}
+use Rattle.conntrack.specs.Histories.{connection_in, is_creation, is_ended}
 use Rattle.conntrack.specs.Updates.{after_end}
 use Rattle.pcap_io.specs.Pcap.{Recorded}
 use Rattle.port_pool.specs.Candidates.{same_class_and_parity}
@@ -25,13 +28,15 @@ use Rattle.nat_mapping.specs.Mappings.{source_of}
 use Rattle.rule_meaning.specs.declared.event.RuleVerdict.{RuleVerdict}
 use Rattle.rule_meaning.specs.declared.event.RuleVerdict.TheVariants.{Translate}
 use Rattle.rule_meaning.specs.declared.event.Event.{Event}
-use Rattle.rule_meaning.specs.declared.event.Event.TheVariants.{TookVerdict}
-use Rattle.history.specs.declared.outcome.Outcome.TheVariants.{Passed}
+use Rattle.rule_meaning.specs.declared.event.Event.TheVariants.{TookVerdict, Untracked}
+use Rattle.history.specs.declared.outcome.Cause.{Cause}
+use Rattle.history.specs.declared.outcome.Outcome.TheVariants.{Passed, Dropped}
 use Rattle.history.specs.Setup.{Setup, limits_of}
 use Rattle.history.specs.History.{Entry, moment_of, tracked_of}
 use Rattle.translation.specs.LiveMappings.{mappings_in}
 use Rattle.translation.specs.Nat.{has_ports, is_same_interface}
-use Rattle.stepping.specs.Carried.{ReceivedPacket, Carries}
+use Rattle.stepping.specs.Carried.{ReceivedPacket, carried}
+use Rattle.stepping.specs.Lookups.{flags_in}
 use Rattle.stepping.specs.Next.{Next, live_at_record, moment_after}
 use Rattle.translation_laws.specs.Histories.{alive_at, latest_choice, listed_at}
 
@@ -110,24 +115,73 @@ LivesOn setup history now =
 
 -- ---- of the entry of a record after a history
 
+-- a `notrack` took effect
+abbrev pub did_untrack : Event → Bool
+did_untrack Untracked = true
+did_untrack other = false
+
+-- the record carries this packet, which has this tuple, and no `notrack` took effect on its way
+pub record ComesWith (setup : Setup) (r : Recorded) (e : Entry) (a : ReceivedPacket) (t : Tuple) : Type 0 where
+  pub carries : carried setup r ≡ Ok a
+  pub tuple : tuple_of a.packet ≡ Some t
+  pub tracked : list_any did_untrack e.events ≡ false
+
+-- it isn't dropped: it is forwarded, or delivered to the box
+abbrev pub IsAccepted : Entry → Type 0
+IsAccepted e = (cause : Cause) → e.outcome ≢ Dropped cause
+
 -- what a packet with this tuple does to this connection when it refreshes it
 abbrev pub touch_of : ConntrackEntry → Tuple → ConnectionChange
 touch_of h t = if same_tuple h.original t then Touches h.id.0 Original else Touches h.id.0 Reply
 
--- it refreshes the connection, and leaves with the inverse of the other direction's tuple
-pub record GoesWith (h : ConntrackEntry) (t : Tuple) (e : Entry) : Type 0 where
-  pub touched : e.tracked.change ≡ touch_of h t
+-- it leaves with the inverse of the other direction's tuple
+pub record LeavesWith (h : ConntrackEntry) (t : Tuple) (e : Entry) : Type 0 where
   pub original : same_tuple h.original t ≡ true → tuple_of e.packet ≡ Some (inverse h.reply)
   pub reply : same_tuple h.reply t ≡ true → tuple_of e.packet ≡ Some (inverse h.original)
 
--- a packet with a tuple of a live connection that it doesn't remove does so, if it was looked up and is
--- forwarded
+-- if it is accepted it refreshes the connection, and if it is forwarded it leaves translated
+pub record GoesWith (h : ConntrackEntry) (t : Tuple) (e : Entry) : Type 0 where
+  pub touched : IsAccepted e → e.tracked.change ≡ touch_of h t
+  pub leaves : (interface : ℕ) → e.outcome ≡ Passed interface → LeavesWith h t e
+
+-- a packet with a tuple of a live connection that it doesn't remove does so
 abbrev pub LeavesTranslated : Setup → List Entry → Recorded → Entry → Type 0
 LeavesTranslated setup history r e =
-    (t : Tuple) → e.lookup_tuple ≡ Some t → (h : ConntrackEntry)
+    (a : ReceivedPacket) (t : Tuple) → ComesWith setup r e a t → (h : ConntrackEntry)
     → Contains (live_at_record setup history r) h → IsTrue (is_incoming t h)
-    → does_end h t e.tracked.flags ≡ false
-    → (interface : ℕ) → e.outcome ≡ Passed interface → GoesWith h t e
+    → does_end h t (flags_in (transport_of a.packet)) ≡ false → GoesWith h t e
+
+-- the connection of this number was live, and the packet, which has its tuple and doesn't remove it,
+-- refreshed it
+pub record TouchesLive (setup : Setup) (history : List Entry) (r : Recorded) (e : Entry) (c : ℕ) : Type 0 where
+  pub a : ReceivedPacket
+  pub t : Tuple
+  pub comes : ComesWith setup r e a t
+  pub h : ConntrackEntry
+  pub named : h.id.0 ≡ c
+  pub live : Contains (live_at_record setup history r) h
+  pub incoming : IsTrue (is_incoming t h)
+  pub unended : does_end h t (flags_in (transport_of a.packet)) ≡ false
+  pub touched : e.tracked.change ≡ touch_of h t
+
+-- only such a connection is refreshed
+abbrev pub TouchesItsOwn : Setup → List Entry → Recorded → Entry → Type 0
+TouchesItsOwn setup history r e =
+    (c : ℕ) (direction : Direction) → e.tracked.change ≡ Touches c direction
+    → TouchesLive setup history r e c
+
+-- an accepted packet of a kind that begins connections, whose tuple no live connection has but one that it
+-- removes, begins a connection with that tuple
+abbrev pub BeginsOne : Setup → List Entry → Recorded → Entry → Type 0
+BeginsOne setup history r e =
+    (a : ReceivedPacket) (t : Tuple) → ComesWith setup r e a t → first_state t.kind ≡ states.New
+    → ((h : ConntrackEntry) → Contains (live_at_record setup history r) h → IsTrue (is_incoming t h)
+    → does_end h t (flags_in (transport_of a.packet)) ≡ true)
+    → IsAccepted e → (b : Creation) × (e.tracked.change ≡ Begins b) × (b.original ≡ t)
+
+-- a dropped packet neither begins nor refreshes a connection
+abbrev pub CountsForNone : Entry → Type 0
+CountsForNone e = (cause : Cause) → e.outcome ≡ Dropped cause → e.tracked.change ≡ NoChange
 
 abbrev pub is_translation : RuleVerdict → Bool
 is_translation (Translate t) = true
@@ -176,14 +230,13 @@ pub record IsHairpinned (t : Tuple) (m : Mapping) (mappings : List Mapping) (e :
 -- statement and is forwarded
 abbrev pub Hairpins : Setup → List Entry → Recorded → Entry → Type 0
 Hairpins setup history r e =
-    (a : ReceivedPacket) → Carries setup r (Ok a) → (t : Tuple) → e.lookup_tuple ≡ Some t
-    → has_ports t.kind ≡ true
-    → (m : Mapping) → Contains (mappings_before setup history r t e.tracked.flags) m → m.kind ≡ t.kind
-    → m.external ≡ t.destination → is_same_interface a.interface (owner setup.plant m.external.address)
-    ≡ false
+    (a : ReceivedPacket) (t : Tuple) → ComesWith setup r e a t → has_ports t.kind ≡ true
+    → (m : Mapping) → Contains (mappings_before setup history r t (flags_in (transport_of a.packet))) m
+    → m.kind ≡ t.kind → m.external ≡ t.destination
+    → is_same_interface a.interface (owner setup.plant m.external.address) ≡ false
     → IsTrue (is_creation e.tracked.change) → list_any did_translate e.events ≡ false
     → (interface : ℕ) → e.outcome ≡ Passed interface
-    → IsHairpinned t m (mappings_before setup history r t e.tracked.flags) e
+    → IsHairpinned t m (mappings_before setup history r t (flags_in (transport_of a.packet))) e
 
 -- ---- together
 
@@ -204,6 +257,9 @@ pub record EntryLaws (setup : Setup) (history : List Entry) (r : Recorded) (e : 
   pub given : GivenToOne (live_at_record setup history r)
   pub lives : LivesOn setup history (moment_after history r)
   pub leaves : LeavesTranslated setup history r e
+  pub touches : TouchesItsOwn setup history r e
+  pub begins : BeginsOne setup history r e
+  pub dropped : CountsForNone e
   pub hairpins : Hairpins setup history r e
 
 -- of a history: at its last time, at each later one, and of each record that extends it

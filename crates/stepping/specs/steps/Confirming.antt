@@ -1,5 +1,5 @@
 -- The confirmation in the code's terms: the connections held before and after.
-use Rattle.std.specs.Prelude.{◌≡◌, ℕ, Bool, true, false, IsTrue, List, [], ◌∷◌, ◌++◌, Option, Some, None}
+use Rattle.std.specs.Prelude.{◌≡◌, ℕ, Bool, true, false, IsTrue, List, [], ◌∷◌, ◌++◌}
 use Rattle.std.specs.Prelude.{Result, Ok, Err}
 use Rattle.conntrack.specs.declared.connection.ConnId.{ConnId}
 use Rattle.conntrack.specs.declared.connection.Connection.{Connection}
@@ -9,22 +9,18 @@ use Rattle.conntrack.specs.declared.belonging.Belonging.{Belonging}
 use Rattle.conntrack.specs.declared.belonging.Belonging.TheVariants.{NotFound, Found}
 use Rattle.conntrack.specs.ConntrackEntry.{begun_with, has_id, is_taken, touched_at}
 use Rattle.conntrack.specs.Updates.{Confirmation, Unconfirmed, Confirmed}
-use Rattle.rule_meaning.specs.declared.event.Event.{Event}
 use Rattle.history.specs.declared.outcome.Cause.{Cause}
-use Rattle.history.specs.declared.outcome.Outcome.{Outcome}
-use Rattle.history.specs.declared.outcome.Outcome.TheVariants.{Dropped}
-use Rattle.stepping.specs.declared.hooks.HooksPassed.{HooksPassed}
-use Rattle.stepping.specs.declared.confirm.ConfirmedPacket.{ConfirmedPacket}
 use Rattle.translation.specs.declared.ct_info.CtInfo.{CtInfo}
-use Rattle.translation.specs.declared.ct_info.CtInfo.TheVariants.{Tracked, New, Invalid}
-use Rattle.stepping.specs.Lookups.{Lookup}
-use Rattle.stepping.specs.Confirmations.{PacketResult, confirmed_by}
-use Rattle.stepping.specs.steps.RunningHooks.{path_result_of, outcome_of}
+use Rattle.translation.specs.declared.ct_info.CtInfo.TheVariants.{Tracked, New, Untracked}
+use Rattle.stepping.specs.Lookups.{belonging_of}
+use Rattle.stepping.specs.Paths.{PathState}
+use Rattle.stepping.specs.Confirmations.{confirmation_by, confirmed}
+use Rattle.stepping.specs.steps.Steps.{step_result}
 
--- what a packet belongs to; nothing without a look-up
-abbrev pub belonging_in : Option Lookup → Belonging
-belonging_in None = NotFound
-belonging_in (Some l) = l.belonging
+-- what a packet in this state belongs to; nothing without a look-up
+abbrev pub belonging_in : CtInfo → List ConntrackEntry → List ℕ → Belonging
+belonging_in Untracked held p = NotFound
+belonging_in _ held p = belonging_of held p
 
 -- its connection is held
 abbrev pub IsHeld : Belonging → List ConntrackEntry → Type 0
@@ -46,7 +42,6 @@ touched_for _ flags mark now held = held
 -- after the confirmation of a packet with this state and these flags; a new connection gets this id
 abbrev pub confirmed_in : ConnId → Flags → ℕ → Belonging → CtInfo → Confirmation → List ConntrackEntry
     → List ConntrackEntry
-confirmed_in id flags now b info Unconfirmed held = held
 confirmed_in id flags now b (Tracked connection) (Confirmed mark reply source dest) held =
     touched_for b flags mark now held
 confirmed_in id flags now b (New new_connection) (Confirmed mark reply source dest) held =
@@ -59,49 +54,28 @@ confirmed_in id flags now b (New new_connection) (Confirmed mark reply source de
       dest = dest;
     } in
     held ++ begun_with id connection flags ∷ []
-confirmed_in id flags now b info _ held = held
+confirmed_in id flags now b info confirmation held = held
 
-abbrev pub held_after_confirm : ConnId → Flags → ℕ → Belonging → CtInfo → Option Confirmation
-    → List ConntrackEntry → List ConntrackEntry
-held_after_confirm id flags now b info None held = held
-held_after_confirm id flags now b info (Some confirmation) held =
-    confirmed_in id flags now b info confirmation held
+-- ---- the answer
 
--- ---- the answers
+-- a packet that can't begin its connection isn't confirmed
+abbrev pub confirmation_in : Result Bool Cause → CtInfo → ℕ → Confirmation
+confirmation_in (Ok begun) info mark = confirmation_by info mark
+confirmation_in (Err cause) info mark = Unconfirmed
 
-abbrev pub outcome_in : Result ConfirmedPacket Cause → Outcome
-outcome_in (Ok confirmed) = outcome_of confirmed.decision
-outcome_in (Err cause) = Dropped cause
-
-abbrev pub begun_in : Result ConfirmedPacket Cause → Bool
-begun_in (Ok confirmed) = confirmed.begun
+abbrev pub begun_in : Result Bool Cause → Bool
+begun_in (Ok begun) = begun
 begun_in (Err cause) = false
 
--- a dropped packet isn't forwarded
-abbrev pub ct_info_in : Result ConfirmedPacket Cause → CtInfo
-ct_info_in (Ok confirmed) = confirmed.info
-ct_info_in (Err cause) = Invalid
-
 -- whether a packet with this state and confirmation begins a connection
-abbrev pub begins : CtInfo → Option Confirmation → Bool
-begins (New new_connection) (Some (Confirmed mark reply source dest)) = true
+abbrev pub begins : CtInfo → Confirmation → Bool
+begins (New new_connection) (Confirmed mark reply source dest) = true
 begins _ _ = false
 
--- the result of a packet that the hooks let through, with this state
-abbrev pub packet_result_of : HooksPassed → CtInfo → List ConntrackEntry → List Event → PacketResult
-packet_result_of hooks_passed info old events =
-    confirmed_by info old (path_result_of (Ok hooks_passed) info events)
-
--- the answer and the connections held are those of the packet's result, whatever the events were
-pub record Confirms (now : ℕ) (flags : Flags) (hooks_passed : HooksPassed) (b : Belonging) (info : CtInfo)
-    (old new : List ConntrackEntry) (answer : Result ConfirmedPacket Cause) : Type 0 where
+-- the answer and the connections held are those of the step, whatever else is known of the packet
+pub record Confirms (now : ℕ) (flags : Flags) (b : Belonging) (info : CtInfo) (mark : ℕ)
+    (old new : List ConntrackEntry) (answer : Result Bool Cause) : Type 0 where
   pub id : ConnId
-  pub outcome : (events : List Event)
-      → outcome_in answer ≡ (packet_result_of hooks_passed info old events).outcome
-  pub held : (events : List Event)
-      → new ≡ held_after_confirm id flags now b info
-      (packet_result_of hooks_passed info old events).confirmation old
-  pub begun : (events : List Event)
-      → begun_in answer ≡ begins info (packet_result_of hooks_passed info old events).confirmation
-  pub goes : (events : List Event)
-      → ct_info_in answer ≡ (packet_result_of hooks_passed info old events).info
+  pub step : (s : PathState) → step_result answer s ≡ confirmed old info s
+  pub held : new ≡ confirmed_in id flags now b info (confirmation_in answer info mark) old
+  pub begun : begun_in answer ≡ begins info (confirmation_in answer info mark)

@@ -19,8 +19,6 @@ returns-clause-obeys c =
       still = record { packet = s.packet; live = s.live };
       laws = record { source = o.source; within = o.within; inbound = c.inbound_is_held.ensures };
       all = c.candidates_keep_class_and_parity.ensures.candidates;
-      sending = record {
-        between_ends = c.rewritten_has_tuple.ensures;
-        faults = record { passes = f.passes; faultless = f.faultless };
-      };
+      sending = c.rewritten_has_tuple.ensures;
+      faults = record { passes = f.passes; faultless = f.faultless };
     })

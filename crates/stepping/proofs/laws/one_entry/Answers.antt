@@ -1,4 +1,4 @@
-use Rattle.stepping.proofs.Entries.{one_next, some_next}
+use Rattle.stepping.proofs.OnePath.{one_next, some_next}
 use Rattle.stepping.proofs.laws.one_entry.Goals as goal
 
 pub returns-clause-some : goal.returns-clause-some

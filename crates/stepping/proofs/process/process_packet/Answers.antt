@@ -1,51 +1,62 @@
+use Rattle.std.proofs.Common.{ap, ◌≡◌, ◌∙◌}
 use Rattle.std.proofs.lemmas.Result.{err_from_is_err_and}
-use Rattle.stepping.specs.steps.Processing.{arrived_of}
-use Rattle.stepping.specs.steps.Traversing.{setup_in}
-use Rattle.stepping.proofs.Processing.{arrives_so, is_dropped, is_confirmed, is_stopped}
+use Rattle.translation.specs.declared.ct_info.CtInfo.{CtInfo}
+use Rattle.translation.specs.CtInfos.{untranslated}
+use Rattle.stepping.specs.Lookups.{flags_in, looked_up_info, others_beside}
+use Rattle.stepping.specs.Paths.{PathState, Continue, stops, goes_on}
+use Rattle.stepping.specs.steps.Steps.{path_state}
+use Rattle.stepping.proofs.Processing.{confirmed_follows, dropped_later, dropped_raw}
 use Rattle.stepping.proofs.process.process_packet.Goals as goal
 
-pub returns-in_err-run-clause-processed : goal.returns-in_err-run-clause-processed
-returns-in_err-run-clause-processed g c =
+pub returns-in_err-run-clause-path : goal.returns-in_err-run-clause-path
+returns-in_err-run-clause-path g c =
     let q = err_from_is_err_and c.from_residual.result c.from_residual.ensures.1 in
-    let setup = setup_in c.args.setup.now.hooks in
-    let a = arrived_of c.args.incoming.now in
-    let known = arrives_so setup a c.args.incoming.now.input c.initial_facts-facts.result c.initial_facts-facts.ensures
-    c.requires.known in
-    rw (q.1, q.2) (is_dropped setup a c.initial_facts-facts.result c.args.events.now.events known c.requires.none _ _ _
-    c.args.now c.args.connections.now.held c.in_err-run.ensures.traverses)
+    rw (q.1, q.2) (stops _ _ c.in_err-run.ensures.step)
 
-pub confirm-requires-clause-fits : goal.confirm-requires-clause-fits
-confirm-requires-clause-fits g c = c.in_ok-hooks_passed.ensures.fits _ c.mappings.ensures
-    c.look_up_packet-lookup_result.ensures.fits
+pub returns-in_err-run-clause-follows : goal.returns-in_err-run-clause-follows
+returns-in_err-run-clause-follows g c =
+    let q = err_from_is_err_and c.from_residual.result c.from_residual.ensures.1 in
+    rw (q.1, q.2) (dropped_raw c.args.view.now.packet.now c.args.connections.now.held c.args.now _
+    (path_state c.run.new.state c.run.new.events) (c.in_err-run.ensures.info ∙ c.requires.not_looked_up))
 
-pub returns-in_err-hooks_passed-clause-processed : goal.returns-in_err-hooks_passed-clause-processed
-returns-in_err-hooks_passed-clause-processed g c =
-    let q = err_from_is_err_and c.from_residual-in_err-hooks_passed.result c.from_residual-in_err-hooks_passed.ensures.1
-    in
-    let setup = setup_in c.args.setup.now.hooks in
-    let a = arrived_of c.args.incoming.now in
-    let known = arrives_so setup a c.args.incoming.now.input c.initial_facts-facts.result c.initial_facts-facts.ensures
-    c.requires.known in
-    let lookup_result = c.look_up_packet-lookup_result in
-    let runs_hooks = rw (c.set_ct.ensures, c.ct.ensures, lookup_result.ensures.held)
-    at (c.in_err-hooks_passed.ensures.runs_hooks _ c.mappings.ensures) in
-    rw (q.1, q.2) (is_stopped setup a c.initial_facts-facts.result c.args.events.now.events known c.requires.none
-    c.run.new.facts _ c.in_ok-run.ensures.traverses c.args.now c.args.connections.now.held
-    lookup_result.result.info lookup_result.ensures.info _ _ _ runs_hooks lookup_result.ensures.held)
+pub returns-in_err-run_hooks-clause-path : goal.returns-in_err-run_hooks-clause-path
+returns-in_err-run_hooks-clause-path g c =
+    let q = err_from_is_err_and c.from_residual-in_err-run_hooks.result c.from_residual-in_err-run_hooks.ensures.1 in
+    let look = c.look_up-belonging in
+    let hooks = rw look.ensures.held at (c.in_err-run_hooks.ensures.steps _ c.mappings.ensures) in
+    rw (q.1, q.2) (goes_on _ _ c.in_ok-run.ensures.step (goes_on (path_state look.new.state c.run.new.events) _
+    (ap Continue (look.ensures.step c.run.new.events)) (stops _ _ hooks)))
 
-pub returns-clause-processed : goal.returns-clause-processed
-returns-clause-processed g c =
-    let setup = setup_in c.args.setup.now.hooks in
-    let a = arrived_of c.args.incoming.now in
-    let known = arrives_so setup a c.args.incoming.now.input c.initial_facts-facts.result c.initial_facts-facts.ensures
-    c.requires.known in
-    let lookup_result = c.look_up_packet-lookup_result in
-    let runs_hooks = rw (c.set_ct.ensures, c.ct.ensures, lookup_result.ensures.held)
-    at (c.in_ok-hooks_passed.ensures.runs_hooks _ c.mappings.ensures) in
-    let confirms = rw lookup_result.ensures.held at c.confirm.ensures.confirms in
-    let flags = rw c.transport.ensures at c.flags_in-flags.ensures in
-    is_confirmed setup a c.initial_facts-facts.result c.args.events.now.events known c.requires.none c.run.new.facts _
-    c.in_ok-run.ensures.traverses c.args.now c.args.connections.now.held
-    lookup_result.result.info lookup_result.ensures.info c.flags_in-flags.result c.in_ok-hooks_passed.hooks_passed
-    lookup_result.result.belonging c.run_hooks.new.info _ _ _ flags lookup_result.ensures.belonging
-    c.in_ok-hooks_passed.ensures.same runs_hooks confirms
+pub returns-in_err-run_hooks-clause-follows : goal.returns-in_err-run_hooks-clause-follows
+returns-in_err-run_hooks-clause-follows g c =
+    let q = err_from_is_err_and c.from_residual-in_err-run_hooks.result c.from_residual-in_err-run_hooks.ensures.1 in
+    let look = c.look_up-belonging in
+    let p = c.args.view.now.packet.now in
+    let old = c.args.connections.now.held in
+    let ct = c.run.new.state.facts.ct in
+    let info : look.new.state.info ≡ looked_up_info ct old p =
+    ap (λ (s : PathState). s.info) (look.ensures.step c.run.new.events) in
+    rw (q.1, q.2) (dropped_later p old c.args.now ct _ _ (path_state c.run_hooks.new.state c.run_hooks.new.events)
+    (c.in_err-run_hooks.ensures.same ∙ ap untranslated info)
+    (look.ensures.held ∙ ap (λ (i : CtInfo). others_beside i old p) info))
+
+pub returns-clause-path : goal.returns-clause-path
+returns-clause-path g c =
+    let look = c.look_up-belonging in
+    let hooks = rw look.ensures.held at (c.in_ok-run_hooks.ensures.steps _ c.mappings.ensures) in
+    let confirms = rw look.ensures.held at c.confirm.ensures.confirms in
+    goes_on _ _ c.in_ok-run.ensures.step (goes_on (path_state look.new.state c.run.new.events) _
+    (ap Continue (look.ensures.step c.run.new.events)) (goes_on _ _ hooks (confirms.step _)))
+
+pub returns-clause-follows : goal.returns-clause-follows
+returns-clause-follows g c =
+    let look = c.look_up-belonging in
+    let p = c.args.view.now.packet.now in
+    let old = c.args.connections.now.held in
+    let ct = c.run.new.state.facts.ct in
+    let info : look.new.state.info ≡ looked_up_info ct old p =
+    ap (λ (s : PathState). s.info) (look.ensures.step c.run.new.events) in
+    let flags = c.flags_in-flags.ensures ∙ ap flags_in c.transport.ensures in
+    confirmed_follows p old c.args.now ct _ c.confirm.result (path_state c.run_hooks.new.state c.run_hooks.new.events)
+    (c.in_ok-run_hooks.ensures.same ∙ ap untranslated info)
+    (rw (flags, look.ensures.belonging, look.ensures.held, info) at c.confirm.ensures.confirms)

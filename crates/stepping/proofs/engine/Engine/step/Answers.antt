@@ -3,11 +3,11 @@ use Rattle.box_file.specs.declared.limits.Limits.{Limits}
 use Rattle.conntrack.specs.ConntrackEntry.{live_at}
 use Rattle.filter_vm.specs.Machine.{EventsAndTicks}
 use Rattle.history.specs.Setup.{Setup, limits_of}
-use Rattle.stepping.specs.Next.{record_lookup}
+use Rattle.stepping.specs.Carried.{carried}
 use Rattle.stepping.specs.Representing.{EngineState, recorded_of}
-use Rattle.stepping.specs.steps.Processing.{HasProcessedRecord}
-use Rattle.stepping.proofs.Extending.{AreAlike, IsTold, latest_is, never, next_represents, none_later-after}
-use Rattle.stepping.proofs.Extending.{none_later-aged}
+use Rattle.stepping.specs.steps.Processing.{HasProcessed}
+use Rattle.stepping.proofs.Extending.{AreAlike, IsTold, latest_is, next_represents, not_begun, none_later-aged}
+use Rattle.stepping.proofs.Extending.{none_later-processed}
 use Rattle.stepping.proofs.engine.Engine.step.Goals as goal
 
 pub process_record-ended-requires-clause-later : goal.process_record-ended-requires-clause-later
@@ -21,26 +21,22 @@ pub invariant_of-self : goal.invariant_of-self
 invariant_of-self g c =
     let now = c.max-now.result in
     let inside = c.self.inside in
-    let has = c.process_record-ended.ensures.processed in
-    let follows = has.follows in
+    let ended = c.process_record-ended in
     let later : inside.latest ≤ now = omega (arith, c.max-now.ensures) in
     let aged = none_later-aged c.none_later.ensures.later inside.connections.limits inside.latest now
     inside.connections.held _ c.age_all.ensures.held later c.self.invariant.later in
     record {
-      limited = c.process_record-ended.ensures.limits ∙ c.age_all.ensures.limits ∙ c.self.invariant.limited;
-      port_choice = tt;
+      limited = ended.ensures.limits ∙ c.age_all.ensures.limits ∙ c.self.invariant.limited;
+      first = tt;
       early = omega (arith, c.max-now.ensures, c.args.record.now.early, c.self.invariant.early);
       few = omega (
         arith,
-        c.process_record-ended.ensures.spent.events,
+        ended.ensures.spent.events,
         c.costs.ensures,
         ap (λ (t : EventsAndTicks). length t.events) c.clear-2.ensures,
       );
-      small = c.process_record-ended.ensures.small;
-      later = rw follows.held (none_later-after c.none_later.ensures.packet now follows.id (record_lookup _ has.arrived)
-          has.packet_result.confirmation _ aged);
-      room = λ ready. absurd (never ready);
-      long = λ ready. absurd (never ready);
+      later = none_later-processed c.none_later.ensures.packet _ _ now _ _ _ _ _ ended.ensures.processed aged;
+      room = λ ready. ended.ensures.room (not_begun ended.result.begun ready);
     }
 
 pub returns-clause-represents : goal.returns-clause-represents
@@ -68,15 +64,15 @@ returns-clause-represents g c = λ history represents.
     } in
     let ended = c.process_record-ended in
     let now = c.max-now.result in
-    let moment = latest_is inside.ended inside.latest inside.events inside.packet inside.connections.held history
-    c.self.invariant.port_choice (ap (λ (s : EngineState). s.newest) same ∙ represents.newest) in
+    let moment = latest_is inside.ended inside.latest inside.events inside.packet.value.items inside.connections.held history
+    c.self.invariant.first (ap (λ (s : EngineState). s.newest) same ∙ represents.newest) in
     next_represents alike c.args.self.now _ told history (recorded_of c.args.record.now) c.age_all.new.self.held
     ended.result ended.new.events.events ended.new.packet.items setup inside.latest now moment c.max-now.ensures
     (c.age_all.ensures.held ∙ ap (λ (l : Limits). live_at l now inside.connections.held)
     (c.self.invariant.limited ∙ ap limits_of setup)
     ∙ ap (live_at limits now) (ap (λ (s : EngineState). s.held) same))
     c.age_all.ensures.distinct
-    (subst (λ (s : Setup). HasProcessedRecord s (recorded_of c.args.record.now) now c.age_all.new.self.held
+    (subst (λ (s : Setup). HasProcessed s (carried s (recorded_of c.args.record.now)) now c.age_all.new.self.held
     ended.new.connections.held ended.result ended.new.events.events ended.new.packet.items) setup
     ended.ensures.processed)
     (ap (λ (n : ℕ). n + 1) (ap (λ (s : EngineState). s.records) same))
