@@ -24,7 +24,7 @@ FILE_HEADER, RECORD_HEADER = 24, 16
 SNAPLEN = 262144
 # Stands in the header's field `sigfigs`, which readers ignore: answers were sent to nftrun's ports.
 ALIGNED_MARK = int.from_bytes(b"alig", "big")
-CHUNK = 1 << 20
+CHUNK = 1 << 16
 
 Header = namedtuple("Header", "order fractions link_type snaplen aligned")
 
@@ -45,40 +45,43 @@ def header_of(path):
     return Header(order, fractions, link_type & 0xFFFF, snaplen, sigfigs == ALIGNED_MARK)
 
 
-def records(path, most=SNAPLEN):
-    """The whole records in order, each as (number, seconds, fraction, offset, length, original length, data): `offset`
-    is where its bytes begin in the file, and `data` has the first `most` of them. One that is torn at the end isn't
-    among them."""
+def pieces(path):
+    """The whole records in order, some at a time: a piece of the file, where its first byte stands in the file, where the
+    bytes of its records begin in the piece, and the records' headers (seconds, fraction, length, original length). A record
+    that is torn at the end isn't among them."""
     unpack = struct.Struct(header_of(path).order + "4I").unpack_from
     with open(path, "rb") as file:
         file.seek(FILE_HEADER)
-        base, number, chunk, at, size = FILE_HEADER, 0, b"", 0, 0
-        while True:
-            start = at + RECORD_HEADER
-            if start <= size:
-                seconds, fraction, length, original = unpack(chunk, at)
-                end = start + length
-                if end <= size:
-                    number += 1
-                    yield (number, seconds, fraction, base + start, length, original,
-                           chunk[start:end if length <= most else start + most])
-                    at = end
-                    continue
-                if length > SNAPLEN:
-                    raise Refused(f"{path}: record {number + 1} claims {length} bytes: the file is damaged there")
-            more = file.read(CHUNK)
-            if not more:
-                return
-            base += at
-            chunk = chunk[at:] + more
-            at, size = 0, len(chunk)
+        base, number, rest = FILE_HEADER, 0, b""
+        while more := file.read(CHUNK):
+            piece = rest + more
+            starts, headers, at = [], [], 0
+            last, size, length = len(piece) - RECORD_HEADER, len(piece), 0
+            while at <= last:
+                header = unpack(piece, at)
+                length = header[2]
+                end = at + RECORD_HEADER + length
+                if end > size or length > SNAPLEN:
+                    break
+                starts.append(at + RECORD_HEADER)
+                headers.append(header)
+                at = end
+            number += len(starts)
+            yield piece, base, starts, headers
+            if length > SNAPLEN:
+                raise Refused(f"{path}: record {number + 1} claims {length} bytes: the file is damaged there")
+            base, rest = base + at, piece[at:]
 
 
-def count_records(path):
+def records(path, most=SNAPLEN):
+    """The whole records in order, each as (number, seconds, fraction, offset, length, original length, data): `offset`
+    is where its bytes begin in the file, and `data` has the first `most` of them."""
     number = 0
-    for number, *_ in records(path, 0):
-        pass
-    return number
+    for piece, base, starts, headers in pieces(path):
+        for start, (seconds, fraction, length, original) in zip(starts, headers):
+            number += 1
+            yield (number, seconds, fraction, base + start, length, original,
+                   piece[start:start + (length if length <= most else most)])
 
 
 def packet_at(data, link_type):

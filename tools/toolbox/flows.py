@@ -6,7 +6,7 @@ what a first run made of it (`Flows.join`). Side 0 is that of the flow's first r
 """
 from array import array
 
-from toolbox.captures import ETHERNET, IPV4, LINK_LENGTHS, LINUX_SLL2, PROTOCOL_AT, SENT_BY_US, TO_US, header_of, records
+from toolbox.captures import ETHERNET, IPV4, LINK_LENGTHS, LINUX_SLL2, PROTOCOL_AT, SENT_BY_US, TO_US, header_of, pieces
 from toolbox.packets import (
     ACK, FIN, RST, SYN, TCP, destination_end, error_tuple_at, identity, inverse, source_end, tuple_at)
 
@@ -89,29 +89,31 @@ class Reader:
         self.sweep_at = 1 << 16
 
     def read(self):
-        flows = self.flows
-        of, role, seen, offsets = flows.of.append, flows.role.append, flows.seen.append, flows.offset.append
-        smallest, latest, indices, enter, leave = self.at + 28, 0, self.indices, self.enter, self.leave
+        flows, number, smallest, latest = self.flows, 0, self.at + 28, 0
+        of, role, seen, indices, enter, leave = flows.of, flows.role, flows.seen, self.indices, self.enter, self.leave
         protocol_at, is_sll2, is_ethernet = (
             PROTOCOL_AT[flows.link_type], flows.link_type == LINUX_SLL2, flows.link_type == ETHERNET)
-        for number, seconds, _, offset, _, _, data in records(flows.path, MOST_READ):
-            value = what = place = 0
-            if seconds > latest:
-                latest = seconds
-            if len(data) < smallest or protocol_at is not None and data[protocol_at:protocol_at + 2] != IPV4:
-                pass
-            elif not is_sll2:
-                if not is_ethernet or not data[0] & 1:
-                    value, what, place = enter(number, latest, data)
-            elif data[4:8] in indices:
-                if data[10] == SENT_BY_US:
-                    leave(number, latest, data)
-                elif data[10] == TO_US:
-                    value, what, place = enter(number, latest, data)
-            of(value >> 1)
-            role(what)
-            seen(place)
-            offsets(offset)
+        for piece, base, starts, headers in pieces(flows.path):
+            for numbers in (of, role, seen):
+                numbers.extend(bytes(len(starts)))
+            flows.offset.extend([base + start for start in starts])
+            for start, (seconds, _, length, _) in zip(starts, headers):
+                number += 1
+                if seconds > latest:
+                    latest = seconds
+                data = piece[start:start + (length if length < MOST_READ else MOST_READ)]
+                if length < smallest or protocol_at is not None and data[protocol_at:protocol_at + 2] != IPV4:
+                    continue
+                if is_sll2:
+                    packet_type = data[10] if data[4:8] in indices else None
+                    if packet_type == SENT_BY_US:
+                        leave(number, latest, data)
+                    if packet_type != TO_US:
+                        continue
+                elif is_ethernet and data[0] & 1:
+                    continue
+                value, role[number], seen[number] = enter(number, latest, data)
+                of[number] = value >> 1
 
     def place_of(self, key, value):
         """The place of a tuple, which from now on is that of this flow and side."""
@@ -131,27 +133,28 @@ class Reader:
         key = tuple_at(data, self.at)
         if key is None:
             return self.enter_error(number, data)
-        flows, is_tcp, flags = self.flows, key[12] == TCP, 0
+        flows, is_tcp, flags, last = self.flows, key[12] == TCP, 0, self.last
         if is_tcp:
             flags = data[self.at + 4 * (data[self.at] & 15) + 13] & (FIN | SYN | RST | ACK)
         place = self.find.get(key)
         value = (self.owner[place] if place else 0) or self.by_inverse(key)
-        if value and (flags == SYN or seconds - self.last[value >> 1] >= self.limits[key[12]]):
+        if value and (flags == SYN or seconds - last[value >> 1] >= self.limits[key[12]]):
             value = self.still(value, seconds, key, flags, data)
         if not value and flags & (SYN | ACK) == SYN | ACK:
             value = self.by_handshake(key, data)
         if not value:
             value = self.begin(number, seconds, key, flags, data)
-            place = None
-        if place is None:
+            place = self.find[key]
+        elif place is None:
             place = self.place_of(key, value)
         flow, side = value >> 1, value & 1
-        if self.use_copies and (not self.learned[flow] >> side & 1 or seconds - self.last[flow] >= SURELY_KEPT):
+        if self.use_copies and (not self.learned[flow] >> side & 1 or seconds - last[flow] >= SURELY_KEPT):
             self.wait(data, (value, key, number))
-        self.last[flow] = seconds
-        if is_tcp:
-            return value, side if flows.acked[flow] else side | self.role_of_tcp(number, flow, side, flags), place
-        return value, side if flows.answered[flow] else side | self.role_of_other(number, flow, side), place
+        last[flow] = seconds
+        if (flows.acked if is_tcp else flows.answered)[flow]:
+            return value, side, place
+        return value, side | (self.role_of_tcp(number, flow, side, flags) if is_tcp
+                              else self.role_of_other(number, flow, side)), place
 
     def by_inverse(self, key):
         """The flow and side of a tuple that comes for the first time, by its inverse; 0 if none."""
@@ -306,16 +309,14 @@ class Reader:
 
     def take_waiting(self, mark, key):
         """The packet that came as this copy's: of several alike the one that changed least."""
-        window = self.young if mark in self.young else self.old if mark in self.old else None
-        if window is None:
+        window = self.young if mark in self.young else self.old
+        alike = window.pop(mark, None)
+        if alike is None:
             return None
-        alike = window[mark]
-        came = alike[0] if len(alike) == 1 else max(alike, key=lambda one: likeness(one[1], key))
-        rest = tuple(one for one in alike if one is not came)
-        if rest:
-            window[mark] = rest
-        else:
-            del window[mark]
+        if len(alike) == 1:
+            return alike[0]
+        came = max(alike, key=lambda one: likeness(one[1], key))
+        window[mark] = tuple(one for one in alike if one is not came)
         return came
 
     def adopted(self, value, as_it_came, number, seconds, inverted):

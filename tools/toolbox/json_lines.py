@@ -1,13 +1,16 @@
 """Records as lines of JSON: what came, what left, and the rules on the way."""
 import json
+from itertools import islice
 
-from toolbox.captures import LINK_LENGTHS, LINUX_SLL2, packet_at
-from toolbox.flows import SIDE
+from toolbox.captures import LINK_LENGTHS, LINUX_SLL2, header_of, packet_at, records
+from toolbox.flows import ERROR, MOST_READ, SIDE
 from toolbox.packets import (
-    ECHO_REPLY, ECHO_REQUEST, ICMP, PROTOCOL_NAMES, TCP, UDP, address_text, error_tuple_at, inverse,
+    ANSWER, ASK, ECHO_REPLY, ECHO_REQUEST, ICMP, PORTED, PROTOCOL_NAMES, TCP, UDP, address_text, error_tuple_at, inverse,
     tuple_at)
-from toolbox.reports import Log, event_of, text_of
+from toolbox.reports import Log, event_of, text_of, traced_records
 
+ECHOES = (ASK[0], ANSWER[0])
+DIRECTIONS = ('"original"', '"reply"')
 MOST_CACHED = 1 << 16
 OUT_LINK = LINK_LENGTHS[LINUX_SLL2]
 
@@ -37,8 +40,8 @@ def event_json(event, ruleset=None):
 
 
 def events_cache(ruleset=None):
-    """By a tuple of events their JSON."""
-    return Cache(lambda events: json.dumps([event_json(event, ruleset) for event in events]))
+    """The JSON of events, by their bytes, each with a newline behind it."""
+    return Cache(lambda events: json.dumps([event_json(event, ruleset) for event in events.split(b"\n")[:-1]]))
 
 
 def tuple_json(key):
@@ -78,46 +81,67 @@ def packet_json(data, at):
 
 
 class PacketTexts:
-    """The JSON of packets; that of TCP and UDP is kept by their tuple."""
+    """The JSON of packets. That of TCP and UDP is kept by their tuple, that of an echo by its tuple and code."""
 
     def __init__(self):
-        self.kept, self.addresses = Cache(self.ports_text), Cache(address_text)
+        self.kept, self.echoes, self.addresses = Cache(self.ports_text), Cache(self.echo_text), Cache(address_text)
+
+    def ends_text(self, protocol, key):
+        return f'{{"protocol": "{protocol}", "saddr": "{self.addresses[key[:4]]}", "daddr": "{self.addresses[key[4:8]]}"'
 
     def ports_text(self, key):
-        return (f'{{"protocol": "{PROTOCOL_NAMES[key[12]]}", "saddr": "{self.addresses[key[:4]]}", '
-                f'"daddr": "{self.addresses[key[4:8]]}", "sport": {key[8] << 8 | key[9]}, '
+        return (f'{self.ends_text(PROTOCOL_NAMES[key[12]], key)}, "sport": {key[8] << 8 | key[9]}, '
                 f'"dport": {key[10] << 8 | key[11]}}}')
+
+    def echo_text(self, key):
+        is_request = key[12] == ASK[0]
+        identifier = key[8] << 8 | key[9] if is_request else key[10] << 8 | key[11]
+        return (f'{self.ends_text("icmp", key)}, "type": {ECHO_REQUEST if is_request else ECHO_REPLY}, '
+                f'"code": {key[13]}, "id": {identifier}}}')
 
     def text(self, data, at):
         key = None if at is None else tuple_at(data, at)
-        if key is not None and key[12] in (TCP, UDP):
+        if key is None:
+            return json.dumps(packet_json(data, at))
+        if key[12] in PORTED:
             return self.kept[key]
+        if key[12] in ECHOES and data[at + 9] == ICMP:
+            code = at + 4 * (data[at] & 15) + 1
+            return self.echoes[key + data[code:code + 1]]
         return json.dumps(packet_json(data, at))
 
 
 class RecordTexts:
     """The line of each record of a run."""
 
-    def __init__(self, flows, box, ruleset, header):
-        self.flows, self.link_type = flows, header.link_type
+    def __init__(self, flows, box, ruleset):
+        self.flows, self.header = flows, header_of(flows.path)
         self.events, self.packets = events_cache(ruleset), PacketTexts()
+        # of entering packets of TCP and UDP, by the place of their tuple
+        self.came = Cache(lambda place: self.packets.ports_text(flows.tuples[place]))
         names = {index.to_bytes(4, "big"): name for index, name in box.names.items()}
         self.names = Cache(lambda index: json.dumps(names.get(index, int.from_bytes(index, "big"))))
         self.outcomes = Cache(lambda outcome: json.dumps(text_of(outcome)))
         self.default = json.dumps(box.default)
-        self.digits = len(str(header.fractions)) - 1
 
-    def line(self, record, frame, events, outcome):
-        """`record` is that of the capture, `frame` what left or None."""
-        number, seconds, fraction, _, _, _, data = record
-        flow = self.flows.of[number]
-        direction = "null" if not flow else '"reply"' if self.flows.role[number] & SIDE else '"original"'
-        came_by = self.names[data[4:8]] if self.link_type == LINUX_SLL2 else self.default
-        before = self.packets.text(data, packet_at(data, self.link_type))
-        told = self.events[tuple(events)] if events else "[]"
-        after = leaving = "null"
-        if frame is not None:
-            after, leaving = self.packets.text(frame, OUT_LINK), self.names[frame[4:8]]
-        return (f'{{"record": {number}, "time": {seconds}.{fraction:0{self.digits}}, "flow": {flow or "null"}, '
-                f'"direction": {direction}, "in": {came_by}, "before": {before}, "events": {told}, '
-                f'"outcome": {self.outcomes[outcome]}, "out": {leaving}, "after": {after}}}\n')
+    def lines(self, leaving, report):
+        """The lines in order, by the packets that left and the report."""
+        flows, link_type, digits = self.flows, self.header.link_type, len(str(self.header.fractions)) - 1
+        packet_text, names, came, told, outcomes = self.packets.text, self.names, self.came, self.events, self.outcomes
+        frames, kind = (record[6] for record in records(leaving, MOST_READ)), flows.kind
+        of, role, seen = (islice(numbers, 1, None) for numbers in (flows.of, flows.role, flows.seen))
+        for (number, seconds, fraction, _, _, _, data), (events, outcome), flow, what, place in zip(
+                records(flows.path, MOST_READ), traced_records(report), of, role, seen):
+            came_by = names[data[4:8]] if link_type == LINUX_SLL2 else self.default
+            if flow and kind[flow] in PORTED and not what & ERROR:
+                before = came[place]
+            else:
+                before = packet_text(data, packet_at(data, link_type))
+            after = left_by = "null"
+            if outcome == b"passed":
+                frame = next(frames)
+                after, left_by = packet_text(frame, OUT_LINK), names[frame[4:8]]
+            yield (f'{{"record": {number}, "time": {seconds}.{str(fraction).zfill(digits)}, "flow": {flow or "null"}, '
+                   f'"direction": {DIRECTIONS[what & SIDE] if flow else "null"}, "in": {came_by}, "before": {before}, '
+                   f'"events": {told[events] if events else "[]"}, "outcome": {outcomes[outcome]}, "out": {left_by}, '
+                   f'"after": {after}}}\n')

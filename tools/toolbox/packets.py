@@ -7,7 +7,13 @@ echo's identifier stands in a port's place, as conntrack has it. An end is 6 byt
 import struct
 
 ICMP, TCP, UDP = 1, 6, 17
+PORTED = (TCP, UDP)
+NOT_WHOLE = 0x3FFF  # of flags and offset: what is set in a fragment
+# of a packet with a usual header: version and header length, flags and offset, protocol, both addresses and ports
+usual_parts = struct.Struct(">B5xHxB2x12s").unpack_from
 ASK, ANSWER, TCP_KIND, UDP_KIND = b"\x01", b"\xff", bytes([TCP]), bytes([UDP])
+PARTS = struct.Struct("4s4s2s2s1s")
+parts_of, joined_parts = PARTS.unpack, PARTS.pack
 USUAL_HEADER = 0x45  # version 4, without options
 ECHO_REPLY, ECHO_REQUEST = 0, 8
 ICMP_ERRORS = frozenset((3, 4, 5, 11, 12))
@@ -22,12 +28,13 @@ def tuple_at(data, at, cut=False):
     """The tuple of the IPv4 packet that begins at `at`; None where it has none (a fragment, an ICMP error, a header that
     doesn't fit). `cut` allows a transport header of 8 bytes."""
     size = len(data)
-    if size >= at + 34 and data[at] == USUAL_HEADER and not data[at + 6] & 0x3F and not data[at + 7]:
-        protocol = data[at + 9]
-        if protocol == TCP:
-            return data[at + 12:at + 24] + TCP_KIND
-        if protocol == UDP:
-            return data[at + 12:at + 24] + UDP_KIND
+    if size >= at + 34:
+        version, fragment, protocol, ends = usual_parts(data, at)
+        if version == USUAL_HEADER and not fragment & NOT_WHOLE:
+            if protocol == TCP:
+                return ends + TCP_KIND
+            if protocol == UDP:
+                return ends + UDP_KIND
     if size < at + 24 or data[at] >> 4 != 4 or data[at + 6] & 0x3F or data[at + 7]:
         return None
     protocol, behind = data[at + 9], at + 4 * (data[at] & 15)
@@ -62,8 +69,9 @@ def inverse_kind(kind):
 
 def inverse(key):
     """The tuple of what answers."""
-    kind = key[12:]
-    return key[4:8] + key[:4] + key[10:12] + key[8:10] + (kind if kind != ASK and kind != ANSWER else inverse_kind(kind))
+    source, destination, source_port, destination_port, kind = parts_of(key)
+    return joined_parts(destination, source, destination_port, source_port,
+                        kind if kind != ASK and kind != ANSWER else inverse_kind(kind))
 
 
 def source_end(key):

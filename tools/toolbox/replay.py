@@ -10,10 +10,10 @@ import struct
 from array import array
 
 from toolbox import program
-from toolbox.captures import LINK_LENGTHS, LINUX_SLL2, RAW_IP, SENT_BY_US, header_of, records
+from toolbox.captures import LINK_LENGTHS, LINUX_SLL2, RAW_IP, SENT_BY_US, header_of, pieces, records
 from toolbox.commands import Refused
 from toolbox.flows import BEGUN, ERROR, OPENER, SAW_SYN_ACK, SIDE, SYN_ACK, TRANSLATED
-from toolbox.packets import TCP, destination_end, inverse, source_end, tuple_at, with_destination
+from toolbox.packets import PORTED, TCP, USUAL_HEADER, destination_end, inverse, source_end, tuple_at, with_destination
 from toolbox.reports import outcomes_of
 
 # Where a record goes: as it came, to an end (its place in `ends`, from 1), or nowhere
@@ -47,7 +47,7 @@ class Replay:
         self.program, self.rules, self.box, self.flows, self.files = path, rules, box, flows, files
         self.cuts, self.spared = cuts, spared
         self.names = {b"passed": PASSED, b"local": LOCAL}
-        self.to, self.ends = (like.to, like.ends) if like else (array("I", bytes(4 * (flows.count + 1))), [])
+        self.to, self.ends = (like.to, like.ends) if like else (array("I", bytes(4 * (flows.count + 1))), Ends())
         self.cut = bytearray(flows.number() + 1)
         self.rounds, self.settled = 0, as_captured
         self.plan = like.plan if like else Plan(flows, files)
@@ -91,8 +91,8 @@ class Replay:
         joins = self.join(decisions)
         if joins or self.cuts and not with_cuts and not any(decisions.to):
             decisions = self.decide(self.cuts)
-        self.settled = decisions.to == self.to and decisions.ends == self.ends
-        self.to, self.ends, self.cut = decisions.to, decisions.ends, decisions.cut
+        self.settled = decisions.to == self.to
+        self.to, self.cut = decisions.to, decisions.cut
 
     def outcome(self, record):
         """How a record ended; "not sent" where the host wouldn't have sent it."""
@@ -113,39 +113,55 @@ class Replay:
         return self.plan.write(self.to, self.ends)
 
 
+class Ends:
+    """The ends to which answers are sent, by number from 1; each keeps its number for all rounds."""
+
+    def __init__(self):
+        self.ends, self.numbers = [], {}
+
+    def __getitem__(self, number):
+        return self.ends[number - 1]
+
+    def number(self, end):
+        number = self.numbers.get(end)
+        if number is None:
+            self.ends.append(end)
+            number = self.numbers[end] = len(self.ends)
+        return number
+
+
 class Plan:
     """The capture as it would have been, in a file. What isn't sent becomes a record of the same length and time that no
     rule sees, so that numbers stay."""
 
     def __init__(self, flows, files):
         self.flows, self.path = flows, files.replayed
-        self.to, self.ends = None, None
+        self.to = None
         self.lengths = struct.Struct(header_of(flows.path).order + "I")
 
     def write(self, to, ends):
         """Writes what differs from what was written before, and answers the file's path."""
         if self.to is None:
             shutil.copyfile(self.flows.path, self.path)
-            self.to, self.ends = array("I", bytes(4 * len(to))), []
-        if (to, ends) != (self.to, self.ends):
-            same_ends = ends == self.ends
+            self.to = array("I", bytes(4 * len(to)))
+        if to != self.to:
             with open(self.flows.path, "rb") as source, open(self.path, "r+b", buffering=0) as target:
                 for record, (place, before) in enumerate(zip(to, self.to)):
-                    if (place or before) and not (place == before and (same_ends or place == NOT_SENT)):
+                    if place != before:
                         self.write_record(record, place, ends, source.fileno(), target.fileno())
-            self.to, self.ends = to, ends
+            self.to = to
         return self.path
 
     def write_record(self, record, place, ends, source, target):
         flows = self.flows
         offset = flows.offset[record]
-        head = os.pread(source, MOST_CHANGED, offset - 8)
-        data = head[8:8 + self.lengths.unpack_from(head)[0]]
         if place == NOT_SENT:
             silence(target, offset, flows.link_type)
             return
+        head = os.pread(source, MOST_CHANGED, offset - 8)
+        data = head[8:8 + self.lengths.unpack_from(head)[0]]
         if place != AS_CAPTURED:
-            data = data[:flows.at] + with_destination(data[flows.at:], ends[place - 1])
+            data = data[:flows.at] + with_destination(data[flows.at:], ends[place])
         os.pwrite(target, data, offset)
 
 
@@ -159,14 +175,24 @@ def silence(file, offset, link_type):
         os.pwrite(file, b"\0\0", offset + 12)
 
 
+def left_tuples(path):
+    """The tuple of each packet that a run sent, or None. A run sends no fragments."""
+    header, protocol, ends = OUT_LINK, OUT_LINK + 9, OUT_LINK + 12
+    for piece, _, starts, _ in pieces(path):
+        yield from [
+            piece[at + ends:at + ends + 12] + piece[at + protocol:at + protocol + 1]
+            if piece[at + header] == USUAL_HEADER and piece[at + protocol] in PORTED
+            else tuple_at(piece[at:at + OUT_LINK + 108], OUT_LINK) for at in starts]
+
+
 class Decisions:
     """Where each record goes after a round, by the outcomes and what left."""
 
     def __init__(self, replay, cuts):
         flows = self.flows = replay.flows
-        self.outcomes, self.leaving = replay.outcomes, records(replay.files.leaving, OUT_LINK + 108)
+        self.outcomes, self.left = replay.outcomes, left_tuples(replay.files.leaving)
         self.cuts, self.spared = cuts, replay.spared
-        self.to, self.ends, self.places = array("I", bytes(4 * (flows.count + 1))), [], {}
+        self.to, self.ends = array("I", bytes(4 * (flows.count + 1))), replay.ends
         self.cut = bytearray(len(flows.first))
         self.opened = bytearray(len(flows.first))  # PASSED, LOCAL: an opener went through; 4: a SYN and ACK did
         self.fine = bytearray(len(flows.first))  # whose beginning went through: it is cut no more
@@ -177,28 +203,24 @@ class Decisions:
         self.joined, self.joined_errors = {}, {}
 
     def make(self):
-        flows, outcomes, leaving = self.flows, self.outcomes, self.leaving
-        of, role, seen, tuples, known, cuts = flows.of, flows.role, flows.seen, flows.tuples, flows.flags, self.cuts
-        choice, left_as, fine = self.choice, self.left_as, self.fine
-        for record in range(1, flows.count + 1):
-            outcome = outcomes[record]
-            frame = next(leaving)[6] if outcome == PASSED else None
-            flow = of[record]
-            what = role[record]
+        flows, next_left, cuts, joins = self.flows, self.left.__next__, self.cuts, self.expected is not None
+        seen, tuples, known, first = flows.seen, flows.tuples, flows.flags, flows.first
+        to, choice, left_as, fine, opened = self.to, self.choice, self.left_as, self.fine, self.opened
+        for record, (flow, what, outcome) in enumerate(zip(flows.of, flows.role, self.outcomes)):
+            left = next_left() if outcome == PASSED else None
             if not flow:
-                if what and self.expected is not None:
+                if what and joins:
                     self.look_for_error(record)
                 continue
-            side = what & SIDE
-            if cuts and known[flow] & BEGUN and not fine[flow] and self.is_cut(record, flow):
-                self.to[record] = NOT_SENT
+            # an opener comes before any answer, so it is never cut
+            if cuts and not fine[flow] and not what & OPENER and known[flow] & BEGUN and self.is_cut(record, flow):
+                to[record] = NOT_SENT
                 continue
-            if outcome == PASSED or outcome == LOCAL:
-                if what & OPENER:
-                    self.opened[flow] |= outcome
-                elif what & SYN_ACK:
-                    self.opened[flow] |= 4
-            wanted = choice[2 * flow + side]
+            side = what & SIDE
+            value = flow + flow + side
+            if what & (OPENER | SYN_ACK) and (outcome == PASSED or outcome == LOCAL):
+                opened[flow] |= outcome if what & OPENER else 4
+            wanted = choice[value]
             if wanted is not None:
                 came = tuples[seen[record]]
                 if came != wanted and not self.send_to(record, flow, side, came, wanted):
@@ -207,12 +229,10 @@ class Decisions:
                 continue
             if what & ERROR:
                 continue
-            if self.expected is not None and flows.first[flow] == record:
+            if joins and first[flow] == record:
                 self.look_for_join(record, flow)
-            if frame is not None:
-                left = tuple_at(frame, OUT_LINK)
-                if left is not None and left_as[2 * flow + side] != left:
-                    self.learn(record, flow, side, left)
+            if left is not None and left_as[value] != left:
+                self.learn(record, flow, side, left)
 
     def is_cut(self, record, flow):
         """Whether a record isn't sent, since what comes before it in its flow didn't go through."""
@@ -239,12 +259,7 @@ class Decisions:
                 self.goes_elsewhere(record, flow)
                 return False
             return True
-        end = destination_end(wanted)
-        place = self.places.get(end)
-        if place is None:
-            self.ends.append(end)
-            place = self.places[end] = len(self.ends)
-        self.to[record] = place
+        self.to[record] = self.ends.number(destination_end(wanted))
         return True
 
     def is_answered_by_box(self, record, flow):

@@ -1,11 +1,12 @@
 """Reports of nftrun run --trace (docs/SPEC.md, 9), streamed."""
-import mmap
 import re
 from collections import Counter, namedtuple
 
 from toolbox.commands import Refused
 
 CHUNK = 1 << 20
+# a record of a trace: the lines of its events, its number, its outcome
+TRACED = re.compile(rb"^((?:(?:trace|log) .*\n)*?)trace ([0-9]+) outcome (\w+)\n", re.MULTILINE)
 OUTCOME = re.compile(rb"\ntrace [0-9]+ outcome (\w+)")
 EVENT = re.compile(rb"^(trace|log) [0-9]+ (.*)$", re.MULTILINE)
 TOTAL = re.compile(rb"[a-z]+(?: [a-z]+)? [0-9]+")
@@ -50,6 +51,26 @@ def records_of(path):
         yield number_of(current), events, None
 
 
+def traced_records(path):
+    """Each record of a whole report with a trace, as (events, outcome): `events` is what `records_of` has of them, each
+    with a newline behind it."""
+    rest = b"\n"
+    with open(path, "rb") as file:
+        while chunk := file.read(CHUNK):
+            text = rest + chunk
+            found = TRACED.findall(text, 1)
+            if found:
+                _, number, outcome = found[-1]
+                text = text[text.rfind(b"\ntrace %s outcome %s\n" % (number, outcome)) + 1:]
+                text = text[text.index(b"\n"):]
+            rest = text
+            for lines, number, outcome in found:
+                if b"log " in lines:
+                    yield b"".join(event_in(line) + b"\n" for line in lines.split(b"\n")[:-1]), outcome
+                else:
+                    yield lines and lines.replace(b"trace " + number + b" ", b""), outcome
+
+
 def number_of(word):
     if not word.isdigit():
         raise Refused(f"no line of a report: record {text_of(word)}")
@@ -68,42 +89,55 @@ def event_of(event):
     return Decision(text_of(chain), None if rule == b"policy" else int(rule), text_of(rest))
 
 
+class Numbers(dict):
+    """Numbers from 1 for names, as they come."""
+
+    def __missing__(self, name):
+        number = self[name] = len(self) + 1
+        return number
+
+
 def outcomes_of(path, names):
     """Of each record (from 1) the number of its outcome in `names`, which grows: a byte a record."""
-    outcomes, rest = bytearray(1), b"\n"
+    numbers, outcomes, rest = Numbers(names), bytearray(1), b"\n"
     with open(path, "rb") as file:
         while chunk := file.read(CHUNK):
             whole = rest + chunk
             end = whole.rfind(b"\n")
-            for name in OUTCOME.findall(whole, 0, end):
-                number = names.get(name)
-                if number is None:
-                    number = names[name] = len(names) + 1
-                outcomes.append(number)
+            outcomes += bytes(map(numbers.__getitem__, OUTCOME.findall(whole, 0, end)))
             rest = whole[end:]
+    names.update(numbers)
     return outcomes
 
 
 def events_of_some(path, wanted):
     """The events of each wanted record, whose numbers rise, as `records_of` has them. The report is whole and has a trace;
     what stands between is passed over."""
-    with open(path, "rb") as file, mmap.mmap(file.fileno(), 0, access=mmap.ACCESS_READ) as report:
-        at = 0
+    with open(path, "rb") as file:
+        report = Passages(file)
         for number in wanted:
-            begin = report.find(b"\n", outcome_place(report, number - 1, at)) + 1 if number > 1 else 0
-            at = outcome_place(report, number, begin)
-            yield [event_in(line) for line in report[begin:at].split(b"\n")[:-1]]
+            if number - 1 > report.number:
+                report.take(number - 1, passes_over=True)
+            yield [event_in(line) for line in report.take(number).split(b"\n")[:-1]]
 
 
-def outcome_place(report, number, at):
-    """Where the line of a record's outcome begins, at or behind the line that begins at `at`."""
-    head = b"trace %d outcome " % number
-    if report[at:at + len(head)] == head:
-        return at
-    found = report.find(b"\n" + head, at)
-    if found < 0:
-        raise Refused(f"no report with a trace: it lacks the outcome of record {number}")
-    return found + 1
+class Passages:
+    """A report from its front, of which `text` is kept: behind its first newline stands what comes behind record `number`."""
+
+    def __init__(self, file):
+        self.file, self.text, self.at, self.number = file, b"\n", 0, 0
+
+    def take(self, number, passes_over=False):
+        """What stands before a record's outcome, and goes behind that. What is passed over isn't kept, nor given."""
+        head = b"\ntrace %d outcome " % number
+        while (found := self.text.find(head, self.at)) < 0 or (end := self.text.find(b"\n", found + 1)) < 0:
+            more = self.file.read(CHUNK)
+            if not more:
+                raise Refused(f"no report with a trace: it lacks the outcome of record {number}")
+            kept = self.text.rfind(b"\n", self.at) if passes_over else self.at
+            self.text, self.at = self.text[kept:] + more, 0
+        begin, self.at, self.number = self.at + 1, end, number
+        return b"" if passes_over else self.text[begin:found + 1]
 
 
 def event_in(line):

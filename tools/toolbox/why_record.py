@@ -34,7 +34,7 @@ class Why:
         self.left_as = decisions.left_as
         place = decisions.to[record]
         # the end to which an answer has to go in this run, where it isn't the one in the capture
-        self.wanted = None if place == AS_CAPTURED else decisions.ends[place - 1]
+        self.wanted = None if place == AS_CAPTURED else decisions.ends[place]
 
     def read_record(self):
         """The bytes of the record, its moment, and how it came."""
