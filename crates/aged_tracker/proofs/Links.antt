@@ -1,6 +1,6 @@
 -- The links after a write to a slot or a head.
-use Rattle.std.proofs.Common.{◌≡◌, ◌≢◌, ℕ, ◌+◌, ◌-◌, ◌<◌, ◌≤◌, cond, List, length, get_or, set, Option, Some, None}
-use Rattle.std.proofs.Common.{IsSome, refl, sym, ap, ◌∙◌, subst, inl, inr, arith, get_or-set_same, get_or-set_other}
+use Rattle.std.proofs.Common.{◌≡◌, ◌≢◌, ℕ, ◌+◌, ◌-◌, ◌<◌, ◌≤◌, cond, List, get_or, Option, Some, None}
+use Rattle.std.proofs.Common.{IsSome, refl, sym, ap, ◌∙◌, subst, inl, inr, arith}
 use Rattle.std.specs.Prelude.{option_map}
 use Rattle.std.proofs.lemmas.Bool.{cases_eq, cases_lt, lt-ltb, le-ltb}
 use Rattle.std.proofs.lemmas.Option.{none-some}
@@ -14,6 +14,14 @@ use Rattle.aged_tracker.specs.steps.SlotLists.{SameExceptLinks, links_of}
 use Rattle.aged_tracker.specs.declared.slot.SlotList.{SlotList}
 use Rattle.aged_tracker.specs.declared.slot.ListLinks.{ListLinks}
 use Rattle.conntrack.specs.declared.connection.ConntrackEntry.{ConntrackEntry}
+
+some_mapped : {X Y : Type 0} (f : X → Y) (o : Option X) → IsSome (option_map f o) → IsSome o
+some_mapped f None is = absurd cc
+some_mapped f (Some x) is = refl
+
+mapped_some : {X Y : Type 0} (f : X → Y) (o : Option X) → IsSome o → IsSome (option_map f o)
+mapped_some f None is = absurd cc
+mapped_some f (Some x) is = refl
 
 module _ (slot_list : SlotList) where
   pub link_at-head : (slots : Slab Slot) (heads : List Link) (p : ℕ) → p < 5 → (link_at slot_list) slots heads p ≡ get_or heads p no_link
@@ -39,15 +47,6 @@ module _ (slot_list : SlotList) where
           ];
         }
 
-    pub SameExceptNeighbours-slot : (except_neighbours slot_list) s' ≡ (except_neighbours slot_list) s
-        → (SameExceptNeighbours slot_list) old new
-    SameExceptNeighbours-slot same k =
-        elim (cases_eq k key) [
-          | inl e ↦ ap (option_map (except_neighbours slot_list)) (ap (get new) e ∙ updates.changed) ∙ ap Some same
-              ∙ sym (ap (option_map (except_neighbours slot_list)) (ap (get old) e ∙ is))
-          | inr d ↦ ap (option_map (except_neighbours slot_list)) (updates.others k d)
-        ]
-
     pub same_links : (links_of slot_list s').link ≡ (links_of slot_list s).link → (p : ℕ)
         → (link_at slot_list) new heads p ≡ (link_at slot_list) old heads p
     same_links same p =
@@ -65,30 +64,10 @@ module _ (slot_list : SlotList) where
     pub same_owners : (k : ℕ) → k ≢ key → (owner_of slot_list) new k ≡ (owner_of slot_list) old k
     same_owners k d = ap (owner_by slot_list) (updates.others k d)
 
-  pub Relinks-head : (slots : Slab Slot) (heads : List Link) (node : ℕ) (link : Link) → node < 5 → length heads ≡ 5
-      → Relinks ((link_at slot_list) slots heads) ((link_at slot_list) slots (set heads node link)) node link
-  Relinks-head slots heads node link below long =
-      record {
-        here = link_at-head slots (set heads node link) node below ∙ get_or-set_same heads node link no_link (omega arith);
-        others = λ p d. elim (cases_lt p 5) [
-          | inl low ↦ link_at-head slots (set heads node link) p low ∙ get_or-set_other heads node p link no_link d
-              ∙ sym (link_at-head slots heads p low)
-          | inr past ↦ link_at-slot slots (set heads node link) p past ∙ sym (link_at-slot slots heads p past)
-        ];
-      }
-
   owner_bare : (o : Option Slot) → (owner_by slot_list) o
       ≡ elim (option_map (except_neighbours slot_list) o) as (λ x. Option ℕ) [ None ↦ None | Some b ↦ b.0 ]
   owner_bare None = refl
   owner_bare (Some s) = refl
-
-  some_bare : (o : Option Slot) → IsSome (option_map (except_neighbours slot_list) o) → IsSome o
-  some_bare None is = absurd cc
-  some_bare (Some s) is = refl
-
-  bare_some : (o : Option Slot) → IsSome o → IsSome (option_map (except_neighbours slot_list) o)
-  bare_some None is = absurd cc
-  bare_some (Some s) is = refl
 
   module _ (old new : Slab Slot) (same : (SameExceptNeighbours slot_list) old new) where
     pub bare_owner : (k : ℕ) → (owner_of slot_list) new k ≡ (owner_of slot_list) old k
@@ -96,7 +75,8 @@ module _ (slot_list : SlotList) where
         owner_bare (get new k) ∙ ap (λ o. elim o as (λ x. Option ℕ) [ None ↦ None | Some b ↦ b.0 ]) (same k) ∙ sym (owner_bare (get old k))
 
     pub bare_slot : (k : ℕ) → IsSome (get old k) → IsSome (get new k)
-    bare_slot k is = some_bare (get new k) (subst IsSome (sym (same k)) (bare_some (get old k) is))
+    bare_slot k is = some_mapped (except_neighbours slot_list) (get new k)
+        (subst IsSome (sym (same k)) (mapped_some (except_neighbours slot_list) (get old k) is))
 
     pub bare_place : (p : ℕ) → IsNode old p → IsNode new p
     bare_place p is above = bare_slot (p - 5) (is above)
@@ -126,6 +106,11 @@ module _ (slot_list : SlotList) where
             ∙ ap (link_by slot_list) (updates.others (p - 5) (λ e. d (omega arith)))
             ∙ sym (link_at-slot old heads p past)
       ]
+
+  pub aside_place : (old new : Slab Slot) → (SameExceptLinks slot_list) old new → (p : ℕ) → IsNode old p → IsNode new p
+  aside_place old new same p is above =
+      some_mapped (except_links slot_list) (get new (p - 5))
+      (subst IsSome (sym (same (p - 5))) (mapped_some (except_links slot_list) (get old (p - 5)) (is above)))
 
   aside_bare : (o : Option Slot) → option_map (except_links slot_list) o
       ≡ option_map (λ (b : Option ℕ × ((ℕ → ConntrackEntry) × ListLinks)). b.1)

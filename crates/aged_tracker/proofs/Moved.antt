@@ -1,5 +1,6 @@
 -- Circular lists after a key left one, or joined one.
-use Rattle.std.proofs.Common.{◌≡◌, ◌≢◌, ℕ, ◌+◌, ◌<◌, List, [], ◌∷◌, ◌++◌, Option, Some, None, IsSome, refl, sym, ap, ◌∙◌, subst, inl, inr}
+use Rattle.std.proofs.Common.{◌≡◌, ◌≢◌, ℕ, ◌+◌, ◌<◌, List, [], ◌∷◌, ◌++◌, Option, Some, None, IsSome}
+use Rattle.std.proofs.Common.{refl, sym, ap, ◌∙◌, subst, inl, inr, arith}
 use Rattle.std.specs.Prelude.{IfSome, option_map}
 use Rattle.std.proofs.lemmas.Bool.{cases_eq}
 use Rattle.std.proofs.lemmas.Option.{same_Some, none-some}
@@ -10,8 +11,9 @@ use Rattle.futures.proofs.LinkLemmas.{IsOn, prev_end_on, prev_on, next_on, IsRin
 use Rattle.aged_tracker.specs.declared.slot.Link.{Link}
 use Rattle.aged_tracker.specs.declared.slot.Slot.{Slot}
 use Rattle.aged_tracker.specs.steps.SlotLists.{number, link_at, next_of, prev_of, owner_of, owner_by, IsRing, except_links, SameExceptLinks}
-use Rattle.aged_tracker.proofs.Links.{same_links, same_owners, links_but}
-use Rattle.aged_tracker.specs.steps.SlotLists.{links_of, with_list}
+use Rattle.aged_tracker.proofs.Links.{Relinks-slot, same_links, same_owners, links_but}
+use Rattle.aged_tracker.specs.declared.slot.ListLinks.{ListLinks}
+use Rattle.aged_tracker.specs.steps.SlotLists.{links_of, with_links, with_list, Relinks}
 use Rattle.aged_tracker.specs.declared.slot.SlotList.{SlotList}
 use Rattle.aged_tracker.specs.declared.slot.SlotList.TheVariants.{Queues, Order}
 
@@ -28,6 +30,15 @@ with_list_aside : (slot_list : SlotList) (list : Option ℕ) (s : Slot)
     → except_links slot_list (with_list slot_list list s) ≡ except_links slot_list s
 with_list_aside Queues list s = refl
 with_list_aside Order list s = refl
+
+with_links_links : (slot_list : SlotList) (links : ListLinks) (s : Slot) → links_of slot_list (with_links slot_list links s) ≡ links
+with_links_links Queues links s = refl
+with_links_links Order links s = refl
+
+with_links_aside : (slot_list : SlotList) (links : ListLinks) (s : Slot)
+    → except_links slot_list (with_links slot_list links s) ≡ except_links slot_list s
+with_links_aside Queues links s = refl
+with_links_aside Order links s = refl
 
 module _ (slot_list : SlotList) where
   -- the key is in one of the circular lists
@@ -125,7 +136,34 @@ module _ (slot_list : SlotList) where
   some_of None is = absurd cc
   some_of (Some x) is = (x, refl)
 
-  -- what `set_list` keeps
+  -- what `set_links` writes and keeps
+  pub record Placed (old new : Slab Slot) (key : ℕ) (links : ListLinks) : Type 0 where
+    pub link : (heads : List Link) → Relinks ((link_at slot_list) old heads) ((link_at slot_list) new heads) (5 + key) links.link
+    pub owner : (owner_of slot_list) new key ≡ links.list
+    pub others : (k : ℕ) → k ≢ key → (owner_of slot_list) new k ≡ (owner_of slot_list) old k
+    pub same : (SameExceptLinks slot_list) old new
+
+  pub placed : (old new : Slab Slot) (key : ℕ) (links : ListLinks) → IsSome (get old key)
+      → IfSome (get old key) (λ s. Updates old new key (Some (with_links slot_list links s))) → Placed old new key links
+  placed old new key links some wrote =
+      let slot = some_of (get old key) some in
+      let after : Slot = with_links slot_list links slot.0 in
+      let updates : Updates old new key (Some after) = rw slot.1 at wrote in
+      let written : links_of slot_list after ≡ links = with_links_links slot_list links slot.0 in
+      record {
+        link = λ heads. subst (λ (l : ListLinks). Relinks ((link_at slot_list) old heads) ((link_at slot_list) new heads) (5 + key) l.link)
+            written ((Relinks-slot slot_list) old new heads key slot.0 after slot.1 updates (5 + key) (omega arith) (omega arith));
+        owner = ap (owner_by slot_list) updates.changed ∙ ap (λ (l : ListLinks). l.list) written;
+        others = (same_owners slot_list) old new [] key slot.0 after slot.1 updates;
+        same = λ k. elim (cases_eq k key) [
+          | inl e ↦ ap (option_map (except_links slot_list)) (ap (get new) e ∙ updates.changed)
+              ∙ ap Some (with_links_aside slot_list links slot.0)
+              ∙ sym (ap (option_map (except_links slot_list)) (ap (get old) e ∙ slot.1))
+          | inr d ↦ ap (option_map (except_links slot_list)) (updates.others k d)
+        ];
+      }
+
+  -- what `take_links` keeps
   pub record Listed (old new : Slab Slot) (key : ℕ) (list : Option ℕ) : Type 0 where
     pub links : (heads : List Link) (p : ℕ) → (link_at slot_list) new heads p ≡ (link_at slot_list) old heads p
     pub owner : (owner_of slot_list) new key ≡ list

@@ -70,9 +70,6 @@ held_map old new f same (k ∷ keys) =
     ∙ sym (map_cons f (old k) (held_in old keys))
 
 module _ (id : ConnId) (direction : Direction) (flags : Flags) (mark now : ℕ) where
-  touch_if : ConntrackEntry → ConntrackEntry
-  touch_if h = cond (same_id id h) (touched direction flags mark now h) h
-
   option_stays : (o : Option ConntrackEntry) → ((h : ConntrackEntry) → o ≡ Some h → same_id id h ≡ false)
       → o ≡ option_map (λ h. cond (same_id id h) (touched direction flags mark now h) h) o
   option_stays None other = refl

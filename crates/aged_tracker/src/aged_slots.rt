@@ -3,54 +3,31 @@ ghost use Rattle.std.specs.Prelude.{◌≡◌, ◌+◌, ◌<◌, ◌≤◌, ◌+
 ghost use Rattle.slab.specs.Slab.{get, slab_len, ContainsKey, Updates};
 ghost use Rattle.conntrack.specs.ConntrackEntry.{begun_with, connection_of, is_live, touched, touched_at, without, IsNoneLater};
 ghost use Rattle.aged_tracker.specs.steps.SlotLists.{MAX_KEYS, lists_of, held_at, held_of, updated, Fills, IsRings, SameSize};
-ghost use Rattle.aged_tracker.specs.steps.Table.{has_room, held_by, limit_at, queue_of, slots_of, IsAllLive, IsLiveQueue, IsOldest, IsTable, Sets};
+ghost use Rattle.aged_tracker.specs.steps.Table.{has_room, held_by, limit_at, queue_by, queue_of, slots_of, IsAllLive, IsLiveQueue, IsOldest, IsTable, Sets};
+ghost use Rattle.aged_tracker.specs.steps.Keyed.{belonging_of};
 ghost use Rattle.aged_tracker.specs.declared.slot.SlotList.TheVariants.{Queues, Order};
 
 use crate::linked_lists::{after, empty_heads, front, push_back, unlink};
-use crate::slot::{LISTS, Link, MAX_KEYS, Slot, SlotList};
+use crate::slot::{ECHO, ESTABLISHED, LISTS, Link, MAX_KEYS, SlotList, TRANSITORY, UDP, queue_by};
+use crate::slots::Slots;
 use box_file::Limits;
 use conntrack::{
-    ConnId, Connection, ConntrackEntry, Direction, Flags, Memory, Moment, Phase, Steps, limit_by,
+    Belonging, ConnId, Connection, ConntrackEntry, Direction, Flags, Memory, Moment, Phase, Steps,
+    limit_by,
 };
-use ip_headers::Kind;
-use slab::Slab;
+use ip_headers::{Kind, Tuple};
 use std::alloc::Global;
-
-// The queues, one for each timeout.
-const UDP: usize = 0;
-
-const ESTABLISHED: usize = 1;
-
-const TRANSITORY: usize = 2;
-
-const ECHO: usize = 3;
-
-const OTHER: usize = 4;
 
 /// The slots, a list through all of them in the order of their creation, and a queue for each
 /// timeout. In `steps` calls count the slots that they read or write.
 #[derive(Drop)]
 pub struct AgedSlots {
-    slots: Slab<Slot>,
+    slots: Slots,
     order: [Link; LISTS],
     queues: [Link; LISTS],
     // The moment of the last packet of each queue's front, by which `expired` tells whether the
     // front has expired.
     oldest: [Moment; LISTS],
-}
-
-/// The queue of an entry.
-fn queue_of(held: &ConntrackEntry) -> usize
-    ensures queue { result ≡ queue_of held.now }
-    ensures range { result < 5 }
-{
-    match (held.original.kind, held.phase()) {
-        (Kind::Udp, _) => UDP,
-        (Kind::Tcp, Phase::Established) => ESTABLISHED,
-        (Kind::Tcp, Phase::Opening | Phase::Closing) => TRANSITORY,
-        (Kind::EchoRequest | Kind::EchoReply, _) => ECHO,
-        (Kind::Other(_), _) => OTHER,
-    }
 }
 
 /// The timeout of a queue's entries in nanoseconds.
@@ -67,7 +44,7 @@ fn limit_at(limits: Limits, queue: usize) -> u64
 }
 
 /// The moment of the last packet of a queue's front.
-fn oldest_of(slots: &Slab<Slot>, queues: &[Link; LISTS], queue: usize, steps: &mut Steps) -> Moment
+fn oldest_of(slots: &Slots, queues: &[Link; LISTS], queue: usize, steps: &mut Steps) -> Moment
     requires range { queue < 5 }
     requires rings { IsRings Queues slots.now queues.now }
     ensures oldest { IsOldest (held_at slots.now)
@@ -75,61 +52,13 @@ fn oldest_of(slots: &Slab<Slot>, queues: &[Link; LISTS], queue: usize, steps: &m
     ensures rises { steps.old ≤ steps.new }
     ensures steps { steps.new ≤ steps.old + 1 }
 {
-    match front(slots, queues, SlotList::Queues, queue) {
+    match front(queues, queue) {
         None => 0,
-        Some(key) => {
-            steps.tick();
-            match slots.get(key) {
-                None => 0,
-                Some(slot) => slot.last,
-            }
-        }
+        Some(key) => match slots.get(key, steps) {
+            None => 0,
+            Some(slot) => slot.last,
+        },
     }
-}
-
-/// Updates the entry in a slot for one more packet, and returns its queue then.
-fn touch_slot(
-    slots: &mut Slab<Slot>,
-    key: usize,
-    direction: Direction,
-    flags: Flags,
-    mark: u32,
-    now: Moment,
-    steps: &mut Steps,
-) -> usize
-    requires { ContainsKey slots.old key }
-    ensures slots { IfSome (get slots.old key)
-        (λ s. Updates slots.old slots.new key
-        (Some (updated (touched direction flags mark now (held_of key s)) s))) }
-    ensures queue { IfSome (get slots.old key)
-        (λ s. result ≡ queue_of (touched direction flags mark now (held_of key s))) }
-    ensures range { result < 5 }
-    ensures size { SameSize slots.old slots.new }
-    ensures rises { steps.old ≤ steps.new }
-    ensures steps { steps.new ≤ steps.old + 1 }
-{
-    steps.tick();
-    match slots.get_mut(key) {
-        Some(slot) => {
-            let held = slot.touch(key, direction, flags, mark, now);
-            queue_of(&held)
-        }
-        None => unreachable!(),
-    }
-}
-
-/// Fills a free slot, which is in no list yet.
-fn fill(slots: &mut Slab<Slot>, held: &ConntrackEntry, steps: &mut Steps) -> usize
-    requires { IsTrue (nat_lt (slab_len slots.old) slots.old.capacity) }
-    ensures key { result ≡ slots.old.vacant_key }
-    ensures free { get slots.old result ≡ None }
-    ensures fills { Fills slots.old slots.new result
-        (record held.now { id = record { 0 = result } }) }
-    ensures rises { steps.old ≤ steps.new }
-    ensures steps { steps.new ≤ steps.old + 1 }
-{
-    steps.tick();
-    slots.insert_reserved(Slot::new(held))
 }
 
 impl AgedSlots {
@@ -141,23 +70,31 @@ impl AgedSlots {
         ensures room { has_room result ≡ false }
     {
         AgedSlots {
-            slots: Slab::new(alloc),
+            slots: Slots::new(alloc),
             order: empty_heads(),
             queues: empty_heads(),
             oldest: [0; LISTS],
         }
     }
 
-    /// The entry in a slot.
-    pub fn read(&self, key: usize, steps: &mut Steps) -> ConntrackEntry
+    /// The lookup result of a packet whose tuple is an incoming tuple of the entry in a slot.
+    pub fn belonging(
+        &self,
+        key: usize,
+        limits: Limits,
+        tuple: Tuple,
+        flags: Flags,
+        now: Moment,
+        steps: &mut Steps,
+    ) -> Belonging
         requires { IsSome (slots_of self.now key) }
-        ensures held { slots_of self.now key ≡ Some result }
+        ensures belonging { IfSome (slots_of self.now key)
+            (λ h. result ≡ belonging_of limits now tuple flags h) }
         ensures rises { steps.old ≤ steps.new }
         ensures steps { steps.new ≤ steps.old + 1 }
     {
-        steps.tick();
-        match self.slots.get(key) {
-            Some(slot) => slot.held(key),
+        match self.slots.get(key, steps) {
+            Some(slot) => slot.belonging(key, limits, tuple, flags, now),
             None => unreachable!(),
         }
     }
@@ -193,7 +130,7 @@ impl AgedSlots {
             key,
             steps,
         );
-        let queue = touch_slot(&mut self.slots, key, direction, flags, mark, now, steps);
+        let queue = self.slots.touch(key, direction, flags, mark, now, steps);
         push_back(
             &mut self.slots,
             &mut self.queues,
@@ -233,8 +170,8 @@ impl AgedSlots {
             source: connection.source,
             dest: connection.dest,
         };
-        let queue = queue_of(&held);
-        let key = fill(&mut self.slots, &held, steps);
+        let queue = queue_by(held.original.kind, held.phase());
+        let key = self.slots.fill(&held, steps);
         push_back(
             &mut self.slots,
             &mut self.order,
@@ -282,8 +219,7 @@ impl AgedSlots {
             key,
             steps,
         );
-        steps.tick();
-        let slot = self.slots.remove(key);
+        let slot = self.slots.remove(key, steps);
         self.oldest[left] = oldest_of(&self.slots, &self.queues, left, steps);
         slot.held(key)
     }
@@ -297,7 +233,7 @@ impl AgedSlots {
             × IsSome (slots_of self.now id.0)) }
         ensures none { IfNone result (IsLiveQueue limits (slots_of self.now) now queue) }
     {
-        match front(&self.slots, &self.queues, SlotList::Queues, queue) {
+        match front(&self.queues, queue) {
             None => None,
             Some(key) => {
                 if now.saturating_sub(self.oldest[queue]) < limit_at(limits, queue) {
@@ -347,36 +283,35 @@ impl AgedSlots {
         if self.slots.len() < self.slots.capacity() {
             return Ok(());
         }
-        match self.slots.reserve(1) {
-            Ok(()) => Ok(()),
-            Err(_) => Err(Memory),
-        }
+        self.slots.reserve_one()
     }
 
     /// All entries in the order of their creation.
-    pub fn list(&self, alloc: Global) -> Result<Vec<Connection>, Memory>
+    pub fn list(&self, alloc: Global, steps: &mut Steps) -> Result<Vec<Connection>, Memory>
         requires { IsTable self.now }
-        ensures { IfOk result (λ all. all.items ≡ map connection_of (held_by self.now)) }
+        ensures list { IfOk result (λ all. all.items ≡ map connection_of (held_by self.now)) }
+        ensures rises { steps.old ≤ steps.new }
     {
         let mut all = Vec::new(alloc);
-        let mut cursor = front(&self.slots, &self.order, SlotList::Order, 0);
+        let mut cursor = front(&self.order, 0);
         while let Some(key) = cursor {
-            let connection = connection_at(&self.slots, key);
+            let connection = connection_at(&self.slots, key, steps);
             if all.push(connection).is_err() {
                 return Err(Memory);
             }
-            cursor = after(&self.slots, SlotList::Order, key);
+            cursor = after(&self.slots, SlotList::Order, key, steps);
         }
         Ok(all)
     }
 }
 
 /// The entry in a slot, as it is listed.
-fn connection_at(slots: &Slab<Slot>, key: usize) -> Connection
+fn connection_at(slots: &Slots, key: usize, steps: &mut Steps) -> Connection
     requires { ContainsKey slots.now key }
-    ensures { IfSome (held_at slots.now key) (λ h. result ≡ connection_of h) }
+    ensures connection { IfSome (held_at slots.now key) (λ h. result ≡ connection_of h) }
+    ensures rises { steps.old ≤ steps.new }
 {
-    match slots.get(key) {
+    match slots.get(key, steps) {
         Some(slot) => slot.held(key).connection(),
         None => unreachable!(),
     }

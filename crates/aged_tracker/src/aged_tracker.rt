@@ -4,20 +4,20 @@ ghost use Rattle.conntrack.specs.ConntrackEntry.{have_disjoint_tuples, belongs_i
 ghost use Rattle.std.specs.HashMap.{get, spare};
 ghost use Rattle.ip_headers.specs.Same.{same_tuple};
 ghost use Rattle.ip_headers.specs.declared.tuple.Tuple.{Tuple as Tupled};
-ghost use Rattle.aged_tracker.specs.steps.Keyed.{belonging_of};
 
 use crate::aged_slots::AgedSlots;
 use box_file::Limits;
 use conntrack::laws::independent_of_ids;
 use conntrack::{
-    Aged, BeginError, Belonging, ConnId, Connection, ConnectionRef, ConntrackEntry, Direction,
-    Flags, MAX_CONNECTIONS, Memory, Moment, Steps, Tracker,
+    Aged, BeginError, Belonging, ConnId, Connection, Direction, Flags, MAX_CONNECTIONS, Memory,
+    Moment, Steps, Tracker,
 };
 use ip_headers::Tuple;
 use std::alloc::Global;
 use std::collections::HashMap;
 use std::hash::RandomState;
 use std::marker::Model;
+use word_hash::WordState;
 
 /// Keeps entries in slots that are found by an index of their incoming tuples and expire by queues.
 /// A call counts at most 8 visited slots, however many entries there are.
@@ -25,7 +25,7 @@ use std::marker::Model;
 pub struct AgedTracker {
     slots: AgedSlots,
     // The slot of each incoming tuple. Keys are 32 bits wide, as each entry has two here.
-    keys: HashMap<Tuple, u32, RandomState>,
+    keys: HashMap<Tuple, u32, WordState>,
     live: usize,
     limits: Limits,
 }
@@ -61,7 +61,9 @@ impl AgedTracker {
     {
         match key_of(&self.keys, tuple) {
             None => Belonging::NotFound,
-            Some(key) => belonging(&self.slots.read(key, steps), self.limits, tuple, flags, now),
+            Some(key) => self
+                .slots
+                .belonging(key, self.limits, tuple, flags, now, steps),
         }
     }
 }
@@ -80,7 +82,7 @@ impl Tracker for AgedTracker {
     fn new(alloc: Global, hasher: RandomState, idle: Limits) -> Self {
         AgedTracker {
             slots: AgedSlots::new(alloc),
-            keys: HashMap::with_hasher(alloc, hasher),
+            keys: HashMap::with_hasher(alloc, WordState::new(hasher)),
             live: 0,
             limits: idle,
         }
@@ -153,13 +155,13 @@ impl Tracker for AgedTracker {
         self.live
     }
 
-    fn list(&self, alloc: Global) -> Result<Vec<Connection>, Memory> {
-        self.slots.list(alloc)
+    fn list(&self, alloc: Global, steps: &mut Steps) -> Result<Vec<Connection>, Memory> {
+        self.slots.list(alloc, steps)
     }
 }
 
 /// Adds a tuple to the index.
-fn insert_tuple(keys: &mut HashMap<Tuple, u32, RandomState>, tuple: Tuple, key: u32)
+fn insert_tuple(keys: &mut HashMap<Tuple, u32, WordState>, tuple: Tuple, key: u32)
     requires { 0 < spare keys.old }
     ensures keys { (q : Tupled) → get same_tuple keys.new q
         ≡ cond (same_tuple tuple q) (Some key) (get same_tuple keys.old q) }
@@ -172,14 +174,14 @@ fn insert_tuple(keys: &mut HashMap<Tuple, u32, RandomState>, tuple: Tuple, key: 
 }
 
 /// How many more tuples fit in the index without growing.
-fn spare_of(keys: &HashMap<Tuple, u32, RandomState>) -> usize
+fn spare_of(keys: &HashMap<Tuple, u32, WordState>) -> usize
     ensures { result ≡ spare keys.now }
 {
     keys.capacity() - keys.len()
 }
 
 /// Removes a tuple from the index.
-fn remove_tuple(keys: &mut HashMap<Tuple, u32, RandomState>, tuple: Tuple)
+fn remove_tuple(keys: &mut HashMap<Tuple, u32, WordState>, tuple: Tuple)
     ensures keys { (q : Tupled) → get same_tuple keys.new q
         ≡ cond (same_tuple tuple q) None (get same_tuple keys.old q) }
     ensures spare { spare keys.old ≤ spare keys.new }
@@ -188,45 +190,15 @@ fn remove_tuple(keys: &mut HashMap<Tuple, u32, RandomState>, tuple: Tuple)
 }
 
 /// The slot of a tuple.
-fn key_of(keys: &HashMap<Tuple, u32, RandomState>, tuple: Tuple) -> Option<usize>
+fn key_of(keys: &HashMap<Tuple, u32, WordState>, tuple: Tuple) -> Option<usize>
     ensures { result ≡ get same_tuple keys.now tuple }
 {
     keys.get(&tuple).map(|key| *key as usize)
 }
 
 /// Whether the index contains a tuple.
-fn contains_tuple(keys: &HashMap<Tuple, u32, RandomState>, tuple: Tuple) -> bool
+fn contains_tuple(keys: &HashMap<Tuple, u32, WordState>, tuple: Tuple) -> bool
     ensures { result ≡ is_some (get same_tuple keys.now tuple) }
 {
     keys.contains_key(&tuple)
-}
-
-/// The lookup result of a packet whose tuple is an incoming tuple of this entry.
-fn belonging(
-    held: &ConntrackEntry,
-    limits: Limits,
-    tuple: Tuple,
-    flags: Flags,
-    now: Moment,
-) -> Belonging
-    ensures { result ≡ belonging_of limits now tuple flags held.now }
-{
-    if !held.is_live(limits, now) {
-        Belonging::NotFound
-    } else if is_same(held.original, tuple) {
-        if flags.is_lone_syn() && held.is_closing() {
-            Belonging::Ends(held.id)
-        } else {
-            Belonging::Found(ConnectionRef::of(held, Direction::Original))
-        }
-    } else {
-        Belonging::Found(ConnectionRef::of(held, Direction::Reply))
-    }
-}
-
-/// Whether two tuples are equal.
-fn is_same(one: Tuple, other: Tuple) -> bool
-    ensures { result ≡ same_tuple one other }
-{
-    one == other
 }

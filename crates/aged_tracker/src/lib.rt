@@ -7,5 +7,6 @@ mod aged_tracker;
 mod linked_lists;
 mod packed;
 mod slot;
+mod slots;
 
 pub use aged_tracker::AgedTracker;

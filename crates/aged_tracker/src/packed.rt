@@ -1,5 +1,6 @@
 //! Tuples and mappings packed to 14 bytes (no padding).
 ghost use Rattle.std.specs.Prelude.{◌≡◌, option_map};
+ghost use Rattle.ip_headers.specs.Same.{same_tuple};
 ghost use Rattle.aged_tracker.specs.steps.Packed.{endpoint_of, mapping_of, tuple_of};
 
 use ip_headers::{Endpoint, Kind, Mapping, Tuple};
@@ -7,10 +8,10 @@ use ip_headers::{Endpoint, Kind, Mapping, Tuple};
 /// An endpoint in 6 bytes: with the address in halves, 2-byte alignment is enough.
 #[derive(Clone, Copy)]
 struct PackedEndpoint {
+    /// The lower 16 bits of the address: first, as in the bytes of a number.
+    low: u16,
     /// The upper 16 bits of the address.
     high: u16,
-    /// The lower 16 bits of the address.
-    low: u16,
     port: u16,
 }
 
@@ -29,8 +30,8 @@ impl PackedEndpoint {
         ensures { endpoint_of result ≡ endpoint }
     {
         PackedEndpoint {
-            high: (endpoint.address / 65536) as u16,
             low: (endpoint.address % 65536) as u16,
+            high: (endpoint.address / 65536) as u16,
             port: endpoint.port,
         }
     }
@@ -55,6 +56,13 @@ impl PackedTuple {
             first: PackedEndpoint::of(tuple.source),
             second: PackedEndpoint::of(tuple.destination),
         }
+    }
+
+    /// The kind of a tuple.
+    pub fn kind(self) -> Kind
+        ensures { result ≡ (tuple_of self).kind }
+    {
+        self.kind
     }
 
     /// Unpacks a tuple.
@@ -95,4 +103,11 @@ impl PackedTuple {
             None => None,
         }
     }
+}
+
+/// Whether two tuples are equal.
+pub fn is_same(one: Tuple, other: Tuple) -> bool
+    ensures { result ≡ same_tuple one other }
+{
+    one == other
 }

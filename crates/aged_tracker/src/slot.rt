@@ -1,16 +1,49 @@
 //! The slots of a table, and their links.
 ghost use Rattle.std.specs.Prelude.{◌≡◌, ◌+◌, ◌<◌, ℕ, None};
-ghost use Rattle.conntrack.specs.ConntrackEntry.{touched};
-ghost use Rattle.aged_tracker.specs.steps.SlotLists.{MAX_KEYS, held_of, key_at, links_of, updated, number, with_links};
+ghost use Rattle.conntrack.specs.Phases.{is_closing, phase_by};
+ghost use Rattle.conntrack.specs.ConntrackEntry.{connection_ref, is_live};
+ghost use Rattle.aged_tracker.specs.steps.Keyed.{belonging_of};
+ghost use Rattle.aged_tracker.specs.steps.Packed.{tuple_of};
+ghost use Rattle.aged_tracker.specs.steps.Table.{queue_by, queue_in};
+ghost use Rattle.aged_tracker.specs.steps.SlotLists.{MAX_KEYS, held_of, key_at, links_of, touched_slot, number, with_links};
 ghost use Rattle.aged_tracker.specs.declared.slot.SlotList.TheVariants.{Queues, Order};
 
-use crate::packed::PackedTuple;
-use conntrack::{ConnId, ConntrackEntry, Direction, Flags, Moment};
+use crate::packed::{PackedTuple, is_same};
+use box_file::Limits;
+use conntrack::{
+    Belonging, ConnId, ConnectionRef, ConntrackEntry, Direction, Flags, Moment, Phase, limit_by,
+};
+use ip_headers::{Kind, Tuple};
 use std::mem::size_of;
 
 /// How many lists a set has: one for each timeout. The order of creation is the first list of its
 /// set.
 pub const LISTS: usize = 5;
+
+// The queues, one for each timeout.
+pub const UDP: usize = 0;
+
+pub const ESTABLISHED: usize = 1;
+
+pub const TRANSITORY: usize = 2;
+
+pub const ECHO: usize = 3;
+
+const OTHER: usize = 4;
+
+/// The queue of a kind and phase.
+pub fn queue_by(kind: Kind, phase: Phase) -> usize
+    ensures queue { result ≡ queue_by kind phase }
+    ensures range { result < 5 }
+{
+    match (kind, phase) {
+        (Kind::Udp, _) => UDP,
+        (Kind::Tcp, Phase::Established) => ESTABLISHED,
+        (Kind::Tcp, Phase::Opening | Phase::Closing) => TRANSITORY,
+        (Kind::EchoRequest | Kind::EchoReply, _) => ECHO,
+        (Kind::Other(_), _) => OTHER,
+    }
+}
 
 /// How many keys slots may have, so that node indexes fit in 32 bits.
 pub const MAX_KEYS: usize = 4_294_967_291;
@@ -95,23 +128,24 @@ pub enum SlotList {
 }
 
 /// An entry with its links in its queue and in the order of creation. The fields are in memory in
-/// this order, those with wide alignment first, so that there is no padding. The entry's id isn't
-/// stored: it is the slot's key.
+/// this order: first those that a packet of the connection reads and writes, so that they share
+/// cache lines. Only before `original` is there a byte of padding. The entry's id isn't stored: it
+/// is the slot's key.
 #[derive(Clone, Copy)]
 pub struct Slot {
     /// The moment of the entry's last packet.
     pub last: Moment,
     mark: u32,
     queue: Link,
-    order: Link,
-    original: PackedTuple,
-    reply: PackedTuple,
-    source: Option<PackedTuple>,
-    dest: Option<PackedTuple>,
     from_original: Flags,
     from_reply: Flags,
     replied: bool,
     in_queue: Option<u8>,
+    original: PackedTuple,
+    reply: PackedTuple,
+    order: Link,
+    source: Option<PackedTuple>,
+    dest: Option<PackedTuple>,
     in_order: Option<u8>,
 }
 
@@ -129,15 +163,15 @@ impl Slot {
             last: held.last,
             mark: held.mark,
             queue: Link::alone(0),
-            order: Link::alone(0),
-            original: PackedTuple::of_tuple(held.original),
-            reply: PackedTuple::of_tuple(held.reply),
-            source: PackedTuple::of_mapping(held.source),
-            dest: PackedTuple::of_mapping(held.dest),
             from_original: held.from_original,
             from_reply: held.from_reply,
             replied: held.replied,
             in_queue: None,
+            original: PackedTuple::of_tuple(held.original),
+            reply: PackedTuple::of_tuple(held.reply),
+            order: Link::alone(0),
+            source: PackedTuple::of_mapping(held.source),
+            dest: PackedTuple::of_mapping(held.dest),
             in_order: None,
         }
     }
@@ -160,27 +194,96 @@ impl Slot {
         }
     }
 
-    /// Updates the entry in the slot of this key for one more packet, and returns it.
-    pub fn touch(
-        &mut self,
-        key: usize,
-        direction: Direction,
-        flags: Flags,
-        mark: u32,
-        now: Moment,
-    ) -> ConntrackEntry
-        ensures result { result ≡ touched direction flags mark now (held_of key self.old) }
-        ensures slot { self.new ≡ updated
-            (touched direction flags mark now (held_of key self.old)) self.old }
+    /// The kind of its packets.
+    fn kind(&self) -> Kind
+        ensures { result ≡ self.now.original.kind }
     {
-        let mut held = self.held(key);
-        held.touch(direction, flags, mark, now);
-        self.last = held.last;
-        self.mark = held.mark;
-        self.from_original = held.from_original;
-        self.from_reply = held.from_reply;
-        self.replied = held.replied;
-        held
+        self.original.kind()
+    }
+
+    /// Its queue.
+    pub fn queue(&self) -> usize
+        ensures queue { result ≡ queue_in self.now }
+        ensures range { result < 5 }
+    {
+        queue_by(self.kind(), self.phase())
+    }
+
+    /// The phase of the entry, if it is a TCP connection.
+    fn phase(&self) -> Phase
+        ensures { result ≡ phase_by self.now.from_original self.now.from_reply }
+    {
+        Phase::of(self.from_original, self.from_reply)
+    }
+
+    /// Whether the entry is live at a moment.
+    fn is_live(&self, limits: Limits, now: Moment) -> bool
+        ensures { result ≡ is_live limits now (held_of 0 self.now) }
+    {
+        now.saturating_sub(self.last) < limit_by(limits, self.kind(), self.phase())
+    }
+
+    /// Whether its connection is closing.
+    fn is_closing(&self) -> bool
+        ensures { result ≡ is_closing (held_of 0 self.now) }
+    {
+        self.phase() == Phase::Closing
+    }
+
+    /// The reference of a packet with this direction to the entry in the slot of this key, whose
+    /// original tuple this is.
+    fn connection_ref(&self, key: usize, direction: Direction, original: Tuple) -> ConnectionRef
+        requires { original ≡ tuple_of self.now.original }
+        ensures { result ≡ connection_ref (held_of key self.now) direction }
+    {
+        ConnectionRef {
+            id: ConnId(key),
+            direction,
+            original,
+            reply: self.reply.tuple(),
+            mark: self.mark,
+            replied: self.replied,
+        }
+    }
+
+    /// The lookup result of a packet whose tuple is an incoming tuple of the entry in the slot of
+    /// this key.
+    pub fn belonging(
+        &self,
+        key: usize,
+        limits: Limits,
+        tuple: Tuple,
+        flags: Flags,
+        now: Moment,
+    ) -> Belonging
+        ensures { result ≡ belonging_of limits now tuple flags (held_of key self.now) }
+    {
+        if !self.is_live(limits, now) {
+            return Belonging::NotFound;
+        }
+        let original = self.original.tuple();
+        if !is_same(original, tuple) {
+            Belonging::Found(self.connection_ref(key, Direction::Reply, original))
+        } else if flags.is_lone_syn() && self.is_closing() {
+            Belonging::Ends(ConnId(key))
+        } else {
+            Belonging::Found(self.connection_ref(key, Direction::Original, original))
+        }
+    }
+
+    /// Updates the entry for one more packet, which sets this mark.
+    pub fn touch(&mut self, direction: Direction, flags: Flags, mark: u32, now: Moment)
+        ensures { self.new ≡ touched_slot direction flags mark now self.old }
+    {
+        match direction {
+            Direction::Original => self.from_original = self.from_original.and(flags),
+            Direction::Reply => {
+                self.from_reply = self.from_reply.and(flags);
+                self.replied = true;
+            }
+        }
+        self.last = now;
+        self.mark = mark;
     }
 
     /// Its links in one set of lists.

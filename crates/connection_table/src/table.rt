@@ -15,7 +15,7 @@ ghost use Rattle.connection_table.specs.Table.{IsConfirmable, begun_as};
 use box_file::Limits;
 use conntrack::laws::{looked_up, none_later};
 use conntrack::{
-    Aged, BeginError, Belonging, Connection, ConnectionRef, Flags, Memory, Moment, Steps, Tracker,
+    Aged, BeginError, Belonging, Connection, ConnectionRef, Flags, Memory, Moment, Tracker,
 };
 use ip_headers::{Mapping as Mapped, Tuple};
 use nat_mapping::Mappings;
@@ -23,6 +23,7 @@ use nat_mapping::laws::{same_answers, stays_one_to_one};
 use std::alloc::{AllocError, Global};
 use std::hash::RandomState;
 use std::marker::Model;
+use step_count::start;
 use translation::NewConnection;
 
 /// The entries of a tracker `T`, with the mappings that they were created with.
@@ -97,7 +98,7 @@ impl<T: Tracker> ConnectionTable<T> {
     {
         // The remaining entries had no later packet either.
         none_later();
-        let mut steps = Steps::new();
+        let mut steps = start();
         while let Some(aged) = self.tracker.age(now, &mut steps) {
             release(&mut self.mappings, &aged);
         }
@@ -123,7 +124,7 @@ impl<T: Tracker> ConnectionTable<T> {
         looked_up();
         // The remaining entries had no later packet either.
         none_later();
-        let mut steps = Steps::new();
+        let mut steps = start();
         let belonging = self.tracker.look(tuple, flags, now, &mut steps);
         if let Belonging::Ends(id) = belonging {
             let ended = self.tracker.end(id, &mut steps);
@@ -141,7 +142,7 @@ impl<T: Tracker> ConnectionTable<T> {
         requires live { live_at self.now.limits now self.now.held ≡ self.now.held }
         ensures { result ≡ belongs_in self.now.held (inverse inner) no_flags }
     {
-        let mut steps = Steps::new();
+        let mut steps = start();
         self.tracker
             .look(inner.inverse(), Flags::none(), now, &mut steps)
     }
@@ -162,7 +163,7 @@ impl<T: Tracker> ConnectionTable<T> {
         ensures limits { self.new.limits ≡ self.old.limits }
         ensures room { IsTrue self.old.has_room → IsTrue self.new.has_room }
     {
-        let mut steps = Steps::new();
+        let mut steps = start();
         self.tracker
             .touch(found.id, found.direction, flags, mark, now, &mut steps);
     }
@@ -206,7 +207,7 @@ impl<T: Tracker> ConnectionTable<T> {
         // The mappings stay one to one with the new ones.
         stays_one_to_one();
         same_answers();
-        let mut steps = Steps::new();
+        let mut steps = start();
         self.tracker.begin(connection, flags, &mut steps)?;
         hold(&mut self.mappings, new_connection.source);
         hold(&mut self.mappings, new_connection.dest);
@@ -228,7 +229,8 @@ impl<T: Tracker> ConnectionTable<T> {
     pub fn list(&self, alloc: Global) -> Result<Vec<Connection>, AllocError>
         ensures { IfOk result (λ all. all.items ≡ map connection_of self.now.held) }
     {
-        match self.tracker.list(alloc) {
+        let mut steps = start();
+        match self.tracker.list(alloc, &mut steps) {
             Ok(all) => Ok(all),
             Err(Memory) => Err(AllocError),
         }

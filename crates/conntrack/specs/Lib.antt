@@ -5,3 +5,4 @@ pub mod Histories
 pub mod Updates
 pub mod Examples
 pub mod steps
+pub use Rattle.step_count.specs.StepCounts

@@ -147,12 +147,11 @@ impl Flags {
     }
 }
 
-impl ConntrackEntry {
-    /// Its phase, if it is a TCP connection.
-    pub fn phase(&self) -> Phase
-        ensures { result ≡ phase_of self.now }
+impl Phase {
+    /// The phase by the flags seen in each direction.
+    pub fn of(original: Flags, reply: Flags) -> Self
+        ensures { result ≡ phase_by original reply }
     {
-        let (original, reply) = (self.from_original, self.from_reply);
         if original.fin && reply.fin || original.rst || reply.rst {
             Phase::Closing
         } else if original.syn && original.ack && reply.syn && reply.ack {
@@ -160,6 +159,15 @@ impl ConntrackEntry {
         } else {
             Phase::Opening
         }
+    }
+}
+
+impl ConntrackEntry {
+    /// Its phase, if it is a TCP connection.
+    pub fn phase(&self) -> Phase
+        ensures { result ≡ phase_of self.now }
+    {
+        Phase::of(self.from_original, self.from_reply)
     }
 
     /// Its timeout in nanoseconds.

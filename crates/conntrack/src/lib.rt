@@ -8,7 +8,6 @@ pub mod examples;
 pub mod laws;
 mod limits;
 mod list_tracker;
-mod step_count;
 mod tracker;
 
 pub use belonging::{Belonging, ConnectionRef, LookupState};

@@ -7,12 +7,12 @@ ghost use Rattle.conntrack.specs.ConntrackEntry.{have_disjoint_tuples, belongs_i
 
 use crate::belonging::{Belonging, ConnectionRef};
 use crate::connection::{Aged, ConnId, Connection, ConntrackEntry, Direction, Flags, Moment};
-use crate::step_count::Steps;
 use crate::tracker::{BeginError, MAX_CONNECTIONS, Memory, Tracker};
 use box_file::Limits;
 use ip_headers::Tuple;
 use std::alloc::Global;
 use std::hash::RandomState;
+use step_count::Steps;
 
 /// Keeps entries in a list, in the order of their creation.
 #[derive(Drop)]
@@ -303,7 +303,8 @@ impl Tracker for ListTracker {
         self.conns.len()
     }
 
-    fn list(&self, alloc: Global) -> Result<Vec<Connection>, Memory> {
+    fn list(&self, alloc: Global, steps: &mut Steps) -> Result<Vec<Connection>, Memory> {
+        steps.add(self.conns.len());
         match self
             .conns
             .iter()

@@ -5,11 +5,11 @@ ghost use Rattle.conntrack.specs.Histories.{TrackedPacket, RepresentsAt, belongs
 
 use crate::belonging::Belonging;
 use crate::connection::{Aged, ConnId, Connection, Direction, Flags, Moment};
-use crate::step_count::Steps;
 use box_file::Limits;
 use ip_headers::Tuple;
 use std::alloc::Global;
 use std::hash::RandomState;
+use step_count::Steps;
 use thiserror::Error;
 
 /// The most entries that a table holds.
@@ -32,7 +32,8 @@ pub enum BeginError {
 }
 
 /// A conntrack table. Moments must not fall from call to call. In `steps` a table counts the slots
-/// that it visits: a call never lowers the count, and raises it by `max_slots` at most. The clauses
+/// that it visits: a call never lowers the count, and raises it by `max_slots` at most, but for
+/// `list`, which visits all. A tracker is given a count and can't make one, nor read it. The clauses
 /// `distinct` and `apart` are lemmas about the receiver, not about the result.
 pub trait Tracker: Drop {
     ghost use Rattle.conntrack.specs.declared.connection.ConntrackEntry.{ConntrackEntry};
@@ -164,6 +165,7 @@ pub trait Tracker: Drop {
     /// # Errors
     ///
     /// `Memory` where memory ran out.
-    fn list(&self, alloc: Global) -> Result<Vec<Connection>, Memory>
-        ensures { IfOk result (λ all. all.items ≡ map connection_of (held self.now)) };
+    fn list(&self, alloc: Global, steps: &mut Steps) -> Result<Vec<Connection>, Memory>
+        ensures list { IfOk result (λ all. all.items ≡ map connection_of (held self.now)) }
+        ensures steps { steps.old ≤ steps.new };
 }

@@ -7,8 +7,8 @@ use Rattle.port_pool.specs.declared.order.Order.{Order}
 use Rattle.port_pool.specs.declared.pool.Pool.{Pool}
 use Rattle.port_pool.specs.Taken.{is_taken, order_of as pool_order}
 use Rattle.nat_mapping.specs.declared.keys.PoolKey.{PoolKey}
-use Rattle.nat_mapping.specs.Mappings.{order_of}
-use Rattle.nat_mapping.specs.steps.Keys.{has_pool, same_pool}
+use Rattle.nat_mapping.specs.Mappings.{order_of, has_pool}
+use Rattle.nat_mapping.specs.steps.Keys.{same_pool}
 use Rattle.nat_mapping.specs.steps.Ports.{is_taken_by, order_by}
 use Rattle.nat_mapping.specs.steps.Pooled.{AreUsed}
 use Rattle.nat_mapping.proofs.Equal.{pool_test, decide, apart_false}

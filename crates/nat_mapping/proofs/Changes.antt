@@ -12,8 +12,8 @@ use Rattle.nat_mapping.specs.declared.keys.InboundKey.{InboundKey}
 use Rattle.nat_mapping.specs.declared.keys.PoolKey.{PoolKey}
 use Rattle.nat_mapping.specs.declared.keys.MappedPort.{MappedPort}
 use Rattle.ip_headers.specs.Same.{same_kind, same_endpoint}
-use Rattle.nat_mapping.specs.Mappings.{same_mapping}
-use Rattle.nat_mapping.specs.steps.Keys.{has_pool, same_source, same_inbound, same_pool, source_key_of}
+use Rattle.nat_mapping.specs.Mappings.{same_mapping, has_pool}
+use Rattle.nat_mapping.specs.steps.Keys.{same_source, same_inbound, same_pool, source_key_of}
 use Rattle.nat_mapping.specs.steps.Keys.{inbound_key_of, pool_key_of, mapping_at, source_at, inbound_at}
 use Rattle.nat_mapping.specs.steps.Consistent.{holders_at, ArePorts, IsSound}
 use Rattle.nat_mapping.proofs.Equal.{source_test, inbound_test, pool_test, decide, mapping_exact}

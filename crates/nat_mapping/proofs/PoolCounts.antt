@@ -1,47 +1,27 @@
 -- The number of pools.
 use Rattle.std.specs.Prelude.{map, ◌||◌}
-use Rattle.std.proofs.Common.{◌≡◌, ◌≤◌, Bool, true, is_some, List, [], ◌∷◌, Option, Some, None, suc}
-use Rattle.std.proofs.Common.{length, refl, sym, ◌∙◌, ap, inl, inr, arith}
-use Rattle.std.specs.Cmp.{IsEquivalence}
+use Rattle.std.proofs.Common.{◌≡◌, ℕ, Bool, true, is_some, List, [], ◌∷◌, Option, Some, None, suc}
+use Rattle.std.proofs.Common.{length, refl, sym, subst, ◌∙◌, ap, inl, inr, arith}
 use Rattle.std.specs.HashMap.{get, hash_map_len}
-use Rattle.std.specs.List.{Contains, list_any}
+use Rattle.std.specs.List.{Contains}
 use Rattle.std.specs.Map.{keys_of}
 use Rattle.std.specs.Set.{is_member, unique_keys}
 use Rattle.std.proofs.lemmas.Bool.{cases_Bool, cond-true, cond-false, or_left, or_right, or_cases}
-use Rattle.std.proofs.lemmas.Map.Made.{length-le_from_is_member, is_some-lookup}
+use Rattle.std.proofs.lemmas.Map.Made.{length-from_keys, is_some-lookup}
 use Rattle.std.proofs.lemmas.Map.Entries.{length-keys_of}
-use Rattle.std.proofs.lemmas.Map.Steps.{list_any_congr}
+use Rattle.std.proofs.lemmas.Bool.Decides.{same_from_decides}
 use Rattle.ip_headers.specs.declared.tuple.Mapping.{Mapping}
+use Rattle.port_pool.specs.declared.pool.Pool.{Pool}
 use Rattle.nat_mapping.specs.declared.keys.PoolKey.{PoolKey}
 use Rattle.nat_mapping.specs.declared.pools.Pools.{Pools}
-use Rattle.nat_mapping.specs.Mappings.{share_pool, pool_count_of}
+use Rattle.nat_mapping.specs.Mappings.{has_pool, pooled, share_pool, pool_count_of}
 use Rattle.nat_mapping.specs.steps.Keys.{pool_key_of, same_pool}
 use Rattle.nat_mapping.specs.steps.Consistent.{Sources, Inbounds, IsConsistent, CountsHolders}
 use Rattle.nat_mapping.specs.steps.Keys.{same_source, inbound_at, source_at}
-use Rattle.nat_mapping.specs.steps.Ports.{order_by}
-use Rattle.nat_mapping.proofs.Answers.{filed_among}
+use Rattle.nat_mapping.specs.steps.Ports.{is_taken_by, order_by}
+use Rattle.nat_mapping.proofs.Answers.{kept_out, filed_among}
 use Rattle.nat_mapping.proofs.Equal.{pool_test, equivalence}
-use Rattle.nat_mapping.proofs.Lists.{contains_cases}
-
--- what is among keys is among them each once
-member_unique : {K : Type 0} (eq : K → K → Bool) → IsEquivalence eq → (xs : List K) (q : K) → is_member eq xs q ≡ true
-    → is_member eq (unique_keys eq xs) q ≡ true
-member_unique eq laws [] q t = t
-member_unique {K} eq laws (x ∷ xs) q t =
-    elim (cases_Bool (is_member eq xs x)) [
-      | inl twice ↦
-          ap (λ (l : List K). is_member eq l q) (cond-true (is_member eq xs x) (unique_keys eq xs) (x ∷ unique_keys eq xs) twice)
-          ∙ elim (or_cases (eq q x) (list_any (eq q) xs) t) [
-            | inl here ↦ member_unique eq laws xs q (list_any_congr laws q x xs here ∙ twice)
-            | inr behind ↦ member_unique eq laws xs q behind
-          ]
-      | inr once ↦
-          ap (λ (l : List K). is_member eq l q) (cond-false (is_member eq xs x) (unique_keys eq xs) (x ∷ unique_keys eq xs) once)
-          ∙ elim (or_cases (eq q x) (list_any (eq q) xs) t) [
-            | inl here ↦ or_left (eq q x) (list_any (eq q) (unique_keys eq xs)) here
-            | inr behind ↦ or_right (eq q x) (list_any (eq q) (unique_keys eq xs)) (member_unique eq laws xs q behind)
-          ]
-    ]
+use Rattle.nat_mapping.proofs.Lists.{contains_cases, contains_tail, has_holder, holders_here, is_among}
 
 -- mappings share a pool where their pool keys are equal
 member_map : (held : List Mapping) (m : Mapping) → is_member same_pool (map pool_key_of held) (pool_key_of m) ≡ is_member share_pool held m
@@ -66,26 +46,53 @@ unique_map (x ∷ held) =
           ∙ sym (ap length (cond-false (is_member share_pool held x) (unique_keys share_pool held) (x ∷ unique_keys share_pool held) once))
     ]
 
--- a mapping that is held has its key among theirs
-member_held : (held : List Mapping) (m : Mapping) (key : PoolKey) → Contains held m → pool_key_of m ≡ key
-    → is_member same_pool (map pool_key_of held) key ≡ true
-member_held [] m key among is = absurd (omega (arith, among.1))
-member_held (x ∷ held) m key among is =
+-- a mapping that is held has its key among those of pools, if its kind has pools
+member_key : (held : List Mapping) (m : Mapping) (key : PoolKey) → Contains held m → has_pool m.kind ≡ true
+    → pool_key_of m ≡ key → is_member same_pool (map pool_key_of (pooled held)) key ≡ true
+member_key [] m key among some is = absurd (omega (arith, among.1))
+member_key (x ∷ held) m key among some is =
+    let within : List Mapping → Bool = λ ms. is_member same_pool (map pool_key_of ms) key in
+    let first : has_pool x.kind ≡ true → within (pooled (x ∷ held)) ≡ within (x ∷ pooled held) =
+    λ t. ap within (cond-true (has_pool x.kind) (x ∷ pooled held) (pooled held) t) in
     elim (contains_cases m x held among) [
-      | inl here ↦ or_left (same_pool key (pool_key_of x)) (is_member same_pool (map pool_key_of held) key)
+      | inl here ↦ first (ap (λ (y : Mapping). has_pool y.kind) (sym here) ∙ some)
+          ∙ or_left (same_pool key (pool_key_of x)) (within (pooled held))
           (ap (same_pool key) (ap pool_key_of (sym here) ∙ is) ∙ pool_test.same key)
-      | inr behind ↦ or_right (same_pool key (pool_key_of x)) (is_member same_pool (map pool_key_of held) key)
-          (member_held held m key behind is)
+      | inr behind ↦ elim (cases_Bool (has_pool x.kind)) [
+        | inl t ↦ first t ∙ or_right (same_pool key (pool_key_of x)) (within (pooled held)) (member_key held m key behind some is)
+        | inr f ↦ ap within (cond-false (has_pool x.kind) (x ∷ pooled held) (pooled held) f) ∙ member_key held m key behind some is
+      ]
+    ]
+
+key_member : (held : List Mapping) (key : PoolKey) → is_member same_pool (map pool_key_of (pooled held)) key ≡ true
+    → (m : Mapping) × (Contains held m × (has_pool m.kind ≡ true) × (pool_key_of m ≡ key))
+key_member [] key t = absurd (cc)
+key_member (x ∷ held) key t =
+    let within : List Mapping → Bool = λ ms. is_member same_pool (map pool_key_of ms) key in
+    let behind : within (pooled held) ≡ true → (m : Mapping) × (Contains (x ∷ held) m × (has_pool m.kind ≡ true) × (pool_key_of m ≡ key)) =
+    λ u. let m = key_member held key u in (m.0, (contains_tail m.0 x held m.1.0, m.1.1, m.1.2)) in
+    elim (cases_Bool (has_pool x.kind)) [
+      | inl some ↦ elim (or_cases (same_pool key (pool_key_of x)) (within (pooled held))
+          (sym (ap within (cond-true (has_pool x.kind) (x ∷ pooled held) (pooled held) some)) ∙ t)) [
+            | inl here ↦ (x, (is_among x (x ∷ held) (holders_here x held), some, sym (pool_test.exact key (pool_key_of x) here)))
+            | inr there ↦ behind there
+          ]
+      | inr none ↦ behind (sym (ap within (cond-false (has_pool x.kind) (x ∷ pooled held) (pooled held) none)) ∙ t)
     ]
 
 some_of : {X : Type 0} (o : Option X) → is_some o ≡ true → (x : X) × (o ≡ Some x)
 some_of None e = absurd (cc)
 some_of (Some x) e = (x, refl)
 
+taken_some : (o : Option Pool) (port : ℕ) → is_taken_by o port ≡ true → is_some o ≡ true
+taken_some None port t = absurd (cc)
+taken_some (Some pool) port t = refl
+
 module _ (sources : Sources) (inbounds : Inbounds) (pools : Pools) (kept : IsConsistent sources inbounds pools)
     (held : List Mapping) (counts : CountsHolders (get same_source sources) held) where
   -- a pool has a mapping that is held
-  pool_held : (key : PoolKey) → is_some (get same_pool pools.pools key) ≡ true → (m : Mapping) × (Contains held m × (pool_key_of m ≡ key))
+  pool_held : (key : PoolKey) → is_some (get same_pool pools.pools key) ≡ true
+      → is_member same_pool (map pool_key_of (pooled held)) key ≡ true
   pool_held key some =
       let found = some_of (get same_pool pools.pools key) some in
       let ordered = ap (λ o. is_some (order_by o)) found.1 in
@@ -93,14 +100,26 @@ module _ (sources : Sources) (inbounds : Inbounds) (pools : Pools) (kept : IsCon
       let bitmap = kept.pooled.used.bitmap key ordered in
       let out = some_of _ (sym (kept.sound.ports key used.0 bitmap) ∙ used.1) in
       let back = kept.sound.back (inbound_at key used.0) out.0 out.1 in
-      (_, (filed_among _ _ _ kept.sound held counts (source_at (inbound_at key used.0) out.0) back.0 back.1.0, refl))
+      member_key held _ key
+      (filed_among _ _ _ kept.sound held counts (source_at (inbound_at key used.0) out.0) back.0 back.1.0) bitmap refl
 
-  pub pools_bounded : hash_map_len pools.pools ≤ pool_count_of held
+  -- a mapping that is held has its pool, if its kind has pools
+  held_pool : (m : Mapping) → Contains held m → has_pool m.kind ≡ true → is_some (get same_pool pools.pools (pool_key_of m)) ≡ true
+  held_pool m among some =
+      let out = kept_out _ _ _ kept.sound held counts m (has_holder m held among) in
+      taken_some (get same_pool pools.pools (pool_key_of m)) m.external.port
+      (kept.sound.ports (pool_key_of m) m.external.port some ∙ ap is_some out)
+
+  pub pools_counted : hash_map_len pools.pools ≡ pool_count_of held
   unfolding pool_count_of
-  pools_bounded =
+  pools_counted =
       let laws = equivalence same_pool pool_test in
       let es = pools.pools.entries in
-      let fewer = length-le_from_is_member laws (keys_of es) (unique_keys same_pool (map pool_key_of held)) kept.pooled.unique
-      (λ q t. let m = pool_held q (is_some-lookup (same_pool q) es ∙ t) in
-      member_unique same_pool laws (map pool_key_of held) q (member_held held m.0 q m.1.0 m.1.1)) in
-      omega (arith, fewer, length-keys_of es, unique_map held)
+      let same = length-from_keys laws (keys_of es) (map pool_key_of (pooled held)) kept.pooled.unique
+      (λ q. same_from_decides (is_member same_pool (keys_of es) q) (is_member same_pool (map pool_key_of (pooled held)) q) (
+        λ t. pool_held q (is_some-lookup (same_pool q) es ∙ t),
+        λ t. let m = key_member held q t in sym (is_some-lookup (same_pool q) es)
+            ∙ subst (λ k. is_some (get same_pool pools.pools k) ≡ true) m.1.2 (held_pool m.0 m.1.0 m.1.1),
+      )
+      (λ t. t, λ t. t)) in
+      omega (arith, same, length-keys_of es, unique_map (pooled held))

@@ -7,8 +7,7 @@ use Rattle.port_pool.specs.declared.order.Order.{Order}
 use Rattle.port_pool.specs.declared.order.Order.TheVariants.{Ports, Identifiers, Zero}
 use Rattle.port_pool.specs.declared.range.CandidateRange.{CandidateRange}
 use Rattle.port_pool.specs.Candidates.{candidates}
-use Rattle.nat_mapping.specs.Mappings.{order_of}
-use Rattle.nat_mapping.specs.steps.Keys.{has_pool}
+use Rattle.nat_mapping.specs.Mappings.{order_of, has_pool}
 
 pub row_order : (kind : Kind) → has_pool kind ≡ true → order_of kind ≢ Zero
 row_order Tcp is = λ e. absurd (cc)

@@ -12,8 +12,8 @@ use Rattle.nat_mapping.specs.declared.keys.InboundKey.{InboundKey}
 use Rattle.nat_mapping.specs.declared.keys.PoolKey.{PoolKey}
 use Rattle.nat_mapping.specs.declared.keys.MappedPort.{MappedPort}
 use Rattle.nat_mapping.specs.declared.pools.Pools.{Pools}
-use Rattle.nat_mapping.specs.Mappings.{same_mapping, holders_of, HoldsSame, IsOneToOne}
-use Rattle.nat_mapping.specs.steps.Keys.{has_pool, same_source, same_inbound, source_key_of}
+use Rattle.nat_mapping.specs.Mappings.{same_mapping, holders_of, HoldsSame, IsOneToOne, has_pool}
+use Rattle.nat_mapping.specs.steps.Keys.{same_source, same_inbound, source_key_of}
 use Rattle.nat_mapping.specs.steps.Keys.{inbound_key_of, pool_key_of, mapping_at, source_at}
 use Rattle.nat_mapping.specs.steps.Pooled.{taken_in, IsPooled}
 use Rattle.nat_mapping.specs.steps.Consistent.{held_by, holders_at, Sources, Inbounds, IsSound, IsConsistent}

@@ -1,8 +1,8 @@
 -- The mappings of a NAT (RFC 4787, section 4.1), as the list of all that are held: each is in it once for
 -- each of its holders, so a mapping is live as long as it is in the list.
-use Rattle.std.specs.Prelude.{◌≡◌, ℕ, Bool, not, ◌&&◌, ◌==◌, is_some, List, Option}
+use Rattle.std.specs.Prelude.{◌≡◌, ℕ, Bool, true, false, not, ◌&&◌, ◌==◌, is_some, List, Option}
 use Rattle.std.specs.Prelude.{Some, None, count_by, Contains}
-use Rattle.std.specs.List.{find}
+use Rattle.std.specs.List.{filter, find}
 use Rattle.std.specs.Option.{option_map}
 use Rattle.std.specs.Set.{distinct_count}
 use Rattle.ip_headers.specs.declared.tuple.Kind.{Kind}
@@ -58,9 +58,18 @@ abbrev pub is_port_held : Kind → ℕ → List Mapping → ℕ → Bool
 is_port_held kind address held port =
     is_some (inbound_of kind (record { address = address; port = port }) held)
 
--- how many pools they need: one for each kind and external address
+-- whether a kind has pools of ports: a protocol without ports has one mapping at an external address
+abbrev pub has_pool : Kind → Bool
+has_pool (Other number) = false
+has_pool _ = true
+
+-- those that take a port of a pool
+abbrev pub pooled : List Mapping → List Mapping
+pooled held = filter (λ m. has_pool m.kind) held
+
+-- how many pools they need: one for each kind and external address of those that take a port
 unfoldable pub pool_count_of : List Mapping → ℕ
-pool_count_of held = distinct_count share_pool held
+pool_count_of held = distinct_count share_pool (pooled held)
 
 -- ---- the port of a new mapping
 

@@ -2,8 +2,8 @@
 ghost use Rattle.std.specs.Prelude.{◌≡◌};
 ghost use Rattle.std.specs.Cmp.Rules.{hashing};
 ghost use Rattle.std.proofs.Common.{rules};
-ghost use Rattle.nat_mapping.specs.Mappings.{order_of};
-ghost use Rattle.nat_mapping.specs.steps.Keys.{has_pool, inbound_key_of, inbound_writes, pool_key_of, pool_writes, source_key_of, source_writes};
+ghost use Rattle.nat_mapping.specs.Mappings.{order_of, has_pool};
+ghost use Rattle.nat_mapping.specs.steps.Keys.{inbound_key_of, inbound_writes, pool_key_of, pool_writes, source_key_of, source_writes};
 
 use ip_headers::laws::hash_words_differ;
 use ip_headers::{Endpoint, Kind, Mapping};

@@ -24,6 +24,7 @@ use std::collections::HashMap;
 use std::hash::RandomState;
 use std::marker::Model;
 use thiserror::Error;
+use word_hash::WordState;
 
 /// Memory ran out.
 #[derive(Clone, Copy, Debug, PartialEq, Eq, Error)]
@@ -41,8 +42,8 @@ pub enum MapError {
 /// The mappings of a NAT. Connections hold them: a mapping is live while it has a holder.
 #[derive(Drop)]
 pub struct Mappings {
-    sources: HashMap<SourceKey, MappedPort, RandomState>,
-    inbounds: HashMap<InboundKey, Endpoint, RandomState>,
+    sources: HashMap<SourceKey, MappedPort, WordState>,
+    inbounds: HashMap<InboundKey, Endpoint, WordState>,
     pools: Pools,
 }
 
@@ -71,6 +72,7 @@ impl Mappings {
         ensures held { result.held ≡ [] }
         ensures pools { result.pools ≡ 0 }
     {
+        let hasher = WordState::new(hasher);
         Self {
             sources: HashMap::with_hasher(alloc, hasher),
             inbounds: HashMap::with_hasher(alloc, hasher),
@@ -125,11 +127,13 @@ impl Mappings {
         let _ = &self.sources;
     }
 
-    /// How many pools of ports are kept, each with a bitmap of 8 KiB: one for each kind and
-    /// external address with a mapping, and at most two spare ones.
+    /// How many pools of ports are kept, each with a bitmap of 8 KiB: one for each kind with ports
+    /// and external address with a mapping, none for others, and at most two spare ones.
     pub fn pools(&self) -> usize
         ensures value { result ≡ self.now.pools }
-        ensures bounded { (held : List Mapped) → HoldsSame held self.now.held
+        ensures needed { (held : List Mapped) → HoldsSame held self.now.held
+            → pool_count_of held ≤ result }
+        ensures spare { (held : List Mapped) → HoldsSame held self.now.held
             → result ≤ pool_count_of held + 2 }
     {
         self.pools.count()
@@ -251,7 +255,7 @@ impl Mappings {
 
 /// The first candidate for an internal endpoint that isn't mapped at the external address.
 fn first_free_port(
-    inbounds: &HashMap<InboundKey, Endpoint, RandomState>,
+    inbounds: &HashMap<InboundKey, Endpoint, WordState>,
     pools: &Pools,
     key: SourceKey,
     range: Option<CandidateRange>,

@@ -5,15 +5,15 @@ ghost use Rattle.std.specs.List.{find};
 ghost use Rattle.std.specs.HashMap.{get, spare, IsUnique};
 ghost use Rattle.port_pool.specs.Candidates.{candidates};
 ghost use Rattle.nat_mapping.specs.declared.keys.PoolKey.{PoolKey as Key};
-ghost use Rattle.nat_mapping.specs.Mappings.{order_of};
-ghost use Rattle.nat_mapping.specs.steps.Keys.{has_pool, same_pool};
+ghost use Rattle.nat_mapping.specs.Mappings.{order_of, has_pool};
+ghost use Rattle.nat_mapping.specs.steps.Keys.{same_pool};
 ghost use Rattle.nat_mapping.specs.steps.Ports.{is_taken_by, order_by, IsSpare};
 
 use crate::keys::{PoolKey, has_pool, order};
 use port_pool::{CandidateRange, Order, Pool, choose_unused};
 use std::alloc::{AllocError, Global};
 use std::collections::HashMap;
-use std::hash::RandomState;
+use word_hash::WordState;
 
 /// How many unused pools are kept for the next addresses: as many as one connection may need.
 pub(crate) const SPARES: usize = 2;
@@ -22,7 +22,7 @@ pub(crate) const SPARES: usize = 2;
 /// without ports has none.
 #[derive(Drop)]
 pub(crate) struct Pools {
-    pools: HashMap<PoolKey, Pool, RandomState>,
+    pools: HashMap<PoolKey, Pool, WordState>,
     spares: Vec<Pool>,
     alloc: Global,
 }
@@ -31,7 +31,7 @@ impl Pools {
     ghost use Rattle.nat_mapping.specs.steps.Pooled.{pool_count, pool_room, taken_in, IsPooled};
 
     /// No pools: all ports are free.
-    pub(crate) fn new(alloc: Global, hasher: RandomState) -> Self
+    pub(crate) fn new(alloc: Global, hasher: WordState) -> Self
         ensures taken { (key : Key) (port : ℕ) → taken_in result key port ≡ false }
         ensures pooled { IsPooled result }
         ensures none { pool_count result ≡ 0 }
@@ -139,7 +139,7 @@ impl Pools {
 }
 
 /// Takes a port of a pool, if there is that pool.
-fn take_port(pools: &mut HashMap<PoolKey, Pool, RandomState>, key: PoolKey, port: u16) -> bool
+fn take_port(pools: &mut HashMap<PoolKey, Pool, WordState>, key: PoolKey, port: u16) -> bool
     requires free { is_taken_by (get same_pool pools.old key) port ≡ false }
     requires bitmap { order_by (get same_pool pools.old key) ≢ Some Order.Zero }
     ensures found { result ≡ is_some (get same_pool pools.old key) }
@@ -164,7 +164,7 @@ fn take_port(pools: &mut HashMap<PoolKey, Pool, RandomState>, key: PoolKey, port
 }
 
 /// Gives a port back to its pool; true where the pool has no taken port left.
-fn give_port(pools: &mut HashMap<PoolKey, Pool, RandomState>, key: PoolKey, port: u16) -> bool
+fn give_port(pools: &mut HashMap<PoolKey, Pool, WordState>, key: PoolKey, port: u16) -> bool
     requires { is_taken_by (get same_pool pools.old key) port ≡ true }
     ensures taken { (q : Key) (p : ℕ)
         → is_taken_by (get same_pool pools.new q) p
@@ -199,7 +199,7 @@ fn start_pool(pool: Pool, order: Order, port: u16) -> Pool
 }
 
 /// Adds a pool.
-fn insert_pool(pools: &mut HashMap<PoolKey, Pool, RandomState>, key: PoolKey, pool: Pool)
+fn insert_pool(pools: &mut HashMap<PoolKey, Pool, WordState>, key: PoolKey, pool: Pool)
     requires { 0 < spare pools.old }
     ensures pools { (q : Key) → get same_pool pools.new q
         ≡ cond (same_pool key q) (Some pool) (get same_pool pools.old q) }
@@ -213,7 +213,7 @@ fn insert_pool(pools: &mut HashMap<PoolKey, Pool, RandomState>, key: PoolKey, po
 }
 
 /// Removes a pool.
-fn remove_pool(pools: &mut HashMap<PoolKey, Pool, RandomState>, key: PoolKey) -> Option<Pool>
+fn remove_pool(pools: &mut HashMap<PoolKey, Pool, WordState>, key: PoolKey) -> Option<Pool>
     ensures value { result ≡ get same_pool pools.old key }
     ensures pools { (q : Key) → get same_pool pools.new q
         ≡ cond (same_pool key q) None (get same_pool pools.old q) }

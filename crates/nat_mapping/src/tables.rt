@@ -8,11 +8,11 @@ ghost use Rattle.nat_mapping.specs.steps.Keys.{same_inbound, same_source};
 use crate::keys::{InboundKey, MappedPort, SourceKey};
 use ip_headers::Endpoint;
 use std::collections::HashMap;
-use std::hash::RandomState;
+use word_hash::WordState;
 
 /// A mapping's port and holders.
 pub(crate) fn find_source(
-    sources: &HashMap<SourceKey, MappedPort, RandomState>,
+    sources: &HashMap<SourceKey, MappedPort, WordState>,
     key: SourceKey,
 ) -> Option<MappedPort>
     ensures { result ≡ get same_source sources.now key }
@@ -22,7 +22,7 @@ pub(crate) fn find_source(
 
 /// The internal endpoint behind an external one.
 pub(crate) fn find_inbound(
-    inbounds: &HashMap<InboundKey, Endpoint, RandomState>,
+    inbounds: &HashMap<InboundKey, Endpoint, WordState>,
     key: InboundKey,
 ) -> Option<Endpoint>
     ensures { result ≡ get same_inbound inbounds.now key }
@@ -31,14 +31,14 @@ pub(crate) fn find_inbound(
 }
 
 /// How many more mappings fit without growing.
-pub(crate) fn spare_sources(sources: &HashMap<SourceKey, MappedPort, RandomState>) -> usize
+pub(crate) fn spare_sources(sources: &HashMap<SourceKey, MappedPort, WordState>) -> usize
     ensures { result ≡ spare sources.now }
 {
     sources.capacity() - sources.len()
 }
 
 /// How many more external endpoints fit without growing.
-pub(crate) fn spare_inbounds(inbounds: &HashMap<InboundKey, Endpoint, RandomState>) -> usize
+pub(crate) fn spare_inbounds(inbounds: &HashMap<InboundKey, Endpoint, WordState>) -> usize
     ensures { result ≡ spare inbounds.now }
 {
     inbounds.capacity() - inbounds.len()
@@ -46,7 +46,7 @@ pub(crate) fn spare_inbounds(inbounds: &HashMap<InboundKey, Endpoint, RandomStat
 
 /// Changes a mapping's port and holders.
 pub(crate) fn update_source(
-    sources: &mut HashMap<SourceKey, MappedPort, RandomState>,
+    sources: &mut HashMap<SourceKey, MappedPort, WordState>,
     key: SourceKey,
     mapped: MappedPort,
 )
@@ -64,7 +64,7 @@ pub(crate) fn update_source(
 
 /// Adds a mapping.
 pub(crate) fn insert_source(
-    sources: &mut HashMap<SourceKey, MappedPort, RandomState>,
+    sources: &mut HashMap<SourceKey, MappedPort, WordState>,
     key: SourceKey,
     mapped: MappedPort,
 )
@@ -82,10 +82,7 @@ pub(crate) fn insert_source(
 }
 
 /// Removes a mapping.
-pub(crate) fn remove_source(
-    sources: &mut HashMap<SourceKey, MappedPort, RandomState>,
-    key: SourceKey,
-)
+pub(crate) fn remove_source(sources: &mut HashMap<SourceKey, MappedPort, WordState>, key: SourceKey)
     ensures values { (q : ByInternal)
         → get same_source sources.new q ≡ cond (same_source key q) None
         (get same_source sources.old q) }
@@ -97,7 +94,7 @@ pub(crate) fn remove_source(
 
 /// Maps an external endpoint to an internal one.
 pub(crate) fn insert_inbound(
-    inbounds: &mut HashMap<InboundKey, Endpoint, RandomState>,
+    inbounds: &mut HashMap<InboundKey, Endpoint, WordState>,
     key: InboundKey,
     internal: Endpoint,
 )
@@ -115,7 +112,7 @@ pub(crate) fn insert_inbound(
 
 /// Removes an external endpoint.
 pub(crate) fn remove_inbound(
-    inbounds: &mut HashMap<InboundKey, Endpoint, RandomState>,
+    inbounds: &mut HashMap<InboundKey, Endpoint, WordState>,
     key: InboundKey,
 )
     ensures values { (q : ByExternal)

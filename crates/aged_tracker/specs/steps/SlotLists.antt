@@ -6,6 +6,9 @@ use Rattle.slab.specs.Slab.{Slab, Updates, get, slab_len}
 use Rattle.futures.specs.LinkedLists.{without}
 use Rattle.futures.specs.Links as ring
 use Rattle.conntrack.specs.declared.connection.ConntrackEntry.{ConntrackEntry}
+use Rattle.conntrack.specs.declared.connection.Direction.{Direction}
+use Rattle.conntrack.specs.declared.connection.Flags.{Flags}
+use Rattle.conntrack.specs.ConntrackEntry.{touched}
 use Rattle.aged_tracker.specs.steps.Packed.{mapping_of, tuple_of}
 use Rattle.aged_tracker.specs.declared.slot.NodeIndex.{NodeIndex}
 use Rattle.aged_tracker.specs.declared.slot.ListLinks.{ListLinks}
@@ -72,6 +75,10 @@ updated h slot = record slot {
   from_reply = h.from_reply;
   replied = h.replied;
 }
+
+-- a slot after one more packet of its connection, whatever its key
+abbrev pub touched_slot : Direction → Flags → ℕ → ℕ → Slot → Slot
+touched_slot direction flags mark now slot = updated (touched direction flags mark now (held_of 0 slot)) slot
 
 -- a slot gets this entry, and is in no list
 pub record Fills (old new : Slab Slot) (key : ℕ) (h : ConntrackEntry) : Type 0 where

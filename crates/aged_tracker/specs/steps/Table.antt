@@ -10,9 +10,10 @@ use Rattle.conntrack.specs.declared.connection.Phase.{Phase}
 use Rattle.conntrack.specs.declared.connection.Phase.TheVariants.{Established}
 use Rattle.conntrack.specs.declared.connection.ConntrackEntry.{ConntrackEntry}
 use Rattle.box_file.specs.declared.limits.Limits.{Limits}
-use Rattle.conntrack.specs.Phases.{phase_of, seconds}
+use Rattle.conntrack.specs.Phases.{phase_by, phase_of, seconds}
 use Rattle.conntrack.specs.ConntrackEntry.{is_live}
 use Rattle.aged_tracker.specs.declared.aged_slots.AgedSlots.{AgedSlots}
+use Rattle.aged_tracker.specs.declared.slot.Slot.{Slot}
 use Rattle.aged_tracker.specs.declared.slot.SlotList.TheVariants.{Queues, Order}
 use Rattle.aged_tracker.specs.steps.SlotLists.{MAX_KEYS, Lists, held_at, held_in, lists_of, IsRings}
 
@@ -29,6 +30,9 @@ queue_by (Other number) phase = 4
 
 abbrev pub queue_of : ConntrackEntry → ℕ
 queue_of h = queue_by h.original.kind (phase_of h)
+
+abbrev pub queue_in : Slot → ℕ
+queue_in slot = queue_by slot.original.kind (phase_by slot.from_original slot.from_reply)
 
 -- the timeout of a queue's entries in nanoseconds
 abbrev pub limit_at : Limits → ℕ → ℕ

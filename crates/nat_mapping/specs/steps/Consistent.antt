@@ -2,7 +2,7 @@
 use Rattle.std.specs.Prelude.{◌≡◌, ℕ, ◌<◌, Bool, true, ◌==◌, List, [], ◌∷◌, ◌++◌, Option, Some}
 use Rattle.std.specs.Prelude.{None, is_some, if◌then◌else◌, replicate}
 use Rattle.std.specs.HashMap.{HashMap, get, IsUnique}
-use Rattle.std.specs.declared.random_state.RandomState.{RandomState}
+use Rattle.word_hash.specs.declared.WordState.{WordState}
 use Rattle.ip_headers.specs.declared.tuple.Endpoint.{Endpoint}
 use Rattle.ip_headers.specs.declared.tuple.Mapping.{Mapping}
 use Rattle.nat_mapping.specs.declared.keys.SourceKey.{SourceKey}
@@ -10,16 +10,16 @@ use Rattle.nat_mapping.specs.declared.keys.InboundKey.{InboundKey}
 use Rattle.nat_mapping.specs.declared.keys.PoolKey.{PoolKey}
 use Rattle.nat_mapping.specs.declared.keys.MappedPort.{MappedPort}
 use Rattle.nat_mapping.specs.declared.pools.Pools.{Pools}
-use Rattle.nat_mapping.specs.Mappings.{holders_of}
-use Rattle.nat_mapping.specs.steps.Keys.{has_pool, inbound_at, inbound_key_of, mapping_at, same_inbound}
+use Rattle.nat_mapping.specs.Mappings.{holders_of, has_pool}
+use Rattle.nat_mapping.specs.steps.Keys.{inbound_at, inbound_key_of, mapping_at, same_inbound}
 use Rattle.nat_mapping.specs.steps.Keys.{same_source, source_at, source_key_of}
 use Rattle.nat_mapping.specs.steps.Pooled.{taken_in, IsPooled}
 
 abbrev pub Sources : Type 0
-Sources = HashMap SourceKey MappedPort RandomState
+Sources = HashMap SourceKey MappedPort WordState
 
 abbrev pub Inbounds : Type 0
-Inbounds = HashMap InboundKey Endpoint RandomState
+Inbounds = HashMap InboundKey Endpoint WordState
 
 -- the mappings held, by the entries of the table
 unfoldable pub held_by : List (SourceKey × MappedPort) → List Mapping

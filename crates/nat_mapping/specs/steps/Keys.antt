@@ -1,8 +1,6 @@
 -- The keys of mappings.
-use Rattle.std.specs.Prelude.{ℕ, Bool, true, false, ◌==◌, ◌&&◌, List, ◌++◌}
+use Rattle.std.specs.Prelude.{ℕ, Bool, ◌==◌, ◌&&◌, List, ◌++◌}
 use Rattle.std.specs.Hash as fed
-use Rattle.ip_headers.specs.declared.tuple.Kind.{Kind}
-use Rattle.ip_headers.specs.declared.tuple.Kind.TheVariants.{Other}
 use Rattle.ip_headers.specs.declared.tuple.Endpoint.{Endpoint}
 use Rattle.ip_headers.specs.declared.tuple.Mapping.{Mapping}
 use Rattle.ip_headers.specs.HashWords.{hash_word}
@@ -29,11 +27,6 @@ same_inbound a b = same_kind a.kind b.kind && same_endpoint a.external b.externa
 
 abbrev pub same_pool : PoolKey → PoolKey → Bool
 same_pool a b = same_kind a.kind b.kind && a.address == b.address
-
--- whether a kind has pools: not those without ports
-abbrev pub has_pool : Kind → Bool
-has_pool (Other number) = false
-has_pool _ = true
 
 -- the mapping under a key
 abbrev pub mapping_at : SourceKey → MappedPort → Mapping

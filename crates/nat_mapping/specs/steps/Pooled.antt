@@ -4,8 +4,8 @@ use Rattle.std.specs.HashMap.{get, spare, hash_map_len, IsUnique}
 use Rattle.port_pool.specs.declared.order.Order.{Order}
 use Rattle.nat_mapping.specs.declared.keys.PoolKey.{PoolKey}
 use Rattle.nat_mapping.specs.declared.pools.Pools.{Pools}
-use Rattle.nat_mapping.specs.Mappings.{order_of}
-use Rattle.nat_mapping.specs.steps.Keys.{has_pool, same_pool}
+use Rattle.nat_mapping.specs.Mappings.{order_of, has_pool}
+use Rattle.nat_mapping.specs.steps.Keys.{same_pool}
 use Rattle.nat_mapping.specs.steps.Ports.{is_taken_by, order_by, IsSpare}
 
 abbrev pub taken_in : Pools → PoolKey → ℕ → Bool

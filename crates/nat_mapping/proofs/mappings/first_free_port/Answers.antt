@@ -5,8 +5,8 @@ use Rattle.std.proofs.lemmas.Bool.{cond-true, cond-false}
 use Rattle.ip_headers.specs.declared.tuple.Endpoint.{Endpoint}
 use Rattle.port_pool.specs.Candidates.{candidates}
 use Rattle.nat_mapping.specs.declared.keys.PoolKey.{PoolKey}
-use Rattle.nat_mapping.specs.Mappings.{order_of}
-use Rattle.nat_mapping.specs.steps.Keys.{has_pool, inbound_at, same_inbound}
+use Rattle.nat_mapping.specs.Mappings.{order_of, has_pool}
+use Rattle.nat_mapping.specs.steps.Keys.{inbound_at, same_inbound}
 use Rattle.nat_mapping.specs.steps.Pooled.{taken_in}
 use Rattle.nat_mapping.proofs.WhichKinds.{zero_found, zero_order}
 use Rattle.nat_mapping.proofs.mappings.first_free_port.Goals as goal

@@ -8,18 +8,18 @@ pub returns-in-None-clause-none : goal.returns-in-None-clause-none
 returns-in-None-clause-none c =
     queue_empty c.args.limits c.args.self.now c.args.now c.args.queue c.requires.table c.requires.range
     (ap (λ ks. slice_get ks 0) (items_at Queues c.args.self.now.slots c.args.self.now.queues c.args.queue
-    c.requires.range) ∙ sym c.in-None.ensures)
+    c.requires.range) ∙ sym (c.in-None.ensures Queues c.args.self.now.slots c.requires.table.queue_rings))
 
 pub returns-then-saturating_sub-limit_at-clause-none :
     goal.returns-then-saturating_sub-limit_at-clause-none
 returns-then-saturating_sub-limit_at-clause-none c =
     queue_live c.args.limits c.args.self.now c.args.now c.args.queue c.requires.table c.requires.range c.in-Some.key
     (ap (λ ks. slice_get ks 0) (items_at Queues c.args.self.now.slots c.args.self.now.queues c.args.queue
-    c.requires.range) ∙ sym c.in-Some.ensures) (search rules)
+    c.requires.range) ∙ sym (c.in-Some.ensures Queues c.args.self.now.slots c.requires.table.queue_rings)) (search rules)
 
 pub returns-else-saturating_sub-limit_at-clause-some :
     goal.returns-else-saturating_sub-limit_at-clause-some
 returns-else-saturating_sub-limit_at-clause-some c =
     front_expired c.args.limits c.args.self.now c.args.now c.args.queue c.requires.table c.requires.range c.in-Some.key
     (ap (λ ks. slice_get ks 0) (items_at Queues c.args.self.now.slots c.args.self.now.queues c.args.queue
-    c.requires.range) ∙ sym c.in-Some.ensures) (search rules)
+    c.requires.range) ∙ sym (c.in-Some.ensures Queues c.args.self.now.slots c.requires.table.queue_rings)) (search rules)

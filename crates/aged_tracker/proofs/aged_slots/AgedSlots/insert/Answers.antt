@@ -5,13 +5,14 @@ use Rattle.aged_tracker.specs.steps.SlotLists.{MAX_KEYS, held_at, held_of}
 use Rattle.conntrack.specs.declared.connection.Flags.{Flags}
 use Rattle.conntrack.specs.declared.connection.ConntrackEntry.{ConntrackEntry}
 use Rattle.conntrack.specs.ConntrackEntry.{begun_with}
-use Rattle.aged_tracker.specs.steps.Table.{queue_of, held_by, slots_of, Sets}
+use Rattle.aged_tracker.specs.steps.Table.{queue_by, queue_of, held_by, slots_of, Sets}
 use Rattle.aged_tracker.proofs.Turns.{fill_order, begun_rings, begun_sets, begun_held, begun_table}
 use Rattle.aged_tracker.proofs.aged_slots.AgedSlots.insert.Goals as goal
 use Rattle.aged_tracker.proofs.aged_slots.AgedSlots.insert.Goals.{After-oldest_of}
 
-to : (c : After-oldest_of) → c.queue_of-queue.result ≡ queue_of (held_of c.fill-key.result c.fill-key.ensures.fills.slot)
-to c = c.queue_of-queue.ensures.queue ∙ ap queue_of (sym c.fill-key.ensures.fills.holds)
+to : (c : After-oldest_of) → c.queue_by-queue.result ≡ queue_of (held_of c.fill-key.result c.fill-key.ensures.fills.slot)
+to c = c.queue_by-queue.ensures.queue ∙ ap (queue_by c.args.connection.original.kind) c.phase.ensures
+    ∙ ap queue_of (sym c.fill-key.ensures.fills.holds)
 
 few : (c : After-oldest_of) → c.fill-key.result < MAX_KEYS
 few c =
@@ -28,12 +29,12 @@ made c =
     c.args.flags) { from_reply = f }) c.none.ensures
 
 pub push_back-requires-clause-rings : goal.push_back-requires-clause-rings
-push_back-requires-clause-rings c = fill_order c.args.self.now c.fill-key.new.slots c.fill-key.result
+push_back-requires-clause-rings c = fill_order c.args.self.now c.fill-key.new.self c.fill-key.result
     c.fill-key.ensures.fills.slot c.requires.table c.fill-key.ensures.free c.fill-key.ensures.fills.updates
     c.fill-key.ensures.fills.no_queue c.fill-key.ensures.fills.no_order
 
 pub push_back-requires-2-clause-rings : goal.push_back-requires-2-clause-rings
-push_back-requires-2-clause-rings c = begun_rings c.args.self.now c.fill-key.new.slots c.fill-key.result
+push_back-requires-2-clause-rings c = begun_rings c.args.self.now c.fill-key.new.self c.fill-key.result
     c.fill-key.ensures.fills.slot c.requires.table c.fill-key.ensures.free c.fill-key.ensures.fills.updates
     c.fill-key.ensures.fills.no_queue c.fill-key.ensures.fills.no_order c.push_back.new.slots c.push_back.new.heads
     c.push_back.ensures.except_links
@@ -41,21 +42,21 @@ push_back-requires-2-clause-rings c = begun_rings c.args.self.now c.fill-key.new
 pub returns-clause-table : goal.returns-clause-table
 returns-clause-table c =
     let long : length c.args.self.now.oldest ≡ 5 = search rules in
-    begun_table c.args.self.now c.fill-key.new.slots c.fill-key.result c.fill-key.ensures.fills.slot c.requires.table
+    begun_table c.args.self.now c.fill-key.new.self c.fill-key.result c.fill-key.ensures.fills.slot c.requires.table
     c.fill-key.ensures.free c.fill-key.ensures.fills.updates c.fill-key.ensures.fills.no_queue
     c.fill-key.ensures.fills.no_order c.push_back.new.slots c.push_back.new.heads c.push_back.ensures.except_links
-    c.push_back-2.new.slots c.push_back-2.new.heads c.queue_of-queue.result c.oldest_of.result
+    c.push_back-2.new.slots c.push_back-2.new.heads c.queue_by-queue.result c.oldest_of.result
     c.args.connection.last c.push_back.ensures.rings c.push_back.ensures.lists c.push_back-2.ensures.except_links
     c.push_back-2.ensures.rings c.push_back-2.ensures.lists (to (goal.at.returns-clause-table c).After-oldest_of)
     c.requires.later (ap (λ (h : ConntrackEntry). h.last) c.fill-key.ensures.fills.holds) c.oldest_of.ensures.oldest
-    long c.queue_of-queue.ensures.range (few (goal.at.returns-clause-table c).After-oldest_of)
+    long c.queue_by-queue.ensures.range (few (goal.at.returns-clause-table c).After-oldest_of)
 
 pub returns-clause-held : goal.returns-clause-held
 returns-clause-held c =
-    begun_held c.args.self.now c.fill-key.new.slots c.fill-key.result c.fill-key.ensures.fills.slot c.requires.table
+    begun_held c.args.self.now c.fill-key.new.self c.fill-key.result c.fill-key.ensures.fills.slot c.requires.table
     c.fill-key.ensures.free c.fill-key.ensures.fills.updates c.fill-key.ensures.fills.no_queue
     c.fill-key.ensures.fills.no_order c.push_back.new.slots c.push_back.new.heads c.push_back.ensures.except_links
-    c.push_back-2.new.slots c.push_back-2.new.heads c.queue_of-queue.result c.oldest_of.result
+    c.push_back-2.new.slots c.push_back-2.new.heads c.queue_by-queue.result c.oldest_of.result
     c.args.connection.last c.push_back.ensures.rings c.push_back.ensures.lists c.push_back-2.ensures.except_links
     c.push_back-2.ensures.rings c.push_back-2.ensures.lists (to (goal.at.returns-clause-held c).After-oldest_of)
     ∙ ap (λ (h : ConntrackEntry). held_by c.args.self.now ++ h ∷ []) (made (goal.at.returns-clause-held c).After-oldest_of)
@@ -67,9 +68,9 @@ pub returns-clause-slots : goal.returns-clause-slots
 returns-clause-slots c =
     subst (λ h. Sets (slots_of c.args.self.now) (held_at c.push_back-2.new.slots) c.fill-key.result (Some h))
     (made (goal.at.returns-clause-slots c).After-oldest_of)
-    (begun_sets c.args.self.now c.fill-key.new.slots c.fill-key.result c.fill-key.ensures.fills.slot c.requires.table
+    (begun_sets c.args.self.now c.fill-key.new.self c.fill-key.result c.fill-key.ensures.fills.slot c.requires.table
     c.fill-key.ensures.free c.fill-key.ensures.fills.updates c.fill-key.ensures.fills.no_queue
     c.fill-key.ensures.fills.no_order c.push_back.new.slots c.push_back.new.heads c.push_back.ensures.except_links
-    c.push_back-2.new.slots c.push_back-2.new.heads c.queue_of-queue.result c.oldest_of.result
+    c.push_back-2.new.slots c.push_back-2.new.heads c.queue_by-queue.result c.oldest_of.result
     c.args.connection.last c.push_back.ensures.rings c.push_back.ensures.lists c.push_back-2.ensures.except_links
     c.push_back-2.ensures.rings c.push_back-2.ensures.lists (to (goal.at.returns-clause-slots c).After-oldest_of))

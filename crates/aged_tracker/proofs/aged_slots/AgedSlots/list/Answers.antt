@@ -23,15 +23,16 @@ pub loop-cursor-init : goal.loop-cursor-init
 loop-cursor-init c =
     let none : ReadTo Order c.args.self.now.slots c.args.self.now.order 0 c.front-cursor.result _ =
     read_none Order c.args.self.now.slots c.args.self.now.order 0 low
-    (ring c.args.self.now c.requires) c.front-cursor.result c.front-cursor.ensures in
-    rw c.new-all.ensures.items none
+    (ring c.args.self.now c.requires) c.front-cursor.result
+    (c.front-cursor.ensures Order c.args.self.now.slots c.requires.order_rings) in
+    record { read = rw c.new-all.ensures.items none; rises = omega arith }
 
 here : (c : In-Some) → OccursIn Order c.args.self.now.slots c.args.self.now.order 0 low
     (ring c.args.self.now c.requires) c.in-Some.key c.loop-cursor.all.items
 here c =
     occurs_in Order c.args.self.now.slots c.args.self.now.order 0 low
     (ring c.args.self.now c.requires) c.in-Some.key c.loop-cursor.all.items
-    (subst (λ o. ReadTo Order c.args.self.now.slots c.args.self.now.order 0 o c.loop-cursor.all.items) c.in-Some.is c.loop-cursor.invariant)
+    (subst (λ o. ReadTo Order c.args.self.now.slots c.args.self.now.order 0 o c.loop-cursor.all.items) c.in-Some.is c.loop-cursor.invariant.read)
 
 pub connection_at-connection-requires : goal.connection_at-connection-requires
 connection_at-connection-requires c = occurs_slot Order c.args.self.now.slots c.args.self.now.order 0 low
@@ -62,20 +63,23 @@ loop-cursor-preserved c =
     let held : held_at c.args.self.now.slots c.in-Some.key ≡ Some (held_of c.in-Some.key slot.0) =
     ap (option_map (held_of c.in-Some.key)) slot.1 in
     let listed : c.connection_at-connection.result ≡ connection_of (held_of c.in-Some.key slot.0) =
-    rw held at c.connection_at-connection.ensures in
+    rw held at c.connection_at-connection.ensures.connection in
     let all : c.push.new.self.items ≡ c.loop-cursor.all.items ++ c.connection_at-connection.result ∷ [] = search rules in
-    rw (all, listed)
-    (read_more Order c.args.self.now.slots c.args.self.now.order 0 low
-    (ring c.args.self.now c.requires) c.in-Some.key c.loop-cursor.all.items s c.after-cursor.result
-    (held_of c.in-Some.key slot.0) held
-    (c.after-cursor.ensures c.args.self.now.order 0 s.before s.rest low
-    (occurs_ring Order c.args.self.now.slots c.args.self.now.order 0 low
-    (ring c.args.self.now c.requires) c.in-Some.key c.loop-cursor.all.items s)))
+    record {
+      rises = omega (arith, c.connection_at-connection.ensures.rises, c.after-cursor.ensures.rises);
+      read = rw (all, listed)
+          (read_more Order c.args.self.now.slots c.args.self.now.order 0 low
+          (ring c.args.self.now c.requires) c.in-Some.key c.loop-cursor.all.items s c.after-cursor.result
+          (held_of c.in-Some.key slot.0) held
+          (c.after-cursor.ensures.after c.args.self.now.order 0 s.before s.rest low
+          (occurs_ring Order c.args.self.now.slots c.args.self.now.order 0 low
+          (ring c.args.self.now c.requires) c.in-Some.key c.loop-cursor.all.items s)));
+    }
 
-pub returns : goal.returns
-returns c =
+pub returns-clause-list : goal.returns-clause-list
+returns-clause-list c =
     let none : c.loop-cursor.cursor ≡ None = search rules in
     read_all Order c.args.self.now.slots c.args.self.now.order 0 low (ring c.args.self.now c.requires) c.loop-cursor.all.items
-    (subst (λ o. ReadTo Order c.args.self.now.slots c.args.self.now.order 0 o c.loop-cursor.all.items) none c.loop-cursor.invariant)
+    (subst (λ o. ReadTo Order c.args.self.now.slots c.args.self.now.order 0 o c.loop-cursor.all.items) none c.loop-cursor.invariant.read)
     ∙ ap (λ ks. map connection_of (held_in (held_at c.args.self.now.slots) ks))
     (sym (items_at Order c.args.self.now.slots c.args.self.now.order 0 low))

@@ -6,8 +6,8 @@ use Rattle.aged_tracker.proofs.Whole.{slot_listed, distinct_by, apart_by}
 use Rattle.aged_tracker.proofs.Found.{belongs_none, belongs_some}
 use Rattle.aged_tracker.proofs.aged_tracker.AgedTracker.find.Goals as goal
 
-pub read-requires : goal.read-requires
-read-requires c =
+pub belonging-requires : goal.belonging-requires
+belonging-requires c =
     let found : get same_tuple c.self.inside.keys c.args.tuple ≡ Some c.in-Some.key = sym c.key_of.ensures ∙ c.in-Some.is in
     let owner = c.self.invariant.keyed.found c.args.tuple c.in-Some.key found in
     subst IsSome (sym owner.1.0) refl
@@ -29,11 +29,12 @@ returns-in-None-clause-apart c = rw (← c.self.view_is) (apart_by c.self.inside
 pub returns-in-Some-clause-belonging : goal.returns-in-Some-clause-belonging
 returns-in-Some-clause-belonging c =
     let found : get same_tuple c.self.inside.keys c.args.tuple ≡ Some c.in-Some.key = sym c.key_of.ensures ∙ c.in-Some.is in
-    rw (← c.self.view_is) (c.belonging.ensures
+    let owner = c.self.invariant.keyed.found c.args.tuple c.in-Some.key found in
+    rw (← c.self.view_is) (rw owner.1.0 at c.belonging.ensures.belonging
     ∙ belongs_some (slots_of c.self.inside.slots) (get same_tuple c.self.inside.keys) c.self.invariant.keyed
     (keys_in (order_of c.self.inside.slots) 0)
     (slot_listed c.self.inside.slots c.self.invariant.table) c.self.inside.limits c.args.now c.args.tuple
-    c.args.flags c.in-Some.key c.read.result found c.read.ensures.held)
+    c.args.flags c.in-Some.key owner.0 found owner.1.0)
 
 pub returns-in-Some-clause-distinct : goal.returns-in-Some-clause-distinct
 returns-in-Some-clause-distinct c = rw (← c.self.view_is) (distinct_by c.self.inside.slots c.self.invariant.table)

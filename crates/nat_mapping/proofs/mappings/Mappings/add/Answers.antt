@@ -5,8 +5,8 @@ use Rattle.nat_mapping.specs.declared.keys.SourceKey.{SourceKey}
 use Rattle.nat_mapping.specs.declared.keys.InboundKey.{InboundKey}
 use Rattle.nat_mapping.specs.declared.keys.PoolKey.{PoolKey}
 use Rattle.nat_mapping.specs.declared.keys.MappedPort.{MappedPort}
-use Rattle.nat_mapping.specs.Mappings.{HoldsSame, IsOneToOne, holders_of}
-use Rattle.nat_mapping.specs.steps.Keys.{has_pool, same_source, source_key_of}
+use Rattle.nat_mapping.specs.Mappings.{HoldsSame, IsOneToOne, holders_of, has_pool}
+use Rattle.nat_mapping.specs.steps.Keys.{same_source, source_key_of}
 use Rattle.nat_mapping.specs.steps.Pooled.{taken_in}
 use Rattle.nat_mapping.specs.steps.Consistent.{held_by}
 use Rattle.nat_mapping.proofs.Changes.{PortSet}

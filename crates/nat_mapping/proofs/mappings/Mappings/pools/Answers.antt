@@ -1,10 +1,22 @@
-use Rattle.std.proofs.Common.{ap, arith}
+use Rattle.std.proofs.Common.{◌≡◌, List, ap, arith}
+use Rattle.std.specs.HashMap.{hash_map_len}
+use Rattle.ip_headers.specs.declared.tuple.Mapping.{Mapping}
+use Rattle.nat_mapping.specs.Mappings.{HoldsSame, pool_count_of}
 use Rattle.nat_mapping.proofs.Entries.{counts_same}
-use Rattle.nat_mapping.proofs.PoolCounts.{pools_bounded}
+use Rattle.nat_mapping.proofs.PoolCounts.{pools_counted}
 use Rattle.nat_mapping.proofs.mappings.Mappings.pools.Goals as goal
+use Rattle.nat_mapping.proofs.mappings.Mappings.pools.Goals.{After-count}
 
-pub returns-clause-bounded : goal.returns-clause-bounded
-returns-clause-bounded c held same =
-    let few = pools_bounded c.self.inside.sources c.self.inside.inbounds c.self.inside.pools c.self.invariant held
-    (counts_same c.self.inside.sources c.self.invariant.unique held c.args.self.now.held (ap (λ v. v.held) c.self.view_is) same) in
-    omega (arith, few, c.count.ensures, c.self.invariant.pooled.few)
+counted : (c : After-count) (held : List Mapping) → HoldsSame held c.args.self.now.held
+    → hash_map_len c.self.inside.pools.pools ≡ pool_count_of held
+counted c held same =
+    pools_counted c.self.inside.sources c.self.inside.inbounds c.self.inside.pools c.self.invariant held
+    (counts_same c.self.inside.sources c.self.invariant.unique held c.args.self.now.held (ap (λ v. v.held) c.self.view_is) same)
+
+pub returns-clause-needed : goal.returns-clause-needed
+returns-clause-needed c held same =
+    omega (arith, counted (goal.at.returns-clause-needed c).After-count held same, c.count.ensures)
+
+pub returns-clause-spare : goal.returns-clause-spare
+returns-clause-spare c held same =
+    omega (arith, counted (goal.at.returns-clause-spare c).After-count held same, c.count.ensures, c.self.invariant.pooled.few)

@@ -4,8 +4,8 @@ use Rattle.std.specs.HashMap.{get}
 use Rattle.port_pool.specs.declared.order.Order.{Order}
 use Rattle.port_pool.specs.declared.order.Order.TheVariants.{Zero}
 use Rattle.port_pool.specs.Taken.{order_of as pool_order}
-use Rattle.nat_mapping.specs.Mappings.{order_of}
-use Rattle.nat_mapping.specs.steps.Keys.{has_pool, same_pool}
+use Rattle.nat_mapping.specs.Mappings.{order_of, has_pool}
+use Rattle.nat_mapping.specs.steps.Keys.{same_pool}
 use Rattle.nat_mapping.specs.steps.Ports.{is_taken_by, order_by}
 use Rattle.nat_mapping.specs.steps.Pooled.{orders_in, taken_in}
 use Rattle.nat_mapping.proofs.Equal.{pool_test}

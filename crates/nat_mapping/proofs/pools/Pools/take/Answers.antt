@@ -1,7 +1,8 @@
 use Rattle.std.proofs.Common.{◌≡◌, true, None, Some, is_some, sym, ◌∙◌, ap, arith}
 use Rattle.std.specs.HashMap.{get}
 use Rattle.std.proofs.lemmas.List.Elements.{All-pop}
-use Rattle.nat_mapping.specs.steps.Keys.{has_pool, same_pool}
+use Rattle.nat_mapping.specs.steps.Keys.{same_pool}
+use Rattle.nat_mapping.specs.Mappings.{has_pool}
 use Rattle.nat_mapping.specs.steps.Ports.{is_taken_by, order_by, IsSpare}
 use Rattle.nat_mapping.specs.steps.Pooled.{orders_in, taken_in}
 use Rattle.nat_mapping.proofs.Equal.{pool_test}

@@ -1,10 +1,10 @@
-use Rattle.aged_tracker.proofs.aged_slots.fill.Goals as goal
+use Rattle.aged_tracker.proofs.slots.Slots.fill.Goals as goal
 
 pub returns-clause-fills : goal.returns-clause-fills
 returns-clause-fills c =
     record {
       slot = c.new.result;
-      updates = c.insert_reserved.ensures.updates;
+      updates = rw (← c.self.view_is) c.insert_reserved.ensures.updates;
       holds = c.new.ensures.held c.insert_reserved.result;
       no_queue = c.new.ensures.queue;
       no_order = c.new.ensures.order;

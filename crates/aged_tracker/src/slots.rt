@@ -1,0 +1,239 @@
+//! The slots of a table. Nothing else reaches a slot, and each call that reads or writes one counts
+//! it in `steps`.
+ghost use Rattle.std.specs.Prelude.{◌≡◌, ◌+◌, ◌<◌, [], List, IsTrue, IfSome, IfOk, OnOk, IsOk, Some, None, option_copied, nat_lt};
+ghost use Rattle.slab.specs.Slab.{get, slab_len, ContainsKey, Updates};
+ghost use Rattle.conntrack.specs.StepCounts.{Counts};
+ghost use Rattle.conntrack.specs.ConntrackEntry.{touched};
+ghost use Rattle.aged_tracker.specs.steps.SlotLists.{held_of, link_at, links_of, owner_of, updated, with_link, with_list, with_links, Fills, SameSize};
+ghost use Rattle.aged_tracker.specs.steps.Table.{queue_of};
+ghost use Rattle.aged_tracker.specs.declared.slot.Link.{Link as Linked};
+
+use crate::slot::{Link, ListLinks, NodeIndex, Slot, SlotList};
+use conntrack::{ConntrackEntry, Direction, Flags, Memory, Moment, Steps};
+use slab::Slab;
+use std::alloc::Global;
+use std::marker::Model;
+
+/// The slots by their keys.
+#[derive(Drop)]
+pub struct Slots {
+    slab: Slab<Slot>,
+}
+
+impl Model for Slots {
+    ghost use Rattle.slab.specs.Slab.{Slab as Slabs};
+    ghost use Rattle.aged_tracker.specs.declared.slot.Slot.{Slot as Slotted};
+
+    ghost Value = { Slabs Slotted };
+
+    ghost view = { λ s. s.slab };
+}
+
+impl Slots {
+    /// No slots.
+    pub fn new(alloc: Global) -> Self
+        ensures empty { result.slots ≡ [] }
+        ensures first_key { result.vacant_key ≡ 0 }
+        ensures capacity { result.capacity ≡ 0 }
+    {
+        Slots {
+            slab: Slab::new(alloc),
+        }
+    }
+
+    /// How many there are.
+    pub fn len(&self) -> usize
+        ensures { result ≡ slab_len self.now }
+    {
+        self.slab.len()
+    }
+
+    /// For how many there is memory.
+    pub fn capacity(&self) -> usize
+        ensures { result ≡ self.now.capacity }
+    {
+        self.slab.capacity()
+    }
+
+    /// The key of the next one.
+    pub fn vacant_key(&self) -> usize
+        ensures { result ≡ self.now.vacant_key }
+    {
+        self.slab.vacant_key()
+    }
+
+    /// Reserves memory for one more.
+    ///
+    /// # Errors
+    ///
+    /// `Memory` where memory ran out.
+    pub fn reserve_one(&mut self) -> Result<(), Memory>
+        ensures room { OnOk result (IsTrue (nat_lt (slab_len self.new) self.new.capacity)) }
+        ensures rest_kept { self.new ≡ record self.old { capacity = self.new.capacity } }
+        ensures spared { IsTrue (nat_lt (slab_len self.old) self.old.capacity)
+            → (self.new ≡ self.old) × IsOk result }
+    {
+        match self.slab.reserve(1) {
+            Ok(()) => Ok(()),
+            Err(_) => Err(Memory),
+        }
+    }
+
+    /// Reads one.
+    pub fn get(&self, key: usize, steps: &mut Steps) -> Option<&Slot>
+        ensures slot { option_copied result ≡ get self.now key }
+        ensures steps { Counts 1 steps.old steps.new }
+    {
+        steps.tick();
+        self.slab.get(key)
+    }
+
+    /// Fills a free one, which is in no list yet.
+    pub fn fill(&mut self, held: &ConntrackEntry, steps: &mut Steps) -> usize
+        requires { IsTrue (nat_lt (slab_len self.old) self.old.capacity) }
+        ensures key { result ≡ self.old.vacant_key }
+        ensures free { get self.old result ≡ None }
+        ensures fills { Fills self.old self.new result
+            (record held.now { id = record { 0 = result } }) }
+        ensures steps { Counts 1 steps.old steps.new }
+    {
+        steps.tick();
+        self.slab.insert_reserved(Slot::new(held))
+    }
+
+    /// Empties one.
+    pub fn remove(&mut self, key: usize, steps: &mut Steps) -> Slot
+        requires { ContainsKey self.old key }
+        ensures value { get self.old key ≡ Some result }
+        ensures updates { Updates self.old self.new key None }
+        ensures room { IsTrue (nat_lt (slab_len self.new) self.new.capacity) }
+        ensures key_is_next { self.new.vacant_key ≡ key }
+        ensures steps { Counts 1 steps.old steps.new }
+    {
+        steps.tick();
+        self.slab.remove(key)
+    }
+
+    /// Updates the entry of one for one more packet, and returns its queue then.
+    pub fn touch(
+        &mut self,
+        key: usize,
+        direction: Direction,
+        flags: Flags,
+        mark: u32,
+        now: Moment,
+        steps: &mut Steps,
+    ) -> usize
+        requires { ContainsKey self.old key }
+        ensures slots { IfSome (get self.old key)
+            (λ s. Updates self.old self.new key
+            (Some (updated (touched direction flags mark now (held_of key s)) s))) }
+        ensures queue { IfSome (get self.old key)
+            (λ s. result ≡ queue_of (touched direction flags mark now (held_of key s))) }
+        ensures range { result < 5 }
+        ensures size { SameSize self.old self.new }
+        ensures steps { Counts 1 steps.old steps.new }
+    {
+        steps.tick();
+        match self.slab.get_mut(key) {
+            Some(slot) => {
+                slot.touch(direction, flags, mark, now);
+                slot.queue()
+            }
+            None => unreachable!(),
+        }
+    }
+
+    /// Takes the links of one in a set of lists: it is in none of them then.
+    pub fn take_links(&mut self, slot_list: SlotList, key: usize, steps: &mut Steps) -> ListLinks
+        requires { ContainsKey self.old key }
+        ensures list { result.list ≡ owner_of slot_list self.old key }
+        ensures link { (heads : List Linked)
+            → result.link ≡ link_at slot_list self.old heads (5 + key) }
+        ensures slots { IfSome (get self.old key)
+            (λ s. Updates self.old self.new key (Some (with_list slot_list None s))) }
+        ensures size { SameSize self.old self.new }
+        ensures steps { Counts 1 steps.old steps.new }
+    {
+        steps.tick();
+        match self.slab.get_mut(key) {
+            Some(slot) => {
+                let links = slot.links(slot_list);
+                slot.set_links(
+                    slot_list,
+                    ListLinks {
+                        list: None,
+                        link: links.link,
+                    },
+                );
+                links
+            }
+            None => unreachable!(),
+        }
+    }
+
+    /// Sets the links of one.
+    pub fn set_links(
+        &mut self,
+        slot_list: SlotList,
+        key: usize,
+        links: ListLinks,
+        steps: &mut Steps,
+    )
+        requires { ContainsKey self.old key }
+        ensures slots { IfSome (get self.old key)
+            (λ s. Updates self.old self.new key (Some (with_links slot_list links s))) }
+        ensures size { SameSize self.old self.new }
+        ensures steps { Counts 1 steps.old steps.new }
+    {
+        steps.tick();
+        match self.slab.get_mut(key) {
+            Some(slot) => slot.set_links(slot_list, links),
+            None => unreachable!(),
+        }
+    }
+
+    /// Sets the next node of one.
+    pub fn set_next(&mut self, slot_list: SlotList, key: usize, to: NodeIndex, steps: &mut Steps)
+        requires { ContainsKey self.old key }
+        ensures slots { IfSome (get self.old key) (λ s. Updates self.old self.new key
+            (Some (with_link slot_list (record (links_of slot_list s).link { next = to }) s))) }
+        ensures size { SameSize self.old self.new }
+        ensures steps { Counts 1 steps.old steps.new }
+    {
+        steps.tick();
+        match self.slab.get_mut(key) {
+            Some(slot) => {
+                let ListLinks { list, link } = slot.links(slot_list);
+                let link = Link {
+                    prev: link.prev,
+                    next: to,
+                };
+                slot.set_links(slot_list, ListLinks { list, link });
+            }
+            None => unreachable!(),
+        }
+    }
+
+    /// Sets the previous node of one.
+    pub fn set_prev(&mut self, slot_list: SlotList, key: usize, to: NodeIndex, steps: &mut Steps)
+        requires { ContainsKey self.old key }
+        ensures slots { IfSome (get self.old key) (λ s. Updates self.old self.new key
+            (Some (with_link slot_list (record (links_of slot_list s).link { prev = to }) s))) }
+        ensures size { SameSize self.old self.new }
+        ensures steps { Counts 1 steps.old steps.new }
+    {
+        steps.tick();
+        match self.slab.get_mut(key) {
+            Some(slot) => {
+                let ListLinks { list, link } = slot.links(slot_list);
+                let link = Link {
+                    prev: to,
+                    next: link.next,
+                };
+                slot.set_links(slot_list, ListLinks { list, link });
+            }
+            None => unreachable!(),
+        }
+    }
+}
