@@ -3,6 +3,7 @@ pub mod Concatenations
 pub mod Effects
 pub mod Transfers
 pub mod Guarding
+pub mod Probes
 pub mod Seeking
 pub mod RunBuilding
 pub mod IndexSizes

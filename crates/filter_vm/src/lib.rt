@@ -3,19 +3,21 @@
 #![tactic(auto)]
 
 mod actions;
+mod candidate;
 mod code;
 mod concatenation;
 mod events;
+mod gathering;
 mod guards;
 mod indexed_table;
 mod machine;
 mod merging;
+mod probe;
 mod reading;
 mod rule_head;
 mod run_builder;
+mod run_index;
 mod runs;
-mod selector_index;
-mod selectors;
 mod size;
 mod stack;
 

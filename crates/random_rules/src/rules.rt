@@ -7,14 +7,14 @@ use filter_vm::{
 };
 use nft_tree::{MarkField, Operator, Policy, RuleNo, Selector};
 use rule_meaning::{ChainNo, RuleVerdict, StatementPosition};
-use set_intervals::Intervals;
+use set_intervals::{Intervals, Range};
 use std::alloc::{AllocError, Global};
 
 const CHAINS: u32 = 4;
 
 const SETS: u32 = 8;
 
-/// All selectors that the first match of a run's rule can read, and two that it can't.
+/// All selectors: an index has the values of each but interfaces' names.
 static SELECTORS: [Selector; 25] = [
     Selector::IpSource,
     Selector::IpDestination,
@@ -64,7 +64,8 @@ fn random_operator(random: &mut RandomNumbers) -> Operator {
     }
 }
 
-/// The first match of a rule: mostly one that a run can have, with overlapping ranges.
+/// The first match of a rule: mostly one of its own values, with overlapping ranges, and else one
+/// that other rules share.
 fn random_match(
     alloc: Global,
     random: &mut RandomNumbers,
@@ -73,10 +74,15 @@ fn random_match(
     Ok(match random.below(100) {
         0..=54 => Action::Compare(selector, Operator::Equal, random.range()),
         55..=62 => Action::Compare(selector, random_operator(random), random.range()),
-        63..=96 => Action::InSet(vec![in alloc; selector]?, random.below(SETS + 1) as usize),
-        97 => Action::NotInSet(vec![in alloc; selector]?, random.below(SETS) as usize),
-        98 => Action::Compare(selector, Operator::Unequal, random.range()),
-        _ => Action::BitsEqual(selector, 3, 1),
+        63..=84 => Action::InSet(vec![in alloc; selector]?, random.below(SETS + 1) as usize),
+        85..=90 => Action::InSet(
+            vec![in alloc; selector, Selector::MetaMark]?,
+            random.below(SETS) as usize,
+        ),
+        91..=92 => Action::NotInSet(vec![in alloc; selector]?, random.below(SETS) as usize),
+        93..=94 => Action::Compare(selector, Operator::Unequal, random.range()),
+        95..=97 => Action::BitsEqual(selector, 3, u128::from(random.below(4))),
+        _ => Action::BitsUnequal(selector, 3, u128::from(random.below(4))),
     })
 }
 
@@ -173,8 +179,8 @@ fn add_rule(
     Ok(())
 }
 
-/// Consecutive rules, most of which match on one selector or on few in any order, and some on
-/// others.
+/// Consecutive rules, most of which match on one selector or on up to eight in any order, and some
+/// on others.
 fn add_rules(
     alloc: Global,
     random: &mut RandomNumbers,
@@ -190,12 +196,14 @@ fn add_rules(
         random_selector(random),
         random_selector(random),
         random_selector(random),
+        random_selector(random),
+        random_selector(random),
+        random_selector(random),
     ];
-    // As many selectors as a run can have, and one more.
-    let many = if random.chance(40) {
+    let many = if random.chance(30) {
         1
     } else {
-        2 + random.below(4)
+        2 + random.below(7)
     };
     // The percentage of rules of one match and a verdict, which are merged where they are
     // consecutive.
@@ -221,11 +229,15 @@ fn add_rules(
     Ok(())
 }
 
-/// A set, which may be empty.
+/// A set, which may be empty; some of its numbers are those of two values of 32 bits.
 fn random_set(alloc: Global, random: &mut RandomNumbers) -> Result<Intervals<()>, AllocError> {
     let mut pairs = Vec::new(alloc);
     for _ in 0..random.below(5) {
         pairs.push((random.range(), ()))?;
+        let joined = (u128::from(random.number()) << 32) + u128::from(random.number());
+        if let Some(range) = Range::new(joined, joined) {
+            pairs.push((range, ()))?;
+        }
     }
     Intervals::first_wins(alloc, &pairs)
 }

@@ -287,3 +287,75 @@ fn rules_are_merged_and_dropped(rt: HostRuntime) -> Result<(), Fail> {
     }
     Ok(())
 }
+
+/// Eight selectors, in each of whose values some rules match.
+static EIGHT: [Selector; 8] = [
+    Selector::IpSource,
+    Selector::IpDestination,
+    Selector::IpTtl,
+    Selector::IpLength,
+    Selector::TcpSource,
+    Selector::TcpDestination,
+    Selector::UdpSource,
+    Selector::UdpDestination,
+];
+
+/// How many rules begin with one of the eight selectors, and how many with a set that they share.
+const RULES: u32 = 64;
+
+/// A rule of a match and a verdict.
+fn add_match(action: Action, number: u32, steps: &mut StepList) -> Result<(), AllocError> {
+    steps.push(Step::Statement(Instruction {
+        rule: rule(number),
+        skip: 1,
+        action,
+    }))?;
+    steps.push(Step::Statement(Instruction {
+        rule: rule(number),
+        skip: 0,
+        action: Action::GiveVerdict(RuleVerdict::Drop),
+    }))
+}
+
+/// A chain of rules in turn of eight selectors and of the set 0.
+fn many_selectors(alloc: Global) -> Result<IndexedTable, AllocError> {
+    let mut steps = StepList::new(alloc);
+    for number in 0..RULES {
+        let selector = EIGHT[(number % 8) as usize];
+        add_match(
+            compare(selector, Operator::Equal, number, 0),
+            number,
+            &mut steps,
+        )?;
+        let set = Action::InSet(vec![in alloc; Selector::InputName]?, 0);
+        add_match(set, number, &mut steps)?;
+    }
+    IndexedTable::new(
+        alloc,
+        TableCode {
+            steps,
+            chain_offsets: vec![in alloc; 0]?,
+            lookups: Lookups {
+                sets: vec![in alloc; Intervals::first_wins(alloc, &[])?]?,
+                verdicts: Vec::new(alloc),
+                numbers: Vec::new(alloc),
+            },
+        },
+    )
+}
+
+/// One index for each selector, and one for the set that the other rules share.
+#[test]
+fn a_run_has_an_index_for_each_selector(rt: HostRuntime) -> Result<(), Fail> {
+    let alloc = rt.alloc();
+    let code = Code {
+        tables: vec![in alloc; many_selectors(alloc)?]?,
+        prerouting: Vec::new(alloc),
+        input: Vec::new(alloc),
+        forward: Vec::new(alloc),
+        output: Vec::new(alloc),
+        postrouting: Vec::new(alloc),
+    };
+    assert!(&rt; code.size().tables == 9, "indexes");
+    Ok(())
+}

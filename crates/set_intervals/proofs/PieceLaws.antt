@@ -1,27 +1,34 @@
 -- The invariant of a table's pieces.
-use Rattle.std.proofs.Common.{◌≡◌, ◌≢◌, ℕ, ◌+◌, ◌-◌, ◌<◌, ◌≤◌, List, [], ◌∷◌, ◌++◌, length, get_or, set, ⊎_elim, refl, sym, ap, ◌∙◌, subst, arith, ltb, length-append, Option, Some, None}
-use Rattle.std.specs.List.Sorted.{IsNonDecreasingBy, IsPartitionedBy}
+use Rattle.std.proofs.Common.{◌≡◌, ◌≢◌, ℕ, ◌+◌, ◌-◌, ◌<◌, ◌≤◌, List, [], ◌∷◌, ◌++◌, length, get_or, set, ⊎_elim, refl, sym, ap, ◌∙◌, subst, arith, length-append, Option, Some, None}
+use Rattle.std.specs.List.Sorted.{IsNonDecreasing, IsNonDecreasingBy}
 use Rattle.std.proofs.Math.Seq.{get_or-append_seam}
-use Rattle.std.proofs.lemmas.List.{get_or_append_left, get_or_default, get_or-set_same, get_or-set_other, length-set}
+use Rattle.std.proofs.lemmas.List.{get_or_append_left, get_or_default, get_or-set_same, get_or-set_other, length-set, get_or-map, length-map}
 use Rattle.std.proofs.lemmas.Bool.{cases_lt}
-use Rattle.std.proofs.lemmas.List.Sorted.{IsPartitionedBy-ltb}
 use Rattle.set_intervals.specs.declared.range.Range.{Range}
 use Rattle.set_intervals.specs.declared.table.Overlap.TheVariants.{Disjoint}
 use Rattle.set_intervals.specs.Pairs.{HasValue, SameValues, HasClash}
-use Rattle.set_intervals.specs.steps.Pieces.{IsSeparate, IsMerged, IsTable, StartsBefore, ClassifiesOverlap, IsLowerBound}
+use Rattle.set_intervals.specs.steps.Pieces.{IsSeparate, IsMerged, IsTable, StartsBefore, ClassifiesOverlap, IsLowerBound, highs}
 use Rattle.set_intervals.proofs.PairLaws.{place_of, Says}
 
 -- the high ends of pieces ascend
-highs_rise : {V : Type 0} (xs : List (Range × V)) → IsSeparate xs → IsNonDecreasingBy (λ (p : Range × V). p.0.high) xs
+pub highs_rise : {V : Type 0} (xs : List (Range × V)) → IsSeparate xs → IsNonDecreasingBy (λ (p : Range × V). p.0.high) xs
 highs_rise xs sep i j d le lt =
     ⊎_elim
     (λ below. omega (arith, sep i j d below lt, (get_or xs j d).0.ordered))
     (λ above. let e : i ≡ j = omega arith in omega (arith, ap (λ n. (get_or xs n d).0.high) e))
     (cases_lt i j)
 
--- the partition point of the ends, from the search's clause
-pub ends_parted : {V : Type 0} (xs : List (Range × V)) → IsSeparate xs → (key : ℕ) → IsPartitionedBy (λ (y : Range × V). ltb y.0.high key) xs
-ends_parted xs sep key = IsPartitionedBy-ltb (λ y. y.0.high) xs key (highs_rise xs sep)
+pub highs_ascend : {V : Type 0} (xs : List (Range × V)) → IsSeparate xs → IsNonDecreasing (highs xs)
+highs_ascend [] sep i j d le lt = absurd (omega (arith, lt))
+highs_ascend (x ∷ xs) sep i j d le lt =
+    let ys = x ∷ xs in
+    let inside : j < length ys = omega (arith, lt, length-map ys (λ p. p.0.high)) in
+    omega (
+      arith,
+      highs_rise ys sep i j x le inside,
+      get_or-map (λ p. p.0.high) ys i x d (omega (arith, le, inside)),
+      get_or-map (λ p. p.0.high) ys j x d inside,
+    )
 
 -- ---- a new last piece
 

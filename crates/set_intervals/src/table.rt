@@ -2,12 +2,14 @@
 ghost use Rattle.std.specs.Prelude.{◌≡◌, ◌≤◌, ◌<◌, ◌↔◌, ℕ, List, length, IsTrue, IfOk, OnOk, IfErr, MatchOption};
 ghost use Rattle.std.specs.Option.{option_copied};
 ghost use Rattle.set_intervals.specs.declared.range.Range.{Range};
+ghost use Rattle.search_levels.specs.Levels.{IsLevel, Parts};
 ghost use Rattle.set_intervals.specs.Pairs.{HasClash, HasRuns, HasValue, IsExact, SameValues, first_value};
-ghost use Rattle.set_intervals.specs.steps.Pieces.{Adds, ClashesWith, IsLowerBound, IsTable, ClassifiesOverlap, StartsBefore};
+ghost use Rattle.set_intervals.specs.steps.Pieces.{Adds, ClashesWith, IsLowerBound, IsTable, ClassifiesOverlap, StartsBefore, highs};
 
 use crate::fault::SetError;
 use crate::overlay::first_wins;
 use crate::range::Range;
+use search_levels::Level;
 use std::alloc::{AllocError, Global};
 use std::marker::Model;
 
@@ -16,6 +18,8 @@ use std::marker::Model;
 pub struct Intervals<V> {
     /// Disjoint and ascending; adjacent pieces have different values.
     pieces: Vec<(Range, V)>,
+    /// Over the highest numbers of the pieces.
+    level: Level,
 }
 
 impl<V> Model for Intervals<V> {
@@ -23,7 +27,7 @@ impl<V> Model for Intervals<V> {
 
     ghost view = { λ t. t.pieces.items };
 
-    ghost invariant = { λ t. IsTable t.pieces.items };
+    ghost invariant = { λ t. IsTable t.pieces.items × IsLevel t.level (highs t.pieces.items) };
 }
 
 impl<V: Copy + Eq> Intervals<V> {
@@ -47,7 +51,7 @@ impl<V: Copy + Eq> Intervals<V> {
         for &(range, value) in &sorted {
             add(&mut pieces, range, value)?;
         }
-        Ok(Intervals { pieces })
+        Ok(Self::of(alloc, pieces)?)
     }
 
     /// Builds the table in which each number has the value of the first pair that contains it:
@@ -62,7 +66,20 @@ impl<V: Copy + Eq> Intervals<V> {
             → first_value table key ≡ first_value pairs.now key) }
     {
         let pieces = first_wins(alloc, pairs)?;
-        Ok(Intervals { pieces })
+        Self::of(alloc, pieces)
+    }
+
+    /// The table of these pieces.
+    fn of(alloc: Global, pieces: Vec<(Range, V)>) -> Result<Self, AllocError>
+        requires { IsTable pieces.items }
+        ensures { IfOk result (λ table. table ≡ pieces.items) }
+    {
+        let mut highs = Vec::with_capacity(alloc, pieces.len())?;
+        for (range, _) in &pieces {
+            highs.push(range.high())?;
+        }
+        let level = Level::build(alloc, &highs)?;
+        Ok(Intervals { pieces, level })
     }
 
     /// The value at a number; `None` if no interval contains it.
@@ -72,7 +89,8 @@ impl<V: Copy + Eq> Intervals<V> {
             (λ v. HasValue self.now key v) }
         ensures first_values { option_copied result ≡ first_value self.now key }
     {
-        find_in(&self.pieces, key)
+        let (from, to) = self.level.part(key);
+        find_in(&self.pieces, from, to, key)
     }
 
     /// The intervals with their values, ascending.
@@ -151,14 +169,15 @@ fn copied<V: Copy>(alloc: Global, pairs: &[(Range, V)]) -> Result<Vec<(Range, V)
     pairs.iter().copied().collect(alloc)
 }
 
-/// Binary search for the piece that contains the number.
-fn find_in<V>(pieces: &[(Range, V)], key: u128) -> Option<&V>
-    requires { IsTable pieces.now }
+/// The value of the piece that contains the number; the part that the level names is searched.
+fn find_in<V>(pieces: &[(Range, V)], from: usize, to: usize, key: u128) -> Option<&V>
+    requires table { IsTable pieces.now }
+    requires parts { Parts (highs pieces.now) key from to }
     ensures { MatchOption (option_copied result)
         ((v : V) → HasValue pieces.now key v → ⊥)
         (λ v. HasValue pieces.now key v) }
 {
-    let at = lower_bound(pieces, key);
+    let at = lower_bound(pieces, from, to, key);
     match pieces.get(at) {
         Some((range, value)) if range.low() <= key => Some(value),
         _ => None,
@@ -166,9 +185,10 @@ fn find_in<V>(pieces: &[(Range, V)], key: u128) -> Option<&V>
 }
 
 /// The index of the first piece that ends at or above the number.
-fn lower_bound<V>(pieces: &[(Range, V)], key: u128) -> usize
-    requires { IsTable pieces.now }
+fn lower_bound<V>(pieces: &[(Range, V)], from: usize, to: usize, key: u128) -> usize
+    requires table { IsTable pieces.now }
+    requires parts { Parts (highs pieces.now) key from to }
     ensures { IsLowerBound pieces.now key result }
 {
-    pieces.partition_point(|pair| pair.0.high() < key)
+    from + pieces[from..to].partition_point(|pair| pair.0.high() < key)
 }

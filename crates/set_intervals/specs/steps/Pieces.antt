@@ -1,5 +1,5 @@
 -- The intervals of a table as the code keeps them.
-use Rattle.std.specs.Prelude.{◌≡◌, ◌≢◌, ℕ, ◌+◌, ◌<◌, ◌≤◌, ◌↔◌, List, length, ◌⊎◌, slice_index_or}
+use Rattle.std.specs.Prelude.{◌≡◌, ◌≢◌, ℕ, ◌+◌, ◌<◌, ◌≤◌, ◌↔◌, List, length, map, ◌⊎◌, slice_index_or}
 use Rattle.set_intervals.specs.declared.range.Range.{Range}
 use Rattle.set_intervals.specs.declared.table.Overlap.{Overlap}
 use Rattle.set_intervals.specs.declared.table.Overlap.TheVariants.{Disjoint, Mergeable, Clashes}
@@ -52,3 +52,7 @@ abbrev pub IsLowerBound : {V : Type 0} → List (Range × V) → ℕ → ℕ →
 IsLowerBound {V} xs key at =
     (i : ℕ) (d : Range × V) → i < length xs
     → (i < at → (slice_index_or xs i d).0.high < key) × (at ≤ i → key ≤ (slice_index_or xs i d).0.high)
+
+-- the highest numbers of the ranges
+abbrev pub highs : {V : Type 0} → List (Range × V) → List ℕ
+highs {V} xs = map (λ (p : Range × V). p.0.high) xs

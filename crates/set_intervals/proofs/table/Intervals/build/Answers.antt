@@ -3,6 +3,8 @@ use Rattle.std.specs.List.Sorted.{IsNonDecreasingBy, IsPermutation}
 use Rattle.std.proofs.lemmas.List.Sorted.{IsNonDecreasingBy-from_sort_by_key}
 use Rattle.std.proofs.lemmas.List.{get_or_default}
 use Rattle.std.proofs.lemmas.Result.{err_from_is_err_and}
+use Rattle.set_intervals.specs.Pairs.{SameValues}
+use Rattle.set_intervals.specs.steps.Pieces.{IsSeparate}
 use Rattle.set_intervals.proofs.PairLaws.{clash_of, same_more, adds_take, same_permutation, first_value_holds}
 use Rattle.set_intervals.proofs.PieceLaws.{one_answer, no_clash}
 use Rattle.set_intervals.proofs.table.Intervals.build.Goals as goal
@@ -31,13 +33,17 @@ loop-range-preserved g c =
 
 pub returns-clause-same : goal.returns-clause-same
 returns-clause-same g c =
+    let pairs = c.args.pairs.now in
     let xs = c.deref-range-items.result.now in
     let moved = subst (λ l. IsPermutation c.in_ok-sorted.sorted.items l) (sym c.deref-range-items.ensures.value) c.sort_unstable_by_key.ensures.permutation in
-    same_permutation _ xs c.args.pairs.now c.loop-range.range-index c.loop-range-test.false c.loop-range.invariant.same (subst (λ l. IsPermutation l xs) c.in_ok-sorted.ensures moved)
+    subst (λ t. SameValues t pairs) (sym c.in_ok-of.ensures)
+    (same_permutation _ xs pairs c.loop-range.range-index c.loop-range-test.false c.loop-range.invariant.same (subst (λ l. IsPermutation l xs) c.in_ok-sorted.ensures moved))
 
 pub returns-clause-first_values : goal.returns-clause-first_values
 returns-clause-first_values g c = λ key.
-    one_answer _ _ c.loop-range.invariant.table.separate (returns-clause-same g c) key _ _ (first_value_holds _ key) (first_value_holds _ key)
+    let separate = subst IsSeparate (sym c.in_ok-of.ensures) c.loop-range.invariant.table.separate in
+    one_answer _ _ separate (returns-clause-same g c) key _ _ (first_value_holds _ key) (first_value_holds _ key)
 
 pub returns-clause-agrees : goal.returns-clause-agrees
-returns-clause-agrees g c = no_clash _ _ c.loop-range.invariant.table.separate (returns-clause-same g c)
+returns-clause-agrees g c =
+    no_clash _ _ (subst IsSeparate (sym c.in_ok-of.ensures) c.loop-range.invariant.table.separate) (returns-clause-same g c)

@@ -1,12 +1,20 @@
-use Rattle.std.proofs.Common.{◌∙◌, subst}
+use Rattle.std.proofs.Common.{◌∙◌, sym, subst}
 use Rattle.std.specs.Option.{option_copied}
-use Rattle.set_intervals.specs.steps.Pieces.{IsTable}
+use Rattle.search_levels.specs.Levels.{Parts}
+use Rattle.set_intervals.specs.steps.Pieces.{IsTable, highs}
 use Rattle.set_intervals.proofs.PairLaws.{Says, first_value_holds, same_itself}
 use Rattle.set_intervals.proofs.PieceLaws.{one_answer}
 use Rattle.set_intervals.proofs.table.Intervals.find.Goals as goal
 
+pub find_in-requires : goal.find_in-requires
+find_in-requires g c = record {
+  table = subst IsTable (sym c.deref.ensures.value) c.self.invariant.0;
+  parts = subst (λ l. Parts (highs l) c.args.key c.part-from.result.0 c.part-from.result.1) (sym c.deref.ensures.value)
+      (c.part-from.ensures (highs c.self.inside.pieces.items) c.self.invariant.1);
+}
+
 pub returns-clause-first_values : goal.returns-clause-first_values
 returns-clause-first_values g c =
     let e = c.deref.ensures.value ∙ c.self.view_is in
-    let table = subst IsTable c.self.view_is c.self.invariant in
+    let table = subst IsTable c.self.view_is c.self.invariant.0 in
     one_answer _ _ table.separate (same_itself _) c.args.key _ _ (subst (λ l. Says l c.args.key (option_copied c.find_in.result)) e c.find_in.ensures) (first_value_holds _ c.args.key)
