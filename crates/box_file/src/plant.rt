@@ -174,6 +174,18 @@ fn plant_of(alloc: Global, lines: &[Line]) -> Result<Plant, AllocError>
     })
 }
 
+/// The index of each interface.
+fn indexes_of(alloc: Global, interfaces: &[Interface]) -> Result<Vec<IfIndex>, AllocError>
+    ensures { IfOk result (λ found.
+        found.items ≡ map (λ i. i.index) (map interface_of interfaces.now)) }
+{
+    let mut found = Vec::new(alloc);
+    for interface in interfaces {
+        found.push(interface.index)?;
+    }
+    Ok(found)
+}
+
 /// The first interface with this address.
 fn find_by_address(interfaces: &[Interface], address: u32) -> Option<&Interface>
     ensures { option_map (λ i. interface_of i.now) result
@@ -289,6 +301,18 @@ impl Plant {
     {
         let interface = find_by_index(&self.interfaces, index)?;
         Some(&interface.name)
+    }
+
+    /// The indexes of the interfaces, one for each `interface` line, in text order.
+    ///
+    /// # Errors
+    ///
+    /// An allocation failed.
+    pub fn indexes(&self, alloc: Global) -> Result<Vec<IfIndex>, AllocError>
+        ensures { IfOk result (λ indexes.
+            indexes.items ≡ map (λ i. i.index) self.now.interfaces) }
+    {
+        indexes_of(alloc, &self.interfaces)
     }
 
     /// The interface by which packets are received where the capture names none.

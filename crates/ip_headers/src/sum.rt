@@ -1,7 +1,8 @@
 //! The Internet checksum's ones' complement sum (RFC 1071).
-ghost use Rattle.std.specs.Prelude.{◌≡◌, ◌+◌, All, length};
+ghost use Rattle.std.specs.Prelude.{◌≡◌, ◌+◌, ◌<◌, ℕ, All, length};
 ghost use Rattle.ip_headers.specs.Sum.{words_sum, ones_sum_of, ones_add, sum_with_carries, folded};
 
+use byteorder::{BigEndian, ByteOrder};
 use std::simd::prelude::*;
 
 /// How many bytes are summed at a time, one in each SIMD lane.
@@ -19,10 +20,19 @@ pub fn ones_sum(bytes: &[u8]) -> u16
     let mut sum = 0;
     let mut rest = bytes;
     while let Some((block, others)) = rest.split_at_checked(BLOCK) {
-        sum = add(sum, fold(block_sum(block)));
+        sum = reduced(sum) + u64::from(block_sum(block));
         rest = others;
     }
-    add_bytes(sum, rest)
+    add_words(sum, rest)
+}
+
+/// A smaller number with the same ones' complement sum (2^32 is congruent to 1 modulo 65535).
+fn reduced(sum: u64) -> u64
+    requires { sum < 8589934592 }
+    ensures small { result < 4294967297 }
+    ensures same { (more : ℕ) → folded (result + more) ≡ folded (sum + more) }
+{
+    sum / 4_294_967_296 + sum % 4_294_967_296
 }
 
 /// The sum of a block's eight words without reduction, each byte in a lane of its own.
@@ -40,7 +50,7 @@ fn block_sum(block: &[u8]) -> u32
 }
 
 /// Folds the carries in (end-around carry).
-fn fold(sum: u32) -> u16
+fn fold(sum: u64) -> u16
     ensures { result ≡ folded sum }
 {
     if sum == 0 {
@@ -48,6 +58,20 @@ fn fold(sum: u32) -> u16
     } else {
         ((sum - 1) % 65535 + 1) as u16
     }
+}
+
+/// Adds these bytes to the sum, two words at a time, and folds it.
+fn add_words(start: u64, bytes: &[u8]) -> u16
+    requires { start < 8589934592 }
+    ensures { result ≡ folded (start + words_sum bytes.now) }
+{
+    let mut sum = start;
+    let mut rest = bytes;
+    while let Some((words, others)) = rest.split_at_checked(4) {
+        sum = reduced(sum) + u64::from(BigEndian::read_u32(words));
+        rest = others;
+    }
+    add_bytes(fold(sum), rest)
 }
 
 /// Adds these bytes to the sum, the first of them as a high byte.

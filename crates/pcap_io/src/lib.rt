@@ -12,6 +12,7 @@ mod read_buffer;
 mod sink;
 mod slow;
 mod whole;
+mod write_buffer;
 
 pub use capture::{Capture, Record};
 pub use counted::Counted;

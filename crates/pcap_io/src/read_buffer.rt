@@ -131,7 +131,7 @@ impl ReadBuffer {
 }
 
 /// So many zeros, with room for no more.
-fn zeros(alloc: Global, count: usize) -> Result<Vec<u8>, AllocError>
+pub(crate) fn zeros(alloc: Global, count: usize) -> Result<Vec<u8>, AllocError>
     ensures whole { IfOk result (λ bytes. vec_len bytes ≡ count) }
     ensures exact { IfOk result (λ bytes. vec_capacity bytes ≡ count) }
 {

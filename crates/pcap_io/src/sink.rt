@@ -9,7 +9,7 @@ ghost use Rattle.pcap_io.specs.Sll2 as Sll2;
 
 use crate::counted::Counted;
 use crate::whole::{DeviceFailed, write_whole};
-use arrayvec::ArrayVec;
+use crate::write_buffer::WriteBuffer;
 use byteorder::{ByteOrder, LittleEndian};
 use std::alloc::{AllocError, Global};
 use std::io::Write;
@@ -29,9 +29,6 @@ const RECORD_HEADER_BYTES: usize = 16;
 
 /// The length of an SLL2 header, in bytes.
 const LINK_HEADER_BYTES: usize = 20;
-
-/// The size of the buffer in bytes: more than the largest record.
-const BUFFER_BYTES: usize = 131_072;
 
 /// A packet that leaves the box.
 #[derive(Clone, Copy)]
@@ -82,8 +79,7 @@ impl From<AllocError> for SinkError {
 /// dropped writes nothing more.
 #[derive(Drop)]
 pub struct Sink {
-    /// Of constant size: it can't grow.
-    buffered: Box<ArrayVec<u8, BUFFER_BYTES>>,
+    buffered: WriteBuffer,
 }
 
 impl Model for Sink {
@@ -91,7 +87,7 @@ impl Model for Sink {
 
     ghost Value = { SinkState };
 
-    ghost view = { λ s. record { buffered = s.buffered.value.items } };
+    ghost view = { λ s. record { buffered = s.buffered } };
 }
 
 impl Sink {
@@ -113,7 +109,7 @@ impl Sink {
         ensures writes { writer.new.writes ≤ writer.old.writes + length sll2_header }
         ensures flushes { writer.new.flushes ≡ writer.old.flushes }
     {
-        let buffered = Box::new(alloc, ArrayVec::new()).map_err(AllocError::from)?;
+        let buffered = WriteBuffer::new(alloc)?;
         write_whole(writer, &HEADER)?;
         Ok(Sink { buffered })
     }
@@ -141,12 +137,12 @@ impl Sink {
         ensures flushes { writer.new.flushes ≡ writer.old.flushes }
     {
         let length = RECORD_HEADER_BYTES + LINK_HEADER_BYTES + leaving.packet.len();
-        if BUFFER_BYTES - self.buffered.len() < length {
+        if self.buffered.room() < length {
             write_whole(writer, self.buffered.as_slice())?;
             self.buffered.clear();
         }
-        append(&mut self.buffered, &headers(leaving));
-        append(&mut self.buffered, leaving.packet);
+        self.buffered.append(&headers(leaving));
+        self.buffered.append(leaving.packet);
         Ok(())
     }
 
@@ -167,7 +163,7 @@ impl Sink {
         ensures writes { writer.new.writes ≤ writer.old.writes + length self.old.buffered }
         ensures flushes { writer.new.flushes ≡ writer.old.flushes }
     {
-        if self.buffered.is_empty() {
+        if self.buffered.as_slice().is_empty() {
             return Ok(());
         }
         write_whole(writer, self.buffered.as_slice())?;
@@ -200,14 +196,6 @@ impl Sink {
         self.buffered.clear();
         Ok(())
     }
-}
-
-/// Appends bytes for which there is room.
-fn append(buffered: &mut ArrayVec<u8, BUFFER_BYTES>, bytes: &[u8])
-    requires { length buffered.old.items + length bytes.now ≤ buffer.BUFFER_BYTES }
-    ensures { buffered.new.items ≡ buffered.old.items ++ bytes.now }
-{
-    buffered.try_extend_from_slice(bytes).unwrap();
 }
 
 /// The record's header and the link header, which precede the packet.

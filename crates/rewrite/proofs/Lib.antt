@@ -12,3 +12,4 @@ pub mod Between
 pub mod TransportSums
 pub mod Exchanged
 pub mod InnerDatagram
+mod OwnEndpoints

@@ -151,7 +151,7 @@ pub record Behind (start : ℕ) (p t : List ℕ) : Type 0 where
   pub bytes : (k : ℕ) → payload_at start p ≤ k → get_or t k 0 ≡ get_or p k 0
   pub small : (k : ℕ) → payload_at start p ≤ k → get_or t k 0 < 256
 
-timed_behind : (start : ℕ) (p : List ℕ) (from to ttl : ℕ) → IsDatagram start p → Behind start p (timed start p from to ttl)
+pub timed_behind : (start : ℕ) (p : List ℕ) (from to ttl : ℕ) → IsDatagram start p → Behind start p (timed start p from to ttl)
 timed_behind start p from to ttl d =
     let t = timed start p from to ttl in
     let past : (k : ℕ) → payload_at start p ≤ k → get_or t k 0 ≡ get_or p k 0 =
@@ -169,18 +169,18 @@ word_behind : (start : ℕ) (p t : List ℕ) (k : ℕ) → Behind start p t → 
 word_behind start p t k b le = rw (b.bytes k le, b.bytes (k + 1) (omega (arith, le))) refl
 
 -- a word that stays is as if it were written
-kept_behind : (start : ℕ) (p t : List ℕ) (k : ℕ) → Behind start p t → payload_at start p ≤ k → with_u16 t k (u16_at p k) ≡ t
+pub kept_behind : (start : ℕ) (p t : List ℕ) (k : ℕ) → Behind start p t → payload_at start p ≤ k → with_u16 t k (u16_at p k) ≡ t
 kept_behind start p t k b le =
     word_kept t k (u16_at p k) (b.small k le) (b.small (k + 1) (omega (arith, le))) (sym (word_behind start p t k b le))
 
-ports_kept_behind : (start : ℕ) (p t : List ℕ) → Behind start p t
+pub ports_kept_behind : (start : ℕ) (p t : List ℕ) → Behind start p t
     → with_ports (payload_at start p) t (u16_at p (payload_at start p)) (u16_at p (payload_at start p + 2)) ≡ t
 ports_kept_behind start p t b =
     ports_kept t (payload_at start p) _ _ b.small (sym (word_behind start p t (payload_at start p) b (omega arith)))
     (sym (word_behind start p t (payload_at start p + 2) b (omega arith)))
 
 -- a word past two ports that were written
-kept_past_ports : (start : ℕ) (p t : List ℕ) (from to k : ℕ) → Behind start p t → payload_at start p + 4 ≤ k
+pub kept_past_ports : (start : ℕ) (p t : List ℕ) (from to k : ℕ) → Behind start p t → payload_at start p + 4 ≤ k
     → with_u16 (with_ports (payload_at start p) t from to) k (u16_at p k) ≡ with_ports (payload_at start p) t from to
 kept_past_ports start p t from to k b le =
     let offset = payload_at start p in
@@ -192,7 +192,7 @@ kept_past_ports start p t from to k b le =
     λ j past. rw (same j past ∙ sym (b.bytes j (omega (arith, past)))) (b.small j (omega (arith, past))) in
     word_kept now k (u16_at p k) (small k le) (small (k + 1) (omega (arith, le))) (rw (same k le, same (k + 1) (omega (arith, le))) refl)
 
-kept_past_identifier : (start : ℕ) (p t : List ℕ) (number : ℕ) → Behind start p t
+pub kept_past_identifier : (start : ℕ) (p t : List ℕ) (number : ℕ) → Behind start p t
     → with_u16 (with_u16 t (payload_at start p + 4) number) (payload_at start p + 2) (u16_at p (payload_at start p + 2))
     ≡ with_u16 t (payload_at start p + 4) number
 kept_past_identifier start p t number b =
@@ -208,7 +208,7 @@ kept_past_identifier start p t number b =
     (rw (low ∙ sym (b.bytes (offset + 2 + 1) (omega arith))) (b.small (offset + 2 + 1) (omega arith)))
     (rw (high, low) refl)
 
-abbrev carried_at : ℕ → List ℕ → TransportFields
+abbrev pub carried_at : ℕ → List ℕ → TransportFields
 carried_at start p = transport_fields_of (protocol_at start p) (drop (payload_at start p) p)
 
 -- what each protocol needs

@@ -1,7 +1,7 @@
 //! The fields of a datagram that a change may replace.
 ghost use Rattle.std.specs.Prelude.{◌≡◌, ◌+◌, ◌<◌, ◌≤◌, ℕ, drop, length, slice_index};
 ghost use Rattle.ip_headers.specs.Header.{payload_at, header_len};
-ghost use Rattle.rewrite.specs.steps.Fields.{address_change, transport_fields_of, transport_words, changed_transport_fields, changed_fields, fields_at, fields_change, identifier_named, len_of, port_change, ports_named, tcp_checksum_of, ttl_change, with_fields, HasFields};
+ghost use Rattle.rewrite.specs.steps.Fields.{address_change, keeps_endpoints, keeps_numbers, transport_fields_of, transport_words, changed_transport_fields, changed_fields, fields_at, fields_change, identifier_named, len_of, port_change, ports_named, tcp_checksum_of, ttl_change, with_fields, with_ttl_field, HasFields};
 
 use crate::change::{Change, PortsOrIdentifier};
 use crate::checksum::ChecksumDelta;
@@ -80,6 +80,29 @@ impl Fields {
             checksum: header.update(self.checksum),
             transport: self.transport.changed(change.numbers, addresses),
         }
+    }
+
+    /// Whether a change leaves addresses, ports and identifier as they are.
+    pub(crate) fn keeps_endpoints(&self, change: &Change) -> bool
+        ensures { result ≡ keeps_endpoints change.now self.now }
+    {
+        change.source.unwrap_or(self.source) == self.source
+            && change.destination.unwrap_or(self.destination) == self.destination
+            && self.transport.keeps_numbers(change.numbers)
+    }
+
+    /// Writes another TTL, or the same, into the datagram that begins at `start`, and updates the
+    /// header checksum.
+    pub(crate) fn write_ttl(&self, packet: &mut [u8], start: usize, ttl: Option<u8>)
+        requires { start + 12 ≤ length packet.old }
+        ensures { packet.new ≡ with_ttl_field start packet.old self.now ttl }
+    {
+        let ttl = ttl.unwrap_or(self.ttl);
+        // The TTL is the high byte of its word.
+        let word = ChecksumDelta::word(self.ttl as u16 * 256, ttl as u16 * 256);
+        let mut parts = PartsMut::new(packet, start);
+        parts.set_ttl(ttl);
+        parts.set_header_checksum(word.update(self.checksum));
     }
 
     /// The changes of words between these fields and new ones.
@@ -169,6 +192,20 @@ impl TransportFields {
                 checksum: BigEndian::read_u16(&message[2..]),
             },
             _ => TransportFields::Other,
+        }
+    }
+
+    /// Whether these ports, or this identifier, are the ones that it has.
+    fn keeps_numbers(&self, numbers: Option<PortsOrIdentifier>) -> bool
+        ensures { result ≡ keeps_numbers numbers self.now }
+    {
+        match *self {
+            TransportFields::Tcp { from, to, .. } => named_ports(numbers, from, to) == (from, to),
+            TransportFields::Udp { from, to, .. } => named_ports(numbers, from, to) == (from, to),
+            TransportFields::Echo { identifier, .. } => {
+                named_identifier(numbers, identifier) == identifier
+            }
+            TransportFields::Other => true,
         }
     }
 

@@ -74,7 +74,11 @@ fn rewrite(packet: &mut [u8], start: usize, change: &Change)
     ensures { packet.new ≡ update_checksums start packet.old
         (replaced start packet.old change.now) }
 {
-    Fields::read(packet, start)
-        .changed(change)
-        .write(packet, start);
+    let fields = Fields::read(packet, start);
+    // Most packets that are forwarded aren't translated.
+    if fields.keeps_endpoints(change) {
+        fields.write_ttl(packet, start, change.ttl);
+    } else {
+        fields.changed(change).write(packet, start);
+    }
 }

@@ -3,3 +3,4 @@ mod Arrivals
 mod Confirmations
 mod Processing
 mod Extending
+mod FoundInterfaces

@@ -1,3 +1,4 @@
 pub mod Steps
+pub mod Interfaces
 pub mod Confirming
 pub mod Processing

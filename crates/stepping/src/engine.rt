@@ -1,5 +1,5 @@
 //! The engine: a box that processes one record at a time.
-ghost use Rattle.std.specs.Prelude.{◌≡◌, ◌<◌, ◌≤◌, ◌+◌, ℕ, [], ◌∷◌, List, length, map, true, IsOk, IsTrue, IfOk, IfSome, OnErr, OnOk};
+ghost use Rattle.std.specs.Prelude.{◌≡◌, ◌<◌, ◌≤◌, ◌+◌, ℕ, [], ◌∷◌, List, length, map, true, false, IsOk, IsTrue, IfOk, IfSome, OnErr, OnOk};
 ghost use Rattle.conntrack.specs.ConntrackEntry.{connection_of};
 ghost use Rattle.pcap_io.specs.Sll2.{IsSent, sent};
 ghost use Rattle.rule_check.specs.WellFormed.{WellFormed};
@@ -140,6 +140,9 @@ impl<T: Tracker> Engine<T> {
         ensures err { OnErr result (self.new ≡ self.old) }
         // After `reserve` it can't fail, whatever the record.
         ensures ready { IsTrue self.old.ready → IsOk result }
+        // What is reserved lasts until a connection begins.
+        ensures lasts { OnOk result (IfSome self.new.newest (λ newest.
+            newest.begun ≡ false → IsTrue self.new.ready)) }
     {
         // The connections held are known but for their ids.
         independent_of_ids();

@@ -8,7 +8,6 @@ ghost use Rattle.translation.specs.CtInfos.{untranslated};
 ghost use Rattle.stepping.specs.Paths.{AfterRouting, ForwardAndPostrouting, Hooks, Prerouting, Routing};
 ghost use Rattle.stepping.specs.steps.Steps.{HasRoom, Spends, after_routing_cost, hooks_cost, path_state, prerouting_cost, setup_in, step_result};
 
-use crate::interfaces::interface_facts;
 use crate::nat::{translate_destination, translate_source};
 use crate::setup::Setup;
 use crate::state::PacketState;
@@ -87,7 +86,7 @@ fn route(setup: &Setup, state: &mut PacketState) -> Result<(), Cause>
         return Err(Cause::Ttl);
     }
     state.facts.packet.ttl -= 1;
-    state.facts.output = Some(interface_facts(plant, interface));
+    state.facts.output = Some(setup.output_interface(interface));
     Ok(())
 }
 

@@ -1,28 +1,54 @@
 //! The interfaces of a box, as rules read them.
-ghost use Rattle.std.specs.Prelude.{◌≡◌};
-ghost use Rattle.std.specs.Option.{option_map};
-ghost use Rattle.box_file.specs.Box.{name_of};
+ghost use Rattle.std.specs.Prelude.{◌≡◌, find, IfOk, map};
 ghost use Rattle.stepping.specs.Carried.{interface_facts};
+ghost use Rattle.stepping.specs.steps.Interfaces.{interfaces_of, is_at};
 
 use box_file::Plant;
 use nft_values::name_number;
 use rule_meaning::Interface;
+use std::alloc::{AllocError, Global};
 
-/// The interface of this index, if the box has it.
-#[inline(always)]
-pub fn interface_of(plant: &Plant, index: u32) -> Option<Interface>
-    ensures { result ≡ option_map (λ name. interface_facts plant.now index)
-        (name_of plant.now index) }
+/// The interfaces of a box with their names laid out, one for each `interface` line of its file.
+///
+/// # Errors
+/// An allocation failed.
+pub fn interfaces_of(alloc: Global, plant: &Plant) -> Result<Vec<Interface>, AllocError>
+    ensures { IfOk result (λ found. found.items ≡ interfaces_of plant.now) }
 {
-    let name = plant.name(index)?;
-    Some(Interface {
-        index,
-        name: name_number(name),
-    })
+    let indexes = plant.indexes(alloc)?;
+    interfaces_at(alloc, plant, &indexes)
+}
+
+fn interfaces_at(
+    alloc: Global,
+    plant: &Plant,
+    indexes: &[u32],
+) -> Result<Vec<Interface>, AllocError>
+    ensures { IfOk result (λ found. found.items ≡ map (interface_facts plant.now) indexes.now) }
+{
+    let mut found = Vec::with_capacity(alloc, indexes.len())?;
+    for index in indexes {
+        found.push(interface_facts(plant, *index))?;
+    }
+    Ok(found)
+}
+
+/// The first of these interfaces that has this index.
+#[inline(always)]
+pub fn find_interface(interfaces: &[Interface], index: u32) -> Option<Interface>
+    ensures { result ≡ find (is_at index) interfaces.now }
+{
+    let mut rest = interfaces;
+    while let [interface, others @ ..] = rest {
+        if interface.index == index {
+            return Some(*interface);
+        }
+        rest = others;
+    }
+    None
 }
 
 /// The interface of this index, which the box has.
-#[inline(always)]
 pub fn interface_facts(plant: &Plant, index: u32) -> Interface
     ensures { result ≡ interface_facts plant.now index }
 {

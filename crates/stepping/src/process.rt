@@ -1,6 +1,7 @@
 //! Processes a record.
 ghost use Rattle.std.specs.Prelude.{◌≡◌, IsTrue, false, [], ℕ, Some};
 ghost use Rattle.history.specs.declared.outcome.Outcome.TheVariants as outcomes;
+ghost use Rattle.ip_headers.specs.Header.{transport_of};
 ghost use Rattle.conntrack.specs.ConntrackEntry.{IsNoneLater, live_at};
 ghost use Rattle.hook_runs.specs.Stages.{total_stage_cost};
 ghost use Rattle.translation.specs.declared.ct_info.CtInfo.TheVariants.{Untracked};
@@ -104,6 +105,7 @@ fn process_packet<T: Tracker>(
     requires ready { IsTrue connections.old.has_room }
     requires none { events.old.events ≡ [] }
     requires not_looked_up { state.old.info ≡ Untracked }
+    requires transport { state.old.facts.packet.transport ≡ transport_of view.now.packet.now }
     ensures path { Path (setup_in setup.now.hooks) connections.old.held view.now.packet.now
         (path_state state.old events.old) (step_result result (path_state state.new events.new)) }
     ensures follows { Follows now view.now.packet.now
@@ -115,8 +117,8 @@ fn process_packet<T: Tracker>(
 {
     // The stages together have no more events than are reserved.
     setup.hooks.costs();
+    let flags = flags_in(state.facts.packet.transport);
     setup.run(HookStage::PreroutingRaw, state, events)?;
-    let flags = flags_in(view.transport());
     let belonging = look_up(connections, view, flags, now, state);
     run_hooks(setup, connections.mappings(), state, events)?;
     confirm(connections, belonging, flags, now, state)

@@ -5,11 +5,13 @@ ghost use Rattle.nft_tree.specs.Tree.{TableTree};
 ghost use Rattle.rule_paths.specs.Paths.{AreAllCosts, Caller, ruleset_cost};
 ghost use Rattle.hook_runs.specs.Stages.{total_stage_cost, stage_cost};
 ghost use Rattle.stepping.specs.Carried.{input_interface, interface_facts};
+ghost use Rattle.box_file.specs.Box.{name_of};
 ghost use Rattle.stepping.specs.Representing.{setup_of};
 ghost use Rattle.stepping.specs.Paths.{RunsStage};
+ghost use Rattle.stepping.specs.steps.Interfaces.{interfaces_of};
 ghost use Rattle.stepping.specs.steps.Steps.{HasRoom, Spends, path_state, setup_in, step_result};
 
-use crate::interfaces::{interface_facts, interface_of};
+use crate::interfaces::{find_interface, interface_facts, interfaces_of};
 use crate::state::PacketState;
 use box_file::Plant;
 use history::Cause;
@@ -23,6 +25,9 @@ use std::alloc::{AllocError, Global};
 pub struct Setup {
     pub hooks: HookRuns,
     pub entering: Interface,
+    /// The interfaces of the box.
+    interfaces: Vec<Interface>,
+    pub ghost laid_out: { interfaces.items ≡ interfaces_of hooks.plant },
     pub ghost enters: { entering ≡ interface_facts hooks.plant hooks.plant.entering },
     pub ghost costs: { (cost : TableTree → Caller → ℕ) → AreAllCosts hooks.rules cost
         → total_stage_cost hooks ≤ ruleset_cost cost hooks.rules },
@@ -40,7 +45,13 @@ impl Setup {
         let (hooks, events) = HookRuns::new(alloc, checked)?;
         let plant = hooks.checked().plant();
         let entering = interface_facts(plant, plant.entering());
-        Ok((Setup { hooks, entering }, events))
+        let interfaces = interfaces_of(alloc, plant)?;
+        let setup = Setup {
+            hooks,
+            entering,
+            interfaces,
+        };
+        Ok((setup, events))
     }
 
     /// The box file.
@@ -60,8 +71,29 @@ impl Setup {
             input ≡ interface_facts self.now.hooks.plant input.index) }
     {
         match link_interface {
-            Some(index) => interface_of(self.plant(), index),
+            Some(index) => self.interface(index),
             None => Some(self.entering),
+        }
+    }
+
+    /// The interface of this index, if the box has it.
+    #[inline(always)]
+    #[tactic(auto, using(crate::proofs::FoundInterfaces::found))]
+    fn interface(&self, index: u32) -> Option<Interface>
+        ensures { result ≡ option_map (λ name. interface_facts self.now.hooks.plant index)
+            (name_of self.now.hooks.plant index) }
+    {
+        find_interface(&self.interfaces, index)
+    }
+
+    /// The output interface of this index, which the box has.
+    #[inline(always)]
+    pub fn output_interface(&self, index: u32) -> Interface
+        ensures { result ≡ interface_facts self.now.hooks.plant index }
+    {
+        match self.interface(index) {
+            Some(interface) => interface,
+            None => interface_facts(self.plant(), index),
         }
     }
 

@@ -5,7 +5,7 @@ ghost use Rattle.translation.specs.declared.ct_info.CtInfo.TheVariants.{New};
 ghost use Rattle.translation.specs.CtInfos.{direction_of, new_connection_of, with_nat_status, error_ct_info, incoming, known_ct_facts, tracked_connection, outgoing, ct_facts_of, ct_info_by};
 
 use conntrack::{Belonging, ConnectionRef, Direction};
-use ip_headers::{Kind, Mapping, Tuple};
+use ip_headers::{Endpoint, Kind, Mapping, Tuple};
 use rule_meaning::{ConnectionFacts, CtFacts, CtState};
 
 /// The connection that a packet in state NEW will begin.
@@ -154,6 +154,28 @@ pub(crate) fn outgoing(connection: &TrackedConnection) -> Tuple
     match connection.direction {
         Direction::Original => connection.reply.inverse(),
         Direction::Reply => connection.original.inverse(),
+    }
+}
+
+/// The source of the packet's direction after NAT.
+#[inline(always)]
+pub(crate) fn outgoing_source(connection: &TrackedConnection) -> Endpoint
+    ensures { result ≡ (outgoing connection.now).source }
+{
+    match connection.direction {
+        Direction::Original => connection.reply.destination,
+        Direction::Reply => connection.original.destination,
+    }
+}
+
+/// The destination of the packet's direction after NAT.
+#[inline(always)]
+pub(crate) fn outgoing_destination(connection: &TrackedConnection) -> Endpoint
+    ensures { result ≡ (outgoing connection.now).destination }
+{
+    match connection.direction {
+        Direction::Original => connection.reply.source,
+        Direction::Reply => connection.original.source,
     }
 }
 

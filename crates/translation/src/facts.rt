@@ -1,8 +1,11 @@
 //! What rules read of a packet after NAT.
 ghost use Rattle.std.specs.Prelude.{◌≡◌};
-ghost use Rattle.translation.specs.CtInfos.{facts_after_source_nat, facts_after_destination_nat, outer_destination, outer_source, with_source, with_destination, ct_facts_after_nat, with_destination_port, with_source_port};
+ghost use Rattle.translation.specs.declared.ct_info.CtInfo.TheVariants.{New};
+ghost use Rattle.translation.specs.CtInfos.{facts_after_source_nat, facts_after_destination_nat, outer_destination, outer_source, with_source, with_destination, ct_facts_after_nat};
 
-use crate::ct_info::{CtInfo, TrackedConnection, incoming, outgoing};
+use crate::ct_info::{
+    CtInfo, NewConnection, TrackedConnection, incoming, outgoing_destination, outgoing_source,
+};
 use ip_headers::{Endpoint, Transport};
 use rule_meaning::{CtFacts, Facts, Packet};
 
@@ -11,22 +14,20 @@ use rule_meaning::{CtFacts, Facts, Packet};
 pub fn update_destination(info: &CtInfo, facts: &mut Facts)
     ensures { facts.new ≡ facts_after_destination_nat info.now facts.old }
 {
-    facts.packet = match info {
-        CtInfo::Tracked(connection) => with_destination(
-            outgoing(connection).destination,
-            facts.packet,
+    match info {
+        CtInfo::Tracked(connection) => set_destination(
+            outgoing_destination(connection),
+            &mut facts.packet,
         ),
-        CtInfo::Related(connection) => Packet {
-            destination: outer_destination(connection, facts.packet.destination),
-            ..facts.packet
-        },
-        CtInfo::New(new_connection) => with_destination(
-            new_connection.tuple.destination,
-            facts.packet,
-        ),
-        CtInfo::Invalid | CtInfo::Untracked => facts.packet,
-    };
-    facts.ct = ct_facts_after_nat(info, facts.ct);
+        CtInfo::Related(connection) => {
+            facts.packet.destination = outer_destination(connection, facts.packet.destination);
+        }
+        CtInfo::New(new_connection) => {
+            set_destination(new_connection.tuple.destination, &mut facts.packet);
+            set_nat_status(new_connection, &mut facts.ct);
+        }
+        CtInfo::Invalid | CtInfo::Untracked => {}
+    }
 }
 
 /// Updates the facts after source NAT.
@@ -34,27 +35,27 @@ pub fn update_destination(info: &CtInfo, facts: &mut Facts)
 pub fn update_source(info: &CtInfo, facts: &mut Facts)
     ensures { facts.new ≡ facts_after_source_nat info.now facts.old }
 {
-    facts.packet = match info {
-        CtInfo::Tracked(connection) => with_source(outgoing(connection).source, facts.packet),
-        CtInfo::Related(connection) => Packet {
-            source: outer_source(connection, facts.packet.source),
-            ..facts.packet
-        },
-        CtInfo::New(new_connection) => with_source(new_connection.tuple.source, facts.packet),
-        CtInfo::Invalid | CtInfo::Untracked => facts.packet,
-    };
-    facts.ct = ct_facts_after_nat(info, facts.ct);
+    match info {
+        CtInfo::Tracked(connection) => {
+            set_source(outgoing_source(connection), &mut facts.packet);
+        }
+        CtInfo::Related(connection) => {
+            facts.packet.source = outer_source(connection, facts.packet.source);
+        }
+        CtInfo::New(new_connection) => {
+            set_source(new_connection.tuple.source, &mut facts.packet);
+            set_nat_status(new_connection, &mut facts.ct);
+        }
+        CtInfo::Invalid | CtInfo::Untracked => {}
+    }
 }
 
-/// The conntrack facts after NAT: a new connection's NAT status follows its tuple.
-fn ct_facts_after_nat(info: &CtInfo, ct: CtFacts) -> CtFacts
-    ensures { result ≡ ct_facts_after_nat info.now ct }
+/// Sets the NAT status of a new connection, which follows its tuple.
+fn set_nat_status(new_connection: &NewConnection, ct: &mut CtFacts)
+    ensures { ct.new ≡ ct_facts_after_nat (New new_connection.now) ct.old }
 {
-    match (info, ct) {
-        (CtInfo::New(new_connection), CtFacts::Known(connection)) => {
-            CtFacts::Known(new_connection.with_nat_status(connection))
-        }
-        (_, same) => same,
+    if let CtFacts::Known(connection) = *ct {
+        *ct = CtFacts::Known(new_connection.with_nat_status(connection));
     }
 }
 
@@ -63,7 +64,7 @@ pub(crate) fn outer_source(connection: &TrackedConnection, address: u32) -> u32
     ensures { result ≡ outer_source connection.now address }
 {
     if address == incoming(connection).source.address {
-        outgoing(connection).source.address
+        outgoing_source(connection).address
     } else {
         address
     }
@@ -74,66 +75,30 @@ pub(crate) fn outer_destination(connection: &TrackedConnection, address: u32) ->
     ensures { result ≡ outer_destination connection.now address }
 {
     if address == incoming(connection).destination.address {
-        outgoing(connection).destination.address
+        outgoing_destination(connection).address
     } else {
         address
     }
 }
 
-fn with_destination(to: Endpoint, packet: Packet) -> Packet
-    ensures { result ≡ with_destination to packet }
+fn set_destination(to: Endpoint, packet: &mut Packet)
+    ensures { packet.new ≡ with_destination to packet.old }
 {
-    Packet {
-        destination: to.address,
-        transport: with_destination_port(to.port, packet.transport),
-        ..packet
+    packet.destination = to.address;
+    match &mut packet.transport {
+        Transport::Tcp { destination, .. } => *destination = to.port,
+        Transport::Udp { destination, .. } => *destination = to.port,
+        Transport::Icmp { .. } | Transport::Other => {}
     }
 }
 
-fn with_source(from: Endpoint, packet: Packet) -> Packet
-    ensures { result ≡ with_source from packet }
+fn set_source(from: Endpoint, packet: &mut Packet)
+    ensures { packet.new ≡ with_source from packet.old }
 {
-    Packet {
-        source: from.address,
-        transport: with_source_port(from.port, packet.transport),
-        ..packet
-    }
-}
-
-fn with_destination_port(port: u16, transport: Transport) -> Transport
-    ensures { result ≡ with_destination_port port transport }
-{
-    match transport {
-        Transport::Tcp { source, flags, .. } => Transport::Tcp {
-            source,
-            destination: port,
-            flags,
-        },
-        Transport::Udp { source, .. } => Transport::Udp {
-            source,
-            destination: port,
-        },
-        same => same,
-    }
-}
-
-fn with_source_port(port: u16, transport: Transport) -> Transport
-    ensures { result ≡ with_source_port port transport }
-{
-    match transport {
-        Transport::Tcp {
-            destination,
-            flags,
-            ..
-        } => Transport::Tcp {
-            source: port,
-            destination,
-            flags,
-        },
-        Transport::Udp { destination, .. } => Transport::Udp {
-            source: port,
-            destination,
-        },
-        same => same,
+    packet.source = from.address;
+    match &mut packet.transport {
+        Transport::Tcp { source, .. } => *source = from.port,
+        Transport::Udp { source, .. } => *source = from.port,
+        Transport::Icmp { .. } | Transport::Other => {}
     }
 }

@@ -1,5 +1,5 @@
 -- The fields of a datagram that a change may replace, as numbers; the updates of the checksums over them.
-use Rattle.std.specs.Prelude.{ℕ, ◌+◌, ◌*◌, ◌/◌, ◌%◌, ◌≤◌, ◌==◌, ◌&&◌, ◌||◌, nat_le, List, length, drop}
+use Rattle.std.specs.Prelude.{Bool, true, ℕ, ◌+◌, ◌*◌, ◌/◌, ◌%◌, ◌≤◌, ◌==◌, ◌&&◌, ◌||◌, nat_le, List, length, drop}
 use Rattle.std.specs.Prelude.{slice_set, Option, Some, None, unwrap_or, if◌then◌else◌}
 use Rattle.std.specs.Option.{option_map}
 use Rattle.ip_headers.specs.Bytes.{byte_at, u16_at, u32_at, with_u16, with_u32}
@@ -117,6 +117,32 @@ changed_fields change fields = record {
       fields.checksum;
   transport = changed_transport_fields change.numbers (address_change fields change) fields.transport;
 }
+
+-- ---- a change of the TTL alone
+
+-- these ports, or this identifier, are the ones that it has
+abbrev pub keeps_numbers : Option PortsOrIdentifier → TransportFields → Bool
+keeps_numbers numbers (Tcp from to checksum) =
+    let ports = ports_named numbers from to in
+    (ports.0 == from) && (ports.1 == to)
+keeps_numbers numbers (Udp from to checksum) =
+    let ports = ports_named numbers from to in
+    (ports.0 == from) && (ports.1 == to)
+keeps_numbers numbers (Echo number checksum) = identifier_named numbers number == number
+keeps_numbers numbers Other = true
+
+-- addresses, ports and identifier stay
+abbrev pub keeps_endpoints : Change → Fields → Bool
+keeps_endpoints change fields =
+    (unwrap_or change.source fields.source == fields.source)
+    && ((unwrap_or change.destination fields.destination == fields.destination)
+    && keeps_numbers change.numbers fields.transport)
+
+-- the datagram with another TTL, and the header checksum updated for it
+abbrev pub with_ttl_field : ℕ → List ℕ → Fields → Option ℕ → List ℕ
+with_ttl_field start bytes fields ttl =
+    with_u16 (slice_set bytes (start + 8) (unwrap_or ttl fields.ttl)) (start + 10)
+    (updated_checksum (u16_change (fields.ttl * 256) (unwrap_or ttl fields.ttl * 256)) fields.checksum)
 
 -- ---- the changed words of a whole datagram
 

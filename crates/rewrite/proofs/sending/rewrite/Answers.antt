@@ -1,16 +1,26 @@
-use Rattle.std.proofs.Common.{ap, ◌∙◌, arith}
-use Rattle.rewrite.specs.steps.Fields.{changed_fields, with_fields}
+use Rattle.std.proofs.Common.{◌≡◌, ℕ, List, ap, sym, subst, ◌∙◌, true, arith}
+use Rattle.rewrite.specs.steps.Fields.{changed_fields, fields_at, keeps_endpoints, with_fields, with_ttl_field}
+use Rattle.rewrite.proofs.Covered.{IsDatagram}
+use Rattle.rewrite.proofs.OwnEndpoints.{own_endpoints}
 use Rattle.rewrite.proofs.Whole.{whole_is}
 use Rattle.rewrite.proofs.sending.rewrite.Goals as goal
 
-pub returns : goal.returns
-returns c =
+pub returns-then-keeps_endpoints : goal.returns-then-keeps_endpoints
+returns-then-keeps_endpoints c =
     let p = c.args.packet.now in
     let start = c.args.start in
     let change = c.args.change.now in
-    c.write.ensures ∙ ap (λ f. with_fields start p f) (c.changed.ensures ∙ ap (λ f. changed_fields change f) c.read.ensures.fields)
-    ∙ whole_is start p change (record {
-      small = c.read.ensures.bytes;
-      long = c.requires.long;
-      whole = omega (arith, c.requires.whole);
-    }) c.requires.whole
+    let d : IsDatagram start p = record { small = c.read-fields.ensures.bytes; long = c.requires.long; whole = omega (arith, c.requires.whole) } in
+    let keeps = ap (λ f. keeps_endpoints change f) (sym c.read-fields.ensures.fields) ∙ sym c.keeps_endpoints.ensures
+    ∙ c.if-keeps_endpoints.true in
+    c.write_ttl.ensures ∙ ap (λ f. with_ttl_field start p f change.ttl) c.read-fields.ensures.fields
+    ∙ own_endpoints start p change d c.requires.whole keeps ∙ whole_is start p change d c.requires.whole
+
+pub returns-else-keeps_endpoints : goal.returns-else-keeps_endpoints
+returns-else-keeps_endpoints c =
+    let p = c.args.packet.now in
+    let start = c.args.start in
+    let change = c.args.change.now in
+    let d : IsDatagram start p = record { small = c.read-fields.ensures.bytes; long = c.requires.long; whole = omega (arith, c.requires.whole) } in
+    c.write.ensures ∙ ap (λ f. with_fields start p f) (c.changed.ensures ∙ ap (λ f. changed_fields change f) c.read-fields.ensures.fields)
+    ∙ whole_is start p change d c.requires.whole

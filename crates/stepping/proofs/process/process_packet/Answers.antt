@@ -56,7 +56,7 @@ returns-clause-follows g c =
     let ct = c.run.new.state.facts.ct in
     let info : look.new.state.info ≡ looked_up_info ct old p =
     ap (λ (s : PathState). s.info) (look.ensures.step c.run.new.events) in
-    let flags = c.flags_in-flags.ensures ∙ ap flags_in c.transport.ensures in
+    let flags = c.flags_in-flags.ensures ∙ ap flags_in c.requires.transport in
     confirmed_follows p old c.args.now ct _ c.confirm.result (path_state c.run_hooks.new.state c.run_hooks.new.events)
     (c.in_ok-run_hooks.ensures.same ∙ ap untranslated info)
     (rw (flags, look.ensures.belonging, look.ensures.held, info) at c.confirm.ensures.confirms)

@@ -6,30 +6,27 @@ use Rattle.pcap_io.specs.Sll2.{sll2_record, sent}
 use Rattle.pcap_io.specs.Buffering.{AppendsBuffered}
 use Rattle.pcap_io.proofs.Parts.{drained, left_buffered, buffers_more}
 use Rattle.pcap_io.proofs.sink.Sink.put.Goals as goal
-use Rattle.pcap_io.proofs.sink.Sink.put.Goals.{then-len-length+in_ok-write_whole, else-len-length}
+use Rattle.pcap_io.proofs.sink.Sink.put.Goals.{then-room-length+in_ok-write_whole, else-room-length}
 
 pub returns-in_err-write_whole-clause-part : goal.returns-in_err-write_whole-clause-part
 returns-in_err-write_whole-clause-part g c =
     let p = err_from_is_err_and c.from_residual.result c.from_residual.ensures.1 in
-    let is = c.as_slice.ensures.value ∙ ap (λ v. v.items) c.deref-then-len-length.ensures
-    ∙ ap (λ v. v.buffered) c.self.view_is in
+    let is = c.as_slice.ensures ∙ ap (λ v. v.buffered) c.self.view_is in
     rw p.1 (part_first _ _ c.args.self.now.buffered (sll2_record (sent c.args.leaving.now)) (subst (AppendsPrefix _ _)
     is c.in_err-write_whole.ensures.part))
 
 pub returns-clause-ok : goal.returns-clause-ok
 returns-clause-ok g c =
     let a = g.W.Write.contents c.args.writer.now.inner in
-    let b = g.W.Write.contents c.if-len-length.writer.inner in
+    let b = g.W.Write.contents c.if-room-length.writer.inner in
     let old = c.args.self.now.buffered in
-    let mid = c.if-len-length.self-inside.buffered.value.items in
-    let so_far : AppendsBuffered old a b mid [] = elim c.if-len-length.branch [
-      | then-len-length+in_ok-write_whole w ↦ rw (w.writer-is, w.self-inside-is) (drained _ _ old w.as_slice.result.now _
-          w.in_ok-write_whole.ensures.ok (w.as_slice.ensures.value ∙ ap (λ v. v.items) w.deref-then-len-length.ensures
-          ∙ ap (λ v. v.buffered) c.self.view_is)
-          w.clear.ensures)
-      | else-len-length w ↦ rw (w.writer-is, w.self-inside-is) (left_buffered _ old _ (ap (λ v. v.buffered)
+    let mid = c.if-room-length.self-inside.buffered in
+    let so_far : AppendsBuffered old a b mid [] = elim c.if-room-length.branch [
+      | then-room-length+in_ok-write_whole w ↦ rw (w.writer-is, w.self-inside-is) (drained _ _ old w.as_slice.result.now _
+          w.in_ok-write_whole.ensures.ok (w.as_slice.ensures ∙ ap (λ v. v.buffered) c.self.view_is) w.clear.ensures)
+      | else-room-length w ↦ rw (w.writer-is, w.self-inside-is) (left_buffered _ old _ (ap (λ v. v.buffered)
           c.self.view_is))
     ] in
-    let all : c.append-2.new.buffered.items ≡ (mid ++ c.headers.result) ++ c.args.leaving.now.packet.now = cc in
-    buffers_more a b old mid c.headers.result c.args.leaving.now.packet.now c.append-2.new.buffered.items
+    let all : c.append-2.new.self ≡ (mid ++ c.headers.result) ++ c.args.leaving.now.packet.now = cc in
+    buffers_more a b old mid c.headers.result c.args.leaving.now.packet.now c.append-2.new.self
     (sll2_record (sent c.args.leaving.now)) so_far all c.headers.ensures.bytes

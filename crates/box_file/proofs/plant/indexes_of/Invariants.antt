@@ -1,0 +1,7 @@
+use Rattle.std.proofs.Common.{◌≡◌, map, take}
+use Rattle.box_file.specs.steps.Plant.{interface_of}
+use Rattle.box_file.proofs.plant.indexes_of.Given as goal
+
+abbrev pub invariant-loop-interface : goal.invariant-loop-interface
+invariant-loop-interface l =
+    l.found.items ≡ map (λ i. i.index) (map interface_of (take l.interface-index l.interfaces))

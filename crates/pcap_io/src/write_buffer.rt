@@ -1,0 +1,77 @@
+//! A write buffer of constant size.
+ghost use Rattle.std.specs.Prelude.{◌≡◌, ◌≤◌, ◌+◌, ◌++◌, [], length, IfOk};
+ghost use Rattle.pcap_io.specs.Buffering as buffer;
+
+use crate::read_buffer::zeros;
+use std::alloc::{AllocError, Global};
+use std::marker::Model;
+
+/// The size of the buffer in bytes: more than the largest record.
+pub const BUFFER_BYTES: usize = 131_072;
+
+/// Bytes that wait to be written.
+#[derive(Drop)]
+pub struct WriteBuffer {
+    /// Of constant length and capacity; the first `waiting` bytes wait.
+    bytes: Vec<u8>,
+    waiting: usize,
+}
+
+impl Model for WriteBuffer {
+    ghost use Rattle.std.specs.Prelude.{◌≡◌, ◌≤◌, ℕ, List, take, length, vec_capacity};
+    ghost use Rattle.pcap_io.specs.Buffering.{BUFFER_BYTES};
+
+    ghost Value = { List ℕ };
+
+    ghost view = { λ b. take b.waiting b.bytes.items };
+
+    ghost invariant = { λ b. (b.waiting ≤ length b.bytes.items)
+        × (length b.bytes.items ≡ BUFFER_BYTES) × (vec_capacity b.bytes ≡ BUFFER_BYTES) };
+}
+
+impl WriteBuffer {
+    /// An empty buffer.
+    pub fn new(alloc: Global) -> Result<Self, AllocError>
+        ensures { IfOk result (λ buffer. buffer ≡ []) }
+    {
+        Ok(WriteBuffer {
+            bytes: zeros(alloc, BUFFER_BYTES)?,
+            waiting: 0,
+        })
+    }
+
+    /// The bytes that wait.
+    #[inline(always)]
+    pub fn as_slice(&self) -> &[u8]
+        ensures { result.now ≡ self.now }
+    {
+        &self.bytes[..self.waiting]
+    }
+
+    /// How many more bytes fit.
+    #[inline(always)]
+    pub fn room(&self) -> usize
+        ensures { length self.now + result ≡ buffer.BUFFER_BYTES }
+    {
+        BUFFER_BYTES - self.waiting
+    }
+
+    /// Appends bytes for which there is room.
+    #[inline(always)]
+    pub fn append(&mut self, bytes: &[u8])
+        requires { length self.old + length bytes.now ≤ buffer.BUFFER_BYTES }
+        ensures { self.new ≡ self.old ++ bytes.now }
+    {
+        let end = self.waiting + bytes.len();
+        self.bytes[self.waiting..end].copy_from_slice(bytes);
+        self.waiting = end;
+    }
+
+    /// Lets all bytes go.
+    #[inline(always)]
+    pub fn clear(&mut self)
+        ensures { self.new ≡ [] }
+    {
+        self.waiting = 0;
+    }
+}

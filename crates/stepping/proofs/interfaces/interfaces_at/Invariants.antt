@@ -1,0 +1,6 @@
+use Rattle.std.proofs.Common.{◌≡◌, map, take}
+use Rattle.stepping.specs.Carried.{interface_facts}
+use Rattle.stepping.proofs.interfaces.interfaces_at.Given as goal
+
+abbrev pub invariant-loop-index : goal.invariant-loop-index
+invariant-loop-index l = l.found.items ≡ map (interface_facts l.plant) (take l.index-index l.indexes)
