@@ -1,4 +1,5 @@
 //! Locates the fault of a capture.
+use crate::capture_advice::{HeaderAdvice, Noted, header_advice};
 use pcap_io::{Capture, CaptureError, Counted};
 use std::alloc::Global;
 use std::fmt;
@@ -12,7 +13,8 @@ const RECORD_HEADER_BYTES: u64 = 16;
 /// Where reading a capture stops.
 #[derive(Clone, Copy)]
 pub enum CaptureLocation {
-    Header,
+    /// The file's header, and what to do about it, where that is known.
+    Header(Option<HeaderAdvice>),
     /// A record by its number, from 1, and the offset in bytes at which it begins, from 0.
     Record { number: u64, offset: u64 },
 }
@@ -20,7 +22,10 @@ pub enum CaptureLocation {
 impl fmt::Display for CaptureLocation {
     fn fmt<W: fmt::Write>(&self, f: &mut fmt::Formatter<W>) -> fmt::Result {
         match self {
-            CaptureLocation::Header => f.write_str("the header of the file"),
+            CaptureLocation::Header(None) => f.write_str("the header of the file"),
+            CaptureLocation::Header(Some(advice)) => {
+                write!(f, "the header of the file\n{advice}")
+            }
             CaptureLocation::Record { number, offset } => {
                 write!(f, "record {number}, from byte {offset} on")
             }
@@ -33,15 +38,25 @@ impl fmt::Display for CaptureLocation {
 ///
 /// The location is a heuristic: no contract says which one is reported.
 pub fn capture_location<R: Read + Drop>(alloc: Global, reader: R) -> Option<CaptureLocation> {
-    let mut reader = Counted::new(reader);
-    let mut capture = match Capture::open(alloc, &mut reader) {
-        Ok(capture) => capture,
-        Err(CaptureError::Refused(_)) => return Some(CaptureLocation::Header),
-        Err(_) => return None,
-    };
+    let mut reader = Counted::new(Noted::new(reader));
+    match Capture::open(alloc, &mut reader) {
+        Ok(capture) => record_location(capture, &mut reader),
+        Err(CaptureError::Refused(fault)) => {
+            let advice = header_advice(fault, &reader.into_inner());
+            Some(CaptureLocation::Header(advice))
+        }
+        Err(_) => None,
+    }
+}
+
+/// The record at which reading stops.
+fn record_location<R: Read + Drop>(
+    mut capture: Capture,
+    reader: &mut Counted<R>,
+) -> Option<CaptureLocation> {
     let mut offset = HEADER_BYTES;
     for before in 0..u64::MAX {
-        match capture.next(&mut reader) {
+        match capture.next(reader) {
             Ok(true) => offset = offset.saturating_add(length_of(&capture)),
             Err(CaptureError::Refused(_)) => {
                 return Some(CaptureLocation::Record {

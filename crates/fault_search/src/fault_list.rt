@@ -3,38 +3,27 @@
 //!
 //! Both the locations and the list are heuristics: a part that is removed may have had another
 //! fault, and faults that only follow from a removal aren't listed.
-use crate::fault_location::{FaultLocation, Subject};
-use crate::render::{Sources, enclosing_description};
-use crate::syntax_position::{SEARCHES, UnreadablePart, invalid_token, syntax_fault_offset};
-use box_file::{BoxError, Plant};
-use engine::RunFault;
-use fault_places::{
-    Depth, Level, RemovedPart, Span, Stripped, braces_match, last_part, mask, position_at, spans,
-    strip, with_parts, words,
-};
-use nft_lexer::LexFault;
+use crate::explaining::Sources;
+use crate::faults::{Fault, box_fault, check_fault, line_of};
+use crate::place::enclosing_description;
+use crate::rule_search::RuleSearch;
+use crate::subject::{FaultLocation, Subject};
+use crate::syntax_place::{invalid_token, syntax_place};
+use crate::text::{Words, bytes_of, holds};
+use crate::unreadable::{SEARCHES, UnreadablePart};
+use fault_places::{Depth, Level, Span, braces_match, elements, mask, position_at, spans, words};
 use nft_parser::{ParseError, TextFault, parse};
+use rule_check::CheckFault;
 use std::alloc::{AllocError, Global};
 
 /// The most faults that are listed, per text.
-const MOST: usize = 100;
-
-/// The most ranges of rules that are checked.
-const MOST_RANGES: usize = 100_000;
+pub const MOST: usize = 100;
 
 /// A fault that was found.
-#[derive(Drop)]
-struct FoundFault {
-    offset: usize,
-    code: String,
-}
-
-/// A range of rules that has a fault together.
-#[derive(Drop)]
-struct PartRange {
-    start: usize,
-    end: usize,
-    code: String,
+#[derive(Clone, Copy)]
+pub struct FoundFault {
+    pub offset: usize,
+    pub fault: Fault,
 }
 
 /// One line for each fault, in the order of the text: the ruleset's and then the box file's, at
@@ -48,24 +37,28 @@ pub fn all_faults(alloc: Global, sources: Sources<'_>) -> Result<String, AllocEr
     let mut plant = FaultList::new(alloc, sources.plant)?;
     rules.read(alloc)?;
     plant.read_box(alloc)?;
-    if rules.is_open() && plant.found.is_empty() && !plant.has_unlocated_fault {
+    if !plant.is_clean() {
+        rules.is_partial = true;
+    } else if rules.is_open() {
         rules.judge(alloc, sources.plant)?;
     }
-    rules.write_to(alloc, &mut lines, sources.paths.rules, true)?;
-    plant.write_to(alloc, &mut lines, sources.paths.plant, false)?;
+    rules.write_to(alloc, &mut lines, sources.paths.rules)?;
+    plant.write_to(alloc, &mut lines, sources.paths.plant)?;
     Ok(lines)
 }
 
 /// A text, what is left of it, and the faults of the parts that were removed.
 #[derive(Drop)]
-struct FaultList<'a> {
+pub struct FaultList<'a> {
     text: &'a [u8],
-    remaining: Vec<u8>,
-    found: Vec<FoundFault>,
+    pub remaining: Vec<u8>,
+    pub found: Vec<FoundFault>,
     /// The declarations that were removed: uses of their names aren't faults.
-    removed_declarations: Vec<Span>,
-    /// Whether what is left has a fault that can't be located.
-    has_unlocated_fault: bool,
+    removed: Vec<Span>,
+    /// Whether a fault of what is left has no known place, so nothing more is found.
+    is_stuck: bool,
+    /// Whether something was removed that isn't judged.
+    is_partial: bool,
 }
 
 impl<'a> FaultList<'a> {
@@ -74,14 +67,30 @@ impl<'a> FaultList<'a> {
             text,
             remaining: text.to_vec(alloc)?,
             found: Vec::new(alloc),
-            removed_declarations: Vec::new(alloc),
-            has_unlocated_fault: false,
+            removed: Vec::new(alloc),
+            is_stuck: false,
+            is_partial: false,
         })
     }
 
     /// Whether more faults may be listed.
     fn is_open(&self) -> bool {
-        self.found.len() < MOST && !self.has_unlocated_fault
+        self.found.len() < MOST && !self.is_stuck
+    }
+
+    /// Whether no fault was found.
+    fn is_clean(&self) -> bool {
+        self.found.is_empty() && !self.is_stuck
+    }
+
+    /// Whether a fault of this code is listed.
+    pub fn has(&self, fault: Fault) -> bool {
+        self.found.iter().any(|found| found.fault.is_like(fault))
+    }
+
+    fn add(&mut self, offset: usize, fault: Fault) -> Result<(), AllocError> {
+        self.found.push(FoundFault { offset, fault })?;
+        Ok(())
     }
 
     /// Removes what can't be parsed.
@@ -100,46 +109,42 @@ impl<'a> FaultList<'a> {
     }
 
     fn remove_unreadable(&mut self, alloc: Global, fault: TextFault) -> Result<(), AllocError> {
-        let line = match fault {
-            TextFault::Lexical(LexFault::Byte { line }) => line,
-            TextFault::Lexical(LexFault::OpenString { line }) => line,
-            TextFault::Lexical(LexFault::Number { line }) => line,
-            TextFault::Lexical(LexFault::TooLong) => {
-                self.has_unlocated_fault = true;
-                return Ok(());
-            }
-            _ => return self.remove_unparsable(alloc, fault),
+        let TextFault::Lexical(lexical) = fault else {
+            return self.remove_unparsable(alloc, fault);
         };
-        self.remove_invalid_token(alloc, fault, line)
+        let place = match line_of(lexical) {
+            Some(line) => invalid_token(alloc, &self.remaining, line)?,
+            None => None,
+        };
+        match place {
+            Some(offset) => self.remove_token(alloc, fault, offset),
+            None => {
+                self.is_stuck = true;
+                Ok(())
+            }
+        }
     }
 
     /// Removes the rule with a word that is no token, or else the word.
-    fn remove_invalid_token(
+    fn remove_token(
         &mut self,
         alloc: Global,
         fault: TextFault,
-        line: u32,
+        offset: usize,
     ) -> Result<(), AllocError> {
-        let Some(offset) = invalid_token(alloc, &self.remaining, line)? else {
-            self.has_unlocated_fault = true;
-            return Ok(());
-        };
-        self.add(offset, fault.to_string(alloc)?)?;
+        self.add(offset, Fault::Text(fault))?;
         let rules = spans(alloc, &self.remaining, Level::Rules)?;
-        for &rule in &rules {
-            if rule.start <= offset && offset < rule.end {
-                mask(&mut self.remaining, &[rule]);
-                return Ok(());
-            }
-        }
         let rest = Span {
             start: offset,
             end: self.remaining.len(),
         };
-        let found = words(alloc, &self.remaining, rest)?;
-        match found.first() {
-            Some(word) => mask(&mut self.remaining, &[*word]),
-            None => self.has_unlocated_fault = true,
+        let part = match rules.iter().find(|rule| holds(**rule, offset)) {
+            Some(rule) => Some(*rule),
+            None => words(alloc, &self.remaining, rest)?.first().copied(),
+        };
+        match part {
+            Some(part) => mask(&mut self.remaining, &[part]),
+            None => self.is_stuck = true,
         }
         Ok(())
     }
@@ -150,9 +155,9 @@ impl<'a> FaultList<'a> {
         if braces_match(&self.remaining) && self.remove_parts(alloc)? {
             return Ok(());
         }
-        let offset = syntax_fault_offset(alloc, &self.remaining, fault)?;
-        self.add(offset, fault.to_string(alloc)?)?;
-        self.has_unlocated_fault = true;
+        let place = syntax_place(alloc, &self.remaining, fault)?;
+        self.add(place.offset(), Fault::Text(fault))?;
+        self.is_stuck = true;
         Ok(())
     }
 
@@ -162,9 +167,7 @@ impl<'a> FaultList<'a> {
         for search in &SEARCHES {
             let room = MOST.saturating_sub(self.found.len());
             let unreadable = search.unreadable(alloc, &self.remaining, room)?;
-            for found in &unreadable {
-                self.remove_part(alloc, *found)?;
-            }
+            self.remove_all(alloc, &unreadable)?;
             if !unreadable.is_empty() {
                 return Ok(true);
             }
@@ -172,20 +175,81 @@ impl<'a> FaultList<'a> {
         Ok(false)
     }
 
-    /// Removes a part. Its fault isn't listed where one within it is: an element that was removed
-    /// before.
+    fn remove_all(
+        &mut self,
+        alloc: Global,
+        unreadable: &[UnreadablePart],
+    ) -> Result<(), AllocError> {
+        for found in unreadable {
+            self.remove_part(alloc, *found)?;
+        }
+        Ok(())
+    }
+
+    /// Removes a part, of a chain its head alone where that has the fault. The fault of a set or a
+    /// map isn't listed where one within it is: an element that was removed before.
     fn remove_part(&mut self, alloc: Global, unreadable: UnreadablePart) -> Result<(), AllocError> {
         let part = unreadable.part;
-        let is_listed = self.found.iter().any(|found| part.start <= found.offset
-            && found.offset < part.end);
-        if !is_listed {
+        if !self.has_lost_elements(part) {
             let fault = unreadable.fault(alloc, &self.remaining)?;
-            let offset = unreadable.syntax_fault_offset(alloc, &self.remaining, fault)?;
-            self.add(offset, fault.to_string(alloc)?)?;
+            let offset = unreadable.offset(alloc, &self.remaining, fault)?;
+            self.add(offset, Fault::Text(fault))?;
         }
-        if unreadable.level == Level::Declarations {
-            self.removed_declarations.push(part)?;
+        if unreadable.level != Level::Declarations {
+            mask(&mut self.remaining, &[part]);
+            return Ok(());
         }
+        let head = self.all_but_rules(alloc, part)?;
+        let mut without = self.remaining.to_vec(alloc)?;
+        mask(&mut without, &head);
+        if unreadable.wrapper.reads(alloc, bytes_of(&without, part))? {
+            mask(&mut self.remaining, &head);
+            return Ok(());
+        }
+        self.remove_declaration(alloc, part)
+    }
+
+    /// Whether elements of a set or a map were removed.
+    fn has_lost_elements(&self, part: Span) -> bool {
+        let bytes = bytes_of(self.text, part);
+        (bytes.starts_with(b"set ") || bytes.starts_with(b"map "))
+            && self.found.iter().any(|found| holds(part, found.offset))
+    }
+
+    /// What a chain has beside its rules and their ends: its head and notes. Nothing of a set or a
+    /// map.
+    fn all_but_rules(&self, alloc: Global, part: Span) -> Result<Vec<Span>, AllocError> {
+        let mut gaps = Vec::new(alloc);
+        let found = Words::of(alloc, &self.remaining, part)?;
+        if found.get(0) != "chain" || found.get(2) != "{" {
+            return Ok(gaps);
+        }
+        let mut start = found.spans.get(2).map_or(part.end, |brace| brace.end);
+        for rule in &spans(alloc, &self.remaining, Level::Rules)? {
+            if !holds(part, rule.start) {
+                continue;
+            }
+            gaps.push(Span {
+                start,
+                end: rule.start,
+            })?;
+            start = rule.end.saturating_add(1).min(part.end);
+        }
+        gaps.push(Span {
+            start,
+            end: part.end.saturating_sub(1).max(start),
+        })?;
+        Ok(gaps)
+    }
+
+    /// Removes a declaration with all that is in it.
+    fn remove_declaration(&mut self, alloc: Global, part: Span) -> Result<(), AllocError> {
+        let rules = spans(alloc, &self.remaining, Level::Rules)?;
+        let listed = elements(alloc, &self.remaining, part, Depth::Set)?;
+        if !listed.is_empty() || rules.iter().any(|rule| holds(part, rule.start)) {
+            self.is_partial = true;
+        }
+        self.removed.push(part)?;
         mask(&mut self.remaining, &[part]);
         Ok(())
     }
@@ -193,21 +257,15 @@ impl<'a> FaultList<'a> {
     /// Removes the lines of a box file that have a fault.
     fn read_box(&mut self, alloc: Global) -> Result<(), AllocError> {
         for _ in 0..MOST {
-            let fault = match Plant::read(alloc, &self.remaining) {
-                Ok(_) => return Ok(()),
-                Err(BoxError::Refused(fault)) => fault,
-                Err(BoxError::Memory) => return Err(AllocError),
+            let Some(fault) = box_fault(alloc, &self.remaining)? else {
+                return Ok(());
             };
-            let code = fault.to_string(alloc)?;
-            let subject = Subject::Box {
-                code: code.as_str(),
-            };
-            let Some(location) = subject.location(alloc, &self.remaining)? else {
-                self.has_unlocated_fault = true;
+            let Some(location) = Subject::Box(fault).location(alloc, &self.remaining)? else {
+                self.is_stuck = true;
                 return Ok(());
             };
             mask(&mut self.remaining, &[location.part]);
-            self.add(location.offset, code)?;
+            self.add(location.offset, Fault::Box(fault))?;
         }
         Ok(())
     }
@@ -216,10 +274,14 @@ impl<'a> FaultList<'a> {
     fn judge(&mut self, alloc: Global, plant: &[u8]) -> Result<(), AllocError> {
         for _ in 0..MOST {
             let without_rules = self.without_rules(alloc)?;
-            let Some(code) = code_of(alloc, &without_rules, plant)? else {
+            let Some(fault) = check_fault(alloc, &without_rules, plant)? else {
                 break;
             };
-            self.remove_declaration(alloc, plant, &without_rules, code)?;
+            let subject = Subject::Rules { fault, plant };
+            match subject.location(alloc, &without_rules)? {
+                Some(location) => self.remove_refused(alloc, fault, location)?,
+                None => self.is_stuck = true,
+            }
             if !self.is_open() {
                 return Ok(());
             }
@@ -230,247 +292,59 @@ impl<'a> FaultList<'a> {
     /// What is left, without its rules.
     fn without_rules(&self, alloc: Global) -> Result<Vec<u8>, AllocError> {
         let mut without_rules = self.remaining.to_vec(alloc)?;
-        mask(
-            &mut without_rules,
-            &spans(alloc, &self.remaining, Level::Rules)?,
-        );
+        let rules = spans(alloc, &self.remaining, Level::Rules)?;
+        mask(&mut without_rules, &rules);
         Ok(without_rules)
     }
 
-    /// Removes the element, the declaration or the table that has a fault even without rules.
-    fn remove_declaration(
+    /// Removes the element, the chain's head, the declaration or the table that has a fault even
+    /// without rules.
+    fn remove_refused(
         &mut self,
         alloc: Global,
-        plant: &[u8],
-        without_rules: &[u8],
-        code: String,
+        fault: CheckFault,
+        location: FaultLocation,
     ) -> Result<(), AllocError> {
-        let subject = Subject::Rules {
-            code: code.as_str(),
-            plant,
-        };
-        let Some(
-            FaultLocation {
-                offset,
-                part,
-                outer,
-            },
-        ) = subject.location(alloc, without_rules)?
-        else {
-            self.has_unlocated_fault = true;
+        let FaultLocation {
+            offset,
+            part,
+            outer,
+        } = location;
+        self.add(offset, Fault::Check(fault))?;
+        if part.start != outer.start {
+            mask(&mut self.remaining, &[part]);
+            return match parse(alloc, &self.remaining) {
+                Ok(_) => Ok(()),
+                Err(_) => self.remove_declaration(alloc, outer),
+            };
+        }
+        if offset > part.start {
+            let head = self.all_but_rules(alloc, part)?;
+            mask(&mut self.remaining, &head);
             return Ok(());
-        };
-        mask(&mut self.remaining, &[part]);
-        if parse(alloc, &self.remaining).is_err() {
-            mask(&mut self.remaining, &[outer]);
         }
-        if part.start == outer.start {
-            self.removed_declarations.push(outer)?;
-        }
-        self.add(offset, code)
+        self.remove_declaration(alloc, part)
     }
 
     /// Removes the rules that are refused.
     fn judge_rules(&mut self, alloc: Global, plant: &[u8]) -> Result<(), AllocError> {
-        let parts = spans(alloc, &self.remaining, Level::Rules)?;
-        let Stripped { rest, mut removed } = strip(alloc, &self.remaining, &parts)?;
-        for _ in 0..MOST {
-            let before = self.found.len();
-            let Some(code) = code_with(alloc, &self.remaining, &rest, &removed, plant)? else {
-                return Ok(());
-            };
-            let whole = PartRange {
-                start: 0,
-                end: removed.len(),
-                code,
-            };
-            self.search(alloc, plant, &rest, &mut removed, whole)?;
-            if self.found.len() == before || !self.is_open() {
-                return Ok(());
-            }
-        }
+        let rules = spans(alloc, &self.remaining, Level::Rules)?;
+        let (found, is_partial) = RuleSearch::new(alloc, self, plant, &rules)?.run()?;
+        self.found.extend_from_slice(&found)?;
+        self.is_partial = self.is_partial || is_partial;
         Ok(())
-    }
-}
-
-impl FaultList<'_> {
-    /// Finds the rules of a range that are refused, from the last one, so that the indexes of those
-    /// before it stay valid.
-    fn search(
-        &mut self,
-        alloc: Global,
-        plant: &[u8],
-        rest: &[u8],
-        removed: &mut Vec<RemovedPart>,
-        whole: PartRange,
-    ) -> Result<(), AllocError> {
-        let mut open = Vec::new(alloc);
-        open.push(whole)?;
-        for _ in 0..MOST_RANGES {
-            let Some(range) = open.pop() else {
-                return Ok(());
-            };
-            if self.is_open() {
-                self.bisect(alloc, plant, rest, removed, range, &mut open)?;
-            }
-        }
-        Ok(())
-    }
-
-    /// Removes the rule of a range of one, or opens those halves that are refused.
-    fn bisect(
-        &mut self,
-        alloc: Global,
-        plant: &[u8],
-        rest: &[u8],
-        removed: &mut Vec<RemovedPart>,
-        range: PartRange,
-        open: &mut Vec<PartRange>,
-    ) -> Result<(), AllocError> {
-        let PartRange { start, end, code } = range;
-        if end <= start || removed.len() < end || self.is_listed(code.as_str()) {
-            return Ok(());
-        }
-        if end - start == 1 {
-            let rule = removed.remove(start);
-            return self.add_rule_fault(alloc, plant, rest, rule, code);
-        }
-        let middle = start + (end - start) / 2;
-        let first = self.open(alloc, plant, rest, &removed[start..middle], start, open)?;
-        let second = self.open(alloc, plant, rest, &removed[middle..end], middle, open)?;
-        if !first && !second {
-            return self.add_joint_fault(
-                alloc,
-                plant,
-                rest,
-                removed,
-                PartRange { start, end, code },
-                open,
-            );
-        }
-        Ok(())
-    }
-
-    /// Opens the range of these rules, which begins at index `start`, if they are refused together,
-    /// and returns whether they are.
-    fn open(
-        &self,
-        alloc: Global,
-        plant: &[u8],
-        rest: &[u8],
-        removed: &[RemovedPart],
-        start: usize,
-        open: &mut Vec<PartRange>,
-    ) -> Result<bool, AllocError> {
-        let Some(code) = code_with(alloc, &self.remaining, rest, removed, plant)? else {
-            return Ok(false);
-        };
-        let end = start.saturating_add(removed.len());
-        open.push(PartRange { start, end, code })?;
-        Ok(true)
-    }
-
-    /// Removes the rule that completes a fault which neither half of the range has.
-    fn add_joint_fault(
-        &mut self,
-        alloc: Global,
-        plant: &[u8],
-        rest: &[u8],
-        removed: &mut Vec<RemovedPart>,
-        range: PartRange,
-        open: &mut Vec<PartRange>,
-    ) -> Result<(), AllocError> {
-        let PartRange { start, end, code } = range;
-        if end <= start || removed.len() < end {
-            return Ok(());
-        }
-        let subject = Subject::Rules {
-            code: code.as_str(),
-            plant,
-        };
-        let Some(part) = subject.first(alloc, &self.remaining, rest, &removed[start..end])? else {
-            return Ok(());
-        };
-        let before = removed[start..end]
-            .iter()
-            .take_while(|rule| rule.part.start <= part.start)
-            .count()
-            .min(end - start);
-        let offset = self.word_offset(
-            alloc,
-            plant,
-            rest,
-            &removed[start..start + before],
-            code.as_str(),
-        )?;
-        removed.retain(|rule| rule.part.start != part.start);
-        self.add(offset, code)?;
-        let end = end - 1;
-        if start < end && end <= removed.len() {
-            self.open(alloc, plant, rest, &removed[start..end], start, open)?;
-        }
-        Ok(())
-    }
-
-    /// Lists the fault of a rule that is refused by itself, unless it follows from a removed
-    /// declaration.
-    fn add_rule_fault(
-        &mut self,
-        alloc: Global,
-        plant: &[u8],
-        rest: &[u8],
-        rule: RemovedPart,
-        code: String,
-    ) -> Result<(), AllocError> {
-        if matches!(code.as_str(), "N02" | "N03") && self.names_removed(alloc, rule.part)? {
-            return Ok(());
-        }
-        let offset = self.word_offset(alloc, plant, rest, &[rule], code.as_str())?;
-        self.add(offset, code)
-    }
-
-    /// The offset of the word or element with which the last of these rules gets the fault.
-    fn word_offset(
-        &self,
-        alloc: Global,
-        plant: &[u8],
-        rest: &[u8],
-        removed: &[RemovedPart],
-        code: &str,
-    ) -> Result<usize, AllocError> {
-        let (Some(part), Some(rule)) = (last_part(removed), removed.last()) else {
-            return Ok(0);
-        };
-        let text = with_parts(alloc, &self.remaining, rest, removed)?;
-        let subject = Subject::Rules { code, plant };
-        let found = subject.inside(alloc, &text, part, Depth::Rule)?;
-        let within = found.offset.saturating_sub(part.start);
-        Ok(rule.part.start.saturating_add(within))
-    }
-
-    /// Whether a fault of the whole ruleset is listed already.
-    fn is_listed(&self, code: &str) -> bool {
-        is_ruleset_wide(code) && self.found.iter().any(|found| found.code.as_str() == code)
     }
 
     /// Whether a rule uses the name of a declaration that was removed.
-    fn names_removed(&self, alloc: Global, rule: Span) -> Result<bool, AllocError> {
-        let used = words(alloc, self.text, rule)?;
-        for removed_declarations in &self.removed_declarations {
-            if let Some(name) = words(alloc, self.text, *removed_declarations)?.get(1) {
-                if used.iter().any(|word| bytes_of(self.text, *word)
-                    == bytes_of(self.text, *name))
-                {
-                    return Ok(true);
-                }
+    pub fn uses_missing(&self, alloc: Global, rule: Span) -> Result<bool, AllocError> {
+        let used = Words::of(alloc, self.text, rule)?;
+        for removed in &self.removed {
+            let name = Words::of(alloc, self.text, *removed)?.get(1);
+            if used.has_before(used.len(), name) {
+                return Ok(true);
             }
         }
         Ok(false)
-    }
-
-    fn add(&mut self, offset: usize, code: String) -> Result<(), AllocError> {
-        self.found.push(FoundFault { offset, code })?;
-        Ok(())
     }
 
     /// Writes a line for each fault, in the order of the text.
@@ -479,13 +353,12 @@ impl FaultList<'_> {
         alloc: Global,
         lines: &mut String,
         path: &str,
-        describes: bool,
     ) -> Result<(), AllocError> {
         self.found.sort_by_key(|found| found.offset)?;
         for found in &self.found {
-            self.write_fault(alloc, lines, path, describes, found)?;
+            self.write_fault(alloc, lines, path, *found)?;
         }
-        if self.has_unlocated_fault {
+        if self.is_stuck || self.is_partial {
             writeln!(lines, "{path}: not all of it could be judged")?;
         } else if self.found.len() >= MOST {
             writeln!(lines, "{path}: there may be more faults than these {MOST}")?;
@@ -498,56 +371,22 @@ impl FaultList<'_> {
         alloc: Global,
         lines: &mut String,
         path: &str,
-        describes: bool,
-        found: &FoundFault,
+        found: FoundFault,
     ) -> Result<(), AllocError> {
-        let code = found.code.as_str();
+        let code = found.fault.code(alloc)?;
         if found.offset <= self.text.len() {
             let at = position_at(self.text, found.offset);
-            write!(lines, "{path}:{}:{}: {code}", at.line, at.column)?;
+            write!(lines, "{path}:{}:{}: {}", at.line, at.column, code.as_str())?;
         }
-        if describes {
+        if !matches!(found.fault, Fault::Box(_)) {
             let around = enclosing_description(alloc, self.text, found.offset)?;
             if !around.is_empty() {
                 write!(lines, " ({})", around.as_str())?;
             }
         }
-        match explanations::explain(code) {
+        match explanations::explain(code.as_str()) {
             Some(known) => writeln!(lines, ": {}", known.sentence),
             None => writeln!(lines),
         }
-    }
-}
-
-/// Whether a fault is one of the whole ruleset, which is listed once.
-fn is_ruleset_wide(code: &str) -> bool {
-    matches!(code, "N05" | "N06" | "N15")
-}
-
-/// The bytes of a part; none where it doesn't lie within the text.
-fn bytes_of(text: &[u8], part: Span) -> &[u8] {
-    if part.start <= part.end && part.end <= text.len() {
-        return &text[part.start..part.end];
-    }
-    &[]
-}
-
-/// The code of the fault that the rest of a text has with these rules; none where it is accepted.
-fn code_with(
-    alloc: Global,
-    text: &[u8],
-    rest: &[u8],
-    removed: &[RemovedPart],
-    plant: &[u8],
-) -> Result<Option<String>, AllocError> {
-    code_of(alloc, &with_parts(alloc, text, rest, removed)?, plant)
-}
-
-/// The code of a ruleset's fault; none where it is accepted.
-fn code_of(alloc: Global, text: &[u8], plant: &[u8]) -> Result<Option<String>, AllocError> {
-    match engine::judge(alloc, text, plant) {
-        Ok(_) => Ok(None),
-        Err(RunFault::Rules(fault)) => Ok(Some(fault.to_string(alloc)?)),
-        Err(_) => Err(AllocError),
     }
 }

@@ -3,8 +3,8 @@
 //! program's status.
 //!
 //! Between the two, it makes the runs of `data/*.rows`, each with its expected packets and report,
-//! and the texts of `data/faults` with their expected diagnostics (`fault_texts`). It prints each
-//! difference, and how many there were.
+//! the texts of `data/faults` with their expected diagnostics (`fault_texts`), and the rulesets of
+//! `data/mistakes.txt` (`mistakes`). It prints each difference, and how many there were.
 //!
 //! A file of rows has a line `row NAME` for each row, and below it:
 //!
@@ -35,6 +35,7 @@
 
 mod fault_texts;
 mod list_runs;
+mod mistakes;
 mod notation;
 mod packets;
 mod records;
@@ -43,6 +44,7 @@ mod rows;
 use anyhow::Result;
 use fault_texts::compare_all;
 use list_runs::run_listed;
+use mistakes::compare_mistakes;
 use rows::{Row, RunResult, run_over};
 use std::hash::RandomState;
 use std::process::ExitCode;
@@ -69,6 +71,9 @@ static FILES: [&str; 11] = [
 /// The expected diagnostics.
 const FAULT_LINES: &str = "faults/lines.txt";
 
+/// Rulesets with a mistake, what is told of it, and the mended ones.
+const MISTAKES: &str = "mistakes.txt";
+
 fn main(rt: HostRuntime) -> Result<ExitCode> {
     let status = program::start(&rt, &rt.stdout(), &rt.stderr());
     print_sent(&rt)?;
@@ -76,6 +81,7 @@ fn main(rt: HostRuntime) -> Result<ExitCode> {
         run_file(&rt, file)?;
     }
     compare_texts(&rt)?;
+    compare_rulesets(&rt)?;
     Ok(ExitCode::from(status))
 }
 
@@ -100,6 +106,14 @@ fn compare_texts(rt: &HostRuntime) -> Result<()> {
     let stored = fs::read_to_string(rt, FAULT_LINES)?;
     let texts = compare_all(rt, stored.as_str())?;
     println!(rt; "{FAULT_LINES}: {texts} texts")?;
+    Ok(())
+}
+
+/// Compares what is told of each mistake.
+fn compare_rulesets(rt: &HostRuntime) -> Result<()> {
+    let stored = fs::read_to_string(rt, MISTAKES)?;
+    let rulesets = compare_mistakes(rt, stored.as_str())?;
+    println!(rt; "{MISTAKES}: {rulesets} rulesets")?;
     Ok(())
 }
 
