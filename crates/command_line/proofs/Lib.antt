@@ -1,6 +1,6 @@
 pub mod Complete
 pub mod Described
-pub mod Explaining
+pub mod Options
 pub mod Formed
 pub mod Reading
 pub mod Rows

@@ -10,6 +10,7 @@ use Rattle.clap.specs.Words.{Text}
 use Rattle.command_line.specs.declared.task.Task.{Task}
 use Rattle.command_line.specs.declared.task.Task.TheVariants.{Run, Check, Explain}
 use Rattle.command_line.specs.declared.task.ReplayPaths.{ReplayPaths}
+use Rattle.command_line.specs.declared.remarks.Remarks.{Remarks}
 
 -- the operands among the words after `run`, `check` or `explain`: all words but the first `--`
 abbrev pub operands : List Text → List Text
@@ -132,24 +133,40 @@ is_well_formed (program ∷ name ∷ rest) =
     || (bytes_eq name (codes "check") && is_check rest || bytes_eq name (codes "explain") && is_explain rest)
 is_well_formed _ = false
 
--- the words after the program's name have `--explain` before any `--`
-abbrev pub has_explain : List Text → Bool
-has_explain [] = false
-has_explain (word ∷ rest) =
-    if bytes_eq word (codes "--") then false else (bytes_eq word (codes "--explain") || has_explain rest)
+-- the command line has this option before any `--`
+abbrev pub has_option : Text → List Text → Bool
+has_option option [] = false
+has_option option (program ∷ rest) = has_flag option rest
 
--- these words without the first `--explain` before any `--`
-abbrev pub without_explain : List Text → List Text
-without_explain [] = []
-without_explain (word ∷ rest) = if bytes_eq word (codes "--") then word ∷ rest
-    else (if bytes_eq word (codes "--explain") then rest else word ∷ without_explain rest)
+-- the command line without the first such option before any `--`
+abbrev pub without_option : Text → List Text → List Text
+without_option option [] = []
+without_option option (program ∷ rest) = program ∷ without_flag option rest
 
--- the command line has `--explain`
-abbrev pub is_explained : List Text → Bool
-is_explained [] = false
-is_explained (program ∷ rest) = has_explain rest
+-- the command line is one of `check`
+abbrev pub calls_check : List Text → Bool
+calls_check (program ∷ name ∷ rest) = bytes_eq name (codes "check")
+calls_check _ = false
 
--- the command line without `--explain`
+-- the command line without `--explain` and `--no-explain`
+abbrev pub unexplained_words : List Text → List Text
+unexplained_words words =
+    without_option (codes "--no-explain") (without_option (codes "--explain") words)
+
+-- what a command line asks for beside its task: `--explain`, `--no-explain`, and of `check` `--nft`
+abbrev pub remarks_of : List Text → Remarks
+remarks_of words = record {
+  explain = has_option (codes "--explain") words;
+  no_explain = has_option (codes "--no-explain") words;
+  nft = calls_check (unexplained_words words) && has_option (codes "--nft") (unexplained_words words);
+}
+
+-- the command line without what it asks for beside its task
 abbrev pub task_words : List Text → List Text
-task_words [] = []
-task_words (program ∷ rest) = program ∷ without_explain rest
+task_words words =
+    if calls_check (unexplained_words words) then without_option (codes "--nft") (unexplained_words words)
+    else unexplained_words words
+
+-- faults are explained: with `--explain` or on a terminal, and never with `--no-explain`
+abbrev pub are_explained : Remarks → Bool → Bool
+are_explained remarks terminal = (remarks.explain || terminal) && not remarks.no_explain

@@ -1,10 +1,11 @@
-//! Parses the command line (`nftrun run [--explain] [--trace] [--report FILE] RULES BOX IN OUT`,
-//! `nftrun check [--explain] [--all] RULES BOX`, `nftrun explain CODE`).
+//! Parses the command line (`nftrun run [--trace] [--report FILE] RULES BOX IN OUT`, `nftrun check
+//! [--all] [--nft] RULES BOX`, `nftrun explain CODE`; of the first two with `--explain` or
+//! `--no-explain`).
 #![tactic(auto)]
 
-mod explained;
 mod program;
+mod remarks;
 mod task;
 
-pub use explained::take_explain;
+pub use remarks::Remarks;
 pub use task::{CheckPaths, CheckTask, ReplayPaths, ReplayTask, Task, read_task};

@@ -16,7 +16,8 @@ const ALL_HELP: &str = "Tells all faults of RULES that can be found, and not the
 
 /// The end of `--help`.
 const NOTES: &str = "\
-With --explain, run and check tell what a fault means, and where it is.
+With --explain, run and check tell what a fault means, and where it is. Where
+standard error is a terminal they do so without it; --no-explain turns it off.
 
 Exit statuses:
   0  done; for check: accepted
@@ -34,9 +35,11 @@ Examples:
 
 /// The end of `run --help`.
 const RUN_NOTES: &str = "\
---explain tells what a fault means, and where it is. A path that begins with a
-hyphen goes after --. A run of more than a second tells each second how much of
-IN is read, if standard error is a terminal.
+--explain tells what a fault means, and where it is, and after a run what in IN
+may mislead. Where standard error is a terminal that is done without it;
+--no-explain turns it off. A path that begins with a hyphen goes after --. A run
+of more than a second tells each second how much of IN is read, if standard
+error is a terminal.
 
 Exit statuses:
   0  done
@@ -54,8 +57,10 @@ Examples:
 
 /// The end of `check --help`.
 const CHECK_NOTES: &str = "\
---explain tells what a fault means, and where it is. A path that begins with a
-hyphen goes after --.
+--explain tells what a fault means, and where it is. Where standard error is a
+terminal that is done without it; --no-explain turns it off. --nft warns of what
+is accepted here and refused by nft(8) 1.0.6, or means something else on Linux.
+A path that begins with a hyphen goes after --.
 
 Exit statuses:
   0  the ruleset is accepted
@@ -67,7 +72,7 @@ Exit statuses:
 
 Examples:
   nftrun check rules.nft box.txt
-  nftrun check --explain rules.nft box.txt";
+  nftrun check --nft rules.nft box.txt";
 
 /// A subcommand, as its help describes it.
 pub(crate) struct Subcommand {
@@ -127,7 +132,8 @@ pub(crate) fn program<'a>(alloc: Global) -> Result<Command<'a>, AllocError>
     with_subcommands(alloc, top(alloc), &SUBCOMMANDS)
 }
 
-// `--explain` is removed before clap parses the words, so the help mentions it in its notes.
+// What a command line asks for beside its task is removed before clap parses the words, so the help
+// mentions it in its notes.
 fn top<'a>(alloc: Global) -> Command<'a>
     ensures { app_of result ≡ top_app }
 {

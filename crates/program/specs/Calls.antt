@@ -3,6 +3,8 @@ use Rattle.std.specs.Prelude.{◌≡◌, ℕ, Bool, List, [], ◌∷◌, Option,
 use Rattle.std.specs.declared.io.Error.{Error}
 use Rattle.std.specs.declared.random_state.RandomState.{RandomState}
 use Rattle.clap.specs.declared.error.kind.ErrorKind.{ErrorKind}
+use Rattle.command_line.specs.declared.task.CheckPaths.{CheckPaths}
+use Rattle.command_line.specs.declared.task.ReplayPaths.{ReplayPaths}
 use Rattle.command_line.specs.declared.task.Task.{Task}
 use Rattle.engine.specs.declared.fault.RunFault.{RunFault}
 use Rattle.engine.specs.declared.judging.Counts.{Counts}
@@ -18,6 +20,8 @@ Text = List ℕ
 pub data Call (Input Output : Type 0) : Type 0 where
   -- reads the command line, of which the first word is the program's name
   words : Result (List Text) Error → Call Input Output
+  -- whether standard error is a terminal
+  errors_to_terminal : Bool → Call Input Output
   -- reads a whole file
   read : Text → Result (List ℕ) Error → Call Input Output
   -- opens a file for reading
@@ -41,8 +45,12 @@ pub data Call (Input Output : Type 0) : Type 0 where
   print_status : Status → Call Input Output
   -- prints what the status of a task means, and where its fault is
   explain_status : Status → Task → Call Input Output
+  -- prints what of a capture may mislead
+  remark_on_capture : ReplayPaths → Call Input Output
   -- prints all faults of a task's ruleset and box
   list_faults : Task → Call Input Output
+  -- prints what nft(8) refuses of an accepted ruleset, or means otherwise
+  warn_of_nft : CheckPaths → Call Input Output
   -- prints what a code means
   show : Text → Result ⊤ Error → Call Input Output
   -- prints clap's message: usage or help

@@ -2,16 +2,16 @@
 use Rattle.std.specs.Prelude.{◌≡◌, ◌⊎◌, ◌++◌, ◌&&◌, ℕ, Bool, true, false, List, [], ◌∷◌, Ok, Err, if◌then◌else◌}
 use Rattle.clap.specs.declared.error.kind.ErrorKind.{ErrorKind}
 use Rattle.clap.specs.declared.error.kind.ErrorKind.TheVariants.{DisplayHelp, DisplayVersion, OutOfMemory}
-use Rattle.command_line.specs.CommandLine.{RequestsTask, is_explained, is_well_formed, task_words}
+use Rattle.command_line.specs.CommandLine.{RequestsTask, are_explained, is_well_formed, remarks_of, task_words}
 use Rattle.command_line.specs.declared.task.Task.{Task}
 use Rattle.command_line.specs.declared.task.Task.TheVariants.{Run, Check, Explain}
 use Rattle.explanations.specs.Codes.{is_code}
-use Rattle.program.specs.Calls.{Call, Text, words, explain_status, list_faults, explain, show, print_status}
+use Rattle.program.specs.Calls.{Call, Text, words, errors_to_terminal, explain_status, remark_on_capture, list_faults, warn_of_nft, explain, show, print_status}
 use Rattle.program.specs.Examining.{Examines}
 use Rattle.program.specs.Replaying.{Replays}
 use Rattle.program.specs.Status.{code_of, has_line, of_error, of_words_error}
 use Rattle.program.specs.declared.status.Status.{Status}
-use Rattle.program.specs.declared.status.Status.TheVariants.{Success, Usage, UnknownCode, Memory}
+use Rattle.program.specs.declared.status.Status.TheVariants.{Success, Usage, UnknownCode, Memory, Torn}
 
 -- help and the version that were requested are a success; any other message of clap is about usage
 abbrev pub usage_status : ErrorKind → Status
@@ -43,10 +43,26 @@ RunsTask (Explain code) calls status = Shows code.now calls status
 abbrev pub status_line_calls : {I O : Type 0} → Status → List (Call I O)
 status_line_calls status = if has_line status then print_status status ∷ [] else []
 
--- with `--explain`, what a status that has a line means
+-- the capture of a run was replayed to its end
+abbrev pub is_replayed : Status → Bool
+is_replayed Success = true
+is_replayed Torn = true
+is_replayed _ = false
+
+-- what of the capture may mislead, once it is replayed
+abbrev pub remark_calls : {I O : Type 0} → Task → Status → List (Call I O)
+remark_calls (Run task) status = if is_replayed status then remark_on_capture task.paths ∷ [] else []
+remark_calls (Check task) status = []
+remark_calls (Explain code) status = []
+
+-- what a status that has a line means
+abbrev pub meaning_calls : {I O : Type 0} → Task → Status → List (Call I O)
+meaning_calls task status = if has_line status then explain_status status task ∷ [] else []
+
+-- where faults are explained, what a status that has a line means, and what of a capture may mislead
 abbrev pub explanation_calls : {I O : Type 0} → Bool → Task → Status → List (Call I O)
 explanation_calls explained task status =
-    if explained && has_line status then explain_status status task ∷ [] else []
+    if explained then meaning_calls task status ++ remark_calls task status else []
 
 -- the task is a check with `--all`
 abbrev pub asks_all : Task → Bool
@@ -57,26 +73,38 @@ asks_all _ = false
 abbrev pub all_faults_calls : {I O : Type 0} → Task → Status → List (Call I O)
 all_faults_calls task status = if asks_all task && has_line status then list_faults task ∷ [] else []
 
--- the explanations after the line
-abbrev pub detail_calls : {I O : Type 0} → Bool → Task → Status → List (Call I O)
-detail_calls explained task status = explanation_calls explained task status ++ all_faults_calls task status
+abbrev pub is_success : Status → Bool
+is_success Success = true
+is_success _ = false
+
+-- with `--nft`, of a ruleset that was accepted, what nft(8) refuses of it or means otherwise
+abbrev pub nft_calls : {I O : Type 0} → Bool → Task → Status → List (Call I O)
+nft_calls nft (Run task) status = []
+nft_calls nft (Check task) status = if nft && is_success status then warn_of_nft task.texts ∷ [] else []
+nft_calls nft (Explain code) status = []
+
+-- what comes after the line
+abbrev pub detail_calls : {I O : Type 0} → Bool → Bool → Task → Status → List (Call I O)
+detail_calls explained nft task status =
+    explanation_calls explained task status ++ (all_faults_calls task status ++ nft_calls nft task status)
 
 -- the words request a task, which is run, or clap refuses them: well-formed words only for want of
--- memory. `--explain` isn't among these words: it adds a call after the line and changes nothing else,
--- and so does `--all`
-abbrev pub ParsesAndRuns : {I O : Type 0} → Bool → List Text → List (Call I O) → Status
+-- memory. `--explain`, `--no-explain` and `--nft` aren't among these words: they add calls after the
+-- line, or none, and change nothing else, and so does `--all`
+abbrev pub ParsesAndRuns : {I O : Type 0} → Bool → Bool → List Text → List (Call I O) → Status
     → List (Call I O) → Type 0
-ParsesAndRuns explained given calls status last =
+ParsesAndRuns explained nft given calls status last =
     ((task : Task) × RequestsTask given task × RunsTask task calls status
-    × (last ≡ detail_calls explained task status))
+    × (last ≡ detail_calls explained nft task status))
     ⊎ ((kind : ErrorKind) × (is_well_formed given ≡ true → kind ≡ OutOfMemory)
     × Explains kind calls status × (last ≡ []))
 
--- the command line is read, and then parsed and run
+-- the command line is read, and whether standard error is a terminal, and then parsed and run
 abbrev pub Does : {I O : Type 0} → List (Call I O) → Status → List (Call I O) → Type 0
 Does (words (Err error) ∷ []) status last = (status ≡ of_words_error error) × (last ≡ [])
-Does (words (Ok given) ∷ calls) status last =
-    ParsesAndRuns (is_explained given) (task_words given) calls status last
+Does (words (Ok given) ∷ errors_to_terminal terminal ∷ calls) status last =
+    ParsesAndRuns (are_explained (remarks_of given) terminal) (remarks_of given).nft (task_words given) calls
+    status last
 Does _ _ _ = ⊥
 
 -- all calls, of which the line of the status and the explanations after it come last, and the exit

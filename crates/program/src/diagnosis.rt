@@ -1,6 +1,8 @@
 //! Explains a status and locates its fault.
 use crate::status::Status;
-use command_line::Task;
+use box_file::Plant;
+use capture_remarks::remarks;
+use command_line::{ReplayPaths, Task};
 use engine::RunFault;
 use fault_search::{SourcePaths, Sources, all_faults, capture_location, explained};
 use std::rt::Files;
@@ -112,4 +114,35 @@ fn print_capture_location<R: Files + Eprint + AllocGlobal>(
         Some(place) => eprintln!(rt; "{path}: {place}"),
         None => Ok(()),
     }
+}
+
+/// Prints to standard error what of the capture of a run may mislead, as far as the box file and the
+/// capture are regular files.
+pub fn remark_on_capture<R: Files + Eprint + AllocGlobal>(rt: &R, paths: &ReplayPaths<'_>) {
+    let _ = print_remarks(rt, paths);
+}
+
+fn print_remarks<R: Files + Eprint + AllocGlobal>(
+    rt: &R,
+    paths: &ReplayPaths<'_>,
+) -> io::Result<()> {
+    let path = paths.input;
+    if !is_regular(rt, path) {
+        return Ok(());
+    }
+    let Ok(plant) = Plant::read(rt.alloc(), &read_again(rt, paths.plant)) else {
+        return Ok(());
+    };
+    let lines = remarks(rt.alloc(), path, fs::open(rt, path)?, &plant)?;
+    eprint!(rt; "{}", lines.as_str())
+}
+
+/// Prints to standard error what nft(8) refuses of a ruleset's text, or means otherwise.
+pub fn warn_of_nft<R: Eprint + AllocGlobal>(rt: &R, path: &str, text: &[u8]) {
+    let _ = print_warnings(rt, path, text);
+}
+
+fn print_warnings<R: Eprint + AllocGlobal>(rt: &R, path: &str, text: &[u8]) -> io::Result<()> {
+    let lines = nft_differences::warnings(rt.alloc(), path, text)?;
+    eprint!(rt; "{}", lines.as_str())
 }

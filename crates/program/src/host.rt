@@ -2,7 +2,7 @@
 use crate::identity::FileIdentity;
 use crate::status::Status;
 use clap::Error;
-use command_line::Task;
+use command_line::{CheckPaths, ReplayPaths, Task};
 use engine::{Counts, RunFault};
 use explanations::Explanation;
 use std::hash::RandomState;
@@ -19,7 +19,7 @@ pub trait Host {
     ghost use Rattle.std.specs.Prelude.{◌≡◌, None, Some};
     ghost use Rattle.std.specs.Result.{result_map_both};
     ghost use Rattle.clap.specs.Values.{kind_of};
-    ghost use Rattle.program.specs.Calls.{Call, words, read, open_input, identify, draw_keys, create, run, judge, print_accepted, print_status, explain_status, list_faults, show, explain, word_texts, bytes_of};
+    ghost use Rattle.program.specs.Calls.{Call, words, errors_to_terminal, read, open_input, identify, draw_keys, create, run, judge, print_accepted, print_status, explain_status, remark_on_capture, list_faults, warn_of_nft, show, explain, word_texts, bytes_of};
 
     /// A capture open for reading.
     type Input: Drop;
@@ -36,6 +36,10 @@ pub trait Host {
     /// `InvalidData` where one isn't UTF-8.
     fn words(&mut self) -> io::Result<Vec<String>>
         ensures { happens self.old (words (word_texts result)) self.new };
+
+    /// Whether standard error is a terminal.
+    fn errors_to_terminal(&mut self) -> bool
+        ensures { happens self.old (errors_to_terminal result) self.new };
 
     /// All bytes of a file.
     fn read(&mut self, path: &str) -> io::Result<Vec<u8>>
@@ -110,10 +114,20 @@ pub trait Host {
     fn explain_status(&mut self, status: Status, task: &Task<'_>)
         ensures { happens self.old (explain_status status task.now) self.new };
 
+    /// Prints to standard error what of the capture of a run may mislead, as far as reading it and
+    /// the box file again shows it.
+    fn remark_on_capture(&mut self, paths: &ReplayPaths<'_>)
+        ensures { happens self.old (remark_on_capture paths.now) self.new };
+
     /// Prints all faults of a task's ruleset and box to standard error, as far as reading its files
     /// again shows them.
     fn list_faults(&mut self, task: &Task<'_>)
         ensures { happens self.old (list_faults task.now) self.new };
+
+    /// Prints to standard error what nft(8) refuses of the ruleset that was accepted last, or means
+    /// otherwise.
+    fn warn_of_nft(&mut self, texts: &CheckPaths<'_>)
+        ensures { happens self.old (warn_of_nft texts.now) self.new };
 
     /// Prints what a code means to standard output.
     fn show(&mut self, explanation: &Explanation) -> io::Result<()>

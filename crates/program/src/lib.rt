@@ -1,6 +1,7 @@
 //! The program: what it does with its command line, its files, standard output and standard error.
 #![tactic(auto)]
 
+mod closed_pipe;
 mod diagnosis;
 mod examining;
 mod host;

@@ -1,10 +1,10 @@
 //! The program as a whole.
-ghost use Rattle.std.specs.Prelude.{◌≡◌, IfOk, map, string_bytes};
+ghost use Rattle.std.specs.Prelude.{◌≡◌, ◌++◌, IfOk, map, string_bytes};
 ghost use Rattle.program.specs.Status.{code_of};
 ghost use Rattle.program.specs.steps.Finishing.{ParsesRunsAndPrints};
 ghost use Rattle.clap.specs.Values.{kind_of};
 ghost use Rattle.program.specs.Calls.{HappenInOrder, MakesCalls};
-ghost use Rattle.program.specs.Performing.{Explains, Performs, RunsTask, Shows, detail_calls, asks_all, explanation_calls, status_line_calls, all_faults_calls, usage_status};
+ghost use Rattle.program.specs.Performing.{Explains, Performs, RunsTask, Shows, all_faults_calls, asks_all, detail_calls, explanation_calls, is_replayed, is_success, meaning_calls, nft_calls, remark_calls, status_line_calls, usage_status};
 
 use crate::examining::examine;
 use crate::host::Host;
@@ -12,11 +12,12 @@ use crate::replaying::replay;
 use crate::status::Status;
 use clap::Error;
 use clap::error::ErrorKind;
-use command_line::{Task, read_task, take_explain};
+use command_line::{Remarks, Task, read_task};
 use std::alloc::{AllocError, Global};
 
 /// Runs the task of the command line, prints the line of a status that has one, then its
-/// explanation with `--explain` and all faults with `--all`, and returns the exit status.
+/// explanation with `--explain` or on a terminal, all faults with `--all` and what nft(8) refuses
+/// with `--nft`, and returns the exit status.
 pub fn perform<H: Host>(alloc: Global, host: &mut H) -> u8
     // These are all calls, in order: the status's line and the explanations after it come last.
     ensures { MakesCalls H.happens host.old host.new (λ calls. Performs calls result) }
@@ -25,10 +26,12 @@ pub fn perform<H: Host>(alloc: Global, host: &mut H) -> u8
         Ok(words) => words,
         Err(error) => return end(host, Status::of_words(&error)),
     };
+    let terminal = host.errors_to_terminal();
     match slices_of(alloc, &words) {
         Ok(mut slices) => {
-            let explained = take_explain(&mut slices);
-            parse_and_run(alloc, host, &slices, explained)
+            let remarks = Remarks::take(&mut slices);
+            let explained = remarks.are_explained(terminal);
+            parse_and_run(alloc, host, &slices, explained, remarks.nft)
         }
         Err(_) => end(host, Status::Memory),
     }
@@ -56,15 +59,21 @@ fn end<H: Host>(host: &mut H, status: Status) -> u8
     status.code()
 }
 
-fn parse_and_run<H: Host>(alloc: Global, host: &mut H, words: &[&str], explained: bool) -> u8
+fn parse_and_run<H: Host>(
+    alloc: Global,
+    host: &mut H,
+    words: &[&str],
+    explained: bool,
+    nft: bool,
+) -> u8
     ensures { MakesCalls H.happens host.old host.new (λ calls.
-        ParsesRunsAndPrints explained (map (λ w. w.now) words.entry.now) calls result) }
+        ParsesRunsAndPrints explained nft (map (λ w. w.now) words.entry.now) calls result) }
 {
     match read_task(alloc, words) {
         Ok(task) => {
             let status = run_task(host, &task);
             let code = end(host, status);
-            explain_status(host, explained, status, &task);
+            add_details(host, explained, nft, status, &task);
             code
         }
         Err(error) => {
@@ -85,22 +94,82 @@ fn run_task<H: Host>(host: &mut H, task: &Task<'_>) -> Status
     }
 }
 
-/// Prints the explanation and all faults where they were requested and the status has a line.
-fn explain_status<H: Host>(host: &mut H, explained: bool, status: Status, task: &Task<'_>)
-    ensures { HappenInOrder H.happens host.old (detail_calls explained task.now status) host.new }
+/// Prints what comes after the line of a status.
+fn add_details<H: Host>(host: &mut H, explained: bool, nft: bool, status: Status, task: &Task<'_>)
+    ensures { HappenInOrder H.happens
+        host.old (detail_calls explained nft task.now status) host.new }
 {
     explain_if_asked(host, explained, status, task);
     list_faults(host, status, task);
+    warn_of_nft(host, nft, status, task);
 }
 
-/// Prints the explanation of a status that has a line, with `--explain`.
+/// Prints what a status that has a line means, and what of a capture that was replayed may mislead,
+/// where faults are explained.
 fn explain_if_asked<H: Host>(host: &mut H, explained: bool, status: Status, task: &Task<'_>)
     ensures { HappenInOrder H.happens
         host.old (explanation_calls explained task.now status) host.new }
 {
-    if explained && status.has_line() {
+    if explained {
+        explain_all(host, status, task);
+    }
+}
+
+fn explain_all<H: Host>(host: &mut H, status: Status, task: &Task<'_>)
+    ensures { HappenInOrder H.happens
+        host.old (meaning_calls task.now status ++ remark_calls task.now status) host.new }
+{
+    explain_status(host, status, task);
+    remark_on_capture(host, status, task);
+}
+
+/// Prints what a status that has a line means.
+fn explain_status<H: Host>(host: &mut H, status: Status, task: &Task<'_>)
+    ensures { HappenInOrder H.happens host.old (meaning_calls task.now status) host.new }
+{
+    if status.has_line() {
         host.explain_status(status, task);
     }
+}
+
+fn remark_on_capture<H: Host>(host: &mut H, status: Status, task: &Task<'_>)
+    ensures { HappenInOrder H.happens host.old (remark_calls task.now status) host.new }
+{
+    match task {
+        Task::Run(run) => {
+            if is_replayed(status) {
+                host.remark_on_capture(&run.paths);
+            }
+        }
+        Task::Check(_) | Task::Explain(_) => {}
+    }
+}
+
+/// Whether the capture of a run was replayed to its end.
+fn is_replayed(status: Status) -> bool
+    ensures { result ≡ is_replayed status }
+{
+    matches!(status, Status::Success | Status::Torn)
+}
+
+/// Prints what nft(8) refuses of a ruleset that was accepted, with `--nft`.
+fn warn_of_nft<H: Host>(host: &mut H, nft: bool, status: Status, task: &Task<'_>)
+    ensures { HappenInOrder H.happens host.old (nft_calls nft task.now status) host.new }
+{
+    match task {
+        Task::Check(check) => {
+            if nft && is_success(status) {
+                host.warn_of_nft(&check.texts);
+            }
+        }
+        Task::Run(_) | Task::Explain(_) => {}
+    }
+}
+
+fn is_success(status: Status) -> bool
+    ensures { result ≡ is_success status }
+{
+    matches!(status, Status::Success)
 }
 
 /// Prints all faults, with `--all`.

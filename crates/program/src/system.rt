@@ -3,14 +3,15 @@ ghost use Rattle.std.specs.Prelude.{None, Some};
 ghost use Rattle.program.specs.Calls.{run};
 ghost use Rattle.program.specs.steps.Promised.{IsGuaranteed};
 
-use crate::diagnosis::{explain_status, list_faults};
+use crate::closed_pipe::{PipeWriter, is_closed_pipe};
+use crate::diagnosis::{explain_status, list_faults, remark_on_capture, warn_of_nft};
 use crate::host::Host;
 use crate::identity::FileIdentity;
 use crate::performing::perform;
 use crate::progress_reader::{Progress, ProgressLine, ProgressReader};
 use crate::status::Status;
 use clap::Error;
-use command_line::Task;
+use command_line::{CheckPaths, ReplayPaths, Task};
 use engine::{Counts, RunFault};
 use explanations::Explanation;
 use pcap_io::Counted;
@@ -32,6 +33,8 @@ struct System<'a, R> {
     size: Option<u64>,
     /// The last call that failed, for the message about it.
     failed: Option<Failed>,
+    /// The text of the ruleset that was accepted last.
+    accepted: Option<Vec<u8>>,
 }
 
 /// Which of the outputs are terminals.
@@ -52,6 +55,8 @@ enum Failed {
     Write,
     /// A write of the report.
     Report,
+    /// A write to standard output, which nobody reads any more.
+    ClosedPipe,
 }
 
 impl Failed {
@@ -70,7 +75,9 @@ impl Failed {
 impl<R: AllocGlobal> System<'_, R> {
     /// Keeps the system's message of a call that failed.
     fn keep<T>(&mut self, subject: &str, answer: io::Result<T>) -> io::Result<T> {
-        if let Err(error) = &answer {
+        if is_closed_pipe(&answer) {
+            self.failed = Some(Failed::ClosedPipe);
+        } else if let Err(error) = &answer {
             let message = format!(in self.rt.alloc(); "{subject}: {error}");
             self.failed = match message {
                 Ok(message) => Some(Failed::Call(message)),
@@ -122,7 +129,7 @@ impl<R: Eprint + AllocGlobal> System<'_, R> {
     }
 }
 
-/// A run whose report goes to standard output.
+/// A run whose report goes to standard output. `is_closed` becomes whether nobody reads that any more.
 fn run_to_output<R: Clock + Files + Print + Eprint + AllocGlobal>(
     rt: &R,
     hasher: RandomState,
@@ -132,12 +139,13 @@ fn run_to_output<R: Clock + Files + Print + Eprint + AllocGlobal>(
     output: &mut Counted<R::File>,
     trace: bool,
     progress: Option<Progress<'_, R>>,
+    is_closed: &mut bool,
 ) -> Result<bool, RunFault>
     ensures { IsGuaranteed (λ c. R.File.remaining c.inner) (λ c. R.File.contents c.inner)
         (run hasher rules.now plant.now input.old input.new output.old output.new None trace result) }
 {
     let mut reader = Counted::new(ProgressReader::new(input, progress));
-    let mut report = Counted::new(io::writer(rt));
+    let mut report = Counted::new(PipeWriter::new(io::writer(rt)));
     let outcome = engine::run(
         rt.alloc(),
         hasher,
@@ -149,6 +157,7 @@ fn run_to_output<R: Clock + Files + Print + Eprint + AllocGlobal>(
         trace,
     );
     reader.into_inner().end();
+    *is_closed = report.into_inner().is_closed();
     Ok(outcome?.torn)
 }
 
@@ -195,6 +204,10 @@ impl<R: Clock + Env + Files + Print + Eprint + RandomSource + AllocGlobal> Host 
 
     fn words(&mut self) -> io::Result<Vec<String>> {
         Ok(env::args(self.rt)?.collect(self.rt.alloc())?)
+    }
+
+    fn errors_to_terminal(&mut self) -> bool {
+        self.terminals.errors
     }
 
     fn read(&mut self, path: &str) -> io::Result<Vec<u8>> {
@@ -247,10 +260,23 @@ impl<R: Clock + Env + Files + Print + Eprint + RandomSource + AllocGlobal> Host 
             ProgressLine::Overwritten
         };
         let progress = self.progress(line);
+        let mut is_closed = false;
         let outcome = run_to_output(
-            self.rt, hasher, rules, plant, input, output, trace, progress,
+            self.rt,
+            hasher,
+            rules,
+            plant,
+            input,
+            output,
+            trace,
+            progress,
+            &mut is_closed,
         );
-        self.failed = Failed::in_run(input.failures(), output.failures(), &outcome);
+        self.failed = if is_closed {
+            Some(Failed::ClosedPipe)
+        } else {
+            Failed::in_run(input.failures(), output.failures(), &outcome)
+        };
         outcome
     }
 
@@ -273,7 +299,12 @@ impl<R: Clock + Env + Files + Print + Eprint + RandomSource + AllocGlobal> Host 
     }
 
     fn judge(&mut self, rules: &[u8], plant: &[u8]) -> Result<Counts, RunFault> {
-        engine::judge(self.rt.alloc(), rules, plant)
+        let answer = engine::judge(self.rt.alloc(), rules, plant);
+        self.accepted = match &answer {
+            Ok(_) => rules.to_vec(self.rt.alloc()).ok(),
+            Err(_) => None,
+        };
+        answer
     }
 
     fn print_accepted(&mut self, counts: Counts) -> io::Result<()> {
@@ -297,16 +328,27 @@ impl<R: Clock + Env + Files + Print + Eprint + RandomSource + AllocGlobal> Host 
         }
     }
 
+    fn remark_on_capture(&mut self, paths: &ReplayPaths<'_>) {
+        remark_on_capture(self.rt, paths);
+    }
+
     fn list_faults(&mut self, task: &Task<'_>) {
         list_faults(self.rt, task);
     }
 
+    fn warn_of_nft(&mut self, texts: &CheckPaths<'_>) {
+        if let Some(text) = &self.accepted {
+            warn_of_nft(self.rt, texts.rules, text);
+        }
+    }
+
     fn show(&mut self, explanation: &Explanation) -> io::Result<()> {
         let rt = self.rt;
-        println!(rt;
+        let answer = println!(rt;
             "{}: {}\n\n{}",
             explanation.code, explanation.sentence, explanation.paragraph
-        )
+        );
+        self.keep("standard output", answer)
     }
 
     fn explain(&mut self, error: &Error) -> io::Result<()> {
@@ -335,6 +377,7 @@ pub fn start<R: Clock + Env + Files + Print + Eprint + RandomSource + AllocGloba
             terminals,
             size: None,
             failed: None,
+            accepted: None,
         },
     )
 }

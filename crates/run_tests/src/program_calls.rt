@@ -3,7 +3,7 @@ use crate::support::{hasher, shows};
 use box_file::BoxFault;
 use clap::Error;
 use clap::error::ErrorKind;
-use command_line::{Task, read_task};
+use command_line::{CheckPaths, ReplayPaths, Task, read_task};
 use engine::{Counts, RulesFault, RunFault};
 use explanations::Explanation;
 use nft_lexer::LexFault;
@@ -94,6 +94,8 @@ struct Row {
     is_regular: bool,
     outcome: Result<bool, RunFault>,
     judged: Result<Counts, RunFault>,
+    /// Whether standard error is a terminal.
+    terminal: bool,
     /// The number of the first calls that the program makes.
     count: usize,
     /// The calls after those.
@@ -116,6 +118,7 @@ const DONE: Row = Row {
         chains: 2,
         rules: 3,
     }),
+    terminal: false,
     count: 12,
     last: "",
     code: 0,
@@ -186,6 +189,11 @@ impl Host for Recorder {
             words.push(String::from_str(self.alloc, *word)?)?;
         }
         Ok(words)
+    }
+
+    // It can't fail, so it isn't among the calls that are counted.
+    fn errors_to_terminal(&mut self) -> bool {
+        self.row.terminal
     }
 
     fn read(&mut self, path: &str) -> io::Result<Vec<u8>> {
@@ -285,8 +293,16 @@ impl Host for Recorder {
         }
     }
 
+    fn remark_on_capture(&mut self, paths: &ReplayPaths<'_>) {
+        let _ = self.note(&[b"remark on ", paths.input.as_bytes()]);
+    }
+
     fn list_faults(&mut self, _task: &Task<'_>) {
         let _ = self.note(&[b"list_faults"]);
+    }
+
+    fn warn_of_nft(&mut self, texts: &CheckPaths<'_>) {
+        let _ = self.note(&[b"warn of ", texts.rules.as_bytes()]);
     }
 
     fn show(&mut self, explanation: &Explanation) -> io::Result<()> {
@@ -329,8 +345,9 @@ fn ends<R: Abort + AllocGlobal>(rt: &R, row: Row) {
 /// output doesn't; an argument that isn't UTF-8; a fault of a run; a line that can't be printed,
 /// which changes nothing; arguments that are no task, and help. A check; one that refuses; a box
 /// that can't be read; a line that can't be printed. An explanation, with and without a fault; a
-/// path `--explain`; the explanation of a code.
-static ROWS: [Row; 30] = [
+/// path `--explain`; the explanation of a code. On a terminal a run and a check that refuses, with
+/// `--no-explain` and without; `--nft`, which a check that refuses and a run have no use for.
+static ROWS: [Row; 37] = [
     DONE,
     Row {
         words: &["nftrun", "run", "--trace", "rules", "box", "in", "out"],
@@ -475,12 +492,57 @@ static ROWS: [Row; 30] = [
     Row {
         words: &["nftrun", "run", "rules", "box", "--explain", "in", "out"],
         outcome: Ok(true),
-        last: "tell nftrun: capture torn\nclarify run nftrun: capture torn\n",
+        last: "tell nftrun: capture torn\nclarify run nftrun: capture torn\nremark on in\n",
         code: 7,
         ..DONE
     },
     Row {
         words: &["nftrun", "run", "--explain", "rules", "box", "in", "out"],
+        last: "remark on in\n",
+        ..DONE
+    },
+    Row {
+        terminal: true,
+        last: "remark on in\n",
+        ..DONE
+    },
+    Row {
+        words: &["nftrun", "run", "--no-explain", "rules", "box", "in", "out"],
+        terminal: true,
+        ..DONE
+    },
+    Row {
+        judged: Err(RunFault::Rules(RulesFault::Check(CheckFault::TooCostly))),
+        terminal: true,
+        last: "judge rules box\ntell nftrun: rules N06\nclarify check nftrun: rules N06\n",
+        code: 1,
+        ..CHECKED
+    },
+    Row {
+        words: &["nftrun", "check", "rules", "--no-explain", "box"],
+        judged: Err(RunFault::Rules(RulesFault::Check(CheckFault::TooCostly))),
+        terminal: true,
+        last: "judge rules box\ntell nftrun: rules N06\n",
+        code: 1,
+        ..CHECKED
+    },
+    Row {
+        words: &["nftrun", "check", "--nft", "rules", "box"],
+        last: "judge rules box\nannounce 1 2 3\nwarn of rules\n",
+        ..CHECKED
+    },
+    Row {
+        words: &["nftrun", "check", "--nft", "rules", "box"],
+        judged: Err(RunFault::Rules(RulesFault::Check(CheckFault::TooCostly))),
+        last: "judge rules box\ntell nftrun: rules N06\n",
+        code: 1,
+        ..CHECKED
+    },
+    Row {
+        words: &["nftrun", "run", "--nft", "rules", "box", "in", "out"],
+        count: 1,
+        last: "explain usage\n",
+        code: 2,
         ..DONE
     },
     Row {

@@ -1,8 +1,9 @@
 -- The command line is read, and then parsed and run.
-use Rattle.std.proofs.Common.{◌≡◌, ◌∙◌, ◌++◌, Bool, List, Ok, [], ◌∷◌, ap, inr, map, refl, string_bytes, subst}
+use Rattle.std.proofs.Common.{◌∙◌, ◌++◌, Bool, List, Ok, [], ◌∷◌, ap, inr, map, refl, string_bytes, subst}
 use Rattle.clap.specs.declared.error.kind.ErrorKind.TheVariants.{OutOfMemory}
-use Rattle.command_line.specs.CommandLine.{is_explained, task_words}
-use Rattle.program.specs.Calls.{Text, words}
+use Rattle.command_line.specs.declared.remarks.Remarks.{Remarks}
+use Rattle.command_line.specs.CommandLine.{are_explained, remarks_of, task_words}
+use Rattle.program.specs.Calls.{Text, errors_to_terminal, words}
 use Rattle.program.specs.Performing.{ParsesAndRuns, status_line_calls}
 use Rattle.program.specs.declared.status.Status.TheVariants.{Memory}
 use Rattle.program.proofs.Chains.{HappenInOrder-append}
@@ -24,34 +25,50 @@ pub returns-in-Ok-slices_of : goal.returns-in-Ok-slices_of
 returns-in-Ok-slices_of g c =
     let acted = c.parse_and_run.ensures in
     let ends = acted.2 in
+    let terminal = c.errors_to_terminal-terminal.result in
+    let texts = map string_bytes c.in-Ok.words.items in
     let given = c.in-Ok-slices_of.ensures ∙ ap (map string_bytes) c.deref.ensures.value in
-    let requested = c.take_explain-explained.ensures.explained ∙ ap is_explained given in
+    let asked = c.take-remarks.ensures.asked ∙ ap remarks_of given in
+    let explained = c.are_explained-explained.ensures ∙ ap (λ remarks. are_explained remarks terminal) asked in
     let same = ap (map (λ slice. slice.now)) c.deref-in-Ok-slices_of.ensures.value
-    ∙ c.take_explain-explained.ensures.left ∙ ap task_words given in
-    let Words : List Text → Type 0 = λ texts. ParsesAndRuns c.take_explain-explained.result texts ends.0 ends.1
-    ends.2 in
-    let Requested : Bool → Type 0 = λ explained. ParsesAndRuns explained
-    (task_words (map string_bytes c.in-Ok.words.items)) ends.0 ends.1 ends.2 in (
-      words (Ok (map string_bytes c.in-Ok.words.items)) ∷ acted.0,
-      (_, c.in-Ok.ensures, acted.1),
+    ∙ c.take-remarks.ensures.left ∙ ap task_words given in
+    let Words : List Text → Type 0 = λ words. ParsesAndRuns c.are_explained-explained.result
+    c.take-remarks.result.nft words ends.0 ends.1 ends.2 in
+    let Explained : Bool → Type 0 = λ on. ParsesAndRuns on c.take-remarks.result.nft (task_words texts) ends.0
+    ends.1 ends.2 in
+    let Asked : Remarks → Type 0 = λ remarks. ParsesAndRuns (are_explained (remarks_of texts) terminal)
+    remarks.nft (task_words texts) ends.0 ends.1 ends.2 in (
+      words (Ok texts) ∷ errors_to_terminal terminal ∷ acted.0,
+      (_, c.in-Ok.ensures, (_, c.errors_to_terminal-terminal.ensures, acted.1)),
       (
-        words (Ok (map string_bytes c.in-Ok.words.items)) ∷ ends.0,
+        words (Ok texts) ∷ errors_to_terminal terminal ∷ ends.0,
         ends.1,
         ends.2,
-        subst Requested requested (subst Words same ends.3),
-        ap (λ calls. words (Ok (map string_bytes c.in-Ok.words.items)) ∷ calls) ends.4,
+        subst Asked asked (subst Explained explained (subst Words same ends.3)),
+        ap (λ calls. words (Ok texts) ∷ errors_to_terminal terminal ∷ calls) ends.4,
         ends.5,
       ),
     )
 
 pub returns : goal.returns
 returns g c = (
-  words _ ∷ (status_line_calls Memory ++ []),
+  words _ ∷ errors_to_terminal _ ∷ (status_line_calls Memory ++ []),
   (
     _,
     c.in-Ok.ensures,
-    HappenInOrder-append g.H.Host.happens _ _ _ (status_line_calls Memory) []
-        c.end-in-Err-slices_of.ensures.0 refl,
+    (
+      _,
+      c.errors_to_terminal-terminal.ensures,
+      HappenInOrder-append g.H.Host.happens _ _ _ (status_line_calls Memory) []
+          c.end-in-Err-slices_of.ensures.0 refl,
+    ),
   ),
-  (words _ ∷ [], Memory, [], inr (OutOfMemory, λ _. refl, (refl, refl), refl), refl, c.end-in-Err-slices_of.ensures.1),
+  (
+    words _ ∷ errors_to_terminal _ ∷ [],
+    Memory,
+    [],
+    inr (OutOfMemory, λ _. refl, (refl, refl), refl),
+    refl,
+    c.end-in-Err-slices_of.ensures.1,
+  ),
 )

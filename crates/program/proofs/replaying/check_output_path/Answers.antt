@@ -1,5 +1,5 @@
 -- Each return gives its comparisons.
-use Rattle.std.proofs.Common.{[], ◌∷◌, ◌++◌, append-nil, refl, subst, sym}
+use Rattle.std.proofs.Common.{[], ◌∷◌, ◌++◌, refl}
 use Rattle.std.proofs.lemmas.List.{append_assoc, drop_all}
 use Rattle.std.proofs.lemmas.Result.{err_from_is_err_and}
 use Rattle.program.specs.Calls.{identify}

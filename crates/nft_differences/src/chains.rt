@@ -1,0 +1,169 @@
+//! What nft(8) refuses of the heads of base chains, and what Linux does otherwise by them.
+use crate::findings::Findings;
+use crate::outline::{Outline, Range};
+use crate::sets::part_at;
+use crate::tokens::Tokens;
+use crate::warning::Warning;
+use nft_tree::{Chain, ChainKind, Head, Hook, Policy, Priority, PriorityName, Ruleset};
+use std::alloc::{AllocError, Global};
+
+/// The priorities at which Linux translates destinations and sources (linux/netfilter_ipv4.h).
+const DESTINATION_STEP: i128 = -100;
+
+const SOURCE_STEP: i128 = 100;
+
+/// The priority at which Linux looks up connections.
+const LOOKUP: i128 = -200;
+
+/// A base chain.
+#[derive(Clone, Copy)]
+struct BaseChain {
+    kind: ChainKind,
+    hook: Hook,
+    priority: i128,
+}
+
+impl BaseChain {
+    fn of(head: &Head) -> BaseChain {
+        BaseChain {
+            kind: head.kind,
+            hook: head.hook,
+            priority: head.priority.number(),
+        }
+    }
+
+    fn is_nat(self) -> bool {
+        matches!(self.kind, ChainKind::Nat)
+    }
+
+    fn is_filter(self) -> bool {
+        matches!(self.kind, ChainKind::Filter)
+    }
+
+    fn is_on_output(self) -> bool {
+        matches!(self.hook, Hook::Output)
+    }
+
+    fn shares_hook(self, other: BaseChain) -> bool {
+        matches!(
+            (self.hook, other.hook),
+            (Hook::Prerouting, Hook::Prerouting)
+                | (Hook::Input, Hook::Input)
+                | (Hook::Forward, Hook::Forward)
+                | (Hook::Output, Hook::Output)
+                | (Hook::Postrouting, Hook::Postrouting)
+        )
+    }
+
+    /// Whether both run in an order of their own on Linux.
+    fn shares_place(self, other: BaseChain) -> bool {
+        self.shares_hook(other)
+            && self.is_nat() == other.is_nat()
+            && self.priority == other.priority
+            && !self.is_on_output()
+    }
+
+    /// Whether its priority is just that at which addresses are translated.
+    fn is_at_step(self) -> bool {
+        match self.hook {
+            Hook::Prerouting => self.priority == DESTINATION_STEP,
+            Hook::Postrouting => self.priority == SOURCE_STEP,
+            Hook::Input | Hook::Forward | Hook::Output => false,
+        }
+    }
+}
+
+/// Whether a base chain runs before connections are looked up.
+pub(crate) fn is_early(head: &Head) -> bool {
+    let chain = BaseChain::of(head);
+    chain.is_filter() && matches!(chain.hook, Hook::Prerouting) && chain.priority <= LOOKUP
+}
+
+/// Adds the warnings about the heads of base chains.
+pub(crate) fn judge_chains(
+    alloc: Global,
+    ruleset: &Ruleset,
+    tokens: &Tokens<'_>,
+    outline: &Outline,
+    findings: &mut Findings<'_>,
+) -> Result<(), AllocError> {
+    let mut chains: Vec<BaseChain> = Vec::new(alloc);
+    for table in &ruleset.tables {
+        for item in &table.items {
+            let Some(chain) = item.chain() else {
+                continue;
+            };
+            if let Some(head) = &chain.head {
+                let part = part_at(&outline.heads, chains.len());
+                judge_head(chain, head, tokens, part, findings)?;
+                chains.push(BaseChain::of(head))?;
+            }
+        }
+    }
+    judge_order(&chains, tokens, outline, findings)
+}
+
+/// Adds the warnings about one head.
+fn judge_head(
+    chain: &Chain,
+    head: &Head,
+    tokens: &Tokens<'_>,
+    part: Range,
+    findings: &mut Findings<'_>,
+) -> Result<(), AllocError> {
+    let base = BaseChain::of(head);
+    let place = part
+        .find(tokens, part.start, b"priority")
+        .unwrap_or(part.start);
+    if is_misplaced_name(head) {
+        findings.add(tokens, place, Warning::PriorityName)?;
+    }
+    if is_early(head) && base.priority == LOOKUP {
+        findings.add(tokens, place, Warning::EarlyPriority)?;
+    }
+    let does_something = !chain.rules.is_empty() || matches!(head.policy, Some(Policy::Drop));
+    if base.is_on_output() && does_something {
+        findings.add(tokens, part.start, Warning::OutputChain)?;
+    }
+    Ok(())
+}
+
+/// Whether the name of a priority isn't one of its hook.
+fn is_misplaced_name(head: &Head) -> bool {
+    let name = match head.priority {
+        Priority::Named(name) | Priority::Offset(name, _, _) => name,
+        Priority::Number(_, _) => return false,
+    };
+    match name {
+        PriorityName::DstNat => !matches!(head.hook, Hook::Prerouting),
+        PriorityName::SrcNat => !matches!(head.hook, Hook::Postrouting),
+        _ => false,
+    }
+}
+
+/// Adds the warnings about chains that have one place together.
+fn judge_order(
+    chains: &[BaseChain],
+    tokens: &Tokens<'_>,
+    outline: &Outline,
+    findings: &mut Findings<'_>,
+) -> Result<(), AllocError> {
+    for (number, chain) in chains.iter().enumerate() {
+        let part = part_at(&outline.heads, number);
+        let place = part
+            .find(tokens, part.start, b"priority")
+            .unwrap_or(part.start);
+        let mut earlier = chains.iter().take(number);
+        if earlier.any(|other| chain.shares_place(*other)) {
+            findings.add(tokens, place, Warning::SamePriority)?;
+        }
+        let mut others = chains.iter();
+        if chain.is_filter()
+            && chain.is_at_step()
+            && others.any(|other| other.is_nat() && chain.shares_hook(*other))
+        {
+            findings.add(tokens, place, Warning::NatPriority)?;
+        }
+    }
+    Ok(())
+}

@@ -1,0 +1,92 @@
+//! The warnings of a text, in its order.
+use crate::chains::judge_chains;
+use crate::layout::judge_layout;
+use crate::outline::Outline;
+use crate::rules::judge_rules;
+use crate::sets::judge_sets;
+use crate::tokens::Tokens;
+use crate::warning::Warning;
+use fault_places::position_at;
+use nft_parser::parse;
+use std::alloc::{AllocError, Global};
+
+/// The most warnings that are written.
+const MOST: usize = 1000;
+
+/// A warning, and the offset at which it is.
+#[derive(Clone, Copy)]
+struct Finding {
+    offset: usize,
+    warning: Warning,
+}
+
+/// The warnings of a text.
+#[derive(Drop)]
+pub(crate) struct Findings<'a> {
+    text: &'a [u8],
+    found: Vec<Finding>,
+}
+
+impl<'a> Findings<'a> {
+    fn new(alloc: Global, text: &'a [u8]) -> Findings<'a> {
+        Findings {
+            text,
+            found: Vec::new(alloc),
+        }
+    }
+
+    /// Adds a warning at a token.
+    pub(crate) fn add(
+        &mut self,
+        tokens: &Tokens<'_>,
+        index: usize,
+        warning: Warning,
+    ) -> Result<(), AllocError> {
+        self.add_at(tokens.offset(index), warning)
+    }
+
+    /// Adds a warning at an offset.
+    pub(crate) fn add_at(&mut self, offset: usize, warning: Warning) -> Result<(), AllocError> {
+        if self.found.len() < MOST {
+            self.found.push(Finding { offset, warning })?;
+        }
+        Ok(())
+    }
+
+    /// One line for each warning, in the order of the text.
+    fn lines(&mut self, alloc: Global, path: &str) -> Result<String, AllocError> {
+        self.found.sort_by_key(|finding| finding.offset)?;
+        let mut lines = String::new(alloc);
+        for finding in &self.found {
+            if finding.offset > self.text.len() {
+                continue;
+            }
+            let place = position_at(self.text, finding.offset);
+            let line = place.line;
+            let column = place.column;
+            let warning = finding.warning;
+            writeln!(lines, "{path}:{line}:{column}: warning: {warning}")?;
+        }
+        Ok(lines)
+    }
+}
+
+/// One line for each thing in the text of an accepted ruleset that nft(8) 1.0.6 refuses, or that it
+/// or Linux means otherwise: `PATH:LINE:COLUMN: warning: SENTENCE`, in the order of the text. At
+/// most 1,000 are told. A text that can't be parsed has none.
+///
+/// # Errors
+/// `AllocError` for want of memory.
+pub fn warnings(alloc: Global, path: &str, text: &[u8]) -> Result<String, AllocError> {
+    let Ok(ruleset) = parse(alloc, text) else {
+        return Ok(String::new(alloc));
+    };
+    let tokens = Tokens::read(alloc, text)?;
+    let outline = Outline::read(alloc, &tokens)?;
+    let mut findings = Findings::new(alloc, text);
+    judge_layout(&tokens, &outline, &mut findings)?;
+    judge_sets(alloc, &ruleset, &tokens, &outline, &mut findings)?;
+    judge_chains(alloc, &ruleset, &tokens, &outline, &mut findings)?;
+    judge_rules(alloc, &ruleset, &tokens, &outline, &mut findings)?;
+    findings.lines(alloc, path)
+}

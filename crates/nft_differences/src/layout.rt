@@ -1,0 +1,207 @@
+//! What nft(8) refuses of a text's layout: ends, newlines, blanks, names and comments.
+use crate::findings::Findings;
+use crate::names::is_reserved;
+use crate::outline::{Declaration, Nesting, Outline};
+use crate::tokens::{TokenKind, Tokens, byte_at, continues_word};
+use crate::warning::Warning;
+use std::alloc::AllocError;
+
+/// The most bytes of a comment, and of a name.
+const MOST_OF_COMMENT: usize = 128;
+
+const MOST_OF_NAME: usize = 255;
+
+/// The most hexadecimal digits on either side of a colon that nft takes together.
+const MOST_OF_CLASS: usize = 4;
+
+/// Adds the warnings about the layout.
+pub(crate) fn judge_layout(
+    tokens: &Tokens<'_>,
+    outline: &Outline,
+    findings: &mut Findings<'_>,
+) -> Result<(), AllocError> {
+    if let Some(offset) = carriage_return(tokens.text) {
+        findings.add_at(offset, Warning::CarriageReturn)?;
+    }
+    for index in &outline.second_comments {
+        findings.add(tokens, *index, Warning::SecondComment)?;
+    }
+    for index in &outline.names {
+        judge_name(tokens, *index, findings)?;
+    }
+    let mut nesting = Nesting::OUTSIDE;
+    let mut declaration = 0;
+    for index in 0..tokens.len() {
+        judge_token(tokens, index, findings)?;
+        match tokens.bytes(index) {
+            b"{" => {
+                if nesting.depth == 1 {
+                    nesting.declaration = declaration_at(tokens, declaration);
+                }
+                nesting.depth = nesting.depth.saturating_add(1);
+            }
+            b"}" => {
+                judge_closing(tokens, index, nesting, findings)?;
+                nesting.depth = nesting.depth.saturating_sub(1);
+            }
+            b"\n" => judge_newline(tokens, index, nesting, findings)?,
+            b"chain" | b"set" | b"map" if nesting.depth == 1 => {
+                if !is_name(tokens, index) {
+                    declaration = index;
+                }
+            }
+            _ => {}
+        }
+    }
+    Ok(())
+}
+
+/// Whether a token is the name of a declaration.
+fn is_name(tokens: &Tokens<'_>, index: usize) -> bool {
+    tokens.is(index.saturating_add(1), b"{")
+}
+
+fn declaration_at(tokens: &Tokens<'_>, index: usize) -> Declaration {
+    if tokens.is(index, b"chain") {
+        Declaration::Chain
+    } else {
+        Declaration::SetOrMap
+    }
+}
+
+/// The first carriage return outside strings and comments.
+fn carriage_return(text: &[u8]) -> Option<usize> {
+    let mut quoted = false;
+    let mut comment = false;
+    for (offset, byte) in text.iter().enumerate() {
+        match *byte {
+            b'\n' => {
+                quoted = false;
+                comment = false;
+            }
+            b'"' if !comment => quoted = !quoted,
+            b'#' if !quoted => comment = true,
+            b'\r' if !quoted && !comment => return Some(offset),
+            _ => {}
+        }
+    }
+    None
+}
+
+fn judge_name(
+    tokens: &Tokens<'_>,
+    index: usize,
+    findings: &mut Findings<'_>,
+) -> Result<(), AllocError> {
+    let name = tokens.bytes(index);
+    if is_reserved(name) {
+        findings.add(tokens, index, Warning::ReservedName)?;
+    }
+    if name.len() > MOST_OF_NAME {
+        findings.add(tokens, index, Warning::LongName)?;
+    }
+    Ok(())
+}
+
+/// Adds what is wrong with a closing brace.
+fn judge_closing(
+    tokens: &Tokens<'_>,
+    index: usize,
+    nesting: Nesting,
+    findings: &mut Findings<'_>,
+) -> Result<(), AllocError> {
+    if nesting.depth == 0 || nesting.depth > 2 {
+        return Ok(());
+    }
+    let before = tokens.bytes(index.saturating_sub(1));
+    let in_set = nesting.depth == 2 && nesting.declaration == Declaration::SetOrMap;
+    let is_ended = matches!(before, b"{" | b"\n" | b";")
+        || (nesting.depth == 1 && matches!(before, b"}"))
+        || (in_set && matches!(before, b"}" | b"auto-merge"));
+    if !is_ended {
+        findings.add(tokens, index, Warning::MissingEnd)?;
+    }
+    let next = index.saturating_add(1);
+    if !tokens.is_newline(next) && !tokens.is(next, b";") {
+        findings.add(tokens, next, Warning::MissingEnd)?;
+    }
+    Ok(())
+}
+
+/// Adds what is wrong with a newline in the braces of a list.
+fn judge_newline(
+    tokens: &Tokens<'_>,
+    index: usize,
+    nesting: Nesting,
+    findings: &mut Findings<'_>,
+) -> Result<(), AllocError> {
+    let before = tokens.bytes(index.saturating_sub(1));
+    if nesting.depth < 3 || matches!(before, b"\n") {
+        return Ok(());
+    }
+    let next = tokens.bytes(index.saturating_add(1));
+    let is_allowed = !matches!(next, b"\n")
+        && (matches!(before, b"{" | b",") || matches!(next, b"}" | b","));
+    if !is_allowed {
+        findings.add(tokens, index, Warning::NewlineInList)?;
+    }
+    Ok(())
+}
+
+/// Adds what is wrong with a token beside the next one.
+fn judge_token(
+    tokens: &Tokens<'_>,
+    index: usize,
+    findings: &mut Findings<'_>,
+) -> Result<(), AllocError> {
+    let next = index.saturating_add(1);
+    let first = byte_at(tokens.text, tokens.offset(next));
+    match (tokens.bytes(index), tokens.kind(next)) {
+        (b".", _) if tokens.is_tight(next) && continues_word(first) => {
+            findings.add(tokens, index, Warning::TightDot)
+        }
+        (b":", TokenKind::Number) if is_class(tokens, index) => {
+            findings.add(tokens, index, Warning::TightColon)
+        }
+        (b"comment", TokenKind::String) if is_long(tokens.bytes(next)) => {
+            findings.add(tokens, next, Warning::LongComment)
+        }
+        (b"prefix", TokenKind::String) if tokens.bytes(next).contains(&b'$') => {
+            findings.add(tokens, next, Warning::PrefixVariable)
+        }
+        (number, TokenKind::Word) if is_decimal(number) && is_unit(first) => {
+            if tokens.is_tight(next) {
+                return findings.add(tokens, index, Warning::TightUnit);
+            }
+            Ok(())
+        }
+        _ => Ok(()),
+    }
+}
+
+/// Whether a comment is too long; its quotes don't count.
+fn is_long(comment: &[u8]) -> bool {
+    comment.len() > MOST_OF_COMMENT + 2
+}
+
+/// Whether a colon and the numbers beside it are one word for nft.
+fn is_class(tokens: &Tokens<'_>, colon: usize) -> bool {
+    let before = tokens.bytes(colon.saturating_sub(1));
+    let next = colon.saturating_add(1);
+    let behind = tokens.bytes(next);
+    tokens.is_tight(colon)
+        && tokens.is_tight(next)
+        && is_decimal(before)
+        && is_decimal(behind)
+        && before.len() <= MOST_OF_CLASS
+        && behind.len() <= MOST_OF_CLASS
+}
+
+fn is_decimal(bytes: &[u8]) -> bool {
+    !bytes.is_empty() && bytes.iter().all(|byte| byte.is_ascii_digit())
+}
+
+/// Whether nft takes a letter behind a number for a unit of time.
+fn is_unit(byte: u8) -> bool {
+    matches!(byte, b'd' | b'h' | b'm' | b's')
+}

@@ -1,0 +1,19 @@
+//! What nft(8) 1.0.6 makes of a ruleset that is accepted here: what it refuses, and what it, or
+//! Linux, means otherwise.
+//!
+//! Each warning was tried against nft. No contract says which are given: they are a help.
+#![tactic(auto)]
+
+mod chains;
+mod findings;
+mod intervals;
+mod layout;
+mod names;
+mod outline;
+mod protocols;
+mod rules;
+mod sets;
+mod tokens;
+mod warning;
+
+pub use findings::warnings;

@@ -1,0 +1,416 @@
+//! What nft(8) refuses of rules, or means otherwise by them.
+use crate::chains::is_early;
+use crate::findings::Findings;
+use crate::names::is_reserved_interface;
+use crate::outline::{Outline, Range};
+use crate::protocols::Protocols;
+use crate::sets::{List, is_interface, is_long_wildcard, part_at};
+use crate::tokens::Tokens;
+use crate::warning::Warning;
+use nft_tree::{
+    BitField, BitTest, Chain, DestinationTarget, Element, Key, MapLookup, MapRef, Match, Nat,
+    Operand, Operator, Rule, Ruleset, Selector, SetRef, SourceTarget, Stmt, Table, Value,
+    ValueRange,
+};
+use std::alloc::{AllocError, Global};
+
+/// A rule that is read from left to right, beside its tokens.
+struct Walk<'a, 't> {
+    alloc: Global,
+    tokens: &'a Tokens<'t>,
+    part: Range,
+    /// The token up to which it is read.
+    at: usize,
+    protocols: Protocols,
+    is_early: bool,
+}
+
+impl Drop for Walk<'_, '_> {
+    fn drop(self) {
+        let Walk {
+            alloc: _,
+            tokens: _,
+            part: _,
+            at: _,
+            protocols: _,
+            is_early: _,
+        } = self;
+    }
+}
+
+/// Adds the warnings about rules.
+pub(crate) fn judge_rules(
+    alloc: Global,
+    ruleset: &Ruleset,
+    tokens: &Tokens<'_>,
+    outline: &Outline,
+    findings: &mut Findings<'_>,
+) -> Result<(), AllocError> {
+    let mut number = 0usize;
+    for table in &ruleset.tables {
+        for item in &table.items {
+            if let Some(chain) = item.chain() {
+                judge_chain(alloc, table, chain, tokens, outline, number, findings)?;
+                number = number.saturating_add(chain.rules.len());
+            }
+        }
+    }
+    Ok(())
+}
+
+/// Adds the warnings about a chain's rules, of which the first has this number in the text.
+fn judge_chain(
+    alloc: Global,
+    table: &Table,
+    chain: &Chain,
+    tokens: &Tokens<'_>,
+    outline: &Outline,
+    number: usize,
+    findings: &mut Findings<'_>,
+) -> Result<(), AllocError> {
+    let is_early = match &chain.head {
+        Some(head) => is_early(head),
+        None => false,
+    };
+    for (place, rule) in chain.rules.iter().enumerate() {
+        let part = part_at(&outline.rules, number.saturating_add(place));
+        let mut walk = Walk {
+            alloc,
+            tokens,
+            part,
+            at: part.start,
+            protocols: Protocols::new(table.family),
+            is_early,
+        };
+        walk.judge(rule, findings)?;
+    }
+    Ok(())
+}
+
+impl Walk<'_, '_> {
+    fn judge(&mut self, rule: &Rule, findings: &mut Findings<'_>) -> Result<(), AllocError> {
+        for statement in &rule.statements {
+            self.judge_statement(statement, findings)?;
+        }
+        Ok(())
+    }
+
+    fn judge_statement(
+        &mut self,
+        statement: &Stmt,
+        findings: &mut Findings<'_>,
+    ) -> Result<(), AllocError> {
+        match statement {
+            Stmt::Match(test) => self.judge_match(test, findings),
+            Stmt::VerdictMap(selector, map) => {
+                self.read(*selector, findings)?;
+                self.judge_map(*selector, map, findings)
+            }
+            Stmt::SetMark(_, Operand::MapLookup(lookup)) => self.judge_lookup(lookup, findings),
+            Stmt::Nat(nat) => self.judge_nat(nat, findings),
+            _ => Ok(()),
+        }
+    }
+
+    /// Reads a selector, and returns its first token.
+    fn read(
+        &mut self,
+        selector: Selector,
+        findings: &mut Findings<'_>,
+    ) -> Result<usize, AllocError> {
+        let (first, second) = words_of(selector);
+        let found = self.part.find_pair(self.tokens, self.at, first, second);
+        let place = found.unwrap_or(self.at);
+        let words = if second.is_empty() { 1 } else { 2 };
+        self.at = place.saturating_add(words);
+        if let Some(warning) = self.protocols.read(selector) {
+            findings.add(self.tokens, place, warning)?;
+        }
+        if self.is_early && reads_connection(selector) {
+            findings.add(self.tokens, place, Warning::StateInEarlyChain)?;
+        }
+        Ok(place)
+    }
+
+    fn judge_lookup(
+        &mut self,
+        lookup: &MapLookup,
+        findings: &mut Findings<'_>,
+    ) -> Result<(), AllocError> {
+        self.read(lookup.selector, findings)?;
+        self.judge_map(lookup.selector, &lookup.map, findings)
+    }
+
+    /// Judges the map of a selector that was read.
+    fn judge_map(
+        &mut self,
+        selector: Selector,
+        map: &MapRef,
+        findings: &mut Findings<'_>,
+    ) -> Result<(), AllocError> {
+        if matches!(selector, Selector::CtStatus) {
+            findings.add(self.tokens, self.at, Warning::WholeStatus)?;
+        }
+        match map {
+            MapRef::Named(_) => Ok(()),
+            MapRef::Anonymous(pairs) => {
+                let list = List::read(self.alloc, self.tokens, self.part, self.at)?;
+                list.judge_anonymous_map(self.alloc, pairs, selector.kind(), findings)
+            }
+        }
+    }
+
+    fn judge_match(&mut self, test: &Match, findings: &mut Findings<'_>) -> Result<(), AllocError> {
+        match test {
+            Match::Compare(selector, operator, range) => {
+                self.read(*selector, findings)?;
+                self.judge_range(*selector, *operator, range, findings)
+            }
+            Match::In(selectors, set) => self.judge_set(selectors, set, true, findings),
+            Match::NotIn(selectors, set) => self.judge_set(selectors, set, false, findings),
+            Match::Bits(field, bits, words) => {
+                self.judge_bits(*field, *bits, words.len(), findings)
+            }
+            Match::AnyFlag(_) | Match::ExactFlags(_) => {
+                self.read(Selector::TcpFlags, findings)?;
+                Ok(())
+            }
+            Match::MaskedFlags(_) | Match::MaskedFlagsUnequal(_) => {
+                self.read(Selector::TcpFlags, findings)?;
+                self.judge_mask(findings)
+            }
+        }
+    }
+
+    fn judge_range(
+        &mut self,
+        selector: Selector,
+        operator: Operator,
+        range: &ValueRange,
+        findings: &mut Findings<'_>,
+    ) -> Result<(), AllocError> {
+        let ValueRange::One(value) = range else {
+            return Ok(());
+        };
+        if is_long_wildcard(value) {
+            let end = self.part.end.saturating_sub(1);
+            let found = self.tokens.find_string(self.at, end);
+            findings.add(self.tokens, found, Warning::LongWildcard)?;
+        }
+        if let (Value::Word(word), true) = (value, is_interface(selector.kind())) {
+            if is_reserved_interface(word) {
+                let found = self.part.find(self.tokens, self.at, word);
+                findings.add(self.tokens, found.unwrap_or(self.at), Warning::ReservedName)?;
+            }
+        }
+        if matches!(operator, Operator::Equal) {
+            self.protocols.learn(selector, value);
+        }
+        Ok(())
+    }
+
+    /// Judges selectors that are in a set, or aren't.
+    fn judge_set(
+        &mut self,
+        selectors: &[Selector],
+        set: &SetRef,
+        is_in: bool,
+        findings: &mut Findings<'_>,
+    ) -> Result<(), AllocError> {
+        let mut place = self.at;
+        for selector in selectors {
+            place = self.read(*selector, findings)?;
+        }
+        let [selector] = selectors else {
+            return Ok(());
+        };
+        let has_operator = self.tokens.is(self.at, b"=") || self.tokens.is(self.at, b"!");
+        let elements = match set {
+            SetRef::Anonymous(elements) => elements.as_slice(),
+            SetRef::Named(_) => &[],
+        };
+        let is_single = elements.len() == 1 && !has_operator;
+        match selector {
+            Selector::CtStatus if !is_single => {
+                findings.add(self.tokens, place, Warning::WholeStatus)?;
+            }
+            Selector::CtStatus | Selector::TcpFlags if is_single => {
+                findings.add(self.tokens, place, Warning::SingleBit)?;
+            }
+            _ => {}
+        }
+        if is_in {
+            self.learn(*selector, elements);
+        }
+        let list = List::read(self.alloc, self.tokens, self.part, self.at)?;
+        list.judge_elements(elements, selector.kind(), findings)
+    }
+
+    fn learn(&mut self, selector: Selector, elements: &[Element]) {
+        for element in elements {
+            if let Key::Single(ValueRange::One(value)) = &element.key {
+                self.protocols.learn(selector, value);
+            }
+        }
+    }
+
+    fn judge_bits(
+        &mut self,
+        field: BitField,
+        test: BitTest,
+        words: usize,
+        findings: &mut Findings<'_>,
+    ) -> Result<(), AllocError> {
+        let selector = match field {
+            BitField::State => Selector::CtState,
+            BitField::Status => Selector::CtStatus,
+        };
+        let place = self.read(selector, findings)?;
+        match (field, test) {
+            (BitField::State, BitTest::None) if words > 1 => {
+                findings.add(self.tokens, place, Warning::StateNotSeveral)
+            }
+            (BitField::Status, BitTest::None | BitTest::Exactly) => {
+                findings.add(self.tokens, place, Warning::WholeStatus)
+            }
+            _ => Ok(()),
+        }
+    }
+
+    /// Judges how a mask of TCP flags is written.
+    fn judge_mask(&mut self, findings: &mut Findings<'_>) -> Result<(), AllocError> {
+        if self.tokens.is(self.at, b"&") {
+            return self.judge_group(findings);
+        }
+        let slash = self
+            .part
+            .find(self.tokens, self.at, b"/")
+            .unwrap_or(self.part.end);
+        let mask = slash.saturating_add(1);
+        if self.tokens.is(mask.saturating_add(1), b",") {
+            return Ok(());
+        }
+        let is_alone = !self.tokens.is(mask.saturating_add(1), b"|");
+        let warning = if is_alone && is_prefix_length(self.tokens.bytes(mask)) {
+            Warning::MaskAsPrefix
+        } else {
+            Warning::MaskOfOne
+        };
+        findings.add(self.tokens, slash, warning)
+    }
+
+    /// Judges `& MASK == FLAGS`.
+    fn judge_group(&mut self, findings: &mut Findings<'_>) -> Result<(), AllocError> {
+        let mut is_open = false;
+        let mut is_mask = true;
+        for index in self.at..self.part.end {
+            match self.tokens.bytes(index) {
+                b"(" => is_open = true,
+                b")" => is_open = false,
+                b"=" | b"!" => is_mask = false,
+                b"," if is_open || is_mask => {
+                    return findings.add(self.tokens, index, Warning::CommaInMask);
+                }
+                b"|" if is_mask && !is_open => {
+                    return findings.add(self.tokens, self.at, Warning::OpenMask);
+                }
+                b"{" => break,
+                _ => {}
+            }
+        }
+        Ok(())
+    }
+
+    fn judge_nat(&mut self, nat: &Nat, findings: &mut Findings<'_>) -> Result<(), AllocError> {
+        let word = word_of(nat);
+        let place = self
+            .part
+            .find(self.tokens, self.at, word)
+            .unwrap_or(self.at);
+        let next = place.saturating_add(1);
+        self.at = next;
+        if matches!(nat, Nat::Source(_) | Nat::Destination(_)) {
+            let named = self.tokens.is(next, b"ip");
+            if let Some(warning) = self.protocols.judge_nat(named) {
+                findings.add(self.tokens, place, warning)?;
+            }
+            if named {
+                self.at = next.saturating_add(1);
+            }
+        }
+        if has_ports(nat) && !self.protocols.has_transport() {
+            findings.add(self.tokens, place, Warning::PortsWithoutProtocol)?;
+        }
+        match nat {
+            Nat::Source(SourceTarget::MapLookup(lookup))
+            | Nat::Destination(DestinationTarget::MapLookup(lookup)) => {
+                self.judge_lookup(lookup, findings)
+            }
+            _ => Ok(()),
+        }
+    }
+}
+
+/// Whether nft takes a number behind `/` for the length of a prefix: the flags have 8 bits.
+fn is_prefix_length(mask: &[u8]) -> bool {
+    match mask {
+        [digit] => matches!(digit, b'0'..=b'8'),
+        _ => false,
+    }
+}
+
+fn has_ports(nat: &Nat) -> bool {
+    match nat {
+        Nat::Source(SourceTarget::Address(_, ports)) => ports.is_some(),
+        Nat::Destination(DestinationTarget::Address(_, port)) => port.is_some(),
+        Nat::Masquerade(ports) => ports.is_some(),
+        Nat::Redirect(port) => port.is_some(),
+        Nat::Source(SourceTarget::MapLookup(_))
+        | Nat::Destination(DestinationTarget::MapLookup(_)) => false,
+    }
+}
+
+fn word_of(nat: &Nat) -> &'static [u8] {
+    match nat {
+        Nat::Source(_) => b"snat",
+        Nat::Destination(_) => b"dnat",
+        Nat::Masquerade(_) => b"masquerade",
+        Nat::Redirect(_) => b"redirect",
+    }
+}
+
+/// Whether a selector reads the connection.
+fn reads_connection(selector: Selector) -> bool {
+    matches!(selector, Selector::CtState)
+}
+
+/// The words that a selector is written with; the second is empty where there is one word.
+fn words_of(selector: Selector) -> (&'static [u8], &'static [u8]) {
+    match selector {
+        Selector::IpSource => (b"ip", b"saddr"),
+        Selector::IpDestination => (b"ip", b"daddr"),
+        Selector::IpProtocol => (b"ip", b"protocol"),
+        Selector::MetaProtocol => (b"meta", b"l4proto"),
+        Selector::IpTtl => (b"ip", b"ttl"),
+        Selector::IpLength => (b"ip", b"length"),
+        Selector::MetaLength => (b"meta", b"length"),
+        Selector::TcpSource => (b"tcp", b"sport"),
+        Selector::TcpDestination => (b"tcp", b"dport"),
+        Selector::UdpSource => (b"udp", b"sport"),
+        Selector::UdpDestination => (b"udp", b"dport"),
+        Selector::TransportSource => (b"th", b"sport"),
+        Selector::TransportDestination => (b"th", b"dport"),
+        Selector::TcpFlags => (b"tcp", b"flags"),
+        Selector::IcmpType => (b"icmp", b"type"),
+        Selector::InputName => (b"iifname", b""),
+        Selector::OutputName => (b"oifname", b""),
+        Selector::InputIndex => (b"iif", b""),
+        Selector::OutputIndex => (b"oif", b""),
+        Selector::MetaMark => (b"meta", b"mark"),
+        Selector::CtMark => (b"ct", b"mark"),
+        Selector::MetaFamily => (b"meta", b"nfproto"),
+        Selector::CtState => (b"ct", b"state"),
+        Selector::CtDirection => (b"ct", b"direction"),
+        Selector::CtStatus => (b"ct", b"status"),
+    }
+}

@@ -1,0 +1,364 @@
+//! What nft(8) refuses of sets and maps.
+use crate::findings::Findings;
+use crate::intervals::{Coverage, cover, interval_of, is_interval, is_interval_key, wildcard_stem};
+use crate::names::is_reserved_element;
+use crate::outline::{Outline, Range};
+use crate::tokens::Tokens;
+use crate::warning::Warning;
+use nft_tree::{
+    ComparedType, Element, Item, Key, MapDecl, Pair, Ruleset, SetDecl, SetFlag, Value, ValueRange,
+    ValueType,
+};
+use std::alloc::{AllocError, Global};
+
+/// The most bytes before the `*` of an interface's name.
+const MOST_OF_STEM: usize = 14;
+
+/// Where the elements of a list begin.
+pub(crate) struct List<'a, 't> {
+    tokens: &'a Tokens<'t>,
+    part: Range,
+    starts: Vec<usize>,
+}
+
+impl Drop for List<'_, '_> {
+    fn drop(self) {
+        let List {
+            tokens: _,
+            part: _,
+            starts: _,
+        } = self;
+    }
+}
+
+impl<'a, 't> List<'a, 't> {
+    /// The list in the first braces of a part from a token on.
+    pub(crate) fn read(
+        alloc: Global,
+        tokens: &'a Tokens<'t>,
+        part: Range,
+        from: usize,
+    ) -> Result<List<'a, 't>, AllocError> {
+        let mut starts = Vec::new(alloc);
+        let begin = part.find(tokens, from, b"{").unwrap_or(part.end);
+        let mut is_next = false;
+        for index in begin..part.end {
+            match tokens.bytes(index) {
+                b"{" | b"," => is_next = true,
+                b"}" => break,
+                b"\n" => {}
+                _ => {
+                    if is_next {
+                        starts.push(index)?;
+                    }
+                    is_next = false;
+                }
+            }
+        }
+        Ok(List {
+            tokens,
+            part,
+            starts,
+        })
+    }
+
+    /// The first token of an element.
+    fn start(&self, element: usize) -> usize {
+        match self.starts.get(element) {
+            Some(start) => *start,
+            None => self.part.start,
+        }
+    }
+
+    /// Adds what nft refuses of a literal of an element.
+    fn judge_value(
+        &self,
+        value: &Value,
+        element: usize,
+        findings: &mut Findings<'_>,
+    ) -> Result<(), AllocError> {
+        let start = self.start(element);
+        if is_long_wildcard(value) {
+            findings.add(self.tokens, start, Warning::LongWildcard)?;
+        }
+        let Value::Word(word) = value else {
+            return Ok(());
+        };
+        if is_reserved_element(word) {
+            let place = self.part.find(self.tokens, start, word).unwrap_or(start);
+            findings.add(self.tokens, place, Warning::ReservedName)?;
+        }
+        Ok(())
+    }
+}
+
+/// Whether the name of an interface has more before its `*` than nft takes.
+pub(crate) fn is_long_wildcard(value: &Value) -> bool {
+    match wildcard_stem(value) {
+        Some(stem) => stem.len() > MOST_OF_STEM,
+        None => false,
+    }
+}
+
+/// Whether values of the type are names of interfaces.
+pub(crate) fn is_interface(value_type: ComparedType) -> bool {
+    matches!(
+        value_type,
+        ComparedType::Named(ValueType::InterfaceName | ValueType::InterfaceIndex)
+    )
+}
+
+/// Adds the warnings about sets and maps.
+pub(crate) fn judge_sets(
+    alloc: Global,
+    ruleset: &Ruleset,
+    tokens: &Tokens<'_>,
+    outline: &Outline,
+    findings: &mut Findings<'_>,
+) -> Result<(), AllocError> {
+    let mut number = 0usize;
+    for table in &ruleset.tables {
+        for item in &table.items {
+            let part = part_at(&outline.sets, number);
+            match item {
+                Item::Set(set) => judge_set(alloc, set, tokens, part, findings)?,
+                Item::Map(map) => judge_map(alloc, map, tokens, part, findings)?,
+                Item::Comment(_) | Item::Chain(_) => continue,
+            }
+            number = number.saturating_add(1);
+        }
+    }
+    Ok(())
+}
+
+/// The part of this number; an empty one where there is none.
+pub(crate) fn part_at(parts: &[Range], number: usize) -> Range {
+    match parts.get(number) {
+        Some(part) => *part,
+        None => Range { start: 0, end: 0 },
+    }
+}
+
+fn has_flag(flags: &Option<Vec<SetFlag>>, wanted: SetFlag) -> bool {
+    let Some(flags) = flags else {
+        return false;
+    };
+    flags.iter().any(|flag| matches!(
+        (flag, wanted),
+        (SetFlag::Interval, SetFlag::Interval) | (SetFlag::Constant, SetFlag::Constant)
+    ))
+}
+
+fn judge_set(
+    alloc: Global,
+    set: &SetDecl,
+    tokens: &Tokens<'_>,
+    part: Range,
+    findings: &mut Findings<'_>,
+) -> Result<(), AllocError> {
+    let has_interval = has_flag(&set.flags, SetFlag::Interval);
+    if set.auto_merge && !has_interval {
+        let place = part
+            .find(tokens, part.start, b"auto-merge")
+            .unwrap_or(part.start);
+        findings.add(tokens, place, Warning::AutoMergeWithoutInterval)?;
+    }
+    let Some(elements) = &set.elements else {
+        return Ok(());
+    };
+    let list = List::read(alloc, tokens, part, elements_at(tokens, part))?;
+    if !has_interval {
+        list.judge_without_interval(
+            elements
+                .iter()
+                .position(|element| is_interval_key(&element.key)),
+            findings,
+        )?;
+    }
+    let value_type = set.key.kind(0).unwrap_or(ComparedType::Unnamed(0));
+    list.judge_elements(elements, value_type, findings)?;
+    let Some(covered) = elements_coverage(alloc, elements, value_type)? else {
+        return Ok(());
+    };
+    if has_interval && !set.auto_merge {
+        list.judge_overlap(covered, findings)?;
+    }
+    let count = if set.auto_merge {
+        covered.joined
+    } else {
+        covered.count
+    };
+    let is_constant = has_flag(&set.flags, SetFlag::Constant);
+    judge_size(set.size, is_constant, count, tokens, part, findings)
+}
+
+fn judge_map(
+    alloc: Global,
+    map: &MapDecl,
+    tokens: &Tokens<'_>,
+    part: Range,
+    findings: &mut Findings<'_>,
+) -> Result<(), AllocError> {
+    let has_interval = has_flag(&map.flags, SetFlag::Interval);
+    if map.auto_merge {
+        let place = part
+            .find(tokens, part.start, b"auto-merge")
+            .unwrap_or(part.start);
+        findings.add(tokens, place, Warning::AutoMergeOfMap)?;
+    }
+    let Some(pairs) = &map.elements else {
+        return Ok(());
+    };
+    let list = List::read(alloc, tokens, part, elements_at(tokens, part))?;
+    if !has_interval {
+        list.judge_without_interval(
+            pairs.iter().position(|pair| is_interval(&pair.key)),
+            findings,
+        )?;
+    }
+    let Some(covered) = list.judge_pairs(alloc, pairs, map.types.key(), findings)? else {
+        return Ok(());
+    };
+    if has_interval {
+        list.judge_overlap(covered, findings)?;
+    }
+    let is_constant = has_flag(&map.flags, SetFlag::Constant);
+    judge_size(map.size, is_constant, covered.count, tokens, part, findings)
+}
+
+/// The token `elements` of a set or a map.
+fn elements_at(tokens: &Tokens<'_>, part: Range) -> usize {
+    part.find_pair(tokens, part.start, b"elements", b"=")
+        .unwrap_or(part.start)
+}
+
+fn judge_size(
+    size: Option<u64>,
+    is_constant: bool,
+    count: usize,
+    tokens: &Tokens<'_>,
+    part: Range,
+    findings: &mut Findings<'_>,
+) -> Result<(), AllocError> {
+    let Some(size) = size else {
+        return Ok(());
+    };
+    if size == 0 || is_constant || count as u64 <= size {
+        return Ok(());
+    }
+    let place = part.find(tokens, part.start, b"size").unwrap_or(part.start);
+    findings.add(tokens, place, Warning::TooManyElements)
+}
+
+/// How the elements of a set cover numbers; none where that isn't known, as of concatenations.
+fn elements_coverage(
+    alloc: Global,
+    elements: &[Element],
+    value_type: ComparedType,
+) -> Result<Option<Coverage>, AllocError> {
+    let mut intervals = Vec::new(alloc);
+    for (number, element) in elements.iter().enumerate() {
+        let Key::Single(range) = &element.key else {
+            return Ok(Some(distinct(elements.len())));
+        };
+        let Some(interval) = interval_of(range, value_type, number) else {
+            return Ok(None);
+        };
+        intervals.push(interval)?;
+    }
+    Ok(Some(cover(&mut intervals)?))
+}
+
+/// The coverage of so many concatenations.
+fn distinct(count: usize) -> Coverage {
+    Coverage {
+        count,
+        joined: count,
+        overlapping: None,
+    }
+}
+
+impl List<'_, '_> {
+    fn judge_without_interval(
+        &self,
+        element: Option<usize>,
+        findings: &mut Findings<'_>,
+    ) -> Result<(), AllocError> {
+        match element {
+            Some(element) => findings.add(self.tokens, self.start(element), Warning::NoInterval),
+            None => Ok(()),
+        }
+    }
+
+    fn judge_overlap(
+        &self,
+        covered: Coverage,
+        findings: &mut Findings<'_>,
+    ) -> Result<(), AllocError> {
+        match covered.overlapping {
+            Some(element) => findings.add(self.tokens, self.start(element), Warning::Overlap),
+            None => Ok(()),
+        }
+    }
+
+    /// Adds what nft refuses of the literals of a set.
+    pub(crate) fn judge_elements(
+        &self,
+        elements: &[Element],
+        value_type: ComparedType,
+        findings: &mut Findings<'_>,
+    ) -> Result<(), AllocError> {
+        for (number, element) in elements.iter().enumerate() {
+            match &element.key {
+                Key::Single(ValueRange::One(value)) => {
+                    if is_interface(value_type) {
+                        self.judge_value(value, number, findings)?;
+                    }
+                }
+                Key::Single(_) | Key::Joined(_) => {}
+            }
+        }
+        Ok(())
+    }
+
+    /// Adds what nft refuses of the keys of a map, and returns how they cover numbers.
+    fn judge_pairs(
+        &self,
+        alloc: Global,
+        pairs: &[Pair],
+        key: ComparedType,
+        findings: &mut Findings<'_>,
+    ) -> Result<Option<Coverage>, AllocError> {
+        let mut intervals = Vec::new(alloc);
+        let mut is_known = true;
+        for (number, pair) in pairs.iter().enumerate() {
+            if let ValueRange::One(value) = &pair.key {
+                if is_interface(key) {
+                    self.judge_value(value, number, findings)?;
+                }
+            }
+            match interval_of(&pair.key, key, number) {
+                Some(interval) => intervals.push(interval)?,
+                None => is_known = false,
+            }
+        }
+        if !is_known {
+            return Ok(None);
+        }
+        Ok(Some(cover(&mut intervals)?))
+    }
+
+    /// Adds what nft refuses of an anonymous map.
+    pub(crate) fn judge_anonymous_map(
+        &self,
+        alloc: Global,
+        pairs: &[Pair],
+        key: ComparedType,
+        findings: &mut Findings<'_>,
+    ) -> Result<(), AllocError> {
+        match self.judge_pairs(alloc, pairs, key, findings)? {
+            Some(covered) => self.judge_overlap(covered, findings),
+            None => Ok(()),
+        }
+    }
+}
