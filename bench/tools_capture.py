@@ -106,7 +106,7 @@ class Flow:
 
 def write_capture(path, records):
     """Writes so many records, of a tenth as many flows."""
-    chance, count = random.Random(58), records // RECORDS_OF_FLOW
+    chance, count = random.Random(1), records // RECORDS_OF_FLOW
     ports, waiting, begun = Ports(chance), [], 0
     with open(path, "wb") as file:
         write_header(file)

@@ -170,8 +170,8 @@ def answer(addresses, port):
             one.sendto(data * 2, peer)
 
 
-def fetch(source, port, target, words=b"GET / HTTP/1.0\r\n\r\n"):
-    """A connection of TCP from an address; what comes is read to its end."""
+def fetch(source, port, target, words=b"GET / HTTP/1.0\r\n\r\n", closes_first=False):
+    """A connection of TCP from an address; what comes is read to its end, or of it what comes at once."""
     with socket.socket() as one:
         one.settimeout(3)
         one.setsockopt(socket.SOL_SOCKET, socket.SO_REUSEADDR, 1)
@@ -179,7 +179,7 @@ def fetch(source, port, target, words=b"GET / HTTP/1.0\r\n\r\n"):
         with contextlib.suppress(OSError):
             one.connect(target)
             one.sendall(words)
-            while one.recv(65536):
+            while one.recv(65536) and not closes_first:
                 pass
 
 

@@ -8,8 +8,10 @@ from toolbox.flows import BEGUN, ERROR, OWN, SIDE
 from toolbox.packets import TCP, UDP, address_text, destination_end
 
 LINK_KINDS = {
-    SENT_BY_US: "it is the outgoing copy of a packet, as Linux sent it: look at the record that came before it",
-    OTHER_STATION: "the frame is for another station: capture without promiscuous mode (tcpdump -p)",
+    SENT_BY_US: "it is the outgoing copy of a packet, as Linux sent it: look at the record that came before it, unless the box "
+                 "made it itself",
+    OTHER_STATION: "the frame is for another station: seen in promiscuous mode (tcpdump -p leaves it out), or at the port of "
+                   "a bridge: then look for the same packet at the bridge",
     BROADCAST: "broadcast isn't forwarded", MULTICAST: "multicast isn't forwarded"}
 ADVICE = {
     "passed": "nothing to do: OUT has the packet as it left",
@@ -39,7 +41,8 @@ def advice(why):
         return [f"the box file has no route to {target}: add `route PREFIX NAME` if the box has one (ip -4 route)"]
     if outcome == "interface":
         index = interface_of(why.data, why.link_type)
-        return [f"the box file has no interface of index {index}: add it (ip -o -4 addr), if its packets matter"]
+        return [f"the box file has no interface of index {index}: add it (ip -o -4 addr), if its packets matter; at the port of "
+                "a bridge, or below a VLAN, they don't: look for the same packet at the bridge, or the VLAN's interface"]
     if outcome == "link" and why.link_type == LINUX_SLL2 and len(why.data) > 10:
         return [LINK_KINDS.get(why.data[10], "it wasn't sent to this box")]
     if outcome == "link":
@@ -71,7 +74,7 @@ def about_flow(why):
     if not flow:
         return []
     known, first = flows.flags[flow], flows.first[flow]
-    if why.wanted is not None:
+    if why.wanted is not None and why.role & SIDE:
         return ["Linux gave this flow another external port than a run does, so the answer finds no connection: "
                 "tools/align makes such a capture fit"]
     if known & OWN or first and not flows.of[first]:
@@ -82,8 +85,9 @@ def about_flow(why):
     if answered:
         return [f"it would answer flow {answered[0]}, whose last packet came {plural(answered[1], 'second')} before: "
                 "longer than its idle limit (docs/BOX.md), if that one was let through"]
-    if why.role & (SIDE | ERROR) and why.first_outcome not in ("passed", "local") and first != record:
-        return [f"it answers record {first}, which was dropped: look there first (why {first})"]
+    if why.first_outcome not in ("passed", "local") and first != record:
+        what = "it answers" if why.role & (SIDE | ERROR) else "its flow began with"
+        return [f"{what} record {first}, which was dropped: look there first (why {first})"]
     return []
 
 

@@ -6,11 +6,14 @@ from toolbox.captures import (
     BROADCAST, LINUX_SLL2, MULTICAST, OTHER_STATION, PROTOCOL_AT, TO_US, header_of, packet_at,
     records)
 from toolbox.commands import plural
-from toolbox.flows import BEGUN, MOST_READ, OWN, TRANSLATED, Flows
+from toolbox.flows import BEGUN, MOST_READ, TRANSLATED, Flows
 from toolbox.packets import TCP, address_text, identity
 
 ETHER_TYPES = {b"\x86\xdd": "IPv6", b"\x08\x06": "ARP", b"\x81\x00": "VLAN tags", b"\x88\xa8": "VLAN tags",
                b"\x88\x64": "PPPoE"}
+NOT_IP_ADVICE = {"IPv6": ": a table of family inet counts IPv4 alone here",
+                 "VLAN tags": ": capture at the interface of the VLAN, or on all of them (-i any -y LINUX_SLL2)",
+                 "PPPoE": ": capture at the interface ppp.., or on all of them (-i any -y LINUX_SLL2)"}
 LONGEST_PACKET = 1500  # bytes that fit into a frame of Ethernet
 WINDOW = 4096  # how many packets may come between two sights of one
 MOST_LISTED = 5
@@ -31,6 +34,8 @@ class Checkup:
         self.cut = self.joined = self.backwards = self.fragments = self.by_loopback = 0
         # entering packets by identity that were seen on interfaces that the box file lacks alone, so far
         self.elsewhere, self.elsewhere_before, self.alone = {}, {}, Counter()
+        # entering packets with the interface of the box file, and how many entered by two such, by both
+        self.entered, self.entered_before, self.twice = {}, {}, Counter()
         self.ip = self.count = 0
         self.end = 0  # of the last whole record
         self.protocol_at, self.indices = PROTOCOL_AT[self.link_type], box.index_bytes()
@@ -78,10 +83,12 @@ class Checkup:
         """Counts a packet by its interface and type; answers whether it enters the box."""
         self.types[data[10]] += 1
         if data[4:8] in self.indices:
-            if data[10] == TO_US and (self.elsewhere or self.elsewhere_before) and len(data) >= at + 28:
-                mark = identity(data, at)
-                self.elsewhere.pop(mark, None)
-                self.elsewhere_before.pop(mark, None)
+            if data[10] == TO_US and len(data) >= at + 28:
+                if self.elsewhere or self.elsewhere_before:
+                    mark = identity(data, at)
+                    self.elsewhere.pop(mark, None)
+                    self.elsewhere_before.pop(mark, None)
+                self.take_entering(data[at + 2:at + 28], data[4:8])
             return data[10] == TO_US
         index = int.from_bytes(data[4:8], "big")
         self.lacking[index] += 1
@@ -92,6 +99,16 @@ class Checkup:
                     self.alone[gone] += 1
                 self.elsewhere, self.elsewhere_before = {}, self.elsewhere
         return False
+
+    def take_entering(self, mark, index):
+        """A packet that enters by an interface of the box, known by the first bytes of its headers: perhaps it was seen at
+        another one just before."""
+        before = self.entered.get(mark) or self.entered_before.get(mark)
+        if before and before != index:
+            self.twice[before, index] += 1
+        self.entered[mark] = index
+        if len(self.entered) > WINDOW:
+            self.entered, self.entered_before = {}, self.entered
 
     # What was found
 
@@ -134,6 +151,13 @@ class Checkup:
                 "shows them to prerouting, forward and postrouting; a run doesn't (docs/CAPTURES.md)",
                 {"packets": alone})
 
+        for (first, second), number in sorted(self.twice.items()):
+            names = [self.box.interface_name(int.from_bytes(index, "big")) for index in (first, second)]
+            yield Finding(
+                "twice", True, f"{plural(number, 'packet')} seen to enter by {names[0]} and again by {names[1]}",
+                "they are replayed twice: one is the port of a bridge, or below a VLAN, and has an address of its own; leave "
+                "out that sight (docs/CAPTURES.md)", {"packets": number, "interfaces": names})
+
     def of_packets(self):
         own = sum(self.own_sources.values())
         if own:
@@ -158,7 +182,7 @@ class Checkup:
             share = 100 * number / self.count
             yield Finding(name, name == "IPv6" and share >= 1,
                           f"{plural(number, 'record')} of {name}, {share:.1f} % of all",
-                          "no rule sees them: a table of family inet counts IPv4 alone here", {"records": number})
+                          f"no rule sees them{NOT_IP_ADVICE.get(name, '')}", {"records": number})
         for kinds, name in (((OTHER_STATION,), "frames for other stations"),
                             ((BROADCAST, MULTICAST), "broadcasts and multicasts")):
             number = sum(self.types[kind] for kind in kinds)
@@ -167,12 +191,12 @@ class Checkup:
 
     def of_flows(self):
         flows = self.flows
-        own = sum(1 for flow in flows.of if flow and flows.flags[flow] & OWN)
+        own = len(flows.answers_to_box())
         if own:
             yield Finding("answers to the box", True, f"{plural(own, 'record')} with answers to packets of the box itself",
                           "on Linux they are established; here they are new, since a run has no packets of the box, and "
-                          "input drops them, or a mapping leads them inside", {"records": own})
-        midway = sum(kind == TCP and not known & (BEGUN | OWN) for kind, known in zip(flows.kind, flows.flags))
+                          "input drops them, or a mapping leads them inside: tools/align takes them out", {"records": own})
+        midway = flows.without_beginning()
         if midway:
             yield Finding("no beginning", True, f"{plural(midway, 'TCP flow')} without a SYN in the capture",
                           "they began before it: new at their first packet here, established on Linux", {"flows": midway})
@@ -181,7 +205,7 @@ class Checkup:
 
     def of_answers(self):
         flows = self.flows
-        begun = [flow for flow in range(1, flows.number() + 1) if flows.kind[flow] == TCP and flows.flags[flow] & BEGUN]
+        begun = [flow for flow in flows.some() if flows.kind[flow] == TCP and flows.flags[flow] & BEGUN]
         unanswered = sum(not flows.answered[flow] for flow in begun)
         if len(begun) >= FEW_FLOWS and unanswered > 0.9 * len(begun):
             yield Finding("one direction", True, f"{unanswered} of {plural(len(begun), 'TCP flow')} without any answer",

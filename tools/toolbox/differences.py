@@ -4,7 +4,7 @@ from array import array
 from collections import Counter, namedtuple
 
 from toolbox.captures import records
-from toolbox.flows import BEGUN, SIDE
+from toolbox.flows import SIDE
 from toolbox.packets import ANSWER, ASK, TCP, UDP, address_text, describe, inverse
 from toolbox.replay import ELSEWHERE, LOCAL, NOT_SENT, PASSED
 from toolbox.reports import Decision, event_of, events_of_some
@@ -90,6 +90,8 @@ def cause(kind, before, after, outcome_before, outcome_after):
         return old, new
     if kind == BLOCKED:
         return blocked_by(before, after, outcome_before, outcome_after)
+    if kind == OTHERWISE:
+        return stopped_by(before, outcome_before), stopped_by(after, outcome_after)
     old, new = parted(before, after), parted(after, before)
     if not old and not new and outcome_before == outcome_after:
         same = Told(None, None, outcome_after, "the same rules; other ports, since other flows have them or leave them")
@@ -97,10 +99,15 @@ def cause(kind, before, after, outcome_before, outcome_after):
     return (old[0] if old else outcome(outcome_before)), (new[0] if new else outcome(outcome_after))
 
 
+def stopped_by(decisions, ended):
+    """What dropped a packet: its last decision, if a rule did."""
+    return decisions[-1] if decisions and ended == "rule" else outcome(ended)
+
+
 def blocked_by(before, after, outcome_before, outcome_after):
     """What let a packet through is the decision in the chain that now drops it, or else the first that isn't taken any
     more; that of a policy tells least."""
-    stopped = after[-1] if after and outcome_after == "rule" else outcome(outcome_after)
+    stopped = stopped_by(after, outcome_after)
     gone = parted(before, after)
     let_through = ([one for one in gone if one.chain == stopped.chain]
                    or [one for one in gone if one.number is not None or one.verdict != "accept"]
@@ -244,8 +251,3 @@ class Groups:
         if not flows.of[record]:
             return None
         return inverse(flows.tuple_of(record)) if flows.role[record] & SIDE else flows.tuple_of(record)
-
-
-def without_beginning(flows):
-    """How many flows of TCP have no SYN in the capture."""
-    return sum(kind == TCP and not known & BEGUN for kind, known in zip(flows.kind[1:], flows.flags[1:]))

@@ -14,13 +14,15 @@ from toolbox.packets import (
 SIDE, OPENER, SYN_ACK, ERROR = 1, 2, 4, 8
 # Of a flow. BEGUN: its beginning is in the capture. TRANSLATED, LEARNED: what Linux made of its tuple is another, is
 # known. SAW_SYN_ACK, ANSWERED_MIDWAY: of TCP, whether an answer came to a SYN, or to a flow without one. OWN: the box
-# began it itself.
-BEGUN, TRANSLATED, LEARNED, SAW_SYN_ACK, ANSWERED_MIDWAY, OWN = 1, 2, 4, 8, 16, 32
+# began it itself. JOINED: its records are another flow's.
+BEGUN, TRANSLATED, LEARNED, SAW_SYN_ACK, ANSWERED_MIDWAY, OWN, JOINED = 1, 2, 4, 8, 16, 32, 64
 
 MOST_READ = 160  # bytes of a record that are looked at: all headers, also those within an ICMP error
 WINDOW = 4096  # how many packets may come between one and its outgoing copy
 MOST_ALIKE = 15  # packets of one identity that wait for their copies
-SURELY_KEPT = 10  # seconds for which Linux keeps any connection that had a packet
+# seconds for which Linux keeps any connection that had a packet, unless a SYN takes the port of one that is over
+SURELY_KEPT = 10
+FORGOTTEN = 30  # seconds after which Linux forgets the first kinds of connections
 
 
 class Flows:
@@ -46,19 +48,34 @@ class Flows:
         self.count = len(self.of) - 1
 
     def number(self):
-        """How many flows there are; `join` leaves numbers without records."""
+        """The greatest number of a flow; `join` leaves some without records."""
         return len(self.first) - 1
+
+    def some(self):
+        """The numbers of the flows that have records."""
+        return [flow for flow in range(1, len(self.first)) if not self.flags[flow] & JOINED]
+
+    def without_beginning(self):
+        """How many flows of TCP have no SYN in the capture, those aside that the box began."""
+        return sum(self.kind[flow] == TCP and not self.flags[flow] & (BEGUN | OWN) for flow in self.some())
 
     def tuple_of(self, record):
         """The tuple of a record of a flow."""
         return self.tuples[self.seen[record]]
 
+    def answers_to_box(self):
+        """The records that answer packets of the box's own, which aren't in a run."""
+        return [record for record, flow in enumerate(self.of) if flow and self.flags[flow] & OWN]
+
     def join(self, joined, errors=()):
         """Makes one of two flows each: `joined` has of a flow the one (times two, and side) that its side 0 is. `errors`
         has of records with ICMP errors the flow and side to which they belong."""
-        for number, value in dict(errors).items():
-            self.of[number], self.role[number] = value >> 1, ERROR | value & SIDE
         of, role, answered = self.of, self.role, self.answered
+        for number, value in dict(errors).items():
+            of[number], role[number] = value >> 1, ERROR | value & SIDE
+            self.answer(value, number)
+        for flow in joined:
+            self.flags[flow] |= JOINED
         for number in range(1, self.count + 1):
             value = joined.get(of[number])
             if value is None:
@@ -66,11 +83,15 @@ class Flows:
             flow, what = value >> 1, role[number] ^ value & SIDE
             of[number] = flow
             role[number] = what & ~(OPENER | SYN_ACK) if what & SIDE else what
-            if what & SIDE and not 0 < answered[flow] <= number:
-                answered[flow] = number
+            self.answer(2 * flow + (what & SIDE), number)
         for number in range(1, self.count + 1):
             if role[number] & OPENER and 0 < answered[of[number]] <= number:
                 role[number] &= ~OPENER  # what comes behind the answer opens nothing
+
+    def answer(self, value, record):
+        """Takes a record that turned out to be of this flow (times two) and side for an answer, if it is the first."""
+        if value & SIDE and not 0 < self.answered[value >> 1] <= record:
+            self.answered[value >> 1] = record
 
 
 class Reader:
@@ -86,6 +107,7 @@ class Reader:
         self.last, self.begun_with, self.learned = array("I", [0]), array("q", [-1]), bytearray(1)
         self.young, self.old, self.waiting = {}, {}, 0  # by identity: packets whose copies may come
         self.syns, self.old_syns = {}, {}  # by the number that acknowledges them
+        self.acknowledged = {}  # of a flow that begins with a SYN and ACK what that acknowledges
         self.sweep_at = 1 << 16
 
     def read(self):
@@ -140,12 +162,12 @@ class Reader:
         value = (self.owner[place] if place else 0) or self.by_inverse(key)
         if value and (flags == SYN or seconds - last[value >> 1] >= self.limits[key[12]]):
             value = self.still(value, seconds, key, flags, data)
-        if not value and flags & (SYN | ACK) == SYN | ACK:
-            value = self.by_handshake(key, data)
+        if flags & (SYN | ACK) == SYN | ACK:
+            value = self.by_handshake(value, key, data)
         if not value:
             value = self.begin(number, seconds, key, flags, data)
             place = self.find[key]
-        elif place is None:
+        elif place is None or self.owner[place] != value:
             place = self.place_of(key, value)
         flow, side = value >> 1, value & 1
         if self.use_copies and (not self.learned[flow] >> side & 1 or seconds - last[flow] >= SURELY_KEPT):
@@ -226,6 +248,8 @@ class Reader:
         value = (self.owner[place] if place else 0) or self.by_inverse(key)
         if place is None:
             place = self.place_of(key, value)
+        if self.use_copies:
+            self.wait(data, (value, key, number))
         if not value:
             return 0, ERROR, place  # a run may tell to which flow it belongs
         if value & 1 and not self.flows.answered[value >> 1]:
@@ -248,6 +272,8 @@ class Reader:
             self.learned[self.owner[place] >> 1] = 0
         self.find.pop(inverse(key), None)
         self.place_of(key, 2 * flow)
+        if flags & (SYN | ACK) == SYN | ACK:
+            self.acknowledged[flow] = sequence_of(data, self.at, 8)
         if flags == SYN:
             self.syns[self.begun_with[flow] + 1 & 0xFFFFFFFF] = flow, key
             if len(self.syns) > WINDOW:
@@ -256,14 +282,17 @@ class Reader:
             self.sweep(seconds)
         return 2 * flow
 
-    def by_handshake(self, key, data):
-        """The flow of a SYN and ACK whose tuple isn't known, by the SYN that it acknowledges, if one end is the same."""
+    def by_handshake(self, value, key, data):
+        """The flow and side of a SYN and ACK: of its tuple (0 if that isn't known), or if that one began with another SYN,
+        by the SYN that it acknowledges, if one end is the same. 0 if it answers another SYN than the flow of its tuple."""
         acknowledged = sequence_of(data, self.at, 8)
+        if value and acknowledged == self.begun_with[value >> 1] + 1 & 0xFFFFFFFF:
+            return value
         flow, asked = self.syns.get(acknowledged) or self.old_syns.get(acknowledged) or (0, None)
-        if flow == 0 or not has_common_end(asked, key):
-            return 0
-        self.flows.flags[flow] |= TRANSLATED | LEARNED
-        return 2 * flow + 1
+        if flow and has_common_end(asked, key):
+            self.flows.flags[flow] |= TRANSLATED | LEARNED
+            return 2 * flow + 1
+        return value if self.acknowledged.get(value >> 1, acknowledged) == acknowledged else 0
 
     # Copies of what the box sent
 
@@ -271,12 +300,15 @@ class Reader:
         """An outgoing copy: what Linux made of a packet that came, or a packet of the box's own."""
         flows = self.flows
         flows.copies += 1
-        key = tuple_at(data, self.at) if self.use_copies else None
+        if not self.use_copies:
+            return
+        key = tuple_at(data, self.at)
         if key is None:
+            self.leave_error(data)
             return
         value = self.left.get(key)
         if (value and self.learned[value >> 1] >> (value & 1) & 1
-                and seconds - self.last[value >> 1] < SURELY_KEPT):
+                and seconds - self.last[value >> 1] < SURELY_KEPT and not is_lone_syn(data, self.at, key)):
             return  # a packet of this side has left so before, and Linux gave its port to no other since
         inverted = inverse(key)
         place = self.find.get(inverted)
@@ -285,16 +317,36 @@ class Reader:
         came = self.take_waiting(identity(data, self.at), key)
         if came is not None:
             self.learn(key, inverted, seconds, *came)
-        elif value:
+            return
+        flows.own += 1
+        place = self.find.get(key)
+        asked = self.owner[place] >> 1 if place else 0
+        if flows.flags[asked] & OWN and value >> 1 in (0, asked):
+            self.last[asked] = seconds
+        elif value and not self.is_taken_over(key, seconds, data):
             # an answer of the box itself
             if value & 1 and not flows.answered[value >> 1]:
                 flows.answered[value >> 1] = number
-        else:
-            flows.own += 1
-            if key not in self.find:
-                # a question of the box's own: the answers to it begin nothing
-                flow = self.begin(number, seconds, key, 0, data) >> 1
-                flows.flags[flow] = OWN
+        elif value or place is None:
+            # a question of the box's own: the answers to it begin nothing
+            flow = self.begin(number, seconds, key, 0, data) >> 1
+            flows.flags[flow] = OWN
+            self.left.pop(key, None)
+
+    def is_taken_over(self, key, seconds, data):
+        """Whether the box itself sends with a tuple that another flow left with, which Linux has forgotten since."""
+        value = self.left.get(key)
+        if not value:
+            return False
+        if key[12] == TCP:
+            return is_lone_syn(data, self.at, key) and self.begun_with[value >> 1] != sequence_of(data, self.at)
+        return seconds - self.last[value >> 1] >= FORGOTTEN
+
+    def leave_error(self, data):
+        """A copy of an ICMP error: the box's own, if none like it came."""
+        key = error_tuple_at(data, self.at)
+        if key is not None and self.take_waiting(identity(data, self.at), key) is None:
+            self.flows.own += 1
 
     def learn(self, key, inverted, seconds, value, as_it_came, its_number):
         """A packet left with the tuple `key`: what answers it belongs to its flow."""
@@ -320,11 +372,13 @@ class Reader:
         return came
 
     def adopted(self, value, as_it_came, number, seconds, inverted):
-        """The flow of a translated packet: that of `inverted`, if such a one lives and the packet seemed to begin
-        another, since the copy that would have told was lost."""
+        """The flow of a translated packet: that of `inverted`, if such a one lives, the packet seemed to begin another,
+        since the copy that would have told was lost, and it isn't known how packets of that side come: else Linux gave
+        the port of one flow to another."""
         flows, flow, place = self.flows, value >> 1, self.find.get(inverted)
         other = 0 if place is None else self.owner[place]
         if (not other or other >> 1 == flow or flows.first[flow] != number or self.begun_with[flow] >= 0
+                or flows.flags[other >> 1] & OWN or self.learned[other >> 1] >> (other & 1 ^ 1) & 1
                 or seconds - self.last[other >> 1] >= self.limits[inverted[12]]):
             return value
         value = other ^ 1
@@ -348,6 +402,11 @@ def sequence_of(data, at, place=4):
     """The sequence number of TCP; 8 bytes behind its beginning stands the acknowledgement number."""
     behind = at + 4 * (data[at] & 15) + place
     return int.from_bytes(data[behind:behind + 4], "big")
+
+
+def is_lone_syn(data, at, key):
+    """Whether a packet, whose tuple this is, begins a connection of TCP."""
+    return key[12] == TCP and data[at + 4 * (data[at] & 15) + 13] & (FIN | SYN | RST | ACK) == SYN
 
 
 def has_common_end(asked, answer):

@@ -2,7 +2,8 @@
 import json
 from itertools import islice
 
-from toolbox.captures import LINK_LENGTHS, LINUX_SLL2, header_of, packet_at, records
+from toolbox.captures import (
+    BROADCAST, LINK_LENGTHS, LINUX_SLL2, MULTICAST, OTHER_STATION, SENT_BY_US, header_of, packet_at, records)
 from toolbox.flows import ERROR, MOST_READ, SIDE
 from toolbox.packets import (
     ANSWER, ASK, ECHO_REPLY, ECHO_REQUEST, ICMP, PORTED, PROTOCOL_NAMES, TCP, UDP, address_text, error_tuple_at, inverse,
@@ -12,6 +13,9 @@ from toolbox.reports import Log, event_of, text_of, traced_records
 ECHOES = (ASK[0], ANSWER[0])
 DIRECTIONS = ('"original"', '"reply"')
 MOST_CACHED = 1 << 16
+# what a record of LINUX_SLL2 is that was dropped for `link`, by its packet type
+LINK_KINDS = {bytes([kind]): f', "link": "{word}"' for kind, word in (
+    (BROADCAST, "group"), (MULTICAST, "group"), (OTHER_STATION, "other station"), (SENT_BY_US, "copy"))}
 OUT_LINK = LINK_LENGTHS[LINUX_SLL2]
 
 
@@ -141,7 +145,10 @@ class RecordTexts:
             if outcome == b"passed":
                 frame = next(frames)
                 after, left_by = packet_text(frame, OUT_LINK), names[frame[4:8]]
+            ended = outcomes[outcome]
+            if outcome == b"link" and link_type == LINUX_SLL2:
+                ended += LINK_KINDS.get(data[10:11], "")
             yield (f'{{"record": {number}, "time": {seconds}.{str(fraction).zfill(digits)}, "flow": {flow or "null"}, '
                    f'"direction": {DIRECTIONS[what & SIDE] if flow else "null"}, "in": {came_by}, "before": {before}, '
-                   f'"events": {told[events] if events else "[]"}, "outcome": {outcomes[outcome]}, "out": {left_by}, '
+                   f'"events": {told[events] if events else "[]"}, "outcome": {ended}, "out": {left_by}, '
                    f'"after": {after}}}\n')

@@ -17,6 +17,7 @@ parts_of, joined_parts = PARTS.unpack, PARTS.pack
 USUAL_HEADER = 0x45  # version 4, without options
 ECHO_REPLY, ECHO_REQUEST = 0, 8
 ICMP_ERRORS = frozenset((3, 4, 5, 11, 12))
+ICMP_ERROR_BYTES = frozenset(bytes([kind]) for kind in ICMP_ERRORS)
 FIN, SYN, RST, PSH, ACK, URG = 1, 2, 4, 8, 16, 32
 NO_PORT = b"\0\0"
 PROTOCOL_NAMES = {ICMP: "icmp", TCP: "tcp", UDP: "udp"}
@@ -84,29 +85,41 @@ def destination_end(key):
 
 def identity(data, at):
     """What translation and forwarding leave of a packet, to know it again in its outgoing copy: length, identification,
-    and of the transport what isn't a port or a checksum."""
+    and of the transport what isn't a port or a checksum; of the datagram in an ICMP error its header up to the checksum."""
     protocol, behind = data[at + 9], at + 4 * (data[at] & 15)
     if protocol == TCP:
         return data[at + 2:at + 6] + data[behind + 4:behind + 16]
     if protocol == UDP:
         return data[at + 2:at + 6] + data[behind + 4:behind + 6] + data[behind + 8:behind + 40]
     if protocol == ICMP:
-        return data[at + 2:at + 6] + data[behind:behind + 2] + data[behind + 6:behind + 40]
+        end = behind + (18 if data[behind:behind + 1] in ICMP_ERROR_BYTES else 40)
+        return data[at + 2:at + 6] + data[behind:behind + 2] + data[behind + 6:end]
     return data[at + 2:at + 6] + data[behind:behind + 40]
 
 
 def without_ports(packet):
-    """An IPv4 packet without ports, identifier and checksums: what two boxes that chose other ports have in common."""
+    """An IPv4 packet without ports, identifiers of echoes and checksums, also in the datagram of an ICMP error: what two
+    boxes that chose other ports have in common."""
     packet = bytearray(packet[:int.from_bytes(packet[2:4], "big")])
-    packet[10:12] = bytes(2)
-    behind = 4 * (packet[0] & 15)
-    if int.from_bytes(packet[6:8], "big") & 0x1FFF:
-        return bytes(packet)
-    for place, length in {TCP: ((0, 4), (16, 2)), UDP: ((0, 4), (6, 2)), ICMP: ((2, 4),)}.get(packet[9], ()):
-        packet[behind + place:behind + place + length] = bytes(length)
-    if packet[9] == ICMP and packet[behind] in ICMP_ERRORS:
-        del packet[behind + 8:]
+    if len(packet) >= 20:
+        blank_ports(packet, 0)
+        if error_tuple_at(packet, 0):
+            blank_ports(packet, 4 * (packet[0] & 15) + 8)
     return bytes(packet)
+
+
+def blank_ports(packet, at):
+    """Makes zero the ports, or the identifier, and the checksums of the packet that begins at `at`."""
+    behind = at + 4 * (packet[at] & 15)
+    places = [(at + 10, 2)]
+    if not int.from_bytes(packet[at + 6:at + 8], "big") & 0x1FFF:
+        kinds = {TCP: ((0, 4), (16, 2)), UDP: ((0, 4), (6, 2)), ICMP: ((2, 2),)}
+        places += [(behind + place, length) for place, length in kinds.get(packet[at + 9], ())]
+        if packet[at + 9] == ICMP and packet[behind:behind + 1] in (bytes([ECHO_REPLY]), bytes([ECHO_REQUEST])):
+            places.append((behind + 4, 2))
+    for place, length in places:
+        if place + length <= len(packet):
+            packet[place:place + length] = bytes(length)
 
 
 # Checksums

@@ -1,5 +1,5 @@
 """A ruleset over a capture as it would have been: answers go to the ends that this ruleset chose, and what a host
-wouldn't have sent, since nothing answered it, isn't sent.
+wouldn't have sent, since nothing answered it, isn't sent. Nor are answers to the box's own packets: a run doesn't have these.
 
 Each round runs nftrun and decides anew, for each record, where it goes; the rounds end when one decides as the round
 before. A decision rests on earlier records alone, so each round settles one more at least, and there is one end.
@@ -10,9 +10,9 @@ import struct
 from array import array
 
 from toolbox import program
-from toolbox.captures import LINK_LENGTHS, LINUX_SLL2, RAW_IP, SENT_BY_US, header_of, pieces, records
+from toolbox.captures import LINK_LENGTHS, LINUX_SLL2, OTHER_STATION, RAW_IP, header_of, pieces, records
 from toolbox.commands import Refused
-from toolbox.flows import BEGUN, ERROR, OPENER, SAW_SYN_ACK, SIDE, SYN_ACK, TRANSLATED
+from toolbox.flows import BEGUN, ERROR, OPENER, OWN, SAW_SYN_ACK, SIDE, SYN_ACK, TRANSLATED
 from toolbox.packets import PORTED, TCP, USUAL_HEADER, destination_end, inverse, source_end, tuple_at, with_destination
 from toolbox.reports import outcomes_of
 
@@ -45,7 +45,7 @@ class Replay:
 
     def __init__(self, path, rules, box, flows, files, cuts, spared=None, like=None, as_captured=False):
         self.program, self.rules, self.box, self.flows, self.files = path, rules, box, flows, files
-        self.cuts, self.spared = cuts, spared
+        self.cuts, self.spared, self.as_captured = cuts, spared, as_captured
         self.names = {b"passed": PASSED, b"local": LOCAL}
         self.to, self.ends = (like.to, like.ends) if like else (array("I", bytes(4 * (flows.count + 1))), Ends())
         self.cut = bytearray(flows.number() + 1)
@@ -168,7 +168,7 @@ class Plan:
 def silence(file, offset, link_type):
     """Makes a record one that no rule sees, for `link`, `version` or `notip`."""
     if link_type == LINUX_SLL2:
-        os.pwrite(file, bytes([SENT_BY_US]), offset + 10)
+        os.pwrite(file, bytes([OTHER_STATION]), offset + 10)
     elif link_type == RAW_IP:
         os.pwrite(file, b"\0", offset)
     else:
@@ -191,7 +191,7 @@ class Decisions:
     def __init__(self, replay, cuts):
         flows = self.flows = replay.flows
         self.outcomes, self.left = replay.outcomes, left_tuples(replay.files.leaving)
-        self.cuts, self.spared = cuts, replay.spared
+        self.cuts, self.spared, self.takes_out = cuts, replay.spared, not replay.as_captured
         self.to, self.ends = array("I", bytes(4 * (flows.count + 1))), replay.ends
         self.cut = bytearray(len(flows.first))
         self.opened = bytearray(len(flows.first))  # PASSED, LOCAL: an opener went through; 4: a SYN and ACK did
@@ -206,11 +206,15 @@ class Decisions:
         flows, next_left, cuts, joins = self.flows, self.left.__next__, self.cuts, self.expected is not None
         seen, tuples, known, first = flows.seen, flows.tuples, flows.flags, flows.first
         to, choice, left_as, fine, opened = self.to, self.choice, self.left_as, self.fine, self.opened
+        takes_out = self.takes_out
         for record, (flow, what, outcome) in enumerate(zip(flows.of, flows.role, self.outcomes)):
             left = next_left() if outcome == PASSED else None
             if not flow:
                 if what and joins:
                     self.look_for_error(record)
+                continue
+            if takes_out and known[flow] & OWN:
+                to[record] = NOT_SENT
                 continue
             # an opener comes before any answer, so it is never cut
             if cuts and not fine[flow] and not what & OPENER and known[flow] & BEGUN and self.is_cut(record, flow):
@@ -294,5 +298,7 @@ class Decisions:
         if self.flows.flags[flow] & TRANSLATED or left != self.flows.tuple_of(record):
             answer = inverse(left)
             self.choice[2 * flow + (side ^ 1)] = answer
-            if self.expected is not None:
+            # side 0 is known by how it came; what comes so again may begin another flow. Of one that is joined to an
+            # earlier one, its side 0 may be the other side
+            if self.expected is not None and side == self.joined.get(flow, 0) & SIDE:
                 self.expected[answer] = 2 * flow + (side ^ 1)

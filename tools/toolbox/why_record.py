@@ -1,6 +1,6 @@
 """One record of a run: how it came, the rules on its way, what translation made of it, and its flow."""
 from toolbox.boxes import Box
-from toolbox.captures import LINK_LENGTHS, LINUX_SLL2, RECORD_HEADER, header_of, interface_of, packet_at, records
+from toolbox.captures import LINK_LENGTHS, LINUX_SLL2, RECORD_HEADER, SENT_BY_US, header_of, interface_of, packet_at, records
 from toolbox.commands import Refused
 from toolbox.flows import ERROR, SIDE, Flows
 from toolbox.packets import TCP, describe, destination_end, end_text, flags_text, inverse, source_end, tuple_at
@@ -99,7 +99,9 @@ class Why:
         if self.key is not None and self.key[12] == TCP:
             flags = f", {flags_text(self.data[self.at + 4 * (self.data[self.at] & 15) + 13])}"
         length = int.from_bytes(self.data[self.at + 2:self.at + 4], "big")
-        return [f"{came}{flags}, {length} bytes, TTL {self.data[self.at + 8]}", f"came by {self.came_by}"]
+        is_copy = self.link_type == LINUX_SLL2 and self.data[10] == SENT_BY_US
+        return [f"{came}{flags}, {length} bytes, TTL {self.data[self.at + 8]}",
+                f"{'sent' if is_copy else 'came'} by {self.came_by}"]
 
     def way(self):
         """A line for each decision and log: hook, rule, verdict, text."""

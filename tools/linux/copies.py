@@ -1,0 +1,81 @@
+"""A run beside the outgoing copies in its capture: what Linux sent of each packet, and what its counters came to."""
+from collections import Counter, namedtuple
+
+from linux.differences import counter_differences
+from toolbox.captures import LINK_LENGTHS, LINUX_SLL2, SENT_BY_US, TO_US, header_of, packet_at, records
+from toolbox.commands import Refused
+from toolbox.packets import describe, identity, without_ports
+from toolbox.reports import RuleCounter
+from toolbox.rulesets import read_ruleset
+
+AT = LINK_LENGTHS[LINUX_SLL2]
+SMALLEST = AT + 28
+# `same`, `but_ports`: how many packets left alike on both. `ours`, `theirs`: descriptions of those that have no like
+Likeness = namedtuple("Likeness", "same but_ports ours theirs")
+
+
+def interface_and_packet(data):
+    """The interface's index, and the packet without what stands behind it in the frame."""
+    length = int.from_bytes(data[AT + 2:AT + 4], "big")
+    return data[4:8], data[AT:AT + length]
+
+
+class Copies:
+    """The outgoing copies by the interfaces of a box: `forwarded` are those of packets that came, in order; `own` counts
+    those that none came for, which the box sent itself."""
+
+    def __init__(self, capture, box):
+        if header_of(capture).link_type != LINUX_SLL2:
+            raise Refused(f"{capture}: a capture of another link type than LINUX_SLL2 has no outgoing copies")
+        came, indices = Counter(), box.index_bytes()
+        self.forwarded, self.own = [], 0
+        for *_, data in records(capture):
+            if packet_at(data, LINUX_SLL2) is None or data[4:8] not in indices or len(data) < SMALLEST:
+                continue
+            mark = identity(data, AT)
+            if data[10] == TO_US:
+                came[mark] += 1
+            elif data[10] == SENT_BY_US and came[mark]:
+                came[mark] -= 1
+                self.forwarded.append(interface_and_packet(data))
+            elif data[10] == SENT_BY_US:
+                self.own += 1
+        if not self.forwarded:
+            raise Refused(f"{capture}: no outgoing copies of packets that came")
+
+
+def likeness(forwarded, leaving):
+    """What the box sent on beside what a run sends: the packets of the capture `leaving`."""
+    ours = [interface_and_packet(data) for *_, data in records(leaving)]
+    same = sum((Counter(forwarded) & Counter(ours)).values())
+    left, right = (Counter((interface, without_ports(packet)) for interface, packet in packets)
+                   for packets in (forwarded, ours))
+    return Likeness(same, sum((left & right).values()), list(without_like(ours, left)), list(without_like(forwarded, right)))
+
+
+def without_like(packets, others):
+    others = Counter(others)
+    for interface, packet in packets:
+        key = interface, without_ports(packet)
+        if others[key]:
+            others[key] -= 1
+        else:
+            yield describe(packet, 0)
+
+
+def listed_counters(path):
+    """The counters of a ruleset as nft lists it, as a report has them."""
+    for rule in read_ruleset(path).rules:
+        words = [token.text for token in rule.tokens]
+        starts = [place for place, word in enumerate(words[:-4])
+                  if word == "counter" and words[place + 1] == "packets" and words[place + 3] == "bytes"]
+        for which, place in enumerate(starts, 1):
+            yield RuleCounter(rule.chain, rule.number, which, int(words[place + 2]), int(words[place + 4]))
+
+
+def differing(counters, listing):
+    """The counters of a report that nft lists otherwise, each with what that lists."""
+    others = list(listed_counters(listing))
+    if {(one.chain, one.rule, one.which) for one in others} != {(one.chain, one.rule, one.which) for one in counters}:
+        raise Refused(f"{listing}: it has other counters than the rules of the run")
+    return list(counter_differences(counters, others))
