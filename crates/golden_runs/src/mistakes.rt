@@ -43,7 +43,7 @@ fn compare(rt: &HostRuntime, part: &str, plant: &[u8]) -> Result<()> {
 }
 
 /// What `--explain` prints for a ruleset.
-fn told_of(alloc: Global, rules: &str, plant: &[u8]) -> Result<String, AllocError> {
+fn told_of<'a>(alloc: Global, rules: &'a str, plant: &'a [u8]) -> Result<String, AllocError> {
     let sources = Sources {
         paths: SourcePaths {
             rules: "rules.nft",
