@@ -3,7 +3,6 @@ pub mod WordLaws
 pub mod TextLaws
 pub mod LineLaws
 pub mod RepeatLaws
-pub mod KeyLaws
 pub mod CheckLaws
 pub mod ListLaws
 pub mod BestLaws

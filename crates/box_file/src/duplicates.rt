@@ -1,57 +1,50 @@
-//! Finds duplicates in lists, in time n log n.
-ghost use Rattle.std.specs.Prelude.{◌≡◌, ℕ, nat_eq, IfOk};
-ghost use Rattle.std.specs.List.{list_any};
-ghost use Rattle.std.specs.Ordering.{nat_cmp};
-ghost use Rattle.std.specs.BTreeSet.{contains};
+//! Finds keys of lines that are given twice, or with two values.
+ghost use Rattle.std.specs.Prelude.{◌≡◌, map, IfOk};
+ghost use Rattle.std.specs.Fn.{FnReturnsAt};
 ghost use Rattle.box_file.specs.Box.{any_pair};
-ghost use Rattle.box_file.specs.steps.Tests.{two_values, is_missing};
+ghost use Rattle.box_file.specs.steps.Tests.{two_values, Computes};
 
 use std::alloc::{AllocError, Global};
-use std::collections::{BTreeMap, BTreeSet};
+use std::collections::{HashMap, HashSet};
+use std::hash::Hash;
 
-/// Whether some number occurs twice.
-pub fn has_duplicate(alloc: Global, keys: &[u128]) -> Result<bool, AllocError>
-    ensures { IfOk result (λ r. r ≡ any_pair nat_eq keys.now) }
+/// Whether two of the lines have the same key.
+pub fn has_duplicate<L, K: Hash + Eq + Copy + Drop, F: Fn(&L) -> K>(
+    alloc: Global,
+    lines: &[L],
+    key: F,
+) -> Result<bool, AllocError>
+    requires { F.IsAlwaysCallable key }
+    ensures { (f : _) → Computes (FnReturnsAt F.Fn key) f
+        → IfOk result (λ r. r ≡ any_pair K.eq (map f lines.now)) }
 {
-    let mut seen = BTreeSet::new(alloc);
-    for key in keys {
-        if !seen.insert(*key)? {
+    let mut seen = HashSet::new(alloc);
+    for line in lines {
+        if !seen.insert(key(line))? {
             return Ok(true);
         }
     }
     Ok(false)
 }
 
-/// Whether some key occurs with two values.
-pub fn has_conflicting_values(alloc: Global, pairs: &[(u128, u128)]) -> Result<bool, AllocError>
-    ensures { IfOk result (λ r. r ≡ any_pair two_values pairs.now) }
+/// Whether two of the lines have the same key and different values.
+pub fn has_conflict<L, K: Hash + Eq + Copy + Drop, V: Eq + Copy + Drop, F: Fn(&L) -> (K, V)>(
+    alloc: Global,
+    lines: &[L],
+    entry: F,
+) -> Result<bool, AllocError>
+    requires { F.IsAlwaysCallable entry }
+    ensures { (f : _) → Computes (FnReturnsAt F.Fn entry) f
+        → IfOk result (λ r. r ≡ any_pair (two_values K.eq V.eq) (map f lines.now)) }
 {
-    let mut values = BTreeMap::new(alloc);
-    for (key, value) in pairs {
-        if let Some(before) = values.insert(*key, *value)? {
-            if before != *value {
+    let mut values = HashMap::new(alloc);
+    for line in lines {
+        let (key, value) = entry(line);
+        if let Some(before) = values.insert(key, value)? {
+            if before != value {
                 return Ok(true);
             }
         }
     }
     Ok(false)
-}
-
-/// The numbers as a set.
-fn set_of(alloc: Global, keys: &[u128]) -> Result<BTreeSet<u128>, AllocError>
-    ensures { IfOk result (λ s. (q : ℕ) → contains nat_cmp s q ≡ list_any (nat_eq q) keys.now) }
-{
-    let mut known = BTreeSet::new(alloc);
-    for key in keys {
-        known.insert(*key)?;
-    }
-    Ok(known)
-}
-
-/// Whether one of the numbers isn't among the known ones.
-pub fn has_unknown(alloc: Global, known: &[u128], used: &[u128]) -> Result<bool, AllocError>
-    ensures { IfOk result (λ r. r ≡ list_any (is_missing known.now) used.now) }
-{
-    let known = set_of(alloc, known)?;
-    Ok(used.iter().any(|key| !known.contains(key)))
 }

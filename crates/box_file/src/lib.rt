@@ -2,6 +2,7 @@
 //! without interfaces and the idle timeouts; and lookups in them.
 #![tactic(auto)]
 
+mod by_kind;
 mod checks;
 mod duplicates;
 mod fault;
@@ -16,6 +17,7 @@ mod routes;
 mod words;
 
 pub use fault::{BoxError, BoxFault};
+pub use idle_line::IdleKind;
 pub use laws::{one_box, some_box};
 pub use limits::Limits;
 pub use plant::{IfIndex, Plant};

@@ -2,12 +2,16 @@
 ghost use Rattle.std.specs.Prelude.{◌≡◌, map, find, unwrap_or, false, IfOk, IfErr, IfSome};
 ghost use Rattle.std.specs.List.{filter_map, list_any};
 ghost use Rattle.std.specs.Option.{option_map};
-ghost use Rattle.box_file.specs.Box.{has_address, has_index, is_named, index_of, known_index, route_of_line, entering_of, AreLimits, plant_of, idles_in, is_out_of_range, IsBox, IsBoxRefusal, IsIndex, route, is_own, owner, first_address, named, name_of, each_is_line};
+ghost use Rattle.box_file.specs.Box.{has_address, has_index, is_named, index_of, known_index, route_of_line};
+ghost use Rattle.box_file.specs.Box.{entering_of, AreLimits, plant_of, idles_in, is_out_of_range, IsBox};
+ghost use Rattle.box_file.specs.Box.{IsBoxRefusal, IsIndex, route, is_own, owner, first_address, named, name_of};
+ghost use Rattle.box_file.specs.Box.{each_is_line};
 ghost use Rattle.box_file.specs.steps.Reading.{interface_tree, line_tree};
 ghost use Rattle.box_file.specs.steps.Best.{route_entry};
 ghost use Rattle.box_file.specs.steps.Plant.{interface_of, KnowsNames};
 
-use crate::checks::{defaults, fault_of, idles, interfaces};
+use crate::by_kind::lines_by_kind;
+use crate::checks::fault_of;
 use crate::fault::{BoxError, BoxFault};
 use crate::idle::limits;
 use crate::limits::Limits;
@@ -157,14 +161,12 @@ fn plant_of(alloc: Global, lines: &[Line]) -> Result<Plant, AllocError>
     ensures limits { IfOk result (λ plant. AreLimits
         (idles_in (map line_tree lines.now)) plant.idle) }
 {
-    let found = interfaces(alloc, lines)?;
-    let defaults = defaults(alloc, lines)?;
-    let entering = entering(&found, &defaults);
-    let interfaces = copied(alloc, &found)?;
-    let routes = routes(alloc, &found, lines)?;
+    let sorted = lines_by_kind(alloc, lines)?;
+    let entering = entering(&sorted.interfaces, &sorted.defaults);
+    let interfaces = copied(alloc, &sorted.interfaces)?;
+    let routes = routes(alloc, &sorted.interfaces, lines)?;
     let table = table(alloc, &routes)?;
-    let idle_lines = idles(alloc, lines)?;
-    let idle = limits(&idle_lines);
+    let idle = limits(&sorted.idles);
     Ok(Plant {
         interfaces,
         routes,

@@ -1,5 +1,7 @@
 -- The first value at each number, when intervals are overlaid.
-use Rattle.std.proofs.Common.{◌≡◌, ℕ, suc, ◌+◌, ◌<◌, ◌≤◌, List, [], ◌∷◌, ◌++◌, length, get_or, set, take, drop, max, min, Bool, true, false, ◌||◌, zero, ⊎_elim, refl, sym, ap, ◌∙◌, subst, arith, Option, Some, None, if◌then◌else◌, append_assoc}
+use Rattle.std.proofs.Common.{◌≡◌, ℕ, suc, ◌+◌, ◌<◌, ◌≤◌, List, [], ◌∷◌, ◌++◌, length, get_or, set, take, drop, max}
+use Rattle.std.proofs.Common.{min, Bool, true, false, ◌||◌, zero, ⊎_elim, refl, sym, ap, ◌∙◌, subst, arith, Option}
+use Rattle.std.proofs.Common.{Some, None, if◌then◌else◌, append_assoc}
 use Rattle.std.specs.Option.{option_or}
 use Rattle.std.proofs.lemmas.Bool.{cases_lt, and_from, and_left, and_right, or_from, or_left, le-leb, lt-leb}
 use Rattle.std.proofs.lemmas.List.{append-nil, drop_more, take-append-drop}
@@ -52,16 +54,19 @@ choose false v o p q e = e
 
 pub first_value-append : {V : Type 0} (xs ys : List (Range × V)) (key : ℕ) → first_value (xs ++ ys) key ≡ option_or (first_value xs key) (first_value ys key)
 first_value-append [] ys key = refl
-first_value-append (x ∷ xs) ys key = choose (in_range x.0 key) x.1 (first_value (xs ++ ys) key) (first_value xs key) (first_value ys key) (first_value-append xs ys key)
+first_value-append (x ∷ xs) ys key = choose (in_range x.0 key) x.1 (first_value (xs ++ ys) key) (first_value xs key)
+    (first_value ys key) (first_value-append xs ys key)
 
 -- appending preserves equality of first values, on the left and on the right
-front_at : {V : Type 0} (xs ys zs : List (Range × V)) (key : ℕ) → first_value xs key ≡ first_value ys key → first_value (xs ++ zs) key ≡ first_value (ys ++ zs) key
+front_at : {V : Type 0} (xs ys zs : List (Range × V)) (key : ℕ) → first_value xs key ≡ first_value ys key
+    → first_value (xs ++ zs) key ≡ first_value (ys ++ zs) key
 front_at xs ys zs key same = first_value-append xs zs key ∙ ap (λ o. option_or o (first_value zs key)) same ∙ sym (first_value-append ys zs key)
 
 pub same_front : {V : Type 0} (xs ys zs : List (Range × V)) → SameFirstValues xs ys → SameFirstValues (xs ++ zs) (ys ++ zs)
 same_front xs ys zs same key = front_at xs ys zs key (same key)
 
-pub same_back : {V : Type 0} (zs xs ys : List (Range × V)) (key : ℕ) → first_value xs key ≡ first_value ys key → first_value (zs ++ xs) key ≡ first_value (zs ++ ys) key
+pub same_back : {V : Type 0} (zs xs ys : List (Range × V)) (key : ℕ) → first_value xs key ≡ first_value ys key
+    → first_value (zs ++ xs) key ≡ first_value (zs ++ ys) key
 same_back zs xs ys key same = first_value-append zs xs key ∙ ap (λ o. option_or (first_value zs key) o) same ∙ sym (first_value-append zs ys key)
 
 -- a list without a value at the number
@@ -77,7 +82,8 @@ rising_less m n (x ∷ xs) le h = (omega (arith, h.0), h.1)
 -- no value at a number below all ranges
 none_below : {V : Type 0} (n key : ℕ) (xs : List (Range × V)) → key < n → IsRising n xs → first_value xs key ≡ None
 none_below n key [] lt h = refl
-none_below n key (x ∷ xs) lt h = miss x.0 x.1 xs key (under x.0 key (omega (arith, h.0))) ∙ none_below (x.0.high + 1) key xs (omega (arith, h.0, x.0.ordered)) h.1
+none_below n key (x ∷ xs) lt h = miss x.0 x.1 xs key (under x.0 key (omega (arith, h.0)))
+    ∙ none_below (x.0.high + 1) key xs (omega (arith, h.0, x.0.ordered)) h.1
 
 pub follows : {V : Type 0} (done : List (Range × V)) (n : ℕ) (xs : List (Range × V)) → EndsBefore done n → IsRising n xs → Follows done xs
 follows done n [] ends rising = tt
@@ -85,16 +91,24 @@ follows done n (x ∷ xs) ends rising = (λ i d lt. omega (arith, ends i d lt, r
 
 rising : {V : Type 0} (n : ℕ) (xs : List (Range × V)) → IsSeparate xs → ((d : Range × V) → 0 < length xs → n ≤ (get_or xs 0 d).0.low) → IsRising n xs
 rising n [] sep first = tt
-rising n (x ∷ xs) sep first = (first x (omega arith), rising (x.0.high + 1) xs (λ i j d lt in_list. sep (suc i) (suc j) d (omega arith) (omega arith)) (λ d some. omega (arith, sep 0 1 d (omega arith) (omega arith))))
+rising n (x ∷ xs) sep first = (
+  first x (omega arith),
+  rising (x.0.high + 1) xs
+      (λ i j d lt in_list. sep (suc i) (suc j) d (omega arith) (omega arith))
+      (λ d some. omega (arith, sep 0 1 d (omega arith) (omega arith))),
+)
 
 -- a table follows the empty list
 pub table_follows : {V : Type 0} (done xs : List (Range × V)) → done ≡ [] → IsTable xs → Follows done xs
-table_follows {V} done xs none table = subst (λ l. Follows l xs) (sym none) (follows [] 0 xs (λ i d lt. absurd (omega arith)) (rising 0 xs table.separate (λ d some. omega arith)))
+table_follows {V} done xs none table = subst (λ l. Follows l xs) (sym none)
+    (follows [] 0 xs (λ i d lt. absurd (omega arith)) (rising 0 xs table.separate (λ d some. omega arith)))
 
 -- ---- a piece above all others
 
 -- it may be moved to the end of the list
-pub table_past : {V : Type 0} (xs : List (Range × V)) (p : Range × V) → IsTable xs → EndsBefore xs p.0.low → ((i : ℕ) (d : Range × V) → i + 1 ≡ length xs → (get_or xs i d).0.high + 1 ≡ p.0.low → (get_or xs i d).1 ≡ p.1 → ⊥) → IsTable (xs ++ p ∷ [])
+pub table_past : {V : Type 0} (xs : List (Range × V)) (p : Range × V) → IsTable xs → EndsBefore xs p.0.low
+    → ((i : ℕ) (d : Range × V) → i + 1 ≡ length xs → (get_or xs i d).0.high + 1 ≡ p.0.low → (get_or xs i d).1 ≡ p.1
+    → ⊥) → IsTable (xs ++ p ∷ [])
 table_past xs p table ends apart = record {
   separate = separate_push xs p table.separate (λ i d last. ends i d (omega arith));
   merged = merged_push xs p table.merged apart;
@@ -115,27 +129,38 @@ either : {V : Type 0} (a b c : Bool) (v : V) → c ≡ (a || b) → (if c then S
 either true b c v e = ap (λ t. if t then Some v else None) e
 either false b c v e = ap (λ t. if t then Some v else None) e
 
-first_value-widened : {V : Type 0} (xs : List (Range × V)) (i : ℕ) (d : Range × V) (q r : Range) (key : ℕ) → i + 1 ≡ length xs → in_range q key ≡ (in_range (get_or xs i d).0 key || in_range r key) → first_value (set xs i (q, (get_or xs i d).1)) key ≡ first_value (xs ++ (r, (get_or xs i d).1) ∷ []) key
+first_value-widened : {V : Type 0} (xs : List (Range × V)) (i : ℕ) (d : Range × V) (q r : Range) (key : ℕ) → i + 1
+    ≡ length xs → in_range q key ≡ (in_range (get_or xs i d).0 key || in_range r key)
+    → first_value (set xs i (q, (get_or xs i d).1)) key ≡ first_value (xs ++ (r, (get_or xs i d).1) ∷ []) key
 first_value-widened [] i d q r key last e = absurd (omega arith)
 first_value-widened (x ∷ []) zero d q r key last e = either (in_range x.0 key) (in_range r key) (in_range q key) x.1 e
 first_value-widened (x ∷ (y ∷ ys)) zero d q r key last e = absurd (omega arith)
 first_value-widened (x ∷ xs) (suc i) d q r key last e = ap (λ o. if in_range x.0 key then Some x.1 else o) (first_value-widened xs i d q r key (omega arith) e)
 
-pub merged_last : {V : Type 0} (xs : List (Range × V)) (i : ℕ) (p : Range × V) (r q : Range) (v : V) → i + 1 ≡ length xs → p ≡ get_or xs i p → p.1 ≡ v → p.0.high + 1 ≡ r.low → q.low ≡ p.0.low → q.high ≡ max p.0.high r.high → SameFirstValues (set xs i (q, p.1)) (xs ++ (r, v) ∷ [])
+pub merged_last : {V : Type 0} (xs : List (Range × V)) (i : ℕ) (p : Range × V) (r q : Range) (v : V) → i + 1
+    ≡ length xs → p ≡ get_or xs i p → p.1 ≡ v → p.0.high + 1 ≡ r.low → q.low ≡ p.0.low → q.high ≡ max p.0.high r.high
+    → SameFirstValues (set xs i (q, p.1)) (xs ++ (r, v) ∷ [])
 merged_last {V} xs i p r q v last is value touch low high key =
-    let range_is : in_range q key ≡ (in_range (get_or xs i p).0 key || in_range r key) = merged_range p.0 r q key touch low high ∙ ap (λ (s : Range × V). in_range s.0 key || in_range r key) is in
-    ap (λ (s : Range × V). first_value (set xs i (q, s.1)) key) is ∙ first_value-widened xs i p q r key last range_is ∙ ap (λ (s : Range × V). first_value (xs ++ (r, s.1) ∷ []) key) (sym is) ∙ ap (λ w. first_value (xs ++ (r, w) ∷ []) key) value
+    let range_is : in_range q key ≡ (in_range (get_or xs i p).0 key || in_range r key) =
+    merged_range p.0 r q key touch low high ∙ ap (λ (s : Range × V). in_range s.0 key || in_range r key) is in
+    ap (λ (s : Range × V). first_value (set xs i (q, s.1)) key) is ∙ first_value-widened xs i p q r key last range_is
+    ∙ ap (λ (s : Range × V). first_value (xs ++ (r, s.1) ∷ []) key) (sym is)
+    ∙ ap (λ w. first_value (xs ++ (r, w) ∷ []) key) value
 
 -- ---- the part of a range before another one
 
 -- appending a pair with a range or part of it, at numbers that both contain or neither does
-pub pushed : {V : Type 0} (xs : List (Range × V)) (r s : Range) (v : V) (key : ℕ) → in_range r key ≡ in_range s key → first_value (xs ++ (r, v) ∷ []) key ≡ first_value (xs ++ (s, v) ∷ []) key
+pub pushed : {V : Type 0} (xs : List (Range × V)) (r s : Range) (v : V) (key : ℕ) → in_range r key ≡ in_range s key
+    → first_value (xs ++ (r, v) ∷ []) key ≡ first_value (xs ++ (s, v) ∷ []) key
 pushed xs r s v key same = same_back xs ((r, v) ∷ []) ((s, v) ∷ []) key (ap (λ b. if b then Some v else None) same)
 
-pub unpushed : {V : Type 0} (xs : List (Range × V)) (r : Range) (v : V) (key : ℕ) → in_range r key ≡ false → first_value (xs ++ (r, v) ∷ []) key ≡ first_value xs key
+pub unpushed : {V : Type 0} (xs : List (Range × V)) (r : Range) (v : V) (key : ℕ) → in_range r key ≡ false
+    → first_value (xs ++ (r, v) ∷ []) key ≡ first_value xs key
 unpushed xs r v key none = same_back xs ((r, v) ∷ []) [] key (miss r v [] key none) ∙ ap (λ l. first_value l key) (append-nil xs)
 
-pub adds_part : {V : Type 0} (old new : List (Range × V)) (r part other : Range) (v : V) → r.low < other.low → part.low ≡ r.low → part.high + 1 ≡ min (r.high + 1) other.low → SameFirstValues new (old ++ (part, v) ∷ []) → AddsBelow old r v other.low new
+pub adds_part : {V : Type 0} (old new : List (Range × V)) (r part other : Range) (v : V) → r.low < other.low
+    → part.low ≡ r.low → part.high + 1 ≡ min (r.high + 1) other.low → SameFirstValues new (old ++ (part, v) ∷ [])
+    → AddsBelow old r v other.low new
 adds_part {V} old new r part other v begins low high same = record {
   lesser = λ key lt. same key ∙ pushed old part r v key (⊎_elim
       (λ beyond. past part key (omega arith) ∙ sym (past r key beyond))
@@ -153,15 +178,20 @@ adds_nothing old r other v le = record {
 -- ---- a range under the first of the upper pieces
 
 -- the part below that piece
-beneath : {V : Type 0} (old new tail : List (Range × V)) (first : Range × V) (others : List (Range × V)) (r : Range) (v : V) (key : ℕ) → IsRising (first.0.high + 1) others → AddsBelow old r v first.0.low new → key < first.0.low → first_value tail key ≡ None → first_value (new ++ tail) key ≡ first_value (old ++ (first ∷ others ++ (r, v) ∷ [])) key
+beneath : {V : Type 0} (old new tail : List (Range × V)) (first : Range × V) (others : List (Range × V)) (r : Range)
+    (v : V) (key : ℕ) → IsRising (first.0.high + 1) others → AddsBelow old r v first.0.low new → key < first.0.low
+    → first_value tail key ≡ None → first_value (new ++ tail) key ≡ first_value (old ++ (first ∷ others ++ (r, v) ∷ [])) key
 beneath {V} old new tail first others r v key rises adds less silent =
     same_back new tail [] key silent
     ∙ ap (λ l. first_value l key) (append-nil new)
     ∙ adds.lesser key less
-    ∙ same_back old ((r, v) ∷ []) (first ∷ others ++ (r, v) ∷ []) key (sym (skip (first ∷ others) ((r, v) ∷ []) key (none_below first.0.low key (first ∷ others) less (omega arith, rises))))
+    ∙ same_back old ((r, v) ∷ []) (first ∷ others ++ (r, v) ∷ []) key
+    (sym (skip (first ∷ others) ((r, v) ∷ []) key (none_below first.0.low key (first ∷ others) less (omega arith, rises))))
 
 -- no part of the range is above that piece
-pub covered : {V : Type 0} (old new : List (Range × V)) (first : Range × V) (others : List (Range × V)) (r : Range) (v : V) → r.high ≤ first.0.high → IsRising (first.0.high + 1) others → AddsBelow old r v first.0.low new → SameFirstValues (new ++ first ∷ others) (old ++ (first ∷ others ++ (r, v) ∷ []))
+pub covered : {V : Type 0} (old new : List (Range × V)) (first : Range × V) (others : List (Range × V)) (r : Range)
+    (v : V) → r.high ≤ first.0.high → IsRising (first.0.high + 1) others → AddsBelow old r v first.0.low new
+    → SameFirstValues (new ++ first ∷ others) (old ++ (first ∷ others ++ (r, v) ∷ []))
 covered {V} old new first others r v ends rises adds key =
     ⊎_elim
     (λ less. beneath old new (first ∷ others) first others r v key rises adds less (none_below first.0.low key (first ∷ others) less (omega arith, rises)))
@@ -172,15 +202,24 @@ covered {V} old new first others r v ends rises adds key =
     (cases_lt key first.0.low)
 
 -- the rest of the range is above that piece, which is appended
-pub passed : {V : Type 0} (old new newer : List (Range × V)) (first : Range × V) (others : List (Range × V)) (r part : Range) (v : V) → part.low ≡ max r.low (first.0.high + 1) → part.high ≡ r.high → IsRising (first.0.high + 1) others → AddsBelow old r v first.0.low new → SameFirstValues newer (new ++ first ∷ []) → SameFirstValues (newer ++ (others ++ (part, v) ∷ [])) (old ++ (first ∷ others ++ (r, v) ∷ []))
+pub passed : {V : Type 0} (old new newer : List (Range × V)) (first : Range × V) (others : List (Range × V))
+    (r part : Range) (v : V) → part.low ≡ max r.low (first.0.high + 1) → part.high ≡ r.high
+    → IsRising (first.0.high + 1) others → AddsBelow old r v first.0.low new
+    → SameFirstValues newer (new ++ first ∷ []) → SameFirstValues (newer ++ (others ++ (part, v) ∷ []))
+    (old ++ (first ∷ others ++ (r, v) ∷ []))
 passed {V} old new newer first others r part v low high rises adds appended key =
     same_front newer (new ++ first ∷ []) (others ++ (part, v) ∷ []) appended key
     ∙ ap (λ l. first_value l key) (append_assoc new (first ∷ []) (others ++ (part, v) ∷ []))
     ∙ ⊎_elim
-    (λ less. beneath old new (first ∷ others ++ (part, v) ∷ []) first others r v key rises adds less (skip (first ∷ others) ((part, v) ∷ []) key (none_below first.0.low key (first ∷ others) less (omega arith, rises)) ∙ miss part v [] key (under part key (omega (arith, first.0.ordered)))))
-    (λ more. front_at new old (first ∷ others ++ (part, v) ∷ []) key (adds.others key more) ∙ same_back old (first ∷ others ++ (part, v) ∷ []) (first ∷ others ++ (r, v) ∷ []) key (⊎_elim
+    (λ less. beneath old new (first ∷ others ++ (part, v) ∷ []) first others r v key rises adds less
+    (skip (first ∷ others) ((part, v) ∷ []) key
+    (none_below first.0.low key (first ∷ others) less (omega arith, rises))
+    ∙ miss part v [] key (under part key (omega (arith, first.0.ordered)))))
+    (λ more. front_at new old (first ∷ others ++ (part, v) ∷ []) key (adds.others key more)
+    ∙ same_back old (first ∷ others ++ (part, v) ∷ []) (first ∷ others ++ (r, v) ∷ []) key (⊎_elim
     (λ beyond. pushed (first ∷ others) part r v key (above key beyond))
-    (λ inside. let here = within first.0 key more inside in hit first.0 first.1 (others ++ (part, v) ∷ []) key here ∙ sym (hit first.0 first.1 (others ++ (r, v) ∷ []) key here))
+    (λ inside. let here = within first.0 key more inside in hit first.0 first.1 (others ++ (part, v) ∷ []) key here
+    ∙ sym (hit first.0 first.1 (others ++ (r, v) ∷ []) key here))
     (cases_lt first.0.high key)))
     (cases_lt key first.0.low)
   where
@@ -197,7 +236,9 @@ pub table_none : {V : Type 0} (xs : List (Range × V)) → xs ≡ [] → IsTable
 table_none {V} xs none = subst IsTable (sym none) (record { separate = λ i j d lt in_list. absurd (omega arith); merged = λ i d lt. absurd (omega arith) })
 
 -- one more lower piece is done
-pub laid_more : {V : Type 0} (pieces left new left' lower all : List (Range × V)) (i : ℕ) (item : Range × V) → i < length lower → item ≡ get_or lower i item → SameFirstValues (new ++ left') (pieces ++ (left ++ item ∷ [])) → SameFirstValues (pieces ++ (left ++ drop i lower)) all → SameFirstValues (new ++ (left' ++ drop (i + 1) lower)) all
+pub laid_more : {V : Type 0} (pieces left new left' lower all : List (Range × V)) (i : ℕ) (item : Range × V)
+    → i < length lower → item ≡ get_or lower i item → SameFirstValues (new ++ left') (pieces ++ (left ++ item ∷ []))
+    → SameFirstValues (pieces ++ (left ++ drop i lower)) all → SameFirstValues (new ++ (left' ++ drop (i + 1) lower)) all
 laid_more {V} pieces left new left' lower all i item lt is one so_far key =
     let rest = drop (i + 1) lower in
     ap (λ l. first_value l key) (sym (append_assoc new left' rest))
@@ -207,7 +248,8 @@ laid_more {V} pieces left new left' lower all i item lt is one so_far key =
     ∙ so_far key
 
 -- the first values of both halves determine those of the whole
-pub same_halves : {V : Type 0} (upper lower pairs : List (Range × V)) (n : ℕ) → SameFirstValues upper (take n pairs) → SameFirstValues lower (drop n pairs) → SameFirstValues (upper ++ lower) pairs
+pub same_halves : {V : Type 0} (upper lower pairs : List (Range × V)) (n : ℕ) → SameFirstValues upper (take n pairs)
+    → SameFirstValues lower (drop n pairs) → SameFirstValues (upper ++ lower) pairs
 same_halves upper lower pairs n front back key =
     same_front upper (take n pairs) lower front key
     ∙ same_back (take n pairs) lower (drop n pairs) key (back key)

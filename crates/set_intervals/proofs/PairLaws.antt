@@ -1,5 +1,7 @@
 -- The effect of edits of a list of pairs on its values.
-use Rattle.std.proofs.Common.{◌≡◌, ℕ, zero, suc, ◌+◌, ◌<◌, ◌≤◌, List, [], ◌∷◌, ◌++◌, length, get_or, set, max, Bool, true, false, ◌⊎◌, inl, inr, ⊎_elim, refl, sym, ap, ◌∙◌, subst, arith, take, Option, Some, None, MatchOption, if◌then◌else◌}
+use Rattle.std.proofs.Common.{◌≡◌, ℕ, zero, suc, ◌+◌, ◌<◌, ◌≤◌, List, [], ◌∷◌, ◌++◌, length, get_or, set, max, Bool}
+use Rattle.std.proofs.Common.{true, false, ◌⊎◌, inl, inr, ⊎_elim, refl, sym, ap, ◌∙◌, subst, arith, take, Option}
+use Rattle.std.proofs.Common.{Some, None, MatchOption, if◌then◌else◌}
 use Rattle.std.proofs.lemmas.Bool.{cases_lt}
 use Rattle.std.proofs.lemmas.Bool.Decides.{nat_tests}
 use Rattle.std.specs.List.Sorted.{IsPermutation}
@@ -11,13 +13,15 @@ use Rattle.set_intervals.specs.steps.Pieces.{Adds, ClashesWith}
 
 -- ---- a pair that contains a number
 
-holds_at : {V : Type 0} (xs : List (Range × V)) (i : ℕ) (d : Range × V) (key : ℕ) → i < length xs → Covers (get_or xs i d).0 key → HasValue xs key (get_or xs i d).1
+holds_at : {V : Type 0} (xs : List (Range × V)) (i : ℕ) (d : Range × V) (key : ℕ) → i < length xs
+    → Covers (get_or xs i d).0 key → HasValue xs key (get_or xs i d).1
 holds_at [] i d key lt c = absurd (omega arith)
 holds_at (x ∷ xs) zero d key lt c = inl (c, refl)
 holds_at (x ∷ xs) (suc i) d key lt c = inr (holds_at xs i d key (omega arith) c)
 
 -- a pair at an index gives its value
-pub holds_read : {V : Type 0} (xs : List (Range × V)) (i : ℕ) (p : Range × V) (key : ℕ) → i < length xs → p ≡ get_or xs i p → Covers p.0 key → HasValue xs key p.1
+pub holds_read : {V : Type 0} (xs : List (Range × V)) (i : ℕ) (p : Range × V) (key : ℕ) → i < length xs → p
+    ≡ get_or xs i p → Covers p.0 key → HasValue xs key p.1
 holds_read {V} xs i p key lt is c =
     let at = holds_at xs i p key lt (subst (λ (s : Range × V). Covers s.0 key) is c) in
     subst (λ (s : Range × V). HasValue xs key s.1) (sym is) at
@@ -38,13 +42,15 @@ place_of (x ∷ xs) key v (inr h) =
     let r = place_of xs key v h in
     record { pair = r.pair; at = suc r.at; in_list = omega (arith, r.in_list); stands = r.stands; covers = r.covers; value = r.value }
 
-push_forth : {V : Type 0} (xs : List (Range × V)) (r : Range) (v : V) (key : ℕ) (w : V) → HasValue (xs ++ (r, v) ∷ []) key w → HasValue xs key w ⊎ (Covers r key × (v ≡ w))
+push_forth : {V : Type 0} (xs : List (Range × V)) (r : Range) (v : V) (key : ℕ) (w : V)
+    → HasValue (xs ++ (r, v) ∷ []) key w → HasValue xs key w ⊎ (Covers r key × (v ≡ w))
 push_forth [] r v key w (inl h) = inr h
 push_forth [] r v key w (inr h) = absurd h
 push_forth (x ∷ xs) r v key w (inl h) = inl (inl h)
 push_forth (x ∷ xs) r v key w (inr h) = ⊎_elim (λ a. inl (inr a)) (λ b. inr b) (push_forth xs r v key w h)
 
-push_back : {V : Type 0} (xs : List (Range × V)) (r : Range) (v : V) (key : ℕ) (w : V) → HasValue xs key w ⊎ (Covers r key × (v ≡ w)) → HasValue (xs ++ (r, v) ∷ []) key w
+push_back : {V : Type 0} (xs : List (Range × V)) (r : Range) (v : V) (key : ℕ) (w : V) → HasValue xs key w
+    ⊎ (Covers r key × (v ≡ w)) → HasValue (xs ++ (r, v) ∷ []) key w
 push_back [] r v key w (inl h) = absurd h
 push_back [] r v key w (inr h) = inl h
 push_back (x ∷ xs) r v key w (inl (inl h)) = inl h
@@ -56,14 +62,18 @@ pub adds_push : {V : Type 0} (xs : List (Range × V)) (r : Range) (v : V) → Ad
 adds_push xs r v key w = (push_forth xs r v key w, push_back xs r v key w)
 
 -- a piece is widened
-widen_forth : {V : Type 0} (xs : List (Range × V)) (i : ℕ) (d : Range × V) (q r : Range) (key : ℕ) (w : V) → i < length xs → (Covers q key → Covers (get_or xs i d).0 key ⊎ Covers r key) → HasValue (set xs i (q, (get_or xs i d).1)) key w → HasValue xs key w ⊎ (Covers r key × ((get_or xs i d).1 ≡ w))
+widen_forth : {V : Type 0} (xs : List (Range × V)) (i : ℕ) (d : Range × V) (q r : Range) (key : ℕ) (w : V)
+    → i < length xs → (Covers q key → Covers (get_or xs i d).0 key ⊎ Covers r key)
+    → HasValue (set xs i (q, (get_or xs i d).1)) key w → HasValue xs key w ⊎ (Covers r key × ((get_or xs i d).1 ≡ w))
 widen_forth [] i d q r key w lt split h = absurd (omega arith)
 widen_forth (x ∷ xs) zero d q r key w lt split (inl h) = ⊎_elim (λ a. inl (inl (a, h.1))) (λ b. inr (b, h.1)) (split h.0)
 widen_forth (x ∷ xs) zero d q r key w lt split (inr h) = inl (inr h)
 widen_forth (x ∷ xs) (suc i) d q r key w lt split (inl h) = inl (inl h)
 widen_forth (x ∷ xs) (suc i) d q r key w lt split (inr h) = ⊎_elim (λ a. inl (inr a)) (λ b. inr b) (widen_forth xs i d q r key w (omega arith) split h)
 
-widen_back : {V : Type 0} (xs : List (Range × V)) (i : ℕ) (d : Range × V) (q r : Range) (key : ℕ) (w : V) → i < length xs → (Covers (get_or xs i d).0 key ⊎ Covers r key → Covers q key) → HasValue xs key w ⊎ (Covers r key × ((get_or xs i d).1 ≡ w)) → HasValue (set xs i (q, (get_or xs i d).1)) key w
+widen_back : {V : Type 0} (xs : List (Range × V)) (i : ℕ) (d : Range × V) (q r : Range) (key : ℕ) (w : V)
+    → i < length xs → (Covers (get_or xs i d).0 key ⊎ Covers r key → Covers q key) → HasValue xs key w
+    ⊎ (Covers r key × ((get_or xs i d).1 ≡ w)) → HasValue (set xs i (q, (get_or xs i d).1)) key w
 widen_back [] i d q r key w lt join h = absurd (omega arith)
 widen_back (x ∷ xs) zero d q r key w lt join (inl (inl h)) = inl (join (inl h.0), h.1)
 widen_back (x ∷ xs) zero d q r key w lt join (inl (inr h)) = inr h
@@ -73,32 +83,38 @@ widen_back (x ∷ xs) (suc i) d q r key w lt join (inl (inr h)) = inr (widen_bac
 widen_back (x ∷ xs) (suc i) d q r key w lt join (inr h) = inr (widen_back xs i d q r key w (omega arith) join (inr h))
 
 -- a piece is replaced by a wider one with the same low end
-pub adds_widen : {V : Type 0} (xs : List (Range × V)) (i : ℕ) (p : Range × V) (q r : Range) (v : V) → i < length xs → p ≡ get_or xs i p → p.1 ≡ v → ((key : ℕ) → Covers q key → Covers p.0 key ⊎ Covers r key) → ((key : ℕ) → Covers p.0 key ⊎ Covers r key → Covers q key) → Adds xs r v (set xs i (q, p.1))
+pub adds_widen : {V : Type 0} (xs : List (Range × V)) (i : ℕ) (p : Range × V) (q r : Range) (v : V) → i < length xs
+    → p ≡ get_or xs i p → p.1 ≡ v → ((key : ℕ) → Covers q key → Covers p.0 key ⊎ Covers r key)
+    → ((key : ℕ) → Covers p.0 key ⊎ Covers r key → Covers q key) → Adds xs r v (set xs i (q, p.1))
 adds_widen {V} xs i p q r v lt is same split join key w =
     let split' = subst (λ (s : Range × V). Covers q key → Covers s.0 key ⊎ Covers r key) is (split key) in
     let join' = subst (λ (s : Range × V). Covers s.0 key ⊎ Covers r key → Covers q key) is (join key) in
     let e : (get_or xs i p).1 ≡ v = ap (λ (s : Range × V). s.1) (sym is) ∙ same in
     let set_is : set xs i (q, p.1) ≡ set xs i (q, (get_or xs i p).1) = ap (λ (s : Range × V). set xs i (q, s.1)) is in (
       λ h. subst (λ u. HasValue xs key w ⊎ (Covers r key × (u ≡ w))) e (widen_forth xs i p q r key w lt split' (subst (λ l. HasValue l key w) set_is h)),
-      λ h. subst (λ l. HasValue l key w) (sym set_is) (widen_back xs i p q r key w lt join' (subst (λ u. HasValue xs key w ⊎ (Covers r key × (u ≡ w))) (sym e) h)),
+      λ h. subst (λ l. HasValue l key w) (sym set_is)
+          (widen_back xs i p q r key w lt join' (subst (λ u. HasValue xs key w ⊎ (Covers r key × (u ≡ w))) (sym e) h)),
     )
 
 -- two ranges that overlap or are adjacent, and their merged range
-pub covers_split : (first later both : Range) → later.low ≤ first.high + 1 → both.low ≡ first.low → both.high ≡ max first.high later.high → (key : ℕ) → Covers both key → Covers first key ⊎ Covers later key
+pub covers_split : (first later both : Range) → later.low ≤ first.high + 1 → both.low ≡ first.low → both.high
+    ≡ max first.high later.high → (key : ℕ) → Covers both key → Covers first key ⊎ Covers later key
 covers_split first later both near low high key h =
     ⊎_elim
     (λ past. inr (record { above = omega arith; below = omega (arith, h.below) }))
     (λ within. inl (record { above = omega (arith, h.above); below = within }))
     (cases_lt first.high key)
 
-pub covers_merge : (first later both : Range) → first.low ≤ later.low → both.low ≡ first.low → both.high ≡ max first.high later.high → (key : ℕ) → Covers first key ⊎ Covers later key → Covers both key
+pub covers_merge : (first later both : Range) → first.low ≤ later.low → both.low ≡ first.low → both.high
+    ≡ max first.high later.high → (key : ℕ) → Covers first key ⊎ Covers later key → Covers both key
 covers_merge first later both rising low high key (inl h) = record { above = omega (arith, h.above); below = omega (arith, h.below) }
 covers_merge first later both rising low high key (inr h) = record { above = omega (arith, h.above); below = omega (arith, h.below) }
 
 -- ---- the pairs so far
 
 -- one more pair
-pub adds_take : {V : Type 0} (xs : List (Range × V)) (i : ℕ) (r : Range) (v : V) → i < length xs → (r, v) ≡ get_or xs i (r, v) → Adds (take i xs) r v (take (i + 1) xs)
+pub adds_take : {V : Type 0} (xs : List (Range × V)) (i : ℕ) (r : Range) (v : V) → i < length xs → (r, v)
+    ≡ get_or xs i (r, v) → Adds (take i xs) r v (take (i + 1) xs)
 adds_take {V} xs i r v lt is =
     let e : take (i + 1) xs ≡ take i xs ++ (r, v) ∷ [] = take_more xs i (r, v) lt ∙ ap (λ (p : Range × V). take i xs ++ p ∷ []) (sym is) in
     subst (λ l. Adds (take i xs) r v l) (sym e) (adds_push (take i xs) r v)
@@ -118,7 +134,8 @@ holds_permutation {V} xs ys perm key v h =
     subst (λ u. HasValue ys key u) r.value (holds_read ys c.0 r.pair key c.1 (sym c.2) r.covers)
 
 -- the pieces have the same values as all pairs, in any order
-pub same_permutation : {V : Type 0} (pieces xs ys : List (Range × V)) (i : ℕ) → length xs ≤ i → SameValues pieces (take i xs) → IsPermutation ys xs → SameValues pieces ys
+pub same_permutation : {V : Type 0} (pieces xs ys : List (Range × V)) (i : ℕ) → length xs ≤ i
+    → SameValues pieces (take i xs) → IsPermutation ys xs → SameValues pieces ys
 same_permutation {V} pieces xs ys i all same perm key v =
     let whole : take i xs ≡ xs = take_all i xs all in
     let back = IsPermutation-sym ys xs perm in (
@@ -127,7 +144,8 @@ same_permutation {V} pieces xs ys i all same perm key v =
     )
 
 -- a pair that clashes with earlier ones
-pub clash_of : {V : Type 0} (pieces xs ys : List (Range × V)) (i : ℕ) (r : Range) (v : V) → i < length xs → (r, v) ≡ get_or xs i (r, v) → SameValues pieces (take i xs) → IsPermutation ys xs → ClashesWith pieces r v → HasClash ys
+pub clash_of : {V : Type 0} (pieces xs ys : List (Range × V)) (i : ℕ) (r : Range) (v : V) → i < length xs → (r, v)
+    ≡ get_or xs i (r, v) → SameValues pieces (take i xs) → IsPermutation ys xs → ClashesWith pieces r v → HasClash ys
 clash_of {V} pieces xs ys i r v lt is same perm h =
     let back = IsPermutation-sym ys xs perm in
     record {
@@ -157,7 +175,8 @@ covers_from_test r key h = record { above = grind (arith, nat_tests, h); below =
 test_from_covers : (r : Range) (key : ℕ) → in_range r key ≡ false → Covers r key → ⊥
 test_from_covers r key h c = let above = c.above in let below = c.below in grind (arith, nat_tests, h)
 
-first_value_step : {V : Type 0} (x : Range × V) (xs : List (Range × V)) (key : ℕ) (b : Bool) → in_range x.0 key ≡ b → (o : Option V) → Says xs key o → Says (x ∷ xs) key (if b then Some x.1 else o)
+first_value_step : {V : Type 0} (x : Range × V) (xs : List (Range × V)) (key : ℕ) (b : Bool) → in_range x.0 key ≡ b
+    → (o : Option V) → Says xs key o → Says (x ∷ xs) key (if b then Some x.1 else o)
 first_value_step x xs key true e o h = inl (covers_from_test x.0 key e, refl)
 first_value_step x xs key false e None h = λ v held. ⊎_elim (λ a. test_from_covers x.0 key e a.0) (λ b. h v b) held
 first_value_step x xs key false e (Some v) h = inr h

@@ -1,5 +1,6 @@
 -- The invariant of a table's pieces.
-use Rattle.std.proofs.Common.{◌≡◌, ◌≢◌, ℕ, ◌+◌, ◌-◌, ◌<◌, ◌≤◌, List, [], ◌∷◌, ◌++◌, length, get_or, set, ⊎_elim, refl, sym, ap, ◌∙◌, subst, arith, length-append, Option, Some, None}
+use Rattle.std.proofs.Common.{◌≡◌, ◌≢◌, ℕ, ◌+◌, ◌-◌, ◌<◌, ◌≤◌, List, [], ◌∷◌, ◌++◌, length, get_or, set, ⊎_elim, refl}
+use Rattle.std.proofs.Common.{sym, ap, ◌∙◌, subst, arith, length-append, Option, Some, None}
 use Rattle.std.specs.List.Sorted.{IsNonDecreasing, IsNonDecreasingBy}
 use Rattle.std.proofs.Math.Seq.{get_or-append_seam}
 use Rattle.std.proofs.lemmas.List.{get_or_append_left, get_or_default, get_or-set_same, get_or-set_other, length-set, get_or-map, length-map}
@@ -39,7 +40,8 @@ last_is xs n i d q whole last is =
     let lt : i < length xs = omega arith in
     get_or_default xs i d q lt ∙ ap (λ m. get_or xs m q) e ∙ sym is
 
-pub separate_push : {V : Type 0} (xs : List (Range × V)) (p : Range × V) → IsSeparate xs → ((i : ℕ) (d : Range × V) → i + 1 ≡ length xs → (get_or xs i d).0.high < p.0.low) → IsSeparate (xs ++ p ∷ [])
+pub separate_push : {V : Type 0} (xs : List (Range × V)) (p : Range × V) → IsSeparate xs
+    → ((i : ℕ) (d : Range × V) → i + 1 ≡ length xs → (get_or xs i d).0.high < p.0.low) → IsSeparate (xs ++ p ∷ [])
 separate_push {V} xs p sep after i j d lt in_range = ⊎_elim old new (cases_lt j (length xs))
   where
     len : length (xs ++ p ∷ []) ≡ length xs + 1
@@ -60,7 +62,9 @@ separate_push {V} xs p sep after i j d lt in_range = ⊎_elim old new (cases_lt 
         let before = after (length xs - 1) d (omega arith) in
         rw (get_or_append_left xs (p ∷ []) d i i_in, at_end) (omega (arith, rise, before))
 
-pub merged_push : {V : Type 0} (xs : List (Range × V)) (p : Range × V) → IsMerged xs → ((i : ℕ) (d : Range × V) → i + 1 ≡ length xs → (get_or xs i d).0.high + 1 ≡ p.0.low → (get_or xs i d).1 ≢ p.1) → IsMerged (xs ++ p ∷ [])
+pub merged_push : {V : Type 0} (xs : List (Range × V)) (p : Range × V) → IsMerged xs
+    → ((i : ℕ) (d : Range × V) → i + 1 ≡ length xs → (get_or xs i d).0.high + 1 ≡ p.0.low → (get_or xs i d).1 ≢ p.1)
+    → IsMerged (xs ++ p ∷ [])
 merged_push {V} xs p merged last i d lt = ⊎_elim old new (cases_lt (i + 1) (length xs))
   where
     len : length (xs ++ p ∷ []) ≡ length xs + 1
@@ -69,46 +73,60 @@ merged_push {V} xs p merged last i d lt = ⊎_elim old new (cases_lt (i + 1) (le
     in_old : i < length xs
     in_old = omega (arith, len)
 
-    old : i + 1 < length xs → (get_or (xs ++ p ∷ []) i d).0.high + 1 ≡ (get_or (xs ++ p ∷ []) (i + 1) d).0.low → (get_or (xs ++ p ∷ []) i d).1 ≢ (get_or (xs ++ p ∷ []) (i + 1) d).1
+    old : i + 1 < length xs → (get_or (xs ++ p ∷ []) i d).0.high + 1 ≡ (get_or (xs ++ p ∷ []) (i + 1) d).0.low
+        → (get_or (xs ++ p ∷ []) i d).1 ≢ (get_or (xs ++ p ∷ []) (i + 1) d).1
     old next = rw (get_or_append_left xs (p ∷ []) d i in_old, get_or_append_left xs (p ∷ []) d (i + 1) next) (merged i d next)
 
-    new : length xs ≤ i + 1 → (get_or (xs ++ p ∷ []) i d).0.high + 1 ≡ (get_or (xs ++ p ∷ []) (i + 1) d).0.low → (get_or (xs ++ p ∷ []) i d).1 ≢ (get_or (xs ++ p ∷ []) (i + 1) d).1
+    new : length xs ≤ i + 1 → (get_or (xs ++ p ∷ []) i d).0.high + 1 ≡ (get_or (xs ++ p ∷ []) (i + 1) d).0.low
+        → (get_or (xs ++ p ∷ []) i d).1 ≢ (get_or (xs ++ p ∷ []) (i + 1) d).1
     new past =
         let j_is : i + 1 ≡ length xs = omega (arith, len) in
         let at_end : get_or (xs ++ p ∷ []) (i + 1) d ≡ p = ap (λ n. get_or (xs ++ p ∷ []) n d) j_is ∙ get_or-append_seam xs p [] d in
         rw (get_or_append_left xs (p ∷ []) d i in_old, at_end) (last i d j_is)
 
 -- a new last piece that can't merge with the one before it
-pub table_push : {V : Type 0} (xs : List (Range × V)) (n : ℕ) (q p : Range × V) → IsTable xs → n ≡ length xs → q ≡ get_or xs (n - 1) q → ClassifiesOverlap q p Disjoint → IsTable (xs ++ p ∷ [])
+pub table_push : {V : Type 0} (xs : List (Range × V)) (n : ℕ) (q p : Range × V) → IsTable xs → n ≡ length xs → q
+    ≡ get_or xs (n - 1) q → ClassifiesOverlap q p Disjoint → IsTable (xs ++ p ∷ [])
 table_push {V} xs n q p table whole is apart = record {
   separate = separate_push xs p table.separate (λ i d last. subst (λ (s : Range × V). s.0.high < p.0.low) (sym (last_is xs n i d q whole last is)) apart.0);
-  merged = merged_push xs p table.merged (λ i d last. subst (λ (s : Range × V). s.0.high + 1 ≡ p.0.low → s.1 ≢ p.1) (sym (last_is xs n i d q whole last is)) apart.1);
+  merged = merged_push xs p table.merged (λ i d last. subst (λ (s : Range × V). s.0.high + 1 ≡ p.0.low → s.1 ≢ p.1)
+      (sym (last_is xs n i d q whole last is)) apart.1);
 }
 
 pub starts_push : {V : Type 0} (xs : List (Range × V)) (p : Range × V) → StartsBefore xs p.0.low → StartsBefore (xs ++ p ∷ []) p.0.low
 starts_push {V} xs p before i d lt =
     ⊎_elim
     (λ old. rw (get_or_append_left xs (p ∷ []) d i old) (before i d old))
-    (λ past. let e : i ≡ length xs = omega (arith, length-append xs (p ∷ [])) in omega (arith, ap (λ (s : Range × V). s.0.low) (ap (λ n. get_or (xs ++ p ∷ []) n d) e ∙ get_or-append_seam xs p [] d)))
+    (λ past. let e : i ≡ length xs = omega (arith, length-append xs (p ∷ [])) in omega
+    (arith, ap (λ (s : Range × V). s.0.low) (ap (λ n. get_or (xs ++ p ∷ []) n d) e ∙ get_or-append_seam xs p [] d)))
     (cases_lt i (length xs))
 
 -- ---- a wider piece
 
-pub starts_widen : {V : Type 0} (xs : List (Range × V)) (i : ℕ) (p q : Range × V) (n : ℕ) → i < length xs → p ≡ get_or xs i p → q.0.low ≡ p.0.low → StartsBefore xs n → StartsBefore (set xs i q) n
+pub starts_widen : {V : Type 0} (xs : List (Range × V)) (i : ℕ) (p q : Range × V) (n : ℕ) → i < length xs → p
+    ≡ get_or xs i p → q.0.low ≡ p.0.low → StartsBefore xs n → StartsBefore (set xs i q) n
 starts_widen {V} xs i p q n lt is same before j d in_list =
     let j_in : j < length xs = omega (arith, length-set xs i q) in
     ⊎_elim
     (λ less. let ne : j ≢ i = omega arith in rw (get_or-set_other xs i j q d ne) (before j d j_in))
     (λ more. ⊎_elim
     (λ greater. let ne : j ≢ i = omega arith in rw (get_or-set_other xs i j q d ne) (before j d j_in))
-    (λ le. let e : j ≡ i = omega arith in omega (arith, ap (λ (s : Range × V). s.0.low) (ap (λ m. get_or (set xs i q) m d) e ∙ get_or-set_same xs i q d lt), ap (λ (s : Range × V). s.0.low) is, before i p lt, same))
+    (λ le. let e : j ≡ i = omega arith in omega (
+      arith,
+      ap (λ (s : Range × V). s.0.low) (ap (λ m. get_or (set xs i q) m d) e ∙ get_or-set_same xs i q d lt),
+      ap (λ (s : Range × V). s.0.low) is,
+      before i p lt,
+      same,
+    ))
     (cases_lt i j))
     (cases_lt j i)
 
 -- ---- the one value at a number
 
 -- a key above the pieces before an index and below the piece there has no value
-pub not_held : {V : Type 0} (xs : List (Range × V)) → IsSeparate xs → (key at : ℕ) → IsLowerBound xs key at → ((d : Range × V) → at < length xs → key < (get_or xs at d).0.low) → (v : V) → HasValue xs key v → ⊥
+pub not_held : {V : Type 0} (xs : List (Range × V)) → IsSeparate xs → (key at : ℕ)
+    → IsLowerBound xs key at → ((d : Range × V) → at < length xs → key < (get_or xs at d).0.low) → (v : V)
+    → HasValue xs key v → ⊥
 not_held {V} xs sep key at reach later v h =
     let r = place_of xs key v h in
     let d = r.pair in
@@ -152,4 +170,6 @@ one_answer xs ys sep same key (Some v) (Some w) ha hb = ap Some (one_value xs se
 
 -- a table's pairs don't clash
 pub no_clash : {V : Type 0} (xs ys : List (Range × V)) → IsSeparate xs → SameValues xs ys → HasClash ys → ⊥
-no_clash xs ys sep same clash = clash.differ (one_value xs sep clash.key clash.one clash.other ((same clash.key clash.one).1 clash.has_one) ((same clash.key clash.other).1 clash.has_other))
+no_clash xs ys sep same clash = clash.differ
+    (one_value xs sep clash.key clash.one clash.other ((same clash.key clash.one).1 clash.has_one)
+    ((same clash.key clash.other).1 clash.has_other))

@@ -33,7 +33,8 @@ lows_rise xs table k lt =
     omega (arith, low_at xs k d 0 here, low_at xs (k + 1) d 0 next, table.separate k (k + 1) d (omega arith) next, (get_or xs k d).0.ordered)
 
 -- the number before a piece hasn't the piece's value
-fresh_at : {V : Type 0} (xs : List (Range × V)) → IsTable xs → (i : ℕ) (d : Range × V) → i < length xs → (before : ℕ) → before + 1 ≡ (get_or xs i d).0.low → HasValue xs before (get_or xs i d).1 → ⊥
+fresh_at : {V : Type 0} (xs : List (Range × V)) → IsTable xs → (i : ℕ) (d : Range × V) → i < length xs → (before : ℕ)
+    → before + 1 ≡ (get_or xs i d).0.low → HasValue xs before (get_or xs i d).1 → ⊥
 fresh_at {V} xs table i d lt before next held =
     let other = place_of xs before (get_or xs i d).1 held in
     let j = other.at in
@@ -45,7 +46,8 @@ fresh_at {V} xs table i d lt before next held =
     (λ far. omega (arith, high, table.separate j (j + 1) d (omega arith) (omega arith), (get_or xs (j + 1) d).0.ordered, table.separate (j + 1) i d far lt))
     (λ near.
     let e : j + 1 ≡ i = omega arith in
-    let touch : (get_or xs j d).0.high + 1 ≡ (get_or xs (j + 1) d).0.low = omega (arith, high, table.separate j i d less lt, ap (λ n. (get_or xs n d).0.low) e) in
+    let touch : (get_or xs j d).0.high + 1 ≡ (get_or xs (j + 1) d).0.low =
+    omega (arith, high, table.separate j i d less lt, ap (λ n. (get_or xs n d).0.low) e) in
     table.merged j d (omega arith) touch (ap (λ (s : Range × V). s.1) there ∙ other.value ∙ ap (λ n. (get_or xs n d).1) (sym e)))
     (cases_lt (j + 1) i))
     (λ from. ⊎_elim
@@ -73,7 +75,10 @@ has_low {V} xs key begin =
     let p = r.pair in
     let is = r.stands p in
     let low : p.0.low ≡ key = ⊎_elim
-    (λ less. absurd (begin.fresh (key - 1) (omega arith) (subst (λ u. HasValue xs (key - 1) u) r.value (holds_read xs r.at p (key - 1) r.in_list (sym is) (record { above = omega arith; below = omega (arith, r.covers.below) })))))
+    (λ less. absurd (begin.fresh (key - 1) (omega arith)
+    (subst (λ u. HasValue xs (key - 1) u) r.value
+    (holds_read xs r.at p (key - 1) r.in_list (sym is)
+    (record { above = omega arith; below = omega (arith, r.covers.below) })))))
     (λ more. omega (arith, more, r.covers.above))
     (cases_lt p.0.low key) in
     (r.at, omega (arith, r.in_list, count_lows xs), low_at xs r.at p key r.in_list ∙ ap (λ (s : Range × V). s.0.low) is ∙ low)

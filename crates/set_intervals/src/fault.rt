@@ -6,7 +6,7 @@ use thiserror::Error;
 #[derive(Clone, Copy, Debug, PartialEq, Eq, Error)]
 pub enum SetError {
     /// Two ranges with different values overlap.
-    #[error("clash")]
+    #[error("I1")]
     Clash,
     /// An allocation failed.
     #[error("memory")]

@@ -1,61 +1,27 @@
--- The checks on the lines of a box file, with names, prefixes and kinds as integer keys.
-use Rattle.std.specs.Prelude.{◌≡◌, ℕ, ◌+◌, ◌*◌, ◌<◌, ◌%◌, ◌^◌, ◌==◌, ◌&&◌, not, nat_eq, Bool, List, []}
-use Rattle.std.specs.Prelude.{◌∷◌, fold, reverse, Option, Some, None, if◌then◌else◌}
+-- The checks on the lines of a box file.
+use Rattle.std.specs.Prelude.{◌≡◌, ◌&&◌, not, Bool, List, Option, Some, None, if◌then◌else◌, ℕ, nat_eq}
 use Rattle.std.specs.List.{list_any}
-use Rattle.box_file.specs.Box.{Interface, NamedRoute, Idle, IsName, Line, interfaces_in}
+use Rattle.std.specs.Borrow.{Bor}
+use Rattle.std.specs.Cmp.Lexicographic.{pointwise}
+use Rattle.std.specs.HashSet.{HashSet, contains}
+use Rattle.box_file.specs.Box.{Interface, NamedRoute, Idle, Line, interfaces_in, is_named}
 use Rattle.box_file.specs.Box.{routes_in, defaults_in, idles_in, is_malformed, is_repeated}
 use Rattle.box_file.specs.Box.{has_unknown, is_too_large, is_out_of_range}
 use Rattle.box_file.specs.declared.fault.BoxFault.{BoxFault}
 use Rattle.box_file.specs.declared.fault.BoxFault.TheVariants as faults
-use Rattle.box_file.specs.Idle.{number_of}
+
+-- the relation gives this function's values
+abbrev pub Computes : {X Y : Type 0} → (X → Y → Type 0) → (X → Y) → Type 0
+Computes {X} {Y} gives f = (x : X) (y : Y) → gives x y → y ≡ f x
+
+-- the set has the names of the interfaces
+abbrev pub Knows : {S : Type 0} → HashSet (Bor (List ℕ)) S → List Interface → Type 0
+Knows known interfaces = (n : Bor (List ℕ))
+    → contains (λ x y. pointwise nat_eq x.now y.now) known n ≡ list_any (is_named n.now) interfaces
 
 -- one key with two values
-abbrev pub two_values : ℕ × ℕ → ℕ × ℕ → Bool
-two_values x y = x.0 == y.0 && not (x.1 == y.1)
-
--- none of the known numbers
-abbrev pub is_missing : List ℕ → ℕ → Bool
-is_missing known n = not (list_any (nat_eq n) known)
-
-abbrev pub with_byte : ℕ → ℕ → ℕ
-with_byte key b = (key * 256 % 2 ^ 128 + b) % 2 ^ 128
-
--- a name as an integer, its first byte the least significant
-abbrev pub key_of : List ℕ → ℕ
-key_of n = fold with_byte 0 (reverse n)
-
--- the value of the first pair with this key
-abbrev pub value_at : ℕ → List (ℕ × ℕ) → Option ℕ
-value_at q [] = None
-value_at q (x ∷ xs) = if x.0 == q then Some x.1 else value_at q xs
-
-abbrev pub index_and_name : Interface → ℕ × ℕ
-index_and_name i = (i.index, key_of i.name)
-
-abbrev pub name_and_index : Interface → ℕ × ℕ
-name_and_index i = (key_of i.name, i.index)
-
--- a prefix as an integer
-abbrev pub prefix_key : NamedRoute → ℕ
-prefix_key r = r.address * 256 + r.prefix
-
--- the kind of an idle timeout as an integer
-abbrev pub kind_key : Idle → ℕ
-kind_key i = number_of i.kind
-
--- ---- facts about the lines of each kind
-
-abbrev pub EachNamed : List Interface → Type 0
-EachNamed [] = Unit {0}
-EachNamed (i ∷ is) = IsName i.name × EachNamed is
-
-abbrev pub EachShort : List NamedRoute → Type 0
-EachShort [] = Unit {0}
-EachShort (r ∷ rs) = (IsName r.name × (r.prefix < 33)) × EachShort rs
-
-abbrev pub EachName : List (List ℕ) → Type 0
-EachName [] = Unit {0}
-EachName (n ∷ ns) = IsName n × EachName ns
+abbrev pub two_values : {K V : Type 0} → (K → K → Bool) → (V → V → Bool) → K × V → K × V → Bool
+two_values same_key same_value x y = same_key x.0 y.0 && not (same_value x.1 y.1)
 
 -- the lines split by kind
 pub record AreLinesByKind (lines : List Line) (interfaces : List Interface) (routes : List NamedRoute)

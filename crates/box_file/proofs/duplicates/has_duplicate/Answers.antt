@@ -1,22 +1,41 @@
-use Rattle.std.proofs.Common.{nat_eq, sym, false, true, ◌∙◌, get_or, take}
-use Rattle.box_file.proofs.RepeatLaws.{any_more, number_here, two_more, two_found, not_is}
+use Rattle.std.proofs.Common.{true, false, cond, map, refl, sym, ap, ◌∙◌}
+use Rattle.std.proofs.iter.Next.{says_at}
+use Rattle.std.specs.HashSet.{contains}
+use Rattle.std.specs.List.{list_any}
+use Rattle.std.proofs.lemmas.List.{take_all}
+use Rattle.box_file.specs.Box.{any_pair}
+use Rattle.box_file.proofs.RepeatLaws.{not_is, two_more, two_found, seen_more}
 use Rattle.box_file.proofs.duplicates.has_duplicate.Goals as goal
 
-pub loop-key-preserved : goal.loop-key-preserved
-loop-key-preserved c =
-    record {
-      none_twice = two_more nat_eq c.args.keys.now c.loop-key.key-index 0 false c.loop-key-test.true
-          c.loop-key.invariant.none_twice (number_here (get_or c.args.keys.now c.loop-key.key-index 0)
-          (take c.loop-key.key-index c.args.keys.now) _ false
-          (c.loop-key.invariant.seen (get_or c.args.keys.now c.loop-key.key-index 0))
-          (not_is _ true (sym c.in_ok-insert.ensures.added ∙ c.if-not-branch.false)));
-      seen = λ q. any_more q c.args.keys.now c.loop-key.key-index _ _ c.loop-key-test.true (c.loop-key.invariant.seen q)
-          (c.in_ok-insert.ensures.updates.0 q);
-    }
+pub loop-line-init : goal.loop-line-init
+loop-line-init g c = λ f computes. (refl, λ q. ap (list_any (g.K.PartialEq.eq q)) c.new-seen.ensures.empty)
+
+pub loop-line-preserved : goal.loop-line-preserved
+loop-line-preserved g c = λ f computes.
+    let eq = g.K.PartialEq.eq in
+    let ls = c.args.lines.now in
+    let i = c.loop-line.line-index in
+    let d = c.line-item.result in
+    let so_far = c.loop-line.invariant f computes in
+    let is = computes d c.key.result (says_at g.F.Fn c.key.ensures refl) in (
+      two_more f ls i d c.loop-line-test.true c.line-item.is eq false so_far.0
+          (sym (so_far.1 (f d)) ∙ ap (contains eq c.loop-line.seen) (sym is)
+          ∙ not_is _ true (sym c.in_ok-insert.ensures.added ∙ c.if-not-branch.false)),
+      λ q. seen_more f ls i d c.loop-line-test.true c.line-item.is (λ k. eq k q) _ _ (so_far.1 q)
+          (c.in_ok-insert.ensures.updates.0 q ∙ ap (λ k. cond (eq k q) true (contains eq c.loop-line.seen q)) is),
+    )
 
 pub returns-then-not-branch : goal.returns-then-not-branch
-returns-then-not-branch c =
-    sym (two_found nat_eq c.args.keys.now c.loop-key.key-index 0 c.loop-key-test.true c.loop-key.invariant.none_twice
-    (number_here (get_or c.args.keys.now c.loop-key.key-index 0) (take c.loop-key.key-index c.args.keys.now) _ true
-    (c.loop-key.invariant.seen (get_or c.args.keys.now c.loop-key.key-index 0))
-    (not_is _ false (sym c.in_ok-insert.ensures.added ∙ c.if-not-branch.true))))
+returns-then-not-branch g c = λ f computes.
+    let eq = g.K.PartialEq.eq in
+    let d = c.line-item.result in
+    let so_far = c.loop-line.invariant f computes in
+    let is = computes d c.key.result (says_at g.F.Fn c.key.ensures refl) in
+    sym (two_found f c.args.lines.now c.loop-line.line-index d c.loop-line-test.true c.line-item.is eq so_far.0
+    (sym (so_far.1 (f d)) ∙ ap (contains eq c.loop-line.seen) (sym is)
+    ∙ not_is _ false (sym c.in_ok-insert.ensures.added ∙ c.if-not-branch.true)))
+
+pub returns : goal.returns
+returns g c = λ f computes.
+    sym (ap (λ ls. any_pair g.K.PartialEq.eq (map f ls)) (sym (take_all c.loop-line.line-index c.args.lines.now c.loop-line-test.false))
+    ∙ (c.loop-line.invariant f computes).0)

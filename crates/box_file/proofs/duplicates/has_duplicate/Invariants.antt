@@ -1,13 +1,12 @@
-use Rattle.std.proofs.Common.{◌≡◌, ℕ, nat_eq, take, false}
-use Rattle.std.specs.Ordering.{nat_cmp}
+use Rattle.std.proofs.Common.{◌≡◌, false, map, take}
+use Rattle.std.specs.Fn.{FnReturnsAt}
 use Rattle.std.specs.List.{list_any}
-use Rattle.std.specs.BTreeSet.{contains}
+use Rattle.std.specs.HashSet.{contains}
 use Rattle.box_file.specs.Box.{any_pair}
+use Rattle.box_file.specs.steps.Tests.{Computes}
 use Rattle.box_file.proofs.duplicates.has_duplicate.Given as goal
 
-abbrev pub invariant-loop-key : goal.invariant-loop-key
-invariant-loop-key l = record {
-  none_twice : any_pair nat_eq (take l.key-index l.keys) ≡ false;
-  seen : (q : ℕ)
-      → contains nat_cmp l.seen q ≡ list_any (nat_eq q) (take l.key-index l.keys);
-}
+abbrev pub invariant-loop-line : goal.invariant-loop-line
+invariant-loop-line g l = (f : _) → Computes (FnReturnsAt g.F.Fn l.key) f
+    → (any_pair g.K.PartialEq.eq (map f (take l.line-index l.lines)) ≡ false)
+    × ((q : _) → contains g.K.PartialEq.eq l.seen q ≡ list_any (λ k. g.K.PartialEq.eq k q) (map f (take l.line-index l.lines)))

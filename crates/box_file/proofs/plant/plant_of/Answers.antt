@@ -12,13 +12,13 @@ use Rattle.box_file.proofs.plant.plant_of.Goals as goal
 pub returns-clause-limits : goal.returns-clause-limits
 returns-clause-limits c k =
     let limit_positive : map idle_tree c.deref-6.result.now ≡ idles_in (map line_tree c.args.lines.now) =
-    ap (map idle_tree) c.deref-6.ensures.value ∙ c.in_ok-idle_lines.ensures in
+    ap (map idle_tree) c.deref-6.ensures.value ∙ c.in_ok-sorted.ensures.idles_are in
     c.limits-idle.ensures k ∙ ap (λ (is : List Idle). idle_for is k) limit_positive
 
 pub invariant_of-result : goal.invariant_of-result
 invariant_of-result c =
     let ls = map line_tree c.args.lines.now in
-    let found : map interface_tree c.in_ok-found.found.items ≡ interfaces_in ls = c.in_ok-found.ensures in
+    let found : map interface_tree c.in_ok-sorted.sorted.interfaces.items ≡ interfaces_in ls = c.in_ok-sorted.ensures.interfaces_are in
     let kept : map interface_of c.in_ok-interfaces.interfaces.items ≡ interfaces_in ls =
     c.in_ok-interfaces.ensures ∙ ap (map interface_tree) c.deref-3.ensures.value ∙ found in
     let routes_indexed : map route_entry c.in_ok-routes.routes.items
@@ -29,7 +29,7 @@ invariant_of-result c =
     (map (λ (n : Bor (List ℕ)). n.now) c.deref-2.result.now))
     (ap (map interface_tree) c.deref.ensures.value ∙ found)
     ∙ ap (entering_of (interfaces_in ls)) (ap (map (λ (n : Bor (List ℕ)). n.now)) c.deref-2.ensures.value
-    ∙ c.in_ok-defaults.ensures) in
+    ∙ c.in_ok-sorted.ensures.defaults_are) in
     record {
       best = sound_table _ _ _ (ap (map route_entry) c.deref-5.ensures.value) c.in_ok-table.ensures;
       indexes = sound_indexes _ _ kept (each_indexed ls c.requires.lines);

@@ -10,7 +10,8 @@ use Rattle.set_intervals.proofs.overlay.append.Goals.{then-len-gt0+else-continue
 pub returns-then-continues-clause-first_values : goal.returns-then-continues-clause-first_values
 returns-then-continues-clause-first_values g c =
     let joins = c.continues.ensures.0 c.if-continues.true in
-    merged_last c.args.pieces.now.items (c.len-len.result - 1) c.index-last.result.now c.args.range c.merged.result c.args.value (omega arith) c.index-last.ensures joins.1 joins.0 c.merged.ensures.low c.merged.ensures.high
+    merged_last c.args.pieces.now.items (c.len-len.result - 1) c.index-last.result.now c.args.range c.merged.result
+    c.args.value (omega arith) c.index-last.ensures joins.1 joins.0 c.merged.ensures.low c.merged.ensures.high
 
 pub returns-clause-table : goal.returns-clause-table
 returns-clause-table g c =
@@ -25,4 +26,7 @@ returns-clause-table g c =
 
 pub returns-then-continues-clause-ends : goal.returns-then-continues-clause-ends
 returns-then-continues-clause-ends g c =
-    All-set (λ p. p.0.high < c.args.range.high + 1) c.args.pieces.now.items (c.len-len.result - 1) (c.merged.result, c.index-last.result.now.1) (omega (arith, c.merged.ensures.high, (c.continues.ensures.0 c.if-continues.true).0, c.args.range.ordered)) (λ k d lt. omega (arith, c.requires.past k d lt, c.args.range.ordered))
+    All-set (λ p. p.0.high < c.args.range.high + 1) c.args.pieces.now.items (c.len-len.result - 1)
+    (c.merged.result, c.index-last.result.now.1)
+    (omega (arith, c.merged.ensures.high, (c.continues.ensures.0 c.if-continues.true).0, c.args.range.ordered))
+    (λ k d lt. omega (arith, c.requires.past k d lt, c.args.range.ordered))

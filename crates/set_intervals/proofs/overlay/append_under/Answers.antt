@@ -36,7 +36,8 @@ loop-left-preserved g c =
       follows = follows newer (first.0.high + 1) others c.in_ok-append.ensures.ends past.1;
       end = c.in-Some.ensures.1 ∙ c.loop-left.invariant.end;
       first_values = λ key.
-          passed pieces new newer first others c.loop-left.rest part c.args.value c.in-Some.ensures.0 c.in-Some.ensures.1 past.1 c.in_ok-append_before.ensures.first_values c.in_ok-append.ensures.first_values key
+          passed pieces new newer first others c.loop-left.rest part c.args.value c.in-Some.ensures.0
+          c.in-Some.ensures.1 past.1 c.in_ok-append_before.ensures.first_values c.in_ok-append.ensures.first_values key
           ∙ ap (λ l. first_value (pieces ++ (l ++ (c.loop-left.rest, c.args.value) ∷ [])) key) (sym parts)
           ∙ c.loop-left.invariant.first_values key;
     }

@@ -13,17 +13,28 @@ returns-in-Clashes-clause-clash g c = λ _.
       key = c.args.range.low;
       other = last.1;
       within = record { above = omega arith; below = c.args.range.ordered };
-      has_other = holds_read xs (c.len-len.result - 1) last c.args.range.low lt c.index-last.ensures (record { above = omega (arith, c.requires.after (c.len-len.result - 1) last lt, ap (λ p. p.0.low) c.index-last.ensures); below = c.in-Clashes.ensures.0 });
+      has_other = holds_read xs (c.len-len.result - 1) last c.args.range.low lt c.index-last.ensures
+          (record {
+            above = omega (
+              arith,
+              c.requires.after (c.len-len.result - 1) last lt,
+              ap (λ p. p.0.low) c.index-last.ensures,
+            );
+            below = c.in-Clashes.ensures.0;
+          });
       differ = c.in-Clashes.ensures.1;
     }
 
 pub returns-in_ok-push-in-Disjoint-clause-table : goal.returns-in_ok-push-in-Disjoint-clause-table
 returns-in_ok-push-in-Disjoint-clause-table g c =
-    subst IsTable (sym c.in_ok-push-in-Disjoint.ensures.items) (table_push c.args.pieces.now.items c.len-len.result c.index-last.result.now (c.args.range, c.args.value) c.requires.table (omega arith) c.index-last.ensures c.in-Disjoint.ensures)
+    subst IsTable (sym c.in_ok-push-in-Disjoint.ensures.items)
+    (table_push c.args.pieces.now.items c.len-len.result c.index-last.result.now (c.args.range, c.args.value)
+    c.requires.table (omega arith) c.index-last.ensures c.in-Disjoint.ensures)
 
 pub returns-in_ok-push-in-Disjoint-clause-after : goal.returns-in_ok-push-in-Disjoint-clause-after
 returns-in_ok-push-in-Disjoint-clause-after g c =
-    subst (λ l. StartsBefore l c.args.range.low) (sym c.in_ok-push-in-Disjoint.ensures.items) (starts_push c.args.pieces.now.items (c.args.range, c.args.value) c.requires.after)
+    subst (λ l. StartsBefore l c.args.range.low) (sym c.in_ok-push-in-Disjoint.ensures.items)
+    (starts_push c.args.pieces.now.items (c.args.range, c.args.value) c.requires.after)
 
 pub returns-in_ok-push-in-Disjoint-clause-adds : goal.returns-in_ok-push-in-Disjoint-clause-adds
 returns-in_ok-push-in-Disjoint-clause-adds g c =
@@ -33,7 +44,8 @@ pub returns-in-Mergeable-clause-after : goal.returns-in-Mergeable-clause-after
 returns-in-Mergeable-clause-after g c =
     let last = c.index-last.result.now in
     let lt : c.len-len.result - 1 < length c.args.pieces.now.items = omega arith in
-    starts_widen c.args.pieces.now.items (c.len-len.result - 1) last (c.merged.result, last.1) c.args.range.low lt c.index-last.ensures c.merged.ensures.low c.requires.after
+    starts_widen c.args.pieces.now.items (c.len-len.result - 1) last (c.merged.result, last.1) c.args.range.low lt
+    c.index-last.ensures c.merged.ensures.low c.requires.after
 
 pub returns-in-Mergeable-clause-adds : goal.returns-in-Mergeable-clause-adds
 returns-in-Mergeable-clause-adds g c =

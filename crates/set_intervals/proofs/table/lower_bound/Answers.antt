@@ -15,7 +15,8 @@ returns g c =
     let within : to ≤ length xs = omega (arith, parts.within, length-map xs (λ p. p.0.high)) in
     let slice = take (to - from) (drop from xs) in
     let rises = part_rises (λ p. p.0.high) xs from to parts.order within (highs_rise xs c.requires.table.separate) in
-    let part = IsPartitionPoint-from_clause (λ p. ltb p.0.high key) slice c.partition_point.result c.partition_point.ensures.partitioned (IsPartitionedBy-ltb (λ p. p.0.high) slice key rises) (λ a r q k. search rules) in
+    let part = IsPartitionPoint-from_clause (λ p. ltb p.0.high key) slice c.partition_point.result
+    c.partition_point.ensures.partitioned (IsPartitionedBy-ltb (λ p. p.0.high) slice key rises) (λ a r q k. search rules) in
     let parted = joined (λ p. p.0.high) xs key from to c.partition_point.result parts.order within
     (keys_before (λ p. p.0.high) xs key from to parts)
     (λ k d above inside. let e = keys_behind (λ p. p.0.high) xs key from to parts k d above inside in omega (arith, e))

@@ -7,11 +7,6 @@ use Rattle.box_file.proofs.plant.Plant.read.Goals as goal
 pub returns-in_default-clause-refused : goal.returns-in_default-clause-refused
 returns-in_default-clause-refused c = inl (λ ls r. none_read c.args.text.now ls (sym (rw c.in_default.is at c.in_ok-lines.ensures)) r, refl)
 
-pub fault_of-requires : goal.fault_of-requires
-fault_of-requires c = lines_as _ _ (ap (map line_tree) c.deref.ensures.value)
-    (lines_found c.args.text.now (map line_tree c.in-Some.lines.items)
-    (sym (rw c.in-Some.is at c.in_ok-lines.ensures))).each
-
 pub returns-in-Some-2-clause-refused : goal.returns-in-Some-2-clause-refused
 returns-in-Some-2-clause-refused c =
     let lines = map line_tree c.in-Some.lines.items in

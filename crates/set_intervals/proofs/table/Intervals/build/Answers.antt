@@ -16,7 +16,9 @@ returns-in_err-add-clause-clash g c =
     let i = c.loop-range.range-index in
     let item = c.loop-range-item.result in
     let moved = subst (λ l. IsPermutation c.in_ok-sorted.sorted.items l) (sym c.deref-range-items.ensures.value) c.sort_unstable_by_key.ensures.permutation in
-    rw (p.1, p.2) (λ clash. clash_of _ xs c.args.pairs.now i item.0 item.1 c.loop-range-test.true c.loop-range-item.is c.loop-range.invariant.same (subst (λ l. IsPermutation l xs) c.in_ok-sorted.ensures moved) (c.in_err-add.ensures.clash clash))
+    rw (p.1, p.2) (λ clash. clash_of _ xs c.args.pairs.now i item.0 item.1 c.loop-range-test.true c.loop-range-item.is
+    c.loop-range.invariant.same (subst (λ l. IsPermutation l xs) c.in_ok-sorted.ensures moved)
+    (c.in_err-add.ensures.clash clash))
 
 pub loop-range-preserved : goal.loop-range-preserved
 loop-range-preserved g c =
@@ -24,11 +26,18 @@ loop-range-preserved g c =
     let i = c.loop-range.range-index in
     let item = c.loop-range-item.result in
     let lt : i < length xs = c.loop-range-test.true in
-    let rises = subst (IsNonDecreasingBy (λ p. p.0.low)) (sym c.deref-range-items.ensures.value) (IsNonDecreasingBy-from_sort_by_key (λ p. p.0.low) _ c.sort_unstable_by_key.ensures.sorted (λ a r q k. search rules)) in
+    let rises = subst (IsNonDecreasingBy (λ p. p.0.low)) (sym c.deref-range-items.ensures.value)
+    (IsNonDecreasingBy-from_sort_by_key (λ p. p.0.low) _ c.sort_unstable_by_key.ensures.sorted (λ a r q k. search rules)) in
     record {
       table = c.in_ok-add.ensures.table;
-      same = same_more _ _ (take i xs) (take (i + 1) xs) item.0 item.1 c.loop-range.invariant.same c.in_ok-add.ensures.adds (adds_take xs i item.0 item.1 lt c.loop-range-item.is);
-      before = λ d next k e in_new. omega (arith, c.in_ok-add.ensures.after k e in_new, rises i (i + 1) d (omega arith) next, ap (λ p. p.0.low) (c.loop-range-item.is ∙ get_or_default xs i item d lt));
+      same = same_more _ _ (take i xs) (take (i + 1) xs) item.0 item.1 c.loop-range.invariant.same
+          c.in_ok-add.ensures.adds (adds_take xs i item.0 item.1 lt c.loop-range-item.is);
+      before = λ d next k e in_new. omega (
+        arith,
+        c.in_ok-add.ensures.after k e in_new,
+        rises i (i + 1) d (omega arith) next,
+        ap (λ p. p.0.low) (c.loop-range-item.is ∙ get_or_default xs i item d lt),
+      );
     }
 
 pub returns-clause-same : goal.returns-clause-same
@@ -37,7 +46,8 @@ returns-clause-same g c =
     let xs = c.deref-range-items.result.now in
     let moved = subst (λ l. IsPermutation c.in_ok-sorted.sorted.items l) (sym c.deref-range-items.ensures.value) c.sort_unstable_by_key.ensures.permutation in
     subst (λ t. SameValues t pairs) (sym c.in_ok-of.ensures)
-    (same_permutation _ xs pairs c.loop-range.range-index c.loop-range-test.false c.loop-range.invariant.same (subst (λ l. IsPermutation l xs) c.in_ok-sorted.ensures moved))
+    (same_permutation _ xs pairs c.loop-range.range-index c.loop-range-test.false c.loop-range.invariant.same
+    (subst (λ l. IsPermutation l xs) c.in_ok-sorted.ensures moved))
 
 pub returns-clause-first_values : goal.returns-clause-first_values
 returns-clause-first_values g c = λ key.

@@ -17,4 +17,5 @@ pub returns-clause-first_values : goal.returns-clause-first_values
 returns-clause-first_values g c =
     let e = c.deref.ensures.value ∙ c.self.view_is in
     let table = subst IsTable c.self.view_is c.self.invariant.0 in
-    one_answer _ _ table.separate (same_itself _) c.args.key _ _ (subst (λ l. Says l c.args.key (option_copied c.find_in.result)) e c.find_in.ensures) (first_value_holds _ c.args.key)
+    one_answer _ _ table.separate (same_itself _) c.args.key _ _
+    (subst (λ l. Says l c.args.key (option_copied c.find_in.result)) e c.find_in.ensures) (first_value_holds _ c.args.key)

@@ -1,0 +1,8 @@
+use Rattle.std.proofs.Common.{map, take}
+use Rattle.box_file.specs.steps.Reading.{interface_tree, route_tree, idle_tree, line_tree}
+use Rattle.box_file.specs.steps.Tests.{AreLinesByKind}
+use Rattle.box_file.proofs.by_kind.lines_by_kind.Given as goal
+
+abbrev pub invariant-loop-line : goal.invariant-loop-line
+invariant-loop-line l = AreLinesByKind (map line_tree (take l.line-index l.lines)) (map interface_tree l.interfaces.items)
+    (map route_tree l.routes.items) (map (λ n. n.now) l.defaults.items) (map idle_tree l.idles.items)

@@ -1,7 +1,0 @@
-use Rattle.std.proofs.Common.{◌≡◌, map, take}
-use Rattle.box_file.specs.steps.Reading.{interface_tree}
-use Rattle.box_file.specs.steps.Tests.{key_of}
-use Rattle.box_file.proofs.checks.interface_names.Given as goal
-
-abbrev pub invariant-loop-interface : goal.invariant-loop-interface
-invariant-loop-interface l = l.found.items ≡ map (λ i. key_of i.name) (map interface_tree (take l.interface-index l.interfaces))

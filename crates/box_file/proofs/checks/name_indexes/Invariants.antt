@@ -1,7 +1,0 @@
-use Rattle.std.proofs.Common.{◌≡◌, map, take}
-use Rattle.box_file.specs.steps.Reading.{interface_tree}
-use Rattle.box_file.specs.steps.Tests.{name_and_index}
-use Rattle.box_file.proofs.checks.name_indexes.Given as goal
-
-abbrev pub invariant-loop-interface : goal.invariant-loop-interface
-invariant-loop-interface l = l.found.items ≡ map name_and_index (map interface_tree (take l.interface-index l.interfaces))

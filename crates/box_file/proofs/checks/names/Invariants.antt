@@ -1,0 +1,7 @@
+use Rattle.std.proofs.Common.{map, take}
+use Rattle.box_file.specs.steps.Reading.{interface_tree}
+use Rattle.box_file.specs.steps.Tests.{Knows}
+use Rattle.box_file.proofs.checks.names.Given as goal
+
+abbrev pub invariant-loop-interface : goal.invariant-loop-interface
+invariant-loop-interface l = Knows l.known (map interface_tree (take l.interface-index l.interfaces))
