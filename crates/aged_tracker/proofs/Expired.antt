@@ -6,41 +6,35 @@ use Rattle.std.proofs.lemmas.Bool.Decides.{nat_tests}
 use Rattle.std.proofs.lemmas.Option.{same_Some, none-some}
 use Rattle.futures.specs.LinkedLists.{IsIn}
 use Rattle.conntrack.specs.declared.connection.ConntrackEntry.{ConntrackEntry}
-use Rattle.ip_headers.specs.declared.tuple.Kind.{Kind}
-use Rattle.ip_headers.specs.declared.tuple.Kind.TheVariants.{Udp, Tcp, EchoRequest, EchoReply, Other}
-use Rattle.conntrack.specs.declared.connection.Phase.{Phase}
-use Rattle.conntrack.specs.declared.connection.Phase.TheVariants.{Opening, Established, Closing}
+use Rattle.box_file.specs.declared.idle_line.IdleKind.{IdleKind}
+use Rattle.box_file.specs.declared.idle_line.IdleKind.TheVariants as idle
 use Rattle.conntrack.specs.ConntrackEntry.{is_live, limit_of}
-use Rattle.conntrack.specs.Phases.{limit_by, phase_of}
+use Rattle.conntrack.specs.Phases.{idle_kind, limit_in, phase_of}
 use Rattle.box_file.specs.declared.limits.Limits.{Limits}
 use Rattle.aged_tracker.specs.declared.aged_slots.AgedSlots.{AgedSlots}
-use Rattle.aged_tracker.specs.steps.Table.{queue_by, queue_of, keys_in, slots_of, queues_of, IsTable}
+use Rattle.aged_tracker.specs.steps.Table.{idle_at, queue_number, queue_of, keys_in, slots_of, queues_of, IsTable}
 use Rattle.aged_tracker.specs.steps.Table.{IsLiveQueue, IsAllLive, limit_at, last_at, last_by}
 use Rattle.aged_tracker.proofs.Keys.{IsRising-front, none_in, front_in}
 
-limit_by-at : (limits : Limits) (k : Kind) (p : Phase) → limit_by limits k p ≡ limit_at limits (queue_by k p)
-limit_by-at limits Udp p = refl
-limit_by-at limits Tcp Established = refl
-limit_by-at limits Tcp Opening = refl
-limit_by-at limits Tcp Closing = refl
-limit_by-at limits EchoRequest p = refl
-limit_by-at limits EchoReply p = refl
-limit_by-at limits (Other n) p = refl
+idle_at-number : (k : IdleKind) → idle_at (queue_number k) ≡ k
+idle_at-number idle.Udp = refl
+idle_at-number idle.Established = refl
+idle_at-number idle.Transitory = refl
+idle_at-number idle.Echo = refl
+idle_at-number idle.Other = refl
 
-queue_by-range : (k : Kind) (p : Phase) → queue_by k p < 5
-queue_by-range Udp p = omega arith
-queue_by-range Tcp Established = omega arith
-queue_by-range Tcp Opening = omega arith
-queue_by-range Tcp Closing = omega arith
-queue_by-range EchoRequest p = omega arith
-queue_by-range EchoReply p = omega arith
-queue_by-range (Other n) p = omega arith
+queue_number-range : (k : IdleKind) → queue_number k < 5
+queue_number-range idle.Udp = omega arith
+queue_number-range idle.Established = omega arith
+queue_number-range idle.Transitory = omega arith
+queue_number-range idle.Echo = omega arith
+queue_number-range idle.Other = omega arith
 
 pub queue_of-range : (h : ConntrackEntry) → queue_of h < 5
-queue_of-range h = queue_by-range h.original.kind (phase_of h)
+queue_of-range h = queue_number-range (idle_kind h.original.kind (phase_of h))
 
 limit_of-at : (limits : Limits) (h : ConntrackEntry) (q : ℕ) → queue_of h ≡ q → limit_of limits h ≡ limit_at limits q
-limit_of-at limits h q is = limit_by-at limits h.original.kind (phase_of h) ∙ ap (limit_at limits) is
+limit_of-at limits h q is = ap (limit_in limits) (sym (idle_at-number (idle_kind h.original.kind (phase_of h)))) ∙ ap (limit_at limits) is
 
 module _ (limits : Limits) (t : AgedSlots) (now q : ℕ) (table : IsTable t) (range : q < 5) where
   pub queue_empty : slice_get (keys_in (queues_of t) q) 0 ≡ None → IsLiveQueue limits (slots_of t) now q

@@ -3,7 +3,7 @@ use Rattle.std.proofs.Common.{◌≡◌, ℕ, ◌+◌, List, [], ◌∷◌, leng
 use Rattle.std.proofs.Common.{◌||◌, ◌&&◌, cond, eqb, refl, sym, ap, ◌∙◌, inl, inr, arith}
 use Rattle.std.specs.List.{find, list_any}
 use Rattle.std.specs.Prelude.{filter, if◌then◌else◌}
-use Rattle.std.proofs.lemmas.Bool.{or_left, or_right, or_parts, and_parts, not-true, eqb-true}
+use Rattle.std.proofs.lemmas.Bool.{cases_Bool, or_left, or_right, or_parts, and_parts, not-true, eqb-true}
 use Rattle.std.proofs.lemmas.Bool.Decides.{nat_tests}
 use Rattle.std.proofs.lemmas.Option.{same_Some}
 use Rattle.futures.specs.LinkedLists.{IsIn}
@@ -22,7 +22,7 @@ use Rattle.aged_tracker.specs.steps.SlotLists.{held_in, cons_held}
 use Rattle.aged_tracker.specs.steps.Table.{IsAllLive}
 use Rattle.aged_tracker.specs.steps.Keyed.{IsKeyed, belonging_of}
 use Rattle.aged_tracker.proofs.Tables.{IsNamed, filter_cons, same_id-named}
-use Rattle.aged_tracker.proofs.Members.{either_bool, not_both, find_none, find_only, any_some}
+use Rattle.aged_tracker.proofs.Members.{not_both, find_none, find_only, any_some}
 use Rattle.aged_tracker.proofs.Keyed.{one_owner, no_owner}
 
 and_no : (a b : Bool) → b ≡ false → (a && b) ≡ false
@@ -65,10 +65,10 @@ module _ (s : ℕ → Option ConntrackEntry) (at : Tuple → Option ℕ) (keyed 
     find_case f owns_it =
         let only : (k : ℕ) (x : ConntrackEntry) → s k ≡ Some x → f x ≡ true → k ≡ key =
         λ k x is' t. one_owner s at keyed k key x h tuple is' is (owns_it x t) owned in
-        elim (either_bool (f h)) [
+        elim (cases_Bool (f h)) [
           | inl t ↦ find_only f s keys key h (listed key h is) is t only ∙ sym (ap (λ b. cond b (Some h) None) t)
           | inr e ↦
-              find_none f s keys (λ k x is'. elim (either_bool (f x)) [
+              find_none f s keys (λ k x is'. elim (cases_Bool (f x)) [
                 | inl t ↦
                     let same : x ≡ h = same_Some x h (sym is' ∙ ap s (only k x is' t) ∙ is) in
                     not_both (f h) (ap f (sym same) ∙ t) e
@@ -123,7 +123,7 @@ pub live_without : (limits : Limits) (s : ℕ → Option ConntrackEntry) (now : 
 live_without limits s now id h named is expired [] = refl
 live_without limits s now id h named is expired (k ∷ keys) =
     drop_step (is_live limits now) (λ x. not (same_id id x)) (s k) (held_in s keys)
-    (λ x at out. elim (either_bool (same_id id x)) [
+    (λ x at out. elim (cases_Bool (same_id id x)) [
       | inl t ↦
           let e : k ≡ id.0 = sym (named k x at) ∙ eqb-true x.id.0 id.0 t in
           let same : x ≡ h = same_Some x h (sym at ∙ ap s e ∙ is) in

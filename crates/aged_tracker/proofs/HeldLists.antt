@@ -1,5 +1,5 @@
 -- The entries at some keys.
-use Rattle.std.proofs.Common.{◌≡◌, ℕ, ◌+◌, ◌≤◌, List, [], ◌∷◌, ◌++◌, length, Option, Some, None, refl, ap, ◌∙◌, inl, inr, arith}
+use Rattle.std.proofs.Common.{◌≡◌, ℕ, List, [], ◌∷◌, ◌++◌, Option, Some, None, refl, ap, ◌∙◌, inl, inr}
 use Rattle.futures.specs.LinkedLists.{IsIn}
 use Rattle.conntrack.specs.declared.connection.ConntrackEntry.{ConntrackEntry}
 use Rattle.aged_tracker.specs.steps.SlotLists.{cons_held, held_in}
@@ -19,11 +19,3 @@ pub held_push : (s : ℕ → Option ConntrackEntry) (keys : List ℕ) (key : ℕ
     → held_in s (keys ++ key ∷ []) ≡ held_in s keys ++ h ∷ []
 held_push s [] key h is = ap (λ o. cons_held o []) is
 held_push s (k ∷ keys) key h is = ap (cons_held (s k)) (held_push s keys key h is) ∙ cons_append (s k) (held_in s keys) (h ∷ [])
-
-cons_long : (o : Option ConntrackEntry) (held : List ConntrackEntry) (n : ℕ) → length held ≤ n → length (cons_held o held) ≤ n + 1
-cons_long None held n few = omega (arith, few)
-cons_long (Some h) held n few = omega (arith, few)
-
-pub length-held : (s : ℕ → Option ConntrackEntry) (keys : List ℕ) → length (held_in s keys) ≤ length keys
-length-held s [] = omega arith
-length-held s (k ∷ keys) = let few = cons_long (s k) (held_in s keys) (length keys) (length-held s keys) in omega (arith, few)

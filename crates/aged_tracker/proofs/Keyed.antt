@@ -1,5 +1,6 @@
 -- The index from tuples to slots, and lookups.
-use Rattle.std.proofs.Common.{◌≡◌, ◌≢◌, ℕ, List, [], ◌∷◌, Option, Some, None, Bool, true, false, cond, refl, sym, ap, ◌∙◌, subst, inl, inr}
+use Rattle.std.proofs.Common.{◌≡◌, ◌≢◌, ℕ, List, [], ◌∷◌, Option, Some, None, true, false, cond, refl, sym, ap, ◌∙◌, subst, inl, inr}
+use Rattle.std.proofs.lemmas.Bool.{cases_Bool, or_cases, cond-true, cond-false, false_from_ne_true}
 use Rattle.std.proofs.lemmas.Bool.{or_from, or_left, or_right, or_parts, and_from, not_from_false, cases_eq}
 use Rattle.std.proofs.lemmas.Option.{same_Some, none-some}
 use Rattle.futures.specs.LinkedLists.{IsIn, IsApart}
@@ -11,7 +12,7 @@ use Rattle.ip_headers.specs.steps.Equal.{same_tuple-refl, same_tuple-true}
 use Rattle.aged_tracker.specs.steps.SlotLists.{held_in, cons_held}
 use Rattle.aged_tracker.specs.steps.Table.{Sets}
 use Rattle.aged_tracker.specs.steps.Keyed.{IsKeyed}
-use Rattle.aged_tracker.proofs.Members.{either_bool, either_or, not_both, any_none, any_some}
+use Rattle.aged_tracker.proofs.Members.{not_both, any_none, any_some}
 
 pub incoming-original : (h : ConntrackEntry) → is_incoming h.original h ≡ true
 incoming-original h = or_left _ _ (same_tuple-refl h.original)
@@ -22,7 +23,7 @@ incoming-reply h = or_right _ _ (same_tuple-refl h.reply)
 module _ (s : ℕ → Option ConntrackEntry) (at : Tuple → Option ℕ) (keyed : IsKeyed s at) where
   pub owner_at : (key : ℕ) (h : ConntrackEntry) (tuple : Tuple) → s key ≡ Some h → is_incoming tuple h ≡ true → at tuple ≡ Some key
   owner_at key h tuple is owned =
-      elim (either_or (same_tuple h.original tuple) (same_tuple h.reply tuple) owned) [
+      elim (or_cases (same_tuple h.original tuple) (same_tuple h.reply tuple) owned) [
         | inl e ↦ ap at (sym (same_tuple-true h.original tuple e)) ∙ keyed.original key h is
         | inr e ↦ ap at (sym (same_tuple-true h.reply tuple e)) ∙ keyed.reply key h is
       ]
@@ -34,10 +35,7 @@ module _ (s : ℕ → Option ConntrackEntry) (at : Tuple → Option ℕ) (keyed 
 
   pub no_owner : (tuple : Tuple) → at tuple ≡ None → (key : ℕ) (h : ConntrackEntry) → s key ≡ Some h → is_incoming tuple h ≡ false
   no_owner tuple none key h is =
-      elim (either_bool (is_incoming tuple h)) [
-        | inl t ↦ absurd (none-some key (sym none ∙ owner_at key h tuple is t))
-        | inr f ↦ f
-      ]
+      false_from_ne_true (is_incoming tuple h) (λ t. none-some key (sym none ∙ owner_at key h tuple is t))
 
   pub taken_none : (keys : List ℕ) (tuple : Tuple) → at tuple ≡ None → is_taken tuple (held_in s keys) ≡ false
   taken_none keys tuple none = any_none (is_incoming tuple) s keys (λ k x found is. no_owner tuple none k x is)
@@ -68,19 +66,10 @@ module _ (s : ℕ → Option ConntrackEntry) (at : Tuple → Option ℕ) (keyed 
       let free : (x : ConntrackEntry) (tuple : Tuple) → s k ≡ Some x → is_incoming tuple x ≡ true
       → is_taken tuple (held_in s keys) ≡ false =
       λ x tuple is owned. any_none (is_incoming tuple) s keys (λ j y found at'.
-      elim (either_bool (is_incoming tuple y)) [
-        | inl t ↦ absurd (apart.0 (subst (λ i. IsIn i keys) (one_owner j k y x tuple at' is t owned) found))
-        | inr f ↦ f
-      ]) in
+      false_from_ne_true (is_incoming tuple y) (λ t. apart.0 (subst (λ i. IsIn i keys) (one_owner j k y x tuple at' is t owned) found))) in
       apart_step (s k) (held_in s keys)
       (λ x is. (free x x.original is (incoming-original x), free x x.reply is (incoming-reply x)))
       (apart_held keys apart.1)
-
-cond_true : {X : Type 0} (b : Bool) (x y : X) → b ≡ true → cond b x y ≡ x
-cond_true b x y e = rw e refl
-
-cond_false : {X : Type 0} (b : Bool) (x y : X) → b ≡ false → cond b x y ≡ y
-cond_false b x y e = rw e refl
 
 -- an entry in a slot that was free
 module _ (old new : ℕ → Option ConntrackEntry) (at at' : Tuple → Option ℕ) (key : ℕ) (h : ConntrackEntry)
@@ -91,18 +80,18 @@ module _ (old new : ℕ → Option ConntrackEntry) (at at' : Tuple → Option �
   not_it k x tuple is owned =
       let was = owner_at old at keyed k x tuple is owned in
       let differs : (q : Tuple) → at q ≡ None → same_tuple q tuple ≡ false =
-      λ q none. elim (either_bool (same_tuple q tuple)) [
+      λ q none. elim (cases_Bool (same_tuple q tuple)) [
         | inl e ↦ absurd (none-some k (sym none ∙ ap at (same_tuple-true q tuple e) ∙ was))
         | inr f ↦ f
       ] in
-      now tuple ∙ cond_false _ _ _ (differs h.reply r) ∙ cond_false _ _ _ (differs h.original o) ∙ was
+      now tuple ∙ cond-false _ _ _ (differs h.reply r) ∙ cond-false _ _ _ (differs h.original o) ∙ was
 
   is_it : (tuple : Tuple) → is_incoming tuple h ≡ true → at' tuple ≡ Some key
   is_it tuple owned =
-      elim (either_bool (same_tuple h.reply tuple)) [
-        | inl e ↦ now tuple ∙ cond_true _ _ _ e
-        | inr f ↦ elim (either_or (same_tuple h.original tuple) (same_tuple h.reply tuple) owned) [
-          | inl e ↦ now tuple ∙ cond_false _ _ _ f ∙ cond_true _ _ _ e
+      elim (cases_Bool (same_tuple h.reply tuple)) [
+        | inl e ↦ now tuple ∙ cond-true _ _ _ e
+        | inr f ↦ elim (or_cases (same_tuple h.original tuple) (same_tuple h.reply tuple) owned) [
+          | inl e ↦ now tuple ∙ cond-false _ _ _ f ∙ cond-true _ _ _ e
           | inr e ↦ not_both _ e f
         ]
       ]
@@ -120,14 +109,14 @@ module _ (old new : ℕ → Option ConntrackEntry) (at at' : Tuple → Option �
   pub keyed_begun : IsKeyed new at'
   keyed_begun =
       record {
-        found = λ tuple k is. elim (either_bool (is_incoming tuple h)) [
+        found = λ tuple k is. elim (cases_Bool (is_incoming tuple h)) [
           | inl e ↦
               let same : key ≡ k = same_Some key k (sym (is_it tuple e) ∙ is) in
               (h, (ap new (sym same) ∙ updates.changed, e))
           | inr f ↦
               let parts = or_parts (same_tuple h.original tuple) (same_tuple h.reply tuple) f in
-              let was = keyed.found tuple k (sym (now tuple ∙ cond_false (same_tuple h.reply tuple) (Some key) _ parts.1
-              ∙ cond_false (same_tuple h.original tuple) (Some key) (at tuple) parts.0) ∙ is) in
+              let was = keyed.found tuple k (sym (now tuple ∙ cond-false (same_tuple h.reply tuple) (Some key) _ parts.1
+              ∙ cond-false (same_tuple h.original tuple) (Some key) (at tuple) parts.0) ∙ is) in
               (was.0, (updates.others k (λ e. none-some was.0 (sym free ∙ ap old (sym e) ∙ was.1.0)) ∙ was.1.0, was.1.1))
         ];
         original = either_slot (λ k x. at' x.original ≡ Some k) (is_it h.original (incoming-original h))
@@ -148,25 +137,23 @@ module _ (old new : ℕ → Option ConntrackEntry) (at at' : Tuple → Option �
   still_at : (k : ℕ) (x : ConntrackEntry) (tuple : Tuple) → new k ≡ Some x → is_incoming tuple x ≡ true → at' tuple ≡ Some k
   still_at k x tuple is' owned =
       let was = still k x is' in
-      let other : is_incoming tuple h ≡ false = elim (either_bool (is_incoming tuple h)) [
-        | inl t ↦ absurd (was.0 (one_owner old at keyed k key x h tuple was.1 is owned t))
-        | inr f ↦ f
-      ] in
+      let other : is_incoming tuple h ≡ false =
+      false_from_ne_true (is_incoming tuple h) (λ t. was.0 (one_owner old at keyed k key x h tuple was.1 is owned t)) in
       let parts = or_parts (same_tuple h.original tuple) (same_tuple h.reply tuple) other in
-      now tuple ∙ cond_false (same_tuple h.reply tuple) None _ parts.1
-      ∙ cond_false (same_tuple h.original tuple) None (at tuple) parts.0
+      now tuple ∙ cond-false (same_tuple h.reply tuple) None _ parts.1
+      ∙ cond-false (same_tuple h.original tuple) None (at tuple) parts.0
       ∙ owner_at old at keyed k x tuple was.1 owned
 
   pub keyed_ended : IsKeyed new at'
   keyed_ended =
       record {
         found = λ tuple k is'.
-            elim (either_bool (same_tuple h.reply tuple)) [
-              | inl e ↦ absurd (none-some k (sym (now tuple ∙ cond_true _ _ _ e) ∙ is'))
-              | inr f ↦ elim (either_bool (same_tuple h.original tuple)) [
-                | inl e ↦ absurd (none-some k (sym (now tuple ∙ cond_false _ _ _ f ∙ cond_true _ _ _ e) ∙ is'))
+            elim (cases_Bool (same_tuple h.reply tuple)) [
+              | inl e ↦ absurd (none-some k (sym (now tuple ∙ cond-true _ _ _ e) ∙ is'))
+              | inr f ↦ elim (cases_Bool (same_tuple h.original tuple)) [
+                | inl e ↦ absurd (none-some k (sym (now tuple ∙ cond-false _ _ _ f ∙ cond-true _ _ _ e) ∙ is'))
                 | inr g ↦
-                    let was = keyed.found tuple k (sym (now tuple ∙ cond_false _ _ _ f ∙ cond_false _ _ _ g) ∙ is') in
+                    let was = keyed.found tuple k (sym (now tuple ∙ cond-false _ _ _ f ∙ cond-false _ _ _ g) ∙ is') in
                     let differs : k ≢ key = λ e.
                     let same : was.0 ≡ h = same_Some was.0 h (sym was.1.0 ∙ ap old e ∙ is) in
                     not_both (is_incoming tuple h) (ap (is_incoming tuple) (sym same) ∙ was.1.1) (or_from _ _ g f) in

@@ -4,7 +4,7 @@ use Rattle.std.proofs.lemmas.Bool.{cases_eq, cond-true, not_from_false, ne_eqb}
 use Rattle.std.proofs.lemmas.Option.{same_Some, none-some}
 use Rattle.futures.specs.LinkedLists.{without, IsIn, IsApart}
 use Rattle.futures.proofs.LinkLemmas.{without_head, IsIn-without}
-use Rattle.aged_tracker.specs.steps.Table.{IsRising}
+use Rattle.aged_tracker.specs.steps.Table.{IsRising, IsSorted}
 
 pub without_past : (key first : ℕ) (rest : List ℕ) → first ≢ key → without key (first ∷ rest) ≡ first ∷ without key rest
 without_past key first rest other = cond-true _ _ _ (not_from_false _ (ne_eqb first key other))
@@ -78,31 +78,33 @@ pub front_in : (keys : List ℕ) (key : ℕ) → slice_get keys 0 ≡ Some key �
 front_in [] key is = absurd (none-some key is)
 front_in (first ∷ rest) key is = inl (same_Some first key is)
 
-pub IsRising-without : (f : ℕ → ℕ) (key : ℕ) (keys : List ℕ) → IsRising f keys → IsRising f (without key keys)
-IsRising-without f key [] rising = tt
-IsRising-without f key (first ∷ rest) rising =
-    elim (cases_eq first key) [
-      | inl same ↦ subst (IsRising f) (sym (without_head key first rest same)) (IsRising-without f key rest rising.1)
-      | inr differs ↦
-          subst (IsRising f) (sym (without_past key first rest differs))
-          (λ other found. rising.0 other (IsIn-without key other rest found).0, IsRising-without f key rest rising.1)
-    ]
+module _ (R : ℕ → ℕ → Type 0) where
+  pub IsSorted-without : (key : ℕ) (keys : List ℕ) → IsSorted R keys → IsSorted R (without key keys)
+  IsSorted-without key [] sorted = tt
+  IsSorted-without key (first ∷ rest) sorted =
+      elim (cases_eq first key) [
+        | inl same ↦ subst (IsSorted R) (sym (without_head key first rest same)) (IsSorted-without key rest sorted.1)
+        | inr differs ↦
+            subst (IsSorted R) (sym (without_past key first rest differs))
+            (λ other found. sorted.0 other (IsIn-without key other rest found).0, IsSorted-without key rest sorted.1)
+      ]
 
-pub IsRising-push : (f : ℕ → ℕ) (key : ℕ) (keys : List ℕ) → IsRising f keys
-    → ((other : ℕ) → IsIn other keys → f other ≤ f key) → IsRising f (keys ++ key ∷ [])
-IsRising-push f key [] rising least = (λ other nowhere. absurd nowhere, tt)
-IsRising-push f key (first ∷ rest) rising least = (
-  λ other found. elim (IsIn-push key other rest found) [
-    | inl old ↦ rising.0 other old
-    | inr new ↦ let e : f key ≡ f other = ap f new in omega (arith, e, least first (inl refl))
-  ],
-  IsRising-push f key rest rising.1 (λ other found. least other (inr found)),
-)
+  pub IsSorted-push : (key : ℕ) (keys : List ℕ) → IsSorted R keys → ((other : ℕ) → IsIn other keys → R other key)
+      → IsSorted R (keys ++ key ∷ [])
+  IsSorted-push key [] sorted last = (λ other nowhere. absurd nowhere, tt)
+  IsSorted-push key (first ∷ rest) sorted last = (
+    λ other found. elim (IsIn-push key other rest found) [
+      | inl old ↦ sorted.0 other old
+      | inr new ↦ subst (R first) new (last first (inl refl))
+    ],
+    IsSorted-push key rest sorted.1 (λ other found. last other (inr found)),
+  )
 
--- moments that agree at the keys of the list
-pub IsRising-same : (f g : ℕ → ℕ) (keys : List ℕ) → ((key : ℕ) → IsIn key keys → g key ≡ f key) → IsRising f keys → IsRising g keys
-IsRising-same f g [] same rising = tt
-IsRising-same f g (first ∷ rest) same rising = (
-  λ other found. omega (arith, same first (inl refl), same other (inr found), rising.0 other found),
-  IsRising-same f g rest (λ key found. same key (inr found)) rising.1,
-)
+  -- another relation that holds where this one does, among the keys of the list
+  pub IsSorted-to : (S : ℕ → ℕ → Type 0) (keys : List ℕ)
+      → ((key other : ℕ) → IsIn key keys → IsIn other keys → R key other → S key other) → IsSorted R keys → IsSorted S keys
+  IsSorted-to S [] to sorted = tt
+  IsSorted-to S (first ∷ rest) to sorted = (
+    λ other found. to first other (inl refl) (inr found) (sorted.0 other found),
+    IsSorted-to S rest (λ key other f g. to key other (inr f) (inr g)) sorted.1,
+  )

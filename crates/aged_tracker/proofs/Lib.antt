@@ -1,5 +1,6 @@
 pub mod Keys
 pub mod HeldLists
+pub mod Ordered
 pub mod Links
 pub mod Moved
 pub mod Walks
@@ -8,6 +9,7 @@ pub mod Filed
 pub mod Tables
 pub mod Linked
 pub mod Turns
+pub mod Listed
 pub mod Expired
 pub mod Members
 pub mod Keyed

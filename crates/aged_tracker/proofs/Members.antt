@@ -1,20 +1,12 @@
 -- Searches in the entries.
-use Rattle.std.proofs.Common.{◌≡◌, ◌⊎◌, ℕ, List, [], ◌∷◌, Option, Some, None, Bool, true, false, ◌||◌, refl, sym, ap, ◌∙◌, subst, inl, inr}
+use Rattle.std.proofs.Common.{◌≡◌, ℕ, List, [], ◌∷◌, Option, Some, None, Bool, true, false, refl, sym, ap, ◌∙◌, subst, inl, inr}
 use Rattle.std.specs.List.{find, list_any}
-use Rattle.std.proofs.lemmas.Bool.{or_from, or_left, or_right, and_from, not_from_false, cases_eq, ne_eqb}
+use Rattle.std.proofs.lemmas.Bool.{false_from_ne_true, or_from, or_left, or_right, and_from, not_from_false, cases_eq, ne_eqb}
 use Rattle.futures.specs.LinkedLists.{IsIn, IsApart}
 use Rattle.conntrack.specs.declared.connection.ConntrackEntry.{ConntrackEntry}
 use Rattle.conntrack.specs.ConntrackEntry.{same_id, has_id, has_distinct_ids}
 use Rattle.aged_tracker.specs.steps.SlotLists.{held_in, cons_held}
 use Rattle.aged_tracker.proofs.Tables.{IsNamed}
-
-pub either_bool : (b : Bool) → (b ≡ true) ⊎ (b ≡ false)
-either_bool true = inl refl
-either_bool false = inr refl
-
-pub either_or : (a b : Bool) → (a || b) ≡ true → (a ≡ true) ⊎ (b ≡ true)
-either_or true b h = inl refl
-either_or false b h = inr h
 
 pub not_both : {P : Type 0} (b : Bool) → b ≡ true → b ≡ false → P
 not_both b t f = absurd cc
@@ -65,7 +57,7 @@ module _ (f : ConntrackEntry → Bool) (s : ℕ → Option ConntrackEntry) where
       elim (cases_eq k key) [
         | inl e ↦ ap (λ o. find f (cons_held o (held_in s keys))) (ap s e ∙ is) ∙ find_here h (held_in s keys) passes
         | inr d ↦
-            find_fails (s k) (held_in s keys) (λ x at. elim (either_bool (f x)) [ inl t ↦ absurd (d (only k x at t)) | inr e ↦ e ])
+            find_fails (s k) (held_in s keys) (λ x at. false_from_ne_true (f x) (λ t. d (only k x at t)))
             ∙ elim found [ inl here ↦ absurd (d here) | inr there ↦ find_only keys key h there is passes only ]
       ]
 

@@ -1,6 +1,6 @@
 -- The invariant of an `AgedTracker` when an entry is touched, created or removed.
 use Rattle.std.proofs.Common.{◌≡◌, ℕ, ◌+◌, ◌-◌, [], ◌∷◌, ◌++◌, length, Option, Some, None, IsSome, is_some}
-use Rattle.std.proofs.Common.{true, false, cond, refl, sym, ap, ◌∙◌, arith, length-append}
+use Rattle.std.proofs.Common.{true, false, cond, refl, sym, ap, ◌∙◌, subst, arith, length-append}
 use Rattle.std.proofs.lemmas.List.{length-map}
 use Rattle.std.specs.Prelude.{IfSome, option_map}
 use Rattle.std.proofs.lemmas.Bool.{eqb-true, false_from_ne_true}
@@ -15,29 +15,30 @@ use Rattle.ip_headers.specs.Same.{same_tuple}
 use Rattle.conntrack.specs.ConntrackEntry.{aged_of, same_id, removed_entry, has_id, touched, touched_at, without}
 use Rattle.conntrack.specs.ConntrackEntry.{is_taken, has_distinct_ids, have_disjoint_tuples}
 use Rattle.aged_tracker.specs.declared.aged_slots.AgedSlots.{AgedSlots}
-use Rattle.aged_tracker.specs.steps.Table.{IsTable, Sets, held_by, keys_in, order_of, slots_of}
+use Rattle.aged_tracker.specs.steps.Table.{IsTable, Sets, held_by, order_of, serial_at, slots_of}
 use Rattle.aged_tracker.specs.steps.Keyed.{IsKeyed, IsConsistent}
 use Rattle.aged_tracker.proofs.Tables.{has_id-slot, same_id-named}
-use Rattle.aged_tracker.proofs.Linked.{some_of}
+use Rattle.aged_tracker.proofs.Links.{some_of}
+use Rattle.aged_tracker.proofs.Ordered.{apart_by_serial}
 use Rattle.aged_tracker.proofs.Members.{distinct_held, find_only}
 use Rattle.aged_tracker.proofs.Keyed.{keyed_begun, keyed_ended, keyed_touched, apart_held, taken_none, taken_some, free_at}
 use Rattle.aged_tracker.proofs.Found.{length-without_one, has_id-held}
 
 module _ (t : AgedSlots) (table : IsTable t) where
-  pub slot_listed : (k : ℕ) (h : ConntrackEntry) → (slots_of t) k ≡ Some h → IsIn k (keys_in (order_of t) 0)
-  slot_listed k h is = table.linked.order.listed k 0 (ap (λ o. option_map (λ (x : ConntrackEntry). 0) o) is)
+  pub slot_listed : (k : ℕ) (h : ConntrackEntry) → (slots_of t) k ≡ Some h → IsIn k (order_of t)
+  slot_listed k h is = table.order.listed k (subst IsSome (sym is) refl)
 
   pub slot_of : (id : ConnId) → has_id id (held_by t) ≡ true → IsSome ((slots_of t) id.0)
-  slot_of id has = (has_id-slot (slots_of t) id (keys_in (order_of t) 0) table.linked.named has).1
+  slot_of id has = (has_id-slot (slots_of t) id (order_of t) table.linked.named has).1
 
   pub distinct_by : has_distinct_ids (held_by t) ≡ true
-  distinct_by = distinct_held (slots_of t) (keys_in (order_of t) 0) table.linked.named (table.linked.order.apart 0)
+  distinct_by = distinct_held (slots_of t) (order_of t) table.linked.named (apart_by_serial (serial_at t.slots) (order_of t) table.order.rising)
 
   pub fresh_id : (id : ConnId) → (slots_of t) id.0 ≡ None → has_id id (held_by t) ≡ false
   fresh_id id free = false_from_ne_true _ (λ has. let slot = some_of _ (slot_of id has) in none-some slot.0 (sym free ∙ slot.1))
 
   pub has_by : (id : ConnId) (h : ConntrackEntry) → (slots_of t) id.0 ≡ Some h → has_id id (held_by t) ≡ true
-  has_by id h is = has_id-held (slots_of t) id h (keys_in (order_of t) 0) table.linked.named is (slot_listed id.0 h is)
+  has_by id h is = has_id-held (slots_of t) id h (order_of t) table.linked.named is (slot_listed id.0 h is)
 
   named_key : (id : ConnId) (k : ℕ) (x : ConntrackEntry) → slots_of t k ≡ Some x → same_id id x ≡ true → k ≡ id.0
   named_key id k x is same = sym (table.linked.named k x is) ∙ eqb-true x.id.0 id.0 same
@@ -45,7 +46,7 @@ module _ (t : AgedSlots) (table : IsTable t) where
   pub handed_over : (id : ConnId) (h : ConntrackEntry) → slots_of t id.0 ≡ Some h → removed_entry id (held_by t) ≡ Some (aged_of h)
   handed_over id h is =
       ap (option_map aged_of)
-      (find_only (same_id id) (slots_of t) (keys_in (order_of t) 0) id.0 h (slot_listed id.0 h is) is
+      (find_only (same_id id) (slots_of t) (order_of t) id.0 h (slot_listed id.0 h is) is
       (same_id-named (slots_of t) id h table.linked.named is) (named_key id))
 
   pub one_fewer : (id : ConnId) (h : ConntrackEntry) → slots_of t id.0 ≡ Some h → length (without id (held_by t)) + 1 ≡ length (held_by t)
@@ -53,17 +54,17 @@ module _ (t : AgedSlots) (table : IsTable t) where
 
   module _ (at : Tuple → Option ℕ) (keyed : IsKeyed (slots_of t) at) where
     pub apart_by : have_disjoint_tuples (held_by t) ≡ true
-    apart_by = apart_held (slots_of t) at keyed (keys_in (order_of t) 0) (table.linked.order.apart 0)
+    apart_by = apart_held (slots_of t) at keyed (order_of t) (apart_by_serial (serial_at t.slots) (order_of t) table.order.rising)
 
     pub taken_by : (tuple : Tuple) → IsSome (at tuple) → is_taken tuple (held_by t) ≡ true
     taken_by tuple is = let key = some_of (at tuple) is in
-        taken_some (slots_of t) at keyed (keys_in (order_of t) 0) tuple key.0 key.1 slot_listed
+        taken_some (slots_of t) at keyed (order_of t) tuple key.0 key.1 slot_listed
 
     pub free_by : (tuple : Tuple) → at tuple ≡ None → is_taken tuple (held_by t) ≡ false
-    free_by tuple none = taken_none (slots_of t) at keyed (keys_in (order_of t) 0) tuple none
+    free_by tuple none = taken_none (slots_of t) at keyed (order_of t) tuple none
 
     pub no_key : (tuple : Tuple) → is_taken tuple (held_by t) ≡ false → at tuple ≡ None
-    no_key tuple free = free_at (slots_of t) at keyed (keys_in (order_of t) 0) tuple free slot_listed
+    no_key tuple free = free_at (slots_of t) at keyed (order_of t) tuple free slot_listed
 
 module _ (t new : AgedSlots) (at at' : Tuple → Option ℕ) (live : ℕ) (aged : IsConsistent t at live) (id : ConnId) where
   pub aged_touched : (direction : Direction) (flags : Flags) (mark now : ℕ) → IsSome ((slots_of t) id.0) → IsTable new

@@ -1,54 +1,50 @@
 //! The slots of a table, and the lists through them.
 ghost use Rattle.std.specs.Prelude.{◌≡◌, ◌+◌, ◌<◌, ◌≤◌, ◌++◌, ◌∷◌, [], ℕ, nat_lt, IsTrue, IsSome, IfOk, IsOk, OnOk, Some, None, IfSome, IfNone, false, map};
 ghost use Rattle.slab.specs.Slab.{get, slab_len, ContainsKey, Updates};
+ghost use Rattle.futures.specs.LinkedLists.{IsIn};
 ghost use Rattle.conntrack.specs.ConntrackEntry.{begun_with, connection_of, is_live, touched, touched_at, without, IsNoneLater};
-ghost use Rattle.aged_tracker.specs.steps.SlotLists.{MAX_KEYS, lists_of, held_at, held_of, updated, Fills, IsRings, SameSize};
-ghost use Rattle.aged_tracker.specs.steps.Table.{has_room, held_by, limit_at, queue_by, queue_of, slots_of, IsAllLive, IsLiveQueue, IsOldest, IsTable, Sets};
+ghost use Rattle.aged_tracker.specs.steps.SlotLists.{MAX_KEYS, lists_of, held_at, held_in, held_of, updated, Fills, IsRings, SameSize};
+ghost use Rattle.aged_tracker.specs.steps.Table.{MAX_SERIAL, has_room, held_by, keys_by, limit_at, queue_by};
+ghost use Rattle.aged_tracker.specs.steps.Table.{queue_of, slots_of, IsAllLive, IsLiveQueue, IsOldest, IsTable, Sets};
 ghost use Rattle.aged_tracker.specs.steps.Keyed.{belonging_of};
-ghost use Rattle.aged_tracker.specs.declared.slot.SlotList.TheVariants.{Queues, Order};
 
-use crate::linked_lists::{after, empty_heads, front, push_back, unlink};
-use crate::slot::{ECHO, ESTABLISHED, LISTS, Link, MAX_KEYS, SlotList, TRANSITORY, UDP, queue_by};
+use crate::linked_lists::{empty_heads, front, push_back, unlink};
+use crate::slot::{LISTS, Link, MAX_KEYS, idle_at, queue_by};
 use crate::slots::Slots;
 use box_file::Limits;
 use conntrack::{
-    Belonging, ConnId, Connection, ConntrackEntry, Direction, Flags, Memory, Moment, Phase, Steps,
-    limit_by,
+    Belonging, ConnId, Connection, ConntrackEntry, Direction, Flags, Memory, Moment, Steps,
+    limit_in,
 };
-use ip_headers::{Kind, Tuple};
+use ip_headers::Tuple;
 use std::alloc::Global;
 
-/// The slots, a list through all of them in the order of their creation, and a queue for each
-/// timeout. In `steps` calls count the slots that they read or write.
+/// The slots, which are numbered in the order of their creation, and a queue for each timeout. In
+/// `steps` calls count the slots that they read or write.
 #[derive(Drop)]
 pub struct AgedSlots {
     slots: Slots,
-    order: [Link; LISTS],
     queues: [Link; LISTS],
     // The moment of the last packet of each queue's front, by which `expired` tells whether the
     // front has expired.
     oldest: [Moment; LISTS],
+    // The number of the next entry: 64 bits last longer than any run.
+    next_serial: u64,
 }
 
 /// The timeout of a queue's entries in nanoseconds.
 fn limit_at(limits: Limits, queue: usize) -> u64
     ensures { result ≡ limit_at limits queue }
 {
-    match queue {
-        UDP => limit_by(limits, Kind::Udp, Phase::Opening),
-        ESTABLISHED => limit_by(limits, Kind::Tcp, Phase::Established),
-        TRANSITORY => limit_by(limits, Kind::Tcp, Phase::Opening),
-        ECHO => limit_by(limits, Kind::EchoRequest, Phase::Opening),
-        _ => limit_by(limits, Kind::Other(0), Phase::Opening),
-    }
+    limit_in(limits, idle_at(queue))
 }
 
 /// The moment of the last packet of a queue's front.
 fn oldest_of(slots: &Slots, queues: &[Link; LISTS], queue: usize, steps: &mut Steps) -> Moment
     requires range { queue < 5 }
-    requires rings { IsRings Queues slots.now queues.now }
+    requires rings { IsRings slots.now queues.now }
     ensures oldest { IsOldest (held_at slots.now)
-        (lists_of Queues slots.now queues.now) queue result }
+        (lists_of slots.now queues.now) queue result }
     ensures rises { steps.old ≤ steps.new }
     ensures steps { steps.new ≤ steps.old + 1 }
 {
@@ -71,9 +67,9 @@ impl AgedSlots {
     {
         AgedSlots {
             slots: Slots::new(alloc),
-            order: empty_heads(),
             queues: empty_heads(),
             oldest: [0; LISTS],
+            next_serial: 0,
         }
     }
 
@@ -123,27 +119,14 @@ impl AgedSlots {
         ensures steps { steps.new ≤ steps.old + 8 }
     {
         let key = id.0;
-        let left = unlink(
-            &mut self.slots,
-            &mut self.queues,
-            SlotList::Queues,
-            key,
-            steps,
-        );
+        let left = unlink(&mut self.slots, &mut self.queues, key, steps);
         let queue = self.slots.touch(key, direction, flags, mark, now, steps);
-        push_back(
-            &mut self.slots,
-            &mut self.queues,
-            SlotList::Queues,
-            queue,
-            key,
-            steps,
-        );
+        push_back(&mut self.slots, &mut self.queues, queue, key, steps);
         self.oldest[left] = oldest_of(&self.slots, &self.queues, left, steps);
         self.oldest[queue] = oldest_of(&self.slots, &self.queues, queue, steps);
     }
 
-    /// Creates an entry, at the end of the order and of its queue.
+    /// Creates an entry, at the end of its queue.
     pub fn insert(&mut self, connection: Connection, flags: Flags, steps: &mut Steps) -> ConnId
         requires table { IsTable self.old }
         requires room { IsTrue (has_room self.old) }
@@ -156,7 +139,7 @@ impl AgedSlots {
         ensures slots { Sets (slots_of self.old) (slots_of self.new) result.0
             (Some (begun_with result connection flags)) }
         ensures rises { steps.old ≤ steps.new }
-        ensures steps { steps.new ≤ steps.old + 6 }
+        ensures steps { steps.new ≤ steps.old + 4 }
     {
         let held = ConntrackEntry {
             id: ConnId(self.slots.vacant_key()),
@@ -171,28 +154,14 @@ impl AgedSlots {
             dest: connection.dest,
         };
         let queue = queue_by(held.original.kind, held.phase());
-        let key = self.slots.fill(&held, steps);
-        push_back(
-            &mut self.slots,
-            &mut self.order,
-            SlotList::Order,
-            0,
-            key,
-            steps,
-        );
-        push_back(
-            &mut self.slots,
-            &mut self.queues,
-            SlotList::Queues,
-            queue,
-            key,
-            steps,
-        );
+        let key = self.slots.fill(&held, self.next_serial, steps);
+        self.next_serial += 1;
+        push_back(&mut self.slots, &mut self.queues, queue, key, steps);
         self.oldest[queue] = oldest_of(&self.slots, &self.queues, queue, steps);
         ConnId(key)
     }
 
-    /// Removes an entry from its slot and its lists.
+    /// Removes an entry from its slot and its queue.
     pub fn remove(&mut self, id: ConnId, steps: &mut Steps) -> ConntrackEntry
         requires table { IsTable self.old }
         requires is_held { IsSome (slots_of self.old id.0) }
@@ -200,25 +169,12 @@ impl AgedSlots {
         ensures held { held_by self.new ≡ without id (held_by self.old) }
         ensures value { slots_of self.old id.0 ≡ Some result }
         ensures slots { Sets (slots_of self.old) (slots_of self.new) id.0 None }
-        ensures room { IsTrue (has_room self.new) }
+        ensures room { IsTrue (has_room self.old) → IsTrue (has_room self.new) }
         ensures rises { steps.old ≤ steps.new }
-        ensures steps { steps.new ≤ steps.old + 8 }
+        ensures steps { steps.new ≤ steps.old + 5 }
     {
         let key = id.0;
-        let left = unlink(
-            &mut self.slots,
-            &mut self.queues,
-            SlotList::Queues,
-            key,
-            steps,
-        );
-        unlink(
-            &mut self.slots,
-            &mut self.order,
-            SlotList::Order,
-            key,
-            steps,
-        );
+        let left = unlink(&mut self.slots, &mut self.queues, key, steps);
         let slot = self.slots.remove(key, steps);
         self.oldest[left] = oldest_of(&self.slots, &self.queues, left, steps);
         slot.held(key)
@@ -267,7 +223,7 @@ impl AgedSlots {
     /// # Errors
     ///
     /// `Memory` where memory ran out, or where the next key has no 32-bit node index: the slab's
-    /// contracts don't bound its keys by how many slots are in use.
+    /// contracts don't bound its keys by how many slots are in use; or where all numbers are used.
     pub fn reserve_one(&mut self) -> Result<(), Memory>
         requires table { IsTable self.old }
         ensures table { IsTable self.new }
@@ -277,7 +233,7 @@ impl AgedSlots {
         ensures kept { IsTrue (has_room self.old) → IsTrue (has_room self.new) }
         ensures spared { IsTrue (has_room self.old) → (self.new ≡ self.old) × IsOk result }
     {
-        if self.slots.vacant_key() >= MAX_KEYS {
+        if self.slots.vacant_key() >= MAX_KEYS || self.next_serial == u64::MAX {
             return Err(Memory);
         }
         if self.slots.len() < self.slots.capacity() {
@@ -292,17 +248,32 @@ impl AgedSlots {
         ensures list { IfOk result (λ all. all.items ≡ map connection_of (held_by self.now)) }
         ensures rises { steps.old ≤ steps.new }
     {
-        let mut all = Vec::new(alloc);
-        let mut cursor = front(&self.order, 0);
-        while let Some(key) = cursor {
-            let connection = connection_at(&self.slots, key, steps);
-            if all.push(connection).is_err() {
-                return Err(Memory);
-            }
-            cursor = after(&self.slots, SlotList::Order, key, steps);
-        }
-        Ok(all)
+        let mut order = self.slots.numbered(alloc, steps)?;
+        order.sort_unstable_by_key(|entry| entry.0);
+        connections(&self.slots, &order, alloc, steps)
     }
+}
+
+/// The entries at the keys of these pairs, as they are listed.
+fn connections(
+    slots: &Slots,
+    order: &[(u64, usize)],
+    alloc: Global,
+    steps: &mut Steps,
+) -> Result<Vec<Connection>, Memory>
+    requires { (key : ℕ) → IsIn key (keys_by order.now) → ContainsKey slots.now key }
+    ensures list { IfOk result (λ all. all.items
+        ≡ map connection_of (held_in (held_at slots.now) (keys_by order.now))) }
+    ensures rises { steps.old ≤ steps.new }
+{
+    let mut all = Vec::new(alloc);
+    for entry in order {
+        let connection = connection_at(slots, entry.1, steps);
+        if all.push(connection).is_err() {
+            return Err(Memory);
+        }
+    }
+    Ok(all)
 }
 
 /// The entry in a slot, as it is listed.

@@ -1,48 +1,57 @@
-//! The slots of a table, and their links.
+//! A slot of a table, with its links.
 ghost use Rattle.std.specs.Prelude.{◌≡◌, ◌+◌, ◌<◌, ℕ, None};
 ghost use Rattle.conntrack.specs.Phases.{is_closing, phase_by};
 ghost use Rattle.conntrack.specs.ConntrackEntry.{connection_ref, is_live};
 ghost use Rattle.aged_tracker.specs.steps.Keyed.{belonging_of};
 ghost use Rattle.aged_tracker.specs.steps.Packed.{tuple_of};
-ghost use Rattle.aged_tracker.specs.steps.Table.{queue_by, queue_in};
-ghost use Rattle.aged_tracker.specs.steps.SlotLists.{MAX_KEYS, held_of, key_at, links_of, touched_slot, number, with_links};
-ghost use Rattle.aged_tracker.specs.declared.slot.SlotList.TheVariants.{Queues, Order};
+ghost use Rattle.aged_tracker.specs.steps.Table.{idle_at, queue_by, queue_in, queue_number};
+ghost use Rattle.aged_tracker.specs.steps.SlotLists.{MAX_KEYS, held_of, key_at, touched_slot, number};
 
 use crate::packed::{PackedTuple, is_same};
-use box_file::Limits;
+use box_file::{IdleKind, Limits};
 use conntrack::{
-    Belonging, ConnId, ConnectionRef, ConntrackEntry, Direction, Flags, Moment, Phase, limit_by,
+    Belonging, ConnId, ConnectionRef, ConntrackEntry, Direction, Flags, Moment, Phase, idle_kind,
+    limit_by,
 };
 use ip_headers::{Kind, Tuple};
 use std::mem::size_of;
 
-/// How many lists a set has: one for each timeout. The order of creation is the first list of its
-/// set.
+/// How many queues there are: one for each timeout.
 pub const LISTS: usize = 5;
 
-// The queues, one for each timeout.
-pub const UDP: usize = 0;
+/// The queue of a timeout.
+fn queue_number(idle: IdleKind) -> usize
+    ensures queue { result ≡ queue_number idle }
+    ensures range { result < 5 }
+{
+    match idle {
+        IdleKind::Udp => 0,
+        IdleKind::Established => 1,
+        IdleKind::Transitory => 2,
+        IdleKind::Echo => 3,
+        IdleKind::Other => 4,
+    }
+}
 
-pub const ESTABLISHED: usize = 1;
-
-pub const TRANSITORY: usize = 2;
-
-pub const ECHO: usize = 3;
-
-const OTHER: usize = 4;
+/// The timeout of a queue.
+pub fn idle_at(queue: usize) -> IdleKind
+    ensures { result ≡ idle_at queue }
+{
+    match queue {
+        0 => IdleKind::Udp,
+        1 => IdleKind::Established,
+        2 => IdleKind::Transitory,
+        3 => IdleKind::Echo,
+        _ => IdleKind::Other,
+    }
+}
 
 /// The queue of a kind and phase.
 pub fn queue_by(kind: Kind, phase: Phase) -> usize
     ensures queue { result ≡ queue_by kind phase }
     ensures range { result < 5 }
 {
-    match (kind, phase) {
-        (Kind::Udp, _) => UDP,
-        (Kind::Tcp, Phase::Established) => ESTABLISHED,
-        (Kind::Tcp, Phase::Opening | Phase::Closing) => TRANSITORY,
-        (Kind::EchoRequest | Kind::EchoReply, _) => ECHO,
-        (Kind::Other(_), _) => OTHER,
-    }
+    queue_number(idle_kind(kind, phase))
 }
 
 /// How many keys slots may have, so that node indexes fit in 32 bits.
@@ -109,7 +118,7 @@ impl Link {
     }
 }
 
-/// A slot's membership in a list of one set.
+/// A slot's membership in a queue.
 #[derive(Clone, Copy)]
 pub struct ListLinks {
     /// The list that it is in, if it is in one.
@@ -118,61 +127,52 @@ pub struct ListLinks {
     pub link: Link,
 }
 
-/// The sets of lists; a slot is in one list of each.
-#[derive(Clone, Copy)]
-pub enum SlotList {
-    /// The queues, one for each timeout.
-    Queues,
-    /// The one list in the order of creation.
-    Order,
-}
-
-/// An entry with its links in its queue and in the order of creation. The fields are in memory in
-/// this order: first those that a packet of the connection reads and writes, so that they share
-/// cache lines. Only before `original` is there a byte of padding. The entry's id isn't stored: it
-/// is the slot's key.
+/// An entry with its links in its queue. The fields are in memory in this order: first those that a
+/// packet of the connection reads and writes, so that they share cache lines. Only before `serial`
+/// are there two bytes of padding. The entry's id isn't stored: it is the slot's key.
 #[derive(Clone, Copy)]
 pub struct Slot {
     /// The moment of the entry's last packet.
     pub last: Moment,
     mark: u32,
-    queue: Link,
+    /// Its links in its queue.
+    pub links: ListLinks,
     from_original: Flags,
     from_reply: Flags,
     replied: bool,
-    in_queue: Option<u8>,
     original: PackedTuple,
     reply: PackedTuple,
-    order: Link,
     source: Option<PackedTuple>,
     dest: Option<PackedTuple>,
-    in_order: Option<u8>,
+    /// How many entries the table had created before.
+    pub serial: u64,
 }
 
 const _: () = prove!(size_of::<Slot>() == 104);
 
 impl Slot {
     /// A slot with an entry, in no list.
-    pub fn new(held: &ConntrackEntry) -> Self
+    pub fn new(held: &ConntrackEntry, serial: u64) -> Self
         ensures held { (key : ℕ) → held_of key result
             ≡ record held.now { id = record { 0 = key } } }
-        ensures queue { (links_of Queues result).list ≡ None }
-        ensures order { (links_of Order result).list ≡ None }
+        ensures serial { result.serial ≡ serial }
+        ensures unlisted { result.links.list ≡ None }
     {
         Slot {
             last: held.last,
             mark: held.mark,
-            queue: Link::alone(0),
+            links: ListLinks {
+                list: None,
+                link: Link::alone(0),
+            },
             from_original: held.from_original,
             from_reply: held.from_reply,
             replied: held.replied,
-            in_queue: None,
             original: PackedTuple::of_tuple(held.original),
             reply: PackedTuple::of_tuple(held.reply),
-            order: Link::alone(0),
             source: PackedTuple::of_mapping(held.source),
             dest: PackedTuple::of_mapping(held.dest),
-            in_order: None,
+            serial,
         }
     }
 
@@ -284,37 +284,5 @@ impl Slot {
         }
         self.last = now;
         self.mark = mark;
-    }
-
-    /// Its links in one set of lists.
-    pub fn links(&self, slot_list: SlotList) -> ListLinks
-        ensures { result ≡ links_of slot_list self.now }
-    {
-        match slot_list {
-            SlotList::Queues => ListLinks {
-                list: self.in_queue,
-                link: self.queue,
-            },
-            SlotList::Order => ListLinks {
-                list: self.in_order,
-                link: self.order,
-            },
-        }
-    }
-
-    /// Sets its links in one set of lists.
-    pub fn set_links(&mut self, slot_list: SlotList, links: ListLinks)
-        ensures { self.new ≡ with_links slot_list links self.old }
-    {
-        match slot_list {
-            SlotList::Queues => {
-                self.in_queue = links.list;
-                self.queue = links.link;
-            }
-            SlotList::Order => {
-                self.in_order = links.list;
-                self.order = links.link;
-            }
-        }
     }
 }

@@ -1,14 +1,14 @@
 //! The slots of a table. Nothing else reaches a slot, and each call that reads or writes one counts
 //! it in `steps`.
-ghost use Rattle.std.specs.Prelude.{◌≡◌, ◌+◌, ◌<◌, [], List, IsTrue, IfSome, IfOk, OnOk, IsOk, Some, None, option_copied, nat_lt};
-ghost use Rattle.slab.specs.Slab.{get, slab_len, ContainsKey, Updates};
+ghost use Rattle.std.specs.Prelude.{◌≡◌, ◌+◌, ◌<◌, [], List, IsTrue, IfSome, IfOk, OnOk, IsOk, Some, None, map, option_copied, nat_lt};
+ghost use Rattle.slab.specs.Slab.{entries, get, slab_len, ContainsKey, Updates};
 ghost use Rattle.conntrack.specs.StepCounts.{Counts};
 ghost use Rattle.conntrack.specs.ConntrackEntry.{touched};
-ghost use Rattle.aged_tracker.specs.steps.SlotLists.{held_of, link_at, links_of, owner_of, updated, with_link, with_list, with_links, Fills, SameSize};
-ghost use Rattle.aged_tracker.specs.steps.Table.{queue_of};
+ghost use Rattle.aged_tracker.specs.steps.SlotLists.{held_of, link_at, owner_of, updated, with_link, with_links, Fills, SameSize};
+ghost use Rattle.aged_tracker.specs.steps.Table.{numbered_key, queue_of};
 ghost use Rattle.aged_tracker.specs.declared.slot.Link.{Link as Linked};
 
-use crate::slot::{Link, ListLinks, NodeIndex, Slot, SlotList};
+use crate::slot::{Link, ListLinks, NodeIndex, Slot};
 use conntrack::{ConntrackEntry, Direction, Flags, Memory, Moment, Steps};
 use slab::Slab;
 use std::alloc::Global;
@@ -88,17 +88,38 @@ impl Slots {
         self.slab.get(key)
     }
 
+    /// The numbers and keys of all.
+    ///
+    /// # Errors
+    ///
+    /// `Memory` where memory ran out.
+    pub fn numbered(&self, alloc: Global, steps: &mut Steps) -> Result<Vec<(u64, usize)>, Memory>
+        ensures numbered { IfOk result (λ all. all.items ≡ map numbered_key (entries self.now)) }
+        ensures steps { Counts (slab_len self.now) steps.old steps.new }
+    {
+        steps.add(self.slab.len());
+        match self
+            .slab
+            .iter()
+            .map(|entry| (entry.1.serial, entry.0))
+            .collect(alloc)
+        {
+            Ok(all) => Ok(all),
+            Err(_) => Err(Memory),
+        }
+    }
+
     /// Fills a free one, which is in no list yet.
-    pub fn fill(&mut self, held: &ConntrackEntry, steps: &mut Steps) -> usize
+    pub fn fill(&mut self, held: &ConntrackEntry, serial: u64, steps: &mut Steps) -> usize
         requires { IsTrue (nat_lt (slab_len self.old) self.old.capacity) }
         ensures key { result ≡ self.old.vacant_key }
         ensures free { get self.old result ≡ None }
         ensures fills { Fills self.old self.new result
-            (record held.now { id = record { 0 = result } }) }
+            (record held.now { id = record { 0 = result } }) serial }
         ensures steps { Counts 1 steps.old steps.new }
     {
         steps.tick();
-        self.slab.insert_reserved(Slot::new(held))
+        self.slab.insert_reserved(Slot::new(held, serial))
     }
 
     /// Empties one.
@@ -144,28 +165,22 @@ impl Slots {
         }
     }
 
-    /// Takes the links of one in a set of lists: it is in none of them then.
-    pub fn take_links(&mut self, slot_list: SlotList, key: usize, steps: &mut Steps) -> ListLinks
+    /// Takes the links of one: it is in no list then.
+    pub fn take_links(&mut self, key: usize, steps: &mut Steps) -> ListLinks
         requires { ContainsKey self.old key }
-        ensures list { result.list ≡ owner_of slot_list self.old key }
+        ensures list { result.list ≡ owner_of self.old key }
         ensures link { (heads : List Linked)
-            → result.link ≡ link_at slot_list self.old heads (5 + key) }
-        ensures slots { IfSome (get self.old key)
-            (λ s. Updates self.old self.new key (Some (with_list slot_list None s))) }
+            → result.link ≡ link_at self.old heads (5 + key) }
+        ensures slots { IfSome (get self.old key) (λ s. Updates self.old self.new key
+            (Some (with_links (record { list = None; link = result.link }) s))) }
         ensures size { SameSize self.old self.new }
         ensures steps { Counts 1 steps.old steps.new }
     {
         steps.tick();
         match self.slab.get_mut(key) {
             Some(slot) => {
-                let links = slot.links(slot_list);
-                slot.set_links(
-                    slot_list,
-                    ListLinks {
-                        list: None,
-                        link: links.link,
-                    },
-                );
+                let links = slot.links;
+                slot.links.list = None;
                 links
             }
             None => unreachable!(),
@@ -173,66 +188,46 @@ impl Slots {
     }
 
     /// Sets the links of one.
-    pub fn set_links(
-        &mut self,
-        slot_list: SlotList,
-        key: usize,
-        links: ListLinks,
-        steps: &mut Steps,
-    )
+    pub fn set_links(&mut self, key: usize, links: ListLinks, steps: &mut Steps)
         requires { ContainsKey self.old key }
         ensures slots { IfSome (get self.old key)
-            (λ s. Updates self.old self.new key (Some (with_links slot_list links s))) }
+            (λ s. Updates self.old self.new key (Some (with_links links s))) }
         ensures size { SameSize self.old self.new }
         ensures steps { Counts 1 steps.old steps.new }
     {
         steps.tick();
         match self.slab.get_mut(key) {
-            Some(slot) => slot.set_links(slot_list, links),
+            Some(slot) => slot.links = links,
             None => unreachable!(),
         }
     }
 
     /// Sets the next node of one.
-    pub fn set_next(&mut self, slot_list: SlotList, key: usize, to: NodeIndex, steps: &mut Steps)
+    pub fn set_next(&mut self, key: usize, to: NodeIndex, steps: &mut Steps)
         requires { ContainsKey self.old key }
         ensures slots { IfSome (get self.old key) (λ s. Updates self.old self.new key
-            (Some (with_link slot_list (record (links_of slot_list s).link { next = to }) s))) }
+            (Some (with_link (record s.links.link { next = to }) s))) }
         ensures size { SameSize self.old self.new }
         ensures steps { Counts 1 steps.old steps.new }
     {
         steps.tick();
         match self.slab.get_mut(key) {
-            Some(slot) => {
-                let ListLinks { list, link } = slot.links(slot_list);
-                let link = Link {
-                    prev: link.prev,
-                    next: to,
-                };
-                slot.set_links(slot_list, ListLinks { list, link });
-            }
+            Some(slot) => slot.links.link.next = to,
             None => unreachable!(),
         }
     }
 
     /// Sets the previous node of one.
-    pub fn set_prev(&mut self, slot_list: SlotList, key: usize, to: NodeIndex, steps: &mut Steps)
+    pub fn set_prev(&mut self, key: usize, to: NodeIndex, steps: &mut Steps)
         requires { ContainsKey self.old key }
         ensures slots { IfSome (get self.old key) (λ s. Updates self.old self.new key
-            (Some (with_link slot_list (record (links_of slot_list s).link { prev = to }) s))) }
+            (Some (with_link (record s.links.link { prev = to }) s))) }
         ensures size { SameSize self.old self.new }
         ensures steps { Counts 1 steps.old steps.new }
     {
         steps.tick();
         match self.slab.get_mut(key) {
-            Some(slot) => {
-                let ListLinks { list, link } = slot.links(slot_list);
-                let link = Link {
-                    prev: to,
-                    next: link.next,
-                };
-                slot.set_links(slot_list, ListLinks { list, link });
-            }
+            Some(slot) => slot.links.link.prev = to,
             None => unreachable!(),
         }
     }

@@ -6,17 +6,15 @@ use Rattle.std.proofs.lemmas.Bool.{eqb-true, lt-ltb, ltb-true, and_parts, or_par
 use Rattle.std.proofs.lemmas.Bool.Decides.{nat_tests}
 use Rattle.std.proofs.lemmas.List.{append-nil}
 use Rattle.std.proofs.lemmas.List.Elements.{filter-append}
-use Rattle.ip_headers.specs.declared.tuple.Kind.{Kind}
-use Rattle.ip_headers.specs.declared.tuple.Kind.TheVariants.{Tcp, Udp, EchoRequest, EchoReply, Other}
-use Rattle.conntrack.specs.declared.connection.Phase.{Phase}
-use Rattle.conntrack.specs.declared.connection.Phase.TheVariants.{Opening, Established, Closing}
+use Rattle.box_file.specs.declared.idle_line.IdleKind.{IdleKind}
+use Rattle.box_file.specs.declared.idle_line.IdleKind.TheVariants.{Udp, Established, Transitory, Echo, Other}
 use Rattle.conntrack.specs.declared.connection.ConntrackEntry.{ConntrackEntry}
 use Rattle.conntrack.specs.declared.connection.ConnId.{ConnId}
 use Rattle.conntrack.specs.declared.connection.Flags.{Flags}
 use Rattle.conntrack.specs.declared.connection.Direction.{Direction}
 use Rattle.box_file.specs.declared.limits.Limits.{Limits}
 use Rattle.conntrack.specs.ConntrackEntry.{has_id, same_id, has_distinct_ids, touched, touched_at, is_live, live_at, begun_with, limit_of}
-use Rattle.conntrack.specs.Phases.{limit_by, phase_of}
+use Rattle.conntrack.specs.Phases.{idle_kind, limit_in, phase_of}
 use Rattle.conntrack.specs.Histories.{TrackedPacket, ConnectionChange, NoChange, Begins, Touches, is_that, live_list}
 use Rattle.conntrack.specs.steps.Changes.{unended, changed_by, connection_begun, ended_by, touched_if, begun_by}
 use Rattle.conntrack.proofs.Searches.{unended-cons, live_list-unended}
@@ -96,28 +94,26 @@ pub live_at-later : (limits : Limits) (now later : ℕ) (held : List ConntrackEn
 live_at-later limits now later held le = filter_again (is_live limits later) (is_live limits now) held
     (λ x h. later_live now later x.last (limit_of limits x) le h)
 
-limit_positive : (limits : Limits) (kind : Kind) (phase : Phase) → 0 < limit_by limits kind phase
-limit_positive limits kind phase =
+limit_positive : (limits : Limits) (kind : IdleKind) → 0 < limit_in limits kind
+limit_positive limits kind =
     let parts = and_parts _ _ limits.positive in
     let first = and_parts _ _ parts.0 in
     let middle = and_parts _ _ first.0 in
     let last = and_parts _ _ middle.0 in
     by_kind (ltb-true 0 limits.established last.0) (ltb-true 0 limits.transitory last.1)
-    (ltb-true 0 limits.udp middle.1) (ltb-true 0 limits.echo first.1) (ltb-true 0 limits.other parts.1) kind phase
+    (ltb-true 0 limits.udp middle.1) (ltb-true 0 limits.echo first.1) (ltb-true 0 limits.other parts.1) kind
   where
     by_kind : 0 < limits.established → 0 < limits.transitory → 0 < limits.udp → 0 < limits.echo → 0 < limits.other
-        → (kind : Kind) (phase : Phase) → 0 < limit_by limits kind phase
-    by_kind e t u a o Udp phase = omega (arith, u)
-    by_kind e t u a o Tcp Opening = omega (arith, t)
-    by_kind e t u a o Tcp Established = omega (arith, e)
-    by_kind e t u a o Tcp Closing = omega (arith, t)
-    by_kind e t u a o EchoRequest phase = omega (arith, a)
-    by_kind e t u a o EchoReply phase = omega (arith, a)
-    by_kind e t u a o (Other number) phase = omega (arith, o)
+        → (kind : IdleKind) → 0 < limit_in limits kind
+    by_kind e t u a o Udp = omega (arith, u)
+    by_kind e t u a o Established = omega (arith, e)
+    by_kind e t u a o Transitory = omega (arith, t)
+    by_kind e t u a o Echo = omega (arith, a)
+    by_kind e t u a o Other = omega (arith, o)
 
 -- a connection is live at the moment of its packet
 pub live_at_last : (limits : Limits) (now : ℕ) (h : ConntrackEntry) → h.last ≡ now → is_live limits now h ≡ true
-live_at_last limits now h e = lt-ltb _ _ (omega (arith, limit_positive limits h.original.kind (phase_of h)))
+live_at_last limits now h e = lt-ltb _ _ (omega (arith, limit_positive limits (idle_kind h.original.kind (phase_of h))))
 
 pub filter-swap : {X : Type 0} (p q : X → Bool) (xs : List X) → filter p (filter q xs) ≡ filter q (filter p xs)
 filter-swap p q [] = refl

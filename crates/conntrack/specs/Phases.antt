@@ -6,7 +6,10 @@ use Rattle.conntrack.specs.declared.connection.Flags.{Flags}
 use Rattle.conntrack.specs.declared.connection.Phase.{Phase}
 use Rattle.conntrack.specs.declared.connection.Phase.TheVariants.{Opening, Established, Closing}
 use Rattle.conntrack.specs.declared.connection.ConntrackEntry.{ConntrackEntry}
+use Rattle.box_file.specs.declared.idle_line.IdleKind.{IdleKind}
+use Rattle.box_file.specs.declared.idle_line.IdleKind.TheVariants as idle
 use Rattle.box_file.specs.declared.limits.Limits.{Limits}
+use Rattle.box_file.specs.Idle.{limit_for}
 
 -- ---- flags (RFC 9293, section 3.1)
 
@@ -60,13 +63,20 @@ is_closing h = is_closing_phase (phase_of h)
 abbrev pub seconds : ℕ → ℕ
 seconds n = n * 1000000000
 
--- the timeout of a connection in nanoseconds, by kind and phase. TCP has one while it opens and while it
--- closes, the "transitory connection idle-timeout" of RFC 5382, REQ-5. An echo reply has that of its
--- request, though it creates no connection
+-- the timeout that a connection has, by kind and phase. TCP has one while it opens and while it closes, the
+-- "transitory connection idle-timeout" of RFC 5382, REQ-5. An echo reply has that of its request, though it
+-- creates no connection
+abbrev pub idle_kind : Kind → Phase → IdleKind
+idle_kind Udp phase = idle.Udp
+idle_kind Tcp Established = idle.Established
+idle_kind Tcp _ = idle.Transitory
+idle_kind EchoRequest phase = idle.Echo
+idle_kind EchoReply phase = idle.Echo
+idle_kind (Other number) phase = idle.Other
+
+-- a timeout in nanoseconds
+abbrev pub limit_in : Limits → IdleKind → ℕ
+limit_in limits kind = seconds (limit_for limits kind)
+
 abbrev pub limit_by : Limits → Kind → Phase → ℕ
-limit_by limits Udp phase = seconds limits.udp
-limit_by limits Tcp Established = seconds limits.established
-limit_by limits Tcp _ = seconds limits.transitory
-limit_by limits EchoRequest phase = seconds limits.echo
-limit_by limits EchoReply phase = seconds limits.echo
-limit_by limits (Other number) phase = seconds limits.other
+limit_by limits kind phase = limit_in limits (idle_kind kind phase)

@@ -10,7 +10,9 @@ ghost use Rattle.conntrack.specs.Phases.{no_flags, seconds};
 ghost use Rattle.box_file.specs.Idle.{usual_limits};
 ghost use Rattle.conntrack.specs.ConntrackEntry.{state_of};
 ghost use Rattle.conntrack.specs.Histories.{belongs, phase};
-ghost use Rattle.conntrack.specs.Examples.{alive_at, alive_by, queried, begins, begins_anew, begins_as_hairpin, crossed, fin_ack, from_a, is_dropped, opened, opening, plain_ack, dns_query, refused, sends, short_limits, syn, syn_ack, web};
+ghost use Rattle.conntrack.specs.Examples.{alive_at, alive_by, queried, begins, begins_anew, begins_as_hairpin};
+ghost use Rattle.conntrack.specs.Examples.{crossed, fin_ack, from_a, is_dropped, opened, opening, plain_ack};
+ghost use Rattle.conntrack.specs.Examples.{dns_query, refused, sends, short_limits, syn, syn_ack, web};
 
 /// Both ends send SYN at once (RFC 9293, section 3.5): the connection is established once both have
 /// sent ACK too, and then its timeout is 7440 seconds; until then it is 240.

@@ -9,7 +9,9 @@ ghost use Rattle.box_file.specs.declared.limits.Limits.{Limits};
 ghost use Rattle.conntrack.specs.declared.belonging.Belonging.{Belonging};
 ghost use Rattle.conntrack.specs.declared.belonging.Belonging.TheVariants.{Ends, Found, NotFound};
 ghost use Rattle.conntrack.specs.declared.belonging.ConnectionRef.{ConnectionRef};
-ghost use Rattle.conntrack.specs.ConntrackEntry.{IsNoneLater, have_disjoint_tuples, belongs_in, connection_of, has_distinct_ids, has_id, is_taken, live_at, SameExceptIds, belonging_without_id, state_of, without};
+ghost use Rattle.conntrack.specs.ConntrackEntry.{IsNoneLater, have_disjoint_tuples, belongs_in, connection_of};
+ghost use Rattle.conntrack.specs.ConntrackEntry.{has_distinct_ids, has_id, is_taken, live_at, SameExceptIds};
+ghost use Rattle.conntrack.specs.ConntrackEntry.{belonging_without_id, state_of, without};
 ghost use Rattle.conntrack.specs.Histories.{TrackedPacket, RepresentsAt, belongs, live_list};
 ghost use Rattle.conntrack.specs.Updates.{Arrival, Confirmation, DoesNotClash, after_end, after_packet, entry_at, entry_of};
 

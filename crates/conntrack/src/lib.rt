@@ -12,7 +12,7 @@ mod tracker;
 
 pub use belonging::{Belonging, ConnectionRef, LookupState};
 pub use connection::{Aged, ConnId, Connection, ConntrackEntry, Direction, Flags, Moment, Phase};
-pub use limits::limit_by;
+pub use limits::{idle_kind, limit_by, limit_in};
 pub use list_tracker::ListTracker;
 pub use step_count::Steps;
 pub use tracker::{BeginError, MAX_CONNECTIONS, Memory, Tracker};

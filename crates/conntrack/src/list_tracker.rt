@@ -1,9 +1,13 @@
 //! A tracker that keeps its entries in a list.
-ghost use Rattle.std.specs.Prelude.{◌≡◌, ◌+◌, ◌<◌, ◌≤◌, ◌^◌, ◌&&◌, ◌||◌, not, true, false, ℕ, [], Option, None, Some, IsTrue, IfOk, OnOk, OnErr, IfSome, IfNone, ◌-◌, nat_lt, vec_len, vec_capacity, filter, if◌then◌else◌, length};
+ghost use Rattle.std.specs.Prelude.{◌≡◌, ◌+◌, ◌<◌, ◌≤◌, ◌^◌, ◌&&◌, ◌||◌, not, true, false, ℕ, [], Option, None, Some};
+ghost use Rattle.std.specs.Prelude.{IsTrue, IfOk, OnOk, OnErr, IfSome, IfNone, ◌-◌, nat_lt, vec_len, vec_capacity};
+ghost use Rattle.std.specs.Prelude.{filter, if◌then◌else◌, length};
 ghost use Rattle.std.specs.List.{find, list_any};
 ghost use Rattle.ip_headers.specs.Same.{same_tuple};
 ghost use Rattle.conntrack.specs.steps.Ids.{has_ids_below};
-ghost use Rattle.conntrack.specs.ConntrackEntry.{have_disjoint_tuples, belongs_in, has_distinct_ids, has_id, is_incoming, is_live, is_taken, live_at, of_original, of_reply, same_id, touched, touched_at, without};
+ghost use Rattle.conntrack.specs.ConntrackEntry.{have_disjoint_tuples, belongs_in, has_distinct_ids, has_id};
+ghost use Rattle.conntrack.specs.ConntrackEntry.{is_incoming, is_live, is_taken, live_at, of_original, of_reply};
+ghost use Rattle.conntrack.specs.ConntrackEntry.{same_id, touched, touched_at, without};
 
 use crate::belonging::{Belonging, ConnectionRef};
 use crate::connection::{Aged, ConnId, Connection, ConntrackEntry, Direction, Flags, Moment};

@@ -1,6 +1,10 @@
 //! The interface of conntrack tables.
-ghost use Rattle.std.specs.Prelude.{◌≡◌, ◌+◌, ◌<◌, ◌≤◌, ◌↔◌, ℕ, Bool, IsTrue, List, [], ◌++◌, ◌∷◌, Option, length, map, false, Some, IfOk, IsOk, OnOk, OnErr, IfSome, IfNone};
-ghost use Rattle.conntrack.specs.ConntrackEntry.{IsNoneLater, IsWithin, have_disjoint_tuples, begun_with, belongs_in, connection_of, has_distinct_ids, has_id, is_taken, live_at, max_connections, belonging_without_id, removed_entry, touched_at, without};
+ghost use Rattle.std.specs.Prelude.{◌≡◌, ◌+◌, ◌<◌, ◌≤◌, ◌↔◌, ℕ, Bool, IsTrue, List, [], ◌++◌, ◌∷◌, Option, length};
+ghost use Rattle.std.specs.Prelude.{map, false, Some, IfOk, IsOk, OnOk, OnErr, IfSome, IfNone};
+ghost use Rattle.conntrack.specs.ConntrackEntry.{IsNoneLater, IsWithin, have_disjoint_tuples, begun_with, belongs_in};
+ghost use Rattle.conntrack.specs.ConntrackEntry.{connection_of, has_distinct_ids, has_id, is_taken, live_at};
+ghost use Rattle.conntrack.specs.ConntrackEntry.{max_connections, belonging_without_id, removed_entry, touched_at};
+ghost use Rattle.conntrack.specs.ConntrackEntry.{without};
 ghost use Rattle.conntrack.specs.Histories.{TrackedPacket, RepresentsAt, belongs};
 
 use crate::belonging::Belonging;
@@ -24,10 +28,10 @@ pub struct Memory;
 #[derive(Clone, Copy, Debug, PartialEq, Eq, Error)]
 pub enum BeginError {
     /// The table has the most entries that it may hold.
-    #[error("full")]
+    #[error("C1")]
     Full,
     /// Its reply tuple is an incoming tuple of another entry.
-    #[error("clash")]
+    #[error("C2")]
     Clash,
 }
 

@@ -1,5 +1,5 @@
--- Circular doubly linked lists through the slots of a slab, each with a head. A slot is in one list of each
--- set of lists: its queue, and the order of creation.
+-- Circular doubly linked lists through the slots of a slab, each with a head: the queues. A slot is in one of
+-- them.
 use Rattle.std.specs.Prelude.{◌≡◌, ◌≢◌, ℕ, zero, suc, ◌-◌, ◌<◌, ◌≤◌, nat_lt, if◌then◌else◌, List, [], ◌∷◌}
 use Rattle.std.specs.Prelude.{◌++◌, length, Option, Some, None, IsSome, option_map, slice_index_or}
 use Rattle.slab.specs.Slab.{Slab, Updates, get, slab_len}
@@ -14,34 +14,14 @@ use Rattle.aged_tracker.specs.declared.slot.NodeIndex.{NodeIndex}
 use Rattle.aged_tracker.specs.declared.slot.ListLinks.{ListLinks}
 use Rattle.aged_tracker.specs.declared.slot.Link.{Link}
 use Rattle.aged_tracker.specs.declared.slot.Slot.{Slot}
-use Rattle.aged_tracker.specs.declared.slot.SlotList.{SlotList}
-use Rattle.aged_tracker.specs.declared.slot.SlotList.TheVariants.{Queues, Order}
 
 -- ---- slots
 
-abbrev pub links_of : SlotList → Slot → ListLinks
-links_of Queues slot = record { list = slot.in_queue; link = slot.queue }
-links_of Order slot = record { list = slot.in_order; link = slot.order }
+abbrev pub with_links : ListLinks → Slot → Slot
+with_links links slot = record slot { links = links }
 
-abbrev pub with_links : SlotList → ListLinks → Slot → Slot
-with_links Queues links slot = record slot { in_queue = links.list; queue = links.link }
-with_links Order links slot = record slot { in_order = links.list; order = links.link }
-
--- a slot with the same links
-abbrev pub IsAsLinked : Slot → Slot → Type 0
-IsAsLinked old new = (slot_list : SlotList) → links_of slot_list new ≡ links_of slot_list old
-
-abbrev pub other_slot_list : SlotList → SlotList
-other_slot_list Queues = Order
-other_slot_list Order = Queues
-
-abbrev pub with_link : SlotList → Link → Slot → Slot
-with_link slot_list link slot =
-    with_links slot_list (record { list = (links_of slot_list slot).list; link = link }) slot
-
-abbrev pub with_list : SlotList → Option ℕ → Slot → Slot
-with_list slot_list list slot =
-    with_links slot_list (record { list = list; link = (links_of slot_list slot).link }) slot
+abbrev pub with_link : Link → Slot → Slot
+with_link link slot = with_links (record { list = slot.links.list; link = link }) slot
 
 -- the entry in the slot of a key
 abbrev pub held_of : ℕ → Slot → ConntrackEntry
@@ -80,13 +60,13 @@ updated h slot = record slot {
 abbrev pub touched_slot : Direction → Flags → ℕ → ℕ → Slot → Slot
 touched_slot direction flags mark now slot = updated (touched direction flags mark now (held_of 0 slot)) slot
 
--- a slot gets this entry, and is in no list
-pub record Fills (old new : Slab Slot) (key : ℕ) (h : ConntrackEntry) : Type 0 where
+-- a slot gets this entry with this number, and is in no list
+pub record Fills (old new : Slab Slot) (key : ℕ) (h : ConntrackEntry) (serial : ℕ) : Type 0 where
   pub slot : Slot
   pub updates : Updates old new key (Some slot)
   pub holds : held_of key slot ≡ h
-  pub no_queue : (links_of Queues slot).list ≡ None
-  pub no_order : (links_of Order slot).list ≡ None
+  pub numbered : slot.serial ≡ serial
+  pub unlisted : slot.links.list ≡ None
 
 -- the entries at these keys
 abbrev pub held_in : (ℕ → Option ConntrackEntry) → List ℕ → List ConntrackEntry
@@ -106,34 +86,34 @@ number at = at.0
 abbrev pub no_link : Link
 no_link = record { prev = record { 0 = 0 }; next = record { 0 = 0 } }
 
-abbrev pub link_by : SlotList → Option Slot → Link
-link_by slot_list None = no_link
-link_by slot_list (Some slot) = (links_of slot_list slot).link
+abbrev pub link_by : Option Slot → Link
+link_by None = no_link
+link_by (Some slot) = slot.links.link
 
 -- the links of a node
-abbrev pub link_at : SlotList → Slab Slot → List Link → ℕ → Link
-link_at slot_list slots heads node =
-    if nat_lt node 5 then slice_index_or heads node no_link else link_by slot_list (get slots (node - 5))
+abbrev pub link_at : Slab Slot → List Link → ℕ → Link
+link_at slots heads node =
+    if nat_lt node 5 then slice_index_or heads node no_link else link_by (get slots (node - 5))
 
-abbrev pub next_of : SlotList → Slab Slot → List Link → ℕ → ℕ
-next_of slot_list slots heads node = number (link_at slot_list slots heads node).next
+abbrev pub next_of : Slab Slot → List Link → ℕ → ℕ
+next_of slots heads node = number (link_at slots heads node).next
 
-abbrev pub prev_of : SlotList → Slab Slot → List Link → ℕ → ℕ
-prev_of slot_list slots heads node = number (link_at slot_list slots heads node).prev
+abbrev pub prev_of : Slab Slot → List Link → ℕ → ℕ
+prev_of slots heads node = number (link_at slots heads node).prev
 
-abbrev pub owner_by : SlotList → Option Slot → Option ℕ
-owner_by slot_list None = None
-owner_by slot_list (Some slot) = (links_of slot_list slot).list
+abbrev pub owner_by : Option Slot → Option ℕ
+owner_by None = None
+owner_by (Some slot) = slot.links.list
 
 -- the list that a slot is in
-abbrev pub owner_of : SlotList → Slab Slot → ℕ → Option ℕ
-owner_of slot_list slots key = owner_by slot_list (get slots key)
+abbrev pub owner_of : Slab Slot → ℕ → Option ℕ
+owner_of slots key = owner_by (get slots key)
 
 -- the circular list of a head has these keys, each once, in this order: all slots that belong to it
-abbrev pub IsRing : SlotList → Slab Slot → List Link → ℕ → List ℕ → Type 0
-IsRing slot_list slots heads list keys =
-    ring.IsRing (next_of slot_list slots heads) (prev_of slot_list slots heads) 5
-    (owner_of slot_list slots) list keys
+abbrev pub IsRing : Slab Slot → List Link → ℕ → List ℕ → Type 0
+IsRing slots heads list keys =
+    ring.IsRing (next_of slots heads) (prev_of slots heads) 5
+    (owner_of slots) list keys
 
 -- the node exists
 abbrev pub IsNode : Slab Slot → ℕ → Type 0
@@ -144,27 +124,21 @@ pub record Relinks (old new : ℕ → Link) (node : ℕ) (link : Link) : Type 0 
   pub here : new node ≡ link
   pub others : (other : ℕ) → other ≢ node → new other ≡ old other
 
--- the entry in a slot, for any key
-abbrev pub kept_of : Slot → ℕ → ConntrackEntry
-kept_of slot key = held_of key slot
+-- a slot without its neighbours
+abbrev pub except_neighbours : Slot → Slot
+except_neighbours slot = with_link no_link slot
 
--- a slot without its neighbours in one set of lists
-abbrev pub except_neighbours : SlotList → Slot → Option ℕ × ((ℕ → ConntrackEntry) × ListLinks)
-except_neighbours slot_list slot =
-    ((links_of slot_list slot).list, (kept_of slot, links_of (other_slot_list slot_list) slot))
+abbrev pub SameExceptNeighbours : Slab Slot → Slab Slot → Type 0
+SameExceptNeighbours old new =
+    (key : ℕ) → option_map except_neighbours (get new key) ≡ option_map except_neighbours (get old key)
 
-abbrev pub SameExceptNeighbours : SlotList → Slab Slot → Slab Slot → Type 0
-SameExceptNeighbours slot_list old new = (key : ℕ)
-    → option_map (except_neighbours slot_list) (get new key)
-    ≡ option_map (except_neighbours slot_list) (get old key)
+-- a slot without its links
+abbrev pub except_links : Slot → Slot
+except_links slot = with_links (record { list = None; link = no_link }) slot
 
--- a slot without its links in one set of lists
-abbrev pub except_links : SlotList → Slot → (ℕ → ConntrackEntry) × ListLinks
-except_links slot_list slot = (kept_of slot, links_of (other_slot_list slot_list) slot)
-
-abbrev pub SameExceptLinks : SlotList → Slab Slot → Slab Slot → Type 0
-SameExceptLinks slot_list old new = (key : ℕ)
-    → option_map (except_links slot_list) (get new key) ≡ option_map (except_links slot_list) (get old key)
+abbrev pub SameExceptLinks : Slab Slot → Slab Slot → Type 0
+SameExceptLinks old new =
+    (key : ℕ) → option_map except_links (get new key) ≡ option_map except_links (get old key)
 
 -- ---- lists
 
@@ -178,28 +152,28 @@ walk next zero from = []
 walk next (suc more) from = if nat_lt (next from) 5 then [] else (next from - 5) ∷ walk next more (next from)
 
 -- the keys of a list
-abbrev pub keys_of : SlotList → Slab Slot → List Link → ℕ → List ℕ
-keys_of slot_list slots heads list = walk (next_of slot_list slots heads) (length slots.slots) list
+abbrev pub keys_of : Slab Slot → List Link → ℕ → List ℕ
+keys_of slots heads list = walk (next_of slots heads) (length slots.slots) list
 
 -- each list of a set is circular
-abbrev pub IsRings : SlotList → Slab Slot → List Link → Type 0
-IsRings slot_list slots heads =
-    (list : ℕ) → list < 5 → IsRing slot_list slots heads list (keys_of slot_list slots heads list)
+abbrev pub IsRings : Slab Slot → List Link → Type 0
+IsRings slots heads =
+    (list : ℕ) → list < 5 → IsRing slots heads list (keys_of slots heads list)
 
 -- the keys of each list of a set, and the list of each key
 pub record Lists : Type 0 where
   pub items : ℕ → List ℕ
   pub list_of : ℕ → Option ℕ
 
-abbrev pub lists_of : SlotList → Slab Slot → List Link → Lists
-lists_of slot_list slots heads = record {
-  items = λ list. if nat_lt list 5 then keys_of slot_list slots heads list else [];
-  list_of = owner_of slot_list slots;
+abbrev pub lists_of : Slab Slot → List Link → Lists
+lists_of slots heads = record {
+  items = λ list. if nat_lt list 5 then keys_of slots heads list else [];
+  list_of = owner_of slots;
 }
 
 -- a key is in one of the lists
-abbrev pub IsOwned : SlotList → Slab Slot → ℕ → Type 0
-IsOwned slot_list slots key = (list : ℕ) × ((list < 5) × (owner_of slot_list slots key ≡ Some list))
+abbrev pub IsOwned : Slab Slot → ℕ → Type 0
+IsOwned slots key = (list : ℕ) × ((list < 5) × (owner_of slots key ≡ Some list))
 
 -- the key left its list, and nothing else changed
 pub record Unlinks (old new : Lists) (key list : ℕ) : Type 0 where

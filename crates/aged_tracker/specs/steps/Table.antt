@@ -1,32 +1,41 @@
--- A conntrack table: slots, one list through all of them in the order of their creation, and a queue for
--- each timeout.
-use Rattle.std.specs.Prelude.{◌≡◌, ◌≢◌, ℕ, ◌<◌, ◌≤◌, Bool, true, nat_lt, ◌&&◌, ◌==◌, if◌then◌else◌, List, []}
-use Rattle.std.specs.Prelude.{◌∷◌, Option, Some, None, IsSome, option_map, slice_get, slice_index_or}
-use Rattle.slab.specs.Slab.{slab_len}
+-- A conntrack table: slots that are numbered in the order of their creation, and a queue for each timeout.
+use Rattle.std.specs.Prelude.{◌≡◌, ◌≢◌, ℕ, zero, suc, ◌-◌, ◌^◌, ◌<◌, ◌≤◌, Bool, true, nat_lt, ◌&&◌, ◌==◌}
+use Rattle.std.specs.Prelude.{if◌then◌else◌, List, [], ◌∷◌, length, map, Option, Some, None, IsSome, option_map, slice_get, slice_index_or}
+use Rattle.slab.specs.Slab.{Slab, get, slab_len}
 use Rattle.futures.specs.LinkedLists.{IsIn, IsApart}
 use Rattle.ip_headers.specs.declared.tuple.Kind.{Kind}
-use Rattle.ip_headers.specs.declared.tuple.Kind.TheVariants.{Tcp, Udp, EchoRequest, EchoReply, Other}
 use Rattle.conntrack.specs.declared.connection.Phase.{Phase}
-use Rattle.conntrack.specs.declared.connection.Phase.TheVariants.{Established}
 use Rattle.conntrack.specs.declared.connection.ConntrackEntry.{ConntrackEntry}
+use Rattle.box_file.specs.declared.idle_line.IdleKind.{IdleKind}
+use Rattle.box_file.specs.declared.idle_line.IdleKind.TheVariants as idle
 use Rattle.box_file.specs.declared.limits.Limits.{Limits}
-use Rattle.conntrack.specs.Phases.{phase_by, phase_of, seconds}
+use Rattle.conntrack.specs.Phases.{idle_kind, limit_in, phase_by, phase_of}
 use Rattle.conntrack.specs.ConntrackEntry.{is_live}
 use Rattle.aged_tracker.specs.declared.aged_slots.AgedSlots.{AgedSlots}
 use Rattle.aged_tracker.specs.declared.slot.Slot.{Slot}
-use Rattle.aged_tracker.specs.declared.slot.SlotList.TheVariants.{Queues, Order}
 use Rattle.aged_tracker.specs.steps.SlotLists.{MAX_KEYS, Lists, held_at, held_in, lists_of, IsRings}
 
 -- ---- queues
 
--- the queue of a kind and phase: one for each timeout
+-- a queue for each timeout
+abbrev pub queue_number : IdleKind → ℕ
+queue_number idle.Udp = 0
+queue_number idle.Established = 1
+queue_number idle.Transitory = 2
+queue_number idle.Echo = 3
+queue_number idle.Other = 4
+
+-- the timeout of a queue's entries
+abbrev pub idle_at : ℕ → IdleKind
+idle_at q =
+    if q == 0 then idle.Udp
+    else (if q == 1 then idle.Established
+    else (if q == 2 then idle.Transitory
+    else (if q == 3 then idle.Echo
+    else idle.Other)))
+
 abbrev pub queue_by : Kind → Phase → ℕ
-queue_by Udp phase = 0
-queue_by Tcp Established = 1
-queue_by Tcp _ = 2
-queue_by EchoRequest phase = 3
-queue_by EchoReply phase = 3
-queue_by (Other number) phase = 4
+queue_by kind phase = queue_number (idle_kind kind phase)
 
 abbrev pub queue_of : ConntrackEntry → ℕ
 queue_of h = queue_by h.original.kind (phase_of h)
@@ -34,14 +43,9 @@ queue_of h = queue_by h.original.kind (phase_of h)
 abbrev pub queue_in : Slot → ℕ
 queue_in slot = queue_by slot.original.kind (phase_by slot.from_original slot.from_reply)
 
--- the timeout of a queue's entries in nanoseconds
+-- in nanoseconds
 abbrev pub limit_at : Limits → ℕ → ℕ
-limit_at limits q =
-    if q == 0 then seconds limits.udp
-    else (if q == 1 then seconds limits.established
-    else (if q == 2 then seconds limits.transitory
-    else (if q == 3 then seconds limits.echo
-    else seconds limits.other)))
+limit_at limits q = limit_in limits (idle_at q)
 
 -- ---- lists
 
@@ -60,10 +64,6 @@ pub record IsFiled (lists : Lists) (list_for : ℕ → Option ℕ) : Type 0 wher
   pub placed : (key list : ℕ) → IsIn key (keys_in lists list) → list_for key ≡ Some list
   pub apart : (list : ℕ) → IsApart (keys_in lists list)
 
--- list 0 for each used slot
-abbrev pub order_list : (ℕ → Option ConntrackEntry) → ℕ → Option ℕ
-order_list slots key = option_map (λ h. 0) (slots key)
-
 abbrev pub queue_list : (ℕ → Option ConntrackEntry) → ℕ → Option ℕ
 queue_list slots key = option_map queue_of (slots key)
 
@@ -75,16 +75,18 @@ last_by (Some h) = h.last
 abbrev pub last_at : (ℕ → Option ConntrackEntry) → ℕ → ℕ
 last_at slots key = last_by (slots key)
 
+-- each key stands so to those after it
+abbrev pub IsSorted : (ℕ → ℕ → Type 0) → List ℕ → Type 0
+IsSorted R [] = Unit {0}
+IsSorted R (key ∷ keys) = ((other : ℕ) → IsIn other keys → R key other) × IsSorted R keys
+
 -- the moments don't fall along the keys
 abbrev pub IsRising : (ℕ → ℕ) → List ℕ → Type 0
-IsRising f [] = Unit {0}
-IsRising f (key ∷ keys) = ((other : ℕ) → IsIn other keys → f key ≤ f other) × IsRising f keys
+IsRising f = IsSorted (λ key other. f key ≤ f other)
 
--- each entry has its slot's key as id and is in the order of creation and in its queue, and each queue is
--- sorted by last packets
-pub record IsLinked (slots : ℕ → Option ConntrackEntry) (begun kinds : Lists) : Type 0 where
+-- each entry has its slot's key as id and is in its queue, and each queue is sorted by last packets
+pub record IsLinked (slots : ℕ → Option ConntrackEntry) (kinds : Lists) : Type 0 where
   pub named : (key : ℕ) (h : ConntrackEntry) → slots key ≡ Some h → h.id.0 ≡ key
-  pub order : IsFiled begun (order_list slots)
   pub queues : IsFiled kinds (queue_list slots)
   pub rising : (q : ℕ) → IsRising (last_at slots) (keys_in kinds q)
 
@@ -93,32 +95,82 @@ abbrev pub IsOldest : (ℕ → Option ConntrackEntry) → Lists → ℕ → ℕ 
 IsOldest slots queues q moment =
     (key : ℕ) → slice_get (keys_in queues q) 0 ≡ Some key → moment ≡ last_at slots key
 
+-- ---- the order of creation
+
+abbrev pub serial_by : Option Slot → ℕ
+serial_by None = 0
+serial_by (Some slot) = slot.serial
+
+-- the number of a slot: entries are numbered as they are created
+abbrev pub serial_at : Slab Slot → ℕ → ℕ
+serial_at slots key = serial_by (get slots key)
+
+-- the number and the key of a slot
+abbrev pub numbered_key : ℕ × Slot → ℕ × ℕ
+numbered_key entry = (entry.1.serial, entry.0)
+
+-- the keys of such pairs
+abbrev pub keys_by : List (ℕ × ℕ) → List ℕ
+keys_by = map (λ pair. pair.1)
+
+-- the keys of all entries, by rising numbers
+pub record IsOrder (slots : ℕ → Option ConntrackEntry) (serial : ℕ → ℕ) (keys : List ℕ) : Type 0 where
+  pub listed : (key : ℕ) → IsSome (slots key) → IsIn key keys
+  pub used : (key : ℕ) → IsIn key keys → IsSome (slots key)
+  pub rising : IsSorted (λ key other. serial key < serial other) keys
+
+-- one more key among keys with rising numbers
+abbrev pub insert_key : (ℕ → ℕ) → ℕ → List ℕ → List ℕ
+insert_key serial key [] = key ∷ []
+insert_key serial key (first ∷ rest) =
+    if nat_lt (serial key) (serial first) then key ∷ first ∷ rest else first ∷ insert_key serial key rest
+
+abbrev pub insert_used : (ℕ → ℕ) → ℕ → Option ConntrackEntry → List ℕ → List ℕ
+insert_used serial key None keys = keys
+insert_used serial key (Some h) keys = insert_key serial key keys
+
+-- the keys of entries, below a bound, by rising numbers
+abbrev pub in_order : (ℕ → Option ConntrackEntry) → (ℕ → ℕ) → ℕ → List ℕ
+in_order slots serial zero = []
+in_order slots serial (suc key) = insert_used serial key (slots key) (in_order slots serial key)
+
 -- ---- the table
 
 -- the entry in a slot, if there is one
 abbrev pub slots_of : AgedSlots → ℕ → Option ConntrackEntry
 slots_of t = held_at t.slots
 
-abbrev pub order_of : AgedSlots → Lists
-order_of t = lists_of Order t.slots t.order
-
 abbrev pub queues_of : AgedSlots → Lists
-queues_of t = lists_of Queues t.slots t.queues
+queues_of t = lists_of t.slots t.queues
+
+-- the keys in the order of creation
+abbrev pub order_in : Slab Slot → List ℕ
+order_in slots = in_order (held_at slots) (serial_at slots) (length slots.slots)
+
+abbrev pub order_of : AgedSlots → List ℕ
+order_of t = order_in t.slots
 
 -- all entries in the order of their creation
 abbrev pub held_by : AgedSlots → List ConntrackEntry
-held_by t = held_in (slots_of t) (keys_in (order_of t) 0)
+held_by t = held_in (slots_of t) (order_of t)
 
 pub record IsTable (t : AgedSlots) : Type 0 where
-  pub order_rings : IsRings Order t.slots t.order
-  pub queue_rings : IsRings Queues t.slots t.queues
-  pub linked : IsLinked (slots_of t) (order_of t) (queues_of t)
+  pub rings : IsRings t.slots t.queues
+  pub linked : IsLinked (slots_of t) (queues_of t)
+  pub order : IsOrder (slots_of t) (serial_at t.slots) (order_of t)
+  pub below : (key : ℕ) → IsSome (slots_of t key) → serial_at t.slots key < t.next_serial
   pub oldest : (q : ℕ) → q < 5 → IsOldest (slots_of t) (queues_of t) q (slice_index_or t.oldest q 0)
   pub few : (key : ℕ) → IsSome (slots_of t key) → key < MAX_KEYS
 
--- whether memory for one more is reserved
+-- the greatest number
+abbrev pub MAX_SERIAL : ℕ
+MAX_SERIAL = 2 ^ 64 - 1
+
+-- whether memory for one more is reserved, and a number is left
 abbrev pub has_room : AgedSlots → Bool
-has_room t = nat_lt (slab_len t.slots) t.slots.capacity && nat_lt t.slots.vacant_key MAX_KEYS
+has_room t =
+    nat_lt (slab_len t.slots) t.slots.capacity
+    && (nat_lt t.slots.vacant_key MAX_KEYS && nat_lt t.next_serial MAX_SERIAL)
 
 -- one slot's entry is set, and all others are unchanged
 pub record Sets (old new : ℕ → Option ConntrackEntry) (key : ℕ) (slot : Option ConntrackEntry) : Type 0 where

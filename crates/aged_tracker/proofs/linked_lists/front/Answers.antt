@@ -5,7 +5,7 @@ use Rattle.aged_tracker.proofs.Walks.{chain_first}
 use Rattle.aged_tracker.proofs.linked_lists.front.Goals as goal
 
 pub returns : goal.returns
-returns c slot_list slots rings =
-    c.key.ensures ∙ ap (λ (l : Link). key_at (number l.next)) (c.head_link.ensures slot_list slots)
-    ∙ chain_first slot_list (next_of slot_list slots c.args.heads.now) (prev_of slot_list slots c.args.heads.now) c.args.list
-    c.args.list (keys_of slot_list slots c.args.heads.now c.args.list) c.requires (rings c.args.list c.requires).chained
+returns c slots rings =
+    c.key.ensures ∙ ap (λ (l : Link). key_at (number l.next)) (c.head_link.ensures slots)
+    ∙ chain_first (next_of slots c.args.heads.now) (prev_of slots c.args.heads.now) c.args.list
+    c.args.list (keys_of slots c.args.heads.now c.args.list) c.requires (rings c.args.list c.requires).chained

@@ -9,48 +9,48 @@ use Rattle.aged_tracker.proofs.linked_lists.push_back.Goals as goal
 use Rattle.aged_tracker.proofs.linked_lists.push_back.Goals.{After-set_links, After-set_prev}
 
 -- its links are written
-own : (c : After-set_links) → (Placed c.args.slot_list) c.args.slots.now c.set_links.new.self c.args.key
+own : (c : After-set_links) → Placed c.args.slots.now c.set_links.new.self c.args.key
     (record { list = Some c.args.list; link = record { prev = c.head_link.result.prev; next = c.head-head.result } })
-own c = (placed c.args.slot_list) c.args.slots.now c.set_links.new.self c.args.key
+own c = placed c.args.slots.now c.set_links.new.self c.args.key
     (record { list = Some c.args.list; link = record { prev = c.head_link.result.prev; next = c.head-head.result } })
     c.requires.slot c.set_links.ensures.slots
 
 pub set_next-requires : goal.set_next-requires
 set_next-requires c =
-    let keys = keys_of c.args.slot_list c.args.slots.now c.args.heads.now c.args.list in
+    let keys = keys_of c.args.slots.now c.args.heads.now c.args.list in
     let ring = c.requires.rings c.args.list c.requires.range in
-    let b = ap (λ (l : Link). number l.prev) (c.head_link.ensures c.args.slot_list c.args.slots.now) in
-    aside_place c.args.slot_list c.args.slots.now c.set_links.new.self (own (goal.at.set_next-requires c).After-set_links).same
+    let b = ap (λ (l : Link). number l.prev) (c.head_link.ensures c.args.slots.now) in
+    aside_place c.args.slots.now c.set_links.new.self (own (goal.at.set_next-requires c).After-set_links).same
     (number c.head_link.result.prev)
-    ((on_place c.args.slot_list) c.args.slots.now c.args.heads.now c.args.list keys (number c.head_link.result.prev) c.requires.range ring
+    (on_place c.args.slots.now c.args.heads.now c.args.list keys (number c.head_link.result.prev) c.requires.range ring
     (rw b (prev_end_on _ _ 5 c.args.list keys c.args.list ring.chained)))
 
-spliced : (c : After-set_prev) → (Spliced c.args.slot_list) c.args.slots.now c.set_prev.new.slots c.args.heads.now
+spliced : (c : After-set_prev) → Spliced c.args.slots.now c.set_prev.new.slots c.args.heads.now
     c.set_prev.new.heads c.args.key c.args.list
 spliced c =
-    let keys = keys_of c.args.slot_list c.args.slots.now c.args.heads.now c.args.list in
+    let keys = keys_of c.args.slots.now c.args.heads.now c.args.list in
     let ring = c.requires.rings c.args.list c.requires.range in
-    let p = (placed c.args.slot_list) c.args.slots.now c.set_links.new.self c.args.key
+    let p = placed c.args.slots.now c.set_links.new.self c.args.key
     (record { list = Some c.args.list; link = record { prev = c.head_link.result.prev; next = c.head-head.result } })
     c.requires.slot c.set_links.ensures.slots in
     let linked = p.link c.args.heads.now in
-    let b = ap (λ (l : Link). number l.prev) (c.head_link.ensures c.args.slot_list c.args.slots.now) in
+    let b = ap (λ (l : Link). number l.prev) (c.head_link.ensures c.args.slots.now) in
     let head : number c.head-head.result ≡ c.args.list = c.head-head.ensures in
     let here : number c.slot-slot.result ≡ 5 + c.args.key = c.slot-slot.ensures in
     let next = rw here at c.set_next.ensures.next in
     let prev = rw (here, head) at c.set_prev.ensures.prev in
-    let apart : 5 + c.args.key ≢ (prev_of c.args.slot_list) c.args.slots.now c.args.heads.now c.args.list = λ e.
-    free_not_on ((next_of c.args.slot_list) c.args.slots.now c.args.heads.now)
-    ((prev_of c.args.slot_list) c.args.slots.now c.args.heads.now) 5 ((owner_of c.args.slot_list) c.args.slots.now)
+    let apart : 5 + c.args.key ≢ prev_of c.args.slots.now c.args.heads.now c.args.list = λ e.
+    free_not_on (next_of c.args.slots.now c.args.heads.now)
+    (prev_of c.args.slots.now c.args.heads.now) 5 (owner_of c.args.slots.now)
     c.args.list keys c.args.key c.requires.range ring c.requires.free
     (rw e (prev_end_on _ _ 5 c.args.list keys c.args.list ring.chained)) in
     let not_head : 5 + c.args.key ≢ c.args.list = λ e. omega (arith, c.requires.range, e) in
-    let owners : (k : ℕ) → (owner_of c.args.slot_list) c.set_prev.new.slots k ≡ (owner_of c.args.slot_list) c.set_links.new.self k =
-    λ k. (bare_owner c.args.slot_list) c.set_next.new.slots c.set_prev.new.slots c.set_prev.ensures.except_neighbours k
-    ∙ (bare_owner c.args.slot_list) c.set_links.new.self c.set_next.new.slots c.set_next.ensures.except_neighbours k in
+    let owners : (k : ℕ) → owner_of c.set_prev.new.slots k ≡ owner_of c.set_links.new.self k =
+    λ k. bare_owner c.set_next.new.slots c.set_prev.new.slots c.set_prev.ensures.except_neighbours k
+    ∙ bare_owner c.set_links.new.self c.set_next.new.slots c.set_next.ensures.except_neighbours k in
     record {
       links = record {
-        into = c.set_prev.ensures.next _ ∙ ap ((next_of c.args.slot_list) c.set_next.new.slots c.set_next.new.heads) (sym b) ∙ next.here;
+        into = c.set_prev.ensures.next _ ∙ ap (next_of c.set_next.new.slots c.set_next.new.heads) (sym b) ∙ next.here;
         out = c.set_prev.ensures.next _ ∙ next.others (5 + c.args.key) (λ e. apart (e ∙ b))
             ∙ ap (λ (x : Link). number x.next) linked.here ∙ head;
         back_into = prev.here;
@@ -65,16 +65,16 @@ spliced c =
 
 pub returns-clause-rings : goal.returns-clause-rings
 returns-clause-rings c =
-    rings_pushed c.args.slot_list _ _ _ _ c.args.key c.args.list c.requires.rings c.requires.range c.requires.free
+    rings_pushed _ _ _ _ c.args.key c.args.list c.requires.rings c.requires.range c.requires.free
     (spliced (goal.at.returns-clause-rings c).After-set_prev)
 
 pub returns-clause-lists : goal.returns-clause-lists
 returns-clause-lists c =
-    lists_pushed c.args.slot_list _ _ _ _ c.args.key c.args.list c.requires.rings c.requires.range c.requires.free
+    lists_pushed _ _ _ _ c.args.key c.args.list c.requires.rings c.requires.range c.requires.free
     (spliced (goal.at.returns-clause-lists c).After-set_prev)
 
 pub returns-clause-except_links : goal.returns-clause-except_links
 returns-clause-except_links c k =
-    (aside_kept c.args.slot_list) c.set_next.new.slots c.set_prev.new.slots c.set_prev.ensures.except_neighbours k
-    ∙ (aside_kept c.args.slot_list) c.set_links.new.self c.set_next.new.slots c.set_next.ensures.except_neighbours k
+    aside_kept c.set_next.new.slots c.set_prev.new.slots c.set_prev.ensures.except_neighbours k
+    ∙ aside_kept c.set_links.new.self c.set_next.new.slots c.set_next.ensures.except_neighbours k
     ∙ (own (goal.at.returns-clause-except_links c).After-set_links).same k

@@ -1,12 +1,13 @@
-use Rattle.std.proofs.Common.{◌≡◌, ◌<◌, nat_lt, ◌++◌, ◌∷◌, [], length, Some, subst, ap, sym, ◌∙◌, rules, arith}
+use Rattle.std.proofs.Common.{◌≡◌, ◌<◌, ◌++◌, ◌∷◌, [], length, Some, refl, ap, sym, ◌∙◌, subst, rules, arith}
+use Rattle.std.specs.Prelude.{nat_lt, ◌&&◌}
 use Rattle.std.proofs.lemmas.Bool.{and_parts, ltb-true}
 use Rattle.slab.specs.Slab.{slab_len}
-use Rattle.aged_tracker.specs.steps.SlotLists.{MAX_KEYS, held_at, held_of}
 use Rattle.conntrack.specs.declared.connection.Flags.{Flags}
 use Rattle.conntrack.specs.declared.connection.ConntrackEntry.{ConntrackEntry}
 use Rattle.conntrack.specs.ConntrackEntry.{begun_with}
-use Rattle.aged_tracker.specs.steps.Table.{queue_by, queue_of, held_by, slots_of, Sets}
-use Rattle.aged_tracker.proofs.Turns.{fill_order, begun_rings, begun_sets, begun_held, begun_table}
+use Rattle.aged_tracker.specs.steps.SlotLists.{MAX_KEYS, held_at, held_of}
+use Rattle.aged_tracker.specs.steps.Table.{MAX_SERIAL, held_by, queue_by, queue_of, slots_of, Sets}
+use Rattle.aged_tracker.proofs.Turns.{begun_rings, begun_sets, begun_held, begun_table}
 use Rattle.aged_tracker.proofs.aged_slots.AgedSlots.insert.Goals as goal
 use Rattle.aged_tracker.proofs.aged_slots.AgedSlots.insert.Goals.{After-oldest_of}
 
@@ -16,9 +17,10 @@ to c = c.queue_by-queue.ensures.queue ∙ ap (queue_by c.args.connection.origina
 
 few : (c : After-oldest_of) → c.fill-key.result < MAX_KEYS
 few c =
-    let both = and_parts (nat_lt (slab_len c.args.self.now.slots) c.args.self.now.slots.capacity)
-    (nat_lt c.args.self.now.slots.vacant_key MAX_KEYS) c.requires.room in
-    let below : c.args.self.now.slots.vacant_key < MAX_KEYS = ltb-true c.args.self.now.slots.vacant_key MAX_KEYS both.1 in
+    let room = and_parts (nat_lt (slab_len c.args.self.now.slots) c.args.self.now.slots.capacity)
+    (nat_lt c.args.self.now.slots.vacant_key MAX_KEYS && nat_lt c.args.self.now.next_serial MAX_SERIAL) c.requires.room in
+    let keys = and_parts (nat_lt c.args.self.now.slots.vacant_key MAX_KEYS) (nat_lt c.args.self.now.next_serial MAX_SERIAL) room.1 in
+    let below : c.args.self.now.slots.vacant_key < MAX_KEYS = ltb-true c.args.self.now.slots.vacant_key MAX_KEYS keys.0 in
     omega (arith, below, c.fill-key.ensures.key)
 
 made : (c : After-oldest_of) → held_of c.fill-key.result c.fill-key.ensures.fills.slot
@@ -29,36 +31,27 @@ made c =
     c.args.flags) { from_reply = f }) c.none.ensures
 
 pub push_back-requires-clause-rings : goal.push_back-requires-clause-rings
-push_back-requires-clause-rings c = fill_order c.args.self.now c.fill-key.new.self c.fill-key.result
+push_back-requires-clause-rings c = begun_rings c.args.self.now c.fill-key.new.self c.fill-key.result
     c.fill-key.ensures.fills.slot c.requires.table c.fill-key.ensures.free c.fill-key.ensures.fills.updates
-    c.fill-key.ensures.fills.no_queue c.fill-key.ensures.fills.no_order
-
-pub push_back-requires-2-clause-rings : goal.push_back-requires-2-clause-rings
-push_back-requires-2-clause-rings c = begun_rings c.args.self.now c.fill-key.new.self c.fill-key.result
-    c.fill-key.ensures.fills.slot c.requires.table c.fill-key.ensures.free c.fill-key.ensures.fills.updates
-    c.fill-key.ensures.fills.no_queue c.fill-key.ensures.fills.no_order c.push_back.new.slots c.push_back.new.heads
-    c.push_back.ensures.except_links
+    c.fill-key.ensures.fills.unlisted
 
 pub returns-clause-table : goal.returns-clause-table
 returns-clause-table c =
     let long : length c.args.self.now.oldest ≡ 5 = search rules in
     begun_table c.args.self.now c.fill-key.new.self c.fill-key.result c.fill-key.ensures.fills.slot c.requires.table
-    c.fill-key.ensures.free c.fill-key.ensures.fills.updates c.fill-key.ensures.fills.no_queue
-    c.fill-key.ensures.fills.no_order c.push_back.new.slots c.push_back.new.heads c.push_back.ensures.except_links
-    c.push_back-2.new.slots c.push_back-2.new.heads c.queue_by-queue.result c.oldest_of.result
-    c.args.connection.last c.push_back.ensures.rings c.push_back.ensures.lists c.push_back-2.ensures.except_links
-    c.push_back-2.ensures.rings c.push_back-2.ensures.lists (to (goal.at.returns-clause-table c).After-oldest_of)
-    c.requires.later (ap (λ (h : ConntrackEntry). h.last) c.fill-key.ensures.fills.holds) c.oldest_of.ensures.oldest
-    long c.queue_by-queue.ensures.range (few (goal.at.returns-clause-table c).After-oldest_of)
+    c.fill-key.ensures.free c.fill-key.ensures.fills.updates c.fill-key.ensures.fills.unlisted
+    c.push_back.new.slots c.push_back.new.heads c.queue_by-queue.result c.fill-key.ensures.fills.numbered
+    c.push_back.ensures.except_links c.push_back.ensures.lists (to (goal.at.returns-clause-table c).After-oldest_of)
+    c.args.connection.last c.oldest_of.result c.requires.later
+    (ap (λ (h : ConntrackEntry). h.last) c.fill-key.ensures.fills.holds) c.push_back.ensures.rings
+    c.oldest_of.ensures.oldest long c.queue_by-queue.ensures.range (few (goal.at.returns-clause-table c).After-oldest_of) _ refl
 
 pub returns-clause-held : goal.returns-clause-held
 returns-clause-held c =
     begun_held c.args.self.now c.fill-key.new.self c.fill-key.result c.fill-key.ensures.fills.slot c.requires.table
-    c.fill-key.ensures.free c.fill-key.ensures.fills.updates c.fill-key.ensures.fills.no_queue
-    c.fill-key.ensures.fills.no_order c.push_back.new.slots c.push_back.new.heads c.push_back.ensures.except_links
-    c.push_back-2.new.slots c.push_back-2.new.heads c.queue_by-queue.result c.oldest_of.result
-    c.args.connection.last c.push_back.ensures.rings c.push_back.ensures.lists c.push_back-2.ensures.except_links
-    c.push_back-2.ensures.rings c.push_back-2.ensures.lists (to (goal.at.returns-clause-held c).After-oldest_of)
+    c.fill-key.ensures.free c.fill-key.ensures.fills.updates c.fill-key.ensures.fills.unlisted
+    c.push_back.new.slots c.push_back.new.heads c.queue_by-queue.result c.fill-key.ensures.fills.numbered
+    c.push_back.ensures.except_links c.push_back.ensures.lists (to (goal.at.returns-clause-held c).After-oldest_of)
     ∙ ap (λ (h : ConntrackEntry). held_by c.args.self.now ++ h ∷ []) (made (goal.at.returns-clause-held c).After-oldest_of)
 
 pub returns-clause-few : goal.returns-clause-few
@@ -66,11 +59,9 @@ returns-clause-few c = few (goal.at.returns-clause-few c).After-oldest_of
 
 pub returns-clause-slots : goal.returns-clause-slots
 returns-clause-slots c =
-    subst (λ h. Sets (slots_of c.args.self.now) (held_at c.push_back-2.new.slots) c.fill-key.result (Some h))
+    subst (λ h. Sets (slots_of c.args.self.now) (held_at c.push_back.new.slots) c.fill-key.result (Some h))
     (made (goal.at.returns-clause-slots c).After-oldest_of)
     (begun_sets c.args.self.now c.fill-key.new.self c.fill-key.result c.fill-key.ensures.fills.slot c.requires.table
-    c.fill-key.ensures.free c.fill-key.ensures.fills.updates c.fill-key.ensures.fills.no_queue
-    c.fill-key.ensures.fills.no_order c.push_back.new.slots c.push_back.new.heads c.push_back.ensures.except_links
-    c.push_back-2.new.slots c.push_back-2.new.heads c.queue_by-queue.result c.oldest_of.result
-    c.args.connection.last c.push_back.ensures.rings c.push_back.ensures.lists c.push_back-2.ensures.except_links
-    c.push_back-2.ensures.rings c.push_back-2.ensures.lists (to (goal.at.returns-clause-slots c).After-oldest_of))
+    c.fill-key.ensures.free c.fill-key.ensures.fills.updates c.fill-key.ensures.fills.unlisted
+    c.push_back.new.slots c.push_back.new.heads c.queue_by-queue.result c.fill-key.ensures.fills.numbered
+    c.push_back.ensures.except_links c.push_back.ensures.lists (to (goal.at.returns-clause-slots c).After-oldest_of))

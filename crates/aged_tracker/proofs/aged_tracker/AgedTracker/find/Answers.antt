@@ -1,6 +1,6 @@
 use Rattle.std.proofs.Common.{◌≡◌, Some, None, IsSome, sym, ◌∙◌, refl, subst}
 use Rattle.std.specs.HashMap.{get}
-use Rattle.aged_tracker.specs.steps.Table.{keys_in, order_of, slots_of}
+use Rattle.aged_tracker.specs.steps.Table.{order_of, slots_of}
 use Rattle.ip_headers.specs.Same.{same_tuple}
 use Rattle.aged_tracker.proofs.Whole.{slot_listed, distinct_by, apart_by}
 use Rattle.aged_tracker.proofs.Found.{belongs_none, belongs_some}
@@ -16,7 +16,7 @@ pub returns-in-None-clause-belonging : goal.returns-in-None-clause-belonging
 returns-in-None-clause-belonging c =
     let none : get same_tuple c.self.inside.keys c.args.tuple ≡ None = sym c.key_of.ensures ∙ c.in-None.is in
     rw (← c.self.view_is) (belongs_none (slots_of c.self.inside.slots)
-    (get same_tuple c.self.inside.keys) c.self.invariant.keyed (keys_in (order_of c.self.inside.slots) 0)
+    (get same_tuple c.self.inside.keys) c.self.invariant.keyed (order_of c.self.inside.slots)
     (slot_listed c.self.inside.slots c.self.invariant.table) c.self.inside.limits c.args.now c.args.tuple
     c.args.flags none)
 
@@ -32,7 +32,7 @@ returns-in-Some-clause-belonging c =
     let owner = c.self.invariant.keyed.found c.args.tuple c.in-Some.key found in
     rw (← c.self.view_is) (rw owner.1.0 at c.belonging.ensures.belonging
     ∙ belongs_some (slots_of c.self.inside.slots) (get same_tuple c.self.inside.keys) c.self.invariant.keyed
-    (keys_in (order_of c.self.inside.slots) 0)
+    (order_of c.self.inside.slots)
     (slot_listed c.self.inside.slots c.self.invariant.table) c.self.inside.limits c.args.now c.args.tuple
     c.args.flags c.in-Some.key owner.0 found owner.1.0)
 

@@ -4,8 +4,8 @@ use Rattle.conntrack.specs.declared.connection.Aged.{Aged}
 use Rattle.conntrack.specs.declared.connection.ConnId.{ConnId}
 use Rattle.conntrack.specs.declared.connection.ConntrackEntry.{ConntrackEntry}
 use Rattle.conntrack.specs.ConntrackEntry.{aged_of, live_at, removed_entry, without}
-use Rattle.aged_tracker.specs.steps.Table.{keys_in, order_of, slots_of}
-use Rattle.aged_tracker.proofs.Linked.{some_of}
+use Rattle.aged_tracker.specs.steps.Table.{order_of, slots_of}
+use Rattle.aged_tracker.proofs.Links.{some_of}
 use Rattle.aged_tracker.proofs.Whole.{has_by, distinct_by, handed_over, one_fewer}
 use Rattle.aged_tracker.proofs.Found.{live_all, live_without}
 use Rattle.aged_tracker.proofs.aged_tracker.AgedTrackerTracker.age.Goals as goal
@@ -23,7 +23,7 @@ pub returns-in-None-clause-none : goal.returns-in-None-clause-none
 returns-in-None-clause-none c = (
   refl,
   rw (← c.self.view_is) (live_all c.self.inside.limits (slots_of c.self.inside.slots) c.args.now
-      (keys_in (order_of c.self.inside.slots) 0) c.in-None.ensures.none),
+      (order_of c.self.inside.slots) c.in-None.ensures.none),
 )
 
 pub returns-in-None-clause-distinct : goal.returns-in-None-clause-distinct
@@ -51,7 +51,7 @@ returns-in-Some-clause-some c =
       ap (live_at c.args.self.now.limits c.args.now) c.end.ensures.held
           ∙ rw (← c.self.view_is) (live_without c.self.inside.limits
           (slots_of c.self.inside.slots) c.args.now c.in-Some.id at.0 c.self.invariant.table.linked.named at.1
-          expired (keys_in (order_of c.self.inside.slots) 0)),
+          expired (order_of c.self.inside.slots)),
     )
 
 pub returns-in-Some-clause-fewer : goal.returns-in-Some-clause-fewer

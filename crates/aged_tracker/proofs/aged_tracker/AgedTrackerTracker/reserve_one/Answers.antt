@@ -1,10 +1,22 @@
-use Rattle.std.proofs.Common.{◌≡◌, subst, Bool}
+use Rattle.std.proofs.Common.{◌≡◌, refl, subst, Bool}
 use Rattle.std.specs.HashMap.{get}
 use Rattle.ip_headers.specs.declared.tuple.Tuple.{Tuple}
 use Rattle.ip_headers.specs.Same.{same_tuple}
 use Rattle.aged_tracker.proofs.Same.{same_fun}
 use Rattle.aged_tracker.proofs.Whole.{aged_grown}
 use Rattle.aged_tracker.proofs.aged_tracker.AgedTrackerTracker.reserve_one.Goals as goal
+
+pub invariant_of-self : goal.invariant_of-self
+invariant_of-self c =
+    aged_grown c.self.inside.slots c.reserve_one.new.self (get same_tuple c.self.inside.keys)
+    (get same_tuple c.self.inside.keys) c.self.inside.live c.self.invariant
+    c.reserve_one.ensures.table c.reserve_one.ensures.held c.reserve_one.ensures.slots (λ q. refl)
+
+pub invariant_of-self-then-spare_of-ge2 : goal.invariant_of-self-then-spare_of-ge2
+invariant_of-self-then-spare_of-ge2 c =
+    aged_grown c.self.inside.slots c.reserve_one.new.self (get same_tuple c.self.inside.keys)
+    (get same_tuple c.self.inside.keys) c.self.inside.live c.self.invariant
+    c.reserve_one.ensures.table c.reserve_one.ensures.held c.reserve_one.ensures.slots (λ q. refl)
 
 pub invariant_of-self-2 : goal.invariant_of-self-2
 invariant_of-self-2 c =

@@ -6,6 +6,6 @@ returns-clause-fills c =
       slot = c.new.result;
       updates = rw (← c.self.view_is) c.insert_reserved.ensures.updates;
       holds = c.new.ensures.held c.insert_reserved.result;
-      no_queue = c.new.ensures.queue;
-      no_order = c.new.ensures.order;
+      numbered = c.new.ensures.serial;
+      unlisted = c.new.ensures.unlisted;
     }

@@ -1,0 +1,199 @@
+-- The order of creation: the keys of all entries, by rising numbers.
+use Rattle.std.proofs.Common.{◌≡◌, ◌≢◌, ℕ, zero, suc, ◌<◌, cond, List, [], ◌∷◌, ◌++◌, Option, Some, None, IsSome}
+use Rattle.std.proofs.Common.{refl, sym, ap, ◌∙◌, subst, inl, inr, arith}
+use Rattle.std.proofs.lemmas.Bool.{cases_eq, cases_lt, lt-ltb, le-ltb}
+use Rattle.std.proofs.lemmas.Option.{none-some}
+use Rattle.futures.specs.LinkedLists.{IsIn, IsApart, without}
+use Rattle.futures.proofs.LinkLemmas.{IsIn-without}
+use Rattle.conntrack.specs.declared.connection.ConntrackEntry.{ConntrackEntry}
+use Rattle.aged_tracker.specs.steps.Table.{IsOrder, IsSorted, Sets, in_order, insert_key, insert_used}
+use Rattle.aged_tracker.proofs.Keys.{IsIn-push, IsIn-push_kept, IsIn-push_last, IsIn-without_kept, IsSorted-push, IsSorted-to, IsSorted-without}
+
+pub not_none : {X P : Type 0} (o : Option X) → o ≡ None → IsSome o → P
+not_none None e is = absurd cc
+not_none (Some x) e is = absurd (none-some x (sym e))
+
+module _ (serial : ℕ → ℕ) where
+  abbrev pub IsBelow : ℕ → ℕ → Type 0
+  IsBelow key other = serial key < serial other
+
+  pub apart_by_serial : (keys : List ℕ) → IsSorted IsBelow keys → IsApart keys
+  apart_by_serial [] sorted = tt
+  apart_by_serial (first ∷ rest) sorted = (λ found. omega (arith, sorted.0 first found), apart_by_serial rest sorted.1)
+
+  pub record Inserted (key : ℕ) (old new : List ℕ) : Type 0 where
+    pub from : (k : ℕ) → IsIn k new → IsIn k (key ∷ old)
+    pub to : (k : ℕ) → IsIn k (key ∷ old) → IsIn k new
+    pub sorted : IsSorted IsBelow new
+
+  inserted : (key : ℕ) (keys : List ℕ) → IsSorted IsBelow keys → ((k : ℕ) → IsIn k keys → serial k ≢ serial key)
+      → Inserted key keys (insert_key serial key keys)
+  inserted key [] sorted differs = record { from = λ k f. f; to = λ k f. f; sorted = (λ k f. absurd f, tt) }
+  inserted key (first ∷ rest) sorted differs =
+      let new : List ℕ = first ∷ insert_key serial key rest in
+      let apart : serial first ≢ serial key = differs first (inl refl) in
+      elim (cases_lt (serial key) (serial first)) [
+        | inl below ↦
+            subst (Inserted key (first ∷ rest)) (sym (ap (λ b. cond b (key ∷ first ∷ rest) new) (lt-ltb _ _ below)))
+            (record {
+              from = λ k f. f;
+              to = λ k f. f;
+              sorted = (
+                λ k f. elim f [ inl e ↦ omega (arith, below, ap serial e) | inr t ↦ omega (arith, below, sorted.0 k t) ],
+                sorted,
+              );
+            })
+        | inr past ↦
+            let rec = inserted key rest sorted.1 (λ k f. differs k (inr f)) in
+            subst (Inserted key (first ∷ rest)) (sym (ap (λ b. cond b (key ∷ first ∷ rest) new) (le-ltb _ _ past)))
+            (record {
+              from = λ k f. elim f [
+                | inl e ↦ inr (inl e)
+                | inr t ↦ elim (rec.from k t) [ inl e ↦ inl e | inr o ↦ inr (inr o) ]
+              ];
+              to = λ k f. elim f [
+                | inl e ↦ inr (rec.to k (inl e))
+                | inr t ↦ elim t [ inl e ↦ inl e | inr o ↦ inr (rec.to k (inr o)) ]
+              ];
+              sorted = (
+                λ k f. elim (rec.from k f) [ inl e ↦ omega (arith, past, apart, ap serial e) | inr t ↦ sorted.0 k t ],
+                rec.sorted,
+              );
+            })
+      ]
+
+  -- two such lists of the same keys are one
+  pub one_order : (one other : List ℕ) → IsSorted IsBelow one → IsSorted IsBelow other
+      → ((k : ℕ) → IsIn k one → IsIn k other) → ((k : ℕ) → IsIn k other → IsIn k one) → one ≡ other
+  one_order [] [] r q to from = refl
+  one_order [] (y ∷ ys) r q to from = absurd (from y (inl refl))
+  one_order (x ∷ xs) [] r q to from = absurd (to x (inl refl))
+  one_order (x ∷ xs) (y ∷ ys) r q to from =
+      let same : x ≡ y = elim (to x (inl refl)) [
+        | inl e ↦ sym e
+        | inr t ↦ elim (from y (inl refl)) [ inl e ↦ e | inr u ↦ absurd (omega (arith, q.0 x t, r.0 y u)) ]
+      ] in
+      let s : serial x ≡ serial y = ap serial same in
+      ap (λ k. k ∷ xs) same
+      ∙ ap (λ ks. y ∷ ks)
+      (one_order xs ys r.1 q.1
+      (λ k f. elim (to k (inr f)) [ inl e ↦ absurd (omega (arith, r.0 k f, s, ap serial e)) | inr t ↦ t ])
+      (λ k f. elim (from k (inr f)) [ inl e ↦ absurd (omega (arith, q.0 k f, s, ap serial e)) | inr t ↦ t ]))
+
+  -- no two of its keys have one number
+  pub same_number : (keys : List ℕ) → IsSorted IsBelow keys → (j k : ℕ) → IsIn j keys → IsIn k keys → serial j ≡ serial k → j ≡ k
+  same_number [] sorted j k f g e = absurd f
+  same_number (first ∷ rest) sorted j k f g e =
+      elim f [
+        | inl a ↦ elim g [ inl b ↦ sym a ∙ b | inr u ↦ absurd (omega (arith, sorted.0 k u, ap serial a, e)) ]
+        | inr t ↦ elim g [
+          | inl b ↦ absurd (omega (arith, sorted.0 j t, ap serial b, e))
+          | inr u ↦ same_number rest sorted.1 j k t u e
+        ]
+      ]
+
+module _ (s : ℕ → Option ConntrackEntry) (serial : ℕ → ℕ) (order : List ℕ) (is : IsOrder s serial order) where
+  pub record IsOrderBelow (most : ℕ) (keys : List ℕ) : Type 0 where
+    pub listed : (key : ℕ) → key < most → IsSome (s key) → IsIn key keys
+    pub used : (key : ℕ) → IsIn key keys → (key < most) × IsSome (s key)
+    pub sorted : IsSorted (IsBelow serial) keys
+
+  order_step : (n : ℕ) (keys : List ℕ) (o : Option ConntrackEntry) → s n ≡ o → IsOrderBelow n keys
+      → IsOrderBelow (suc n) (insert_used serial n o keys)
+  order_step n keys None at below =
+      record {
+        listed = λ k few some. elim (cases_eq k n) [
+          | inl e ↦ not_none (s k) (ap s e ∙ at) some
+          | inr d ↦ below.listed k (omega arith) some
+        ];
+        used = λ k f. let u = below.used k f in (omega (arith, u.0), u.1);
+        sorted = below.sorted;
+      }
+  order_step n keys (Some h) at below =
+      let some : IsSome (s n) = subst IsSome (sym at) refl in
+      let new = inserted serial n keys below.sorted
+      (λ k f e. let u = below.used k f in
+      let same = same_number serial order is.rising k n (is.listed k u.1) (is.listed n some) e in omega (arith, u.0, same)) in
+      record {
+        listed = λ k few used. elim (cases_eq k n) [
+          | inl e ↦ new.to k (inl (sym e))
+          | inr d ↦ new.to k (inr (below.listed k (omega arith) used))
+        ];
+        used = λ k f. elim (new.from k f) [
+          | inl e ↦ (omega (arith, e), subst (λ j. IsSome (s j)) e some)
+          | inr t ↦ let u = below.used k t in (omega (arith, u.0), u.1)
+        ];
+        sorted = new.sorted;
+      }
+
+  order_below : (n : ℕ) → IsOrderBelow n (in_order s serial n)
+  order_below zero = record { listed = λ k few some. absurd (omega (arith, few)); used = λ k f. absurd f; sorted = tt }
+  order_below (suc n) = order_step n (in_order s serial n) (s n) refl (order_below n)
+
+  -- it is what sorting finds
+  pub in_order-is : (most : ℕ) → ((k : ℕ) → IsSome (s k) → k < most) → in_order s serial most ≡ order
+  in_order-is most within =
+      let below = order_below most in
+      one_order serial (in_order s serial most) order below.sorted is.rising (λ k f. is.listed k (below.used k f).1)
+      (λ k f. let some = is.used k f in below.listed k (within k some) some)
+
+-- a slot is written
+module _ (old new : ℕ → Option ConntrackEntry) (serial serial' : ℕ → ℕ) (key : ℕ) (slot : Option ConntrackEntry)
+    (sets : Sets old new key slot) (same : (k : ℕ) → k ≢ key → serial' k ≡ serial k) where
+  pub others_new : (k : ℕ) → k ≢ key → IsSome (old k) → IsSome (new k)
+  others_new k d = subst IsSome (sym (sets.others k d))
+
+  pub others_old : (k : ℕ) → k ≢ key → IsSome (new k) → IsSome (old k)
+  others_old k d = subst IsSome (sets.others k d)
+
+  resorted : (keys : List ℕ) → ((k : ℕ) → IsIn k keys → serial' k ≡ serial k) → IsSorted (IsBelow serial) keys
+      → IsSorted (IsBelow serial') keys
+  resorted keys kept =
+      IsSorted-to (IsBelow serial) (IsBelow serial') keys (λ j k f g below. omega (arith, kept j f, kept k g, below))
+
+  -- it keeps its number
+  pub order_kept : IsSome (old key) → IsSome slot → serial' key ≡ serial key → (keys : List ℕ) → IsOrder old serial keys
+      → IsOrder new serial' keys
+  order_kept was is kept keys order =
+      record {
+        listed = λ k some. elim (cases_eq k key) [
+          | inl e ↦ order.listed k (subst (λ j. IsSome (old j)) (sym e) was)
+          | inr d ↦ order.listed k (others_old k d some)
+        ];
+        used = λ k f. elim (cases_eq k key) [
+          | inl e ↦ subst IsSome (sym (ap new e ∙ sets.changed)) is
+          | inr d ↦ others_new k d (order.used k f)
+        ];
+        rising = resorted keys
+            (λ k f. elim (cases_eq k key) [ inl e ↦ ap serial' e ∙ kept ∙ sym (ap serial e) | inr d ↦ same k d ]) order.rising;
+      }
+
+  -- it was free, and has a number above all others now
+  pub order_begun : old key ≡ None → IsSome slot → ((k : ℕ) → IsSome (old k) → serial k < serial' key) → (keys : List ℕ)
+      → IsOrder old serial keys → IsOrder new serial' (keys ++ key ∷ [])
+  order_begun free is above keys order =
+      let other : (k : ℕ) → IsIn k keys → k ≢ key =
+      λ k f e. not_none (old k) (ap old e ∙ free) (order.used k f) in
+      record {
+        listed = λ k some. elim (cases_eq k key) [
+          | inl e ↦ subst (λ j. IsIn j (keys ++ key ∷ [])) (sym e) (IsIn-push_last key keys)
+          | inr d ↦ IsIn-push_kept key k keys (order.listed k (others_old k d some))
+        ];
+        used = λ k f. elim (IsIn-push key k keys f) [
+          | inl t ↦ others_new k (other k t) (order.used k t)
+          | inr e ↦ subst IsSome (sym (ap new (sym e) ∙ sets.changed)) is
+        ];
+        rising = IsSorted-push (IsBelow serial') key keys (resorted keys (λ k f. same k (other k f)) order.rising)
+            (λ k f. omega (arith, same k (other k f), above k (order.used k f)));
+      }
+
+  -- it is free now
+  pub order_ended : slot ≡ None → (keys : List ℕ) → IsOrder old serial keys → IsOrder new serial' (without key keys)
+  order_ended gone keys order =
+      let still : (k : ℕ) → IsSome (new k) → k ≢ key = λ k some e. not_none (new k) (ap new e ∙ sets.changed ∙ gone) some in
+      record {
+        listed = λ k some. IsIn-without_kept key k keys (order.listed k (others_old k (still k some) some)) (still k some);
+        used = λ k f. let was = IsIn-without key k keys f in others_new k was.1 (order.used k was.0);
+        rising = resorted (without key keys) (λ k f. same k (IsIn-without key k keys f).1)
+            (IsSorted-without (IsBelow serial) key keys order.rising);
+      }
