@@ -1,12 +1,10 @@
 -- Equal keys.
-use Rattle.std.proofs.Common.{◌≡◌, Bool, true, false, refl, sym, ◌∙◌, ap, subst, ◌⊎◌, inl, inr}
+use Rattle.std.proofs.Common.{◌≡◌, ℕ, ◌&&◌, Bool, true, false, eqb, refl, sym, ◌∙◌, ap, subst, ◌⊎◌, inl, inr}
 use Rattle.std.specs.Cmp.{IsEquivalence}
 use Rattle.std.proofs.lemmas.Bool.{eqb-true, eq-eqb, and_parts, and_from, cases_Bool, both_ways, false_from_ne_true}
 use Rattle.ip_headers.specs.steps.Equal.{same_kind-refl, same_kind-true, same_endpoint-refl, same_endpoint-true}
+use Rattle.ip_headers.specs.declared.tuple.Endpoint.{Endpoint}
 use Rattle.ip_headers.specs.declared.tuple.Mapping.{Mapping}
-use Rattle.nat_mapping.specs.declared.keys.SourceKey.{SourceKey}
-use Rattle.nat_mapping.specs.declared.keys.InboundKey.{InboundKey}
-use Rattle.nat_mapping.specs.declared.keys.PoolKey.{PoolKey}
 use Rattle.ip_headers.specs.Same.{same_kind, same_endpoint}
 use Rattle.nat_mapping.specs.Mappings.{same_mapping}
 use Rattle.nat_mapping.specs.steps.Keys.{same_source, same_inbound, same_pool}
@@ -44,53 +42,41 @@ kind_test = record { same = same_kind-refl; exact = same_kind-true }
 pub endpoint_test : IsTest same_endpoint
 endpoint_test = record { same = same_endpoint-refl; exact = same_endpoint-true }
 
-source_exact : (a b : SourceKey) → same_source a b ≡ true → a ≡ b
-source_exact a b h =
-    let kinds = and_parts _ _ h in
-    let ends = and_parts _ _ kinds.1 in
-    let kind : a.kind ≡ b.kind = same_kind-true _ _ kinds.0 in
-    let internal : a.internal ≡ b.internal = same_endpoint-true _ _ ends.0 in
-    let address : a.address ≡ b.address = eqb-true _ _ ends.1 in
-    ap (λ x. record { kind = x; internal = a.internal; address = a.address }) kind
-    ∙ ap (λ x. record { kind = b.kind; internal = x; address = a.address }) internal
-    ∙ ap (λ x. record { kind = b.kind; internal = b.internal; address = x }) address
+number_test : IsTest eqb
+number_test = record { same = λ x. eq-eqb x x refl; exact = eqb-true }
 
-pub source_test : IsTest same_source
-source_test = record {
-  same = λ a. and_from _ _ (same_kind-refl a.kind) (and_from _ _ (endpoint_test.same a.internal) (eq-eqb a.address a.address refl));
-  exact = source_exact;
+-- a test of two parts of which a value consists
+pair_test : {A B K : Type 0} (p : A → A → Bool) (q : B → B → Bool) (f : K → A) (g : K → B) (make : A → B → K)
+    → ((x : K) → make (f x) (g x) ≡ x) → IsTest p → IsTest q → IsTest (λ x y. p (f x) (f y) && q (g x) (g y))
+pair_test p q f g make whole one other = record {
+  same = λ x. and_from _ _ (one.same (f x)) (other.same (g x));
+  exact = λ x y t.
+      let parts = and_parts (p (f x) (f y)) (q (g x) (g y)) t in
+      sym (whole x) ∙ ap (λ a. make a (g x)) (one.exact _ _ parts.0) ∙ ap (make (f y)) (other.exact _ _ parts.1) ∙ whole y;
 }
 
-inbound_exact : (a b : InboundKey) → same_inbound a b ≡ true → a ≡ b
-inbound_exact a b h =
-    let kinds = and_parts _ _ h in
-    let kind : a.kind ≡ b.kind = same_kind-true _ _ kinds.0 in
-    let external : a.external ≡ b.external = same_endpoint-true _ _ kinds.1 in
-    ap (λ x. record { kind = x; external = a.external }) kind ∙ ap (λ x. record { kind = b.kind; external = x }) external
+pub source_test : IsTest same_source
+source_test =
+    pair_test {B = Endpoint × ℕ} same_kind (λ x y. same_endpoint x.0 y.0 && eqb x.1 y.1) (λ k. k.kind) (λ k. (k.internal, k.address))
+    (λ kind rest. record { kind = kind; internal = rest.0; address = rest.1 }) (λ k. refl) kind_test
+    (pair_test {K = Endpoint × ℕ} same_endpoint eqb (λ x. x.0) (λ x. x.1) (λ a b. (a, b)) (λ x. refl) endpoint_test number_test)
 
 pub inbound_test : IsTest same_inbound
-inbound_test = record { same = λ a. and_from _ _ (same_kind-refl a.kind) (endpoint_test.same a.external); exact = inbound_exact }
-
-pool_exact : (a b : PoolKey) → same_pool a b ≡ true → a ≡ b
-pool_exact a b h =
-    let kinds = and_parts _ _ h in
-    let kind : a.kind ≡ b.kind = same_kind-true _ _ kinds.0 in
-    let address : a.address ≡ b.address = eqb-true _ _ kinds.1 in
-    ap (λ x. record { kind = x; address = a.address }) kind ∙ ap (λ x. record { kind = b.kind; address = x }) address
+inbound_test = pair_test same_kind same_endpoint (λ k. k.kind) (λ k. k.external)
+    (λ kind external. record { kind = kind; external = external }) (λ k. refl) kind_test endpoint_test
 
 pub pool_test : IsTest same_pool
-pool_test = record { same = λ a. and_from _ _ (same_kind-refl a.kind) (eq-eqb a.address a.address refl); exact = pool_exact }
+pool_test = pair_test same_kind eqb (λ k. k.kind) (λ k. k.address) (λ kind address. record { kind = kind; address = address }) (λ k. refl)
+    kind_test number_test
+
+mapping_test : IsTest same_mapping
+mapping_test =
+    pair_test {B = Endpoint × Endpoint} same_kind (λ x y. same_endpoint x.0 y.0 && same_endpoint x.1 y.1) (λ m. m.kind) (λ m. (m.internal, m.external))
+    (λ kind rest. record { kind = kind; internal = rest.0; external = rest.1 }) (λ m. refl) kind_test
+    (pair_test {K = Endpoint × Endpoint} same_endpoint same_endpoint (λ x. x.0) (λ x. x.1) (λ a b. (a, b)) (λ x. refl) endpoint_test endpoint_test)
 
 pub mapping_same : (m : Mapping) → same_mapping m m ≡ true
-mapping_same m = and_from _ _ (same_kind-refl m.kind) (and_from _ _ (endpoint_test.same m.internal) (endpoint_test.same m.external))
+mapping_same = mapping_test.same
 
 pub mapping_exact : (a b : Mapping) → same_mapping a b ≡ true → a ≡ b
-mapping_exact a b h =
-    let kinds = and_parts _ _ h in
-    let ends = and_parts _ _ kinds.1 in
-    let kind : a.kind ≡ b.kind = same_kind-true _ _ kinds.0 in
-    let internal : a.internal ≡ b.internal = same_endpoint-true _ _ ends.0 in
-    let external : a.external ≡ b.external = same_endpoint-true _ _ ends.1 in
-    ap (λ x. record { kind = x; internal = a.internal; external = a.external }) kind
-    ∙ ap (λ x. record { kind = b.kind; internal = x; external = a.external }) internal
-    ∙ ap (λ x. record { kind = b.kind; internal = b.internal; external = x }) external
+mapping_exact = mapping_test.exact

@@ -109,13 +109,7 @@ module _ (held : List Mapping) (one : IsOneToOne held) where
         from_there n r.0 (equal n k i a p)
       where
         equal : (n : Mapping) → n.kind ≡ kind → n.internal ≡ internal → n.external.address ≡ address → n.external.port ≡ port → n ≡ gotten
-        equal n k i a p =
-            let e : n.external ≡ gotten.external =
-            ap (λ x. let w : Endpoint = record { address = x; port = n.external.port } in w) a
-            ∙ ap (λ x. let w : Endpoint = record { address = address; port = x } in w) p in
-            ap (λ x. let w : Mapping = record { kind = x; internal = n.internal; external = n.external } in w) k
-            ∙ ap (λ x. let w : Mapping = record { kind = kind; internal = x; external = n.external } in w) i
-            ∙ ap (λ x. let w : Mapping = record { kind = kind; internal = internal; external = x } in w) e
+        equal n k i a p = λ t. record { kind = k t; internal = i t; external = record { address = a t; port = p t } }
 
     -- a free port, for an internal endpoint without a mapping there
     chosen : port_of kind internal address held ≡ None
@@ -172,7 +166,4 @@ module _ (held : List Mapping) (kind : Kind) (internal external : Endpoint) wher
       subst P (equal n k i e) r.0
     where
       equal : (n : Mapping) → n.kind ≡ kind → n.internal ≡ internal → n.external ≡ external → n ≡ found
-      equal n k i e =
-          ap (λ x. let w : Mapping = record { kind = x; internal = n.internal; external = n.external } in w) k
-          ∙ ap (λ x. let w : Mapping = record { kind = kind; internal = x; external = n.external } in w) i
-          ∙ ap (λ x. let w : Mapping = record { kind = kind; internal = internal; external = x } in w) e
+      equal n k i e = λ t. record { kind = k t; internal = i t; external = e t }

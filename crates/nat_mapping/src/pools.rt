@@ -1,5 +1,6 @@
 //! The pools of ports of all external addresses.
-ghost use Rattle.std.specs.Prelude.{◌≡◌, ◌≢◌, ◌+◌, ◌<◌, ◌≤◌, ℕ, All, not, true, false, ◌==◌, ◌&&◌, if◌then◌else◌, Some, None, OnOk, IsOk, is_some, cond, vec_len};
+ghost use Rattle.std.specs.Prelude.{◌≡◌, ◌≢◌, ◌+◌, ◌<◌, ◌≤◌, ℕ, All, not, true, false, ◌==◌, ◌&&◌, if◌then◌else◌};
+ghost use Rattle.std.specs.Prelude.{Some, None, OnOk, IsOk, is_some, cond, vec_len};
 ghost use Rattle.std.specs.Bool.{OnFalse, OnTrue};
 ghost use Rattle.std.specs.List.{find};
 ghost use Rattle.std.specs.HashMap.{get, spare, IsUnique};

@@ -27,6 +27,10 @@ pub(crate) fn find_inbound(
 ) -> Option<Endpoint>
     ensures { result ≡ get same_inbound inbounds.now key }
 {
+    // Without mappings no key has to be hashed.
+    if inbounds.is_empty() {
+        return None;
+    }
     inbounds.get(&key).copied()
 }
 

@@ -7,57 +7,44 @@ use Rattle.nat_mapping.specs.steps.Keys.{same_pool}
 use Rattle.nat_mapping.specs.steps.Ports.{is_taken_by}
 use Rattle.nat_mapping.proofs.Same.{pool_fun}
 use Rattle.nat_mapping.proofs.Equal.{pool_test}
-use Rattle.nat_mapping.proofs.Sets.{sets_by}
+use Rattle.nat_mapping.proofs.Sets.{Sets, sets_by}
 use Rattle.nat_mapping.proofs.Bits.{set_one, set_orders}
 use Rattle.nat_mapping.proofs.pools.give_port.Goals as goal
+use Rattle.nat_mapping.proofs.pools.give_port.Goals.{In-Some, After-give}
+
+-- its pool, before and after
+was : (c : In-Some) → get same_pool c.args.pools.now c.args.key ≡ Some c.in-Some.pool.now
+was c =
+    let Q : (PoolKey → PoolKey → Bool) → Type 0 = λ eq. Some c.in-Some.pool.now ≡ get eq c.args.pools.now c.args.key in
+    sym (subst Q pool_fun c.in-Some.ensures.value)
+
+sets : (c : After-give) → Sets (get same_pool c.args.pools.now) (get same_pool (c.get_mut.follows.lender c.give.new.self))
+    c.args.key (Some c.give.new.self)
+sets c =
+    let P : (PoolKey → PoolKey → Bool) → Type 0 = λ eq. (q : PoolKey) → get eq (c.get_mut.follows.lender c.give.new.self) q
+    ≡ cond (eq c.args.key q) (Some c.give.new.self) (get eq c.args.pools.now q) in
+    sets_by same_pool pool_test _ _ c.args.key (Some c.give.new.self)
+    (subst P pool_fun ((c.get_mut.follows.holds c.give.new.self).3 (ap is_some (sym c.in-Some.ensures.value))).0)
 
 pub give-requires : goal.give-requires
-give-requires c =
-    let Q : (PoolKey → PoolKey → Bool) → Type 0 = λ eq. Some c.in-Some.pool.now ≡ get eq c.args.pools.now c.args.key in
-    ap (λ o. is_taken_by o c.args.port) (subst Q pool_fun c.in-Some.ensures.value) ∙ c.requires
+give-requires c = ap (λ o. is_taken_by o c.args.port) (sym (was (goal.at.give-requires c).In-Some)) ∙ c.requires
 
 pub returns-clause-taken : goal.returns-clause-taken
 returns-clause-taken c q p =
-    let new = c.get_mut.follows.lender c.give.new.self in
-    let P : (PoolKey → PoolKey → Bool) → Type 0 = λ eq. (q : PoolKey)
-    → get eq new q ≡ cond (eq c.args.key q) (Some c.give.new.self) (get eq c.args.pools.now q) in
-    let Q : (PoolKey → PoolKey → Bool) → Type 0 = λ eq. Some c.in-Some.pool.now ≡ get eq c.args.pools.now c.args.key in
-    set_one (get same_pool c.args.pools.now) (get same_pool new) c.args.key c.in-Some.pool.now c.give.new.self c.args.port false
-    (sym (subst Q pool_fun c.in-Some.ensures.value))
-    (sets_by same_pool pool_test _ _ c.args.key (Some c.give.new.self)
-    (subst P pool_fun ((c.get_mut.follows.holds c.give.new.self).3 (ap is_some (sym c.in-Some.ensures.value))).0))
-    c.give.ensures.taken q p
+    set_one _ _ c.args.key c.in-Some.pool.now c.give.new.self c.args.port false (was (goal.at.returns-clause-taken c).In-Some)
+    (sets (goal.at.returns-clause-taken c).After-give) c.give.ensures.taken q p
 
 pub returns-clause-orders : goal.returns-clause-orders
 returns-clause-orders c q =
-    let new = c.get_mut.follows.lender c.give.new.self in
-    let P : (PoolKey → PoolKey → Bool) → Type 0 = λ eq. (q : PoolKey)
-    → get eq new q ≡ cond (eq c.args.key q) (Some c.give.new.self) (get eq c.args.pools.now q) in
-    let Q : (PoolKey → PoolKey → Bool) → Type 0 = λ eq. Some c.in-Some.pool.now ≡ get eq c.args.pools.now c.args.key in
-    set_orders (get same_pool c.args.pools.now) (get same_pool new) c.args.key c.in-Some.pool.now c.give.new.self
-    (sym (subst Q pool_fun c.in-Some.ensures.value))
-    (sets_by same_pool pool_test _ _ c.args.key (Some c.give.new.self)
-    (subst P pool_fun ((c.get_mut.follows.holds c.give.new.self).3 (ap is_some (sym c.in-Some.ensures.value))).0))
-    c.give.ensures.order q
+    set_orders _ _ c.args.key c.in-Some.pool.now c.give.new.self (was (goal.at.returns-clause-orders c).In-Some)
+    (sets (goal.at.returns-clause-orders c).After-give) c.give.ensures.order q
 
 pub returns-clause-unused : goal.returns-clause-unused
 returns-clause-unused c =
-    let new = c.get_mut.follows.lender c.give.new.self in
-    let P : (PoolKey → PoolKey → Bool) → Type 0 = λ eq. (q : PoolKey)
-    → get eq new q ≡ cond (eq c.args.key q) (Some c.give.new.self) (get eq c.args.pools.now q) in
-    let sets = sets_by same_pool pool_test (get same_pool c.args.pools.now) (get same_pool new) c.args.key
-    (Some c.give.new.self) (subst P pool_fun
-    ((c.get_mut.follows.holds c.give.new.self).3 (ap is_some (sym c.in-Some.ensures.value))).0) in
     let R : Option Pool → Type 0 = λ o. OnTrue c.is_unused.result ((p : ℕ) → is_taken_by o p ≡ false) in
-    subst R (sym sets.at) c.is_unused.ensures.unused
+    subst R (sym (sets (goal.at.returns-clause-unused c).After-give).at) c.is_unused.ensures.unused
 
 pub returns-clause-used : goal.returns-clause-used
 returns-clause-used c =
-    let new = c.get_mut.follows.lender c.give.new.self in
-    let P : (PoolKey → PoolKey → Bool) → Type 0 = λ eq. (q : PoolKey)
-    → get eq new q ≡ cond (eq c.args.key q) (Some c.give.new.self) (get eq c.args.pools.now q) in
-    let sets = sets_by same_pool pool_test (get same_pool c.args.pools.now) (get same_pool new) c.args.key
-    (Some c.give.new.self) (subst P pool_fun
-    ((c.get_mut.follows.holds c.give.new.self).3 (ap is_some (sym c.in-Some.ensures.value))).0) in
     let R : Option Pool → Type 0 = λ o. OnFalse c.is_unused.result ((p : ℕ) × (is_taken_by o p ≡ true)) in
-    subst R (sym sets.at) c.is_unused.ensures.used
+    subst R (sym (sets (goal.at.returns-clause-used c).After-give).at) c.is_unused.ensures.used

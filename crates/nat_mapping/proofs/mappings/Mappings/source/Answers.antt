@@ -1,30 +1,40 @@
-use Rattle.std.proofs.Common.{◌≡◌, ◌↔◌, ℕ, not, is_some, sym, subst, ◌∙◌, ap, refl, Option, Some, None, Result, Err}
+use Rattle.std.proofs.Common.{◌≡◌, ◌↔◌, ℕ, List, not, is_some, sym, subst, ◌∙◌, ap, refl, Option, Some, None, Result, Err}
 use Rattle.std.specs.Result.{IfOk}
 use Rattle.std.specs.HashMap.{get}
 use Rattle.std.specs.List.{find}
 use Rattle.std.specs.Option.{ok_or, option_map}
 use Rattle.std.proofs.lemmas.Option.{none-some}
 use Rattle.port_pool.specs.Candidates.{candidates}
+use Rattle.ip_headers.specs.declared.tuple.Mapping.{Mapping}
 use Rattle.nat_mapping.specs.declared.mappings.MapError.{MapError}
 use Rattle.nat_mapping.specs.declared.mappings.MapError.TheVariants.{NoPort}
 use Rattle.nat_mapping.specs.declared.keys.PoolKey.{PoolKey}
 use Rattle.nat_mapping.specs.declared.keys.MappedPort.{MappedPort}
-use Rattle.nat_mapping.specs.Mappings.{or_else, order_of, source_of}
+use Rattle.nat_mapping.specs.Mappings.{HoldsSame, or_else, order_of, source_of}
 use Rattle.nat_mapping.specs.steps.Keys.{inbound_at, same_inbound}
 use Rattle.nat_mapping.proofs.Answers.{source_is}
 use Rattle.nat_mapping.proofs.Entries.{counts_same}
 use Rattle.nat_mapping.proofs.mappings.Mappings.source.Goals as goal
+use Rattle.nat_mapping.proofs.mappings.Mappings.source.Goals.{After-find_source}
+
+-- the port by the tables: the one found, else the first free candidate
+abbrev answer : After-find_source → Option MappedPort → Option ℕ
+answer c found =
+    let pool : PoolKey = record { kind = c.args.kind; address = c.args.address } in
+    or_else (option_map (λ h. h.port) found) (find (λ p. not (is_some (get same_inbound c.self.inside.inbounds (inbound_at pool p))))
+    (candidates (order_of c.args.kind) c.args.internal.port c.args.range))
+
+wanted : (c : After-find_source) (held : List Mapping) → HoldsSame held c.args.self.now.held → (found : Option MappedPort)
+    → c.find_source.result ≡ found → source_of c.args.kind c.args.internal c.args.address c.args.range held ≡ answer c found
+wanted c held same found is =
+    source_is _ _ _ c.self.invariant.sound held
+    (counts_same c.self.inside.sources c.self.invariant.unique held c.args.self.now.held
+    (ap (λ v. v.held) c.self.view_is) same) c.args.kind c.args.internal c.args.address c.args.range
+    ∙ ap (answer c) (sym c.find_source.ensures ∙ is)
 
 pub returns-in-Some-clause-ok : goal.returns-in-Some-clause-ok
 returns-in-Some-clause-ok c held same =
-    let pool : PoolKey = record { kind = c.args.kind; address = c.args.address } in
-    let chosen : Option ℕ = find (λ p. not (is_some (get same_inbound c.self.inside.inbounds (inbound_at pool p))))
-    (candidates (order_of c.args.kind) c.args.internal.port c.args.range) in
-    let by = source_is _ _ _ c.self.invariant.sound held
-    (counts_same c.self.inside.sources c.self.invariant.unique held c.args.self.now.held
-    (ap (λ v. v.held) c.self.view_is) same) c.args.kind c.args.internal c.args.address c.args.range in
-    let step = λ (o : Option MappedPort). or_else (option_map (λ h. h.port) o) chosen in
-    by ∙ ap step (sym c.find_source.ensures ∙ c.in-Some.is)
+    wanted (goal.at.returns-in-Some-clause-ok c).After-find_source held same (Some c.in-Some.mapped) c.in-Some.is
 
 pub returns-in-Some-clause-no_port : goal.returns-in-Some-clause-no_port
 returns-in-Some-clause-no_port c held same =
@@ -40,28 +50,14 @@ refused (Some port) want is = (λ e. absurd (cc), λ none. absurd (none-some por
 
 pub returns-in-None-clause-ok : goal.returns-in-None-clause-ok
 returns-in-None-clause-ok c held same =
-    let pool : PoolKey = record { kind = c.args.kind; address = c.args.address } in
-    let chosen : Option ℕ = find (λ p. not (is_some (get same_inbound c.self.inside.inbounds (inbound_at pool p))))
-    (candidates (order_of c.args.kind) c.args.internal.port c.args.range) in
-    let by = source_is _ _ _ c.self.invariant.sound held
-    (counts_same c.self.inside.sources c.self.invariant.unique held c.args.self.now.held
-    (ap (λ v. v.held) c.self.view_is) same) c.args.kind c.args.internal c.args.address c.args.range in
-    let step = λ (o : Option MappedPort). or_else (option_map (λ h. h.port) o) chosen in
     let want : Option ℕ = source_of c.args.kind c.args.internal c.args.address c.args.range held in
     let P : Result ℕ MapError → Type 0 = λ r. IfOk r (λ port. want ≡ Some port) in
     subst P (sym c.ok_or.ensures.value) (answered c.first_free_port.result want
-    (by ∙ ap step (sym c.find_source.ensures ∙ c.in-None.is) ∙ sym c.first_free_port.ensures))
+    (wanted (goal.at.returns-in-None-clause-ok c).After-find_source held same None c.in-None.is ∙ sym c.first_free_port.ensures))
 
 pub returns-in-None-clause-no_port : goal.returns-in-None-clause-no_port
 returns-in-None-clause-no_port c held same =
-    let pool : PoolKey = record { kind = c.args.kind; address = c.args.address } in
-    let chosen : Option ℕ = find (λ p. not (is_some (get same_inbound c.self.inside.inbounds (inbound_at pool p))))
-    (candidates (order_of c.args.kind) c.args.internal.port c.args.range) in
-    let by = source_is _ _ _ c.self.invariant.sound held
-    (counts_same c.self.inside.sources c.self.invariant.unique held c.args.self.now.held
-    (ap (λ v. v.held) c.self.view_is) same) c.args.kind c.args.internal c.args.address c.args.range in
-    let step = λ (o : Option MappedPort). or_else (option_map (λ h. h.port) o) chosen in
     let want : Option ℕ = source_of c.args.kind c.args.internal c.args.address c.args.range held in
     let P : Result ℕ MapError → Type 0 = λ r. (r ≡ Err NoPort) ↔ (want ≡ None) in
     subst P (sym c.ok_or.ensures.value) (refused c.first_free_port.result want
-    (by ∙ ap step (sym c.find_source.ensures ∙ c.in-None.is) ∙ sym c.first_free_port.ensures))
+    (wanted (goal.at.returns-in-None-clause-no_port c).After-find_source held same None c.in-None.is ∙ sym c.first_free_port.ensures))
