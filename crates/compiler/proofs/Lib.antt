@@ -1,4 +1,6 @@
 pub mod AddLaws
+pub mod ReachedLaws
+pub mod DroppingLaws
 pub mod TableLaws
 pub mod StartLaws
 pub mod OrderLaws

@@ -1,5 +1,6 @@
 -- Base chains, in the order of the text.
-use Rattle.std.proofs.Common.{◌≡◌, ℕ, zero, suc, ◌+◌, ◌<◌, ◌≤◌, add-one, Bool, false, List, [], ◌∷◌, ◌++◌, length, get_or, drop, map, Some, refl, sym, ap, ◌∙◌, subst, ap₂, arith, append_assoc, ℤ, not, ◌&&◌, cond, Result, Ok, Err, Vec, Global, Bor, IfOk}
+use Rattle.std.proofs.Common.{◌≡◌, ℕ, zero, suc, ◌+◌, ◌<◌, ◌≤◌, add-one, Bool, false, List, [], ◌∷◌, ◌++◌, length, get_or, drop, map, Some, refl, sym}
+use Rattle.std.proofs.Common.{ap, ◌∙◌, subst, ap₂, arith, append_assoc, ℤ, not, ◌&&◌, cond, Result, Ok, Err, Vec, Global, Bor, IfOk}
 use Rattle.std.specs.Prelude.{slice_get, slice_index, filter, All, int_lt}
 use Rattle.std.specs.Option.{option_map}
 use Rattle.std.specs.List.{list_any}

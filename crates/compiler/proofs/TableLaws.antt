@@ -1,8 +1,10 @@
 -- The chains of a table, one after another, and the tables of a ruleset.
-use Rattle.std.proofs.Common.{◌≡◌, ℕ, ◌<◌, ◌≤◌, Bool, false, List, [], ◌∷◌, ◌++◌, length, map, Some, refl, sym, ap, ◌∙◌, subst, ⊎_elim, arith, length-append, append_assoc}
-use Rattle.std.specs.Prelude.{slice_get}
+use Rattle.std.proofs.Common.{◌≡◌, ℕ, ◌+◌, ◌-◌, ◌^◌, ◌<◌, ◌≤◌, Bool, false, List, [], ◌∷◌, ◌++◌, length, Some, refl, sym, ap, ◌∙◌, subst, ⊎_elim}
+use Rattle.std.proofs.Common.{arith, length-append, append_assoc}
+use Rattle.std.specs.Prelude.{slice_get, min, sum_by}
 use Rattle.std.specs.List.{list_any, filter_map}
 use Rattle.std.proofs.lemmas.List.{append-nil}
+use Rattle.std.proofs.lemmas.List.Sums.{sum_by-cons, sum_by-append}
 use Rattle.std.proofs.lemmas.Bool.{cases_lt}
 use Rattle.std.proofs.lemmas.Option.{slice_get_within}
 use Rattle.list_laws.specs.Options.{some_of_map}
@@ -12,10 +14,10 @@ use Rattle.nft_tree.specs.TableItems.{chain_in, chains_of}
 use Rattle.box_file.specs.Box.{PlantTree}
 use Rattle.rule_types.specs.Types.{rule_mismatches, item_mismatches, table_mismatches}
 use Rattle.rule_values.specs.Faults.{if_some, item_out_of_range, priority_out_of_range}
-use Rattle.rule_meaning.specs.Runs.{Program, table_program}
+use Rattle.rule_meaning.specs.Runs.{Program}
 use Rattle.filter_vm.specs.declared.code.TableCode.{TableCode}
 use Rattle.lowering.specs.Lowered.{Extends}
-use Rattle.compiler.specs.CodeLayout.{RulesAt, IsTableCode, AreTableCodes}
+use Rattle.compiler.specs.CodeLayout.{RulesAt, IsTableCode, AreTableCodes, reached, rules_in, reached_program, chain_steps, dropped_rules}
 use Rattle.compiler.specs.steps.Adding.{ExtendsCode, Adds, rule_out_of_range}
 use Rattle.compiler.proofs.AddLaws.{keeps_push, slice_get-push, extends_itself, extends_code_itself, extends_code_on, none_first, none_later}
 
@@ -55,10 +57,6 @@ slice_get-seam : {A : Type 0} (xs : List A) (y : A) (ys : List A) → slice_get 
 slice_get-seam [] y ys = refl
 slice_get-seam (x ∷ xs) y ys = slice_get-seam xs y ys
 
--- the rules of a chain, each as its statements
-abbrev pub rules_in : ChainTree → List (List Statement)
-rules_in c = map (λ r. r.statements) c.rules
-
 -- loop invariant: these chains of the table are left, and those before are in the code
 pub record ChainsSoFar (p : Program Statement) (all rest : List ChainTree) (now : TableCode) : Type 0 where
   pub front : List ChainTree
@@ -66,25 +64,35 @@ pub record ChainsSoFar (p : Program Statement) (all rest : List ChainTree) (now 
   pub count : length now.chain_offsets.items ≡ length front
   pub placed : (c : ℕ) (chain : ChainTree) → c < length front → slice_get all c ≡ Some chain
       → (at_step : ℕ) × (slice_get now.chain_offsets.items c ≡ Some at_step)
-      × ((later : TableCode) → ExtendsCode now later → RulesAt p later at_step c 1 (rules_in chain))
+      × ((later : TableCode) → ExtendsCode now later → RulesAt p later at_step c 1 (reached (rules_in chain)))
+  pub steps : length now.steps.items ≡ sum_by chain_steps front
+  pub dropped : now.dropped ≡ min (sum_by dropped_rules front) (2 ^ 64 - 1)
 
 pub chains_none : (p : Program Statement) (all rest : List ChainTree) (t : TableCode) → rest ≡ all
-    → t.chain_offsets.items ≡ [] → ChainsSoFar p all rest t
-chains_none p all rest t is none = record {
+    → t.chain_offsets.items ≡ [] → t.steps.items ≡ [] → t.dropped ≡ 0 → ChainsSoFar p all rest t
+chains_none p all rest t is none no_steps no_dropped = record {
   front = [];
   split = sym is;
   count = ap length none;
   placed =
       λ c chain lt has. absurd (omega arith);
+  steps = ap length no_steps;
+  dropped = no_dropped ∙ omega arith;
 }
+
+counted : (s d m : ℕ) → min (min s m + d) m ≡ min (s + d) m
+counted s d m = omega arith
 
 pub chains_more : (p : Program Statement) (all rest others : List ChainTree) (chain : ChainTree)
     (now with_place new : TableCode) → rest ≡ chain ∷ others
     → with_place.chain_offsets.items ≡ now.chain_offsets.items ++ length now.steps.items ∷ []
     → with_place.steps ≡ now.steps → with_place.lookups ≡ now.lookups
-    → Adds (λ later at_step. RulesAt p later at_step (length now.chain_offsets.items) 1 (rules_in chain)) with_place new
+    → Adds (λ later at_step. RulesAt p later at_step (length now.chain_offsets.items) 1 (reached (rules_in chain)))
+    with_place new
+    → length new.steps.items ≡ length now.steps.items + chain_steps chain
+    → new.dropped ≡ min (now.dropped + dropped_rules chain) (2 ^ 64 - 1)
     → ChainsSoFar p all rest now → ChainsSoFar p all others new
-chains_more p all rest others chain now with_place new is chain_offsets steps lookups adds so = record {
+chains_more p all rest others chain now with_place new is chain_offsets steps lookups adds long dropped so = record {
   front = so.front ++ chain ∷ [];
   split = split;
   count = ap (λ ps. length ps.items) adds.same_places ∙ ap length chain_offsets
@@ -95,8 +103,16 @@ chains_more p all rest others chain now with_place new is chain_offsets steps lo
         length-append so.front (chain ∷ []),
       );
   placed = λ c x lt has. ⊎_elim (before c x has) (here c x lt has) (cases_lt c (length so.front));
+  steps = long ∙ ap (λ n. n + chain_steps chain) so.steps ∙ sym (sum_by-push chain_steps so.front chain);
+  dropped = dropped ∙ ap (λ n. min (n + dropped_rules chain) (2 ^ 64 - 1)) so.dropped
+      ∙ counted (sum_by dropped_rules so.front) (dropped_rules chain) (2 ^ 64 - 1)
+      ∙ ap (λ n. min n (2 ^ 64 - 1)) (sym (sum_by-push dropped_rules so.front chain));
 }
   where
+    sum_by-push : (weigh : ChainTree → ℕ) (xs : List ChainTree) (x : ChainTree)
+        → sum_by weigh (xs ++ x ∷ []) ≡ sum_by weigh xs + weigh x
+    sum_by-push weigh xs x = omega (arith, sum_by-append weigh xs (x ∷ []), sum_by-cons weigh x [])
+
     split : all ≡ (so.front ++ chain ∷ []) ++ others
     split = so.split ∙ ap (λ xs. so.front ++ xs) is ∙ sym (append_assoc so.front (chain ∷ []) others)
 
@@ -113,14 +129,14 @@ chains_more p all rest others chain now with_place new is chain_offsets steps lo
 
     before : (c : ℕ) (x : ChainTree) → slice_get all c ≡ Some x → c < length so.front → (at_step : ℕ)
         × (slice_get new.chain_offsets.items c ≡ Some at_step)
-        × ((later : TableCode) → ExtendsCode new later → RulesAt p later at_step c 1 (rules_in x))
+        × ((later : TableCode) → ExtendsCode new later → RulesAt p later at_step c 1 (reached (rules_in x)))
     before c x has lt =
         let old = so.placed c x lt has in
         (old.0, grown.chain_offsets c old.0 old.1, λ later g. old.2 later (extends_code_on now new later grown g))
 
     here : (c : ℕ) (x : ChainTree) → c < length (so.front ++ chain ∷ []) → slice_get all c ≡ Some x
         → length so.front ≤ c → (at_step : ℕ) × (slice_get new.chain_offsets.items c ≡ Some at_step)
-        × ((later : TableCode) → ExtendsCode new later → RulesAt p later at_step c 1 (rules_in x))
+        × ((later : TableCode) → ExtendsCode new later → RulesAt p later at_step c 1 (reached (rules_in x)))
     here c x lt has ge =
         let at : c ≡ length so.front = omega (arith, length-append so.front (chain ∷ [])) in
         let at_place : c ≡ length now.chain_offsets.items = at ∙ sym so.count in
@@ -135,28 +151,37 @@ chains_more p all rest others chain now with_place new is chain_offsets steps lo
           length now.steps.items,
           subst (λ m. slice_get new.chain_offsets.items m ≡ Some (length now.steps.items)) (sym at_place)
               (adds.extends_code.chain_offsets (length now.chain_offsets.items) (length now.steps.items) got),
-          λ later g. subst (λ y. RulesAt p later (length now.steps.items) c 1 (rules_in y)) is_x
-              (subst (λ m. RulesAt p later (length now.steps.items) m 1 (rules_in chain)) (sym at_place)
-              (subst (λ a. RulesAt p later a (length now.chain_offsets.items) 1 (rules_in chain)) n
+          λ later g. subst (λ y. RulesAt p later (length now.steps.items) c 1 (reached (rules_in y))) is_x
+              (subst (λ m. RulesAt p later (length now.steps.items) m 1 (reached (rules_in chain))) (sym at_place)
+              (subst (λ a. RulesAt p later a (length now.chain_offsets.items) 1 (reached (rules_in chain))) n
               (adds.holds later g))),
         )
 
 pub chains_all : (plant : PlantTree) (number : ℕ) (t : TableTree) (rest : List ChainTree) (now : TableCode)
-    → rest ≡ [] → ChainsSoFar (table_program plant number t) (chains_of t) rest now
+    → rest ≡ [] → ChainsSoFar (reached_program plant number t) (chains_of t) rest now
     → IsTableCode plant number t now
 chains_all plant number t rest now none so = record {
-  chains = λ c rules has.
-      let found = some_of_map rules_in (slice_get (chains_of t) c) rules has in
-      let ruleset_code : chains_of t ≡ so.front = so.split ∙ ap (λ xs. so.front ++ xs) none ∙ append-nil so.front in
-      let lt : c < length so.front = subst (λ xs. c < length xs) ruleset_code
-      (slice_get_within (chains_of t) c found.0 found.1) in
-      let holds = so.placed c found.0 lt found.1 in (
-        holds.0,
-        holds.1,
-        subst (λ rs. RulesAt (table_program plant number t) now holds.0 c 1 rs) found.2
-            (holds.2 now (extends_code_itself now)),
-      );
+  laid_out = record { chains = placed };
+  steps = so.steps ∙ ap (sum_by chain_steps) (sym whole);
+  dropped = so.dropped ∙ ap (λ xs. min (sum_by dropped_rules xs) (2 ^ 64 - 1)) (sym whole);
 }
+  where
+    whole : chains_of t ≡ so.front
+    whole = so.split ∙ ap (λ xs. so.front ++ xs) none ∙ append-nil so.front
+
+    placed : (c : ℕ) (rules : List (List Statement)) → (reached_program plant number t).rules_at c ≡ Some rules
+        → (at_step : ℕ) × (slice_get now.chain_offsets.items c ≡ Some at_step)
+        × RulesAt (reached_program plant number t) now at_step c 1 rules
+    placed c rules has =
+        let found = some_of_map (λ x. reached (rules_in x)) (slice_get (chains_of t) c) rules has in
+        let lt : c < length so.front = subst (λ xs. c < length xs) whole
+        (slice_get_within (chains_of t) c found.0 found.1) in
+        let holds = so.placed c found.0 lt found.1 in (
+          holds.0,
+          holds.1,
+          subst (λ rs. RulesAt (reached_program plant number t) now holds.0 c 1 rs) found.2
+              (holds.2 now (extends_code_itself now)),
+        )
 
 -- ---- the tables of a ruleset
 

@@ -1,3 +1,4 @@
 pub mod Adding
 pub mod Bases
 pub mod RulesetCode
+pub mod Dropping

@@ -3,6 +3,7 @@
 
 mod compiled_chain;
 mod compiling;
+mod reached;
 mod rules;
 mod starts;
 mod tables;

@@ -6,7 +6,7 @@ ghost use Rattle.rule_types.specs.Types.{table_mismatches};
 ghost use Rattle.rule_values.specs.Faults.{has_wrong_value, item_out_of_range};
 ghost use Rattle.compiler.specs.CodeLayout.{AreTableCodes, IsTableCode};
 
-use crate::rules::{add_rules, to_u32};
+use crate::rules::{add_chain, to_u32};
 use box_file::Plant;
 use filter_vm::{IndexedTable, StepList, TableCode};
 use lowering::declared;
@@ -29,6 +29,7 @@ fn table_code(
         steps: StepList::new(alloc),
         chain_offsets: Vec::new(alloc),
         lookups: declared(alloc, plant, names)?,
+        dropped: 0,
     };
     let mut rest = names.chains();
     while let [chain, others @ ..] = rest {
@@ -37,7 +38,7 @@ fn table_code(
             chain: to_u32(code.chain_offsets.len())?,
         };
         code.chain_offsets.push(code.steps.list().len())?;
-        add_rules(alloc, plant, names, number, &chain.rules, &mut code)?;
+        add_chain(alloc, plant, names, number, chain, &mut code)?;
         rest = others;
     }
     Ok(code)

@@ -1,9 +1,8 @@
-//! Rulesets as code: what a base chain costs, the numbers of elements and names, and how many rules
-//! are merged and dropped.
+//! Rulesets as code: what a base chain costs, and the numbers of elements and names.
 use crate::support::{check_row, repeated};
 use box_file::Plant;
 use compiler::compile;
-use filter_vm::{Action, Code, CodeSize, Step};
+use filter_vm::{Action, Code, Step};
 use nft_parser::parse;
 use nft_tree::{Hook, Operator, Selector};
 use rule_check::check;
@@ -22,7 +21,6 @@ struct CodeFacts {
     forward_cost: Option<u32>,
     element: Option<u128>,
     names: Option<(u128, u128)>,
-    size: CodeSize,
 }
 
 /// What is asked of the ruleset's code on this box; `None` if it is refused.
@@ -35,7 +33,6 @@ fn facts_of(alloc: Global, rules: &[u8]) -> Option<CodeFacts> {
         forward_cost: forward_cost(&code),
         element: only_element(&code),
         names: names_compared(&code),
-        size: code.size(),
     })
 }
 
@@ -125,37 +122,5 @@ fn interface_names_are_numbers(rt: HostRuntime) {
     for (row, &(rules, numbers)) in NAMES.iter().enumerate() {
         let facts = facts_of(rt.alloc(), rules).expect(&rt, "code");
         check_row(&rt, row, facts.names == Some(numbers));
-    }
-}
-
-/// A ruleset, and how many of its rules are merged and dropped.
-static SIZES: [(&[u8], usize, usize); 3] = [
-    (
-        b"table ip t { chain fwd { type filter hook forward priority 0;
-ip saddr 10.0.0.0/8 accept; ip saddr 10.1.0.0/16 drop; ip saddr 11.0.0.0/8 drop } }",
-        2,
-        1,
-    ),
-    (
-        b"table ip t { chain fwd { type filter hook forward priority 0;
-ip saddr 10.0.0.1 meta mark set 1; meta mark 1 drop } }",
-        0,
-        0,
-    ),
-    (
-        b"table ip t { chain fwd { type filter hook forward priority 0;
-accept; counter drop } }",
-        0,
-        1,
-    ),
-];
-
-/// The rules of each row run in `golden_runs` too.
-#[test]
-fn rules_are_merged_and_dropped(rt: HostRuntime) {
-    for (row, &(rules, merged, dropped)) in SIZES.iter().enumerate() {
-        let facts = facts_of(rt.alloc(), rules).expect(&rt, "code");
-        let size = facts.size;
-        check_row(&rt, row, size.merged == merged && size.dropped == dropped);
     }
 }

@@ -17,6 +17,8 @@ mod lexing;
 #[cfg(test)]
 mod mappings;
 #[cfg(test)]
+mod merged_rules;
+#[cfg(test)]
 mod ports;
 #[cfg(test)]
 mod productions;
@@ -28,5 +30,3 @@ mod rulesets;
 mod seek_tables;
 #[cfg(test)]
 mod support;
-#[cfg(test)]
-mod trees;

@@ -48,7 +48,7 @@ impl HookRuns {
     pub fn new(alloc: Global, checked: Checked) -> Result<(Self, Events), AllocError>
         ensures rules { IfOk result (λ made. made.0.rules ≡ checked.rules) }
         ensures plant { IfOk result (λ made. made.0.plant ≡ checked.plant) }
-        // One step for each statement.
+        // One step for each statement of the rules that packets get to.
         ensures steps { IfOk result (λ made.
             AreTableCodes checked.plant checked.rules made.0.code.tables.items) }
         ensures starts { IfOk result (λ made. (stage : HookStage)

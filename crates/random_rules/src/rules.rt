@@ -270,6 +270,7 @@ fn random_table(alloc: Global, random: &mut RandomNumbers) -> Result<TableCode, 
         steps,
         chain_offsets,
         lookups,
+        dropped: 0,
     })
 }
 

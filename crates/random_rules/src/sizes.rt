@@ -52,10 +52,9 @@ type Row = (
     &'static [ExpectedVerdict],
 );
 
-/// Nested matches with verdicts; a rule that writes the mark that the next one matches; a rule
-/// after one that always gives a verdict; a counter alone and a jump don't end a chain; another
+/// Nested matches with verdicts; a rule that writes the mark that the next one matches; another
 /// match, a counter and a jump between merged rules; an empty set.
-static ROWS: [Row; 6] = [
+static ROWS: [Row; 4] = [
     (
         &[
             &[ALL_OF_TEN, ACCEPT],
@@ -76,25 +75,6 @@ static ROWS: [Row; 6] = [
         ],
         [5, 0, 0, 0],
         &[(0x0a00_0001, None, true), (0x0a01_0001, None, false)],
-    ),
-    (
-        &[&[ACCEPT], &[Statement::Counter, DROP]],
-        [4, 0, 0, 1],
-        &[(7, Some(0), false)],
-    ),
-    (
-        &[
-            &[Statement::Counter],
-            &[JUMP],
-            &[
-                Statement::Counter,
-                Statement::GiveVerdict(RuleVerdict::Return),
-            ],
-            &[Statement::Ten(0), DROP],
-            &[Statement::Ten(1), DROP],
-        ],
-        [9, 0, 0, 2],
-        &[],
     ),
     (
         &[
@@ -200,6 +180,7 @@ fn table(alloc: Global, rules: &[&[Statement]]) -> Result<IndexedTable, AllocErr
         steps: steps(alloc, rules)?,
         chain_offsets: vec![in alloc; 0]?,
         lookups,
+        dropped: 0,
     };
     IndexedTable::new(alloc, code)
 }
@@ -340,6 +321,7 @@ fn many_selectors(alloc: Global) -> Result<IndexedTable, AllocError> {
                 verdicts: Vec::new(alloc),
                 numbers: Vec::new(alloc),
             },
+            dropped: 0,
         },
     )
 }

@@ -7,7 +7,9 @@ use Rattle.nft_tree.specs.Tree.{value_tree}
 use Rattle.nft_values.specs.Values.{compared_type_width}
 use Rattle.rule_meaning.specs.Sets.{parts}
 use Rattle.rule_meaning.specs.Selectors.{join}
-use Rattle.lowering.proofs.BitWidths.{FitsIn128Bits, trees, width_fits-start, width_fits-at, width_fits-first, width_fits-number, width_fits-rest, join-at, join-end, number-is, small-next, unlike}
+use Rattle.lowering.proofs.BitWidths.{FitsIn128Bits, trees, width_fits-start, width_fits-at, width_fits-first}
+use Rattle.lowering.proofs.BitWidths.{width_fits-number, width_fits-rest, join-at, join-end, number-is, small-next}
+use Rattle.lowering.proofs.BitWidths.{unlike}
 use Rattle.lowering.proofs.keys.concatenated.Goals as goal
 
 pub returns-then-kinds-values : goal.returns-then-kinds-values

@@ -1,0 +1,229 @@
+-- Rules that never match can be left out: a chain without them has the results that it has with them, and is
+-- ranked as before.
+use Rattle.std.proofs.Common.{◌≡◌, ℕ, ◌+◌, ◌≤◌, List, [], ◌∷◌, Option, Some, None, inl, inr, refl, sym, ap, ◌∙◌, subst}
+use Rattle.std.proofs.Common.{arith, ⊎_elim}
+use Rattle.std.specs.Prelude.{Contains, sum_by}
+use Rattle.std.proofs.lemmas.List.Sums.{sum_by-cons}
+use Rattle.list_laws.specs.Elements.{Contains-cases, Contains-tail}
+use Rattle.list_laws.specs.Lists.{Contains-head}
+use Rattle.std.proofs.lemmas.Option.{none-some, same_Some}
+use Rattle.rule_meaning.specs.declared.facts.Facts.{Facts}
+use Rattle.rule_meaning.specs.declared.event.Event.{Event}
+use Rattle.rule_meaning.specs.Statements.{StatementEffect, pass, fail, note, give}
+use Rattle.rule_meaning.specs.Runs.{Program, Remainder, at_rule, in_rule, RunResult, at_end, statement_position, Runs, chain_ends, next_rule}
+use Rattle.rule_meaning.specs.Runs.{rule_ends, passes, fails, notes, accepts, drops, translates, continues, returns, jumps, jumps_away, goes}
+use Rattle.compiler.specs.steps.Dropping.{goes_on, any_facts, LeadsTo, behind, NeverMatches, LeavesOut, LeavesOutOf}
+use Rattle.rule_laws.specs.Ranking.{IsStatementOf, IsRanking}
+
+-- a statement that fails has no other effect
+abbrev IsOther : StatementEffect → Type 0
+IsOther fail = ⊥
+IsOther pass = Unit {0}
+IsOther (note e g) = Unit {0}
+IsOther (give v) = Unit {0}
+
+fails-only : {w v : StatementEffect} → w ≡ fail → w ≡ v → IsOther v → ⊥
+fails-only failing is other = subst IsOther (sym is ∙ failing) other
+
+module _ {S : Type 0} (p : Program S) (left_at : ℕ → Option (List (List S))) where
+  -- the program that is left
+  abbrev pub left_program : Program S
+  left_program = record { table = p.table; rules_at = left_at; effect_of = p.effect_of }
+
+  -- the first of these statements fails, if there is one
+  abbrev FailsFirst : ℕ → ℕ → ℕ → List S → Facts → Type 0
+  FailsFirst c n k [] f = Unit {0}
+  FailsFirst c n k (s ∷ ss) f = p.effect_of (statement_position p c n k) s f ≡ fail
+
+  fails-first : (Reach : Facts → Type 0) (c n : ℕ) (r : List S) (f : Facts) → NeverMatches p Reach c n r
+      → Reach f → FailsFirst c n 1 r f
+  fails-first Reach c n [] f never here = tt
+  fails-first Reach c n (s ∷ ss) f never here = never f here
+
+  -- where a statement leads by its effect
+  leads : {c n k : ℕ} {s : S} {f : Facts} {w : StatementEffect} (ss : List S) (g : Facts)
+      → p.effect_of (statement_position p c n k) s f ≡ w → goes_on w (LeadsTo p c n (k + 1) ss) f g
+      → LeadsTo p c n k (s ∷ ss) f g
+  leads {c} {n} {k} {f = f} ss g is to = subst (λ w. goes_on w (LeadsTo p c n (k + 1) ss) f g) (sym is) to
+
+  -- ---- what is left of a chain
+
+  record Left (c : ℕ) (rules : List (List S)) : Type 0 where
+    rest : List (List S)
+    there : left_at c ≡ Some rest
+    is : LeavesOut p any_facts c 1 rules rest
+
+  left-of : (c : ℕ) (before after : Option (List (List S))) (rules : List (List S)) → LeavesOutOf p c before after
+      → left_at c ≡ after → before ≡ Some rules → Left c rules
+  left-of c None None rules h there is = absurd (none-some rules is)
+  left-of c None (Some ks) rules h there is = absurd h
+  left-of c (Some rs) None rules h there is = absurd h
+  left-of c (Some rs) (Some ks) rules h there is = record {
+    rest = ks;
+    there = there;
+    is = subst (λ xs. LeavesOut p any_facts c 1 xs ks) (same_Some rs rules is) h;
+  }
+
+  -- a chain of which something is left
+  record Whole (c : ℕ) (rest : List (List S)) : Type 0 where
+    rules : List (List S)
+    there : p.rules_at c ≡ Some rules
+    is : LeavesOut p any_facts c 1 rules rest
+
+  whole-of : (c : ℕ) (before after : Option (List (List S))) (rest : List (List S)) → LeavesOutOf p c before after
+      → p.rules_at c ≡ before → after ≡ Some rest → Whole c rest
+  whole-of c None None rest h there is = absurd (none-some rest is)
+  whole-of c None (Some ks) rest h there is = absurd h
+  whole-of c (Some rs) None rest h there is = absurd h
+  whole-of c (Some rs) (Some ks) rest h there is = record {
+    rules = rs;
+    there = there;
+    is = subst (λ xs. LeavesOut p any_facts c 1 rs xs) (same_Some ks rest is) h;
+  }
+
+  module _ (leaves : (c : ℕ) → LeavesOutOf p c (p.rules_at c) (left_at c)) where
+    left-chain : (c : ℕ) (rules : List (List S)) → p.rules_at c ≡ Some rules → Left c rules
+    left-chain c rules is = left-of c (p.rules_at c) (left_at c) rules (leaves c) refl is
+
+    whole-chain : (c : ℕ) (rest : List (List S)) → left_at c ≡ Some rest → Whole c rest
+    whole-chain c rest is = whole-of c (p.rules_at c) (left_at c) rest (leaves c) refl is
+
+    -- ---- results
+
+    -- what is left of a rule, and of the rules behind it, has the result
+    abbrev StaysIn : ℕ → ℕ → ℕ → List S → List (List S) → Facts → List Event → RunResult → Type 1
+    StaysIn c n k ss rs f es o = (Reach : Facts → Type 0) (ks : List (List S))
+        → ((g : Facts) → LeadsTo p c n k ss f g → Reach g) → LeavesOut p Reach c (n + 1) rs ks
+        → Runs left_program c n (in_rule k ss ks) f es o
+
+    -- so it has where the rule is left out
+    abbrev StaysWithout : ℕ → ℕ → ℕ → List S → List (List S) → Facts → List Event → RunResult → Type 1
+    StaysWithout c n k ss rs f es o = (Reach : Facts → Type 0) (ks : List (List S)) → FailsFirst c n k ss f
+        → Reach f → LeavesOut p Reach c (n + 1) rs ks → Runs left_program c n (in_rule k [] ks) f es o
+
+    abbrev Stays : ℕ → ℕ → Remainder S → Facts → List Event → RunResult → Type 1
+    Stays c n (at_rule rs) f es o = (Reach : Facts → Type 0) (ks : List (List S)) → Reach f
+        → LeavesOut p Reach c n rs ks → Runs left_program c n (at_rule ks) f es o
+    Stays c n (in_rule k ss rs) f es o = StaysIn c n k ss rs f es o × StaysWithout c n k ss rs f es o
+
+    -- nothing is left out of a statement that doesn't fail
+    only-in : {c n k : ℕ} {s : S} {ss : List S} (rs : List (List S)) {f : Facts} {es : List Event}
+        {o : RunResult} {w : StatementEffect} → p.effect_of (statement_position p c n k) s f ≡ w → IsOther w
+        → StaysIn c n k (s ∷ ss) rs f es o → Stays c n (in_rule k (s ∷ ss) rs) f es o
+    only-in rs is other stays = (stays, λ Reach ks failing. absurd (fails-only failing is other))
+
+    by-rule : {c n : ℕ} (r : List S) (rs : List (List S)) (f : Facts) {es : List Event} {o : RunResult}
+        → Stays c n (in_rule 1 r rs) f es o → (Reach : Facts → Type 0) (ks : List (List S)) → Reach f
+        → LeavesOut p Reach c n (r ∷ rs) ks → Runs left_program c n (at_rule ks) f es o
+    by-rule r rs f stays Reach [] here out = absurd (out f here)
+    by-rule {c} {n} r rs f {es} {o} stays Reach (left ∷ ks) here (inl out) =
+        next_rule (subst (λ ss. Runs left_program c n (in_rule 1 ss ks) f es o) (sym out.0)
+        (stays.0 (behind p Reach c n r) ks (λ g to. (f, here, to)) out.1))
+    by-rule {c} {n} r rs f {es} {o} stays Reach (left ∷ ks) here (inr out) =
+        next_rule (subst (λ ss. Runs left_program c n (in_rule 1 ss ks) f es o) (sym out.0)
+        (stays.1 Reach ks (fails-first Reach c n r f out.1 here) here out.2))
+
+    at-end : {c n : ℕ} (Reach : Facts → Type 0) (ks : List (List S)) (f : Facts) (es : List Event)
+        → LeavesOut p Reach c n [] ks → Runs left_program c n (at_rule ks) f es (at_end f es)
+    at-end Reach [] f es out = chain_ends
+    at-end Reach (left ∷ ks) f es out = absurd out
+
+    stays : {c n : ℕ} {left : Remainder S} {f : Facts} {es : List Event} {o : RunResult}
+        → Runs p c n left f es o → Stays c n left f es o
+    stays (chain_ends {f = f} {es = es}) = λ Reach ks here out. at-end Reach ks f es out
+    stays (next_rule {r = r} {rs = rs} {f = f} run) = by-rule r rs f (stays run)
+    stays (rule_ends run) = (
+      λ Reach ks to out. rule_ends (stays run Reach ks (to _ refl) out),
+      λ Reach ks failing here out. rule_ends (stays run Reach ks here out),
+    )
+    stays (passes {ss = ss} is run) = only-in _ is tt (λ Reach ks to out.
+        passes is ((stays run).0 Reach ks (λ g on. to g (leads ss g is on)) out))
+    stays (fails {ss = ss} {f = f} is run) = (
+      λ Reach ks to out. fails is (stays run Reach ks (to f (leads ss f is refl)) out),
+      λ Reach ks failing here out. rule_ends (stays run Reach ks here out),
+    )
+    stays (notes {ss = ss} e h is run) = only-in _ is tt (λ Reach ks to out.
+        notes e h is ((stays run).0 Reach ks (λ g on. to g (leads ss g is on)) out))
+    stays (accepts is) = only-in _ is tt (λ Reach ks to out. accepts is)
+    stays (drops is) = only-in _ is tt (λ Reach ks to out. drops is)
+    stays (translates t is) = only-in _ is tt (λ Reach ks to out. translates t is)
+    stays (continues {ss = ss} {f = f} is run) = only-in _ is tt (λ Reach ks to out.
+        continues is (stays run Reach ks (to f (leads ss f is refl)) out))
+    stays (returns is) = only-in _ is tt (λ Reach ks to out. returns is)
+    stays (jumps d {ss = ss} g later chain is has inner run) = only-in _ is tt (λ Reach ks to out.
+        let left = left-chain d chain has in
+        jumps d g later left.rest is left.there (stays inner any_facts left.rest tt left.is)
+        (stays run Reach ks (to g (leads ss g is tt)) out))
+    stays (jumps_away d chain is has inner over) = only-in _ is tt (λ Reach ks to out.
+        let left = left-chain d chain has in
+        jumps_away d left.rest is left.there (stays inner any_facts left.rest tt left.is) over)
+    stays (goes d chain is has inner) = only-in _ is tt (λ Reach ks to out.
+        let left = left-chain d chain has in
+        goes d left.rest is left.there (stays inner any_facts left.rest tt left.is))
+
+    -- a chain has its results without the rules that never match
+    pub left-runs : (c : ℕ) (rules : List (List S)) (f : Facts) (es : List Event) (o : RunResult)
+        → p.rules_at c ≡ Some rules → Runs p c 1 (at_rule rules) f es o
+        → (rest : List (List S)) × (left_at c ≡ Some rest) × Runs left_program c 1 (at_rule rest) f es o
+    left-runs c rules f es o is run =
+        let left = left-chain c rules is in (
+          left.rest,
+          left.there,
+          stays run any_facts left.rest tt left.is,
+        )
+
+    -- ---- ranking
+
+    lighter : (weight : S → ℕ) (Reach : Facts → Type 0) (c n : ℕ) (rs ks : List (List S)) → LeavesOut p Reach c n rs ks
+        → sum_by (sum_by weight) ks ≤ sum_by (sum_by weight) rs
+    lighter weight Reach c n [] [] out = omega arith
+    lighter weight Reach c n [] (left ∷ ks) out = absurd out
+    lighter weight Reach c n (r ∷ rs) [] out = omega arith
+    lighter weight Reach c n (r ∷ rs) (left ∷ ks) (inl out) =
+        let rest = lighter weight (behind p Reach c n r) c (n + 1) rs ks out.1 in
+        let same : sum_by weight left ≡ sum_by weight r = ap (sum_by weight) out.0 in
+        omega (arith, rest, same, sum_by-cons (sum_by weight) left ks, sum_by-cons (sum_by weight) r rs)
+    lighter weight Reach c n (r ∷ rs) (left ∷ ks) (inr out) =
+        let rest = lighter weight Reach c (n + 1) rs ks out.2 in
+        let same : sum_by weight left ≡ 0 = ap (sum_by weight) out.0 in
+        omega (arith, rest, same, sum_by-cons (sum_by weight) left ks, sum_by-cons (sum_by weight) r rs)
+
+    -- a rule with a statement that is left was there before
+    was-there : (Reach : Facts → Type 0) (c n : ℕ) (rs ks : List (List S)) (rule : List S) (s : S)
+        → LeavesOut p Reach c n rs ks → Contains ks rule → Contains rule s → Contains rs rule
+    was-there Reach c n [] [] rule s out here inside = here
+    was-there Reach c n [] (left ∷ ks) rule s out here inside = absurd out
+    was-there Reach c n (r ∷ rs) [] rule s out here inside = let l = here.1 in absurd (omega arith)
+    was-there Reach c n (r ∷ rs) (left ∷ ks) rule s (inl out) here inside = ⊎_elim
+        (λ is. subst (Contains (r ∷ rs)) (sym out.0 ∙ is) (Contains-head r rs))
+        (λ later. Contains-tail r rs rule
+        (was-there (behind p Reach c n r) c (n + 1) rs ks rule s out.1 later inside))
+        (Contains-cases left ks rule here)
+    was-there Reach c n (r ∷ rs) (left ∷ ks) rule s (inr out) here inside = ⊎_elim
+        (λ is. let none = subst (λ ss. Contains ss s) (sym is ∙ out.0) inside in let l = none.1 in absurd (omega arith))
+        (λ later. Contains-tail r rs rule (was-there Reach c (n + 1) rs ks rule s out.2 later inside))
+        (Contains-cases left ks rule here)
+
+    statement-of : {c : ℕ} {s : S} → IsStatementOf left_program c s → IsStatementOf p c s
+    statement-of {c} {s} of =
+        let whole = whole-chain c of.rules of.has in
+        record {
+          rules = whole.rules;
+          has = whole.there;
+          rule = of.rule;
+          in_chain = was-there any_facts c 1 whole.rules of.rules of.rule s whole.is of.in_chain of.in_rule;
+          in_rule = of.in_rule;
+        }
+
+    pub left-ranking : (weight : S → ℕ) (cost depth : ℕ → ℕ) → IsRanking p weight cost depth
+        → IsRanking left_program weight cost depth
+    left-ranking weight cost depth ranks = record {
+      some = ranks.some;
+      sums = λ c rest is.
+          let whole = whole-chain c rest is in
+          let less = lighter weight any_facts c 1 whole.rules rest whole.is in
+          let sum = ranks.sums c whole.rules whole.there in
+          omega (arith, less, sum);
+      jumps = λ c d s at_place f inside is. ranks.jumps c d s at_place f (statement-of inside) is;
+      gotos = λ c d s at_place f inside is. ranks.gotos c d s at_place f (statement-of inside) is;
+    }

@@ -1,0 +1,145 @@
+//! Rulesets as code: how many steps are left of their rules, how many rules are merged and dropped,
+//! and whose verdict a packet has.
+use crate::support::check_row;
+use box_file::Plant;
+use compiler::compile;
+use filter_vm::{Code, Events, run};
+use ip_headers::Transport;
+use nft_parser::parse;
+use nft_tree::Hook;
+use rule_check::check;
+use rule_meaning::{CtFacts, Event, Facts, HookVerdict, Interface, Packet};
+use std::alloc::Global;
+
+/// An interface, and a route to all.
+const BOX: &[u8] = b"interface 2 lan 192.168.1.1/24
+route 0.0.0.0/0 lan
+default lan
+";
+
+/// A source address, the rule of the base chain whose verdict a packet from there has, if one has,
+/// and whether the packet is dropped.
+type ExpectedVerdict = (u32, Option<u32>, bool);
+
+/// A ruleset whose last chain is a base chain; its steps, merged and dropped rules; and the verdicts
+/// of packets.
+type Row = (&'static [u8], [usize; 3], &'static [ExpectedVerdict]);
+
+const TEN_ONE: u32 = 0x0a01_0203;
+
+const ELEVEN: u32 = 0x0b00_0001;
+
+/// Nested matches with verdicts; a rule that writes the mark that the next one matches; a rule after
+/// one that always gives a verdict; counters, logs and a jump end no chain, and what comes after
+/// `return` and `goto` is dropped in each chain; a match, a mark and a jump before the verdict don't
+/// end it either.
+static ROWS: [Row; 5] = [
+    (
+        b"table ip t { chain fwd { type filter hook forward priority 0;
+ip saddr 10.0.0.0/8 accept; ip saddr 10.1.0.0/16 drop; ip saddr 11.0.0.0/8 drop } }",
+        [7, 2, 1],
+        &[
+            (TEN_ONE, Some(1), false),
+            (ELEVEN, Some(3), true),
+            (0x0c00_0001, None, false),
+        ],
+    ),
+    (
+        b"table ip t { chain fwd { type filter hook forward priority 0;
+ip saddr 10.1.2.3 meta mark set 1; meta mark 1 drop } }",
+        [5, 0, 0],
+        &[(TEN_ONE, Some(2), true), (ELEVEN, None, false)],
+    ),
+    (
+        b"table ip t { chain fwd { type filter hook forward priority 0;
+accept; counter drop } }",
+        [2, 0, 1],
+        &[(TEN_ONE, Some(1), false)],
+    ),
+    (
+        b"table ip t { chain out { counter log goto end; accept; drop }
+chain end { return; counter }
+chain fwd { type filter hook forward priority 0; policy drop;
+counter; jump end; log; continue; counter log return; ip saddr 10.0.0.0/8 accept; accept } }",
+        [14, 0, 5],
+        &[(TEN_ONE, Some(2), true)],
+    ),
+    (
+        b"table ip t { chain end { counter }
+chain fwd { type filter hook forward priority 0;
+ip saddr 10.0.0.0/8 drop; meta mark set 1 drop; jump end; accept; drop } }",
+        [9, 0, 1],
+        &[(TEN_ONE, Some(1), true), (ELEVEN, Some(2), true)],
+    ),
+];
+
+/// The code of a ruleset; `None` if it is refused.
+fn code_of(alloc: Global, rules: &[u8]) -> Option<Code> {
+    let tree = parse(alloc, rules).ok()?;
+    let plant = Plant::read(alloc, BOX).ok()?;
+    let checked = check(alloc, tree, plant).ok()?;
+    compile(alloc, &checked).ok()
+}
+
+/// A packet from the address, as the base chains on forward see it.
+fn from(source: u32) -> Facts {
+    let interface = Interface { index: 2, name: 2 };
+    Facts {
+        packet: Packet {
+            source,
+            destination: 1,
+            protocol: 17,
+            ttl: 64,
+            length: 40,
+            transport: Transport::Udp {
+                source: 1,
+                destination: 2,
+            },
+        },
+        input: interface,
+        output: None,
+        mark: 0,
+        ct: CtFacts::NotLookedUp,
+    }
+}
+
+/// The first rule whose verdict a packet from the address takes on forward, and whether the packet is
+/// dropped; `None` if there isn't one base chain there.
+fn verdict_on_forward(alloc: Global, code: &Code, source: u32) -> Option<(Option<u32>, bool)> {
+    let [start] = code.starts(Hook::Forward) else {
+        return None;
+    };
+    let mut events = Events::new(alloc).ok()?;
+    if start.cost > 1000 {
+        return None;
+    }
+    let end = run(code, *start, &from(source), &mut events);
+    let mut rule = None;
+    for event in events.list() {
+        if let Event::TookVerdict(number, _) = event {
+            rule = rule.or(Some(number.rule));
+        }
+    }
+    Some((rule, matches!(end.verdict, HookVerdict::Dropped)))
+}
+
+/// Whether a packet from each address has the verdict.
+fn has_verdicts(alloc: Global, code: &Code, wanted: &[ExpectedVerdict]) -> bool {
+    for &(source, rule, is_dropped) in wanted {
+        if verdict_on_forward(alloc, code, source) != Some((rule, is_dropped)) {
+            return false;
+        }
+    }
+    true
+}
+
+/// What the report has of the first three rows is in `golden_runs`.
+#[test]
+fn rules_are_merged_and_dropped(rt: HostRuntime) {
+    for (row, &(rules, wanted, packets)) in ROWS.iter().enumerate() {
+        let code = code_of(rt.alloc(), rules).expect(&rt, "code");
+        let size = code.size();
+        check_row(&rt, row, [size.steps, size.merged, size.dropped] == wanted);
+        check_row(&rt, row, has_verdicts(rt.alloc(), &code, packets));
+    }
+}
