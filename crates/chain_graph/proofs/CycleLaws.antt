@@ -9,7 +9,8 @@ pub path-of-calls : (g : Graph) (a b : ℕ) (es : List (Call ℕ)) → IsPath (C
 path-of-calls g a b [] p = p
 path-of-calls g a b (e ∷ es) p = (edge-of g a e p.0, path-of-calls g e.to b es p.1)
 
-pub path-to-calls : (g : Graph) (a c b : ℕ) (cs : List ℕ) → IsTargetPath (targets_of g) a (c ∷ cs) b → (e : Call ℕ) × (es : List (Call ℕ)) × IsPath (Calls g) a (e ∷ es) b
+pub path-to-calls : (g : Graph) (a c b : ℕ) (cs : List ℕ) → IsTargetPath (targets_of g) a (c ∷ cs) b → (e : Call ℕ)
+    × (es : List (Call ℕ)) × IsPath (Calls g) a (e ∷ es) b
 path-to-calls g a c b [] p = let e = call-of g a c p.0 in (e.0, [], (e.1, e.2 ∙ p.1))
 path-to-calls g a c b (d ∷ cs) p =
     let e = call-of g a c p.0 in
@@ -22,4 +23,10 @@ cycle-to-calls g k =
     record { chain = k.node; first = p.0; rest = p.1; path = p.2 }
 
 pub cycle-of-calls : (g : Graph) → HasCycle (Calls g) → HasTargetCycle (targets_of g)
-cycle-of-calls g k = record { node = k.chain; first = k.first.to; rest = map (λ (e : Call ℕ). e.to) k.rest; path = path-of-calls g k.chain k.chain (k.first ∷ k.rest) k.path }
+cycle-of-calls g k = record {
+  node = k.chain;
+  first = k.first.to;
+  rest = map (λ (e : Call ℕ). e.to) k.rest;
+  path =
+      path-of-calls g k.chain k.chain (k.first ∷ k.rest) k.path;
+}

@@ -20,7 +20,8 @@ deepest-least f (x ∷ xs) e h = ⊎_elim
     (λ r. let l = deepest-least f xs e r in omega arith)
     (Contains-cases x xs e h)
 
-pub deepest-found : (f : ℕ → ℕ) (calls : List (Call ℕ)) → (deepest f calls ≡ 0) ⊎ ((e : Call ℕ) × Contains calls e × (deepest f calls ≡ saturated (f e.to + jump_of e)))
+pub deepest-found : (f : ℕ → ℕ) (calls : List (Call ℕ)) → (deepest f calls ≡ 0)
+    ⊎ ((e : Call ℕ) × Contains calls e × (deepest f calls ≡ saturated (f e.to + jump_of e)))
 deepest-found f [] = inl refl
 deepest-found f (x ∷ xs) = ⊎_elim
     (λ l. inr (x, Contains-head x xs, omega (arith, l)))
@@ -45,7 +46,8 @@ module _ (g : Graph) (c : ℕ) (table : List ℕ) (known : (e : Call ℕ) → Ca
       record { most = depth-most; to = more.to; along = r.0 ∷ more.along; path = (r.1, more.path); deep = omega arith })
       (deepest-found (λ k. get_or table k 0) (calls_of g c))
 
-pub deepest-more : (f : ℕ → ℕ) (all now rest : List (Call ℕ)) (most most' d total : ℕ) → all ≡ now ++ rest → d ≡ deepest f now → most' ≡ max most d → max most (deepest f all) ≡ total → max most' (deepest f rest) ≡ total
+pub deepest-more : (f : ℕ → ℕ) (all now rest : List (Call ℕ)) (most most' d total : ℕ) → all ≡ now ++ rest → d
+    ≡ deepest f now → most' ≡ max most d → max most (deepest f all) ≡ total → max most' (deepest f rest) ≡ total
 deepest-more f all now rest most most' d total e h m before =
     let split = ap (deepest f) e ∙ deepest-append f now rest in
     omega arith

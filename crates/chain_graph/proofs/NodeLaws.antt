@@ -43,10 +43,15 @@ range-of g n range long a b h =
     let long' = targets-long g in
     omega arith
 
-pub flat-at : (statements : List (Vec Edge Global)) (k : ℕ) (d : Vec Edge Global) (j : ℕ) (x : Edge) → k < length statements → j < length (get_or statements k d).items → Contains (flat_map identity (statements_of statements)) (call_of (get_or (get_or statements k d).items j x))
+pub flat-at : (statements : List (Vec Edge Global)) (k : ℕ) (d : Vec Edge Global) (j : ℕ) (x : Edge)
+    → k < length statements → j < length (get_or statements k d).items
+    → Contains (flat_map identity (statements_of statements)) (call_of (get_or (get_or statements k d).items j x))
 flat-at [] k d j x h l = absurd (omega (arith, h))
-flat-at (s ∷ ss) zero d j x h l = Contains-append_left (map call_of s.items) (flat_map identity (statements_of ss)) (call_of (get_or s.items j x)) (Contains-map call_of s.items (get_or s.items j x) (Contains-get_or s.items j x l))
-flat-at (s ∷ ss) (suc k) d j x h l = Contains-append_right (map call_of s.items) (flat_map identity (statements_of ss)) (call_of (get_or (get_or ss k d).items j x)) (flat-at ss k d j x (omega (arith, h)) l)
+flat-at (s ∷ ss) zero d j x h l = Contains-append_left (map call_of s.items) (flat_map identity (statements_of ss))
+    (call_of (get_or s.items j x)) (Contains-map call_of s.items (get_or s.items j x) (Contains-get_or s.items j x l))
+flat-at (s ∷ ss) (suc k) d j x h l = Contains-append_right (map call_of s.items)
+    (flat_map identity (statements_of ss)) (call_of (get_or (get_or ss k d).items j x))
+    (flat-at ss k d j x (omega (arith, h)) l)
 
 pub within-of : (n : ℕ) (node : Node) → ((e : Call ℕ) → Contains (calls_in (node_of node)) e → e.to < n) → IsWithin n node
 within-of n (Chain v) range = λ k d l j x m. range (call_of (get_or (get_or v.items k d).items j x)) (flat-at v.items k d j x l m)
@@ -57,14 +62,20 @@ pub node-within : (nodes : List Node) (c n : ℕ) (node : Node) → c < length n
 node-within nodes c n node h e range = within-of n node (λ call k. range c call (subst (λ x. Contains (calls_in x) call) (sym (node-is nodes c node h e)) k))
 
 -- the calls that are left
-pub calls-rest : (statements : List (Vec Edge Global)) (i : ℕ) (s : Vec Edge Global) → i < length statements → s ≡ get_or statements i s → flat_map identity (statements_of (drop i statements)) ≡ map call_of s.items ++ flat_map identity (statements_of (drop (i + 1) statements))
-calls-rest statements i s h e = ap (λ xs. flat_map identity (statements_of xs)) (drop_more statements i s h) ∙ ap (λ v. map call_of v.items ++ flat_map identity (statements_of (drop (i + 1) statements))) (sym e)
+pub calls-rest : (statements : List (Vec Edge Global)) (i : ℕ) (s : Vec Edge Global) → i < length statements → s
+    ≡ get_or statements i s → flat_map identity (statements_of (drop i statements)) ≡ map call_of s.items
+    ++ flat_map identity (statements_of (drop (i + 1) statements))
+calls-rest statements i s h e = ap (λ xs. flat_map identity (statements_of xs)) (drop_more statements i s h)
+    ∙ ap (λ v. map call_of v.items ++ flat_map identity (statements_of (drop (i + 1) statements))) (sym e)
 
-pub order-before : (g : Graph) (order : List ℕ) (i c : ℕ) → IsTopologicalOrder (targets_of g) order → i < length order → c ≡ get_or order i c → (e : Call ℕ) → Calls g c e → Contains (take i order) e.to
-order-before g order i c o h e call k = o.after i call.to h (subst (λ x. HasEdge (targets_of g) x call.to) (e ∙ get_or_default order i c 0 h) (edge-of g c call k))
+pub order-before : (g : Graph) (order : List ℕ) (i c : ℕ) → IsTopologicalOrder (targets_of g) order → i < length order
+    → c ≡ get_or order i c → (e : Call ℕ) → Calls g c e → Contains (take i order) e.to
+order-before g order i c o h e call k = o.after i call.to h
+    (subst (λ x. HasEdge (targets_of g) x call.to) (e ∙ get_or_default order i c 0 h) (edge-of g c call k))
 
 -- the node of this iteration is in range
-pub inside-nodes : (nodes : List Node) (order : List ℕ) (i : ℕ) → IsTopologicalOrder (targets_of (graph_of nodes)) order → i < length order → get_or order i 0 < length nodes
+pub inside-nodes : (nodes : List Node) (order : List ℕ) (i : ℕ) → IsTopologicalOrder (targets_of (graph_of nodes))
+    order → i < length order → get_or order i 0 < length nodes
 inside-nodes nodes order i o h =
     let below = o.below i 0 h in
     let long = graph-long nodes in

@@ -1,5 +1,6 @@
 -- The initial state of the search, and its result.
-use Rattle.std.proofs.Common.{◌≡◌, ◌≢◌, ◌⊎◌, ℕ, zero, suc, ◌<◌, List, [], ◌∷◌, length, get_or, sym, refl, subst, ◌∙◌, inl, inr, ⊎_elim, arith, replicate, map, le_of_eq}
+use Rattle.std.proofs.Common.{◌≡◌, ◌≢◌, ◌⊎◌, ℕ, zero, suc, ◌<◌, List, [], ◌∷◌, length, get_or, sym, refl, subst, ◌∙◌}
+use Rattle.std.proofs.Common.{inl, inr, ⊎_elim, arith, replicate, map, le_of_eq}
 use Rattle.std.specs.Prelude.{Contains}
 use Rattle.std.proofs.lemmas.Bool.{cases_lt}
 use Rattle.std.proofs.lemmas.List.{get_or_default, length-map, length-replicate, get_or_past}
@@ -20,7 +21,8 @@ all-new zero c = refl
 all-new (suc n) zero = refl
 all-new (suc n) (suc c) = all-new n c
 
-pub fresh : (g : List (List ℕ)) (marks : List Mark) (left path order : List ℕ) → marks ≡ replicate (length g) New → left ≡ map length g → path ≡ [] → order ≡ [] → IsSound g marks left path order
+pub fresh : (g : List (List ℕ)) (marks : List Mark) (left path order : List ℕ) → marks ≡ replicate (length g) New
+    → left ≡ map length g → path ≡ [] → order ≡ [] → IsSound g marks left path order
 fresh g marks left path order m l p o =
     let start : IsSound g (replicate (length g) New) (map length g) [] [] = record {
       marks_long = length-replicate (length g) New;
@@ -38,22 +40,29 @@ fresh g marks left path order m l p o =
       chained = λ i h. absurd (omega (arith, h));
       after = λ i t h. absurd (omega (arith, h));
     } in
-    subst (λ x. IsSound g x left path order) (sym m) (subst (λ x. IsSound g (replicate (length g) New) x path order) (sym l) (subst (λ x. IsSound g (replicate (length g) New) (map length g) x order) (sym p) (subst (λ x. IsSound g (replicate (length g) New) (map length g) [] x) (sym o) start)))
+    subst (λ x. IsSound g x left path order) (sym m)
+    (subst (λ x. IsSound g (replicate (length g) New) x path order) (sym l)
+    (subst (λ x. IsSound g (replicate (length g) New) (map length g) x order) (sym p)
+    (subst (λ x. IsSound g (replicate (length g) New) (map length g) [] x) (sym o) start)))
 
 pub mark-cases : (m : Mark) → (m ≡ New) ⊎ ((m ≡ Open) ⊎ (m ≡ Done))
 mark-cases New = inl refl
 mark-cases Open = inr (inl refl)
 mark-cases Done = inr (inr refl)
 
-pub all-done : (g : List (List ℕ)) (marks : List Mark) (left path order : List ℕ) → IsSound g marks left path order → path ≡ [] → ((c : ℕ) → c < length g → get_or marks c New ≢ New) → IsTopologicalOrder g order
+pub all-done : (g : List (List ℕ)) (marks : List Mark) (left path order : List ℕ) → IsSound g marks left path order
+    → path ≡ [] → ((c : ℕ) → c < length g → get_or marks c New ≢ New) → IsTopologicalOrder g order
 all-done g marks left path order s none visited = record {
   below = s.below;
-  all = λ c h. ⊎_elim (λ e. absurd (visited c h e)) (λ r. ⊎_elim (λ e. absurd (none-in-empty c (subst (λ p. Contains p c) none (s.opened c e)))) (λ e. s.ended c e) r) (mark-cases (get_or marks c New));
+  all = λ c h. ⊎_elim (λ e. absurd (visited c h e))
+      (λ r. ⊎_elim (λ e. absurd (none-in-empty c (subst (λ p. Contains p c) none (s.opened c e)))) (λ e. s.ended c e)
+      r) (mark-cases (get_or marks c New));
   once = s.order_once;
   after = s.after;
 }
 
-pub reaching-before : (g : List (List ℕ)) (order : List ℕ) → IsTopologicalOrder g order → (i c b : ℕ) (cs : List ℕ) → i < length order → IsTargetPath g (get_or order i 0) (c ∷ cs) b → (j : ℕ) × (j < i) × (get_or order j 0 ≡ b)
+pub reaching-before : (g : List (List ℕ)) (order : List ℕ) → IsTopologicalOrder g order → (i c b : ℕ) (cs : List ℕ)
+    → i < length order → IsTargetPath g (get_or order i 0) (c ∷ cs) b → (j : ℕ) × (j < i) × (get_or order j 0 ≡ b)
 reaching-before g order o i c b [] h p =
     let at = take-index order i c (omega arith) (o.after i c h p.0) in
     (at.0, at.1, at.2 ∙ p.1)
@@ -64,7 +73,8 @@ reaching-before g order o i c b (d ∷ cs) h p =
     let m = more.1 in
     (more.0, omega arith, more.2)
 
-pub never-back : (g : List (List ℕ)) (order : List ℕ) → IsTopologicalOrder g order → (a c : ℕ) (cs : List ℕ) → IsTargetPath g a (c ∷ cs) a → (n i : ℕ) → i < n → i < length order → get_or order i 0 ≡ a → ⊥
+pub never-back : (g : List (List ℕ)) (order : List ℕ) → IsTopologicalOrder g order → (a c : ℕ) (cs : List ℕ)
+    → IsTargetPath g a (c ∷ cs) a → (n i : ℕ) → i < n → i < length order → get_or order i 0 ≡ a → ⊥
 never-back g order o a c cs p zero i h l e = omega (arith, h)
 never-back g order o a c cs p (suc n) i h l e =
     let at = reaching-before g order o i c a cs l (subst (λ x. IsTargetPath g x (c ∷ cs) a) (sym e) p) in

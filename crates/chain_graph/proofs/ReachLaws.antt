@@ -27,8 +27,10 @@ some-found f (x ∷ xs) t = ⊎_elim
     (λ r. let more = some-found f xs r in (more.0, Contains-tail x xs more.0 more.1, more.2))
     (or_cases (f x.to) (some_call f xs) t)
 
-module _ (g : Graph) (marked : List Bool) (c : ℕ) (table : List Bool) (known : (e : Call ℕ) → Calls g c e → IsTrue (get_or table e.to false) ↔ ReachesMarked g marked e.to) where
-  pub reaching-from : (b : ℕ) (es : List (Call ℕ)) → IsPath (Calls g) c es b → get_or marked b false ≡ true → get_or marked c false || some_call (λ k. get_or table k false) (calls_of g c) ≡ true
+module _ (g : Graph) (marked : List Bool) (c : ℕ) (table : List Bool)
+    (known : (e : Call ℕ) → Calls g c e → IsTrue (get_or table e.to false) ↔ ReachesMarked g marked e.to) where
+  pub reaching-from : (b : ℕ) (es : List (Call ℕ)) → IsPath (Calls g) c es b → get_or marked b false ≡ true
+      → get_or marked c false || some_call (λ k. get_or table k false) (calls_of g c) ≡ true
   reaching-from b [] p m = ap (λ x. x || some_call (λ k. get_or table k false) (calls_of g c)) (ap (λ k. get_or marked k false) p ∙ m)
   reaching-from b (e ∷ es) p m = or_right (get_or marked c false) (some_call (λ k. get_or table k false) (calls_of g c))
       (some-from (λ k. get_or table k false) (calls_of g c) e p.0 ((known e p.0).1 (record { to = b; along = es; path = p.1; good = m })))
@@ -44,6 +46,7 @@ module _ (g : Graph) (marked : List Bool) (c : ℕ) (table : List Bool) (known :
     (λ r. reaching-from r.to r.along r.path r.good),
   )
 
-pub some-more : (f : ℕ → Bool) (all now rest : List (Call ℕ)) (d total : Bool) → all ≡ now ++ rest → d ≡ some_call f now → some_call f all ≡ total → d || some_call f rest ≡ total
+pub some-more : (f : ℕ → Bool) (all now rest : List (Call ℕ)) (d total : Bool) → all ≡ now ++ rest → d
+    ≡ some_call f now → some_call f all ≡ total → d || some_call f rest ≡ total
 some-more f all now rest d total e h before =
     ap (λ b. b || some_call f rest) h ∙ sym (some_call-append f now rest) ∙ sym (ap (some_call f) e) ∙ before

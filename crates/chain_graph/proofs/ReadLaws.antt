@@ -16,7 +16,8 @@ row-of (x ∷ xs) zero v h e = ap (λ w. w.items) (sym e)
 row-of (x ∷ xs) (suc i) v h e = row-of xs i v (omega (arith, h)) e
 
 -- one of the targets
-pub edge-read : (t : List (Vec ℕ Global)) (c k : ℕ) (row : Vec ℕ Global) (x : ℕ) → c < length t → row ≡ get_or t c row → k < length row.items → x ≡ get_or row.items k x → HasEdge (rows_of t) c x × (get_or (get_or (rows_of t) c []) k 0 ≡ x)
+pub edge-read : (t : List (Vec ℕ Global)) (c k : ℕ) (row : Vec ℕ Global) (x : ℕ) → c < length t → row ≡ get_or t c row
+    → k < length row.items → x ≡ get_or row.items k x → HasEdge (rows_of t) c x × (get_or (get_or (rows_of t) c []) k 0 ≡ x)
 edge-read t c k row x h e l r =
     let is = row-of t c row h e in
     (subst (λ xs. Contains xs x) (sym is) (Contains-at row.items k x x l (sym r)), ap (λ xs. get_or xs k 0) is ∙ sym (get_or_read row.items k x l r 0))
@@ -31,10 +32,13 @@ pub record ReadsTarget (g : List (List ℕ)) (left : List ℕ) (c l x : ℕ) : T
   pub is : get_or (get_or g c []) (l - 1) 0 ≡ x
   pub within : x < length g
 
-pub left-read : (g : List (List ℕ)) (marks : List Mark) (left path order : List ℕ) (c l : ℕ) → IsSound g marks left path order → c < length g → l ≡ get_or left c l → get_or left c 0 ≡ l
+pub left-read : (g : List (List ℕ)) (marks : List Mark) (left path order : List ℕ) (c l : ℕ)
+    → IsSound g marks left path order → c < length g → l ≡ get_or left c l → get_or left c 0 ≡ l
 left-read g marks left path order c l s h e = sym (get_or_read left c l (let n = s.left_long in omega arith) e 0)
 
-module _ (t : List (Vec ℕ Global)) (marks : List Mark) (left path order : List ℕ) (c l x : ℕ) (row : Vec ℕ Global) (s : IsSound (rows_of t) marks left path order) (below : c < length t) (left-is : l ≡ get_or left c l) (some : l ≡ 0 → ⊥) (row-is : row ≡ get_or t c row) where
+module _ (t : List (Vec ℕ Global)) (marks : List Mark) (left path order : List ℕ) (c l x : ℕ) (row : Vec ℕ Global)
+    (s : IsSound (rows_of t) marks left path order) (below : c < length t) (left-is : l ≡ get_or left c l)
+    (some : l ≡ 0 → ⊥) (row-is : row ≡ get_or t c row) where
   pub inside-row : l - 1 < length row.items
   inside-row =
       let least = s.fits c in
@@ -60,10 +64,12 @@ popped path rest after c n e long is =
     let k : length rest ≡ n - 1 = omega arith in
     is ∙ ap (take (n - 1)) e ∙ take_at rest (c ∷ []) (n - 1) k
 
-pub at-path : (g : List (List ℕ)) (marks : List Mark) (left path rest order : List ℕ) (c : ℕ) → path ≡ rest ++ c ∷ [] → IsSound g marks left path order → IsSound g marks left (rest ++ c ∷ []) order
+pub at-path : (g : List (List ℕ)) (marks : List Mark) (left path rest order : List ℕ) (c : ℕ) → path ≡ rest ++ c ∷ []
+    → IsSound g marks left path order → IsSound g marks left (rest ++ c ∷ []) order
 at-path g marks left path rest order c e s = subst (λ p. IsSound g marks left p order) e s
 
-pub last-reaching : (g : List (List ℕ)) (path rest : List ℕ) (c t : ℕ) → path ≡ rest ++ c ∷ [] → HasEdge g c t → (i : ℕ) → i + 1 ≡ length path → HasEdge g (get_or path i 0) t
+pub last-reaching : (g : List (List ℕ)) (path rest : List ℕ) (c t : ℕ) → path ≡ rest ++ c ∷ [] → HasEdge g c t
+    → (i : ℕ) → i + 1 ≡ length path → HasEdge g (get_or path i 0) t
 last-reaching g path rest c t e edge i h =
     let n = ap length e ∙ length_push rest c in
     subst (λ x. HasEdge g x t) (sym (ap (λ p. get_or p i 0) e ∙ get_or_push rest c 0 i (omega arith))) edge

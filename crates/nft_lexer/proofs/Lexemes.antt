@@ -1,5 +1,7 @@
 -- What the reader gives is the longest lexeme, and it gives one wherever there is one.
-use Rattle.std.proofs.Common.{◌≡◌, ◌≢◌, ℕ, suc, ◌+◌, ◌-◌, ◌<◌, ◌≤◌, Bool, true, false, ◌==◌, List, [], ◌∷◌, ◌++◌, length, take, drop, Option, Some, None, inl, inr, refl, sym, ap, subst, ◌∙◌, append_assoc, arith, rules}
+use Rattle.std.proofs.Common.{◌≡◌, ◌≢◌, ℕ, suc, ◌+◌, ◌-◌, ◌<◌, ◌≤◌, Bool, true, false, ◌==◌, List, [], ◌∷◌, ◌++◌}
+use Rattle.std.proofs.Common.{length, take, drop, Option, Some, None, inl, inr, refl, sym, ap, subst, ◌∙◌}
+use Rattle.std.proofs.Common.{append_assoc, arith, rules}
 use Rattle.std.specs.Prelude.{IfSome, IsSomeAnd, IsTrue, MatchResult, Result, Err, slice_index}
 use Rattle.std.specs.Char.{is_ascii_digit, is_ascii_hexdigit}
 use Rattle.std.specs.List.{AllByRecursion, prefix_len, list_all}
@@ -16,8 +18,15 @@ use Rattle.nft_lexer.specs.declared.lexeme.Class.TheVariants as classes
 use Rattle.nft_lexer.specs.declared.lexing.Fault.{Fault}
 use Rattle.nft_lexer.specs.declared.lexing.Fault.TheVariants as faults
 use Rattle.nft_lexer.specs.Terminal.{LexedToken}
-use Rattle.nft_lexer.specs.Lexing.{Lexeme, blank, line_continuation, comment, line_end, name, digits, hexadecimal, dotted_quad, quoted, punctuation, is_blank, begins_word, continues_word, is_no_newline, is_string_byte, punctuator_text, IsDigits, SpellsLexeme, IsLongestLexeme, HasTokens, BeginsNoLexeme, no_lexeme, open_string, no_token, IsFaultAt}
-use Rattle.nft_lexer.specs.steps.Reading.{◌>>=◌, class_of, punctuator_from, short_punctuators, long_punctuators, after_byte, front, behind, run_at, is_zero, hexadecimal_at, next_octet_at, dotted_quad_at, number_at, quoted_at, long_punctuator_at, punctuator_at, class_at, lexeme_at, scanned_kind, meaning, next_at, at_line, ScansOne}
+use Rattle.nft_lexer.specs.Lexing.{Lexeme, blank, line_continuation, comment, line_end, name, digits, hexadecimal}
+use Rattle.nft_lexer.specs.Lexing.{dotted_quad, quoted, punctuation, is_blank, begins_word, continues_word}
+use Rattle.nft_lexer.specs.Lexing.{is_no_newline, is_string_byte, punctuator_text, IsDigits, SpellsLexeme}
+use Rattle.nft_lexer.specs.Lexing.{IsLongestLexeme, HasTokens, BeginsNoLexeme, no_lexeme, open_string, no_token}
+use Rattle.nft_lexer.specs.Lexing.{IsFaultAt}
+use Rattle.nft_lexer.specs.steps.Reading.{◌>>=◌, class_of, punctuator_from, short_punctuators, long_punctuators}
+use Rattle.nft_lexer.specs.steps.Reading.{after_byte, front, behind, run_at, is_zero, hexadecimal_at, next_octet_at}
+use Rattle.nft_lexer.specs.steps.Reading.{dotted_quad_at, number_at, quoted_at, long_punctuator_at, punctuator_at}
+use Rattle.nft_lexer.specs.steps.Reading.{class_at, lexeme_at, scanned_kind, meaning, next_at, at_line, ScansOne}
 use Rattle.nft_lexer.proofs.Numbers.{bind_found, view_found, by_test, meaning_found, meaning_only}
 
 -- ---- options

@@ -1,5 +1,7 @@
 -- The values of digits, and the tokens of lexemes.
-use Rattle.std.proofs.Common.{◌≡◌, ◌≢◌, ℕ, zero, suc, ◌+◌, ◌-◌, ◌*◌, ◌/◌, ◌%◌, ◌^◌, ◌<◌, ◌≤◌, Bool, true, false, cond, ◌&&◌, ◌==◌, List, [], ◌∷◌, ◌++◌, length, take, drop, get_or, Some, None, Option, inl, inr, refl, sym, ap, ◌∙◌, arith, rules}
+use Rattle.std.proofs.Common.{◌≡◌, ◌≢◌, ℕ, zero, suc, ◌+◌, ◌-◌, ◌*◌, ◌/◌, ◌%◌, ◌^◌, ◌<◌, ◌≤◌, Bool, true, false, cond}
+use Rattle.std.proofs.Common.{◌&&◌, ◌==◌, List, [], ◌∷◌, ◌++◌, length, take, drop, get_or, Some, None, Option, inl}
+use Rattle.std.proofs.Common.{inr, refl, sym, ap, ◌∙◌, arith, rules}
 use Rattle.std.specs.Prelude.{IfSome, nat_lt, option_map}
 use Rattle.std.specs.Char.{is_ascii_digit, is_ascii_hexdigit, digit_value}
 use Rattle.std.specs.Fmt.{decimal}
@@ -13,8 +15,10 @@ use Rattle.std.proofs.lemmas.Fmt.{decimal_digit, decimal_is_IsNumeral, decimal-d
 use Rattle.std.proofs.lemmas.Str.Parse.{IsNumeralModel, numerals_by_value}
 use Rattle.list_laws.specs.Options.{IfSome_weaker}
 use Rattle.nft_lexer.specs.Terminal.{LexedToken, word, number, address, string}
-use Rattle.nft_lexer.specs.Lexing.{Lexeme, name, digits, hexadecimal, dotted_quad, quoted, IsDigits, IsHexadecimal, IsValidDecimal, AreOctets, SpellsLexeme, HasTokens}
-use Rattle.nft_lexer.specs.steps.Reading.{◌>>=◌, has_leading_zero, below, value_after, decimal_at, octet_at, address_of, address_at, number_kind, address_kind, tokens_of, meaning, one}
+use Rattle.nft_lexer.specs.Lexing.{Lexeme, name, digits, hexadecimal, dotted_quad, quoted, IsDigits, IsHexadecimal}
+use Rattle.nft_lexer.specs.Lexing.{IsValidDecimal, AreOctets, SpellsLexeme, HasTokens}
+use Rattle.nft_lexer.specs.steps.Reading.{◌>>=◌, has_leading_zero, below, value_after, decimal_at, octet_at}
+use Rattle.nft_lexer.specs.steps.Reading.{address_of, address_at, number_kind, address_kind, tokens_of, meaning, one}
 
 -- ---- options
 

@@ -1,5 +1,6 @@
 -- A text has one tokenization or one first fault.
-use Rattle.std.proofs.Common.{◌≡◌, ℕ, zero, suc, ◌-◌, ◌<◌, ◌≤◌, List, [], ◌∷◌, ◌++◌, length, take, ◌⊎◌, inl, inr, refl, sym, ap, subst, ◌∙◌, append_assoc, arith}
+use Rattle.std.proofs.Common.{◌≡◌, ℕ, zero, suc, ◌-◌, ◌<◌, ◌≤◌, List, [], ◌∷◌, ◌++◌, length, take, ◌⊎◌, inl, inr}
+use Rattle.std.proofs.Common.{refl, sym, ap, subst, ◌∙◌, append_assoc, arith}
 use Rattle.std.specs.Prelude.{Result, Ok, Err, IfOk, IfErr, MatchResult}
 use Rattle.std.proofs.lemmas.Bool.{cases_lt}
 use Rattle.std.proofs.lemmas.List.{length-append, append-nil, nil_from_length}
@@ -10,7 +11,10 @@ use Rattle.nft_lexer.specs.declared.fault.LexError.TheVariants.{Refused, Memory}
 use Rattle.nft_lexer.specs.declared.token.Punctuator.{Punctuator}
 use Rattle.nft_lexer.specs.declared.token.Punctuator.TheVariants.{OpenBrace}
 use Rattle.nft_lexer.specs.Terminal.{LexedToken}
-use Rattle.nft_lexer.specs.Lexing.{Lexeme, blank, line_continuation, line_end, name, digits, dotted_quad, punctuation, SpellsLexeme, IsLongestLexeme, HasTokens, ScansInto, TokenizesTo, BeginsNoLexeme, no_lexeme, open_string, no_token, IsFaultAt, FirstFault, HasLexFault, MOST_BYTES, line_after, punctuator_text}
+use Rattle.nft_lexer.specs.Lexing.{Lexeme, blank, line_continuation, line_end, name, digits, dotted_quad, punctuation}
+use Rattle.nft_lexer.specs.Lexing.{SpellsLexeme, IsLongestLexeme, HasTokens, ScansInto, TokenizesTo, BeginsNoLexeme}
+use Rattle.nft_lexer.specs.Lexing.{no_lexeme, open_string, no_token, IsFaultAt, FirstFault, HasLexFault, MOST_BYTES}
+use Rattle.nft_lexer.specs.Lexing.{line_after, punctuator_text}
 use Rattle.nft_lexer.specs.steps.Reading.{ScansOne, IfRefused, next_at, at_line}
 use Rattle.nft_lexer.proofs.Lexemes.{longest_lexeme_unique, tokens_unique, before, next_is}
 

@@ -2,7 +2,11 @@
 ghost use Rattle.std.specs.Prelude.{◌≡◌, ◌≤◌, length, option_map};
 ghost use Rattle.std.specs.List.{prefix_len};
 ghost use Rattle.nft_lexer.specs.Lexing.{continues_word, punctuation, is_string_byte};
-ghost use Rattle.nft_lexer.specs.steps.Reading.{address_kind, after_byte, behind, class_at, class_of, continues_run, octet_after, octets_after, hexadecimal_at, is_zero, long_punctuator_at, long_punctuators, punctuator_at, punctuator_from, number_kind, numeral_at, lexeme_at, run_at, scanned_kind, short_punctuators};
+ghost use Rattle.nft_lexer.specs.steps.Reading.{address_kind, after_byte, behind, class_at, class_of, continues_run};
+ghost use Rattle.nft_lexer.specs.steps.Reading.{octet_after, octets_after, hexadecimal_at, is_zero};
+ghost use Rattle.nft_lexer.specs.steps.Reading.{long_punctuator_at, long_punctuators, punctuator_at, punctuator_from};
+ghost use Rattle.nft_lexer.specs.steps.Reading.{number_kind, numeral_at, lexeme_at, run_at, scanned_kind};
+ghost use Rattle.nft_lexer.specs.steps.Reading.{short_punctuators};
 
 use crate::number::{address, leading_digits, value};
 use crate::token::{Punctuator, TokenKind};

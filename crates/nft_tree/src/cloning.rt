@@ -1,6 +1,11 @@
 //! Copies of trees. A copy equals its source in all that contracts compare; making one fails only
 //! when memory runs out.
-ghost use Rattle.nft_tree.specs.Tree.{ElementTree, FlagTree, ItemTree, PairTree, RuleTree, Statement, TableTree, ValueTree, chain_tree, data_tree, destination_tree, element_tree, flag_tree, head_tree, item_tree, key_tree, map_lookup_tree, map_ref_tree, map_tree, match_tree, nat_tree, operand_tree, pair_tree, range_tree, rule_tree, set_ref_tree, set_tree, set_type_tree, source_tree, statement, table_tree, tables_of, value_tree, verdict_tree};
+ghost use Rattle.nft_tree.specs.Tree.{ElementTree, FlagTree, ItemTree, PairTree, RuleTree, Statement, TableTree};
+ghost use Rattle.nft_tree.specs.Tree.{ValueTree, chain_tree, data_tree, destination_tree, element_tree, flag_tree};
+ghost use Rattle.nft_tree.specs.Tree.{head_tree, item_tree, key_tree, map_lookup_tree, map_ref_tree, map_tree};
+ghost use Rattle.nft_tree.specs.Tree.{match_tree, nat_tree, operand_tree, pair_tree, range_tree, rule_tree};
+ghost use Rattle.nft_tree.specs.Tree.{set_ref_tree, set_tree, set_type_tree, source_tree, statement, table_tree};
+ghost use Rattle.nft_tree.specs.Tree.{tables_of, value_tree, verdict_tree};
 ghost use Rattle.std.specs.Prelude.{◌≡◌, map, IfOk};
 
 use crate::chain::{Chain, Head, Rule};

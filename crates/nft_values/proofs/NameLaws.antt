@@ -1,5 +1,7 @@
 -- A trailing star, and names as numbers.
-use Rattle.std.proofs.Common.{◌≡◌, ℕ, zero, suc, ◌+◌, ◌-◌, ◌*◌, ◌^◌, ◌<◌, ◌≤◌, Bool, true, false, cond, List, [], ◌∷◌, ◌++◌, length, take, get_or, Some, None, refl, sym, ap, ◌∙◌, arith, inl, inr, length-append}
+use Rattle.std.proofs.Common.{◌≡◌, ℕ, zero, suc, ◌+◌, ◌-◌, ◌*◌, ◌^◌, ◌<◌, ◌≤◌, Bool, true, false, cond, List, [], ◌∷◌}
+use Rattle.std.proofs.Common.{◌++◌, length, take, get_or, Some, None, refl, sym, ap, ◌∙◌, arith, inl, inr}
+use Rattle.std.proofs.Common.{length-append}
 use Rattle.std.specs.Prelude.{◌==◌, replicate}
 use Rattle.std.specs.Option.{option_map}
 use Rattle.std.proofs.lemmas.Bool.{cases_lt}
@@ -83,7 +85,8 @@ replicated-le low high zero (suc m) le = le
 replicated-le low high (suc count) zero le = le
 replicated-le low high (suc count) (suc m) le = replicated-le (low * 256 + 0) (high * 256 + 255) count m (omega arith)
 
-filling-le : (low high count m : ℕ) (n : List ℕ) → low ≤ high → bytes_number low (take count (n ++ replicate m 0)) ≤ bytes_number high (take count (n ++ replicate m 255))
+filling-le : (low high count m : ℕ) (n : List ℕ) → low ≤ high → bytes_number low (take count (n ++ replicate m 0)) ≤
+    bytes_number high (take count (n ++ replicate m 255))
 filling-le low high count m [] le = replicated-le low high count m le
 filling-le low high zero m (b ∷ bs) le = le
 filling-le low high (suc count) m (b ∷ bs) le = filling-le (low * 256 + b) (high * 256 + b) count m bs (omega arith)

@@ -44,7 +44,8 @@ span low high = record { low = low; high = high }
 same-span : (a b : Span) → a.low ≡ b.low → a.high ≡ b.high → a ≡ b
 same-span a b e f = ap (λ (n : ℕ). span n a.high) e ∙ ap (span b.low) f
 
-made : (s : Span) (r : Option Range) → s.low ≤ s.high → MatchOption r (s.high < s.low) (λ r. (r.low ≡ s.low) × (r.high ≡ s.high)) → option_map span_of r ≡ Some s
+made : (s : Span) (r : Option Range) → s.low ≤ s.high → MatchOption r (s.high < s.low)
+    (λ r. (r.low ≡ s.low) × (r.high ≡ s.high)) → option_map span_of r ≡ Some s
 made s None rises h = absurd (omega arith)
 made s (Some r) rises h = ap Some (same-span (span_of r) s h.0 h.1)
 
@@ -53,7 +54,10 @@ guarded true true s t e f same = ap Some same
 guarded true false s t e f same = absurd cc
 guarded false b s t e f same = absurd cc
 
-pub range_made : (plant : PlantTree) (k : ComparedType) (range : RangeTree) (s : Span) (r : Option Range) → is_range plant k range ≡ true → has_numbers plant k range ≡ true → s ≡ range_span plant k range → MatchOption r (s.high < s.low) (λ r. (r.low ≡ s.low) × (r.high ≡ s.high)) → option_map span_of r ≡ numbers_of plant k range
+pub range_made : (plant : PlantTree) (k : ComparedType) (range : RangeTree) (s : Span) (r : Option Range)
+    → is_range plant k range ≡ true → has_numbers plant k range ≡ true → s ≡ range_span plant k range
+    → MatchOption r (s.high < s.low) (λ r. (r.low ≡ s.low) × (r.high ≡ s.high)) → option_map span_of r
+    ≡ numbers_of plant k range
 range_made plant k range s r good here e h =
     let Rises : Span → Type 0 = λ t. t.low ≤ t.high in
     made s r (subst Rises (sym e) (range-rises plant k range good)) h ∙ guarded _ _ s _ good here e

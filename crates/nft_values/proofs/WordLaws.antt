@@ -12,7 +12,8 @@ first-fits : (most n : ℕ) (here : Bool) (rest : Option ℕ) → n < most → u
 first-fits most n true rest fits others = fits
 first-fits most n false rest fits others = others
 
-entries-fit : (most : ℕ) (entries : List (List ℕ × ℕ)) (word : List ℕ) → 0 < most → list_all (λ (e : List ℕ × ℕ). nat_lt e.1 most) entries ≡ true → unwrap_or (entry_in entries word) 0 < most
+entries-fit : (most : ℕ) (entries : List (List ℕ × ℕ)) (word : List ℕ) → 0 < most
+    → list_all (λ (e : List ℕ × ℕ). nat_lt e.1 most) entries ≡ true → unwrap_or (entry_in entries word) 0 < most
 entries-fit most [] word some each = some
 entries-fit most (e ∷ es) word some each =
     let parts = and_parts (nat_lt e.1 most) (list_all (λ (e : List ℕ × ℕ). nat_lt e.1 most) es) each in

@@ -62,12 +62,15 @@ module _ (tables : List TableTree) (plant : PlantTree) where
 
   first_three : Laws → SoFar 4
   first_three laws =
-      step faults.NoSuchSet (test (list_any refers_to_unknown_set tables)) (step faults.NoSuchChain (test (list_any jumps_to_unknown_chain tables)) (step faults.DuplicateName (laws.names tables) start))
+      step faults.NoSuchSet (test (list_any refers_to_unknown_set tables))
+      (step faults.NoSuchChain (test (list_any jumps_to_unknown_chain tables))
+      (step faults.DuplicateName (laws.names tables) start))
 
   up_to_values : Laws → SoFar 10
   up_to_values laws =
       step faults.WrongValue (test (list_any (has_wrong_value plant) tables))
-      (step faults.TypeMismatch (test (list_any table_mismatches tables)) (step faults.BaseChainCalled (test (list_any jumps_to_base_chain tables)) (paths laws (first_three laws))))
+      (step faults.TypeMismatch (test (list_any table_mismatches tables))
+      (step faults.BaseChainCalled (test (list_any jumps_to_base_chain tables)) (paths laws (first_three laws))))
 
   all : Laws → SoFar 16
   all laws =

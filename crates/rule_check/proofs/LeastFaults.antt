@@ -30,36 +30,43 @@ module _ (tables : List TableTree) (plant : PlantTree) where
       by_number (inr high) = second fault high to wrong
 
   -- one more absent fault
-  pub more : (from : ℕ) (fault : CheckFault) → HasNone from (fault_number fault) tables plant → (Wrong fault tables plant → ⊥) → HasNone from (fault_number fault + 1) tables plant
+  pub more : (from : ℕ) (fault : CheckFault) → HasNone from (fault_number fault) tables plant
+      → (Wrong fault tables plant → ⊥) → HasNone from (fault_number fault + 1) tables plant
   more from fault none not_it = and_then from (fault_number fault) (fault_number fault + 1) none (without fault not_it)
 
   pub none_yet : (from : ℕ) → HasNone from from tables plant
   none_yet from fault low high wrong = omega (arith, low, high)
 
   -- a fault after absent ones
-  pub reported : (from : ℕ) (fault : CheckFault) (to : ℕ) → from ≤ fault_number fault → fault_number fault < to → HasNone from (fault_number fault) tables plant → Wrong fault tables plant → IsLeastFaultIn from to tables plant (Some fault)
+  pub reported : (from : ℕ) (fault : CheckFault) (to : ℕ) → from ≤ fault_number fault → fault_number fault < to
+      → HasNone from (fault_number fault) tables plant → Wrong fault tables plant
+      → IsLeastFaultIn from to tables plant (Some fault)
   reported from fault to low high none wrong = (low, high, wrong, none)
 
   -- the least of all
   pub least : (fault : CheckFault) → HasNone 1 (fault_number fault) tables plant → Wrong fault tables plant → LeastFault fault tables plant
   least fault none wrong = record { wrong = wrong; least = λ other has. by_number other has (cases_lt (fault_number other) (fault_number fault)) }
     where
-      by_number : (other : CheckFault) → Wrong other tables plant → (fault_number other < fault_number fault) ⊎ (fault_number fault ≤ fault_number other) → fault_number fault ≤ fault_number other
+      by_number : (other : CheckFault) → Wrong other tables plant → (fault_number other < fault_number fault)
+          ⊎ (fault_number fault ≤ fault_number other) → fault_number fault ≤ fault_number other
       by_number other has (inl low) = absurd (none other (from_one other) low has)
       by_number other has (inr high) = high
 
   -- after absent faults, the reported one is the least
-  pub least_reported : (from to : ℕ) (fault : CheckFault) (answer : Option CheckFault) → HasNone 1 from tables plant → answer ≡ Some fault → IsLeastFaultIn from to tables plant answer → LeastFault fault tables plant
+  pub least_reported : (from to : ℕ) (fault : CheckFault) (answer : Option CheckFault) → HasNone 1 from tables plant
+      → answer ≡ Some fault → IsLeastFaultIn from to tables plant answer → LeastFault fault tables plant
   least_reported from to fault answer none is is_least =
       let t : IsLeastFaultIn from to tables plant (Some fault) = subst (λ (o : Option CheckFault). IsLeastFaultIn from to tables plant o) is is_least in
       least fault (and_then 1 from (fault_number fault) none t.3) t.2
 
-  pub none_reported : (from to : ℕ) (answer : Option CheckFault) → HasNone 1 from tables plant → answer ≡ None → IsLeastFaultIn from to tables plant answer → HasNone 1 to tables plant
+  pub none_reported : (from to : ℕ) (answer : Option CheckFault) → HasNone 1 from tables plant → answer ≡ None
+      → IsLeastFaultIn from to tables plant answer → HasNone 1 to tables plant
   none_reported from to answer none is is_least = and_then 1 from to none (subst (λ (o : Option CheckFault). IsLeastFaultIn from to tables plant o) is is_least)
 
   pub well_formed : HasNone 1 16 tables plant → WellFormed tables plant
   well_formed none fault wrong = none fault (from_one fault) (below_16 fault) wrong
 
 -- the least fault is unique
-pub one_least : (tables : List TableTree) (plant : PlantTree) (fault other : CheckFault) → LeastFault fault tables plant → LeastFault other tables plant → fault ≡ other
+pub one_least : (tables : List TableTree) (plant : PlantTree) (fault other : CheckFault)
+    → LeastFault fault tables plant → LeastFault other tables plant → fault ≡ other
 one_least tables plant fault other a b = same_number fault other (omega (arith, a.least other b.wrong, b.least fault a.wrong))

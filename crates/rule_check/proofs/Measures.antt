@@ -1,5 +1,6 @@
 -- Costs and depths of well-formed rulesets.
-use Rattle.std.proofs.Common.{◌≡◌, ◌⊎◌, ℕ, suc, ◌+◌, ◌<◌, ◌≤◌, List, [], ◌∷◌, length, get_or, map, sum_by, Option, Some, None, refl, sym, ap, subst, ◌∙◌, inl, inr, arith, Vec, Global}
+use Rattle.std.proofs.Common.{◌≡◌, ◌⊎◌, ℕ, suc, ◌+◌, ◌<◌, ◌≤◌, List, [], ◌∷◌, length, get_or, map, sum_by, Option}
+use Rattle.std.proofs.Common.{Some, None, refl, sym, ap, subst, ◌∙◌, inl, inr, arith, Vec, Global}
 use Rattle.std.specs.Prelude.{◌-◌, ◌^◌, min, Contains, slice_get, slice_index}
 use Rattle.std.specs.List.{zip}
 use Rattle.std.specs.Option.{option_map}
@@ -30,7 +31,8 @@ none_past : {A : Type 0} (xs : List A) (i : ℕ) → slice_get xs i ≡ None →
 none_past xs i at =
     elim (slice_get_cases xs i).1 [ inl h ↦ (let is = h.2 in absurd cc) | inr h ↦ h.0 ]
 
-pub is_checked : (tables : List TableTree) (plant : PlantTree) (found : Findings) → WellFormed tables plant → AreFindings tables found → IsChecked tables plant found.costs.items found.depths.items
+pub is_checked : (tables : List TableTree) (plant : PlantTree) (found : Findings) → WellFormed tables plant
+    → AreFindings tables found → IsChecked tables plant found.costs.items found.depths.items
 is_checked tables plant found fine known = record {
   fine = fine;
   costs = record {
@@ -51,7 +53,9 @@ abbrev capped : ℕ → ℕ
 capped n = min n (2 ^ 64 - 1)
 
 -- the list has the cost of each chain at its index
-cost_at : (t : TableTree) (costs : List ℕ) (cost : Caller → ℕ) (j : ℕ) (c : ChainTree) → costs ≡ map (λ d. capped (cost (a_chain d.name))) (chains_of t) → slice_get (chains_of t) j ≡ Some c → slice_index costs j ≡ capped (cost (a_chain c.name))
+cost_at : (t : TableTree) (costs : List ℕ) (cost : Caller → ℕ) (j : ℕ) (c : ChainTree) → costs
+    ≡ map (λ d. capped (cost (a_chain d.name))) (chains_of t) → slice_get (chains_of t) j ≡ Some c
+    → slice_index costs j ≡ capped (cost (a_chain c.name))
 cost_at t costs cost j c is at =
     ap (λ xs. slice_index xs j) is ∙ get_or_from_slice_get (map (λ d. capped (cost (a_chain d.name))) (chains_of t)) j (capped (cost (a_chain c.name))) 0
     (slice_get-map (λ (d : ChainTree). capped (cost (a_chain d.name))) (chains_of t) j ∙ ap (option_map (λ (d : ChainTree). capped (cost (a_chain d.name)))) at)
@@ -63,10 +67,12 @@ part_le cost c = by_head c.head
     by_head None = omega arith
     by_head (Some head) = omega arith
 
-parts_le : (cost : Caller → ℕ) (cs : List ChainTree) → sum_by (λ p. base_part p.0.head p.1) (zip cs (map (λ c. capped (cost (a_chain c.name))) cs)) ≤ sum_by (λ c. base_cost cost c.name c.head) cs
+parts_le : (cost : Caller → ℕ) (cs : List ChainTree) → sum_by (λ p. base_part p.0.head p.1)
+    (zip cs (map (λ c. capped (cost (a_chain c.name))) cs)) ≤ sum_by (λ c. base_cost cost c.name c.head) cs
 parts_le cost [] = omega arith
 parts_le cost (c ∷ cs) =
-    let here = sum_by-cons (λ (p : ChainTree × ℕ). base_part p.0.head p.1) (c, capped (cost (a_chain c.name))) (zip cs (map (λ d. capped (cost (a_chain d.name))) cs)) in
+    let here = sum_by-cons (λ (p : ChainTree × ℕ). base_part p.0.head p.1) (c, capped (cost (a_chain c.name)))
+    (zip cs (map (λ d. capped (cost (a_chain d.name))) cs)) in
     let there = sum_by-cons (λ (d : ChainTree). base_cost cost d.name d.head) c cs in
     omega (arith, here, there, part_le cost c, parts_le cost cs)
 
@@ -74,7 +80,9 @@ parts_le cost (c ∷ cs) =
 table_le : (t : TableTree) (costs : List ℕ) (cost : Caller → ℕ) → AreChainCosts t costs → AreCosts t cost → base_sum t costs ≤ table_cost cost t
 table_le t costs cost are is = subst (λ xs. base_sum t xs ≤ table_cost cost t) (sym (are.are cost is)) (parts_le cost (chains_of t))
 
-tables_le : (f : TableTree → ℕ) (tables : List TableTree) (costs : List (List ℕ)) → ((i : ℕ) (t : TableTree) → slice_get tables i ≡ Some t → base_sum t (get_or costs i []) ≤ f t) → ruleset_sum tables costs ≤ sum_by f tables
+tables_le : (f : TableTree → ℕ) (tables : List TableTree) (costs : List (List ℕ))
+    → ((i : ℕ) (t : TableTree) → slice_get tables i ≡ Some t → base_sum t (get_or costs i []) ≤ f t)
+    → ruleset_sum tables costs ≤ sum_by f tables
 tables_le f [] costs each = omega arith
 tables_le f (t ∷ ts) [] each = omega arith
 tables_le f (t ∷ ts) (ks ∷ kss) each =
@@ -100,37 +108,59 @@ module _ (tables : List TableTree) (plant : PlantTree) (costs depths : List (Vec
   one_table i t at =
       let within : i < length tables = slice_get_within tables i t at in
       let part = get_or-le-sum_by (λ u. table_cost (cost u) u) tables i t within in
-      let is : table_cost (cost (get_or tables i t)) (get_or tables i t) ≡ table_cost (cost t) t = ap (λ u. table_cost (cost u) u) (get_or_from_slice_get tables i t t at) in
+      let is : table_cost (cost (get_or tables i t)) (get_or tables i t) ≡ table_cost (cost t) t =
+      ap (λ u. table_cost (cost u) u) (get_or_from_slice_get tables i t t at) in
       omega (arith, part, is, whole_cost)
 
   pub costs_of : (i : ℕ) (t : TableTree) → slice_get tables i ≡ Some t → AreChainCosts t (numbers_at costs i)
   costs_of i t at = k.costs.are i t at
 
-  pub base : (i : ℕ) (t : TableTree) (j : ℕ) (c : ChainTree) (head : HeadTree) → slice_get tables i ≡ Some t → slice_get (chains_of t) j ≡ Some c → c.head ≡ Some head → slice_index (numbers_at costs i) j < MAX_COST
+  pub base : (i : ℕ) (t : TableTree) (j : ℕ) (c : ChainTree) (head : HeadTree) → slice_get tables i ≡ Some t
+      → slice_get (chains_of t) j ≡ Some c → c.head ≡ Some head → slice_index (numbers_at costs i) j < MAX_COST
   base i t j c head at chain_at is =
       let within : j < length (chains_of t) = slice_get_within (chains_of t) j c chain_at in
       let part = get_or-le-sum_by (λ (d : ChainTree). base_cost (cost t) d.name d.head) (chains_of t) j c within in
       let same : get_or (chains_of t) j c ≡ c = get_or_from_slice_get (chains_of t) j c c chain_at in
-      let there : base_cost (cost t) (get_or (chains_of t) j c).name (get_or (chains_of t) j c).head ≡ 1 + cost t (a_chain c.name) = ap (λ (d : ChainTree). base_cost (cost t) d.name d.head) same ∙ ap (base_cost (cost t) c.name) is in
+      let there : base_cost (cost t) (get_or (chains_of t) j c).name (get_or (chains_of t) j c).head ≡ 1
+      + cost t (a_chain c.name) = ap (λ (d : ChainTree). base_cost (cost t) d.name d.head) same
+      ∙ ap (base_cost (cost t) c.name) is in
       let reported = cost_at t (numbers_at costs i) (cost t) j c ((costs_of i t at).are (cost t) (are_costs t (stands tables i t at))) chain_at in
       omega (arith, one_table i t at, part, there, reported)
 
   pub total : (others : List (List ℕ)) → AreRulesetCosts tables others → ruleset_sum tables others ≤ MAX_COST
   total others are =
-      omega (arith, whole_cost, tables_le (λ t. table_cost (cost t) t) tables others (λ i t at. table_le t (get_or others i []) (cost t) (are.are i t at) (are_costs t (stands tables i t at))))
+      omega (
+        arith,
+        whole_cost,
+        tables_le (λ t. table_cost (cost t) t) tables others
+            (λ i t at. table_le t (get_or others i []) (cost t) (are.are i t at) (are_costs t (stands tables i t at))),
+      )
 
   -- ---- depths
 
   pub depths_of : (i : ℕ) (t : TableTree) → slice_get tables i ≡ Some t → AreChainDepths t (numbers_at depths i)
   depths_of i t at = k.depths.are i t at
 
-  not_deep : (t : TableTree) → Contains tables t → (name : Text) (depth : ℕ) → Contains (chain_names t) name → HasDepth t (a_chain name) depth → depth ≤ MAX_JUMPS
+  not_deep : (t : TableTree) → Contains tables t → (name : Text) (depth : ℕ) → Contains (chain_names t) name
+      → HasDepth t (a_chain name) depth → depth ≤ MAX_JUMPS
   not_deep t at name depth named has = by_size (cases_lt MAX_JUMPS depth)
     where
       by_size : (MAX_JUMPS < depth) ⊎ (depth ≤ MAX_JUMPS) → depth ≤ MAX_JUMPS
       by_size (inl over) =
           let deep = has.deep in
-          absurd (k.fine faults.TooDeep (record { table = t; member = at; deep = record { chain = name; member = named; path = record { from = a_chain name; to = has.to; along = has.along; path = has.path; over = omega arith }; begins = refl } }))
+          absurd (k.fine faults.TooDeep
+          (record {
+            table = t;
+            member = at;
+            deep =
+                record {
+                  chain = name;
+                  member = named;
+                  path =
+                      record { from = a_chain name; to = has.to; along = has.along; path = has.path; over = omega arith };
+                  begins = refl;
+                };
+          }))
       by_size (inr low) = low
 
   -- ---- past the end, and the same in any lists

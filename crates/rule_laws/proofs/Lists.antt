@@ -1,5 +1,6 @@
 -- Properties of all elements of a list.
-use Rattle.std.proofs.Common.{◌≡◌, ℕ, zero, suc, ◌<◌, Bool, true, false, cond, List, [], ◌∷◌, ◌++◌, length, slice_index_or, slice_get, find, filter, Contains, Some, unwrap_or, ap, subst, arith}
+use Rattle.std.proofs.Common.{◌≡◌, ℕ, zero, suc, ◌<◌, Bool, true, false, cond, List, [], ◌∷◌, ◌++◌, length}
+use Rattle.std.proofs.Common.{slice_index_or, slice_get, find, filter, Contains, Some, unwrap_or, ap, subst, arith}
 
 module _ {A : Type 0} (P : A → Type 0) where
   abbrev pub Every : List A → Type 0

@@ -55,15 +55,20 @@ module _ {S : Type 0} (p : Program S) (weight : S → ℕ) (Good : S → Type 0)
 
   -- all chains lighter than this terminate
   abbrev Calls : ℕ → Type 0
-  Calls most = (i : ℕ) (chain : List (List S)) → p.rules_at i ≡ Some chain → GoodRules chain → rules_weight chain < most → (f : Facts) (es : List Event) → Comes i 1 (at_rule chain) f es
+  Calls most = (i : ℕ) (chain : List (List S)) → p.rules_at i ≡ Some chain → GoodRules chain
+      → rules_weight chain < most → (f : Facts) (es : List Event) → Comes i 1 (at_rule chain) f es
 
   module _ (falls : Falls) where
     module _ (c n k : ℕ) (s : S) (ss : List S) (rs : List (List S)) (f : Facts) (es : List Event) where
-      after_jump : (i : ℕ) (chain : List (List S)) → p.effect_of (statement_position p c n k) s f ≡ give (Jump i) → p.rules_at i ≡ Some chain → (o : RunResult) → Runs p i 1 (at_rule chain) f (with_verdict p es c n (Jump i)) o → Next c n rs → Comes c n (in_rule k (s ∷ ss) rs) f es
+      after_jump : (i : ℕ) (chain : List (List S)) → p.effect_of (statement_position p c n k) s f ≡ give (Jump i)
+          → p.rules_at i ≡ Some chain → (o : RunResult) → Runs p i 1 (at_rule chain) f
+          (with_verdict p es c n (Jump i)) o → Next c n rs → Comes c n (in_rule k (s ∷ ss) rs) f es
       after_jump i chain is at (at_end g later) r next = let q = next g later in (q.0, runs.jumps i g later chain is at r q.1)
       after_jump i chain is at (over e g later) r next = (over e g later, runs.jumps_away i chain is at r tt)
 
-      decided : (most : ℕ) → Calls most → weight s ≤ most → (d : RuleVerdict) → p.effect_of (statement_position p c n k) s f ≡ give d → Leads s d → Next c n rs → Comes c n (in_rule k (s ∷ ss) rs) f es
+      decided : (most : ℕ) → Calls most → weight s ≤ most → (d : RuleVerdict)
+          → p.effect_of (statement_position p c n k) s f ≡ give d → Leads s d → Next c n rs
+          → Comes c n (in_rule k (s ∷ ss) rs) f es
       decided most call le Accept is leads next = (over Accepted f (with_verdict p es c n Accept), runs.accepts is)
       decided most call le Drop is leads next = (over Dropped f (with_verdict p es c n Drop), runs.drops is)
       decided most call le (Translate t) is leads next = (over (Translated t) f (with_verdict p es c n (Translate t)), runs.translates t is)
@@ -76,17 +81,23 @@ module _ {S : Type 0} (p : Program S) (weight : S → ℕ) (Good : S → Type 0)
           let q = call i leads.chain leads.stands leads.good (omega (arith, le, leads.less)) f (with_verdict p es c n (Goto i)) in
           (q.0, runs.goes i leads.chain is leads.stands q.1)
 
-      effect_of : (most : ℕ) → Calls most → weight s ≤ most → Good s → (w : StatementEffect) → p.effect_of (statement_position p c n k) s f ≡ w → ((g : Facts) (later : List Event) → Comes c n (in_rule (k + 1) ss rs) g later) → Next c n rs → Comes c n (in_rule k (s ∷ ss) rs) f es
+      effect_of : (most : ℕ) → Calls most → weight s ≤ most → Good s → (w : StatementEffect)
+          → p.effect_of (statement_position p c n k) s f ≡ w
+          → ((g : Facts) (later : List Event) → Comes c n (in_rule (k + 1) ss rs) g later) → Next c n rs
+          → Comes c n (in_rule k (s ∷ ss) rs) f es
       effect_of most call le good pass is rest next = let q = rest f es in (q.0, runs.passes is q.1)
       effect_of most call le good fail is rest next = let q = next f es in (q.0, runs.fails is q.1)
       effect_of most call le good (note e g) is rest next = let q = rest g (es ++ e ∷ []) in (q.0, runs.notes e g is q.1)
       effect_of most call le good (give d) is rest next = decided most call le d is (falls s good (statement_position p c n k) f d is) next
 
     module _ (most : ℕ) (call : Calls most) where
-      in_turn : (c n k : ℕ) (ss : List S) (rs : List (List S)) → GoodRule ss → rule_weight ss ≤ most → Next c n rs → (f : Facts) (es : List Event) → Comes c n (in_rule k ss rs) f es
+      in_turn : (c n k : ℕ) (ss : List S) (rs : List (List S)) → GoodRule ss → rule_weight ss ≤ most → Next c n rs
+          → (f : Facts) (es : List Event) → Comes c n (in_rule k ss rs) f es
       in_turn c n k [] rs good le next f es = let q = next f es in (q.0, runs.rule_ends q.1)
       in_turn c n k (s ∷ ss) rs good le next f es =
-          effect_of c n k s ss rs f es most call (omega (arith, le)) good.0 (p.effect_of (statement_position p c n k) s f) refl (in_turn c n (k + 1) ss rs good.1 (omega (arith, le)) next) next
+          effect_of c n k s ss rs f es most call (omega (arith, le)) good.0
+          (p.effect_of (statement_position p c n k) s f) refl
+          (in_turn c n (k + 1) ss rs good.1 (omega (arith, le)) next) next
 
       from_rule : (c n : ℕ) (rs : List (List S)) → GoodRules rs → rules_weight rs ≤ most → (f : Facts) (es : List Event) → Comes c n (at_rule rs) f es
       from_rule c n [] good le f es = (at_end f es, runs.chain_ends)

@@ -85,7 +85,8 @@ module _ {X : Type 0} (lt : X → X → Bool) where
         by_tests false true false false ea eb ec ed h = absurd cc
         by_tests false false false false ea eb ec ed h = let e : lt y x ≡ false = o.chain y z x ed ea in absurd cc
 
-    swapped : (x y : X) (c t : Bool) (kept rest : List X) → (c ≡ true → t ≡ false) → kept ≡ cond c (x ∷ rest) rest → cond t (y ∷ kept) kept ≡ cond c (x ∷ cond t (y ∷ rest) rest) (cond t (y ∷ rest) rest)
+    swapped : (x y : X) (c t : Bool) (kept rest : List X) → (c ≡ true → t ≡ false) → kept ≡ cond c (x ∷ rest) rest
+        → cond t (y ∷ kept) kept ≡ cond c (x ∷ cond t (y ∷ rest) rest) (cond t (y ∷ rest) rest)
     swapped x y false true kept rest apart e = ap (λ l. y ∷ l) e
     swapped x y false false kept rest apart e = e
     swapped x y true false kept rest apart e = e
@@ -95,9 +96,11 @@ module _ {X : Type 0} (lt : X → X → Bool) where
     kept_put z x [] = refl
     kept_put z x (y ∷ ys) = by_test (lt y x) refl (kept_put z x ys)
       where
-        by_test : (b : Bool) → lt y x ≡ b → filter (ties lt z) (put x ys) ≡ filter (ties lt z) (x ∷ ys) → filter (ties lt z) (cond b (y ∷ put x ys) (x ∷ y ∷ ys)) ≡ filter (ties lt z) (x ∷ y ∷ ys)
+        by_test : (b : Bool) → lt y x ≡ b → filter (ties lt z) (put x ys) ≡ filter (ties lt z) (x ∷ ys)
+            → filter (ties lt z) (cond b (y ∷ put x ys) (x ∷ y ∷ ys)) ≡ filter (ties lt z) (x ∷ y ∷ ys)
         by_test false less later = refl
-        by_test true less later = swapped x y (ties lt z x) (ties lt z y) (filter (ties lt z) (put x ys)) (filter (ties lt z) ys) (λ tied. no_tie z x y tied less) later
+        by_test true less later = swapped x y (ties lt z x) (ties lt z y) (filter (ties lt z) (put x ys))
+            (filter (ties lt z) ys) (λ tied. no_tie z x y tied less) later
 
     pub stable : (xs : List X) → IsStableBy lt xs (ordered xs)
     stable [] z = refl

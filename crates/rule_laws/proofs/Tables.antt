@@ -1,5 +1,7 @@
 -- The targets of a table's statements are lighter, if all named chains exist and the cost equations have a solution.
-use Rattle.std.proofs.Common.{◌≡◌, ℕ, suc, ◌+◌, ◌<◌, ◌≤◌, Bool, true, false, not, ◌||◌, cond, List, [], ◌∷◌, ◌++◌, length, map, flat_map, find, slice_get, Option, Some, None, is_some, unwrap_or, option_map, refl, sym, ap, ◌∙◌, subst, inl, inr, arith}
+use Rattle.std.proofs.Common.{◌≡◌, ℕ, suc, ◌+◌, ◌<◌, ◌≤◌, Bool, true, false, not, ◌||◌, cond, List, [], ◌∷◌, ◌++◌}
+use Rattle.std.proofs.Common.{length, map, flat_map, find, slice_get, Option, Some, None, is_some, unwrap_or}
+use Rattle.std.proofs.Common.{option_map, refl, sym, ap, ◌∙◌, subst, inl, inr, arith}
 use Rattle.std.specs.List.{filter_map, cons_option, list_any}
 use Rattle.std.specs.Str.{bytes_eq}
 use Rattle.std.proofs.lemmas.List.{map-append}
@@ -9,7 +11,8 @@ use Rattle.nft_tree.specs.Tree.{Text, VerdictTree, DataTree, PairTree, Statement
 use Rattle.nft_tree.specs.TableItems.{chain_in, map_in, chains_of, maps_of}
 use Rattle.box_file.specs.Box.{PlantTree}
 use Rattle.chain_graph.specs.Graph.{Call, greatest, chain_cost, node_cost}
-use Rattle.rule_names.specs.Names.{index_in, chain_named, target_of, data_target, pair_targets, one_or_none, statement_targets, rule_targets, some_of, item_targets, targets_of}
+use Rattle.rule_names.specs.Names.{index_in, chain_named, target_of, data_target, pair_targets, one_or_none}
+use Rattle.rule_names.specs.Names.{statement_targets, rule_targets, some_of, item_targets, targets_of}
 use Rattle.list_laws.specs.Decisions.{Contains-none, Contains-cases}
 use Rattle.rule_paths.specs.Paths.{Caller, a_chain, a_map, verdict_calls, data_calls, pair_calls, statement_calls, chain_node, map_node, AreCosts}
 use Rattle.rule_meaning.specs.declared.event.RuleVerdict.{RuleVerdict}
@@ -36,13 +39,26 @@ pub placed : (cs : List ChainTree) (name : Text) (c : ChainTree) → find (λ x.
 placed [] name c found = absurd cc
 placed (x ∷ xs) name c found = by_test (bytes_eq x.name name) refl found (placed xs name c)
   where
-    by_test : (b : Bool) → bytes_eq x.name name ≡ b → cond b (Some x) (find (λ y. bytes_eq y.name name) xs) ≡ Some c → (find (λ y. bytes_eq y.name name) xs ≡ Some c → Placed xs name c) → Placed (x ∷ xs) name c
+    by_test : (b : Bool) → bytes_eq x.name name ≡ b → cond b (Some x) (find (λ y. bytes_eq y.name name) xs) ≡ Some c
+        → (find (λ y. bytes_eq y.name name) xs ≡ Some c → Placed xs name c) → Placed (x ∷ xs) name c
     by_test true e here later =
         let same : x ≡ c = ap (λ o. unwrap_or o x) here in
-        record { place = 0; is = ap (λ v. cond v (Some 0) (option_map suc (index_in name (map (λ y. y.name) xs)))) e; stands = here; same_name = ap (λ y. y.name) (sym same) ∙ (bytes_eq-Decides x.name name).0 e }
+        record {
+          place = 0;
+          is = ap (λ v. cond v (Some 0) (option_map suc (index_in name (map (λ y. y.name) xs)))) e;
+          stands = here;
+          same_name = ap (λ y. y.name) (sym same) ∙ (bytes_eq-Decides x.name name).0 e;
+        }
     by_test false e there later =
         let q = later there in
-        record { place = suc q.place; is = ap (λ v. cond v (Some 0) (option_map suc (index_in name (map (λ y. y.name) xs)))) e ∙ ap (option_map suc) q.is; stands = q.stands; same_name = q.same_name }
+        record {
+          place = suc q.place;
+          is =
+              ap (λ v. cond v (Some 0) (option_map suc (index_in name (map (λ y. y.name) xs)))) e
+              ∙ ap (option_map suc) q.is;
+          stands = q.stands;
+          same_name = q.same_name;
+        }
 
 -- ---- names
 
@@ -69,7 +85,8 @@ module _ (t : TableTree) where
   right (m ∷ ms) ns h = right ms ns h.1
 
   -- all names in the chains and maps of the table
-  pub chains_there : (items : List ItemTree) → There (flat_map item_targets items) → Every (λ c. There (flat_map rule_targets c.rules)) (filter_map chain_in items)
+  pub chains_there : (items : List ItemTree) → There (flat_map item_targets items)
+      → Every (λ c. There (flat_map rule_targets c.rules)) (filter_map chain_in items)
   chains_there [] h = tt
   chains_there (tree.chain c ∷ items) h = (left (flat_map rule_targets c.rules) _ h, chains_there items (right (flat_map rule_targets c.rules) _ h))
   chains_there (tree.comment text ∷ items) h = chains_there items h
@@ -117,22 +134,33 @@ module _ (cost : Caller → ℕ) where
     rule_weighs [] = refl
     rule_weighs (s ∷ ss) = omega (arith, rule_weighs ss)
 
-    pub rules_weigh : (rs : List RuleTree) → rules_weight p (weight_by cost) Good (map (λ r. r.statements) rs) ≡ chain_cost cost (map statement_calls (flat_map (λ r. r.statements) rs))
+    pub rules_weigh : (rs : List RuleTree) → rules_weight p (weight_by cost) Good (map (λ r. r.statements) rs)
+        ≡ chain_cost cost (map statement_calls (flat_map (λ r. r.statements) rs))
     rules_weigh [] = refl
     rules_weigh (r ∷ rs) =
         let split = ap (chain_cost cost) (map-append statement_calls r.statements (flat_map (λ x. x.statements) rs)) in
-        omega (arith, split, cost_append (map statement_calls r.statements) (map statement_calls (flat_map (λ x. x.statements) rs)), rule_weighs r.statements, rules_weigh rs)
+        omega (
+          arith,
+          split,
+          cost_append (map statement_calls r.statements)
+              (map statement_calls (flat_map (λ x. x.statements) rs)),
+          rule_weighs r.statements,
+          rules_weigh rs,
+        )
 
     module _ (are : AreCosts t cost) (whole : There t (targets_of t)) where
-      lighter_at : (s : Statement) (name : Text) (o : Option ChainTree) → chain_named t name ≡ o → is_some o ≡ true → cost (a_chain name) < weight_by cost s → Lighter p (weight_by cost) Good s (chain_number t name)
+      lighter_at : (s : Statement) (name : Text) (o : Option ChainTree) → chain_named t name ≡ o → is_some o ≡ true
+          → cost (a_chain name) < weight_by cost s → Lighter p (weight_by cost) Good s (chain_number t name)
       lighter_at s name None found e less = absurd cc
       lighter_at s name (Some c) found e less =
           let q = placed (chains_of t) name c found in
           let weighs = are (a_chain name) ∙ ap (λ o. node_cost cost (chain_node o)) found in
           record {
             chain = map (λ r. r.statements) c.rules;
-            stands = ap (λ i. p.rules_at (unwrap_or i (length (chains_of t)))) q.is ∙ ap (option_map (λ (x : ChainTree). map (λ r. r.statements) x.rules)) q.stands;
-            good = rules_good c.rules (every_found (λ x. There t (flat_map rule_targets x.rules)) (λ x. bytes_eq x.name name) (chains_of t) c found (chains_there t t.items whole));
+            stands = ap (λ i. p.rules_at (unwrap_or i (length (chains_of t)))) q.is
+                ∙ ap (option_map (λ (x : ChainTree). map (λ r. r.statements) x.rules)) q.stands;
+            good = rules_good c.rules (every_found (λ x. There t (flat_map rule_targets x.rules))
+                (λ x. bytes_eq x.name name) (chains_of t) c found (chains_there t t.items whole));
             less = omega (arith, weighs, rules_weigh c.rules, less);
           }
 
@@ -145,18 +173,31 @@ module _ (cost : Caller → ℕ) where
       there_among [] v h has = absurd (Contains-none _ has)
       there_among (x ∷ xs) v h has =
           let q = one_there (data_target x.value) (pair_targets xs) h in
-          elim (Contains-cases x.value (tree.to_verdict v) (map (λ y. y.value) xs) has) [ inl e ↦ subst (λ (d : DataTree). There t (one_or_none (data_target d))) e q.0 | inr later ↦ there_among xs v q.1 later ]
+          elim (Contains-cases x.value (tree.to_verdict v) (map (λ y. y.value) xs) has) [
+            | inl e ↦ subst (λ (d : DataTree). There t (one_or_none (data_target d))) e q.0
+            | inr later ↦
+                there_among xs v q.1 later
+          ]
 
       least_among : (ps : List PairTree) (v : VerdictTree) → Among ps v → greatest cost (verdict_calls v) ≤ greatest cost (pair_calls ps)
       least_among [] v has = absurd (Contains-none _ has)
       least_among (x ∷ xs) v has =
-          elim (Contains-cases x.value (tree.to_verdict v) (map (λ y. y.value) xs) has) [ inl e ↦ omega (arith, ap (λ (d : DataTree). greatest cost (data_calls d)) e, greatest_left (data_calls x.value) (pair_calls xs)) | inr later ↦ omega (arith, least_among xs v later, greatest_right (data_calls x.value) (pair_calls xs)) ]
+          elim (Contains-cases x.value (tree.to_verdict v) (map (λ y. y.value) xs) has) [
+            | inl e ↦ omega (
+              arith,
+              ap (λ (d : DataTree). greatest cost (data_calls d)) e,
+              greatest_left (data_calls x.value) (pair_calls xs),
+            )
+            | inr later ↦ omega
+                (arith, least_among xs v later, greatest_right (data_calls x.value) (pair_calls xs))
+          ]
 
       pub there_chosen : (s : Statement) (v : VerdictTree) → Good s → Chooses t s v → There t (one_or_none (target_of v))
       there_chosen s v h verdicts.itself = h
       there_chosen s v h (verdicts.of_pairs {ps = ps} has) = there_among ps v h has
       there_chosen s v h (verdicts.of_map {name = name} m found has) =
-          there_among (some_of m.elements) v (every_found (λ x. There t (pair_targets (some_of x.elements))) (λ x. bytes_eq x.name name) (maps_of t) m found (maps_there t t.items whole)) has
+          there_among (some_of m.elements) v (every_found (λ x. There t (pair_targets (some_of x.elements)))
+          (λ x. bytes_eq x.name name) (maps_of t) m found (maps_there t t.items whole)) has
 
       pub less_chosen : (s : Statement) (v : VerdictTree) → Chooses t s v → greatest cost (verdict_calls v) < weight_by cost s
       less_chosen s v verdicts.itself = omega arith
@@ -165,7 +206,8 @@ module _ (cost : Caller → ℕ) where
           let weighs = are (a_map name) ∙ ap (λ o. node_cost cost (map_node o)) found in
           omega (arith, weighs, least_among (some_of m.elements) v has)
 
-      lighter : (s : Statement) (i : ℕ) (name : Text) → chain_number t name ≡ i → is_some (chain_named t name) ≡ true → cost (a_chain name) < weight_by cost s → Lighter p (weight_by cost) Good s i
+      lighter : (s : Statement) (i : ℕ) (name : Text) → chain_number t name ≡ i → is_some (chain_named t name) ≡ true
+          → cost (a_chain name) < weight_by cost s → Lighter p (weight_by cost) Good s i
       lighter s i name is h less = subst (Lighter p (weight_by cost) Good s) is (lighter_at s name (chain_named t name) refl h less)
 
       leads : (s : Statement) → Good s → (d : RuleVerdict) → Decides t s d → Leads p (weight_by cost) Good s d

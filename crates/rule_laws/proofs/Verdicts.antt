@@ -23,7 +23,9 @@ use Rattle.rule_meaning.specs.declared.event.NatAction.{NatAction}
 use Rattle.rule_meaning.specs.Selectors.{value}
 use Rattle.rule_meaning.specs.Sets.{Scope, spans, data_verdict, pair_gives, pairs_give, declared_gives, map_gives, looked_up}
 use Rattle.rule_meaning.specs.Matches.{holds}
-use Rattle.rule_meaning.specs.Statements.{StatementEffect, pass, fail, note, give, passes_if, with_value, chain_number, rule_verdict_of, operand_number, sets_notrack, writes, writes_connection, nat_action_of, statement_effect}
+use Rattle.rule_meaning.specs.Statements.{StatementEffect, pass, fail, note, give, passes_if, with_value}
+use Rattle.rule_meaning.specs.Statements.{chain_number, rule_verdict_of, operand_number, sets_notrack, writes}
+use Rattle.rule_meaning.specs.Statements.{writes_connection, nat_action_of, statement_effect}
 
 -- an element has the verdict
 abbrev pub Among : List PairTree → VerdictTree → Type 0
@@ -34,7 +36,8 @@ module _ (t : TableTree) where
   pub data Chooses : Statement → VerdictTree → Type 0 where
     itself : {v : VerdictTree} → Chooses (tree.verdict v) v
     of_pairs : {x : Selector} {ps : List PairTree} {v : VerdictTree} → Among ps v → Chooses (tree.verdict_map x (tree.pairs ps)) v
-    of_map : {x : Selector} {name : Text} (m : MapTree) {v : VerdictTree} → map_named t name ≡ Some m → Among (some_of m.elements) v → Chooses (tree.verdict_map x (tree.named_map name)) v
+    of_map : {x : Selector} {name : Text} (m : MapTree) {v : VerdictTree} → map_named t name ≡ Some m
+        → Among (some_of m.elements) v → Chooses (tree.verdict_map x (tree.named_map name)) v
 
   -- the target of a jump or goto is among the statement's targets
   abbrev pub Decides : Statement → RuleVerdict → Type 0
@@ -68,7 +71,8 @@ module _ (t : TableTree) where
   FromList ps (Some v) = Among ps v
 
   first : (d : DataTree) (ps : List PairTree) (p : PairTree) → p.value ≡ d → FromList (p ∷ ps) (data_verdict d)
-  first (tree.to_verdict v) ps p is = subst (λ x. Contains (x ∷ map (λ y. y.value) ps) (tree.to_verdict v)) (sym is) (Contains-head (tree.to_verdict v) (map (λ y. y.value) ps))
+  first (tree.to_verdict v) ps p is = subst (λ x. Contains (x ∷ map (λ y. y.value) ps) (tree.to_verdict v)) (sym is)
+      (Contains-head (tree.to_verdict v) (map (λ y. y.value) ps))
   first (tree.to_value v) ps p is = tt
 
   later : (p : PairTree) (ps : List PairTree) (o : Option VerdictTree) → FromList ps o → FromList (p ∷ ps) o
@@ -86,7 +90,9 @@ module _ (t : TableTree) where
   from_list : (plant : PlantTree) (kind : ComparedType) (ps : List PairTree) (n : ℕ) → FromList ps (pairs_give data_verdict plant kind ps n)
   from_list plant kind [] n = tt
   from_list plant kind (p ∷ ps) n =
-      either (p ∷ ps) (pair_gives data_verdict plant kind n p) (pairs_give data_verdict plant kind ps n) (if_spans (spans (numbers_of plant kind p.key) n) p ps) (later p ps (pairs_give data_verdict plant kind ps n) (from_list plant kind ps n))
+      either (p ∷ ps) (pair_gives data_verdict plant kind n p) (pairs_give data_verdict plant kind ps n)
+      (if_spans (spans (numbers_of plant kind p.key) n) p ps)
+      (later p ps (pairs_give data_verdict plant kind ps n) (from_list plant kind ps n))
 
   abbrev Chosen : Statement → Option VerdictTree → Type 0
   Chosen s None = Unit {0}
@@ -96,14 +102,17 @@ module _ (t : TableTree) where
   of_list x ps None h = tt
   of_list x ps (Some v) h = of_pairs h
 
-  of_named : (x : Selector) (name : Text) (m : MapTree) (o : Option VerdictTree) → map_named t name ≡ Some m → FromList (some_of m.elements) o → Chosen (tree.verdict_map x (tree.named_map name)) o
+  of_named : (x : Selector) (name : Text) (m : MapTree) (o : Option VerdictTree) → map_named t name ≡ Some m
+      → FromList (some_of m.elements) o → Chosen (tree.verdict_map x (tree.named_map name)) o
   of_named x name m None is h = tt
   of_named x name m (Some v) is h = of_map m is h
 
-  of_declared : (plant : PlantTree) (x : Selector) (name : Text) (n : ℕ) (o : Option MapTree) → map_named t name ≡ o → Chosen (tree.verdict_map x (tree.named_map name)) (declared_gives data_verdict plant o n)
+  of_declared : (plant : PlantTree) (x : Selector) (name : Text) (n : ℕ) (o : Option MapTree) → map_named t name ≡ o
+      → Chosen (tree.verdict_map x (tree.named_map name)) (declared_gives data_verdict plant o n)
   of_declared plant x name n None is = tt
   of_declared plant x name n (Some m) is =
-      of_named x name m (pairs_give data_verdict plant (map_key_compared_type m.types) (some_of m.elements) n) is (from_list plant (map_key_compared_type m.types) (some_of m.elements) n)
+      of_named x name m (pairs_give data_verdict plant (map_key_compared_type m.types) (some_of m.elements) n) is
+      (from_list plant (map_key_compared_type m.types) (some_of m.elements) n)
 
   -- ---- statements
 
@@ -145,7 +154,8 @@ module _ (t : TableTree) where
     by_map : (x : Selector) (m : MapRefTree) (o : Option ℕ) → Chosen (tree.verdict_map x m) (option_and_then (map_gives data_verdict scope x m) o)
     by_map x m None = tt
     by_map x (tree.named_map name) (Some n) = of_declared plant x name n (map_named t name) refl
-    by_map x (tree.pairs ps) (Some n) = of_list x ps (pairs_give data_verdict plant (selector_compared_type x) ps n) (from_list plant (selector_compared_type x) ps n)
+    by_map x (tree.pairs ps) (Some n) = of_list x ps (pairs_give data_verdict plant (selector_compared_type x) ps n)
+        (from_list plant (selector_compared_type x) ps n)
 
     effect_of : (s : Statement) (at : StatementPosition) (f : Facts) → Says s (statement_effect scope at s f)
     effect_of (tree.matching m) at f = matched (tree.matching m) (holds scope m f)

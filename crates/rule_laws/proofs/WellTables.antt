@@ -25,13 +25,15 @@ got_passes test (y ∷ ys) (suc i) x e passed = either (test y) (got_passes test
     either true h = refl
     either false h = h
 
-module _ (tables : List TableTree) (plant : PlantTree) (well : WellFormed tables plant) (number : ℕ) (t : TableTree) (at : slice_get tables number ≡ Some t) where
+module _ (tables : List TableTree) (plant : PlantTree) (well : WellFormed tables plant) (number : ℕ) (t : TableTree)
+    (at : slice_get tables number ≡ Some t) where
   pub contained : Contains tables t
   contained = got_contained tables number t at
 
   -- all chains that it names exist
   pub whole : There t (targets_of t)
-  whole = there t (targets_of t) (false_from_ne_true (jumps_to_unknown_chain t) (λ bad. well faults.NoSuchChain (got_passes jumps_to_unknown_chain tables number t at bad)))
+  whole = there t (targets_of t) (false_from_ne_true (jumps_to_unknown_chain t)
+      (λ bad. well faults.NoSuchChain (got_passes jumps_to_unknown_chain tables number t at bad)))
 
   -- its chains have distinct names
   pub once : HasDuplicate (chain_names t) → ⊥

@@ -9,7 +9,8 @@ ghost use Rattle.rule_check.specs.WellFormed.{WellFormed};
 ghost use Rattle.rule_meaning.specs.declared.facts.Facts.{Facts};
 ghost use Rattle.rule_meaning.specs.declared.event.Event.{Event};
 ghost use Rattle.rule_meaning.specs.Runs.{table_program};
-ghost use Rattle.rule_meaning.specs.Hooks.{BaseChain, base_chains_of, HookResult, RunsBaseChain, NoChain, Chains, PreroutingRaw, Prerouting, Input, Forward, Postrouting, Translating};
+ghost use Rattle.rule_meaning.specs.Hooks.{BaseChain, base_chains_of, HookResult, RunsBaseChain, NoChain, Chains};
+ghost use Rattle.rule_meaning.specs.Hooks.{PreroutingRaw, Prerouting, Input, Forward, Postrouting, Translating};
 ghost use Rattle.rule_laws.specs.Terminates.{Terminates, step_to};
 ghost use Rattle.rule_laws.specs.Ranking.{IsRanking, weight_by, chain_cost_by};
 

@@ -12,7 +12,8 @@ use Rattle.rule_meaning.specs.Runs.{Program, Remainder, at_rule, in_rule, RunRes
 module _ {S : Type 0} (p : Program S) where
   -- a jump: the chain runs to its end and the next rule follows, or it gives a verdict for the base chain
   pub data Jumped (c n t : ℕ) (rs : List (List S)) (f : Facts) (es : List Event) (o : RunResult) : Type 0 where
-    back : (chain : List (List S)) (g : Facts) (later : List Event) → p.rules_at t ≡ Some chain → Runs p t 1 (at_rule chain) f es (at_end g later) → Runs p c (n + 1) (at_rule rs) g later o → Jumped c n t rs f es o
+    back : (chain : List (List S)) (g : Facts) (later : List Event) → p.rules_at t ≡ Some chain
+        → Runs p t 1 (at_rule chain) f es (at_end g later) → Runs p c (n + 1) (at_rule rs) g later o → Jumped c n t rs f es o
     away : (chain : List (List S)) → p.rules_at t ≡ Some chain → Runs p t 1 (at_rule chain) f es o → IsTerminal o → Jumped c n t rs f es o
 
   pub record Gone (t : ℕ) (f : Facts) (es : List Event) (o : RunResult) : Type 0 where
@@ -43,7 +44,8 @@ module _ {S : Type 0} (p : Program S) where
   Opened c n (in_rule k [] rs) f es o = Runs p c (n + 1) (at_rule rs) f es o
   Opened c n (in_rule k (s ∷ ss) rs) f es o = Said (p.effect_of (statement_position p c n k) s f) c n k ss rs f es o
 
-  by_effect : (w v : StatementEffect) (c n k : ℕ) (ss : List S) (rs : List (List S)) (f : Facts) (es : List Event) (o : RunResult) → w ≡ v → Said v c n k ss rs f es o → Said w c n k ss rs f es o
+  by_effect : (w v : StatementEffect) (c n k : ℕ) (ss : List S) (rs : List (List S)) (f : Facts) (es : List Event)
+      (o : RunResult) → w ≡ v → Said v c n k ss rs f es o → Said w c n k ss rs f es o
   by_effect w v c n k ss rs f es o is = subst (λ x. Said x c n k ss rs f es o) (sym is)
 
   pub open_run : {c n : ℕ} {l : Remainder S} {f : Facts} {es : List Event} {o : RunResult} → Runs p c n l f es o → Opened c n l f es o
@@ -60,8 +62,11 @@ module _ {S : Type 0} (p : Program S) where
   open_run (runs.returns {ss = ss} {rs = rs} w) = by_effect _ (give Return) _ _ _ ss rs _ _ _ w refl
   open_run (runs.jumps t {ss = ss} {rs = rs} g later chain w at first then) = by_effect _ (give (Jump t)) _ _ _ ss rs _ _ _ w (back chain g later at first then)
   open_run (runs.jumps_away t {ss = ss} {rs = rs} chain w at first ends) = by_effect _ (give (Jump t)) _ _ _ ss rs _ _ _ w (away chain at first ends)
-  open_run (runs.goes t {ss = ss} {rs = rs} chain w at first) = by_effect _ (give (Goto t)) _ _ _ ss rs _ _ _ w (record { chain = chain; stands = at; runs = first })
+  open_run (runs.goes t {ss = ss} {rs = rs} chain w at first) =
+      by_effect _ (give (Goto t)) _ _ _ ss rs _ _ _ w (record { chain = chain; stands = at; runs = first })
 
   -- inversion for a statement with a known effect
-  pub saying : {c n k : ℕ} {s : S} {ss : List S} {rs : List (List S)} {f : Facts} {es : List Event} {o : RunResult} (w : StatementEffect) → p.effect_of (statement_position p c n k) s f ≡ w → Runs p c n (in_rule k (s ∷ ss) rs) f es o → Said w c n k ss rs f es o
+  pub saying : {c n k : ℕ} {s : S} {ss : List S} {rs : List (List S)} {f : Facts} {es : List Event} {o : RunResult}
+      (w : StatementEffect) → p.effect_of (statement_position p c n k) s f ≡ w
+      → Runs p c n (in_rule k (s ∷ ss) rs) f es o → Said w c n k ss rs f es o
   saying {c} {n} {k} {s} {ss} {rs} {f} {es} {o} w is r = subst (λ x. Said x c n k ss rs f es o) is (open_run r)

@@ -12,7 +12,8 @@ use Rattle.rule_meaning.specs.declared.event.RuleVerdict.TheVariants.{Accept, Dr
 use Rattle.rule_meaning.specs.declared.event.HookVerdict.TheVariants.{Accepted, Dropped, Translated}
 use Rattle.rule_meaning.specs.Statements.{StatementEffect, pass, fail, note, give}
 use Rattle.rule_meaning.specs.Runs as runs
-use Rattle.rule_meaning.specs.Runs.{Program, table_program, Remainder, at_rule, in_rule, RunResult, at_end, over, IsTerminal, Runs, statement_position, with_verdict}
+use Rattle.rule_meaning.specs.Runs.{Program, table_program, Remainder, at_rule, in_rule, RunResult, at_end, over}
+use Rattle.rule_meaning.specs.Runs.{IsTerminal, Runs, statement_position, with_verdict}
 use Rattle.rule_meaning.specs.Laws.{state_after, state_behind, EmptyJump, CounterCounts, UnreachedHasNoEffect}
 use Rattle.rule_meaning.proofs.Inversion as inversion
 use Rattle.rule_meaning.proofs.Inversion.{Jumped, Decided, open_run, saying}
@@ -21,14 +22,16 @@ module _ {S : Type 0} (p : Program S) where
   -- ---- from a statement's effect to the run
 
   module _ (c n k : ℕ) (s : S) (ss : List S) (rs : List (List S)) (f : Facts) (es : List Event) (o : RunResult) where
-    jumped : (t : ℕ) → p.effect_of (statement_position p c n k) s f ≡ give (Jump t) → Jumped p c n t rs f (with_verdict p es c n (Jump t)) o → Runs p c n (in_rule k (s ∷ ss) rs) f es o
+    jumped : (t : ℕ) → p.effect_of (statement_position p c n k) s f ≡ give (Jump t)
+        → Jumped p c n t rs f (with_verdict p es c n (Jump t)) o → Runs p c n (in_rule k (s ∷ ss) rs) f es o
     jumped t is (inversion.back chain g later at a b) = runs.jumps t g later chain is at a b
     jumped t is (inversion.away chain at a ends) = runs.jumps_away t chain is at a ends
 
     end_in : (x : RunResult) → o ≡ x → Runs p c n (in_rule k (s ∷ ss) rs) f es x → Runs p c n (in_rule k (s ∷ ss) rs) f es o
     end_in x is = subst (λ y. Runs p c n (in_rule k (s ∷ ss) rs) f es y) (sym is)
 
-    decided : (d : RuleVerdict) → p.effect_of (statement_position p c n k) s f ≡ give d → Decided p d c n rs f (with_verdict p es c n d) o → Runs p c n (in_rule k (s ∷ ss) rs) f es o
+    decided : (d : RuleVerdict) → p.effect_of (statement_position p c n k) s f ≡ give d
+        → Decided p d c n rs f (with_verdict p es c n d) o → Runs p c n (in_rule k (s ∷ ss) rs) f es o
     decided Accept is h = end_in (over Accepted f (with_verdict p es c n Accept)) h (runs.accepts is)
     decided Drop is h = end_in (over Dropped f (with_verdict p es c n Drop)) h (runs.drops is)
     decided (Translate t) is h = end_in (over (Translated t) f (with_verdict p es c n (Translate t))) h (runs.translates t is)
@@ -39,13 +42,16 @@ module _ {S : Type 0} (p : Program S) where
 
   -- ---- an empty chain
 
-  follows : (c n : ℕ) (rs : List (List S)) (f : Facts) (es : List Event) (o : RunResult) (g : Facts) (later : List Event) → at_end g later ≡ at_end f es → Runs p c (n + 1) (at_rule rs) g later o → Runs p c (n + 1) (at_rule rs) f es o
+  follows : (c n : ℕ) (rs : List (List S)) (f : Facts) (es : List Event) (o : RunResult) (g : Facts)
+      (later : List Event) → at_end g later ≡ at_end f es → Runs p c (n + 1) (at_rule rs) g later o
+      → Runs p c (n + 1) (at_rule rs) f es o
   follows c n rs f es o g later same = subst Next same
     where
       Next : RunResult → Type 0
       Next x = elim x as (λ y. Type 0) [ at_end h e ↦ Runs p c (n + 1) (at_rule rs) h e o | over e h l ↦ ⊥ ]
 
-  empty_run : (t : ℕ) (chain : List (List S)) (f : Facts) (es : List Event) (o : RunResult) → p.rules_at t ≡ Some [] → p.rules_at t ≡ Some chain → Runs p t 1 (at_rule chain) f es o → o ≡ at_end f es
+  empty_run : (t : ℕ) (chain : List (List S)) (f : Facts) (es : List Event) (o : RunResult) → p.rules_at t ≡ Some []
+      → p.rules_at t ≡ Some chain → Runs p t 1 (at_rule chain) f es o → o ≡ at_end f es
   empty_run t chain f es o none at r = open_run p (subst (λ l. Runs p t 1 (at_rule l) f es o) (same chain (sym at ∙ none)) r)
     where
       same : (chain : List (List S)) → Some chain ≡ Some [] → chain ≡ []
@@ -55,7 +61,8 @@ module _ {S : Type 0} (p : Program S) where
           apart : Some (x ∷ xs) ≡ Some [] → ⊥
           apart h = cc
 
-  empty_jumped : (c n t : ℕ) (rs : List (List S)) (f : Facts) (es : List Event) (o : RunResult) → p.rules_at t ≡ Some [] → Jumped p c n t rs f es o → Runs p c (n + 1) (at_rule rs) f es o
+  empty_jumped : (c n t : ℕ) (rs : List (List S)) (f : Facts) (es : List Event) (o : RunResult) → p.rules_at t
+      ≡ Some [] → Jumped p c n t rs f es o → Runs p c (n + 1) (at_rule rs) f es o
   empty_jumped c n t rs f es o none (inversion.back chain g later at a b) = follows c n rs f es o g later (empty_run t chain f es _ none at a) b
   empty_jumped c n t rs f es o none (inversion.away chain at a ends) = absurd (subst IsTerminal (empty_run t chain f es o none at a) ends)
 
@@ -66,13 +73,18 @@ module _ {S : Type 0} (p : Program S) where
   Alike c n l f es k g later o = Runs p c n l f es o ↔ Runs p c n k g later o
 
   abbrev Comes : ℕ → ℕ → ℕ → List S → List S → List (List S) → Facts → List Event → Facts → List Event → RunResult → Type 0
-  Comes c n k before rest rs f es g later o = state_after p c n k before f es ≡ Some (g, later) → Alike c n (in_rule k (before ++ rest) rs) f es (in_rule (k + length before) rest rs) g later o
+  Comes c n k before rest rs f es g later o = state_after p c n k before f es ≡ Some (g, later)
+      → Alike c n (in_rule k (before ++ rest) rs) f es (in_rule (k + length before) rest rs) g later o
 
   module _ (c n : ℕ) (rest : List S) (rs : List (List S)) (g : Facts) (later : List Event) (o : RunResult) where
     renumbered : (k m : ℕ) → k ≡ m → Runs p c n (in_rule k rest rs) g later o → Runs p c n (in_rule m rest rs) g later o
     renumbered k m e = subst (λ x. Runs p c n (in_rule x rest rs) g later o) e
 
-    behind : (k : ℕ) (s : S) (ss : List S) (f : Facts) (es : List Event) (w : StatementEffect) → p.effect_of (statement_position p c n k) s f ≡ w → ((h : Facts) (e : List Event) → Comes c n (k + 1) ss rest rs h e g later o) → state_behind (state_after p c n (k + 1) ss) f es w ≡ Some (g, later) → Alike c n (in_rule k (s ∷ (ss ++ rest)) rs) f es (in_rule (k + length (s ∷ ss)) rest rs) g later o
+    behind : (k : ℕ) (s : S) (ss : List S) (f : Facts) (es : List Event) (w : StatementEffect)
+        → p.effect_of (statement_position p c n k) s f ≡ w
+        → ((h : Facts) (e : List Event) → Comes c n (k + 1) ss rest rs h e g later o)
+        → state_behind (state_after p c n (k + 1) ss) f es w ≡ Some (g, later)
+        → Alike c n (in_rule k (s ∷ (ss ++ rest)) rs) f es (in_rule (k + length (s ∷ ss)) rest rs) g later o
     behind k s ss f es pass is next e =
         let q = next f es e in
         let on : k + 1 + length ss ≡ k + length (s ∷ ss) = omega arith in
@@ -96,13 +108,19 @@ module _ {S : Type 0} (p : Program S) where
   -- ---- statements that it doesn't pass
 
   module _ (c n : ℕ) (rest other : List S) (rs : List (List S)) (o : RunResult) where
-    stopped : (k : ℕ) (s : S) (ss : List S) (f : Facts) (es : List Event) (w : StatementEffect) → p.effect_of (statement_position p c n k) s f ≡ w → ((h : Facts) (e : List Event) → state_after p c n (k + 1) ss h e ≡ None → Runs p c n (in_rule (k + 1) (ss ++ rest) rs) h e o → Runs p c n (in_rule (k + 1) (ss ++ other) rs) h e o) → state_behind (state_after p c n (k + 1) ss) f es w ≡ None → Runs p c n (in_rule k (s ∷ (ss ++ rest)) rs) f es o → Runs p c n (in_rule k (s ∷ (ss ++ other)) rs) f es o
+    stopped : (k : ℕ) (s : S) (ss : List S) (f : Facts) (es : List Event) (w : StatementEffect)
+        → p.effect_of (statement_position p c n k) s f ≡ w
+        → ((h : Facts) (e : List Event) → state_after p c n (k + 1) ss h e ≡ None
+        → Runs p c n (in_rule (k + 1) (ss ++ rest) rs) h e o → Runs p c n (in_rule (k + 1) (ss ++ other) rs) h e o)
+        → state_behind (state_after p c n (k + 1) ss) f es w ≡ None → Runs p c n (in_rule k (s ∷ (ss ++ rest)) rs) f
+        es o → Runs p c n (in_rule k (s ∷ (ss ++ other)) rs) f es o
     stopped k s ss f es pass is next e r = runs.passes is (next f es e (saying p pass is r))
     stopped k s ss f es (note x h) is next e r = runs.notes x h is (next h (es ++ x ∷ []) e (saying p (note x h) is r))
     stopped k s ss f es fail is next e r = runs.fails is (saying p fail is r)
     stopped k s ss f es (give d) is next e r = decided c n k s (ss ++ other) rs f es o d is (saying p (give d) is r)
 
-    pub stops_within : (before : List S) (k : ℕ) (f : Facts) (es : List Event) → state_after p c n k before f es ≡ None → Runs p c n (in_rule k (before ++ rest) rs) f es o → Runs p c n (in_rule k (before ++ other) rs) f es o
+    pub stops_within : (before : List S) (k : ℕ) (f : Facts) (es : List Event) → state_after p c n k before f es
+        ≡ None → Runs p c n (in_rule k (before ++ rest) rs) f es o → Runs p c n (in_rule k (before ++ other) rs) f es o
     stops_within [] k f es e r = absurd (none-some _ (sym e))
     stops_within (s ∷ ss) k f es e r = stopped k s ss f es (p.effect_of (statement_position p c n k) s f) refl (λ h x. stops_within ss (k + 1) h x) e r
 
@@ -117,8 +135,10 @@ empty_jumps p c n k t s ss rs f es is none o = (
 pub counter_sees : (plant : PlantTree) (number : ℕ) (t : TableTree) → CounterCounts plant number t
 counter_sees plant number t c n k before after start rs f g es later e o =
     let p = table_program plant number t in
-    let q = comes_through p c n (tree.counter start ∷ after) rs g later o before k f es e in
-    (λ r. saying p (note (Counted (statement_position p c n (k + length before))) g) refl (q.0 r), λ r. q.1 (runs.notes (Counted (statement_position p c n (k + length before))) g refl r))
+    let q = comes_through p c n (tree.counter start ∷ after) rs g later o before k f es e in (
+      λ r. saying p (note (Counted (statement_position p c n (k + length before))) g) refl (q.0 r),
+      λ r. q.1 (runs.notes (Counted (statement_position p c n (k + length before))) g refl r),
+    )
 
 pub nothing_behind : (plant : PlantTree) (number : ℕ) (t : TableTree) → UnreachedHasNoEffect plant number t
 nothing_behind plant number t c n k before after rs f es e o =

@@ -40,7 +40,8 @@ module _ {X : Type 0} (lt : X → X → Bool) (o : IsStrictWeakOrder lt) where
   left_out t x xs e = ap (λ b. cond b (x ∷ filter t xs) (filter t xs)) e
 
   -- what ties with an element of a list is no less than a lower bound of the list
-  not_less : (x y : X) (b : List X) → ((k : ℕ) (d : X) → k < length b → lt (get_or b k d) y ≡ false) → (x' : X) (rest : List X) → filter (ties lt x) b ≡ x' ∷ rest → lt x y ≡ false
+  not_less : (x y : X) (b : List X) → ((k : ℕ) (d : X) → k < length b → lt (get_or b k d) y ≡ false)
+      → (x' : X) (rest : List X) → filter (ties lt x) b ≡ x' ∷ rest → lt x y ≡ false
   not_less x y [] h x' rest e = absurd (nothing e)
     where
       nothing : [] ≡ x' ∷ rest → ⊥
@@ -90,7 +91,8 @@ module _ {X : Type 0} (lt : X → X → Bool) (o : IsStrictWeakOrder lt) where
   one_list (x ∷ xs) [] up up' h = absurd (no_more x xs (sym (h x)))
   one_list (x ∷ xs) (y ∷ ys) up up' h =
       let first = same_first x y xs ys up up' h in
-      let rest = one_list xs ys (rest_rises x xs up) (rest_rises y ys up') (λ z. same_rest x xs ys z (h z ∙ ap (λ w. filter (ties lt z) (w ∷ ys)) (sym first))) in
+      let rest = one_list xs ys (rest_rises x xs up) (rest_rises y ys up')
+      (λ z. same_rest x xs ys z (h z ∙ ap (λ w. filter (ties lt z) (w ∷ ys)) (sym first))) in
       ap (λ w. w ∷ xs) first ∙ ap (λ l. y ∷ l) rest
 
   pub one_order : (text a b : List X) → IsSortedBy lt a → IsStableBy lt text a → IsSortedBy lt b → IsStableBy lt text b → a ≡ b

@@ -1,5 +1,6 @@
 -- Matches whose selector has no value.
-use Rattle.std.proofs.Common.{◌≡◌, ℕ, zero, suc, ◌+◌, ◌*◌, ◌^◌, ◌<◌, Bool, false, List, [], ◌∷◌, length, slice_index_or, map, Contains, Option, Some, None, refl, ap, ◌∙◌, arith}
+use Rattle.std.proofs.Common.{◌≡◌, ℕ, zero, suc, ◌+◌, ◌*◌, ◌^◌, ◌<◌, Bool, false, List, [], ◌∷◌, length}
+use Rattle.std.proofs.Common.{slice_index_or, map, Contains, Option, Some, None, refl, ap, ◌∙◌, arith}
 use Rattle.std.specs.Option.{option_and_then}
 use Rattle.nft_tree.specs.declared.selector.Selector.{Selector}
 use Rattle.nft_tree.specs.declared.selector.Selector.TheVariants as selectors
@@ -18,10 +19,14 @@ no_test v test e = ap (λ x. tests x test) e
 module _ (s : Selector) (f : Facts) (nothing : value s f ≡ None) where
   none_joined : (ss : List Selector) (k high : ℕ) → k < length ss → slice_index_or ss k s ≡ s → join high (map (λ x. (selector_width x, value x f)) ss) ≡ None
   none_joined [] k high within is = absurd (omega (arith, within))
-  none_joined (x ∷ xs) zero high within is = ap (option_and_then (λ n. join (high * 2 ^ selector_width x + n) (map (λ y. (selector_width y, value y f)) xs))) (ap (λ y. value y f) is ∙ nothing)
+  none_joined (x ∷ xs) zero high within is =
+      ap (option_and_then (λ n. join (high * 2 ^ selector_width x + n) (map (λ y. (selector_width y, value y f)) xs)))
+      (ap (λ y. value y f) is ∙ nothing)
   none_joined (x ∷ xs) (suc k) high within is = by_value (value x f) (λ n. none_joined xs k (high * 2 ^ selector_width x + n) (omega arith) is)
     where
-      by_value : (v : Option ℕ) → ((n : ℕ) → join (high * 2 ^ selector_width x + n) (map (λ y. (selector_width y, value y f)) xs) ≡ None) → option_and_then (λ n. join (high * 2 ^ selector_width x + n) (map (λ y. (selector_width y, value y f)) xs)) v ≡ None
+      by_value : (v : Option ℕ)
+          → ((n : ℕ) → join (high * 2 ^ selector_width x + n) (map (λ y. (selector_width y, value y f)) xs) ≡ None)
+          → option_and_then (λ n. join (high * 2 ^ selector_width x + n) (map (λ y. (selector_width y, value y f)) xs)) v ≡ None
       by_value None h = refl
       by_value (Some n) h = h n
 

@@ -10,7 +10,9 @@ ghost use Rattle.rule_meaning.specs.Selectors.{value};
 ghost use Rattle.rule_meaning.specs.Sets.{Scope};
 ghost use Rattle.rule_meaning.specs.Matches.{holds};
 ghost use Rattle.rule_meaning.specs.Runs.{Program};
-ghost use Rattle.rule_meaning.specs.Hooks.{BaseChain, InOrder, HookResult, RunsBaseChain, Continues, Stops, NoChain, InTurn, Chains, PreroutingRaw, Prerouting, Input, Forward, Postrouting, Translating};
+ghost use Rattle.rule_meaning.specs.Hooks.{BaseChain, InOrder, HookResult, RunsBaseChain, Continues, Stops, NoChain};
+ghost use Rattle.rule_meaning.specs.Hooks.{InTurn, Chains, PreroutingRaw, Prerouting, Input, Forward, Postrouting};
+ghost use Rattle.rule_meaning.specs.Hooks.{Translating};
 ghost use Rattle.rule_meaning.specs.Laws.{AtMostOneRun, AtMostOneResult, step_of, selectors_of, EmptyJump, CounterCounts, UnreachedHasNoEffect};
 
 /// Running the remainder of a chain is deterministic.

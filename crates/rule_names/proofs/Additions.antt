@@ -1,5 +1,6 @@
 -- One more item in a table.
-use Rattle.std.proofs.Common.{◌≡◌, ℕ, ◌+◌, ◌<◌, List, [], ◌∷◌, ◌++◌, Bool, true, false, length, get_or, map, take, drop, sym, ap, ap₂, ◌∙◌, subst, inl, inr, ⊎_elim}
+use Rattle.std.proofs.Common.{◌≡◌, ℕ, ◌+◌, ◌<◌, List, [], ◌∷◌, ◌++◌, Bool, true, false, length, get_or, map, take}
+use Rattle.std.proofs.Common.{drop, sym, ap, ap₂, ◌∙◌, subst, inl, inr, ⊎_elim}
 use Rattle.std.specs.Borrow.{Bor}
 use Rattle.std.specs.List.{filter_map}
 use Rattle.std.proofs.lemmas.List.{map-append, append-nil}
@@ -24,15 +25,18 @@ use Rattle.rule_names.proofs.Duplicates.{repeats-on}
 -- a list with a duplicate has one when it is longer
 pub repeats-in-on : (items more : List ItemTree) → HasDuplicateIn items → HasDuplicateIn (items ++ more)
 repeats-in-on items more = ⊎_elim
-    (λ r. inl (simp (filter_map-append, map-append) (repeats-on (map (λ c. c.name) (filter_map chain_in items)) (map (λ c. c.name) (filter_map chain_in more)) r)))
+    (λ r. inl (simp (filter_map-append, map-append)
+    (repeats-on (map (λ c. c.name) (filter_map chain_in items)) (map (λ c. c.name) (filter_map chain_in more)) r)))
     (λ r. inr (simp filter_map-append (repeats-on (filter_map set_or_map_name items) (filter_map set_or_map_name more) r)))
 
 -- items of one kind
-module _ {T X : Type 0} (view : T → X) (name_of : X → Text) (xs : List X) (all : List (Bor T)) (names : List Text) (known : AreNamed view name_of xs all names) (a : Bor T) (name : Text) (is : name ≡ name_of (view a.now)) where
+module _ {T X : Type 0} (view : T → X) (name_of : X → Text) (xs : List X) (all : List (Bor T)) (names : List Text)
+    (known : AreNamed view name_of xs all names) (a : Bor T) (name : Text) (is : name ≡ name_of (view a.now)) where
   names-more : names ++ name ∷ [] ≡ map name_of (xs ++ view a.now ∷ [])
   names-more = ap₂ (λ ns n. ns ++ n ∷ []) known.named is ∙ sym (map-append name_of xs (view a.now ∷ []))
 
-  pub named-more : (new : List (Bor T)) (new_names : List Text) → new ≡ all ++ a ∷ [] → IsAdded names name new_names true → AreNamed view name_of (xs ++ view a.now ∷ []) new new_names
+  pub named-more : (new : List (Bor T)) (new_names : List Text) → new ≡ all ++ a ∷ []
+      → IsAdded names name new_names true → AreNamed view name_of (xs ++ view a.now ∷ []) new new_names
   named-more new new_names e added = record {
     are = ap (map (λ x. view x.now)) e ∙ map-append (λ x. view x.now) all (a ∷ []) ∙ ap (λ ys. ys ++ view a.now ∷ []) known.are;
     named = added.0 ∙ names-more;
@@ -52,7 +56,9 @@ module _ (items : List ItemTree) (old : NamedItems) (held : Represents items old
     both_apart = simp (filter_map-append, append-nil) held.both_apart;
   }
 
-  pub chain-added : (c : Bor Chain) (name : Text) → name ≡ c.now.name.items → (new : Named Chain) (fresh : Bool) → (new.all.items ≡ old.chains.all.items ++ c ∷ []) × IsAdded old.chains.names name new.names fresh → RepresentsOrHasDuplicate (items ++ tree.chain (chain_tree c.now) ∷ []) (record old { chains = new }) fresh
+  pub chain-added : (c : Bor Chain) (name : Text) → name ≡ c.now.name.items → (new : Named Chain) (fresh : Bool)
+      → (new.all.items ≡ old.chains.all.items ++ c ∷ []) × IsAdded old.chains.names name new.names fresh
+      → RepresentsOrHasDuplicate (items ++ tree.chain (chain_tree c.now) ∷ []) (record old { chains = new }) fresh
   chain-added c name is new true added = record {
     chains = simp filter_map-append (named-more chain_tree (λ c. c.name) _ _ _ held.chains c name is new.all.items new.names added.0 added.1);
     sets = simp (filter_map-append, append-nil) held.sets;
@@ -66,10 +72,15 @@ module _ (items : List ItemTree) (old : NamedItems) (held : Represents items old
   shared-more : (shared name : Text) → shared ≡ name → old.sets_and_maps ++ shared ∷ [] ≡ filter_map set_or_map_name items ++ name ∷ []
   shared-more shared name is = ap₂ (λ ns n. ns ++ n ∷ []) held.both is
 
-  pub shared-duplicate : (shared name : Text) → shared ≡ name → HasDuplicate (old.sets_and_maps ++ shared ∷ []) → HasDuplicate (filter_map set_or_map_name items ++ name ∷ [])
+  pub shared-duplicate : (shared name : Text) → shared ≡ name → HasDuplicate (old.sets_and_maps ++ shared ∷ [])
+      → HasDuplicate (filter_map set_or_map_name items ++ name ∷ [])
   shared-duplicate shared name is duplicate = subst HasDuplicate (shared-more shared name is) duplicate
 
-  pub set-added : (s : Bor SetDecl) (shared own : Text) → shared ≡ s.now.name.items → own ≡ s.now.name.items → (both : List Text) → IsAdded old.sets_and_maps shared both true → (new : Named SetDecl) (fresh : Bool) → (new.all.items ≡ old.sets.all.items ++ s ∷ []) × IsAdded old.sets.names own new.names fresh → RepresentsOrHasDuplicate (items ++ tree.set (set_tree s.now) ∷ []) (record old { sets = new; sets_and_maps = both }) fresh
+  pub set-added : (s : Bor SetDecl) (shared own : Text) → shared ≡ s.now.name.items → own ≡ s.now.name.items
+      → (both : List Text) → IsAdded old.sets_and_maps shared both true → (new : Named SetDecl) (fresh : Bool)
+      → (new.all.items ≡ old.sets.all.items ++ s ∷ []) × IsAdded old.sets.names own new.names fresh
+      → RepresentsOrHasDuplicate (items ++ tree.set (set_tree s.now) ∷ [])
+      (record old { sets = new; sets_and_maps = both }) fresh
   set-added s shared own is is_own both new_both new true added = record {
     chains = simp (filter_map-append, append-nil) held.chains;
     sets = simp filter_map-append (named-more set_tree (λ s. s.name) _ _ _ held.sets s own is_own new.all.items new.names added.0 added.1);
@@ -78,9 +89,14 @@ module _ (items : List ItemTree) (old : NamedItems) (held : Represents items old
     both_apart = simp filter_map-append (subst (λ ns. HasDuplicate ns → ⊥) (new_both.0 ∙ shared-more shared s.now.name.items is) new_both.1);
   }
   set-added s shared own is is_own both new_both new false added =
-      inr (sets-repeat (items ++ tree.set (set_tree s.now) ∷ []) (simp filter_map-append (named-duplicate set_tree (λ s. s.name) _ _ _ held.sets s own is_own added.1)))
+      inr (sets-repeat (items ++ tree.set (set_tree s.now) ∷ [])
+      (simp filter_map-append (named-duplicate set_tree (λ s. s.name) _ _ _ held.sets s own is_own added.1)))
 
-  pub map-added : (m : Bor MapDecl) (shared own : Text) → shared ≡ m.now.name.items → own ≡ m.now.name.items → (both : List Text) → IsAdded old.sets_and_maps shared both true → (new : Named MapDecl) (fresh : Bool) → (new.all.items ≡ old.maps.all.items ++ m ∷ []) × IsAdded old.maps.names own new.names fresh → RepresentsOrHasDuplicate (items ++ tree.map_item (map_tree m.now) ∷ []) (record old { maps = new; sets_and_maps = both }) fresh
+  pub map-added : (m : Bor MapDecl) (shared own : Text) → shared ≡ m.now.name.items → own ≡ m.now.name.items
+      → (both : List Text) → IsAdded old.sets_and_maps shared both true → (new : Named MapDecl) (fresh : Bool)
+      → (new.all.items ≡ old.maps.all.items ++ m ∷ []) × IsAdded old.maps.names own new.names fresh
+      → RepresentsOrHasDuplicate (items ++ tree.map_item (map_tree m.now) ∷ [])
+      (record old { maps = new; sets_and_maps = both }) fresh
   map-added m shared own is is_own both new_both new true added = record {
     chains = simp (filter_map-append, append-nil) held.chains;
     sets = simp (filter_map-append, append-nil) held.sets;
@@ -89,14 +105,19 @@ module _ (items : List ItemTree) (old : NamedItems) (held : Represents items old
     both_apart = simp filter_map-append (subst (λ ns. HasDuplicate ns → ⊥) (new_both.0 ∙ shared-more shared m.now.name.items is) new_both.1);
   }
   map-added m shared own is is_own both new_both new false added =
-      inr (maps-repeat (items ++ tree.map_item (map_tree m.now) ∷ []) (simp filter_map-append (named-duplicate map_tree (λ m. m.name) _ _ _ held.maps m own is_own added.1)))
+      inr (maps-repeat (items ++ tree.map_item (map_tree m.now) ∷ [])
+      (simp filter_map-append (named-duplicate map_tree (λ m. m.name) _ _ _ held.maps m own is_own added.1)))
 
 -- items in text order
 module _ (items : List Item) (i : ℕ) (x : Item) (inside : i < length items) (is : x ≡ get_or items i x) (n : NamedItems) (fresh : Bool) where
-  pub item-held : fresh ≡ true → RepresentsOrHasDuplicate (map item_tree (take i items) ++ item_tree x ∷ []) n fresh → Represents (map item_tree (take (i + 1) items)) n
-  item-held t h = subst (λ xs. Represents xs n) (sym (map-more item_tree items i x inside is)) (subst (RepresentsOrHasDuplicate (map item_tree (take i items) ++ item_tree x ∷ []) n) t h)
+  pub item-held : fresh ≡ true → RepresentsOrHasDuplicate (map item_tree (take i items) ++ item_tree x ∷ []) n fresh
+      → Represents (map item_tree (take (i + 1) items)) n
+  item-held t h = subst (λ xs. Represents xs n) (sym (map-more item_tree items i x inside is))
+      (subst (RepresentsOrHasDuplicate (map item_tree (take i items) ++ item_tree x ∷ []) n) t h)
 
-  pub item-duplicate : fresh ≡ false → RepresentsOrHasDuplicate (map item_tree (take i items) ++ item_tree x ∷ []) n fresh → HasDuplicateIn (map item_tree items)
+  pub item-duplicate : fresh ≡ false → RepresentsOrHasDuplicate (map item_tree (take i items) ++ item_tree x ∷ []) n
+      fresh → HasDuplicateIn (map item_tree items)
   item-duplicate f h =
       subst HasDuplicateIn (map-around item_tree items i x inside is)
-      (repeats-in-on (map item_tree (take i items) ++ item_tree x ∷ []) (map item_tree (drop (i + 1) items)) (subst (RepresentsOrHasDuplicate (map item_tree (take i items) ++ item_tree x ∷ []) n) f h))
+      (repeats-in-on (map item_tree (take i items) ++ item_tree x ∷ []) (map item_tree (drop (i + 1) items))
+      (subst (RepresentsOrHasDuplicate (map item_tree (take i items) ++ item_tree x ∷ []) n) f h))

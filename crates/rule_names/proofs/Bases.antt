@@ -38,7 +38,8 @@ base-among (c ∷ cs) name t = ⊎_elim
     (λ h. among-more c.name (names cs) name (base-among cs name h))
     (or_cases (base_named name c) (list_any (base_named name) cs) t)
 
-pub base-step : (b : Bool) (c : ChainTree) (rest : Bool) (o : Option ChainTree) → rest ≡ is_base o → (b ≡ true → rest ≡ false) → (b && is_some c.head) || rest ≡ is_base (cond b (Some c) o)
+pub base-step : (b : Bool) (c : ChainTree) (rest : Bool) (o : Option ChainTree) → rest ≡ is_base o
+    → (b ≡ true → rest ≡ false) → (b && is_some c.head) || rest ≡ is_base (cond b (Some c) o)
 base-step true c rest o e f = ap (λ r. is_some c.head || r) (f refl) ∙ or-false (is_some c.head)
 base-step false c rest o e f = e
 

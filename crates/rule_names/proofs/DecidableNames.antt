@@ -27,7 +27,8 @@ HasDuplicateTables tables = HasDuplicate (table_names families.Ip tables) ⊎ Ha
 HasDuplicateNames : (TableTree → List Text) → List TableTree → Type 0
 HasDuplicateNames names tables = (t : TableTree) × Contains tables t × HasDuplicate (names t)
 
-to_duplicate : (tables : List TableTree) → HasDuplicateTables tables ⊎ (HasDuplicateNames chain_names tables ⊎ HasDuplicateNames set_and_map_names tables) → DuplicateName tables
+to_duplicate : (tables : List TableTree) → HasDuplicateTables tables
+    ⊎ (HasDuplicateNames chain_names tables ⊎ HasDuplicateNames set_and_map_names tables) → DuplicateName tables
 unfolding HasDuplicateTables HasDuplicateNames
 to_duplicate tables (inl (inl r)) = two_tables families.Ip r
 to_duplicate tables (inl (inr r)) = two_tables families.Inet r
@@ -39,7 +40,8 @@ unfolding HasDuplicateTables
 of_family families.Ip tables r = inl r
 of_family families.Inet tables r = inr r
 
-of_duplicate : (tables : List TableTree) → DuplicateName tables → HasDuplicateTables tables ⊎ (HasDuplicateNames chain_names tables ⊎ HasDuplicateNames set_and_map_names tables)
+of_duplicate : (tables : List TableTree) → DuplicateName tables → HasDuplicateTables tables
+    ⊎ (HasDuplicateNames chain_names tables ⊎ HasDuplicateNames set_and_map_names tables)
 unfolding HasDuplicateNames
 of_duplicate tables (two_tables family r) = inl (of_family family tables r)
 of_duplicate tables (two_chains t at r) = inr (inl (t, at, r))
@@ -55,4 +57,6 @@ names_duplicate names tables = some_decided (λ t. HasDuplicate (names t)) table
 
 pub name_duplicate : (tables : List TableTree) → DuplicateName tables ⊎ (DuplicateName tables → ⊥)
 name_duplicate tables =
-    decided_as (to_duplicate tables) (of_duplicate tables) (either_decided (tables_duplicate tables) (either_decided (names_duplicate chain_names tables) (names_duplicate set_and_map_names tables)))
+    decided_as (to_duplicate tables) (of_duplicate tables)
+    (either_decided (tables_duplicate tables)
+    (either_decided (names_duplicate chain_names tables) (names_duplicate set_and_map_names tables)))

@@ -1,5 +1,6 @@
 -- Duplicate names in lists.
-use Rattle.std.proofs.Common.{◌≡◌, ◌⊎◌, ℕ, zero, suc, ◌<◌, List, [], ◌∷◌, ◌++◌, Bool, true, false, ◌||◌, not, length, get_or, sym, refl, ap, ◌∙◌, inl, inr, ⊎_elim, subst, arith}
+use Rattle.std.proofs.Common.{◌≡◌, ◌⊎◌, ℕ, zero, suc, ◌<◌, List, [], ◌∷◌, ◌++◌, Bool, true, false, ◌||◌, not, length}
+use Rattle.std.proofs.Common.{get_or, sym, refl, ap, ◌∙◌, inl, inr, ⊎_elim, subst, arith}
 use Rattle.std.specs.Prelude.{if◌then◌else◌}
 use Rattle.std.specs.Borrow.{Bor}
 use Rattle.std.specs.List.{list_any}
@@ -33,12 +34,14 @@ pub among-split : (n : Text) (names : List Text) (name : Text) → Among (n ∷ 
 among-split n names name a = among-at n names name a.index a.within a.is
 
 pub repeats-more : (n : Text) (names : List Text) → HasDuplicate names → HasDuplicate (n ∷ names)
-repeats-more n names r = let a = r.apart in let w = r.within in record { first = suc r.first; second = suc r.second; apart = omega arith; within = omega arith; same = r.same }
+repeats-more n names r = let a = r.apart in let w =
+    r.within in record { first = suc r.first; second = suc r.second; apart = omega arith; within = omega arith; same = r.same }
 
 pub repeats-here : (name : Text) (names : List Text) → Among names name → HasDuplicate (name ∷ names)
 repeats-here name names a = let w = a.within in record { first = zero; second = suc a.index; apart = omega arith; within = omega arith; same = sym a.is }
 
-pub repeats-at : (n : Text) (names : List Text) (i j : ℕ) → i < j → j < length (n ∷ names) → get_or (n ∷ names) i [] ≡ get_or (n ∷ names) j [] → Among names n ⊎ HasDuplicate names
+pub repeats-at : (n : Text) (names : List Text) (i j : ℕ) → i < j → j < length (n ∷ names) → get_or (n ∷ names) i []
+    ≡ get_or (n ∷ names) j [] → Among names n ⊎ HasDuplicate names
 repeats-at n names i zero a w e = absurd (omega (arith, a))
 repeats-at n names zero (suc j) a w e = inl (record { index = j; within = omega (arith, w); is = sym e })
 repeats-at n names (suc i) (suc j) a w e = inr (record { first = i; second = j; apart = omega (arith, a); within = omega (arith, w); same = e })
@@ -94,7 +97,14 @@ apart-more names name apart absent r =
     let front : r.first < length names = omega arith in
     let first = get_or_append_left names (name ∷ []) [] r.first front in
     ⊎_elim
-    (λ l. apart (record { first = r.first; second = r.second; apart = r.apart; within = l; same = sym first ∙ r.same ∙ get_or_append_left names (name ∷ []) [] r.second l }))
+    (λ l. apart (record {
+      first = r.first;
+      second = r.second;
+      apart = r.apart;
+      within = l;
+      same =
+          sym first ∙ r.same ∙ get_or_append_left names (name ∷ []) [] r.second l;
+    }))
     (λ l.
     let t = named-at names name r.first front (sym first ∙ r.same ∙ get_or_push names name [] r.second (let e : length names ≡ r.second = omega arith in e)) in
     let q : true ≡ false = sym t ∙ absent in
@@ -115,12 +125,18 @@ repeats-on names more r =
     }
 
 -- one more key
-pub key-added : (keys new : List (Bor Text)) (key : Bor Text) (stands fresh : Bool) → list_any (named key.now) keys ≡ stands → fresh ≡ not stands → new ≡ (if stands then keys else keys ++ key ∷ []) → (HasDuplicate (texts keys) → ⊥) → IsAdded (texts keys) key.now (texts new) fresh × (HasDuplicate (texts new) → ⊥)
+pub key-added : (keys new : List (Bor Text)) (key : Bor Text) (stands fresh : Bool) → list_any (named key.now) keys
+    ≡ stands → fresh ≡ not stands → new ≡ (if stands then keys else keys ++ key ∷ [])
+    → (HasDuplicate (texts keys) → ⊥) → IsAdded (texts keys) key.now (texts new) fresh × (HasDuplicate (texts new) → ⊥)
 key-added keys new key true fresh t f is apart = (
-  subst (IsAdded (texts keys) key.now (texts new)) (sym f) (among-front (texts keys) key.now [] (any-named (texts keys) key.now (sym (any_of_map (bytes_eq key.now) (λ k. k.now) keys) ∙ t))),
+  subst (IsAdded (texts keys) key.now (texts new)) (sym f)
+      (among-front (texts keys) key.now [] (any-named (texts keys) key.now
+      (sym (any_of_map (bytes_eq key.now) (λ k. k.now) keys) ∙ t))),
   subst (λ ks. HasDuplicate (texts ks) → ⊥) (sym is) apart,
 )
 key-added keys new key false fresh t f is apart =
     let more : texts new ≡ texts keys ++ key.now ∷ [] = ap texts is ∙ map-append (λ k. k.now) keys (key ∷ []) in
-    let still : HasDuplicate (texts new) → ⊥ = subst (λ ns. HasDuplicate ns → ⊥) (sym more) (apart-more (texts keys) key.now apart (sym (any_of_map (bytes_eq key.now) (λ k. k.now) keys) ∙ t)) in
+    let still : HasDuplicate (texts new) → ⊥ =
+    subst (λ ns. HasDuplicate ns → ⊥) (sym more)
+    (apart-more (texts keys) key.now apart (sym (any_of_map (bytes_eq key.now) (λ k. k.now) keys) ∙ t)) in
     (subst (IsAdded (texts keys) key.now (texts new)) (sym f) (more, still), still)

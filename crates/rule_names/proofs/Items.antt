@@ -23,7 +23,8 @@ among-same n small large name more a = ⊎_elim
     (λ r. among-more n large name (more r))
     (among-split n small name a)
 
-pub repeats-same : (n : Text) (small large : List Text) → (Among small n → Among large n) → (HasDuplicate small → HasDuplicate large) → HasDuplicate (n ∷ small) → HasDuplicate (n ∷ large)
+pub repeats-same : (n : Text) (small large : List Text) → (Among small n → Among large n)
+    → (HasDuplicate small → HasDuplicate large) → HasDuplicate (n ∷ small) → HasDuplicate (n ∷ large)
 repeats-same n small large among more r = ⊎_elim
     (λ a. repeats-here n large (among a))
     (λ s. repeats-more n large (more s))

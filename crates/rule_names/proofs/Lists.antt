@@ -9,7 +9,8 @@ pub Contains-map : {X Y : Type 0} (h : X → Y) (xs : List X) (i : ℕ) (x : X) 
 Contains-map h xs i x l e = let n = length-map xs h in (i, omega arith, get_or-map h xs i x ∙ ap h (sym e))
 
 -- a list as what comes before an item, the item, and what follows
-pub map-around : {X Y : Type 0} (h : X → Y) (xs : List X) (i : ℕ) (x : X) → i < length xs → x ≡ get_or xs i x → (map h (take i xs) ++ h x ∷ []) ++ map h (drop (i + 1) xs) ≡ map h xs
+pub map-around : {X Y : Type 0} (h : X → Y) (xs : List X) (i : ℕ) (x : X) → i < length xs → x ≡ get_or xs i x
+    → (map h (take i xs) ++ h x ∷ []) ++ map h (drop (i + 1) xs) ≡ map h xs
 map-around h xs i x l e =
     ap (λ ys. ys ++ map h (drop (i + 1) xs)) (sym (map-more h xs i x l e))
     ∙ sym (map-append h (take (i + 1) xs) (drop (i + 1) xs))

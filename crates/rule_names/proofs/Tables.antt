@@ -1,5 +1,6 @@
 -- Duplicate names in a ruleset.
-use Rattle.std.proofs.Common.{◌≡◌, ℕ, ◌+◌, ◌<◌, Bool, true, false, List, [], ◌∷◌, ◌++◌, cond, length, get_or, map, take, drop, Option, Some, None, Result, Ok, Err, refl, sym, ap, ◌∙◌, subst, ⊎_elim}
+use Rattle.std.proofs.Common.{◌≡◌, ℕ, ◌+◌, ◌<◌, Bool, true, false, List, [], ◌∷◌, ◌++◌, cond, length, get_or, map}
+use Rattle.std.proofs.Common.{take, drop, Option, Some, None, Result, Ok, Err, refl, sym, ap, ◌∙◌, subst, ⊎_elim}
 use denote.Enum.Bare.{sameb}
 use Rattle.std.specs.Prelude.{All, IsTrue, IfOk, IfSome, MatchOption}
 use Rattle.std.proofs.lemmas.List.Elements.{All-contains, filter-append}
@@ -31,18 +32,25 @@ pub names-append : (family : Family) (ts us : List TableTree) → table_names fa
 names-append family ts us = simp (filter-append, map-append)
 
 module _ (family : Family) (tables : List Table) (i : ℕ) (x : Table) (inside : i < length tables) (is : x ≡ get_or tables i x) where
-  more : table_names family (map table_tree (take (i + 1) tables)) ≡ table_names family (map table_tree (take i tables)) ++ table_names family (table_tree x ∷ [])
+  more : table_names family (map table_tree (take (i + 1) tables))
+      ≡ table_names family (map table_tree (take i tables)) ++ table_names family (table_tree x ∷ [])
   more = ap (table_names family) (map-more table_tree tables i x inside is) ∙ names-append family (map table_tree (take i tables)) (table_tree x ∷ [])
 
-  pub names-more : same_family x.family family ≡ true → table_names family (map table_tree (take (i + 1) tables)) ≡ table_names family (map table_tree (take i tables)) ++ x.name.items ∷ []
+  pub names-more : same_family x.family family ≡ true → table_names family (map table_tree (take (i + 1) tables))
+      ≡ table_names family (map table_tree (take i tables)) ++ x.name.items ∷ []
   names-more e = more ∙ ap (λ b. table_names family (map table_tree (take i tables)) ++ map (λ t. t.name) (cond b (table_tree x ∷ []) [])) e
 
-  pub names-same : same_family x.family family ≡ false → table_names family (map table_tree (take (i + 1) tables)) ≡ table_names family (map table_tree (take i tables))
-  names-same e = more ∙ ap (λ b. table_names family (map table_tree (take i tables)) ++ map (λ t. t.name) (cond b (table_tree x ∷ []) [])) e ∙ append-nil (table_names family (map table_tree (take i tables)))
+  pub names-same : same_family x.family family ≡ false → table_names family (map table_tree (take (i + 1) tables))
+      ≡ table_names family (map table_tree (take i tables))
+  names-same e = more ∙ ap (λ b. table_names family (map table_tree (take i tables))
+      ++ map (λ t. t.name) (cond b (table_tree x ∷ []) [])) e ∙ append-nil (table_names family (map table_tree (take i tables)))
 
   pub names-duplicate : HasDuplicate (table_names family (map table_tree (take (i + 1) tables))) → HasDuplicate (table_names family (map table_tree tables))
   names-duplicate r =
-      subst HasDuplicate (sym (names-append family (map table_tree (take (i + 1) tables)) (map table_tree (drop (i + 1) tables))) ∙ ap (table_names family) (ap (λ ts. ts ++ map table_tree (drop (i + 1) tables)) (map-more table_tree tables i x inside is) ∙ map-around table_tree tables i x inside is))
+      subst HasDuplicate (sym (names-append family (map table_tree (take (i + 1) tables))
+      (map table_tree (drop (i + 1) tables)))
+      ∙ ap (table_names family) (ap (λ ts. ts ++ map table_tree (drop (i + 1) tables))
+      (map-more table_tree tables i x inside is) ∙ map-around table_tree tables i x inside is))
       (repeats-on (table_names family (map table_tree (take (i + 1) tables))) (table_names family (map table_tree (drop (i + 1) tables))) r)
 
 -- ---- all tables
@@ -50,7 +58,8 @@ module _ (family : Family) (tables : List Table) (i : ℕ) (x : Table) (inside :
 pub some-duplicate : (tables : List TableTree) → SomeTableHasDuplicate tables → DuplicateName tables
 some-duplicate tables s = ⊎_elim (λ r. two_chains s.table s.member r) (λ r. two_sets_or_maps s.table s.member r) s.duplicate
 
-pub none-duplicate : (tables : List TableTree) → (HasDuplicate (table_names families.Ip tables) → ⊥) → (HasDuplicate (table_names families.Inet tables) → ⊥) → All HasUniqueNames tables → DuplicateName tables → ⊥
+pub none-duplicate : (tables : List TableTree) → (HasDuplicate (table_names families.Ip tables) → ⊥)
+    → (HasDuplicate (table_names families.Inet tables) → ⊥) → All HasUniqueNames tables → DuplicateName tables → ⊥
 none-duplicate tables ip inet all (two_tables families.Ip r) = ip r
 none-duplicate tables ip inet all (two_tables families.Inet r) = inet r
 none-duplicate tables ip inet all (two_chains t h r) = (All-contains HasUniqueNames tables t all h).chains_apart r
@@ -62,7 +71,8 @@ module _ {T E : Type 0} (P : Type 0) (Q : T → Type 0) where
   ok-none R (Ok (Some x)) f h = h
   ok-none R (Err e) f h = h
 
-  pub ok-some : (A : T → Type 0) (R : Type 0) (r : Result (Option T) E) → ((x : T) → Q x → A x → R) → IfOk r (λ o. MatchOption o P Q) → IfOk r (λ o. IfSome o A) → IfOk r (λ o. IfSome o (λ _. R))
+  pub ok-some : (A : T → Type 0) (R : Type 0) (r : Result (Option T) E) → ((x : T) → Q x → A x → R)
+      → IfOk r (λ o. MatchOption o P Q) → IfOk r (λ o. IfSome o A) → IfOk r (λ o. IfSome o (λ _. R))
   ok-some A R (Ok None) f h k = k
   ok-some A R (Ok (Some x)) f h k = f x h k
   ok-some A R (Err e) f h k = k

@@ -18,6 +18,7 @@ any-one p (Some name) rest = ap (λ b. b || list_any p rest) (or-none (p name))
     or-none true = refl
     or-none false = refl
 
-pub any-picked : {X : Type 0} (p : Text → Bool) (f : X → Option Text) (xs : List X) → list_any (λ x. list_any p (one_or_none (f x))) xs ≡ list_any p (filter_map f xs)
+pub any-picked : {X : Type 0} (p : Text → Bool) (f : X → Option Text) (xs : List X)
+    → list_any (λ x. list_any p (one_or_none (f x))) xs ≡ list_any p (filter_map f xs)
 any-picked p f [] = refl
 any-picked p f (x ∷ xs) = ap (λ b. list_any p (one_or_none (f x)) || b) (any-picked p f xs) ∙ any-one p (f x) (filter_map f xs)

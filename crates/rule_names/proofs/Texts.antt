@@ -23,7 +23,8 @@ text-turn a b h = let e = same_text a b (sym h) in ap (λ x. bytes_eq b x) e ∙
 pub text-sym : (a b : Text) → bytes_eq a b ≡ bytes_eq b a
 text-sym a b = same-tests (bytes_eq a b) (bytes_eq b a) (text-turn a b) (text-turn b a)
 
-pub index-more : (b : Bool) (i : ℕ) (o : Option ℕ) → cond b (Some i) (option_map (λ k. k + (i + 1)) o) ≡ option_map (λ k. k + i) (cond b (Some 0) (option_map suc o))
+pub index-more : (b : Bool) (i : ℕ) (o : Option ℕ) → cond b (Some i) (option_map (λ k. k + (i + 1)) o)
+    ≡ option_map (λ k. k + i) (cond b (Some 0) (option_map suc o))
 index-more true i o = ap Some (omega arith)
 index-more false i None = refl
 index-more false i (Some k) = ap Some (omega arith)

@@ -2,7 +2,8 @@
 ghost use Rattle.std.specs.Prelude.{◌≡◌, flat_map, map};
 ghost use Rattle.std.specs.List.{list_any};
 ghost use Rattle.nft_tree.specs.Tree.{item_tree, map_ref_tree, rule_tree, set_ref_tree, statement};
-ghost use Rattle.rule_names.specs.Names.{item_references, map_ref_names, references_of, refers_to_unknown_set, rule_references, set_ref_names, statement_references};
+ghost use Rattle.rule_names.specs.Names.{item_references, map_ref_names, references_of, refers_to_unknown_set};
+ghost use Rattle.rule_names.specs.Names.{rule_references, set_ref_names, statement_references};
 ghost use Rattle.rule_names.specs.steps.TargetTests.{is_unknown};
 
 use crate::table::TableNames;

@@ -3,7 +3,9 @@ ghost use Rattle.std.specs.Prelude.{◌≡◌, ◌↔◌, List, [], ◌∷◌, �
 ghost use Rattle.std.specs.Option.{option_map};
 ghost use Rattle.nft_tree.specs.Tree.{ItemTree, chain_tree, item_tree, map_tree, set_tree, table_tree, tables_of};
 ghost use Rattle.nft_tree.specs.TableItems.{chains_of, maps_of, sets_of};
-ghost use Rattle.rule_names.specs.Names.{DuplicateName, HasDuplicate, chain_named, chain_names, is_base_chain, is_set_or_map, map_named, map_names, index_in, set_named, set_names, table_names};
+ghost use Rattle.rule_names.specs.Names.{DuplicateName, HasDuplicate, chain_named, chain_names, is_base_chain};
+ghost use Rattle.rule_names.specs.Names.{is_set_or_map, map_named, map_names, index_in, set_named, set_names};
+ghost use Rattle.rule_names.specs.Names.{table_names};
 ghost use Rattle.rule_names.specs.steps.Index.{IsAdded, at_index};
 ghost use Rattle.rule_names.specs.steps.Table.{Represents, RepresentsOrHasDuplicate, HasUniqueNames, SomeTableHasDuplicate, HasDuplicateIn};
 

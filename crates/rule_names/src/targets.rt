@@ -2,7 +2,9 @@
 ghost use Rattle.std.specs.Prelude.{◌≡◌, flat_map, map};
 ghost use Rattle.std.specs.List.{list_any};
 ghost use Rattle.nft_tree.specs.Tree.{item_tree, map_ref_tree, pair_tree, rule_tree, statement, verdict_tree};
-ghost use Rattle.rule_names.specs.Names.{data_target, item_targets, jumps_to_unknown_chain, jumps_to_base_chain, map_ref_targets, one_or_none, pair_targets, rule_targets, statement_targets, target_of, targets_of};
+ghost use Rattle.rule_names.specs.Names.{data_target, item_targets, jumps_to_unknown_chain, jumps_to_base_chain};
+ghost use Rattle.rule_names.specs.Names.{map_ref_targets, one_or_none, pair_targets, rule_targets, statement_targets};
+ghost use Rattle.rule_names.specs.Names.{target_of, targets_of};
 ghost use Rattle.rule_names.specs.steps.TargetTests.{passes};
 
 use crate::table::TableNames;

@@ -1,9 +1,11 @@
 -- Decidability for graphs with finitely many callers: of cycles; and if there are none, of paths with so many jumps and
 -- of reachability. Also costs.
-use Rattle.std.proofs.Common.{◌≡◌, ◌⊎◌, ℕ, zero, suc, ◌+◌, ◌<◌, ◌≤◌, max, Bool, true, false, if◌then◌else◌, List, [], ◌∷◌, length, flat_map, refl, sym, ap, ap₂, subst, ◌∙◌, inl, inr, arith, Contains}
+use Rattle.std.proofs.Common.{◌≡◌, ◌⊎◌, ℕ, zero, suc, ◌+◌, ◌<◌, ◌≤◌, max, Bool, true, false, if◌then◌else◌, List, []}
+use Rattle.std.proofs.Common.{◌∷◌, length, flat_map, refl, sym, ap, ap₂, subst, ◌∙◌, inl, inr, arith, Contains}
 use Rattle.std.proofs.lemmas.List.Elements.{Contains-append_left, Contains-append_right}
 use Rattle.list_laws.specs.Lists.{Contains-head}
-use Rattle.chain_graph.specs.Graph.{Call, NodeTree, chain, verdict_map, identity, calls_in, IsPath, jumps, HasCycle, HasPathOver, greatest, chain_cost, node_cost, Reaches}
+use Rattle.chain_graph.specs.Graph.{Call, NodeTree, chain, verdict_map, identity, calls_in, IsPath, jumps, HasCycle}
+use Rattle.chain_graph.specs.Graph.{HasPathOver, greatest, chain_cost, node_cost, Reaches}
 use Rattle.list_laws.specs.Decisions.{Decided, Contains-none, Contains-there, Contains-cases, some_decided, decided_as}
 
 -- all elements have the one property, or some element has the other
@@ -11,21 +13,32 @@ all_or_some : {A : Type 0} (P Q : A → Type 0) → ((x : A) → P x ⊎ Q x) �
 all_or_some P Q each [] = inl (λ x at. absurd (Contains-none x at))
 all_or_some {A} P Q each (x ∷ xs) = step (each x) (all_or_some P Q each xs)
   where
-    step : P x ⊎ Q x → ((y : A) → Contains xs y → P y) ⊎ ((y : A) × Contains xs y × Q y) → ((y : A) → Contains (x ∷ xs) y → P y) ⊎ ((y : A) × Contains (x ∷ xs) y × Q y)
+    step : P x ⊎ Q x → ((y : A) → Contains xs y → P y) ⊎ ((y : A) × Contains xs y × Q y)
+        → ((y : A) → Contains (x ∷ xs) y → P y) ⊎ ((y : A) × Contains (x ∷ xs) y × Q y)
     step (inr q) later = inr (x, Contains-head x xs, q)
     step (inl p) (inr h) = inr (h.0, Contains-there x h.0 xs h.1, h.2)
     step (inl p) (inl all) = inl (λ y at. elim (Contains-cases x y xs at) [ inl e ↦ subst P e p | inr later ↦ all y later ])
 
 -- a list without one of its elements
-removed : {A : Type 0} (x : A) (xs : List A) → Contains xs x → (rest : List A) × (suc (length rest) ≡ length xs) × ((z : A) → (z ≡ x → ⊥) → Contains xs z → Contains rest z)
+removed : {A : Type 0} (x : A) (xs : List A) → Contains xs x → (rest : List A) × (suc (length rest) ≡ length xs)
+    × ((z : A) → (z ≡ x → ⊥) → Contains xs z → Contains rest z)
 removed x [] at = absurd (Contains-none x at)
 removed {A} x (y ∷ ys) at = step (Contains-cases y x ys at) (removed x ys)
   where
-    step : (y ≡ x) ⊎ Contains ys x → (Contains ys x → (rest : List A) × (suc (length rest) ≡ length ys) × ((z : A) → (z ≡ x → ⊥) → Contains ys z → Contains rest z)) → (rest : List A) × (suc (length rest) ≡ suc (length ys)) × ((z : A) → (z ≡ x → ⊥) → Contains (y ∷ ys) z → Contains rest z)
+    step : (y ≡ x) ⊎ Contains ys x → (Contains ys x → (rest : List A) × (suc (length rest) ≡ length ys)
+        × ((z : A) → (z ≡ x → ⊥) → Contains ys z → Contains rest z)) → (rest : List A)
+        × (suc (length rest) ≡ suc (length ys)) × ((z : A) → (z ≡ x → ⊥) → Contains (y ∷ ys) z → Contains rest z)
     step (inl here) later = (ys, refl, λ z other in_all. elim (Contains-cases y z ys in_all) [ inl e ↦ absurd (other (sym e ∙ here)) | inr in_rest ↦ in_rest ])
     step (inr there) later =
-        let r = later there in
-        (y ∷ r.0, ap suc r.1, λ z other in_all. elim (Contains-cases y z ys in_all) [ inl e ↦ subst (Contains (y ∷ r.0)) e (Contains-head y r.0) | inr in_rest ↦ Contains-there y z r.0 (r.2 z other in_rest) ])
+        let r = later there in (
+          y ∷ r.0,
+          ap suc r.1,
+          λ z other in_all. elim (Contains-cases y z ys in_all) [
+            | inl e ↦ subst (Contains (y ∷ r.0)) e (Contains-head y r.0)
+            | inr in_rest ↦ Contains-there y z r.0
+                (r.2 z other in_rest)
+          ],
+        )
 
 -- ---- cost functions that agree on all targets
 
@@ -37,7 +50,8 @@ module _ {K : Type 0} (f g : K → ℕ) where
   chain_cost_same : (ss : List (List (Call K))) → ((e : Call K) → Contains (flat_map identity ss) e → f e.to ≡ g e.to) → chain_cost f ss ≡ chain_cost g ss
   chain_cost_same [] same = refl
   chain_cost_same (s ∷ ss) same =
-      ap₂ (λ m n. 1 + m + n) (greatest_same s (λ e at. same e (Contains-append_left s (flat_map identity ss) e at))) (chain_cost_same ss (λ e at. same e (Contains-append_right s (flat_map identity ss) e at)))
+      ap₂ (λ m n. 1 + m + n) (greatest_same s (λ e at. same e (Contains-append_left s (flat_map identity ss) e at)))
+      (chain_cost_same ss (λ e at. same e (Contains-append_right s (flat_map identity ss) e at)))
 
   node_cost_same : (n : NodeTree K) → ((e : Call K) → Contains (calls_in n) e → f e.to ≡ g e.to) → node_cost f n ≡ node_cost g n
   node_cost_same (chain ss) same = chain_cost_same ss same
@@ -132,7 +146,9 @@ module _ {K : Type 0} (node : K → NodeTree K) where
   deep_decided zero j a bound = absurd bound
   deep_decided (suc m) zero a bound = inl ([], a, refl, omega arith)
   deep_decided (suc m) (suc j) a bound =
-      decided_as (deep_on j a) (deep_back j a) (some_decided (λ e. Deep (left_of e.is_jump j) e.to) (calls_in (node a)) (λ e at. deep_decided m (left_of e.is_jump j) e.to (bound e at)))
+      decided_as (deep_on j a) (deep_back j a)
+      (some_decided (λ e. Deep (left_of e.is_jump j) e.to) (calls_in (node a))
+      (λ e at. deep_decided m (left_of e.is_jump j) e.to (bound e at)))
 
   -- ---- paths to a node that fits
 
@@ -168,12 +184,14 @@ module _ {K : Type 0} (node : K → NodeTree K) where
     comes_to x zero a w = inr tt
     comes_to x (suc m) a w = step (same_decided a x) (comes_to x m w.0.to w.2)
       where
-        step : Decided (a ≡ x) → ((es : List (Call K)) × IsPath Calls w.0.to es x) ⊎ Avoids x m w.0.to w.2 → ((es : List (Call K)) × IsPath Calls a es x) ⊎ ((a ≡ x → ⊥) × Avoids x m w.0.to w.2)
+        step : Decided (a ≡ x) → ((es : List (Call K)) × IsPath Calls w.0.to es x) ⊎ Avoids x m w.0.to w.2
+            → ((es : List (Call K)) × IsPath Calls a es x) ⊎ ((a ≡ x → ⊥) × Avoids x m w.0.to w.2)
         step (inl e) later = inl ([], e)
         step (inr other) (inl h) = inl (w.0 ∷ h.0, (w.1, h.1))
         step (inr other) (inr avoids) = inr (other, avoids)
 
-    within_less : (x : K) (left rest : List K) → ((z : K) → (z ≡ x → ⊥) → Contains left z → Contains rest z) → (m : ℕ) (a : K) (w : Long m a) → Avoids x m a w → Within left m a w → Within rest m a w
+    within_less : (x : K) (left rest : List K) → ((z : K) → (z ≡ x → ⊥) → Contains left z → Contains rest z)
+        → (m : ℕ) (a : K) (w : Long m a) → Avoids x m a w → Within left m a w → Within rest m a w
     within_less x left rest kept zero a w avoids within = tt
     within_less x left rest kept (suc m) a w avoids within = (kept a avoids.0 within.0, within_less x left rest kept m w.0.to w.2 avoids.1 within.1)
 
@@ -184,7 +202,10 @@ module _ {K : Type 0} (node : K → NodeTree K) where
     long_path_has_cycle zero left a w within more = absurd (omega arith)
     long_path_has_cycle (suc m) left a w within more = step (comes_to a m w.0.to w.2) (removed a left within.0) (long_path_has_cycle m)
       where
-        step : ((es : List (Call K)) × IsPath Calls w.0.to es a) ⊎ Avoids a m w.0.to w.2 → ((rest : List K) × (suc (length rest) ≡ length left) × ((z : K) → (z ≡ a → ⊥) → Contains left z → Contains rest z)) → ((rest : List K) (b : K) (v : Long m b) → Within rest m b v → length rest < m → HasCycle Calls) → HasCycle Calls
+        step : ((es : List (Call K)) × IsPath Calls w.0.to es a) ⊎ Avoids a m w.0.to w.2
+            → ((rest : List K) × (suc (length rest) ≡ length left)
+            × ((z : K) → (z ≡ a → ⊥) → Contains left z → Contains rest z))
+            → ((rest : List K) (b : K) (v : Long m b) → Within rest m b v → length rest < m → HasCycle Calls) → HasCycle Calls
         step (inl back) r later = closes_cycle a w.0 back.0 w.1 back.1
         step (inr avoids) r later =
             let shorter : length r.0 < m = omega (arith, r.1) in
@@ -210,7 +231,8 @@ module _ {K : Type 0} (node : K → NodeTree K) where
       cycle_decided = step (all_or_some (Bounded bound_of) (Long bound_of) (bounded_or_long bound_of) callers)
         where
           step : ((a : K) → Contains callers a → Bounded bound_of a) ⊎ ((a : K) × Contains callers a × Long bound_of a) → Decided (HasCycle Calls)
-          step (inl bounds) = inr (λ c. no_cycle_through bound_of c.chain c.first c.rest (bounds c.chain (is_caller c.chain c.first c.path.0)) c.path.0 c.path.1)
+          step (inl bounds) = inr (λ c. no_cycle_through bound_of c.chain c.first c.rest
+              (bounds c.chain (is_caller c.chain c.first c.path.0)) c.path.0 c.path.1)
           step (inr h) = inl (long_cycle h.0 h.2)
 
       pub path_decided : (most : ℕ) → (HasCycle Calls → ⊥) → (a : K) → Decided ((p : HasPathOver most Calls) × (p.from ≡ a))

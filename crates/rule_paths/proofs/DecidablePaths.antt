@@ -1,5 +1,7 @@
 -- Decidability of cycles, depth, cost and misplaced NAT statements.
-use Rattle.std.proofs.Common.{◌≡◌, ◌⊎◌, ℕ, suc, ◌+◌, ◌<◌, Bool, true, false, cond, List, [], ◌∷◌, ◌++◌, map, length, sum_by, find, Option, Some, None, refl, sym, ap, ap₂, subst, ◌∙◌, inl, inr, Contains, bytes_eq}
+use Rattle.std.proofs.Common.{◌≡◌, ◌⊎◌, ℕ, suc, ◌+◌, ◌<◌, Bool, true, false, cond, List, [], ◌∷◌, ◌++◌, map, length}
+use Rattle.std.proofs.Common.{sum_by, find, Option, Some, None, refl, sym, ap, ap₂, subst, ◌∙◌, inl, inr, Contains}
+use Rattle.std.proofs.Common.{bytes_eq}
 use Rattle.std.proofs.lemmas.List.Elements.{Contains-append_left, Contains-append_right}
 use Rattle.std.proofs.lemmas.List.Sums.{sum_by-cons}
 use Rattle.std.proofs.lemmas.Slice.Eq.{bytes_eq-Decides}
@@ -9,9 +11,14 @@ use Rattle.nft_tree.specs.declared.chain.Hook.{Hook}
 use Rattle.nft_tree.specs.Tree.{Text, HeadTree, ChainTree, MapTree, Statement, TableTree}
 use Rattle.nft_tree.specs.TableItems.{chains_of, maps_of}
 use Rattle.chain_graph.specs.Graph.{Call, calls_in, HasCycle, HasPathOver, Reaches}
-use Rattle.list_laws.specs.Decisions.{Decided, Contains-none, Contains-there, Contains-cases, some_decided, decided_as, either_decided, less_decided, texts_decided}
+use Rattle.list_laws.specs.Decisions.{Decided, Contains-none, Contains-there, Contains-cases, some_decided}
+use Rattle.list_laws.specs.Decisions.{decided_as, either_decided, less_decided, texts_decided}
 use Rattle.rule_names.specs.Names.{chain_named, map_named, chain_names, map_names}
-use Rattle.rule_paths.specs.Paths.{Caller, a_chain, a_map, chain_node, map_node, node_of, CallsOf, Cycles, MAX_JUMPS, HasDeepPath, TooDeep, AreCosts, base_cost, table_cost, ruleset_cost, MAX_COST, TooCostly, translates_source, translates_destination, caller_has, may_translate_source, may_translate_destination, Misplaces, MisplacedNat, misplaced_source, misplaced_destination}
+use Rattle.rule_paths.specs.Paths.{Caller, a_chain, a_map, chain_node, map_node, node_of, CallsOf, Cycles, MAX_JUMPS}
+use Rattle.rule_paths.specs.Paths.{HasDeepPath, TooDeep, AreCosts, base_cost, table_cost, ruleset_cost, MAX_COST}
+use Rattle.rule_paths.specs.Paths.{TooCostly, translates_source, translates_destination, caller_has}
+use Rattle.rule_paths.specs.Paths.{may_translate_source, may_translate_destination, Misplaces, MisplacedNat}
+use Rattle.rule_paths.specs.Paths.{misplaced_source, misplaced_destination}
 use Rattle.rule_paths.proofs.DecidableGraphs.{Bounded, cost, costs_are, one_cost, reach_decided, all_bounded, cycle_decided, path_decided}
 
 -- ---- the callers of a table
@@ -28,21 +35,31 @@ callers t = map a_chain (chain_names t) ++ map a_map (map_names t)
 Contains-map : {A B : Type 0} (f : A → B) (x : A) (xs : List A) → Contains xs x → Contains (map f xs) (f x)
 Contains-map f x [] at = absurd (Contains-none x at)
 Contains-map f x (y ∷ ys) at =
-    elim (Contains-cases y x ys at) [ inl e ↦ subst (Contains (f y ∷ map f ys)) (ap f e) (Contains-head (f y) (map f ys)) | inr later ↦ Contains-there (f y) (f x) (map f ys) (Contains-map f x ys later) ]
+    elim (Contains-cases y x ys at) [
+      | inl e ↦ subst (Contains (f y ∷ map f ys)) (ap f e)
+          (Contains-head (f y) (map f ys))
+      | inr later ↦ Contains-there (f y) (f x) (map f ys) (Contains-map f x ys later)
+    ]
 
-found_named : {A : Type 0} (name_of : A → Text) (name : Text) (xs : List A) (x : A) → find (λ y. bytes_eq (name_of y) name) xs ≡ Some x → Contains (map name_of xs) name
+found_named : {A : Type 0} (name_of : A → Text) (name : Text) (xs : List A) (x : A)
+    → find (λ y. bytes_eq (name_of y) name) xs ≡ Some x → Contains (map name_of xs) name
 found_named name_of name [] x found = absurd cc
 found_named {A} name_of name (y ∷ ys) x found = step (bytes_eq (name_of y) name) refl found (found_named name_of name ys x)
   where
-    step : (b : Bool) → bytes_eq (name_of y) name ≡ b → cond b (Some y) (find (λ z. bytes_eq (name_of z) name) ys) ≡ Some x → (find (λ z. bytes_eq (name_of z) name) ys ≡ Some x → Contains (map name_of ys) name) → Contains (name_of y ∷ map name_of ys) name
-    step true e here later = subst (Contains (name_of y ∷ map name_of ys)) ((bytes_eq-Decides (name_of y) name).0 e) (Contains-head (name_of y) (map name_of ys))
+    step : (b : Bool) → bytes_eq (name_of y) name ≡ b → cond b (Some y) (find (λ z. bytes_eq (name_of z) name) ys)
+        ≡ Some x → (find (λ z. bytes_eq (name_of z) name) ys ≡ Some x → Contains (map name_of ys) name)
+        → Contains (name_of y ∷ map name_of ys) name
+    step true e here later = subst (Contains (name_of y ∷ map name_of ys)) ((bytes_eq-Decides (name_of y) name).0 e)
+        (Contains-head (name_of y) (map name_of ys))
     step false e there later = Contains-there (name_of y) name (map name_of ys) (later there)
 
-is_chain : (t : TableTree) (name : Text) (e : Call Caller) (o : Option ChainTree) → chain_named t name ≡ o → Contains (calls_in (chain_node o)) e → Contains (chain_names t) name
+is_chain : (t : TableTree) (name : Text) (e : Call Caller) (o : Option ChainTree) → chain_named t name ≡ o
+    → Contains (calls_in (chain_node o)) e → Contains (chain_names t) name
 is_chain t name e None found at = absurd (Contains-none e at)
 is_chain t name e (Some c) found at = found_named (λ d. d.name) name (chains_of t) c found
 
-is_map : (t : TableTree) (name : Text) (e : Call Caller) (o : Option MapTree) → map_named t name ≡ o → Contains (calls_in (map_node o)) e → Contains (map_names t) name
+is_map : (t : TableTree) (name : Text) (e : Call Caller) (o : Option MapTree) → map_named t name ≡ o
+    → Contains (calls_in (map_node o)) e → Contains (map_names t) name
 is_map t name e None found at = absurd (Contains-none e at)
 is_map t name e (Some m) found at = found_named (λ d. d.name) name (maps_of t) m found
 
@@ -59,7 +76,9 @@ is_caller t (a_map name) e at =
 
 pub cycles : (tables : List TableTree) → Cycles tables ⊎ (Cycles tables → ⊥)
 cycles tables =
-    decided_as (λ h. record { table = h.0; member = h.1; cycle = h.2 }) (λ c. (c.table, c.member, c.cycle)) (some_decided (λ t. HasCycle (CallsOf t)) tables (λ t at. cycle_decided (node_of t) callers_decided (callers t) (is_caller t)))
+    decided_as (λ h. record { table = h.0; member = h.1; cycle = h.2 }) (λ c. (c.table, c.member, c.cycle))
+    (some_decided (λ t. HasCycle (CallsOf t)) tables
+    (λ t at. cycle_decided (node_of t) callers_decided (callers t) (is_caller t)))
 
 acyclic_table : (tables : List TableTree) → (Cycles tables → ⊥) → (t : TableTree) → Contains tables t → HasCycle (CallsOf t) → ⊥
 acyclic_table tables acyclic t at c = acyclic (record { table = t; member = at; cycle = c })
@@ -75,25 +94,29 @@ bounds t acyclic = all_bounded (node_of t) callers_decided (callers t) (is_calle
 deep_path : (t : TableTree) → (HasCycle (CallsOf t) → ⊥) → Decided (HasDeepPath t)
 deep_path t acyclic =
     decided_as (λ h. record { chain = h.0; member = h.1; path = h.2.0; begins = h.2.1 }) (λ d. (d.chain, d.member, (d.path, d.begins)))
-    (some_decided (λ name. (p : HasPathOver MAX_JUMPS (CallsOf t)) × (p.from ≡ a_chain name)) (chain_names t) (λ name at. path_decided (node_of t) callers_decided (callers t) (is_caller t) MAX_JUMPS acyclic (a_chain name)))
+    (some_decided (λ name. (p : HasPathOver MAX_JUMPS (CallsOf t)) × (p.from ≡ a_chain name)) (chain_names t)
+    (λ name at. path_decided (node_of t) callers_decided (callers t) (is_caller t) MAX_JUMPS acyclic (a_chain name)))
 
 pub deep : (tables : List TableTree) → (Cycles tables → ⊥) → TooDeep tables ⊎ (TooDeep tables → ⊥)
 deep tables acyclic =
-    decided_as (λ h. record { table = h.0; member = h.1; deep = h.2 }) (λ d. (d.table, d.member, d.deep)) (some_decided HasDeepPath tables (λ t at. deep_path t (acyclic_table tables acyclic t at)))
+    decided_as (λ h. record { table = h.0; member = h.1; deep = h.2 }) (λ d. (d.table, d.member, d.deep))
+    (some_decided HasDeepPath tables (λ t at. deep_path t (acyclic_table tables acyclic t at)))
 
 -- ---- cost
 
 sum_by_same : {A : Type 0} (f g : A → ℕ) (xs : List A) → ((x : A) → Contains xs x → f x ≡ g x) → sum_by f xs ≡ sum_by g xs
 sum_by_same f g [] same = refl
 sum_by_same f g (x ∷ xs) same =
-    sum_by-cons f x xs ∙ ap₂ (λ m n. m + n) (same x (Contains-head x xs)) (sum_by_same f g xs (λ y at. same y (Contains-there x y xs at))) ∙ sym (sum_by-cons g x xs)
+    sum_by-cons f x xs ∙ ap₂ (λ m n. m + n) (same x (Contains-head x xs))
+    (sum_by_same f g xs (λ y at. same y (Contains-there x y xs at))) ∙ sym (sum_by-cons g x xs)
 
 base_cost_same : (f g : Caller → ℕ) → ((a : Caller) → f a ≡ g a) → (name : Text) (head : Option HeadTree) → base_cost f name head ≡ base_cost g name head
 base_cost_same f g same name None = refl
 base_cost_same f g same name (Some head) = ap (λ n. 1 + n) (same (a_chain name))
 
 table_cost_same : (f g : Caller → ℕ) → ((a : Caller) → f a ≡ g a) → (t : TableTree) → table_cost f t ≡ table_cost g t
-table_cost_same f g same t = sum_by_same (λ c. base_cost f c.name c.head) (λ c. base_cost g c.name c.head) (chains_of t) (λ c at. base_cost_same f g same c.name c.head)
+table_cost_same f g same t = sum_by_same (λ c. base_cost f c.name c.head) (λ c. base_cost g c.name c.head)
+    (chains_of t) (λ c at. base_cost_same f g same c.name c.head)
 
 cost_of : TableTree → Caller → ℕ
 cost_of t = cost (node_of t) (bound t)
@@ -107,7 +130,8 @@ costs_exist tables t acyclic at = (cost_of t, costs_of t (acyclic_table tables a
 
 -- the cost of a table is unique
 one_table_cost : (t : TableTree) → (HasCycle (CallsOf t) → ⊥) → (f : Caller → ℕ) → AreCosts t f → table_cost f t ≡ table_cost (cost_of t) t
-one_table_cost t acyclic f are = table_cost_same f (cost_of t) (λ a. one_cost (node_of t) f (cost_of t) are (costs_of t acyclic) (bound t) a (bounds t acyclic a)) t
+one_table_cost t acyclic f are = table_cost_same f (cost_of t)
+    (λ a. one_cost (node_of t) f (cost_of t) are (costs_of t acyclic) (bound t) a (bounds t acyclic a)) t
 
 whole_cost : List TableTree → ℕ
 whole_cost tables = ruleset_cost cost_of tables
@@ -119,7 +143,8 @@ to_costly tables acyclic over = record { cost = cost_of; are = λ t at. costs_of
 of_costly : (tables : List TableTree) → (Cycles tables → ⊥) → TooCostly tables → MAX_COST < whole_cost tables
 unfolding whole_cost
 of_costly tables acyclic w =
-    subst (λ n. MAX_COST < n) (sum_by_same (λ t. table_cost (w.cost t) t) (λ t. table_cost (cost_of t) t) tables (λ t at. one_table_cost t (acyclic_table tables acyclic t at) (w.cost t) (w.are t at))) w.over
+    subst (λ n. MAX_COST < n) (sum_by_same (λ t. table_cost (w.cost t) t) (λ t. table_cost (cost_of t) t) tables
+    (λ t at. one_table_cost t (acyclic_table tables acyclic t at) (w.cost t) (w.are t at))) w.over
 
 pub costly : (tables : List TableTree) → (Cycles tables → ⊥) → TooCostly tables ⊎ (TooCostly tables → ⊥)
 costly tables acyclic = decided_as (to_costly tables acyclic) (of_costly tables acyclic) (less_decided MAX_COST (whole_cost tables))
@@ -143,7 +168,12 @@ module _ (test : Statement → Bool) (may : ChainKind → Hook → Bool) (t : Ta
   reaches_misplaced name None reaching = inr (λ h. let e = h.1 in absurd cc)
   reaches_misplaced name (Some head) (inr leads_not) = inr (λ h. leads_not h.3)
   reaches_misplaced name (Some head) (inl reaching) =
-      elim (is_decided (may head.kind head.hook) false) [ inl may_not ↦ inl (head, refl, may_not, reaching) | inr allowed ↦ inr (λ h. let same : h.0 ≡ head = let e = h.1 in cc in allowed (subst (λ (x : HeadTree). may x.kind x.hook ≡ false) same h.2)) ]
+      elim (is_decided (may head.kind head.hook) false) [
+        | inl may_not ↦ inl (head, refl, may_not, reaching)
+        | inr allowed ↦ inr
+            (λ h. let same : h.0 ≡ head = let e = h.1 in cc in allowed
+            (subst (λ (x : HeadTree). may x.kind x.hook ≡ false) same h.2))
+      ]
 
   to_misplaces : (c : ChainTree) × Contains (chains_of t) c × ReachesMisplaced c.name c.head → Misplaces test may t
   unfolding Leads
@@ -156,26 +186,33 @@ module _ (test : Statement → Bool) (may : ChainKind → Hook → Bool) (t : Ta
   leads_decided : (HasCycle (CallsOf t) → ⊥) → (name : Text) → Decided (Leads name)
   unfolding Leads
   leads_decided acyclic name =
-      reach_decided (node_of t) (λ caller. caller_has test t caller ≡ true) (λ caller. is_decided (caller_has test t caller) true) (bound t) (a_chain name) (bounds t acyclic (a_chain name))
+      reach_decided (node_of t) (λ caller. caller_has test t caller ≡ true)
+      (λ caller. is_decided (caller_has test t caller) true) (bound t) (a_chain name) (bounds t acyclic (a_chain name))
 
   misplaces_decided : (HasCycle (CallsOf t) → ⊥) → Decided (Misplaces test may t)
   misplaces_decided acyclic =
-      decided_as to_misplaces of_misplaces (some_decided (λ c. ReachesMisplaced c.name c.head) (chains_of t) (λ c at. reaches_misplaced c.name c.head (leads_decided acyclic c.name)))
+      decided_as to_misplaces of_misplaces (some_decided (λ c. ReachesMisplaced c.name c.head) (chains_of t)
+      (λ c at. reaches_misplaced c.name c.head (leads_decided acyclic c.name)))
 
 abbrev SomeMisplaces : (Statement → Bool) → (ChainKind → Hook → Bool) → List TableTree → Type 0
 SomeMisplaces test may tables = (t : TableTree) × Contains tables t × Misplaces test may t
 
-some_misplaces : (test : Statement → Bool) (may : ChainKind → Hook → Bool) (tables : List TableTree) → (Cycles tables → ⊥) → Decided (SomeMisplaces test may tables)
+some_misplaces : (test : Statement → Bool) (may : ChainKind → Hook → Bool) (tables : List TableTree)
+    → (Cycles tables → ⊥) → Decided (SomeMisplaces test may tables)
 some_misplaces test may tables acyclic = some_decided (Misplaces test may) tables (λ t at. misplaces_decided test may t (acyclic_table tables acyclic t at))
 
-to_misplaced : (tables : List TableTree) → SomeMisplaces translates_source may_translate_source tables ⊎ SomeMisplaces translates_destination may_translate_destination tables → MisplacedNat tables
+to_misplaced : (tables : List TableTree) → SomeMisplaces translates_source may_translate_source tables
+    ⊎ SomeMisplaces translates_destination may_translate_destination tables → MisplacedNat tables
 to_misplaced tables (inl h) = misplaced_source h.0 h.1 h.2
 to_misplaced tables (inr h) = misplaced_destination h.0 h.1 h.2
 
-of_misplaced : (tables : List TableTree) → MisplacedNat tables → SomeMisplaces translates_source may_translate_source tables ⊎ SomeMisplaces translates_destination may_translate_destination tables
+of_misplaced : (tables : List TableTree) → MisplacedNat tables → SomeMisplaces translates_source may_translate_source
+    tables ⊎ SomeMisplaces translates_destination may_translate_destination tables
 of_misplaced tables (misplaced_source t at m) = inl (t, at, m)
 of_misplaced tables (misplaced_destination t at m) = inr (t, at, m)
 
 pub nat : (tables : List TableTree) → (Cycles tables → ⊥) → MisplacedNat tables ⊎ (MisplacedNat tables → ⊥)
 nat tables acyclic =
-    decided_as (to_misplaced tables) (of_misplaced tables) (either_decided (some_misplaces translates_source may_translate_source tables acyclic) (some_misplaces translates_destination may_translate_destination tables acyclic))
+    decided_as (to_misplaced tables) (of_misplaced tables)
+    (either_decided (some_misplaces translates_source may_translate_source tables acyclic)
+    (some_misplaces translates_destination may_translate_destination tables acyclic))

@@ -1,5 +1,6 @@
 -- Names, their indices, and the call graph of a table by index.
-use Rattle.std.proofs.Common.{◌≡◌, ◌⊎◌, ℕ, zero, suc, ◌+◌, ◌-◌, ◌<◌, List, [], ◌∷◌, ◌++◌, Some, None, Bool, true, false, cond, length, get_or, map, sym, refl, ap, subst, ◌∙◌, inl, inr, ⊎_elim, arith}
+use Rattle.std.proofs.Common.{◌≡◌, ◌⊎◌, ℕ, zero, suc, ◌+◌, ◌-◌, ◌<◌, List, [], ◌∷◌, ◌++◌, Some, None, Bool, true}
+use Rattle.std.proofs.Common.{false, cond, length, get_or, map, sym, refl, ap, subst, ◌∙◌, inl, inr, ⊎_elim, arith}
 use Rattle.std.specs.Prelude.{find}
 use Rattle.std.specs.Option.{option_map}
 use Rattle.std.specs.Str.{bytes_eq}
@@ -77,11 +78,15 @@ module _ {A : Type 0} (name_of : A → Text) where
       (bool-cases (bytes_eq (name_of x) name))
 
   pub name-at : (xs : List A) (i : ℕ) (x : A) → i < length xs → get_or xs i x ≡ x → get_or (map name_of xs) i [] ≡ name_of x
-  name-at xs i x h e = get_or_default (map name_of xs) i [] (name_of x) (let n = length-map xs name_of in omega arith) ∙ get_or-map name_of xs i x ∙ ap name_of e
+  name-at xs i x h e = get_or_default (map name_of xs) i [] (name_of x) (let n = length-map xs name_of in omega arith)
+      ∙ get_or-map name_of xs i x ∙ ap name_of e
 
   -- a name in the list is found
-  pub not-missing-at : (y : A) (xs : List A) (name : Text) (i : ℕ) (x : A) → i < length (y ∷ xs) → get_or (y ∷ xs) i x ≡ x → name_of x ≡ name → bytes_eq (name_of y) name ≡ false → ((j : ℕ) → j < length xs → get_or xs j x ≡ x → Found xs name) → Found (y ∷ xs) name
-  not-missing-at y xs name zero x h e named f later = let t : bytes_eq (name_of y) name ≡ true = ap (λ n. bytes_eq n name) (ap name_of e ∙ named) ∙ text-refl name in let q : true ≡ false = sym t ∙ f in cc
+  pub not-missing-at : (y : A) (xs : List A) (name : Text) (i : ℕ) (x : A) → i < length (y ∷ xs) → get_or (y ∷ xs) i x
+      ≡ x → name_of x ≡ name → bytes_eq (name_of y) name ≡ false
+      → ((j : ℕ) → j < length xs → get_or xs j x ≡ x → Found xs name) → Found (y ∷ xs) name
+  not-missing-at y xs name zero x h e named f later = let t : bytes_eq (name_of y) name ≡ true =
+      ap (λ n. bytes_eq n name) (ap name_of e ∙ named) ∙ text-refl name in let q : true ≡ false = sym t ∙ f in cc
   not-missing-at y xs name (suc i) x h e named f later = found-later y xs name f (later i (omega (arith, h)) e)
 
   pub found-at : (xs : List A) (name : Text) (i : ℕ) (x : A) → i < length xs → get_or xs i x ≡ x → name_of x ≡ name → Found xs name
@@ -92,12 +97,14 @@ module _ {A : Type 0} (name_of : A → Text) where
       (bool-cases (bytes_eq (name_of y) name))
 
   -- without duplicates, the index of an element's name is the element's
-  pub own-index : (xs : List A) → (HasDuplicate (map name_of xs) → ⊥) → (i : ℕ) (x : A) → i < length xs → get_or xs i x ≡ x → index_in (name_of x) (map name_of xs) ≡ Some i
+  pub own-index : (xs : List A) → (HasDuplicate (map name_of xs) → ⊥) → (i : ℕ) (x : A) → i < length xs
+      → get_or xs i x ≡ x → index_in (name_of x) (map name_of xs) ≡ Some i
   own-index xs apart i x h e =
       let r = found-at xs (name_of x) i x h e refl in
       let n = length-map xs name_of in
       let l = r.within in
-      let same : get_or (map name_of xs) r.index [] ≡ get_or (map name_of xs) i [] = name-at xs r.index r.item r.within r.is ∙ r.named ∙ sym (name-at xs i x h e) in
+      let same : get_or (map name_of xs) r.index [] ≡ get_or (map name_of xs) i [] =
+      name-at xs r.index r.item r.within r.is ∙ r.named ∙ sym (name-at xs i x h e) in
       let is : r.index ≡ i = ⊎_elim
       (λ l. absurd (apart (record { first = r.index; second = i; apart = l; within = omega arith; same = same })))
       (λ l. ⊎_elim
@@ -113,7 +120,16 @@ pub no-chain : ChainTree
 no-chain = record { name = []; notes = []; head = None; rules = [] }
 
 pub no-map : MapTree
-no-map = record { name = []; types = map_types.Types value_types.Address data_types.Verdict; flags = None; size = None; auto_merge = false; comment = None; elements = None }
+no-map = record {
+  name = [];
+  types = map_types.Types value_types.Address data_types.Verdict;
+  flags = None;
+  size =
+      None;
+  auto_merge = false;
+  comment = None;
+  elements = None;
+}
 
 pub nothing-there : (k : ℕ) → IsEmptyNode (get_or missing_nodes k (chain []))
 nothing-there zero = refl
@@ -183,11 +199,13 @@ module _ (t : TableTree) where
 
   pub node-of : (a : Caller) → node_at (index_graph t) (index_of t a) ≡ numbered (index_of t) (node_of t a)
   node-of (a_chain name) = ⊎_elim
-      (λ r. ap (node_at (index_graph t)) (chain-found name r) ∙ graph-chain r.index r.item r.within r.is ∙ ap (λ o. numbered (index_of t) (chain_node o)) (sym r.finds))
+      (λ r. ap (node_at (index_graph t)) (chain-found name r) ∙ graph-chain r.index r.item r.within r.is
+      ∙ ap (λ o. numbered (index_of t) (chain_node o)) (sym r.finds))
       (λ r. ap (node_at (index_graph t)) (chain-missing name r.at ∙ omega arith) ∙ graph-none 0 ∙ ap (λ o. numbered (index_of t) (chain_node o)) (sym r.finds))
       (look-chain name)
   node-of (a_map name) = ⊎_elim
-      (λ r. ap (node_at (index_graph t)) (map-found name r) ∙ graph-map r.index r.item r.within r.is ∙ ap (λ o. numbered (index_of t) (map_node o)) (sym r.finds))
+      (λ r. ap (node_at (index_graph t)) (map-found name r) ∙ graph-map r.index r.item r.within r.is
+      ∙ ap (λ o. numbered (index_of t) (map_node o)) (sym r.finds))
       (λ r. ap (node_at (index_graph t)) (map-missing name r.at ∙ omega arith) ∙ graph-none 1 ∙ ap (λ o. numbered (index_of t) (map_node o)) (sym r.finds))
       (look-map name)
 
@@ -208,7 +226,8 @@ module _ (t : TableTree) where
   none-map name r = subst (λ o. IsEmptyNode (map_node o)) (sym r.finds) refl
 
   pub same-name : {A : Type 0} (name_of : A → Text) (xs : List A) (x y : Text) (r : Found name_of xs x) (q : Found name_of xs y) → r.index ≡ q.index → x ≡ y
-  same-name name_of xs x y r q e = sym r.named ∙ sym (name-at name_of xs r.index r.item r.within r.is) ∙ ap (λ k. get_or (map name_of xs) k []) e ∙ name-at name_of xs q.index q.item q.within q.is ∙ q.named
+  same-name name_of xs x y r q e = sym r.named ∙ sym (name-at name_of xs r.index r.item r.within r.is)
+      ∙ ap (λ k. get_or (map name_of xs) k []) e ∙ name-at name_of xs q.index q.item q.within q.is ∙ q.named
 
   pub apart : (a b : Caller) → index_of t a ≡ index_of t b → (a ≡ b) ⊎ IsEmptyNode (node_of t a)
   apart (a_chain x) (a_chain y) e = ⊎_elim
@@ -243,7 +262,8 @@ module _ (t : TableTree) where
   module _ (chains_apart : HasDuplicate (chain_names t) → ⊥) (maps_apart : HasDuplicate (map_names t) → ⊥) where
     -- the index of a chain in the table is that in the graph
     pub chain-number : (i : ℕ) (c : ChainTree) → i < chain_count t → get_or (chains_of t) i c ≡ c → index_of t (a_chain c.name) ≡ i
-    chain-number i c h e = ap (index_or 0 (chain_count t + map_count t)) (own-index (λ (c : ChainTree). c.name) (chains_of t) chains_apart i c h e) ∙ omega arith
+    chain-number i c h e = ap (index_or 0 (chain_count t + map_count t))
+        (own-index (λ (c : ChainTree). c.name) (chains_of t) chains_apart i c h e) ∙ omega arith
 
     pub map-number : (i : ℕ) (m : MapTree) → i < map_count t → get_or (maps_of t) i m ≡ m → index_of t (a_map m.name) ≡ chain_count t + i
     map-number i m h e = ap (index_or (chain_count t) (chain_count t + map_count t + 1)) (own-index (λ (m : MapTree). m.name) (maps_of t) maps_apart i m h e)
@@ -253,7 +273,8 @@ module _ (t : TableTree) where
         (λ l. let m : MapTree = get_or (maps_of t) k no-map in
         inl (a_map m.name, map-number k m l (get_or_default (maps_of t) k m no-map l)))
         (λ l. let is : chain_count t + (map_count t + (k - map_count t)) ≡ chain_count t + k = omega (arith, l) in
-        inr (subst (λ i. IsEmptyNode (node_at (index_graph t) i)) is (subst IsEmptyNode (sym (graph-none (k - map_count t))) (nothing-there (k - map_count t)))))
+        inr (subst (λ i. IsEmptyNode (node_at (index_graph t) i)) is
+        (subst IsEmptyNode (sym (graph-none (k - map_count t))) (nothing-there (k - map_count t)))))
         (cases_lt k (map_count t))
 
     pub back : (i : ℕ) → ((a : Caller) × (index_of t a ≡ i)) ⊎ IsEmptyNode (node_at (index_graph t) i)

@@ -1,5 +1,6 @@
 -- Paths, costs and marks in a graph by index and by the nodes' keys.
-use Rattle.std.proofs.Common.{◌≡◌, ◌⊎◌, ℕ, ◌+◌, ◌≤◌, max, List, [], ◌∷◌, ◌++◌, Bool, true, false, length, get_or, map, sym, refl, ap, ap₂, subst, ◌∙◌, inl, inr, ⊎_elim, arith}
+use Rattle.std.proofs.Common.{◌≡◌, ◌⊎◌, ℕ, ◌+◌, ◌≤◌, max, List, [], ◌∷◌, ◌++◌, Bool, true, false, length, get_or, map}
+use Rattle.std.proofs.Common.{sym, refl, ap, ap₂, subst, ◌∙◌, inl, inr, ⊎_elim, arith}
 use Rattle.std.specs.Prelude.{Contains, flat_map}
 use Rattle.std.proofs.lemmas.List.{map-append}
 use Rattle.chain_graph.specs.Graph.{Call, NodeTree, chain, verdict_map, identity, calls_in, IsPath, jumps, HasCycle, greatest, chain_cost, node_cost, Reaches}
@@ -111,7 +112,13 @@ module _ {K : Type 0} (nodes : K → NodeTree K) (number : K → ℕ) (g : Graph
       omega arith
 
   pub cycle-down : HasCycle CallsIn → HasCycle (Calls g)
-  cycle-down k = record { chain = number k.chain; first = numbered_call number k.first; rest = map (numbered_call number) k.rest; path = path-down k.chain (k.first ∷ k.rest) k.chain k.path }
+  cycle-down k = record {
+    chain = number k.chain;
+    first = numbered_call number k.first;
+    rest =
+        map (numbered_call number) k.rest;
+    path = path-down k.chain (k.first ∷ k.rest) k.chain k.path;
+  }
 
   pub cycle-up : HasCycle (Calls g) → HasCycle CallsIn
   cycle-up k =
@@ -154,17 +161,21 @@ module _ {K : Type 0} (nodes : K → NodeTree K) (number : K → ℕ) (g : Graph
   pub cost-shared : (f : K → ℕ) → AreCostsOf f → (a b : K) → number a ≡ number b → f a ≡ f b
   cost-shared f are a b e = ⊎_elim
       (λ same. ap f same)
-      (λ empty. ⊎_elim (λ same. sym (ap f same)) (λ empty'. are a ∙ empty-cost f (nodes a) empty ∙ sym (are b ∙ empty-cost f (nodes b) empty')) (s.apart b a (sym e)))
+      (λ empty. ⊎_elim (λ same. sym (ap f same))
+      (λ empty'. are a ∙ empty-cost f (nodes a) empty ∙ sym (are b ∙ empty-cost f (nodes b) empty')) (s.apart b a (sym e)))
       (s.apart a b e)
 
   pub cost-none : (f : K → ℕ) → AreCostsOf f → (a : K) → IsEmptyNode (node_at g (number a)) → f a ≡ 0
   cost-none f are a empty = are a ∙ empty-cost f (nodes a) (empty-named number (nodes a) (subst IsEmptyNode (s.node a) empty))
 
-  pub cost-if-named : (f : K → ℕ) → AreCostsOf f → (a : K) (back : ((b : K) × (number b ≡ number a)) ⊎ IsEmptyNode (node_at g (number a))) → cost_if f (number a) back ≡ f a
+  pub cost-if-named : (f : K → ℕ) → AreCostsOf f
+      → (a : K) (back : ((b : K) × (number b ≡ number a)) ⊎ IsEmptyNode (node_at g (number a)))
+      → cost_if f (number a) back ≡ f a
   cost-if-named f are a (inl p) = cost-shared f are p.0 a p.1
   cost-if-named f are a (inr e) = sym (cost-none f are a e)
 
-  pub cost-if-empty : (f : K → ℕ) → AreCostsOf f → (i : ℕ) → IsEmptyNode (node_at g i) → (back : ((b : K) × (number b ≡ i)) ⊎ IsEmptyNode (node_at g i)) → cost_if f i back ≡ 0
+  pub cost-if-empty : (f : K → ℕ) → AreCostsOf f → (i : ℕ) → IsEmptyNode (node_at g i)
+      → (back : ((b : K) × (number b ≡ i)) ⊎ IsEmptyNode (node_at g i)) → cost_if f i back ≡ 0
   cost-if-empty f are i empty (inl p) = cost-none f are p.0 (subst (λ k. IsEmptyNode (node_at g k)) (sym p.1) empty)
   cost-if-empty f are i empty (inr e) = refl
 
@@ -191,7 +202,13 @@ module _ {K : Type 0} (nodes : K → NodeTree K) (number : K → ℕ) (g : Graph
 
   module _ (marked : List Bool) (has : K → Bool) (mark : (a : K) → get_or marked (number a) false ≡ has a) where
     pub reaching-down : (a : K) → Reaches CallsIn (λ b. has b ≡ true) a → ReachesMarked g marked (number a)
-    reaching-down a r = record { to = number r.to; along = map (numbered_call number) r.along; path = path-down a r.along r.to r.path; good = mark r.to ∙ r.good }
+    reaching-down a r = record {
+      to = number r.to;
+      along = map (numbered_call number) r.along;
+      path =
+          path-down a r.along r.to r.path;
+      good = mark r.to ∙ r.good;
+    }
 
     pub reaching-up : (a : K) → ReachesMarked g marked (number a) → Reaches CallsIn (λ b. has b ≡ true) a
     reaching-up a l =

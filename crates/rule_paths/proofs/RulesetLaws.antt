@@ -1,5 +1,7 @@
 -- From the findings about each table to those about all.
-use Rattle.std.proofs.Common.{◌≡◌, ◌⊎◌, ℕ, ◌+◌, ◌<◌, List, [], ◌∷◌, ◌++◌, Bool, true, false, ◌||◌, length, get_or, map, take, sym, refl, ap, ap₂, subst, ◌∙◌, inl, inr, ⊎_elim, arith, Vec, Global, ltb-true, lt-ltb}
+use Rattle.std.proofs.Common.{◌≡◌, ◌⊎◌, ℕ, ◌+◌, ◌<◌, List, [], ◌∷◌, ◌++◌, Bool, true, false, ◌||◌, length, get_or}
+use Rattle.std.proofs.Common.{map, take, sym, refl, ap, ap₂, subst, ◌∙◌, inl, inr, ⊎_elim, arith, Vec, Global}
+use Rattle.std.proofs.Common.{ltb-true, lt-ltb}
 use Rattle.std.specs.Prelude.{Contains, IsTrue, ◌↔◌, ◌&&◌, if◌then◌else◌, nat_eq, nat_lt}
 use Rattle.std.specs.Bool.{Decides}
 use Rattle.std.specs.Cmp.{unsigned_Decides}
@@ -13,7 +15,9 @@ use Rattle.nft_tree.specs.Tree.{TableTree}
 use Rattle.chain_graph.specs.Graph.{Call, NodeTree, chain, verdict_map, HasCycle}
 use Rattle.chain_graph.specs.Nodes.{Graph}
 use Rattle.chain_graph.specs.Measures.{saturated, IsCost}
-use Rattle.rule_paths.specs.Paths.{Caller, CallsOf, AreCosts, AreAllCosts, MAX_COST, table_cost, ruleset_cost, node_of, Cycles, HasDeepPath, TooDeep, TooCostly, MisplacedNat, misplaced_source, misplaced_destination}
+use Rattle.rule_paths.specs.Paths.{Caller, CallsOf, AreCosts, AreAllCosts, MAX_COST, table_cost, ruleset_cost}
+use Rattle.rule_paths.specs.Paths.{node_of, Cycles, HasDeepPath, TooDeep, TooCostly, MisplacedNat, misplaced_source}
+use Rattle.rule_paths.specs.Paths.{misplaced_destination}
 use Rattle.rule_paths.specs.Findings.{AreChainCosts, AreChainDepths, numbers_at, AreFindings}
 use Rattle.rule_paths.specs.declared.analysis.Findings.{Findings}
 use Rattle.rule_paths.specs.declared.marks.NatKind.TheVariants.{Source, Destination}
@@ -53,7 +57,8 @@ call-decides a b = (
   λ h. ap₂ (λ (to : ℕ) (is_jump : Bool). let call : Call ℕ = record { to = to; is_jump = is_jump } in call)
       ((unsigned_Decides a.to b.to).0 (and-first (nat_eq a.to b.to) (bool_eq a.is_jump b.is_jump) h))
       ((bool-decides a.is_jump b.is_jump).0 (and-second (nat_eq a.to b.to) (bool_eq a.is_jump b.is_jump) h)),
-  λ e. and_from (nat_eq a.to b.to) (bool_eq a.is_jump b.is_jump) ((unsigned_Decides a.to b.to).1 (ap (λ c. c.to) e)) ((bool-decides a.is_jump b.is_jump).1 (ap (λ c. c.is_jump) e)),
+  λ e. and_from (nat_eq a.to b.to) (bool_eq a.is_jump b.is_jump) ((unsigned_Decides a.to b.to).1 (ap (λ c. c.to) e))
+      ((bool-decides a.is_jump b.is_jump).1 (ap (λ c. c.is_jump) e)),
 )
 
 abbrev pub calls_eq : List (Call ℕ) → List (Call ℕ) → Bool
@@ -91,17 +96,21 @@ no-costs = record { costs = λ g i. 0; are = λ t h. let l = h.1 in absurd (omeg
 abbrev pub with_graph : (Graph → ℕ → ℕ) → Graph → (ℕ → ℕ) → Graph → ℕ → ℕ
 with_graph costs g cost h = if graph_eq h g then cost else costs h
 
-pub costs-more : (ts : List TableTree) (t : TableTree) → HaveCosts ts → RepresentsNodes (node_of t) (index_of t) (index_graph t) → (cost : ℕ → ℕ) → IsCost (index_graph t) cost → HaveCosts (ts ++ t ∷ [])
+pub costs-more : (ts : List TableTree) (t : TableTree) → HaveCosts ts
+    → RepresentsNodes (node_of t) (index_of t) (index_graph t) → (cost : ℕ → ℕ) → IsCost (index_graph t) cost
+    → HaveCosts (ts ++ t ∷ [])
 costs-more ts t have represents cost is = record {
   costs = with_graph have.costs (index_graph t) cost;
   are = λ u h. ⊎_elim
-      (λ same. subst (IsCost (index_graph u)) (sym (ap (λ b. if b then cost else have.costs (index_graph u)) same)) (subst (λ g. IsCost g cost) (sym ((graph-decides (index_graph u) (index_graph t)).0 same)) is))
+      (λ same. subst (IsCost (index_graph u)) (sym (ap (λ b. if b then cost else have.costs (index_graph u)) same))
+      (subst (λ g. IsCost g cost) (sym ((graph-decides (index_graph u) (index_graph t)).0 same)) is))
       (λ other. subst (IsCost (index_graph u)) (sym (ap (λ b. if b then cost else have.costs (index_graph u)) other)) (⊎_elim
       (λ k. have.are u k)
       (λ e. let q : true ≡ false = sym ((graph-decides (index_graph u) (index_graph t)).1 (ap index_graph (sym e))) ∙ other in cc)
       (Contains-push_cases ts t u h)))
       (bool-cases (graph_eq (index_graph u) (index_graph t)));
-  represent = λ u h. ⊎_elim (λ k. have.represent u k) (λ e. subst (λ v. RepresentsNodes (node_of v) (index_of v) (index_graph v)) e represents) (Contains-push_cases ts t u h);
+  represent = λ u h. ⊎_elim (λ k. have.represent u k)
+      (λ e. subst (λ v. RepresentsNodes (node_of v) (index_of v) (index_graph v)) e represents) (Contains-push_cases ts t u h);
 }
 
 -- the cost of a table by names
@@ -190,15 +199,18 @@ none-so-far = record {
   chain_depths = λ i t h e. absurd (omega (arith, h));
 }
 
-module _ (ts : List TableTree) (t : TableTree) (deep misplaced : Bool) (cost : ℕ) (costs depths : List (Vec ℕ Global)) (found : TableFindings) (s : AreFindingsSoFar ts deep misplaced cost costs depths) (f : AreTableFindings t found) where
-  pub sum-more : (cost_of : TableTree → Caller → ℕ) → AreAllCosts (ts ++ t ∷ []) cost_of → saturated (cost + found.base_cost) ≡ saturated (ruleset_cost cost_of (ts ++ t ∷ []))
+module _ (ts : List TableTree) (t : TableTree) (deep misplaced : Bool) (cost : ℕ) (costs depths : List (Vec ℕ Global))
+    (found : TableFindings) (s : AreFindingsSoFar ts deep misplaced cost costs depths) (f : AreTableFindings t found) where
+  pub sum-more : (cost_of : TableTree → Caller → ℕ) → AreAllCosts (ts ++ t ∷ []) cost_of
+      → saturated (cost + found.base_cost) ≡ saturated (ruleset_cost cost_of (ts ++ t ∷ []))
   sum-more cost_of are =
       let before = s.sum cost_of (λ u h. are u (member-before ts t u h)) in
       let now = f.base_cost (cost_of t) (are t (Contains-push ts t)) in
       let all = sum_by_push (λ u. table_cost (cost_of u) u) ts t in
       omega arith
 
-  pub more-so-far : AreFindingsSoFar (ts ++ t ∷ []) (deep || found.is_too_deep) (misplaced || found.misplaces_nat) (saturated (cost + found.base_cost)) (costs ++ found.costs ∷ []) (depths ++ found.depths ∷ [])
+  pub more-so-far : AreFindingsSoFar (ts ++ t ∷ []) (deep || found.is_too_deep) (misplaced || found.misplaces_nat)
+      (saturated (cost + found.base_cost)) (costs ++ found.costs ∷ []) (depths ++ found.depths ∷ [])
   more-so-far = record {
     acyclic = acyclic-more ts t s.acyclic f.acyclic;
     deep = deep-more ts t deep found.is_too_deep s.deep f.deep;
@@ -213,7 +225,8 @@ module _ (ts : List TableTree) (t : TableTree) (deep misplaced : Bool) (cost : �
 
 -- ---- the sum of costs
 
-module _ (ts : List TableTree) (have : HaveCosts ts) (cost : ℕ) (sum : (cost_of : TableTree → Caller → ℕ) → AreAllCosts ts cost_of → cost ≡ saturated (ruleset_cost cost_of ts)) where
+module _ (ts : List TableTree) (have : HaveCosts ts) (cost : ℕ)
+    (sum : (cost_of : TableTree → Caller → ℕ) → AreAllCosts ts cost_of → cost ≡ saturated (ruleset_cost cost_of ts)) where
   pub too-costly : MAX_COST < cost → TooCostly ts
   too-costly over =
       let is = sum (λ t a. have.costs (index_graph t) (index_of t a)) (are-costs ts have) in
@@ -227,7 +240,9 @@ module _ (ts : List TableTree) (have : HaveCosts ts) (cost : ℕ) (sum : (cost_o
 pub cycle-found : (tables : List TableTree) (t : TableTree) → Contains tables t → HasCycle (CallsOf t) → Cycles tables
 cycle-found tables t h k = record { table = t; member = h; cycle = k }
 
-pub all-found : (tables : List TableTree) (cost : ℕ) (found : Findings) → AreFindingsSoFar tables found.is_too_deep found.misplaces_nat cost found.costs.items found.depths.items → found.is_too_costly ≡ nat_lt MAX_COST cost → AreFindings tables found
+pub all-found : (tables : List TableTree) (cost : ℕ) (found : Findings)
+    → AreFindingsSoFar tables found.is_too_deep found.misplaces_nat cost found.costs.items found.depths.items
+    → found.is_too_costly ≡ nat_lt MAX_COST cost → AreFindings tables found
 all-found tables cost found s e = record {
   acyclic = s.acyclic;
   deep = s.deep;
@@ -244,15 +259,20 @@ all-found tables cost found s e = record {
 }
 
 pub none-at : (costs depths : List (Vec ℕ Global)) → costs ≡ [] → depths ≡ [] → AreFindingsSoFar [] false false 0 costs depths
-none-at costs depths e h = subst (λ ds. AreFindingsSoFar [] false false 0 costs ds) (sym h) (subst (λ cs. AreFindingsSoFar [] false false 0 cs []) (sym e) none-so-far)
+none-at costs depths e h = subst (λ ds. AreFindingsSoFar [] false false 0 costs ds) (sym h)
+    (subst (λ cs. AreFindingsSoFar [] false false 0 cs []) (sym e) none-so-far)
 
-pub more-at : (tables : List TableTree) (i : ℕ) (t : TableTree) (deep misplaced : Bool) (cost cost' : ℕ) (costs costs' depths depths' : List (Vec ℕ Global)) (found : TableFindings) → i < length tables → t ≡ get_or tables i t
+pub more-at : (tables : List TableTree) (i : ℕ) (t : TableTree) (deep misplaced : Bool) (cost cost' : ℕ)
+    (costs costs' depths depths' : List (Vec ℕ Global)) (found : TableFindings) → i < length tables → t ≡ get_or tables i t
     → AreFindingsSoFar (take i tables) deep misplaced cost costs depths → AreTableFindings t found
     → cost' ≡ saturated (cost + found.base_cost) → costs' ≡ costs ++ found.costs ∷ [] → depths' ≡ depths ++ found.depths ∷ []
     → AreFindingsSoFar (take (i + 1) tables) (deep || found.is_too_deep) (misplaced || found.misplaces_nat) cost' costs' depths'
 more-at tables i t deep misplaced cost cost' costs costs' depths depths' found h e s f p q r =
-    subst (λ ts. AreFindingsSoFar ts (deep || found.is_too_deep) (misplaced || found.misplaces_nat) cost' costs' depths') (sym (take_more tables i t h ∙ ap (λ x. take i tables ++ x ∷ []) (sym e)))
+    subst (λ ts. AreFindingsSoFar ts (deep || found.is_too_deep) (misplaced || found.misplaces_nat) cost' costs'
+    depths') (sym (take_more tables i t h ∙ ap (λ x. take i tables ++ x ∷ []) (sym e)))
     (subst (λ n. AreFindingsSoFar (take i tables ++ t ∷ []) (deep || found.is_too_deep) (misplaced || found.misplaces_nat) n costs' depths') (sym p)
-    (subst (λ cs. AreFindingsSoFar (take i tables ++ t ∷ []) (deep || found.is_too_deep) (misplaced || found.misplaces_nat) (saturated (cost + found.base_cost)) cs depths') (sym q)
-    (subst (λ ds. AreFindingsSoFar (take i tables ++ t ∷ []) (deep || found.is_too_deep) (misplaced || found.misplaces_nat) (saturated (cost + found.base_cost)) (costs ++ found.costs ∷ []) ds) (sym r)
+    (subst (λ cs. AreFindingsSoFar (take i tables ++ t ∷ []) (deep || found.is_too_deep)
+    (misplaced || found.misplaces_nat) (saturated (cost + found.base_cost)) cs depths') (sym q)
+    (subst (λ ds. AreFindingsSoFar (take i tables ++ t ∷ []) (deep || found.is_too_deep)
+    (misplaced || found.misplaces_nat) (saturated (cost + found.base_cost)) (costs ++ found.costs ∷ []) ds) (sym r)
     (more-so-far (take i tables) t deep misplaced cost costs depths found s f))))

@@ -1,8 +1,11 @@
 -- From the graph of a table to its chains.
-use Rattle.std.proofs.Common.{◌≡◌, ℕ, zero, suc, ◌-◌, ◌<◌, ◌≤◌, List, [], ◌∷◌, Option, Some, None, Bool, true, false, ◌||◌, not, length, get_or, map, take, replicate, sym, refl, ap, subst, ◌∙◌, inl, inr, ⊎_elim, arith, ltb-true, lt-ltb, get_or-take}
+use Rattle.std.proofs.Common.{◌≡◌, ℕ, zero, suc, ◌-◌, ◌<◌, ◌≤◌, List, [], ◌∷◌, Option, Some, None, Bool, true, false}
+use Rattle.std.proofs.Common.{◌||◌, not, length, get_or, map, take, replicate, sym, refl, ap, subst, ◌∙◌, inl, inr}
+use Rattle.std.proofs.Common.{⊎_elim, arith, ltb-true, lt-ltb, get_or-take}
 use Rattle.std.specs.Prelude.{IsTrue, nat_lt, ◌↔◌}
 use Rattle.std.specs.List.{list_any}
-use Rattle.std.proofs.lemmas.List.{ext_get_or, length-map, length-take-le, get_or_default, get_or_append_left, get_or-append_right, get_or-replicate, get_or_past, length-replicate}
+use Rattle.std.proofs.lemmas.List.{ext_get_or, length-map, length-take-le, get_or_default, get_or_append_left}
+use Rattle.std.proofs.lemmas.List.{get_or-append_right, get_or-replicate, get_or_past, length-replicate}
 use Rattle.std.proofs.lemmas.List.Folds.{list_any_at}
 use Rattle.std.proofs.lemmas.Bool.{cases_lt, or_right, or_cases, not-true}
 use Rattle.std.proofs.Math.ListN.{get_or-map}
@@ -19,11 +22,13 @@ use Rattle.rule_paths.specs.Findings.{HasDepth, AreChainCosts, AreChainDepths}
 use Rattle.rule_paths.specs.declared.marks.NatKind.{NatKind}
 use Rattle.rule_paths.specs.declared.marks.NatKind.TheVariants.{Source, Destination}
 use Rattle.rule_paths.specs.steps.Numbers.{RepresentsNodes}
-use Rattle.rule_paths.specs.steps.Index.{chain_count, index_of, index_graph, IsTableGraph, translates, may_translate, marks_of, may_not_translate, ReachesMisplaced}
+use Rattle.rule_paths.specs.steps.Index.{chain_count, index_of, index_graph, IsTableGraph, translates, may_translate}
+use Rattle.rule_paths.specs.steps.Index.{marks_of, may_not_translate, ReachesMisplaced}
 use Rattle.rule_paths.specs.steps.Tables.{MisplacesAs, MisplacesIn, AreTableFindings}
 use Rattle.rule_paths.specs.declared.table.TableFindings.{TableFindings}
 use Rattle.rule_paths.proofs.NumberLaws.{cycle-down, costs-up, costs-down, cost_by, cost-named, most-up, deep-path, reaching-up, reaching-down}
-use Rattle.rule_paths.proofs.IndexLaws.{represents, chain-number, graph-long, name-at, no-chain, look-chain, look-map, chain-found, chain-missing, map-found, map-missing}
+use Rattle.rule_paths.proofs.IndexLaws.{represents, chain-number, graph-long, name-at, no-chain, look-chain, look-map}
+use Rattle.rule_paths.proofs.IndexLaws.{chain-found, chain-missing, map-found, map-missing}
 
 pub table-graph : (t : TableTree) (g : Graph) → g ≡ index_graph t → (HasDuplicate (chain_names t) → ⊥) → (HasDuplicate (map_names t) → ⊥) → IsTableGraph t g
 table-graph t g e chains maps = record {
@@ -88,7 +93,8 @@ module _ (t : TableTree) (g : Graph) (s : IsTableGraph t g) where
   pub chain-depth : (j depth : ℕ) → j < chain_count t → IsDepth g j depth → IsDepth g (index_of t (a_chain (get_or (chain_names t) j []))) depth
   chain-depth j depth h d = subst (λ k. IsDepth g k depth) (sym (s.chains_first j h)) d
 
-  pub chain-depths : (depths : List ℕ) → length depths ≡ length g → ((c : ℕ) → c < length g → IsDepth g c (get_or depths c 0)) → AreChainDepths t (take (chain_count t) depths)
+  pub chain-depths : (depths : List ℕ) → length depths ≡ length g
+      → ((c : ℕ) → c < length g → IsDepth g c (get_or depths c 0)) → AreChainDepths t (take (chain_count t) depths)
   chain-depths depths long known =
       let n : length (take (chain_count t) depths) ≡ chain_count t = length-take-le (chain_count t) depths (let l = s.long in omega arith) in
       record {
@@ -98,14 +104,18 @@ module _ (t : TableTree) (g : Graph) (s : IsTableGraph t g) where
             let m = s.long in
             let a : Caller = a_chain (get_or (chain_names t) j []) in
             let depth : ℕ = get_or (take (chain_count t) depths) j 0 in
-            let d : IsDepth g (index_of t a) depth = chain-depth j depth l (subst (IsDepth g j) (sym (get_or-take (chain_count t) depths j 0 l)) (known j (omega arith))) in
+            let d : IsDepth g (index_of t a) depth =
+            chain-depth j depth l (subst (IsDepth g j) (sym (get_or-take (chain_count t) depths j 0 l))
+            (known j (omega arith))) in
             let path = deep-path (node_of t) (index_of t) g s.represents a depth d in
             record { most = most-up (node_of t) (index_of t) g s.represents a depth d; to = path.0; along = path.1; path = path.2; deep = path.3 };
       }
 
   -- ---- costs
 
-  pub chain-costs : (costs : List ℕ) → length costs ≡ length g → ((cost : ℕ → ℕ) → IsCost g cost → (c : ℕ) → c < length g → get_or costs c 0 ≡ saturated (cost c)) → (cost : ℕ → ℕ) → IsCost g cost → AreChainCosts t (take (chain_count t) costs)
+  pub chain-costs : (costs : List ℕ) → length costs ≡ length g
+      → ((cost : ℕ → ℕ) → IsCost g cost → (c : ℕ) → c < length g → get_or costs c 0 ≡ saturated (cost c))
+      → (cost : ℕ → ℕ) → IsCost g cost → AreChainCosts t (take (chain_count t) costs)
   chain-costs costs long known cost is =
       let n : length (take (chain_count t) costs) ≡ chain_count t = length-take-le (chain_count t) costs (let l = s.long in omega arith) in
       record {
@@ -142,12 +152,14 @@ module _ (test : Statement → Bool) (count : ℕ) (t : TableTree) where
 
   pub unmarked : (i : ℕ) → chain_count t ≤ i → get_or (marks_of test count t) i false ≡ false
   unmarked i h =
-      get_or-append_right (map (λ c. chain_has test (Some c)) (chains_of t)) (replicate (count - chain_count t) false) (chain_count t) i false (length-map (chains_of t) (λ c. chain_has test (Some c))) h
+      get_or-append_right (map (λ c. chain_has test (Some c)) (chains_of t)) (replicate (count - chain_count t) false)
+      (chain_count t) i false (length-map (chains_of t) (λ c. chain_has test (Some c))) h
       ∙ replicate-false (count - chain_count t) (i - chain_count t)
 
   pub mark : (a : Caller) → get_or (marks_of test count t) (index_of t a) false ≡ caller_has test t a
   mark (a_chain name) = ⊎_elim
-      (λ r. ap (λ i. get_or (marks_of test count t) i false) (chain-found t name r) ∙ marked-at r.index r.item r.within r.is ∙ ap (chain_has test) (sym r.finds))
+      (λ r. ap (λ i. get_or (marks_of test count t) i false) (chain-found t name r)
+      ∙ marked-at r.index r.item r.within r.is ∙ ap (chain_has test) (sym r.finds))
       (λ r. unmarked (index_of t (a_chain name)) (let e = chain-missing t name r.at in omega arith) ∙ ap (chain_has test) (sym r.finds))
       (look-chain t name)
   mark (a_map name) = unmarked (index_of t (a_map name)) (⊎_elim
@@ -155,11 +167,14 @@ module _ (test : Statement → Bool) (count : ℕ) (t : TableTree) where
       (λ r. let e = map-missing t name r.at in omega arith)
       (look-map t name))
 
-pub not_allowed-head : (kind : NatKind) (o : Option HeadTree) → may_not_translate kind o ≡ true → (head : HeadTree) × (o ≡ Some head) × (may_translate kind head.kind head.hook ≡ false)
+pub not_allowed-head : (kind : NatKind) (o : Option HeadTree) → may_not_translate kind o ≡ true → (head : HeadTree)
+    × (o ≡ Some head) × (may_translate kind head.kind head.hook ≡ false)
 not_allowed-head kind None h = cc
 not_allowed-head kind (Some head) h = (head, refl, not-true (may_translate kind head.kind head.hook) h)
 
-module _ (kind : NatKind) (t : TableTree) (g : Graph) (s : IsTableGraph t g) (count : ℕ) (reaching : List Bool) (long : count ≡ length g) (known : (c : ℕ) → c < count → IsTrue (get_or reaching c false) ↔ ReachesMarked g (marks_of (translates kind) count t) c) where
+module _ (kind : NatKind) (t : TableTree) (g : Graph) (s : IsTableGraph t g) (count : ℕ) (reaching : List Bool)
+    (long : count ≡ length g) (known : (c : ℕ) → c < count → IsTrue (get_or reaching c false)
+    ↔ ReachesMarked g (marks_of (translates kind) count t) c) where
   pub own : (i : ℕ) (c : ChainTree) → i < chain_count t → get_or (chains_of t) i c ≡ c → index_of t (a_chain c.name) ≡ i
   own i c h e = ap (λ name. index_of t (a_chain name)) (sym (name-at (λ (c : ChainTree). c.name) (chains_of t) i c h e)) ∙ s.chains_first i h
 
@@ -175,7 +190,8 @@ module _ (kind : NatKind) (t : TableTree) (g : Graph) (s : IsTableGraph t g) (co
         head = head.0;
         is_base = head.1;
         may_not = head.2;
-        reaching = reaching-up (node_of t) (index_of t) g s.represents (marks_of (translates kind) count t) (caller_has (translates kind) t) (mark (translates kind) count t) (a_chain w.base.name)
+        reaching = reaching-up (node_of t) (index_of t) g s.represents (marks_of (translates kind) count t)
+            (caller_has (translates kind) t) (mark (translates kind) count t) (a_chain w.base.name)
             (subst (ReachesMarked g (marks_of (translates kind) count t)) (sym (own w.index w.base w.within (sym w.is))) on);
       }
 
@@ -184,7 +200,8 @@ module _ (kind : NatKind) (t : TableTree) (g : Graph) (s : IsTableGraph t g) (co
       let index : ℕ = m.member.0 in
       let h : index < chain_count t = m.member.1 in
       let l = s.long in
-      let on = reaching-down (node_of t) (index_of t) g s.represents (marks_of (translates kind) count t) (caller_has (translates kind) t) (mark (translates kind) count t) (a_chain m.base.name) m.reaching in
+      let on = reaching-down (node_of t) (index_of t) g s.represents (marks_of (translates kind) count t)
+      (caller_has (translates kind) t) (mark (translates kind) count t) (a_chain m.base.name) m.reaching in
       record {
         index = index;
         base = m.base;
@@ -198,7 +215,8 @@ module _ (kind : NatKind) (t : TableTree) (g : Graph) (s : IsTableGraph t g) (co
   misplaced found e = (λ h. misplaced-found (e.0 h), λ m. e.1 (misplaced-reaching m))
 
 -- source or destination NAT
-pub either-misplaced : (t : TableTree) (a b : Bool) → (IsTrue a ↔ MisplacesAs Source t) → (IsTrue b ↔ MisplacesAs Destination t) → IsTrue (a || b) ↔ MisplacesIn t
+pub either-misplaced : (t : TableTree) (a b : Bool) → (IsTrue a ↔ MisplacesAs Source t)
+    → (IsTrue b ↔ MisplacesAs Destination t) → IsTrue (a || b) ↔ MisplacesIn t
 either-misplaced t a b p q = (
   λ h. ⊎_elim (λ k. inl (p.0 k)) (λ k. inr (q.0 k)) (or_cases a b h),
   λ m. ⊎_elim (λ k. ap (λ x. x || b) (p.1 k)) (λ k. or_right a b (q.1 k)) m,

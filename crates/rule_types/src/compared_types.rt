@@ -2,7 +2,8 @@
 ghost use Rattle.std.specs.Prelude.{◌≡◌};
 ghost use Rattle.nft_tree.specs.Tree.{range_tree};
 ghost use Rattle.nft_tree.specs.ComparedTypes.{selector_compared_type};
-ghost use Rattle.rule_types.specs.Types.{compare_mismatches, has_ranges, is_order, is_ordered, is_single, compared_type_width, range_mismatches, same_compared_type};
+ghost use Rattle.rule_types.specs.Types.{compare_mismatches, has_ranges, is_order, is_ordered, is_single};
+ghost use Rattle.rule_types.specs.Types.{compared_type_width, range_mismatches, same_compared_type};
 
 use nft_tree::{ComparedType, Operator, Selector, ValueRange, ValueType};
 

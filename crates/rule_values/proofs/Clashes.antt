@@ -1,5 +1,6 @@
 -- Ranges with comparable data clash exactly if entries contradict each other.
-use Rattle.std.proofs.Common.{◌≡◌, ℕ, ◌≤◌, List, [], ◌∷◌, Bool, true, false, ◌&&◌, not, Option, Some, None, max, ◌⊎◌, inl, inr, ⊎_elim, refl, sym, ap, ap₂, subst, ◌∙◌, arith, eq-eqb}
+use Rattle.std.proofs.Common.{◌≡◌, ℕ, ◌≤◌, List, [], ◌∷◌, Bool, true, false, ◌&&◌, not, Option, Some, None, max, ◌⊎◌}
+use Rattle.std.proofs.Common.{inl, inr, ⊎_elim, refl, sym, ap, ap₂, subst, ◌∙◌, arith, eq-eqb}
 use Rattle.std.specs.Prelude.{nat_le, nat_eq}
 use Rattle.std.specs.Borrow.{Bor}
 use Rattle.std.specs.List.{list_any}
@@ -65,7 +66,8 @@ ElementDataOf names (comparables.Jump i) g = (t : Text) × (g ≡ a_verdict (tre
 ElementDataOf names (comparables.Goto i) g = (t : Text) × (g ≡ a_verdict (tree.goto t)) × (name_index_of t names ≡ Some i)
 ElementDataOf names (comparables.Numbers l h) g = g ≡ a_value (record { low = l; high = h })
 
-at-name : (f : ℕ → ComparableData) (names : List (Bor Text)) (t : Text) (o : ComparableData) → option_map f (name_index_of t names) ≡ Some o → (i : ℕ) × (name_index_of t names ≡ Some i) × (f i ≡ o)
+at-name : (f : ℕ → ComparableData) (names : List (Bor Text)) (t : Text) (o : ComparableData)
+    → option_map f (name_index_of t names) ≡ Some o → (i : ℕ) × (name_index_of t names ≡ Some i) × (f i ≡ o)
 at-name f names t o h = by (name_index_of t names) refl h
   where
     by : (p : Option ℕ) → name_index_of t names ≡ p → option_map f p ≡ Some o → (i : ℕ) × (name_index_of t names ≡ Some i) × (f i ≡ o)
@@ -74,10 +76,14 @@ at-name f names t o h = by (name_index_of t names) refl h
 
 given-by : (names : List (Bor Text)) (g : ElementData) (o : ComparableData) → comparable_form names g ≡ Some o → ElementDataOf names o g
 unfolding ElementDataOf
-given-by names (a_verdict tree.accept) o h = let e : comparables.Accept ≡ o = cc in subst (λ (u : ComparableData). ElementDataOf names u (a_verdict tree.accept)) e refl
-given-by names (a_verdict tree.drop) o h = let e : comparables.Drop ≡ o = cc in subst (λ (u : ComparableData). ElementDataOf names u (a_verdict tree.drop)) e refl
-given-by names (a_verdict tree.continue) o h = let e : comparables.Continue ≡ o = cc in subst (λ (u : ComparableData). ElementDataOf names u (a_verdict tree.continue)) e refl
-given-by names (a_verdict tree.return) o h = let e : comparables.Return ≡ o = cc in subst (λ (u : ComparableData). ElementDataOf names u (a_verdict tree.return)) e refl
+given-by names (a_verdict tree.accept) o h = let e : comparables.Accept ≡ o =
+    cc in subst (λ (u : ComparableData). ElementDataOf names u (a_verdict tree.accept)) e refl
+given-by names (a_verdict tree.drop) o h = let e : comparables.Drop ≡ o =
+    cc in subst (λ (u : ComparableData). ElementDataOf names u (a_verdict tree.drop)) e refl
+given-by names (a_verdict tree.continue) o h = let e : comparables.Continue ≡ o =
+    cc in subst (λ (u : ComparableData). ElementDataOf names u (a_verdict tree.continue)) e refl
+given-by names (a_verdict tree.return) o h = let e : comparables.Return ≡ o =
+    cc in subst (λ (u : ComparableData). ElementDataOf names u (a_verdict tree.return)) e refl
 given-by names (a_verdict (tree.jump t)) o h =
     let at = at-name comparables.Jump names t o h in
     subst (λ (u : ComparableData). ElementDataOf names u (a_verdict (tree.jump t))) at.2 (t, refl, at.1)
@@ -97,20 +103,24 @@ given-one names (comparables.Goto i) a b h k = h.1 ∙ ap (λ t. a_verdict (tree
 given-one names (comparables.Numbers l u) a b h k = h ∙ sym k
 
 -- equal comparable forms have the same data
-one-given : (names : List (Bor Text)) (a b : ElementData) (o u : ComparableData) → RepresentsData names a o → RepresentsData names b u → o ≡ u → same_element_data a b ≡ true
+one-given : (names : List (Bor Text)) (a b : ElementData) (o u : ComparableData) → RepresentsData names a o
+    → RepresentsData names b u → o ≡ u → same_element_data a b ≡ true
 one-given names a b o u h k e =
     let same = given-one names u a b (given-by names a u (h.is ∙ ap Some e)) (given-by names b u k.is) in
     ap (λ g. same_element_data g b) same ∙ same-refl b
 
 -- and the same data have equal comparable forms
-one-comparable_data : (names : List (Bor Text)) (a b : ElementData) (o u : ComparableData) → RepresentsData names a o → RepresentsData names b u → same_element_data a b ≡ true → o ≡ u
+one-comparable_data : (names : List (Bor Text)) (a b : ElementData) (o u : ComparableData) → RepresentsData names a o
+    → RepresentsData names b u → same_element_data a b ≡ true → o ≡ u
 one-comparable_data names a b o u h k e =
     let same : Some o ≡ Some u = sym h.is ∙ ap (comparable_form names) (same-eq a b e) ∙ k.is in
     cc
 
 -- ---- two entries
 
-two-contradict : (names : List (Bor Text)) (e f : MapEntry) (p q : Range × ComparableData) (key : ℕ) → RepresentsEntry names e p → RepresentsEntry names f q → Covers p.0 key → Covers q.0 key → (p.1 ≡ q.1 → ⊥) → contradict e f ≡ true
+two-contradict : (names : List (Bor Text)) (e f : MapEntry) (p q : Range × ComparableData) (key : ℕ)
+    → RepresentsEntry names e p → RepresentsEntry names f q → Covers p.0 key → Covers q.0 key → (p.1 ≡ q.1 → ⊥)
+    → contradict e f ≡ true
 two-contradict names e f p q key i j c d differ =
     let el = ap (λ (s : Span). s.low) i.keys in
     let eh = ap (λ (s : Span). s.high) i.keys in
@@ -121,7 +131,8 @@ two-contradict names e f p q key i j c d differ =
     let da = d.above in
     let db = d.below in
     and_from (nat_le e.keys.low f.keys.high && nat_le f.keys.low e.keys.high) (not (same_element_data e.given f.given))
-    (and_from (nat_le e.keys.low f.keys.high) (nat_le f.keys.low e.keys.high) (le-leb e.keys.low f.keys.high (omega arith)) (le-leb f.keys.low e.keys.high (omega arith)))
+    (and_from (nat_le e.keys.low f.keys.high) (nat_le f.keys.low e.keys.high)
+    (le-leb e.keys.low f.keys.high (omega arith)) (le-leb f.keys.low e.keys.high (omega arith)))
     (true-not (same_element_data e.given f.given) (λ s. differ (one-comparable_data names e.given f.given p.1 q.1 i.comparable_data j.comparable_data s)))
 
 -- a number that both contain, with different data
@@ -131,7 +142,8 @@ record Shared (p q : Range × ComparableData) : Type 0 where
   second : Covers q.0 key
   differ : p.1 ≡ q.1 → ⊥
 
-contradict-two : (names : List (Bor Text)) (e f : MapEntry) (p q : Range × ComparableData) → RepresentsEntry names e p → RepresentsEntry names f q → contradict e f ≡ true → Shared p q
+contradict-two : (names : List (Bor Text)) (e f : MapEntry) (p q : Range × ComparableData) → RepresentsEntry names e p
+    → RepresentsEntry names f q → contradict e f ≡ true → Shared p q
 contradict-two names e f p q i j h =
     let parts = and_parts (nat_le e.keys.low f.keys.high && nat_le f.keys.low e.keys.high) (not (same_element_data e.given f.given)) h in
     let ends = and_parts (nat_le e.keys.low f.keys.high) (nat_le f.keys.low e.keys.high) parts.0 in
@@ -152,10 +164,15 @@ contradict-two names e f p q i j h =
 
 -- ---- an entry and a list
 
-any-contradict : (names : List (Bor Text)) (e : MapEntry) (p : Range × ComparableData) (es : List MapEntry) (ps : List (Range × ComparableData)) (key : ℕ) (v : ComparableData) → RepresentsEntry names e p → RepresentEach names es ps → Covers p.0 key → HasValue ps key v → (p.1 ≡ v → ⊥) → list_any (contradict e) es ≡ true
+any-contradict : (names : List (Bor Text)) (e : MapEntry) (p : Range × ComparableData) (es : List MapEntry)
+    (ps : List (Range × ComparableData)) (key : ℕ) (v : ComparableData) → RepresentsEntry names e p
+    → RepresentEach names es ps → Covers p.0 key → HasValue ps key v → (p.1 ≡ v → ⊥) → list_any (contradict e) es ≡ true
 any-contradict names e p [] [] key v i are c h differ = absurd h
-any-contradict names e p (f ∷ es) (q ∷ ps) key v i are c (inl h) differ = or_left (contradict e f) (list_any (contradict e) es) (two-contradict names e f p q key i are.0 c h.0 (λ s. differ (s ∙ h.1)))
-any-contradict names e p (f ∷ es) (q ∷ ps) key v i are c (inr h) differ = or_right (contradict e f) (list_any (contradict e) es) (any-contradict names e p es ps key v i are.1 c h differ)
+any-contradict names e p (f ∷ es) (q ∷ ps) key v i are c (inl h) differ =
+    or_left (contradict e f) (list_any (contradict e) es)
+    (two-contradict names e f p q key i are.0 c h.0 (λ s. differ (s ∙ h.1)))
+any-contradict names e p (f ∷ es) (q ∷ ps) key v i are c (inr h) differ =
+    or_right (contradict e f) (list_any (contradict e) es) (any-contradict names e p es ps key v i are.1 c h differ)
 any-contradict names e p [] (q ∷ ps) key v i are c h differ = absurd are
 any-contradict names e p (f ∷ es) [] key v i are c h differ = absurd are
 
@@ -167,10 +184,13 @@ record SharedWith (p : Range × ComparableData) (ps : List (Range × ComparableD
   held : HasValue ps key value
   differ : p.1 ≡ value → ⊥
 
-contradict-any : (names : List (Bor Text)) (e : MapEntry) (p : Range × ComparableData) (es : List MapEntry) (ps : List (Range × ComparableData)) → RepresentsEntry names e p → RepresentEach names es ps → list_any (contradict e) es ≡ true → SharedWith p ps
+contradict-any : (names : List (Bor Text)) (e : MapEntry) (p : Range × ComparableData) (es : List MapEntry)
+    (ps : List (Range × ComparableData)) → RepresentsEntry names e p → RepresentEach names es ps
+    → list_any (contradict e) es ≡ true → SharedWith p ps
 contradict-any names e p [] [] i are h = cc
 contradict-any names e p (f ∷ es) (q ∷ ps) i are h = ⊎_elim
-    (λ t. let s = contradict-two names e f p q i are.0 t in record { key = s.key; value = q.1; first = s.first; held = inl (s.second, refl); differ = s.differ })
+    (λ t. let s = contradict-two names e f p q i are.0 t in record
+    { key = s.key; value = q.1; first = s.first; held = inl (s.second, refl); differ = s.differ })
     (λ t. let s = contradict-any names e p es ps i are.1 t in record { key = s.key; value = s.value; first = s.first; held = inr s.held; differ = s.differ })
     (or_cases (contradict e f) (list_any (contradict e) es) h)
 contradict-any names e p [] (q ∷ ps) i are h = absurd are
@@ -178,20 +198,30 @@ contradict-any names e p (f ∷ es) [] i are h = absurd are
 
 -- ---- two elements of a list
 
-clash-forth : (names : List (Bor Text)) (es : List MapEntry) (ps : List (Range × ComparableData)) (key : ℕ) (one other : ComparableData) → RepresentEach names es ps → HasValue ps key one → HasValue ps key other → (one ≡ other → ⊥) → any_pair contradict es ≡ true
+clash-forth : (names : List (Bor Text)) (es : List MapEntry) (ps : List (Range × ComparableData)) (key : ℕ)
+    (one other : ComparableData) → RepresentEach names es ps → HasValue ps key one → HasValue ps key other
+    → (one ≡ other → ⊥) → any_pair contradict es ≡ true
 clash-forth names [] [] key one other are h k differ = absurd h
 clash-forth names (e ∷ es) (p ∷ ps) key one other are (inl h) (inl k) differ = absurd (differ (sym h.1 ∙ k.1))
-clash-forth names (e ∷ es) (p ∷ ps) key one other are (inl h) (inr k) differ = or_left (list_any (contradict e) es) (any_pair contradict es) (any-contradict names e p es ps key other are.0 are.1 h.0 k (λ s. differ (sym h.1 ∙ s)))
-clash-forth names (e ∷ es) (p ∷ ps) key one other are (inr h) (inl k) differ = or_left (list_any (contradict e) es) (any_pair contradict es) (any-contradict names e p es ps key one are.0 are.1 k.0 h (λ s. differ (sym s ∙ k.1)))
-clash-forth names (e ∷ es) (p ∷ ps) key one other are (inr h) (inr k) differ = or_right (list_any (contradict e) es) (any_pair contradict es) (clash-forth names es ps key one other are.1 h k differ)
+clash-forth names (e ∷ es) (p ∷ ps) key one other are (inl h) (inr k) differ =
+    or_left (list_any (contradict e) es) (any_pair contradict es)
+    (any-contradict names e p es ps key other are.0 are.1 h.0 k (λ s. differ (sym h.1 ∙ s)))
+clash-forth names (e ∷ es) (p ∷ ps) key one other are (inr h) (inl k) differ =
+    or_left (list_any (contradict e) es) (any_pair contradict es)
+    (any-contradict names e p es ps key one are.0 are.1 k.0 h (λ s. differ (sym s ∙ k.1)))
+clash-forth names (e ∷ es) (p ∷ ps) key one other are (inr h) (inr k) differ =
+    or_right (list_any (contradict e) es) (any_pair contradict es) (clash-forth names es ps key one other are.1 h k differ)
 clash-forth names [] (p ∷ ps) key one other are h k differ = absurd are
 clash-forth names (e ∷ es) [] key one other are h k differ = absurd are
 
-clash-back : (names : List (Bor Text)) (es : List MapEntry) (ps : List (Range × ComparableData)) → RepresentEach names es ps → any_pair contradict es ≡ true → HasClash ps
+clash-back : (names : List (Bor Text)) (es : List MapEntry) (ps : List (Range × ComparableData))
+    → RepresentEach names es ps → any_pair contradict es ≡ true → HasClash ps
 clash-back names [] [] are h = cc
 clash-back names (e ∷ es) (p ∷ ps) are h = ⊎_elim
-    (λ t. let s = contradict-any names e p es ps are.0 are.1 t in record { key = s.key; one = p.1; other = s.value; has_one = inl (s.first, refl); has_other = inr s.held; differ = s.differ })
-    (λ t. let s = clash-back names es ps are.1 t in record { key = s.key; one = s.one; other = s.other; has_one = inr s.has_one; has_other = inr s.has_other; differ = s.differ })
+    (λ t. let s = contradict-any names e p es ps are.0 are.1 t in record
+    { key = s.key; one = p.1; other = s.value; has_one = inl (s.first, refl); has_other = inr s.held; differ = s.differ })
+    (λ t. let s = clash-back names es ps are.1 t in record
+    { key = s.key; one = s.one; other = s.other; has_one = inr s.has_one; has_other = inr s.has_other; differ = s.differ })
     (or_cases (list_any (contradict e) es) (any_pair contradict es) h)
 clash-back names [] (p ∷ ps) are h = absurd are
 clash-back names (e ∷ es) [] are h = absurd are
@@ -203,7 +233,8 @@ clash-some es ps qs s e c =
     let d = subst (λ (rs : List (Range × ComparableData)). HasClash rs) e c in
     sym (clash-forth s.names es ps d.key d.one d.other s.each d.has_one d.has_other d.differ)
 
-pub clash-none : (es : List MapEntry) (ps qs : List (Range × ComparableData)) → RepresentsEntries ps es → qs ≡ ps → (HasClash qs → ⊥) → false ≡ any_pair contradict es
+pub clash-none : (es : List MapEntry) (ps qs : List (Range × ComparableData)) → RepresentsEntries ps es → qs ≡ ps
+    → (HasClash qs → ⊥) → false ≡ any_pair contradict es
 clash-none es ps qs s e none = by (any_pair contradict es) refl
   where
     by : (b : Bool) → any_pair contradict es ≡ b → false ≡ any_pair contradict es

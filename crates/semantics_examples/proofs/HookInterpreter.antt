@@ -9,7 +9,9 @@ use Rattle.rule_meaning.specs.declared.event.HookVerdict.{HookVerdict}
 use Rattle.rule_meaning.specs.declared.event.HookVerdict.TheVariants.{Accepted, Dropped, Translated}
 use Rattle.rule_meaning.specs.Runs.{table_program, RunResult}
 use Rattle.rule_meaning.specs.Hooks as hooks
-use Rattle.rule_meaning.specs.Hooks.{BaseChain, base_chains_of, runs_before, is_below, HookResult, policy_of, with_policy, Traversal, RunsBaseChain, Continues, Then, InTurn, Chains, AroundNat}
+use Rattle.rule_meaning.specs.Hooks.{BaseChain, base_chains_of, runs_before, is_below, HookResult, policy_of}
+use Rattle.rule_meaning.specs.Hooks.{with_policy, Traversal, RunsBaseChain, Continues, Then, InTurn, Chains}
+use Rattle.rule_meaning.specs.Hooks.{AroundNat}
 use Rattle.rule_meaning.specs.Laws.{step_of}
 use Rattle.rule_meaning.proofs.Priorities.{priorities}
 use Rattle.rule_laws.proofs.Sorting.{ordered, sorted, stable}
@@ -69,7 +71,11 @@ module _ (plant : PlantTree) (tables : List TableTree) (depth : ℕ) where
   abbrev pub around_run : (BaseChain → Bool) → ℤ → Gives → Gives
   around_run test limit step = in_order (chains_run (λ b. test b && is_below limit b)) (in_order step (chains_run (λ b. test b && not (is_below limit b))))
 
-  closed_sound : (b : BaseChain) (t : TableTree) → slice_get tables b.number.table ≡ Some t → (f : Facts) (es : List Event) (hook_result : HookResult) (x : Option RunResult) → run (table_program plant b.number.table t) depth b.number.chain f es ≡ x → option_map (with_policy b.number (policy_of b.head)) x ≡ Some hook_result → RunsBaseChain plant tables b f es hook_result
+  closed_sound : (b : BaseChain) (t : TableTree) → slice_get tables b.number.table ≡ Some t
+      → (f : Facts) (es : List Event) (hook_result : HookResult) (x : Option RunResult)
+      → run (table_program plant b.number.table t) depth b.number.chain f es ≡ x
+      → option_map (with_policy b.number (policy_of b.head)) x ≡ Some hook_result
+      → RunsBaseChain plant tables b f es hook_result
   closed_sound b t at f es hook_result None is e = absurd (none-some hook_result e)
   closed_sound b t at f es hook_result (Some o) is e =
       let q = run_sound (table_program plant b.number.table t) depth b.number.chain f es o is in
@@ -77,18 +83,29 @@ module _ (plant : PlantTree) (tables : List TableTree) (depth : ℕ) where
 
   base_sound : (b : BaseChain) (x : Option TableTree) → slice_get tables b.number.table ≡ x → Sound (table_run b x) (RunsBaseChain plant tables b)
   base_sound b None at f es hook_result e = absurd (none-some hook_result e)
-  base_sound b (Some t) at f es hook_result e = closed_sound b t at f es hook_result (run (table_program plant b.number.table t) depth b.number.chain f es) refl e
+  base_sound b (Some t) at f es hook_result e =
+      closed_sound b t at f es hook_result (run (table_program plant b.number.table t) depth b.number.chain f es) refl e
 
   turn_sound : (bs : List BaseChain) → Sound (turn_run bs) (InTurn plant tables bs)
   turn_sound [] f es hook_result e = sym (same_Some _ hook_result e)
   turn_sound (b ∷ bs) f es hook_result e =
-      then_sound (RunsBaseChain plant tables b) (InTurn plant tables bs) (table_run b (slice_get tables b.number.table)) (turn_run bs) (base_sound b (slice_get tables b.number.table) refl) (turn_sound bs) f es hook_result e
+      then_sound (RunsBaseChain plant tables b) (InTurn plant tables bs)
+      (table_run b (slice_get tables b.number.table)) (turn_run bs)
+      (base_sound b (slice_get tables b.number.table) refl) (turn_sound bs) f es hook_result e
 
   pub chains_sound : (test : BaseChain → Bool) → Sound (chains_run test) (Chains plant tables test)
   chains_sound test f es hook_result e =
       let text = filter test (base_chains_of tables) in
-      record { order = ordered runs_before text; in_order = record { rising = sorted runs_before priorities text; stable = stable runs_before priorities text }; run = turn_sound (ordered runs_before text) f es hook_result e }
+      record {
+        order = ordered runs_before text;
+        in_order =
+            record { rising = sorted runs_before priorities text; stable = stable runs_before priorities text };
+        run =
+            turn_sound (ordered runs_before text) f es hook_result e;
+      }
 
-  pub around_sound : (test : BaseChain → Bool) (limit : ℤ) (step : Gives) → Sound (around_run test limit step) (AroundNat plant tables test limit (step_of step))
+  pub around_sound : (test : BaseChain → Bool) (limit : ℤ) (step : Gives)
+      → Sound (around_run test limit step) (AroundNat plant tables test limit (step_of step))
   around_sound test limit step =
-      then_sound _ _ _ _ (chains_sound (λ b. test b && is_below limit b)) (then_sound _ _ step _ (step_sound step) (chains_sound (λ b. test b && not (is_below limit b))))
+      then_sound _ _ _ _ (chains_sound (λ b. test b && is_below limit b))
+      (then_sound _ _ step _ (step_sound step) (chains_sound (λ b. test b && not (is_below limit b))))

@@ -22,8 +22,13 @@ ghost use Rattle.rule_meaning.specs.declared.facts.CtDirection.TheVariants as di
 ghost use Rattle.rule_meaning.specs.declared.facts.CtFacts.TheVariants as ct;
 ghost use Rattle.rule_meaning.specs.Hooks.{PreroutingRaw, Prerouting, Input, Forward, Postrouting, Translating};
 ghost use Rattle.rule_meaning.specs.Laws.{step_of};
-ghost use Rattle.semantics_examples.specs.Fixtures.{accept, address, addresses_set, arriving, at, base, new_connection, below_zero, box, counter, drop, forwards, from, icmp, in_state, ip, known, marked, number, numbers, one_table, plain, tcp, tracked, word};
-ghost use Rattle.semantics_examples.specs.Expected.{accepted, counted, dropped, statement_position, took, took_policy, translated, Drops, DropsBeside, ForwardAccepts, ForwardDrops, Passes, PassesBeside};
+ghost use Rattle.semantics_examples.specs.Fixtures.{accept, address, addresses_set, arriving, at, base};
+ghost use Rattle.semantics_examples.specs.Fixtures.{new_connection, below_zero, box, counter, drop, forwards, from};
+ghost use Rattle.semantics_examples.specs.Fixtures.{icmp, in_state, ip, known, marked, number, numbers, one_table};
+ghost use Rattle.semantics_examples.specs.Fixtures.{plain, tcp, tracked, word};
+ghost use Rattle.semantics_examples.specs.Expected.{accepted, counted, dropped, statement_position, took};
+ghost use Rattle.semantics_examples.specs.Expected.{took_policy, translated, Drops, DropsBeside, ForwardAccepts};
+ghost use Rattle.semantics_examples.specs.Expected.{ForwardDrops, Passes, PassesBeside};
 ghost use Rattle.semantics_examples.specs.Examples as examples;
 
 /// At the end of a chain that was jumped to (also after a goto within it) the next rule runs; at

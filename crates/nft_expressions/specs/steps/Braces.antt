@@ -1,5 +1,7 @@
 -- Lists in braces: no list holds a closing brace, so the first one closes it.
-use Rattle.std.proofs.Common.{◌≡◌, ℕ, ◌<◌, ◌==◌, Bool, true, false, if◌then◌else◌, List, [], ◌∷◌, ◌++◌, length, Option, Some, None, ◌⊎◌, inl, inr, refl, sym, ap, subst, length-append, append_assoc, ◌∙◌, arith}
+use Rattle.std.proofs.Common.{◌≡◌, ℕ, ◌<◌, ◌==◌, Bool, true, false, if◌then◌else◌, List, [], ◌∷◌, ◌++◌, length}
+use Rattle.std.proofs.Common.{Option, Some, None, ◌⊎◌, inl, inr, refl, sym, ap, subst, length-append, append_assoc}
+use Rattle.std.proofs.Common.{◌∙◌, arith}
 use Rattle.std.proofs.lemmas.Bool.{eqb-true}
 use Rattle.std.proofs.lemmas.List.{append-nil, nil_from_length}
 use Rattle.std.specs.Prelude.{zero, suc, take, drop, IfSome}
@@ -9,11 +11,14 @@ use Rattle.nft_lexer.specs.declared.token.Punctuator.TheVariants.{CloseBrace, Co
 use Rattle.nft_lexer.specs.declared.token.Punctuator.{Punctuator}
 use Rattle.nft_lexer.specs.Terminal as terminals
 use Rattle.nft_lexer.specs.Terminal.{Terminal, punctuator}
-use Rattle.token_reader.specs.Grammar.{Grammar, Lookahead, line, begins_with, keyword, punctuation, a_word, a_number, an_address, a_string, one_of, maybe, many, made, passing, separated, ◌⨾◌, ◌▹◌, ◌∣◌}
+use Rattle.token_reader.specs.Grammar.{Grammar, Lookahead, line, begins_with, keyword, punctuation, a_word, a_number}
+use Rattle.token_reader.specs.Grammar.{an_address, a_string, one_of, maybe, many, made, passing, separated, ◌⨾◌, ◌▹◌}
+use Rattle.token_reader.specs.Grammar.{◌∣◌}
 use Rattle.token_reader.specs.Repeats.{Many, without_newlines}
 use Rattle.token_reader.specs.steps.Reading.{after_punctuator}
 use Rattle.token_reader.specs.steps.TokenLaws.{punctuator_after}
-use Rattle.token_reader.specs.steps.Lawful.{Lawful, are_apart, lawful_punctuation, lawful_after, lawful_separated, separated_only, unread, begins, begins_with_apart}
+use Rattle.token_reader.specs.steps.Lawful.{Lawful, are_apart, lawful_punctuation, lawful_after, lawful_separated}
+use Rattle.token_reader.specs.steps.Lawful.{separated_only, unread, begins, begins_with_apart}
 use Rattle.nft_expressions.specs.Elements.{CommaSeparated, up_to_brace}
 use Rattle.nft_expressions.specs.steps.Reading.{inside_at, after_plain, enclosed_at, at_brace, after_last_comma, comma_separated_at, up_to_brace_at}
 

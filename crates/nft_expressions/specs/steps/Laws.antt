@@ -13,9 +13,18 @@ use Rattle.nft_tree.specs.Tree.{Text, ValueTree, RangeTree, KeyTree, DataTree}
 use Rattle.token_reader.specs.Grammar.{Grammar, begins_with, this_punctuator, punctuation, a_number, many, made, passing, ◌▹◌}
 use Rattle.token_reader.specs.steps.Reading.{all_at, word_at}
 use Rattle.token_reader.specs.steps.Laws.{else_found}
-use Rattle.token_reader.specs.steps.Lawful.{Lawful, lawful_keyword, lawful_punctuation, lawful_word, lawful_number, lawful_string, lawful_one_of, lawful_then, lawful_after, lawful_before, lawful_either, lawful_made, lawful_maybe, lawful_many, lawful_passing, are_apart, shortens, begins, unread, neither, begins_with_left, begins_with_right}
-use Rattle.nft_expressions.specs.Elements.{terminal_of, value, ranges, range, next_value, keys, key, comment, element, verdict_keywords, verdict, is_verdict_word, is_data_value, map_data, pair, elements, pairs, reference, set_ref, map_ref}
-use Rattle.nft_expressions.specs.steps.Braces.{braceless, HoldsNoBrace, keeps_keyword, keeps_punctuation, keeps_word, keeps_number, keeps_address, keeps_string, keeps_then, keeps_after, keeps_either, keeps_made, keeps_passing, keeps_maybe, keeps_many, keeps_one_of, lawful_up_to_brace}
+use Rattle.token_reader.specs.steps.Lawful.{Lawful, lawful_keyword, lawful_punctuation, lawful_word, lawful_number}
+use Rattle.token_reader.specs.steps.Lawful.{lawful_string, lawful_one_of, lawful_then, lawful_after, lawful_before}
+use Rattle.token_reader.specs.steps.Lawful.{lawful_either, lawful_made, lawful_maybe, lawful_many, lawful_passing}
+use Rattle.token_reader.specs.steps.Lawful.{are_apart, shortens, begins, unread, neither, begins_with_left}
+use Rattle.token_reader.specs.steps.Lawful.{begins_with_right}
+use Rattle.nft_expressions.specs.Elements.{terminal_of, value, ranges, range, next_value, keys, key, comment, element}
+use Rattle.nft_expressions.specs.Elements.{verdict_keywords, verdict, is_verdict_word, is_data_value, map_data, pair}
+use Rattle.nft_expressions.specs.Elements.{elements, pairs, reference, set_ref, map_ref}
+use Rattle.nft_expressions.specs.steps.Braces.{braceless, HoldsNoBrace, keeps_keyword, keeps_punctuation, keeps_word}
+use Rattle.nft_expressions.specs.steps.Braces.{keeps_number, keeps_address, keeps_string, keeps_then, keeps_after}
+use Rattle.nft_expressions.specs.steps.Braces.{keeps_either, keeps_made, keeps_passing, keeps_maybe, keeps_many}
+use Rattle.nft_expressions.specs.steps.Braces.{keeps_one_of, lawful_up_to_brace}
 use Rattle.nft_expressions.specs.steps.Reading.{value_at, one_or_prefix, range_after, next_value_at, joined_after, key_after}
 
 -- ---- values

@@ -6,7 +6,8 @@ use Rattle.nft_lexer.specs.declared.token.Punctuator.TheVariants.{Dot}
 use Rattle.nft_lexer.specs.Terminal.{Terminal}
 use Rattle.nft_tree.specs.declared.selector.Selector.{Selector}
 use Rattle.token_reader.specs.Grammar.{punctuation, ◌▹◌}
-use Rattle.token_reader.specs.steps.Lawful.{Lawful, lawful_keyword, lawful_punctuation, lawful_one_of, lawful_after, lawful_either, lawful_separated, separated_only}
+use Rattle.token_reader.specs.steps.Lawful.{Lawful, lawful_keyword, lawful_punctuation, lawful_one_of, lawful_after}
+use Rattle.token_reader.specs.steps.Lawful.{lawful_either, lawful_separated, separated_only}
 use Rattle.nft_expressions.specs.Selectors.{EndsSelectors, in_ip, in_meta, in_tcp, in_udp, in_th, in_icmp, in_ct, without_meta, selector, selectors}
 
 pub lawful_selector : Lawful selector

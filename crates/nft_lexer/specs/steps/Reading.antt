@@ -1,10 +1,15 @@
 -- Readers: each gives the lexeme at the start of a text, and the rest of the text.
-use Rattle.std.specs.Prelude.{ℕ, ◌+◌, ◌-◌, ◌*◌, ◌^◌, List, [], ◌∷◌, length, take, drop, Bool, ◌==◌, nat_lt, ◌&&◌, Option, Some, None, option_and_then, option_map, option_to_list, ok_or, if◌then◌else◌, slice_index, Result, Ok, Err}
+use Rattle.std.specs.Prelude.{ℕ, ◌+◌, ◌-◌, ◌*◌, ◌^◌, List, [], ◌∷◌, length, take, drop, Bool, ◌==◌, nat_lt, ◌&&◌}
+use Rattle.std.specs.Prelude.{Option, Some, None, option_and_then, option_map, option_to_list, ok_or, if◌then◌else◌}
+use Rattle.std.specs.Prelude.{slice_index, Result, Ok, Err}
 use Rattle.std.specs.Char.{digit_value, is_ascii_digit, is_ascii_hexdigit}
 use Rattle.std.specs.List.{prefix_len}
 use Rattle.std.specs.Option.{option_map_or, option_or}
 use Rattle.nft_lexer.specs.declared.token.Punctuator.{Punctuator}
-use Rattle.nft_lexer.specs.declared.token.Punctuator.TheVariants.{OpenBrace, CloseBrace, OpenParenthesis, CloseParenthesis, Comma, Semicolon, Colon, Dot, Slash, Minus, Plus, Equals, At, Ampersand, Bar, EqualTo, NotEqualTo, AtMost, AtLeast, Below, Above}
+use Rattle.nft_lexer.specs.declared.token.Punctuator.TheVariants.{OpenBrace, CloseBrace, OpenParenthesis}
+use Rattle.nft_lexer.specs.declared.token.Punctuator.TheVariants.{CloseParenthesis, Comma, Semicolon, Colon, Dot}
+use Rattle.nft_lexer.specs.declared.token.Punctuator.TheVariants.{Slash, Minus, Plus, Equals, At, Ampersand, Bar}
+use Rattle.nft_lexer.specs.declared.token.Punctuator.TheVariants.{EqualTo, NotEqualTo, AtMost, AtLeast, Below, Above}
 use Rattle.nft_lexer.specs.declared.lexeme.Class.{Class}
 use Rattle.nft_lexer.specs.declared.lexeme.Class.TheVariants as classes
 use Rattle.nft_lexer.specs.declared.lexeme.LexemeKind.{LexemeKind}
@@ -19,7 +24,9 @@ use Rattle.nft_lexer.specs.declared.fault.LexFault.TheVariants as lexical
 use Rattle.nft_lexer.specs.declared.lexing.Fault.{Fault}
 use Rattle.nft_lexer.specs.declared.lexing.Fault.TheVariants as faults
 use Rattle.nft_lexer.specs.Terminal.{Terminal, LexedToken, terminal_of}
-use Rattle.nft_lexer.specs.Lexing.{Lexeme, blank, line_continuation, comment, line_end, name, digits, hexadecimal, dotted_quad, quoted, punctuation, is_blank, begins_word, continues_word, is_no_newline, is_string_byte, punctuator_text, IsLongestLexeme, HasTokens}
+use Rattle.nft_lexer.specs.Lexing.{Lexeme, blank, line_continuation, comment, line_end, name, digits, hexadecimal}
+use Rattle.nft_lexer.specs.Lexing.{dotted_quad, quoted, punctuation, is_blank, begins_word, continues_word}
+use Rattle.nft_lexer.specs.Lexing.{is_no_newline, is_string_byte, punctuator_text, IsLongestLexeme, HasTokens}
 
 infixl 10 ◌>>=◌
 abbrev pub ◌>>=◌ : {A B : Type 0} → Option A → (A → Option B) → Option B

@@ -6,7 +6,9 @@ use Rattle.std.specs.List.{prefix_len}
 use Rattle.std.specs.Option.{option_or}
 use Rattle.std.proofs.lemmas.Bool.Decides.{nat_tests}
 use Rattle.nft_lexer.specs.Lexing.{Lexeme}
-use Rattle.nft_lexer.specs.steps.Reading.{◌>>=◌, after_byte, front, behind, run_at, digit_at, decimal_at, value_after, with_digit, hexadecimal_at, next_octet_at, dotted_quad_at, number_at, scanned_kind, digits_at, octet_after, octets_after, numeral_at}
+use Rattle.nft_lexer.specs.steps.Reading.{◌>>=◌, after_byte, front, behind, run_at, digit_at, decimal_at, value_after}
+use Rattle.nft_lexer.specs.steps.Reading.{with_digit, hexadecimal_at, next_octet_at, dotted_quad_at, number_at}
+use Rattle.nft_lexer.specs.steps.Reading.{scanned_kind, digits_at, octet_after, octets_after, numeral_at}
 
 by_bool : (P : Bool → Type 0) (b : Bool) → (b ≡ true → P true) → (b ≡ false → P false) → P b
 by_bool P true h k = h refl

@@ -12,14 +12,18 @@ use Rattle.nft_tree.specs.Tree.{MapLookupTree, OperandTree, MatchTree, Statement
 use Rattle.token_reader.specs.Repeats.{is_rule_end}
 use Rattle.token_reader.specs.Grammar.{Lookahead, line, this_punctuator, begins_with, Grammar}
 use Rattle.token_reader.specs.steps.Reading.{word_at}
-use Rattle.token_reader.specs.steps.Lawful.{Lawful, begins_with_apart, neither, begins, lawful_keyword, lawful_punctuation, lawful_number, lawful_address, lawful_string, lawful_then, lawful_after, lawful_either, lawful_first, lawful_maybe, lawful_many, lawful_made, lawful_named}
+use Rattle.token_reader.specs.steps.Lawful.{Lawful, begins_with_apart, neither, begins, lawful_keyword}
+use Rattle.token_reader.specs.steps.Lawful.{lawful_punctuation, lawful_number, lawful_address, lawful_string}
+use Rattle.token_reader.specs.steps.Lawful.{lawful_then, lawful_after, lawful_either, lawful_first, lawful_maybe}
+use Rattle.token_reader.specs.steps.Lawful.{lawful_many, lawful_made, lawful_named}
 use Rattle.nft_expressions.specs.Selectors.{selector, selectors, is_word_for}
 use Rattle.nft_expressions.specs.steps.SelectorLaws.{lawful_selector}
 use Rattle.nft_expressions.specs.Elements.{range, comment, verdict, elements, set_ref, pairs, map_ref}
 use Rattle.nft_expressions.specs.steps.Laws.{lawful_comment, lawful_verdict, lawful_map_ref}
 use Rattle.nft_rules.specs.Matches.{matching, words, flag_list, masked, flag_group, flags, flag, equality}
 use Rattle.nft_rules.specs.steps.MatchLaws.{lawful_matching, match_word}
-use Rattle.nft_rules.specs.Rules.{map_lookup, mark_field, operand, ports, to_word, target, nat, counter, log, notrack, set_mark, verdict_map, statement, rule, IsRuleEnd}
+use Rattle.nft_rules.specs.Rules.{map_lookup, mark_field, operand, ports, to_word, target, nat, counter, log, notrack}
+use Rattle.nft_rules.specs.Rules.{set_mark, verdict_map, statement, rule, IsRuleEnd}
 use Rattle.nft_rules.specs.Rules.{ended_rule}
 
 lawful_map_lookup : Lawful map_lookup

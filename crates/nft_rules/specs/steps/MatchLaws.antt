@@ -17,12 +17,18 @@ use Rattle.nft_tree.specs.Tree.{FlagTree, MatchTree, RangeTree, Text, ValueTree}
 use Rattle.token_reader.specs.Repeats.{Many}
 use Rattle.token_reader.specs.Grammar.{Lookahead, Grammar, a_word, many, maybe, one_of, passing, punctuation, begins_with, this_punctuator, ◌∣◌, ◌⨾◌, ◌▹◌}
 use Rattle.token_reader.specs.steps.Laws.{Finds, else_found}
-use Rattle.token_reader.specs.steps.Lawful.{Ended, Lawful, are_apart, begins, lawful_after, lawful_before, lawful_either, lawful_made, lawful_many, lawful_maybe, lawful_named, lawful_number, lawful_one_of, lawful_passing, lawful_separated, lawful_punctuation, lawful_then, lawful_word, neither, no_longer, not_continued, shortens, begins_with_apart, unread}
+use Rattle.token_reader.specs.steps.Lawful.{Ended, Lawful, are_apart, begins, lawful_after, lawful_before}
+use Rattle.token_reader.specs.steps.Lawful.{lawful_either, lawful_made, lawful_many, lawful_maybe, lawful_named}
+use Rattle.token_reader.specs.steps.Lawful.{lawful_number, lawful_one_of, lawful_passing, lawful_separated}
+use Rattle.token_reader.specs.steps.Lawful.{lawful_punctuation, lawful_then, lawful_word, neither, no_longer}
+use Rattle.token_reader.specs.steps.Lawful.{not_continued, shortens, begins_with_apart, unread}
 use Rattle.nft_expressions.specs.Selectors.{is_word_for, selector, selectors}
 use Rattle.nft_expressions.specs.steps.SelectorLaws.{lawful_selector, lawful_selectors}
 use Rattle.nft_expressions.specs.Elements.{elements, range, set_ref, terminal_of}
 use Rattle.nft_expressions.specs.steps.Laws.{lawful_range, lawful_set_ref}
-use Rattle.nft_rules.specs.Matches.{bits, comparison, direct, equality, flag, flag_group, flag_list, flags, inequality, is_flag, is_range_for, is_value_for, masked, matching, operator, set_test, one_test, words}
+use Rattle.nft_rules.specs.Matches.{bits, comparison, direct, equality, flag, flag_group, flag_list, flags}
+use Rattle.nft_rules.specs.Matches.{inequality, is_flag, is_range_for, is_value_for, masked, matching, operator}
+use Rattle.nft_rules.specs.Matches.{set_test, one_test, words}
 
 lawful_equality : Lawful equality
 unfolding equality

@@ -16,7 +16,11 @@ use Rattle.token_reader.specs.steps.Reading.{word_at}
 use Rattle.token_reader.specs.Grammar.{any_word, begins_with, a_word, maybe, one_of, ◌⨾◌}
 use Rattle.token_reader.specs.steps.Laws.{else_found, Finds}
 use Rattle.token_reader.specs.steps.TokenLaws.{word_found}
-use Rattle.token_reader.specs.steps.Lawful.{Lawful, shortens, begins, unread, begins_with_left, begins_with_right, lawful_keyword, lawful_punctuation, lawful_word, lawful_number, lawful_string, lawful_ends, lawful_some_ends, lawful_then, lawful_after, lawful_before, lawful_either, lawful_maybe, lawful_many, lawful_made, lawful_one_of, lawful_lines}
+use Rattle.token_reader.specs.steps.Lawful.{Lawful, shortens, begins, unread, begins_with_left, begins_with_right}
+use Rattle.token_reader.specs.steps.Lawful.{lawful_keyword, lawful_punctuation, lawful_word, lawful_number}
+use Rattle.token_reader.specs.steps.Lawful.{lawful_string, lawful_ends, lawful_some_ends, lawful_then, lawful_after}
+use Rattle.token_reader.specs.steps.Lawful.{lawful_before, lawful_either, lawful_maybe, lawful_many, lawful_made}
+use Rattle.token_reader.specs.steps.Lawful.{lawful_one_of, lawful_lines}
 use Rattle.nft_expressions.specs.Selectors.{selector, selectors}
 use Rattle.nft_expressions.specs.Elements.{verdict}
 use Rattle.nft_rules.specs.Rules.{counter, log, notrack, nat, set_mark, verdict_map, statement, rule, ended_rule}

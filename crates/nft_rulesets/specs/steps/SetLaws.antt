@@ -5,10 +5,15 @@ use Rattle.nft_tree.specs.declared.set.SetFlag.TheVariants.{Constant, Interval}
 use Rattle.nft_lexer.specs.declared.token.Punctuator.TheVariants.{CloseBrace}
 use Rattle.nft_lexer.specs.Terminal.{Terminal}
 use Rattle.token_reader.specs.Grammar.{Grammar, end_lookaheads, keyword, punctuation, lines, ◌▹◌, ◌◃◌}
-use Rattle.token_reader.specs.steps.Lawful.{Lawful, are_apart, lawful_keyword, lawful_punctuation, lawful_word, lawful_number, lawful_string, lawful_ends, lawful_after, lawful_before, lawful_then, lawful_either, lawful_made, lawful_named, lawful_one_of, lawful_separated, lawful_lines}
+use Rattle.token_reader.specs.steps.Lawful.{Lawful, are_apart, lawful_keyword, lawful_punctuation, lawful_word}
+use Rattle.token_reader.specs.steps.Lawful.{lawful_number, lawful_string, lawful_ends, lawful_after, lawful_before}
+use Rattle.token_reader.specs.steps.Lawful.{lawful_then, lawful_either, lawful_made, lawful_named, lawful_one_of}
+use Rattle.token_reader.specs.steps.Lawful.{lawful_separated, lawful_lines}
 use Rattle.nft_expressions.specs.Elements.{elements, pairs}
 use Rattle.nft_expressions.specs.steps.Laws.{lawful_elements, lawful_pairs}
-use Rattle.nft_rulesets.specs.Sets.{set_of, map_of, collect_fields, value_type, value_types, set_type, data_type, data_selector, map_type, set_flags, other_field, any_field, block, named_set, named_map}
+use Rattle.nft_rulesets.specs.Sets.{set_of, map_of, collect_fields, value_type, value_types, set_type, data_type}
+use Rattle.nft_rulesets.specs.Sets.{data_selector, map_type, set_flags, other_field, any_field, block, named_set}
+use Rattle.nft_rulesets.specs.Sets.{named_map}
 use Rattle.nft_rulesets.specs.Sets as sets
 use Rattle.nft_expressions.specs.Selectors.{selector, selectors}
 use Rattle.nft_expressions.specs.steps.SelectorLaws.{lawful_selector, lawful_selectors}

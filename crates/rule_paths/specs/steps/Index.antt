@@ -8,7 +8,9 @@ use Rattle.rule_names.specs.Names.{chain_names, map_names, index_in}
 use Rattle.chain_graph.specs.Graph.{Call, NodeTree, chain, verdict_map}
 use Rattle.chain_graph.specs.Nodes.{Graph}
 use Rattle.chain_graph.specs.Measures.{saturated}
-use Rattle.rule_paths.specs.Paths.{Caller, a_chain, a_map, chain_node, map_node, node_of, chain_has, translates_source, translates_destination, may_translate_source, may_translate_destination}
+use Rattle.rule_paths.specs.Paths.{Caller, a_chain, a_map, chain_node, map_node, node_of, chain_has}
+use Rattle.rule_paths.specs.Paths.{translates_source, translates_destination, may_translate_source}
+use Rattle.rule_paths.specs.Paths.{may_translate_destination}
 use Rattle.rule_paths.specs.declared.marks.NatKind.{NatKind}
 use Rattle.rule_paths.specs.declared.marks.NatKind.TheVariants.{Source, Destination}
 use Rattle.rule_paths.specs.steps.Numbers.{numbered, RepresentsNodes}

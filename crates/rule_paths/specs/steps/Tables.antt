@@ -5,7 +5,8 @@ use Rattle.nft_tree.specs.Tree.{TableTree}
 use Rattle.chain_graph.specs.Graph.{HasCycle}
 use Rattle.chain_graph.specs.Nodes.{Graph}
 use Rattle.chain_graph.specs.Measures.{saturated, IsCost}
-use Rattle.rule_paths.specs.Paths.{Caller, CallsOf, node_of, Cycles, HasDeepPath, TooDeep, MisplacedNat, AreCosts, AreAllCosts, table_cost, ruleset_cost, Misplaces}
+use Rattle.rule_paths.specs.Paths.{Caller, CallsOf, node_of, Cycles, HasDeepPath, TooDeep, MisplacedNat, AreCosts}
+use Rattle.rule_paths.specs.Paths.{AreAllCosts, table_cost, ruleset_cost, Misplaces}
 use Rattle.rule_paths.specs.Findings.{AreChainCosts, AreChainDepths, numbers_at}
 use Rattle.rule_paths.specs.declared.marks.NatKind.{NatKind}
 use Rattle.rule_paths.specs.declared.marks.NatKind.TheVariants.{Source, Destination}

@@ -7,4 +7,6 @@ use Rattle.rule_values.specs.Faults.{names_unknown_interface}
 use Rattle.rule_values.proofs.names_unknown_interface.Goals as goal
 
 pub returns : goal.returns
-returns c = any_from_yields_List (λ x. names_unknown_interface c.args.plant.now (table_tree x)) _ _ c.any.result c.any.ensures.ran (YieldsList-from_slice c.args.tree.now.tables.items cc) (λ x b q k. search (rules, tests)) ∙ any_of_map (names_unknown_interface c.args.plant.now) table_tree c.args.tree.now.tables.items
+returns c = any_from_yields_List (λ x. names_unknown_interface c.args.plant.now (table_tree x)) _ _ c.any.result
+    c.any.ensures.ran (YieldsList-from_slice c.args.tree.now.tables.items cc) (λ x b q k. search (rules, tests))
+    ∙ any_of_map (names_unknown_interface c.args.plant.now) table_tree c.args.tree.now.tables.items

@@ -1,5 +1,6 @@
 -- The parser of a production gives exactly what it spells: the laws, proved once for each combinator.
-use Rattle.std.proofs.Common.{◌≡◌, ℕ, zero, suc, ◌<◌, ◌≤◌, ◌==◌, List, [], ◌∷◌, ◌++◌, length, Bool, true, false, ◌&&◌, ◌||◌, not, cond, Option, Some, None, ◌⊎◌, inl, inr, refl, sym, ap, ◌∙◌, arith}
+use Rattle.std.proofs.Common.{◌≡◌, ℕ, zero, suc, ◌<◌, ◌≤◌, ◌==◌, List, [], ◌∷◌, ◌++◌, length, Bool, true, false, ◌&&◌}
+use Rattle.std.proofs.Common.{◌||◌, not, cond, Option, Some, None, ◌⊎◌, inl, inr, refl, sym, ap, ◌∙◌, arith}
 use Rattle.std.proofs.lemmas.Bool.{eqb-true, and_parts, or_parts, eq-eqb, cases_Bool}
 use Rattle.std.proofs.lemmas.Bool.Decides.{nat_tests}
 use Rattle.std.proofs.lemmas.List.{append-nil}
@@ -18,10 +19,15 @@ use Rattle.token_reader.specs.steps.Lookaheads.{punctuator_tag}
 use Rattle.token_reader.specs.steps.Reading.{after_word, after_punctuator, after_ends}
 use Rattle.token_reader.specs.Readers.{IsRead, Reads, remaining}
 use Rattle.token_reader.specs.Grammar as grammars
-use Rattle.token_reader.specs.Grammar.{Separated, Lookahead, line, this_punctuator, this_word, any_word, any_number, any_address, any_string, matches_lookahead, begins_with, Grammar, ◌⨾◌, ◌▹◌, ◌◃◌, ◌∣◌, when}
+use Rattle.token_reader.specs.Grammar.{Separated, Lookahead, line, this_punctuator, this_word, any_word, any_number}
+use Rattle.token_reader.specs.Grammar.{any_address, any_string, matches_lookahead, begins_with, Grammar, ◌⨾◌, ◌▹◌}
+use Rattle.token_reader.specs.Grammar.{◌◃◌, ◌∣◌, when}
 use Rattle.token_reader.specs.steps.Reading.{all_at}
 use Rattle.token_reader.specs.steps.Laws.{else_found, Finds, Takes, many_found, many_only, Many_front, Many_takes, reader_found, reader_only}
-use Rattle.token_reader.specs.steps.TokenLaws.{bytes_eq-true, same_punctuator, word_after, punctuator_after, word_found, number_found, address_found, string_found, NoEnd, ends_found, ends_only, some_ends_found, some_ends_only, some_ends_takes, ends_takes}
+use Rattle.token_reader.specs.steps.TokenLaws.{bytes_eq-true, same_punctuator, word_after, punctuator_after}
+use Rattle.token_reader.specs.steps.TokenLaws.{word_found, number_found, address_found, string_found, NoEnd}
+use Rattle.token_reader.specs.steps.TokenLaws.{ends_found, ends_only, some_ends_found, some_ends_only}
+use Rattle.token_reader.specs.steps.TokenLaws.{some_ends_takes, ends_takes}
 
 -- ---- lookahead
 

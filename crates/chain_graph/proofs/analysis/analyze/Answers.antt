@@ -14,16 +14,22 @@ is_sort_result-as g h o p e f a = subst (λ x. IsSortResult x p) e (subst (IsSor
 
 pub topological_sort-requires : goal.topological_sort-requires
 topological_sort-requires c =
-    subst TargetsInRange (sym (ap rows_of c.deref.ensures.value ∙ c.in_ok-targets.ensures)) (range-of (graph_of c.args.nodes.now) (length c.args.nodes.now) c.requires.range (sym (graph-long c.args.nodes.now)))
+    subst TargetsInRange (sym (ap rows_of c.deref.ensures.value ∙ c.in_ok-targets.ensures))
+    (range-of (graph_of c.args.nodes.now) (length c.args.nodes.now) c.requires.range (sym (graph-long c.args.nodes.now)))
 
 pub returns-in-Cycle : goal.returns-in-Cycle
 returns-in-Cycle c =
-    cycle-to-calls (graph_of c.args.nodes.now) (is_sort_result-as (rows_of c.deref.result.now) (targets_of (graph_of c.args.nodes.now)) c.in_ok-topological_sort.field-0 Cycle (ap rows_of c.deref.ensures.value ∙ c.in_ok-targets.ensures) c.in-Cycle.is c.in_ok-topological_sort.ensures)
+    cycle-to-calls (graph_of c.args.nodes.now)
+    (is_sort_result-as (rows_of c.deref.result.now) (targets_of (graph_of c.args.nodes.now))
+    c.in_ok-topological_sort.field-0 Cycle (ap rows_of c.deref.ensures.value ∙ c.in_ok-targets.ensures)
+    c.in-Cycle.is c.in_ok-topological_sort.ensures)
 
 pub returns : goal.returns
 returns c =
     let long = graph-long c.args.nodes.now in
-    let found = is_sort_result-as (rows_of c.deref.result.now) (targets_of (graph_of c.args.nodes.now)) c.in_ok-topological_sort.field-0 (Order c.in-Order.order) (ap rows_of c.deref.ensures.value ∙ c.in_ok-targets.ensures) c.in-Order.is c.in_ok-topological_sort.ensures in
+    let found = is_sort_result-as (rows_of c.deref.result.now) (targets_of (graph_of c.args.nodes.now))
+    c.in_ok-topological_sort.field-0 (Order c.in-Order.order)
+    (ap rows_of c.deref.ensures.value ∙ c.in_ok-targets.ensures) c.in-Order.is c.in_ok-topological_sort.ensures in
     record {
       acyclic = λ k. found.1 (cycle-of-calls (graph_of c.args.nodes.now) k);
       order = found.0;

@@ -27,9 +27,13 @@ loop-node-preserved c =
     let read = sym (node-is c.args.nodes.now node c.index-nodes-node.result below c.index-nodes-node.is) in
     record {
       long = length-set c.loop-node.costs.items node c.node_cost-cost.result ∙ c.loop-node.invariant.long;
-      known = λ cost of x k. set-known (λ x v. v ≡ saturated (cost x)) c.args.order.now c.loop-node.costs.items i node c.node_cost-cost.result 0 inside is (omega arith)
-          (cost-now (graph_of c.args.nodes.now) c.args.order.now c.loop-node.costs.items i node c.node_cost-cost.result cost c.requires.order inside is of (omega arith)
-          (c.node_cost-cost.ensures ∙ ap (λ xs. saturated (node_cost (λ k. get_or xs k 0) (node_of c.index-nodes-node.result))) c.deref.ensures.value ∙ ap (λ n. saturated (node_cost (λ k. get_or c.loop-node.costs.items k 0) n)) read)
+      known = λ cost of x k. set-known (λ x v. v ≡ saturated (cost x)) c.args.order.now c.loop-node.costs.items i node
+          c.node_cost-cost.result 0 inside is (omega arith)
+          (cost-now (graph_of c.args.nodes.now) c.args.order.now c.loop-node.costs.items i node
+          c.node_cost-cost.result cost c.requires.order inside is of (omega arith)
+          (c.node_cost-cost.ensures
+          ∙ ap (λ xs. saturated (node_cost (λ k. get_or xs k 0) (node_of c.index-nodes-node.result)))
+          c.deref.ensures.value ∙ ap (λ n. saturated (node_cost (λ k. get_or c.loop-node.costs.items k 0) n)) read)
           (c.loop-node.invariant.known cost of))
           (c.loop-node.invariant.known cost of) x k;
     }
@@ -38,4 +42,5 @@ pub returns-clause-costs : goal.returns-clause-costs
 returns-clause-costs c = λ cost of x h.
     let long = graph-long c.args.nodes.now in
     let long' = targets-long (graph_of c.args.nodes.now) in
-    c.loop-node.invariant.known cost of x (subst (λ xs. Contains xs x) (sym (take_all c.loop-node.node-index c.args.order.now (omega arith))) (c.requires.order.all x (omega arith)))
+    c.loop-node.invariant.known cost of x (subst (λ xs. Contains xs x)
+    (sym (take_all c.loop-node.node-index c.args.order.now (omega arith))) (c.requires.order.all x (omega arith)))

@@ -6,4 +6,7 @@ use Rattle.chain_graph.specs.steps.Passes.{deepest}
 use Rattle.chain_graph.proofs.depths.chain_depth.Given as goal
 
 abbrev pub invariant-loop-calls : goal.invariant-loop-calls
-invariant-loop-calls l = max l.most (deepest (λ c. get_or l.depths c 0) (flat_map identity (statements_of (drop l.calls-index l.statements)))) ≡ deepest (λ c. get_or l.depths c 0) (flat_map identity (statements_of l.statements))
+invariant-loop-calls l =
+    max l.most (deepest (λ c. get_or l.depths c 0)
+    (flat_map identity (statements_of (drop l.calls-index l.statements))))
+    ≡ deepest (λ c. get_or l.depths c 0) (flat_map identity (statements_of l.statements))

@@ -25,12 +25,17 @@ loop-node-preserved c =
     let below = inside-nodes c.args.nodes.now c.args.order.now i c.requires.order inside in
     let long = c.loop-node.invariant.long in
     let read = sym (node-is c.args.nodes.now node c.index-nodes-node.result below c.index-nodes-node.is) in
-    let made = c.node_depth-depth.ensures ∙ ap (λ xs. deepest (λ k. get_or xs k 0) (calls_in (node_of c.index-nodes-node.result))) c.deref.ensures.value ∙ ap (λ n. deepest (λ k. get_or c.loop-node.depths.items k 0) (calls_in n)) read in
+    let made = c.node_depth-depth.ensures ∙ ap
+    (λ xs. deepest (λ k. get_or xs k 0) (calls_in (node_of c.index-nodes-node.result))) c.deref.ensures.value
+    ∙ ap (λ n. deepest (λ k. get_or c.loop-node.depths.items k 0) (calls_in n)) read in
     record {
       long = length-set c.loop-node.depths.items node c.node_depth-depth.result ∙ c.loop-node.invariant.long;
-      known = set-known (IsDepth (graph_of c.args.nodes.now)) c.args.order.now c.loop-node.depths.items i node c.node_depth-depth.result 0 inside is (omega arith)
+      known = set-known (IsDepth (graph_of c.args.nodes.now)) c.args.order.now c.loop-node.depths.items i node
+          c.node_depth-depth.result 0 inside is (omega arith)
           (subst (IsDepth (graph_of c.args.nodes.now) node) (sym made)
-          (depth-now (graph_of c.args.nodes.now) node c.loop-node.depths.items (λ e k. c.loop-node.invariant.known e.to (order-before (graph_of c.args.nodes.now) c.args.order.now i node c.requires.order inside is e k))))
+          (depth-now (graph_of c.args.nodes.now) node c.loop-node.depths.items
+          (λ e k. c.loop-node.invariant.known e.to
+          (order-before (graph_of c.args.nodes.now) c.args.order.now i node c.requires.order inside is e k))))
           c.loop-node.invariant.known;
     }
 
@@ -38,4 +43,5 @@ pub returns-clause-depths : goal.returns-clause-depths
 returns-clause-depths c = λ x h.
     let long = graph-long c.args.nodes.now in
     let long' = targets-long (graph_of c.args.nodes.now) in
-    c.loop-node.invariant.known x (subst (λ xs. Contains xs x) (sym (take_all c.loop-node.node-index c.args.order.now (omega arith))) (c.requires.order.all x (omega arith)))
+    c.loop-node.invariant.known x (subst (λ xs. Contains xs x)
+    (sym (take_all c.loop-node.node-index c.args.order.now (omega arith))) (c.requires.order.all x (omega arith)))

@@ -26,12 +26,19 @@ loop-node-preserved c =
     let long = c.loop-node.invariant.long in
     let long' = c.requires.marked in
     let read = sym (node-is c.args.nodes.now node c.index-nodes-node.result below c.index-nodes-node.is) in
-    let made = c.node_reaches-is_reaching.ensures ∙ ap (λ xs. get_or c.args.marked.now node false || some_call (λ k. get_or xs k false) (calls_in (node_of c.index-nodes-node.result))) c.deref.ensures.value ∙ ap (λ n. get_or c.args.marked.now node false || some_call (λ k. get_or c.loop-node.reaching.items k false) (calls_in n)) read in
+    let made = c.node_reaches-is_reaching.ensures
+    ∙ ap (λ xs. get_or c.args.marked.now node false || some_call (λ k. get_or xs k false)
+    (calls_in (node_of c.index-nodes-node.result))) c.deref.ensures.value
+    ∙ ap (λ n. get_or c.args.marked.now node false || some_call (λ k. get_or c.loop-node.reaching.items k false)
+    (calls_in n)) read in
     record {
       long = length-set c.loop-node.reaching.items node c.node_reaches-is_reaching.result ∙ c.loop-node.invariant.long;
-      known = set-known (λ k b. IsTrue b ↔ ReachesMarked (graph_of c.args.nodes.now) c.args.marked.now k) c.args.order.now c.loop-node.reaching.items i node c.node_reaches-is_reaching.result false inside is (omega arith)
+      known = set-known (λ k b. IsTrue b ↔ ReachesMarked (graph_of c.args.nodes.now) c.args.marked.now k)
+          c.args.order.now c.loop-node.reaching.items i node c.node_reaches-is_reaching.result false inside is (omega arith)
           (subst (λ b. IsTrue b ↔ ReachesMarked (graph_of c.args.nodes.now) c.args.marked.now node) (sym made)
-          (reaching-now (graph_of c.args.nodes.now) c.args.marked.now node c.loop-node.reaching.items (λ e k. c.loop-node.invariant.known e.to (order-before (graph_of c.args.nodes.now) c.args.order.now i node c.requires.order inside is e k))))
+          (reaching-now (graph_of c.args.nodes.now) c.args.marked.now node c.loop-node.reaching.items
+          (λ e k. c.loop-node.invariant.known e.to
+          (order-before (graph_of c.args.nodes.now) c.args.order.now i node c.requires.order inside is e k))))
           c.loop-node.invariant.known;
     }
 
@@ -39,4 +46,5 @@ pub returns-clause-reaching : goal.returns-clause-reaching
 returns-clause-reaching c = λ x h.
     let long = graph-long c.args.nodes.now in
     let long' = targets-long (graph_of c.args.nodes.now) in
-    c.loop-node.invariant.known x (subst (λ xs. Contains xs x) (sym (take_all c.loop-node.node-index c.args.order.now (omega arith))) (c.requires.order.all x (omega arith)))
+    c.loop-node.invariant.known x (subst (λ xs. Contains xs x)
+    (sym (take_all c.loop-node.node-index c.args.order.now (omega arith))) (c.requires.order.all x (omega arith)))

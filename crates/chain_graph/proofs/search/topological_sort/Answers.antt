@@ -7,5 +7,7 @@ use Rattle.chain_graph.proofs.search.topological_sort.Goals as goal
 pub returns : goal.returns
 returns c =
     let n = rows-long c.args.targets.now in
-    let found = all-done (rows_of c.args.targets.now) c.loop-root.search.marks.items c.loop-root.search.left.items c.loop-root.search.path.items c.loop-root.search.order.items c.loop-root.invariant.search c.loop-root.invariant.path (λ d h. c.loop-root.invariant.visited d (omega arith)) in
+    let found = all-done (rows_of c.args.targets.now) c.loop-root.search.marks.items c.loop-root.search.left.items
+    c.loop-root.search.path.items c.loop-root.search.order.items c.loop-root.invariant.search
+    c.loop-root.invariant.path (λ d h. c.loop-root.invariant.visited d (omega arith)) in
     (found, no-cycle (rows_of c.args.targets.now) c.loop-root.search.order.items found)

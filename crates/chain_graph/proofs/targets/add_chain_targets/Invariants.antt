@@ -5,4 +5,6 @@ use Rattle.chain_graph.specs.Nodes.{statements_of}
 use Rattle.chain_graph.proofs.targets.add_chain_targets.Given as goal
 
 abbrev pub invariant-loop-calls : goal.invariant-loop-calls
-invariant-loop-calls l = l.targets.items ++ map (λ e. e.to) (flat_map identity (statements_of (drop l.calls-index l.statements))) ≡ l.initial.targets.items ++ map (λ e. e.to) (flat_map identity (statements_of l.statements))
+invariant-loop-calls l = l.targets.items ++ map (λ e. e.to)
+    (flat_map identity (statements_of (drop l.calls-index l.statements))) ≡ l.initial.targets.items
+    ++ map (λ e. e.to) (flat_map identity (statements_of l.statements))

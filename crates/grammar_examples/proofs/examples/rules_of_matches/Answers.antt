@@ -3,7 +3,8 @@ use Rattle.token_reader.specs.steps.Reading.{many_at}
 use Rattle.nft_expressions.specs.Selectors.{selector}
 use Rattle.nft_expressions.specs.Elements.{range, key, element, comment, verdict, elements, set_ref}
 use Rattle.nft_expressions.specs.steps.Reading.{one_or_prefix, range_after, joined_after, key_after, enclosed_at, comma_separated_at, up_to_brace_at}
-use Rattle.nft_rules.specs.Matches.{equality, inequality, operator, comparison, words, bits, flag, flags, flag_group, flag_list, masked, one_test, set_test, matching}
+use Rattle.nft_rules.specs.Matches.{equality, inequality, operator, comparison, words, bits, flag, flags, flag_group}
+use Rattle.nft_rules.specs.Matches.{flag_list, masked, one_test, set_test, matching}
 use Rattle.nft_rules.specs.Rules.{nat, counter, log, notrack, set_mark, verdict_map, statement}
 use Rattle.grammar_examples.proofs.Spellings.{plain_spelled}
 use Rattle.grammar_examples.proofs.examples.rules_of_matches.Goals as goal

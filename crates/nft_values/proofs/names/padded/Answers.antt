@@ -9,7 +9,8 @@ pub overflow_mul-number : goal.overflow_mul-number
 overflow_mul-number c = let fits = room c.loop-at.number 0 c.loop-at.at c.loop-at.invariant.room (omega arith) c.loop-at-test.true in omega (arith, fits.1)
 
 pub overflow_add-number : goal.overflow_add-number
-overflow_add-number c = let fits = room c.loop-at.number c.from.result c.loop-at.at c.loop-at.invariant.room (omega arith) c.loop-at-test.true in omega (arith, fits.1)
+overflow_add-number c = let fits = room c.loop-at.number c.from.result c.loop-at.at c.loop-at.invariant.room
+    (omega arith) c.loop-at-test.true in omega (arith, fits.1)
 
 pub loop-at-preserved : goal.loop-at-preserved
 loop-at-preserved c =
@@ -20,4 +21,5 @@ loop-at-preserved c =
     }
 
 pub returns : goal.returns
-returns c = let done : c.loop-at.at ≡ 16 = omega arith in c.loop-at.invariant.value ∙ ap (λ n. padded_to n c.args.fill c.args.name.now) done ∙ padded-all c.args.fill c.args.name.now
+returns c = let done : c.loop-at.at ≡ 16 = omega arith in c.loop-at.invariant.value
+    ∙ ap (λ n. padded_to n c.args.fill c.args.name.now) done ∙ padded-all c.args.fill c.args.name.now

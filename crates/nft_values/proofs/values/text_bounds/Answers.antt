@@ -14,7 +14,12 @@ returns-clause-fits c =
     let Fitting : ComparedType → Type 0 = λ k. c.one_number.result.high < 2 ^ compared_type_width k in
     let is = c.one_number.ensures.high ∙ c.from.ensures in
     elim c.match-kind.branch [
-      | in-Named-InterfaceIndex w ↦ let e : w.in-Named-InterfaceIndex.field-0 ≡ types.InterfaceIndex = cc in subst Fitting (sym (w.in-Named-InterfaceIndex.is ∙ ap Named e)) (omega (arith, is, c.unwrap_or.type_inv))
-      | in-Named w ↦ subst Fitting (sym w.in-Named.is) (subst (λ (n : ℕ). n < 2 ^ compared_type_width (Named w.in-Named.value_type)) (sym (is ∙ c.unwrap_or.ensures ∙ ap (λ o. unwrap_or o 0) (w.number-is ∙ w.number_of-number.ensures))) (word-fits w.in-Named.value_type c.args.text.now))
-      | in-Unnamed w ↦ subst (λ (n : ℕ). n < 2 ^ compared_type_width c.args.kind) (sym (is ∙ c.unwrap_or.ensures ∙ ap (λ o. unwrap_or o 0) w.number-is)) (pow_pos (compared_type_width c.args.kind))
+      | in-Named-InterfaceIndex w ↦ let e : w.in-Named-InterfaceIndex.field-0 ≡ types.InterfaceIndex =
+          cc in subst Fitting (sym (w.in-Named-InterfaceIndex.is ∙ ap Named e)) (omega (arith, is, c.unwrap_or.type_inv))
+      | in-Named w ↦ subst Fitting (sym w.in-Named.is)
+          (subst (λ (n : ℕ). n < 2 ^ compared_type_width (Named w.in-Named.value_type))
+          (sym (is ∙ c.unwrap_or.ensures ∙ ap (λ o. unwrap_or o 0) (w.number-is ∙ w.number_of-number.ensures)))
+          (word-fits w.in-Named.value_type c.args.text.now))
+      | in-Unnamed w ↦ subst (λ (n : ℕ). n < 2 ^ compared_type_width c.args.kind)
+          (sym (is ∙ c.unwrap_or.ensures ∙ ap (λ o. unwrap_or o 0) w.number-is)) (pow_pos (compared_type_width c.args.kind))
     ]

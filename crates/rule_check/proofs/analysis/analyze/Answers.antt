@@ -17,7 +17,9 @@ pub returns-in_default-clause-refused : goal.returns-in_default-clause-refused
 returns-in_default-clause-refused c =
     let tables : List TableTree = tables_of c.args.tree.now in
     let plant : PlantTree = c.args.plant.now in
-    least tables plant faults.DuplicateName (none_yet tables plant 1) (at_none c.in_ok-names.field-0 (DuplicateName tables) (λ names. names.items ≡ tables) c.in_default.is c.in_ok-names.ensures.names)
+    least tables plant faults.DuplicateName (none_yet tables plant 1)
+    (at_none c.in_ok-names.field-0 (DuplicateName tables) (λ names. names.items ≡ tables) c.in_default.is
+    c.in_ok-names.ensures.names)
 
 pub returns-in-Some-fault_of_names-clause-refused : goal.returns-in-Some-fault_of_names-clause-refused
 returns-in-Some-fault_of_names-clause-refused c =
@@ -25,7 +27,8 @@ returns-in-Some-fault_of_names-clause-refused c =
     let plant : PlantTree = c.args.plant.now in
     let apart : DuplicateName tables → ⊥ = IfSome_at c.in_ok-names.field-0 (λ names. DuplicateName tables → ⊥) _ c.in-Some.is c.in_ok-names.ensures.apart in
     let same : c.deref.result.now ≡ tables = search rules in
-    least_reported tables plant 2 4 c.in-Some-fault_of_names.fault c.fault_of_names.result (without tables plant faults.DuplicateName apart) c.in-Some-fault_of_names.is
+    least_reported tables plant 2 4 c.in-Some-fault_of_names.fault c.fault_of_names.result
+    (without tables plant faults.DuplicateName apart) c.in-Some-fault_of_names.is
     (subst (λ (ts : List TableTree). IsLeastFaultIn 2 4 ts plant c.fault_of_names.result) same (c.fault_of_names.ensures plant))
 
 pub returns-in_default-2-clause-refused : goal.returns-in_default-2-clause-refused
@@ -34,10 +37,12 @@ returns-in_default-2-clause-refused c =
     let plant : PlantTree = c.args.plant.now in
     let apart : DuplicateName tables → ⊥ = IfSome_at c.in_ok-names.field-0 (λ names. DuplicateName tables → ⊥) _ c.in-Some.is c.in_ok-names.ensures.apart in
     let same : c.deref.result.now ≡ tables = search rules in
-    let none4 : HasNone 1 4 tables plant = after_names tables plant c.deref.result.now c.fault_of_names.result apart same c.in_default-fault_of_names.is (c.fault_of_names.ensures plant) in
+    let none4 : HasNone 1 4 tables plant = after_names tables plant c.deref.result.now c.fault_of_names.result apart
+    same c.in_default-fault_of_names.is (c.fault_of_names.ensures plant) in
     let again : c.deref-2.result.now ≡ tables = search rules in
     least tables plant faults.Cycle none4
-    (subst Cycles again (at_none c.in_ok-found.field-0 (Cycles c.deref-2.result.now) (λ found. AreFindings c.deref-2.result.now found) c.in_default-2.is c.in_ok-found.ensures))
+    (subst Cycles again (at_none c.in_ok-found.field-0 (Cycles c.deref-2.result.now)
+    (λ found. AreFindings c.deref-2.result.now found) c.in_default-2.is c.in_ok-found.ensures))
 
 pub returns-in-Some-fault_of_chains-clause-refused : goal.returns-in-Some-fault_of_chains-clause-refused
 returns-in-Some-fault_of_chains-clause-refused c =
@@ -45,10 +50,13 @@ returns-in-Some-fault_of_chains-clause-refused c =
     let plant : PlantTree = c.args.plant.now in
     let apart : DuplicateName tables → ⊥ = IfSome_at c.in_ok-names.field-0 (λ names. DuplicateName tables → ⊥) _ c.in-Some.is c.in_ok-names.ensures.apart in
     let same : c.deref.result.now ≡ tables = search rules in
-    let none4 : HasNone 1 4 tables plant = after_names tables plant c.deref.result.now c.fault_of_names.result apart same c.in_default-fault_of_names.is (c.fault_of_names.ensures plant) in
+    let none4 : HasNone 1 4 tables plant = after_names tables plant c.deref.result.now c.fault_of_names.result apart
+    same c.in_default-fault_of_names.is (c.fault_of_names.ensures plant) in
     let again : c.deref-2.result.now ≡ tables = search rules in
     let known : AreFindings tables c.in-Some-2.found =
-    findings_of tables plant c.deref-2.result.now c.in-Some-2.found again (at_some c.in_ok-found.field-0 (Cycles c.deref-2.result.now) (λ found. AreFindings c.deref-2.result.now found) _ c.in-Some-2.is c.in_ok-found.ensures) in
+    findings_of tables plant c.deref-2.result.now c.in-Some-2.found again
+    (at_some c.in_ok-found.field-0 (Cycles c.deref-2.result.now) (λ found. AreFindings c.deref-2.result.now found)
+    _ c.in-Some-2.is c.in_ok-found.ensures) in
     let none5 : HasNone 1 5 tables plant = after_cycles tables plant c.in-Some-2.found none4 known in
     least_reported tables plant 5 12 c.in-Some-fault_of_chains.fault c.fault_of_chains.result none5 c.in-Some-fault_of_chains.is c.fault_of_chains.ensures
 
@@ -58,12 +66,16 @@ returns-then-branch-clause-refused c =
     let plant : PlantTree = c.args.plant.now in
     let apart : DuplicateName tables → ⊥ = IfSome_at c.in_ok-names.field-0 (λ names. DuplicateName tables → ⊥) _ c.in-Some.is c.in_ok-names.ensures.apart in
     let same : c.deref.result.now ≡ tables = search rules in
-    let none4 : HasNone 1 4 tables plant = after_names tables plant c.deref.result.now c.fault_of_names.result apart same c.in_default-fault_of_names.is (c.fault_of_names.ensures plant) in
+    let none4 : HasNone 1 4 tables plant = after_names tables plant c.deref.result.now c.fault_of_names.result apart
+    same c.in_default-fault_of_names.is (c.fault_of_names.ensures plant) in
     let again : c.deref-2.result.now ≡ tables = search rules in
     let known : AreFindings tables c.in-Some-2.found =
-    findings_of tables plant c.deref-2.result.now c.in-Some-2.found again (at_some c.in_ok-found.field-0 (Cycles c.deref-2.result.now) (λ found. AreFindings c.deref-2.result.now found) _ c.in-Some-2.is c.in_ok-found.ensures) in
+    findings_of tables plant c.deref-2.result.now c.in-Some-2.found again
+    (at_some c.in_ok-found.field-0 (Cycles c.deref-2.result.now) (λ found. AreFindings c.deref-2.result.now found)
+    _ c.in-Some-2.is c.in_ok-found.ensures) in
     let none5 : HasNone 1 5 tables plant = after_cycles tables plant c.in-Some-2.found none4 known in
-    let none12 : HasNone 1 12 tables plant = after_chains tables plant c.fault_of_chains.result none5 c.in_default-fault_of_chains.is c.fault_of_chains.ensures in
+    let none12 : HasNone 1 12 tables plant =
+    after_chains tables plant c.fault_of_chains.result none5 c.in_default-fault_of_chains.is c.fault_of_chains.ensures in
     least tables plant faults.Contradiction none12 (sym c.in_ok-has_contradiction.ensures ∙ c.if-branch.true)
 
 pub returns-in-Some-last_fault-clause-refused : goal.returns-in-Some-last_fault-clause-refused
@@ -72,12 +84,16 @@ returns-in-Some-last_fault-clause-refused c =
     let plant : PlantTree = c.args.plant.now in
     let apart : DuplicateName tables → ⊥ = IfSome_at c.in_ok-names.field-0 (λ names. DuplicateName tables → ⊥) _ c.in-Some.is c.in_ok-names.ensures.apart in
     let same : c.deref.result.now ≡ tables = search rules in
-    let none4 : HasNone 1 4 tables plant = after_names tables plant c.deref.result.now c.fault_of_names.result apart same c.in_default-fault_of_names.is (c.fault_of_names.ensures plant) in
+    let none4 : HasNone 1 4 tables plant = after_names tables plant c.deref.result.now c.fault_of_names.result apart
+    same c.in_default-fault_of_names.is (c.fault_of_names.ensures plant) in
     let again : c.deref-2.result.now ≡ tables = search rules in
     let known : AreFindings tables c.in-Some-2.found =
-    findings_of tables plant c.deref-2.result.now c.in-Some-2.found again (at_some c.in_ok-found.field-0 (Cycles c.deref-2.result.now) (λ found. AreFindings c.deref-2.result.now found) _ c.in-Some-2.is c.in_ok-found.ensures) in
+    findings_of tables plant c.deref-2.result.now c.in-Some-2.found again
+    (at_some c.in_ok-found.field-0 (Cycles c.deref-2.result.now) (λ found. AreFindings c.deref-2.result.now found)
+    _ c.in-Some-2.is c.in_ok-found.ensures) in
     let none5 : HasNone 1 5 tables plant = after_cycles tables plant c.in-Some-2.found none4 known in
-    let none12 : HasNone 1 12 tables plant = after_chains tables plant c.fault_of_chains.result none5 c.in_default-fault_of_chains.is c.fault_of_chains.ensures in
+    let none12 : HasNone 1 12 tables plant =
+    after_chains tables plant c.fault_of_chains.result none5 c.in_default-fault_of_chains.is c.fault_of_chains.ensures in
     let agree : list_any (has_contradiction plant) tables ≡ false = sym c.in_ok-has_contradiction.ensures ∙ c.if-branch.false in
     let none13 : HasNone 1 13 tables plant = after_maps tables plant none12 agree in
     least_reported tables plant 13 16 c.in-Some-last_fault.fault c.last_fault.result none13 c.in-Some-last_fault.is c.last_fault.ensures
@@ -88,12 +104,16 @@ returns-clause-fine c =
     let plant : PlantTree = c.args.plant.now in
     let apart : DuplicateName tables → ⊥ = IfSome_at c.in_ok-names.field-0 (λ names. DuplicateName tables → ⊥) _ c.in-Some.is c.in_ok-names.ensures.apart in
     let same : c.deref.result.now ≡ tables = search rules in
-    let none4 : HasNone 1 4 tables plant = after_names tables plant c.deref.result.now c.fault_of_names.result apart same c.in_default-fault_of_names.is (c.fault_of_names.ensures plant) in
+    let none4 : HasNone 1 4 tables plant = after_names tables plant c.deref.result.now c.fault_of_names.result apart
+    same c.in_default-fault_of_names.is (c.fault_of_names.ensures plant) in
     let again : c.deref-2.result.now ≡ tables = search rules in
     let known : AreFindings tables c.in-Some-2.found =
-    findings_of tables plant c.deref-2.result.now c.in-Some-2.found again (at_some c.in_ok-found.field-0 (Cycles c.deref-2.result.now) (λ found. AreFindings c.deref-2.result.now found) _ c.in-Some-2.is c.in_ok-found.ensures) in
+    findings_of tables plant c.deref-2.result.now c.in-Some-2.found again
+    (at_some c.in_ok-found.field-0 (Cycles c.deref-2.result.now) (λ found. AreFindings c.deref-2.result.now found)
+    _ c.in-Some-2.is c.in_ok-found.ensures) in
     let none5 : HasNone 1 5 tables plant = after_cycles tables plant c.in-Some-2.found none4 known in
-    let none12 : HasNone 1 12 tables plant = after_chains tables plant c.fault_of_chains.result none5 c.in_default-fault_of_chains.is c.fault_of_chains.ensures in
+    let none12 : HasNone 1 12 tables plant =
+    after_chains tables plant c.fault_of_chains.result none5 c.in_default-fault_of_chains.is c.fault_of_chains.ensures in
     let agree : list_any (has_contradiction plant) tables ≡ false = sym c.in_ok-has_contradiction.ensures ∙ c.if-branch.false in
     let none13 : HasNone 1 13 tables plant = after_maps tables plant none12 agree in
     after_all tables plant c.last_fault.result none13 c.in_default-last_fault.is c.last_fault.ensures

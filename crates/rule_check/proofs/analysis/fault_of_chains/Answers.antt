@@ -12,8 +12,10 @@ pub returns-then-found-3 : goal.returns-then-found-3
 returns-then-found-3 c =
     let tables : List TableTree = tables_of c.args.tree.now in
     let plant : PlantTree = c.args.plant.now in
-    let base : list_any jumps_to_base_chain tables ≡ false = ap (list_any jumps_to_base_chain) (sym c.requires.names) ∙ sym c.jumps_to_base_chain.ensures ∙ c.if-jumps_to_base_chain.false in
-    let fit : list_any table_mismatches tables ≡ false = ap (list_any table_mismatches) (sym c.requires.names) ∙ sym c.has_type_mismatch.ensures ∙ c.if-has_type_mismatch.false in
+    let base : list_any jumps_to_base_chain tables ≡ false = ap (list_any jumps_to_base_chain) (sym c.requires.names)
+    ∙ sym c.jumps_to_base_chain.ensures ∙ c.if-jumps_to_base_chain.false in
+    let fit : list_any table_mismatches tables ≡ false = ap (list_any table_mismatches) (sym c.requires.names)
+    ∙ sym c.has_type_mismatch.ensures ∙ c.if-has_type_mismatch.false in
     let deep = more tables plant 5 faults.TooDeep (none_yet tables plant 5) (not_so _ _ c.requires.found.deep c.if-found.false) in
     let costly = more tables plant 5 faults.TooCostly deep (not_so _ _ c.requires.found.costly c.if-found-2.false) in
     let called = more tables plant 5 faults.BaseChainCalled costly (not_true _ base) in
@@ -25,8 +27,10 @@ pub returns-then-has_misplaced_chain : goal.returns-then-has_misplaced_chain
 returns-then-has_misplaced_chain c =
     let tables : List TableTree = tables_of c.args.tree.now in
     let plant : PlantTree = c.args.plant.now in
-    let base : list_any jumps_to_base_chain tables ≡ false = ap (list_any jumps_to_base_chain) (sym c.requires.names) ∙ sym c.jumps_to_base_chain.ensures ∙ c.if-jumps_to_base_chain.false in
-    let fit : list_any table_mismatches tables ≡ false = ap (list_any table_mismatches) (sym c.requires.names) ∙ sym c.has_type_mismatch.ensures ∙ c.if-has_type_mismatch.false in
+    let base : list_any jumps_to_base_chain tables ≡ false = ap (list_any jumps_to_base_chain) (sym c.requires.names)
+    ∙ sym c.jumps_to_base_chain.ensures ∙ c.if-jumps_to_base_chain.false in
+    let fit : list_any table_mismatches tables ≡ false = ap (list_any table_mismatches) (sym c.requires.names)
+    ∙ sym c.has_type_mismatch.ensures ∙ c.if-has_type_mismatch.false in
     let deep = more tables plant 5 faults.TooDeep (none_yet tables plant 5) (not_so _ _ c.requires.found.deep c.if-found.false) in
     let costly = more tables plant 5 faults.TooCostly deep (not_so _ _ c.requires.found.costly c.if-found-2.false) in
     let called = more tables plant 5 faults.BaseChainCalled costly (not_true _ base) in
@@ -39,8 +43,10 @@ pub returns : goal.returns
 returns c =
     let tables : List TableTree = tables_of c.args.tree.now in
     let plant : PlantTree = c.args.plant.now in
-    let base : list_any jumps_to_base_chain tables ≡ false = ap (list_any jumps_to_base_chain) (sym c.requires.names) ∙ sym c.jumps_to_base_chain.ensures ∙ c.if-jumps_to_base_chain.false in
-    let fit : list_any table_mismatches tables ≡ false = ap (list_any table_mismatches) (sym c.requires.names) ∙ sym c.has_type_mismatch.ensures ∙ c.if-has_type_mismatch.false in
+    let base : list_any jumps_to_base_chain tables ≡ false = ap (list_any jumps_to_base_chain) (sym c.requires.names)
+    ∙ sym c.jumps_to_base_chain.ensures ∙ c.if-jumps_to_base_chain.false in
+    let fit : list_any table_mismatches tables ≡ false = ap (list_any table_mismatches) (sym c.requires.names)
+    ∙ sym c.has_type_mismatch.ensures ∙ c.if-has_type_mismatch.false in
     let deep = more tables plant 5 faults.TooDeep (none_yet tables plant 5) (not_so _ _ c.requires.found.deep c.if-found.false) in
     let costly = more tables plant 5 faults.TooCostly deep (not_so _ _ c.requires.found.costly c.if-found-2.false) in
     let called = more tables plant 5 faults.BaseChainCalled costly (not_true _ base) in

@@ -4,4 +4,5 @@ use Rattle.rule_laws.proofs.laws.costs_rank_chains.Goals as goal
 
 pub returns : goal.returns
 returns c = λ tables plant well number t at cost are depths depths_are.
-    costs_rank_chains plant number t (once tables plant well number t at) (whole tables plant well number t at) cost are (shallow tables plant well number t at) depths depths_are
+    costs_rank_chains plant number t (once tables plant well number t at) (whole tables plant well number t at) cost
+    are (shallow tables plant well number t at) depths depths_are

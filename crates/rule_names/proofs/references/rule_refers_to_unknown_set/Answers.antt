@@ -11,6 +11,8 @@ use Rattle.rule_names.proofs.references.rule_refers_to_unknown_set.Goals as goal
 
 pub returns : goal.returns
 returns c =
-    any_from_yields_List (λ x. list_any (is_unknown c.args.names.now) (statement_references (statement x))) _ _ c.any.result c.any.ensures.ran (YieldsList-from_slice c.args.rule.now.statements.items cc) (λ x b q k. search (rules, tests))
+    any_from_yields_List (λ x. list_any (is_unknown c.args.names.now) (statement_references (statement x))) _ _
+    c.any.result c.any.ensures.ran (YieldsList-from_slice c.args.rule.now.statements.items cc)
+    (λ x b q k. search (rules, tests))
     ∙ any_of_map (λ t. list_any (is_unknown c.args.names.now) (statement_references t)) statement c.args.rule.now.statements.items
     ∙ any-flat (is_unknown c.args.names.now) statement_references (map statement c.args.rule.now.statements.items)

@@ -12,13 +12,18 @@ pub returns-in_default-clause-is : goal.returns-in_default-clause-is
 returns-in_default-clause-is c = record {
   table = table_tree c.table-item.result;
   member = Contains-map table_tree c.args.tables.now c.loop-table.table-index c.table-item.result (omega arith) c.table-item.is;
-  duplicate = MatchOption-at_none (HasDuplicateIn (table_tree c.table-item.result).items) (λ (names : TableTree). names ≡ table_tree c.table-item.result) c.in_default.is c.in_ok-of_table.ensures.is;
+  duplicate = MatchOption-at_none (HasDuplicateIn (table_tree c.table-item.result).items)
+      (λ (names : TableTree). names ≡ table_tree c.table-item.result) c.in_default.is c.in_ok-of_table.ensures.is;
 }
 
 pub loop-table-preserved : goal.loop-table-preserved
 loop-table-preserved c =
-    let is = subst (λ o. MatchOption o (HasDuplicateIn (table_tree c.table-item.result).items) (λ (names : TableTree). names ≡ table_tree c.table-item.result)) c.in-Some.is c.in_ok-of_table.ensures.is in
+    let is = subst (λ o. MatchOption o (HasDuplicateIn (table_tree c.table-item.result).items)
+    (λ (names : TableTree). names ≡ table_tree c.table-item.result)) c.in-Some.is c.in_ok-of_table.ensures.is in
     let apart = subst (λ o. IfSome o HasUniqueNames) c.in-Some.is c.in_ok-of_table.ensures.apart in (
-      c.in_ok-push.ensures.items ∙ ap₂ (λ xs x. xs ++ x ∷ []) c.loop-table.invariant.0 is ∙ sym (map-more table_tree c.args.tables.now c.loop-table.table-index c.table-item.result (omega arith) c.table-item.is),
-      subst (All HasUniqueNames) (sym c.in_ok-push.ensures.items) (All-push HasUniqueNames c.loop-table.names.items c.in-Some.of_table c.loop-table.invariant.1 apart),
+      c.in_ok-push.ensures.items ∙ ap₂ (λ xs x. xs ++ x ∷ []) c.loop-table.invariant.0 is
+          ∙ sym (map-more table_tree c.args.tables.now c.loop-table.table-index c.table-item.result (omega arith)
+          c.table-item.is),
+      subst (All HasUniqueNames) (sym c.in_ok-push.ensures.items)
+          (All-push HasUniqueNames c.loop-table.names.items c.in-Some.of_table c.loop-table.invariant.1 apart),
     )

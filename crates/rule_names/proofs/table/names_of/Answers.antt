@@ -9,23 +9,34 @@ use Rattle.rule_names.proofs.table.names_of.Goals as goal
 
 pub returns-then-branch-clause-names : goal.returns-then-branch-clause-names
 returns-then-branch-clause-names c =
-    two_tables families.Ip (subst (λ ts. HasDuplicate (table_names families.Ip (map table_tree ts))) c.deref.ensures.value (c.in_ok-has_duplicate_table.ensures.0 c.if-branch.true))
+    two_tables families.Ip (subst (λ ts. HasDuplicate (table_names families.Ip (map table_tree ts)))
+    c.deref.ensures.value (c.in_ok-has_duplicate_table.ensures.0 c.if-branch.true))
 
 pub returns-then-branch-2-clause-names : goal.returns-then-branch-2-clause-names
 returns-then-branch-2-clause-names c =
-    two_tables families.Inet (subst (λ ts. HasDuplicate (table_names families.Inet (map table_tree ts))) c.deref-2.ensures.value (c.in_ok-has_duplicate_table-2.ensures.0 c.if-branch-2.true))
+    two_tables families.Inet (subst (λ ts. HasDuplicate (table_names families.Inet (map table_tree ts)))
+    c.deref-2.ensures.value (c.in_ok-has_duplicate_table-2.ensures.0 c.if-branch-2.true))
 
 pub returns-clause-names : goal.returns-clause-names
 returns-clause-names c =
-    subst (λ ts. IfOk c.names_in_each.result (λ answer. MatchOption answer (DuplicateName (tables_of c.args.tree.now)) (λ names. names.items ≡ map table_tree ts))) c.deref-3.ensures.value
-    (ok-none (SomeTableHasDuplicate (map table_tree c.deref-3.result.now)) (λ (names : Vec TableTree Global). names.items ≡ map table_tree c.deref-3.result.now) (DuplicateName (tables_of c.args.tree.now)) c.names_in_each.result
+    subst (λ ts. IfOk c.names_in_each.result
+    (λ answer. MatchOption answer (DuplicateName (tables_of c.args.tree.now))
+    (λ names. names.items ≡ map table_tree ts))) c.deref-3.ensures.value
+    (ok-none (SomeTableHasDuplicate (map table_tree c.deref-3.result.now))
+    (λ (names : Vec TableTree Global). names.items ≡ map table_tree c.deref-3.result.now)
+    (DuplicateName (tables_of c.args.tree.now)) c.names_in_each.result
     (λ s. subst (λ ts. DuplicateName (map table_tree ts)) c.deref-3.ensures.value (some-duplicate (map table_tree c.deref-3.result.now) s))
     c.names_in_each.ensures.is)
 
 pub returns-clause-apart : goal.returns-clause-apart
 returns-clause-apart c =
-    let ip = subst (λ ts. HasDuplicate (table_names families.Ip (map table_tree ts)) → ⊥) c.deref.ensures.value (λ r. is-not-true c.in_ok-has_duplicate_table.field-0 c.if-branch.false (c.in_ok-has_duplicate_table.ensures.1 r)) in
-    let inet = subst (λ ts. HasDuplicate (table_names families.Inet (map table_tree ts)) → ⊥) c.deref-2.ensures.value (λ r. is-not-true c.in_ok-has_duplicate_table-2.field-0 c.if-branch-2.false (c.in_ok-has_duplicate_table-2.ensures.1 r)) in
-    ok-some (SomeTableHasDuplicate (map table_tree c.deref-3.result.now)) (λ (names : Vec TableTree Global). names.items ≡ map table_tree c.deref-3.result.now) (λ names. All HasUniqueNames names.items) (DuplicateName (tables_of c.args.tree.now) → ⊥) c.names_in_each.result
+    let ip = subst (λ ts. HasDuplicate (table_names families.Ip (map table_tree ts)) → ⊥) c.deref.ensures.value
+    (λ r. is-not-true c.in_ok-has_duplicate_table.field-0 c.if-branch.false (c.in_ok-has_duplicate_table.ensures.1 r)) in
+    let inet = subst (λ ts. HasDuplicate (table_names families.Inet (map table_tree ts)) → ⊥) c.deref-2.ensures.value
+    (λ r. is-not-true c.in_ok-has_duplicate_table-2.field-0 c.if-branch-2.false
+    (c.in_ok-has_duplicate_table-2.ensures.1 r)) in
+    ok-some (SomeTableHasDuplicate (map table_tree c.deref-3.result.now))
+    (λ (names : Vec TableTree Global). names.items ≡ map table_tree c.deref-3.result.now)
+    (λ names. All HasUniqueNames names.items) (DuplicateName (tables_of c.args.tree.now) → ⊥) c.names_in_each.result
     (λ names is all. none-duplicate (tables_of c.args.tree.now) ip inet (subst (All HasUniqueNames) (is ∙ ap (map table_tree) c.deref-3.ensures.value) all))
     c.names_in_each.ensures.is c.names_in_each.ensures.apart

@@ -27,5 +27,7 @@ loop-table-preserved c =
 
 pub returns : goal.returns
 returns c = all-found c.args.names.now c.loop-table.cost _
-    (subst (λ ts. AreFindingsSoFar ts c.loop-table.is_too_deep c.loop-table.misplaces_nat c.loop-table.cost c.loop-table.costs.items c.loop-table.depths.items) (take_all c.loop-table.table-index c.args.names.now (omega arith)) c.loop-table.invariant)
+    (subst (λ ts. AreFindingsSoFar ts c.loop-table.is_too_deep c.loop-table.misplaces_nat c.loop-table.cost
+    c.loop-table.costs.items c.loop-table.depths.items)
+    (take_all c.loop-table.table-index c.args.names.now (omega arith)) c.loop-table.invariant)
     refl

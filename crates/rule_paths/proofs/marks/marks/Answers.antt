@@ -11,9 +11,12 @@ returns c =
     let has = λ (t : ChainTree). chain_has (translates c.args.kind) (Some t) in
     let chains = c.chains-chains.result.now in
     let end : take c.loop-chain.chain-index chains ≡ chains = take_all c.loop-chain.chain-index chains (omega arith) in
-    let all : c.loop-chain.marks.items ≡ map has (chains_of c.args.names.now) = c.loop-chain.invariant ∙ ap (λ cs. map has (map (λ t. chain_tree t.now) cs)) end ∙ ap (map has) c.chains-chains.ensures.all in
+    let all : c.loop-chain.marks.items ≡ map has (chains_of c.args.names.now) =
+    c.loop-chain.invariant ∙ ap (λ cs. map has (map (λ t. chain_tree t.now) cs)) end
+    ∙ ap (map has) c.chains-chains.ensures.all in
     let ok = c.loop-chain.marks.ok in
     let long : length c.loop-chain.marks.items ≡ length (chains_of c.args.names.now) = ap length all ∙ length-map (chains_of c.args.names.now) has in
     let n : vec_len c.loop-chain.marks ≡ length (chains_of c.args.names.now) = omega arith in
     let small : length c.loop-chain.marks.items ≤ c.args.nodes = omega arith in
-    c.in_ok-resize.ensures.items ∙ ap₂ (λ (x : List Bool) (y : ℕ). x ++ replicate (c.args.nodes - y) false) (take_all c.args.nodes c.loop-chain.marks.items small ∙ all) n
+    c.in_ok-resize.ensures.items ∙ ap₂ (λ (x : List Bool) (y : ℕ). x ++ replicate (c.args.nodes - y) false)
+    (take_all c.args.nodes c.loop-chain.marks.items small ∙ all) n

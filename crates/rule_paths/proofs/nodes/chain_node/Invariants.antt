@@ -8,4 +8,5 @@ use Rattle.rule_paths.specs.steps.Index.{index_of}
 use Rattle.rule_paths.proofs.nodes.chain_node.Given as goal
 
 abbrev pub invariant-loop-rule : goal.invariant-loop-rule
-invariant-loop-rule l = statements_of l.statements.items ≡ map (map (numbered_call (index_of l.names))) (map statement_calls (flat_map (λ r. r.statements) (map rule_tree (take l.rule-index l.chain.rules.items))))
+invariant-loop-rule l = statements_of l.statements.items ≡ map (map (numbered_call (index_of l.names)))
+    (map statement_calls (flat_map (λ r. r.statements) (map rule_tree (take l.rule-index l.chain.rules.items))))

@@ -12,10 +12,14 @@ use Rattle.rule_paths.proofs.table.analyze_table.Goals as goal
 pub analyze-requires : goal.analyze-requires
 analyze-requires c =
     let s = subst (λ ns. IsTableGraph c.args.names.now (graph_of ns)) (sym c.deref.ensures.value) c.in_ok-nodes.ensures in
-    record { range = in-range (node_of c.args.names.now) (index_of c.args.names.now) (graph_of c.deref.result.now) s.represents (length c.deref.result.now) (sym (length-map c.deref.result.now node_tree)) }
+    record {
+      range = in-range (node_of c.args.names.now) (index_of c.args.names.now) (graph_of c.deref.result.now)
+          s.represents (length c.deref.result.now) (sym (length-map c.deref.result.now node_tree));
+    }
 
 pub returns-in_default : goal.returns-in_default
 returns-in_default c =
     let s = subst (λ ns. IsTableGraph c.args.names.now (graph_of ns)) (sym c.deref.ensures.value) c.in_ok-nodes.ensures in
     cycle-up (node_of c.args.names.now) (index_of c.args.names.now) (graph_of c.deref.result.now) s.represents
-    (MatchOption-at_none (HasCycle (Calls (graph_of c.deref.result.now))) (λ j. IsAnalysisOf (graph_of c.deref.result.now) j) c.in_default.is c.in_ok-analysis.ensures)
+    (MatchOption-at_none (HasCycle (Calls (graph_of c.deref.result.now)))
+    (λ j. IsAnalysisOf (graph_of c.deref.result.now) j) c.in_default.is c.in_ok-analysis.ensures)

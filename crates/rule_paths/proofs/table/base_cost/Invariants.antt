@@ -6,4 +6,5 @@ use Rattle.rule_paths.specs.Paths.{Caller, AreCosts, base_cost}
 use Rattle.rule_paths.proofs.table.base_cost.Given as goal
 
 abbrev pub invariant-loop-index : goal.invariant-loop-index
-invariant-loop-index l = (cost : Caller → ℕ) → AreCosts l.names cost → l.sum ≡ saturated (sum_by (λ c. base_cost cost c.name c.head) (take l.index (chains_of l.names)))
+invariant-loop-index l = (cost : Caller → ℕ) → AreCosts l.names cost → l.sum
+    ≡ saturated (sum_by (λ c. base_cost cost c.name c.head) (take l.index (chains_of l.names)))

@@ -8,5 +8,7 @@ use Rattle.rule_types.proofs.keys.same_compared_types.Given as goal
 abbrev pub invariant-loop-part : goal.invariant-loop-part
 invariant-loop-part l = record {
   within : l.part ≤ length (key_compared_types (set_type_tree l.key));
-  left : same_compared_types (map selector_compared_type l.selectors) (key_compared_types (set_type_tree l.key)) ≡ same_compared_types (drop l.part (map selector_compared_type l.selectors)) (drop l.part (key_compared_types (set_type_tree l.key)));
+  left : same_compared_types (map selector_compared_type l.selectors) (key_compared_types (set_type_tree l.key))
+      ≡ same_compared_types (drop l.part (map selector_compared_type l.selectors))
+      (drop l.part (key_compared_types (set_type_tree l.key)));
 }

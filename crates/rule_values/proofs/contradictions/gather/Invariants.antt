@@ -8,4 +8,5 @@ use Rattle.rule_values.proofs.contradictions.gather.Given as goal
 
 -- the pairs are those of the elements so far
 abbrev pub invariant-loop-pair : goal.invariant-loop-pair
-invariant-loop-pair l = RepresentEach l.names.keys (filter_map (entry_of l.plant (elements_tree l.elements)) (map pair_tree (take l.pair-index l.pair-items))) l.pairs.items
+invariant-loop-pair l = RepresentEach l.names.keys
+    (filter_map (entry_of l.plant (elements_tree l.elements)) (map pair_tree (take l.pair-index l.pair-items))) l.pairs.items

@@ -10,4 +10,8 @@ use Rattle.rule_values.proofs.Tests.{any_flat}
 use Rattle.rule_values.proofs.values.elements_fail.Goals as goal
 
 pub returns : goal.returns
-returns c = any_from_yields_List (λ x. list_any (fails c.args.value_check c.args.plant.now) (key_ranges (key_types_of c.args.kinds.now) (key_tree x.key))) _ _ c.any.result c.any.ensures.ran (YieldsList-from_slice c.args.elements.now cc) (λ x b q k. search (rules, tests)) ∙ any_flat (fails c.args.value_check c.args.plant.now) (λ (e : ElementTree). key_ranges (key_types_of c.args.kinds.now) e.key) element_tree c.args.elements.now
+returns c = any_from_yields_List (λ x. list_any (fails c.args.value_check c.args.plant.now)
+    (key_ranges (key_types_of c.args.kinds.now) (key_tree x.key))) _ _ c.any.result c.any.ensures.ran
+    (YieldsList-from_slice c.args.elements.now cc) (λ x b q k. search (rules, tests))
+    ∙ any_flat (fails c.args.value_check c.args.plant.now)
+    (λ (e : ElementTree). key_ranges (key_types_of c.args.kinds.now) e.key) element_tree c.args.elements.now

@@ -9,4 +9,8 @@ use Rattle.rule_values.proofs.Tests.{any_flat}
 use Rattle.rule_values.proofs.values.map_fails.Goals as goal
 
 pub returns : goal.returns
-returns c = any_from_yields_List (λ x. list_any (fails c.args.value_check c.args.plant.now) (pair_ranges (elements_tree c.args.elements.now) (pair_tree x))) _ _ c.any.result c.any.ensures.ran (YieldsList-from_slice c.args.elements.now.pairs.now cc) (λ x b q k. search (rules, tests)) ∙ any_flat (fails c.args.value_check c.args.plant.now) (pair_ranges (elements_tree c.args.elements.now)) pair_tree c.args.elements.now.pairs.now
+returns c = any_from_yields_List (λ x. list_any (fails c.args.value_check c.args.plant.now)
+    (pair_ranges (elements_tree c.args.elements.now) (pair_tree x))) _ _ c.any.result c.any.ensures.ran
+    (YieldsList-from_slice c.args.elements.now.pairs.now cc) (λ x b q k. search (rules, tests))
+    ∙ any_flat (fails c.args.value_check c.args.plant.now) (pair_ranges (elements_tree c.args.elements.now)) pair_tree
+    c.args.elements.now.pairs.now

@@ -9,4 +9,7 @@ use Rattle.rule_values.proofs.Tests.{any_flat}
 use Rattle.rule_values.proofs.values.rule_fails.Goals as goal
 
 pub returns : goal.returns
-returns c = any_from_yields_List (λ x. list_any (fails c.args.value_check c.args.plant.now) (statement_ranges (statement x))) _ _ c.any.result c.any.ensures.ran (YieldsList-from_slice c.args.rule.now.statements.items cc) (λ x b q k. search (rules, tests)) ∙ any_flat (fails c.args.value_check c.args.plant.now) statement_ranges statement c.args.rule.now.statements.items
+returns c = any_from_yields_List (λ x. list_any (fails c.args.value_check c.args.plant.now)
+    (statement_ranges (statement x))) _ _ c.any.result c.any.ensures.ran
+    (YieldsList-from_slice c.args.rule.now.statements.items cc) (λ x b q k. search (rules, tests))
+    ∙ any_flat (fails c.args.value_check c.args.plant.now) statement_ranges statement c.args.rule.now.statements.items

@@ -12,4 +12,5 @@ returns-clause-shallow c =
 pub returns-clause-none : goal.returns-clause-none
 returns-clause-none c =
     let same : c.row.result.now ≡ numbers_at c.self.inside.depths.items c.args.table = search rules in
-    rw (same, ← c.self.view_is) (no_depths (tables_of c.self.inside.tree) c.self.inside.plant c.self.inside.costs.items c.self.inside.depths.items c.self.invariant c.args.table)
+    rw (same, ← c.self.view_is) (no_depths (tables_of c.self.inside.tree) c.self.inside.plant
+    c.self.inside.costs.items c.self.inside.depths.items c.self.invariant c.args.table)

@@ -10,4 +10,9 @@ returns-clause-total c =
 pub returns-clause-deep : goal.returns-clause-deep
 returns-clause-deep c =
     let depths = c.self.inside.depths.items in
-    rw (← c.self.view_is) (rows depths, c.self.invariant.depths, shallow (tables_of c.self.inside.tree) c.self.inside.plant c.self.inside.costs.items depths c.self.invariant)
+    rw (← c.self.view_is) (
+      rows depths,
+      c.self.invariant.depths,
+      shallow (tables_of c.self.inside.tree)
+          c.self.inside.plant c.self.inside.costs.items depths c.self.invariant,
+    )

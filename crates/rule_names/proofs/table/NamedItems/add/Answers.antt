@@ -7,11 +7,15 @@ use Rattle.rule_names.proofs.table.NamedItems.add.Goals as goal
 
 pub returns-then-not-branch : goal.returns-then-not-branch
 returns-then-not-branch c = λ items held.
-    rw c.in-Set.is (inr (simp filter_map-append (shared-duplicate items c.args.self.now held _ _ c.deref-in-Set.ensures.value (subst (IsAdded _ _ c.add-in-Set.new.self) c.if-not-branch.true c.in_ok-add-in-Set.ensures))))
+    rw c.in-Set.is (inr (simp filter_map-append
+    (shared-duplicate items c.args.self.now held _ _ c.deref-in-Set.ensures.value
+    (subst (IsAdded _ _ c.add-in-Set.new.self) c.if-not-branch.true c.in_ok-add-in-Set.ensures))))
 
 pub returns-then-not-branch-2 : goal.returns-then-not-branch-2
 returns-then-not-branch-2 c = λ items held.
-    rw c.in-Map.is (inr (simp filter_map-append (shared-duplicate items c.args.self.now held _ _ c.deref-in-Map.ensures.value (subst (IsAdded _ _ c.add-in-Map.new.self) c.if-not-branch-2.true c.in_ok-add-in-Map.ensures))))
+    rw c.in-Map.is (inr (simp filter_map-append
+    (shared-duplicate items c.args.self.now held _ _ c.deref-in-Map.ensures.value
+    (subst (IsAdded _ _ c.add-in-Map.new.self) c.if-not-branch-2.true c.in_ok-add-in-Map.ensures))))
 
 pub returns-in-Comment : goal.returns-in-Comment
 returns-in-Comment c = λ items held. rw c.in-Comment.is (comment-added items c.args.self.now held c.in-Comment.field-0.items)
@@ -23,9 +27,13 @@ returns-in-Chain c = λ items held.
 pub returns-else-not-branch : goal.returns-else-not-branch
 returns-else-not-branch c = λ items held.
     let fresh = subst (IsAdded _ _ _) c.if-not-branch.false c.in_ok-add-in-Set.ensures in
-    rw c.in-Set.is (IfOk-weaker c.add-in-Set-2.result _ _ (set-added items c.args.self.now held _ _ _ c.deref-in-Set.ensures.value c.deref-in-Set-2.ensures.value _ fresh c.add-in-Set-2.new.self) c.add-in-Set-2.ensures)
+    rw c.in-Set.is (IfOk-weaker c.add-in-Set-2.result _ _
+    (set-added items c.args.self.now held _ _ _ c.deref-in-Set.ensures.value c.deref-in-Set-2.ensures.value _
+    fresh c.add-in-Set-2.new.self) c.add-in-Set-2.ensures)
 
 pub returns-else-not-branch-2 : goal.returns-else-not-branch-2
 returns-else-not-branch-2 c = λ items held.
     let fresh = subst (IsAdded _ _ _) c.if-not-branch-2.false c.in_ok-add-in-Map.ensures in
-    rw c.in-Map.is (IfOk-weaker c.add-in-Map-2.result _ _ (map-added items c.args.self.now held _ _ _ c.deref-in-Map.ensures.value c.deref-in-Map-2.ensures.value _ fresh c.add-in-Map-2.new.self) c.add-in-Map-2.ensures)
+    rw c.in-Map.is (IfOk-weaker c.add-in-Map-2.result _ _
+    (map-added items c.args.self.now held _ _ _ c.deref-in-Map.ensures.value c.deref-in-Map-2.ensures.value _
+    fresh c.add-in-Map-2.new.self) c.add-in-Map-2.ensures)

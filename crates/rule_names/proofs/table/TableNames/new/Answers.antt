@@ -10,13 +10,15 @@ pub returns-then-not-branch-clause-is : goal.returns-then-not-branch-clause-is
 returns-then-not-branch-clause-is c =
     let n = ap length c.deref-item-items.ensures.value in
     let is = c.item-item.is ∙ ap (λ xs. get_or xs c.loop-item.item-index c.item-item.result) c.deref-item-items.ensures.value in
-    item-duplicate c.args.table.now.items.items c.loop-item.item-index c.item-item.result (omega arith) is c.add.new.self _ c.if-not-branch.true (c.in_ok-add.ensures _ c.loop-item.invariant)
+    item-duplicate c.args.table.now.items.items c.loop-item.item-index c.item-item.result (omega arith) is
+    c.add.new.self _ c.if-not-branch.true (c.in_ok-add.ensures _ c.loop-item.invariant)
 
 pub loop-item-preserved : goal.loop-item-preserved
 loop-item-preserved c =
     let n = ap length c.deref-item-items.ensures.value in
     let is = c.item-item.is ∙ ap (λ xs. get_or xs c.loop-item.item-index c.item-item.result) c.deref-item-items.ensures.value in
-    item-held c.args.table.now.items.items c.loop-item.item-index c.item-item.result (omega arith) is c.add.new.self _ c.if-not-branch.false (c.in_ok-add.ensures _ c.loop-item.invariant)
+    item-held c.args.table.now.items.items c.loop-item.item-index c.item-item.result (omega arith) is c.add.new.self _
+    c.if-not-branch.false (c.in_ok-add.ensures _ c.loop-item.invariant)
 
 pub returns-clause-apart : goal.returns-clause-apart
 returns-clause-apart c =

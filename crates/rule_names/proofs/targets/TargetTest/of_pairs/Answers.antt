@@ -11,6 +11,8 @@ use Rattle.rule_names.proofs.targets.TargetTest.of_pairs.Goals as goal
 
 pub returns : goal.returns
 returns c =
-    any_from_yields_List (λ x. list_any (passes c.args.self c.args.names.now) (one_or_none (data_target (pair_tree x).value))) _ _ c.any.result c.any.ensures.ran (YieldsList-from_slice c.args.pairs.now cc) (λ x b q k. search (rules, tests))
+    any_from_yields_List (λ x. list_any (passes c.args.self c.args.names.now)
+    (one_or_none (data_target (pair_tree x).value))) _ _ c.any.result c.any.ensures.ran
+    (YieldsList-from_slice c.args.pairs.now cc) (λ x b q k. search (rules, tests))
     ∙ any_of_map (λ t. list_any (passes c.args.self c.args.names.now) (one_or_none (data_target t.value))) pair_tree c.args.pairs.now
     ∙ any-picked (passes c.args.self c.args.names.now) (λ t. data_target t.value) (map pair_tree c.args.pairs.now)
