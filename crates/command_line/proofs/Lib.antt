@@ -1,9 +1,10 @@
-pub mod Complete
-pub mod Described
 pub mod Options
-pub mod Formed
-pub mod Reading
+pub mod Described
 pub mod Rows
-pub mod ParseSteps
-pub mod Taken
+pub mod Scan
 pub mod Words
+pub mod Meaning
+pub mod Command
+pub mod Parse
+pub mod Commands
+pub mod Requested

@@ -1,104 +1,68 @@
--- An option among the words.
-use Rattle.std.proofs.Common.{◌≡◌, ◌∙◌, ◌&&◌, ◌||◌, ◌<◌, ◌≤◌, ℕ, zero, suc, Bool, cond, not, codes, true, false, true≢false, refl, sym, subst, add-one, ◌+◌, ap, List, [], ◌∷◌, length, get_or, arith, remove, map}
+-- An option among the words: a search that passed k words has it in the rest.
+use Rattle.std.proofs.Common.{◌++◌, ◌+◌, ◌<◌, ◌≡◌, ◌≤◌, ◌∙◌, ◌∷◌, ℕ, List, [], add-one, ap, append_assoc, arith, codes, drop, false}
+use Rattle.std.proofs.Common.{drop_of_length-le, get_or, length, map, refl, remove, subst, suc, sym, take, true, zero}
+use Rattle.std.proofs.lemmas.List.{length-map, take-append-drop}
 use Rattle.std.specs.Borrow.{Bor}
 use Rattle.std.specs.Str.{bytes_eq}
 use Rattle.clap.specs.Words.{Text}
 use Rattle.command_line.specs.CommandLine.{has_flag, without_flag, without_option}
 
--- the first words are neither `--` nor the flag
-abbrev pub passes : Text → ℕ → List Text → Bool
-passes flag zero ws = true
-passes flag (suc k) [] = true
-passes flag (suc k) (w ∷ ws) = not (bytes_eq w (codes "--")) && (not (bytes_eq w flag) && passes flag k ws)
+abbrev nothing_there : Bor Text
+nothing_there = record { ref_ptr = (0, 0); now = [] }
 
--- what is kept of a word and the words after it, and whether the flag is among them
-abbrev explained_by : Bool → Bool → Bool → Bool
-explained_by d x more = cond d false (x || more)
+abbrev pub texts : List (Bor Text) → List Text
+texts ws = map (λ w. w.now) ws
 
-abbrev left_by : Bool → Bool → Text → List Text → List Text → List Text
-left_by d x w ws more = cond d (w ∷ ws) (cond x ws (w ∷ more))
+abbrev pub word_at : List (Bor Text) → ℕ → Text
+word_at ws k = (get_or ws k nothing_there).now
 
-abbrev Nothing : Text → List Text → Type 0
-Nothing flag ws = (has_flag flag ws ≡ false) × (without_flag flag ws ≡ ws)
+word_first : (ws : List (Bor Text)) (k : ℕ) → k < length ws → drop k (texts ws) ≡ word_at ws k ∷ drop (suc k) (texts ws)
+word_first [] k lt = absurd (omega arith)
+word_first (w ∷ ws) zero lt = refl
+word_first (w ∷ ws) (suc k) lt = word_first ws k (omega arith)
 
-abbrev Found : Text → ℕ → List Text → Type 0
-Found flag k ws = (has_flag flag ws ≡ true) × (without_flag flag ws ≡ remove ws k)
+word_last : (ws : List (Bor Text)) (k : ℕ) → k < length ws → take (suc k) (texts ws) ≡ take k (texts ws) ++ word_at ws k ∷ []
+word_last [] k lt = absurd (omega arith)
+word_last (w ∷ ws) zero lt = refl
+word_last (w ∷ ws) (suc k) lt = ap (λ (l : List Text). w.now ∷ l) (word_last ws k (omega arith))
 
-two_false : (d x p : Bool) → (not d && (not x && p)) ≡ true → (d ≡ false) × (x ≡ false) × (p ≡ true)
-two_false true x p e = absurd (true≢false (sym e))
-two_false false true p e = absurd (true≢false (sym e))
-two_false false false p e = (refl, refl, e)
+abbrev pub Missing : Text → List Text → Type 0
+Missing flag ws = (has_flag flag ws ≡ false) × (without_flag flag ws ≡ ws)
 
-pub passes_more : (flag : Text) (k : ℕ) (ws : List Text) (w : Text) → passes flag k ws ≡ true
-    → bytes_eq (get_or ws k w) (codes "--") ≡ false
-    → bytes_eq (get_or ws k w) flag ≡ false → passes flag (suc k) ws ≡ true
-passes_more flag k [] w p d x = refl
-passes_more flag zero (v ∷ ws) w p d x = ap (λ b. not b && (not (bytes_eq v flag) && true)) d
-    ∙ ap (λ b. not b && true) x
-passes_more flag (suc k) (v ∷ ws) w p d x =
-    let is = two_false _ _ _ p in
-    ap (λ b. not b && (not (bytes_eq v flag) && passes flag (suc k) ws)) is.0
-    ∙ ap (λ b. not b && passes flag (suc k) ws) is.1
-    ∙ passes_more flag k ws w is.2 d x
+-- the first k words are neither `--` nor the flag
+abbrev pub Passed : Text → List (Bor Text) → ℕ → Type 0
+Passed flag ws k = (has_flag flag (texts ws) ≡ has_flag flag (drop k (texts ws)))
+    × (without_flag flag (texts ws) ≡ take k (texts ws) ++ without_flag flag (drop k (texts ws)))
 
-pub at_end : (flag : Text) (k : ℕ) (ws : List Text) → length ws ≤ k → passes flag k ws ≡ true → Nothing flag ws
-at_end flag k [] l p = (refl, refl)
-at_end flag zero (v ∷ ws) l p = absurd (omega arith)
-at_end flag (suc k) (v ∷ ws) l p =
-    let is = two_false _ _ _ p in
-    let more = at_end flag k ws (omega arith) is.2 in (
-      ap (λ b. explained_by b (bytes_eq v flag) (has_flag flag ws)) is.0
-          ∙ ap (λ b. explained_by false b (has_flag flag ws)) is.1 ∙ more.0,
-      ap (λ b. left_by b (bytes_eq v flag) v ws (without_flag flag ws)) is.0
-          ∙ ap (λ b. left_by false b v ws (without_flag flag ws)) is.1
-          ∙ ap (λ (l : List Text). v ∷ l) more.1,
-    )
+module _ (flag : Text) (ws : List (Bor Text)) (k : ℕ) (p : Passed flag ws k) where
+  pub passed_more : k < length ws → bytes_eq (word_at ws k) (codes "--") ≡ false → bytes_eq (word_at ws k) flag ≡ false
+      → Passed flag ws (k + 1)
+  passed_more lt d x = subst (Passed flag ws) (sym (add-one k)) (
+    p.0 ∙ ap (has_flag flag) (word_first ws k lt) ∙ simp (d, x),
+    p.1 ∙ ap (λ l. take k (texts ws) ++ without_flag flag l) (word_first ws k lt)
+        ∙ simp (d, x) (sym (ap (λ l. l ++ without_flag flag (drop (suc k) (texts ws))) (word_last ws k lt)
+        ∙ append_assoc (take k (texts ws)) (word_at ws k ∷ []) _)),
+  )
 
-pub at_dashes : (flag : Text) (k : ℕ) (ws : List Text) (w : Text) → k < length ws → passes flag k ws ≡ true
-    → bytes_eq (get_or ws k w) (codes "--") ≡ true → Nothing flag ws
-at_dashes flag k [] w l p d = (refl, refl)
-at_dashes flag zero (v ∷ ws) w l p d = (
-  ap (λ b. explained_by b (bytes_eq v flag) (has_flag flag ws)) d,
-  ap (λ b. left_by b (bytes_eq v flag) v ws (without_flag flag ws)) d,
-)
-at_dashes flag (suc k) (v ∷ ws) w l p d =
-    let is = two_false _ _ _ p in
-    let more = at_dashes flag k ws w (omega arith) is.2 d in (
-      ap (λ b. explained_by b (bytes_eq v flag) (has_flag flag ws)) is.0
-          ∙ ap (λ b. explained_by false b (has_flag flag ws)) is.1 ∙ more.0,
-      ap (λ b. left_by b (bytes_eq v flag) v ws (without_flag flag ws)) is.0
-          ∙ ap (λ b. left_by false b v ws (without_flag flag ws)) is.1
-          ∙ ap (λ (l : List Text). v ∷ l) more.1,
-    )
+  missing : Missing flag (drop k (texts ws)) → Missing flag (texts ws)
+  missing m = (p.0 ∙ m.0, p.1 ∙ ap (λ l. take k (texts ws) ++ l) m.1 ∙ take-append-drop k (texts ws))
 
-pub at_flag : (flag : Text) (k : ℕ) (ws : List Text) (w : Text) → k < length ws → passes flag k ws ≡ true
-    → bytes_eq (get_or ws k w) (codes "--") ≡ false
-    → bytes_eq (get_or ws k w) flag ≡ true → Found flag k ws
-at_flag flag k [] w l p d x = absurd (omega arith)
-at_flag flag zero (v ∷ ws) w l p d x = (
-  ap (λ b. explained_by b (bytes_eq v flag) (has_flag flag ws)) d
-      ∙ ap (λ b. explained_by false b (has_flag flag ws)) x,
-  ap (λ b. left_by b (bytes_eq v flag) v ws (without_flag flag ws)) d
-      ∙ ap (λ b. left_by false b v ws (without_flag flag ws)) x,
-)
-at_flag flag (suc k) (v ∷ ws) w l p d x =
-    let is = two_false _ _ _ p in
-    let more = at_flag flag k ws w (omega arith) is.2 d x in (
-      ap (λ b. explained_by b (bytes_eq v flag) (has_flag flag ws)) is.0
-          ∙ ap (λ b. explained_by false b (has_flag flag ws)) is.1 ∙ more.0,
-      ap (λ b. left_by b (bytes_eq v flag) v ws (without_flag flag ws)) is.0
-          ∙ ap (λ b. left_by false b v ws (without_flag flag ws)) is.1
-          ∙ ap (λ (l : List Text). v ∷ l) more.1,
-    )
+  pub passed_all : length ws ≤ k → Missing flag (texts ws)
+  passed_all le =
+      missing (subst (Missing flag) (sym (drop_of_length-le (texts ws) (omega (arith, length-map ws (λ (w : Bor Text). w.now), le)))) (refl, refl))
 
--- the k-th text is that of the k-th word
-pub text_at : (ws : List (Bor Text)) (k : ℕ) (d : Bor Text) → get_or (map (λ w. w.now) ws) k d.now ≡ (get_or ws k d).now
-text_at [] k d = refl
-text_at (v ∷ ws) zero d = refl
-text_at (v ∷ ws) (suc k) d = text_at ws k d
+  pub passed_dashes : k < length ws → bytes_eq (word_at ws k) (codes "--") ≡ true → Missing flag (texts ws)
+  passed_dashes lt d = missing (subst (Missing flag) (sym (word_first ws k lt)) (simp d, simp d))
+
+  pub passed_flag : k < length ws → bytes_eq (word_at ws k) (codes "--") ≡ false → bytes_eq (word_at ws k) flag ≡ true
+      → (has_flag flag (texts ws) ≡ true) × (without_flag flag (texts ws) ≡ remove (texts ws) k)
+  passed_flag lt d x = (
+    p.0 ∙ ap (has_flag flag) (word_first ws k lt) ∙ simp (d, x),
+    p.1 ∙ ap (λ l. take k (texts ws) ++ without_flag flag l) (word_first ws k lt) ∙ simp (d, x),
+  )
 
 -- the texts of the words without the k-th
-pub texts_without : (ws : List (Bor Text)) (k : ℕ) → map (λ w. w.now) (remove ws k) ≡ remove (map (λ w. w.now) ws) k
+texts_without : (ws : List (Bor Text)) (k : ℕ) → texts (remove ws k) ≡ remove (texts ws) k
 texts_without [] zero = refl
 texts_without [] (suc k) = refl
 texts_without (v ∷ ws) zero = refl
@@ -106,9 +70,7 @@ texts_without (v ∷ ws) (suc k) = ap (λ (l : List Text). v.now ∷ l) (texts_w
 
 -- the words without the one of this index after the first
 pub taken : (flag : Text) (ws rest : List (Bor Text)) (first : Bor Text) (place : ℕ) → ws ≡ first ∷ rest
-    → without_flag flag (map (λ w. w.now) rest) ≡ remove (map (λ w. w.now) rest) place
-    → map (λ w. w.now) (remove ws (place + 1)) ≡ without_option flag (map (λ w. w.now) ws)
+    → without_flag flag (texts rest) ≡ remove (texts rest) place
+    → texts (remove ws (place + 1)) ≡ without_option flag (texts ws)
 taken flag ws rest first place is left =
-    subst (λ (k : ℕ). map (λ w. w.now) (remove ws k) ≡ without_option flag (map (λ w. w.now) ws)) (sym (add-one place))
-    (subst (λ (l : List (Bor Text)). map (λ w. w.now) (remove l (suc place)) ≡ without_option flag (map (λ w. w.now) l)) (sym is)
-    (ap (λ (l : List Text). first.now ∷ l) (texts_without rest place ∙ sym left)))
+    rw (add-one, is) (ap (λ (l : List Text). first.now ∷ l) (texts_without rest place ∙ sym left))

@@ -1,184 +1,216 @@
--- The words that are left after a flag or the report's file was met, by the definitions of the command line.
-use Rattle.std.proofs.Common.{◌≡◌, ◌∙◌, ◌||◌, Bool, cond, codes, true, false, refl, ap, sym, List, [], ◌∷◌, Option, Some, None, is_some, drop, true≢false}
-use Rattle.std.specs.Prelude.{slice_get}
-use Rattle.std.specs.Str.{bytes_eq}
+-- What a word is: how clap reads it, and how the definitions of the command line do.
+use Rattle.std.proofs.Common.{◌==◌, ◌&&◌, ◌≡◌, ◌∙◌, ◌∷◌, ℕ, Bool, List, None, Option, Some, [], ap, arith, codes, cond, eqb-true}
+use Rattle.std.proofs.Common.{eq-eqb, false, get_or, is_some, length, not, refl, subst, suc, sym, true, true≢false}
+use Rattle.std.specs.Prelude.{option_and_then, slice_get, unwrap_or}
+use Rattle.std.specs.List.{before_first}
+use Rattle.std.specs.Option.{option_map_or}
+use Rattle.std.specs.Str.{IsUtf8, bytes_eq, chars, encode_utf8_all}
+use Rattle.std.proofs.lemmas.Bool.{false_from_ne_true, not-true}
+use Rattle.std.proofs.lemmas.Option.{none-some}
 use Rattle.std.proofs.lemmas.Slice.Eq.{bytes_eq-Decides}
-use Rattle.clap.specs.Lexer.{long_of}
+use Rattle.std.proofs.lemmas.Str.{chars_past_char, encodes-chars}
+use Rattle.clap.specs.Lexer.{has_byte, long_of, long_of_rest, short_of, short_of_rest, strip_byte}
 use Rattle.clap.specs.Walk.{Text}
-use Rattle.command_line.specs.CommandLine.{as_report, file_by, has_flag, operands, report_of, without_report_by, without_flag, without_report}
+use Rattle.std.proofs.lemmas.List.Folds.{list_any_at}
+use Rattle.clap.proofs.CutLemmas.{before_first-Lacks}
+use Rattle.clap.proofs.WalkLemmas.{both}
+use Rattle.command_line.specs.CommandLine.{as_report, is_plain_word, report_option}
+use Rattle.command_line.proofs.Scan.{Kind, dashes, filed, flagged, has_no_short, is_taken, kind, kind_by, long_kind, odd, operand}
 
--- ---- the words that are left, after a `--` or before it, with the flag met or not
+-- ---- a flag, by its text
 
--- the operands, and whether the flag is met at the end
-abbrev pub Seen : Type 0
-Seen = List Text × Bool
+lacks_all : (xs : Text) → has_byte 61 xs ≡ false → before_first (λ x. x == 61) xs ≡ xs
+lacks_all xs lacks = before_first-Lacks 61 xs
+    (λ i lt e. true≢false (sym (list_any_at (λ x. x == 61) xs i 0 lt (eq-eqb (get_or xs i 0) 61 e)) ∙ lacks))
 
-abbrev pub flag_view : Text → Bool → Bool → List Text → Seen
-flag_view flag t met rest = (
-  cond t rest (operands (cond met rest (without_flag flag rest))),
-  met
-      || cond t false (has_flag flag rest),
-)
+no_value : (b : Bool) (v : Text) → cond b (Some v) None ≡ None → b ≡ false
+no_value true v e = cc
+no_value false v e = refl
 
-abbrev by_word : Bool → Bool → Text → List Text → List Text → List Text
-by_word d f word rest later = cond d (word ∷ rest) (cond f rest (word ∷ later))
+named : (rest name : Text) → long_of_rest rest ≡ Some (name, None) → rest ≡ name
+named [] name e = cc
+named (x ∷ xs) name e =
+    let text : Option (Text × Option Text) → Text = λ o. (unwrap_or o ([], None)).0 in
+    let worth : Option (Text × Option Text) → Option Text = λ o. (unwrap_or o ([], None)).1 in
+    sym (lacks_all (x ∷ xs) (no_value (has_byte 61 (x ∷ xs)) _ (ap worth e))) ∙ ap text e
 
-abbrev has_by : Bool → Bool → Bool → Bool
-has_by d f later = cond d false (f || later)
-
-abbrev taken : Bool → Text → List Text → List Text
-taken d word rest = cond d rest (word ∷ operands rest)
-
-pub flag_end : (flag : Text) (t met : Bool) → flag_view flag t met [] ≡ ([], met)
-flag_end flag true true = refl
-flag_end flag true false = refl
-flag_end flag false true = refl
-flag_end flag false false = refl
-
-pub flag_dashes : (flag : Text) (met : Bool) (word : Text) (rest : List Text) → bytes_eq word (codes "--") ≡ true
-    → flag_view flag false met (word ∷ rest) ≡ flag_view flag true met rest
-flag_dashes flag true word rest is = λ j. (taken (is j) word rest, true)
-flag_dashes flag false word rest is =
-    let later = without_flag flag rest in
-    let ops = ap (λ b. operands (by_word b (bytes_eq word flag) word rest later)) is ∙ ap (λ b. taken b word rest) is in
-    let has = ap (λ b. has_by b (bytes_eq word flag) (has_flag flag rest)) is in
-    λ j. (ops j, has j)
-
-pub flag_met : (flag : Text) (word : Text) (rest : List Text) → bytes_eq word (codes "--") ≡ false
-    → bytes_eq word flag ≡ true
-    → flag_view flag false false (word ∷ rest) ≡ flag_view flag false true rest
-flag_met flag word rest is same =
-    let later = without_flag flag rest in
-    let ops = ap (λ b. operands (by_word b (bytes_eq word flag) word rest later)) is
-    ∙ ap (λ b. operands (by_word false b word rest later)) same in
-    let has = ap (λ b. has_by b (bytes_eq word flag) (has_flag flag rest)) is
-    ∙ ap (λ b. has_by false b (has_flag flag rest)) same in
-    λ j. (ops j, has j)
-
-pub flag_plain : (flag : Text) (met : Bool) (word : Text) (rest : List Text)
-    → bytes_eq word (codes "--") ≡ false → bytes_eq word flag ≡ false
-    → flag_view flag false met (word ∷ rest) ≡ (
-      word ∷ (flag_view flag false met rest).0,
-      (flag_view flag false met rest).1,
-    )
-flag_plain flag true word rest is other = λ j. (taken (is j) word rest, true)
-flag_plain flag false word rest is other =
-    let later = without_flag flag rest in
-    let ops = ap (λ b. operands (by_word b (bytes_eq word flag) word rest later)) is
-    ∙ ap (λ b. operands (by_word false b word rest later)) other
-    ∙ ap (λ b. taken b word later) is in
-    let has = ap (λ b. has_by b (bytes_eq word flag) (has_flag flag rest)) is
-    ∙ ap (λ b. has_by false b (has_flag flag rest)) other in
-    λ j. (ops j, has j)
-
--- a word that clap takes for no flag is none
-pub no_flag : (word flag : Text) → is_some (long_of flag) ≡ true → long_of word ≡ None → bytes_eq word flag ≡ false
-no_flag word flag some none = go (bytes_eq word flag) refl
+-- what follows a hyphen
+behind : {A : Type 0} (f : Text → Option A) (word : Text) (a : A) → option_and_then f (strip_byte 45 word) ≡ Some a
+    → (rest : Text) × (word ≡ 45 ∷ rest) × (f rest ≡ Some a)
+behind f [] a e = cc
+behind f (x ∷ xs) a e = go (x == 45) refl e
   where
-    go : (b : Bool) → bytes_eq word flag ≡ b → bytes_eq word flag ≡ false
-    go false is = is
-    go true is =
-        let same : word ≡ flag = (bytes_eq-Decides word flag).0 is in
-        let bad : true ≡ false = sym some ∙ ap (λ (w : Text). is_some (long_of w)) (sym same)
-        ∙ ap (λ o. is_some o) none in
-        absurd (true≢false bad)
+    go : (b : Bool) → (x == 45) ≡ b → option_and_then f (cond b (Some xs) None) ≡ Some a
+        → (rest : Text) × (x ∷ xs ≡ 45 ∷ rest) × (f rest ≡ Some a)
+    go true is f = (xs, ap (λ (c : ℕ). c ∷ xs) (eqb-true x 45 is), f)
+    go false is f = cc
 
--- ---- the words of a run
+then_then : (o : Option Text) → option_and_then long_of_rest (option_and_then (strip_byte 45) o)
+    ≡ option_and_then (λ rest. option_and_then long_of_rest (strip_byte 45 rest)) o
+then_then None = refl
+then_then (Some rest) = refl
 
--- the words without the report's file, once that was met, or after a `--`
-abbrev pub words_in : Bool → Option Text → List Text → List Text
-words_in true file rest = rest
-words_in false None rest = without_report rest
-words_in false (Some f) rest = rest
+pub long_text : (word name : Text) → long_of word ≡ Some (name, None) → word ≡ 45 ∷ 45 ∷ name
+long_text word name e =
+    let one = behind (λ rest. option_and_then long_of_rest (strip_byte 45 rest)) word (name, None)
+    (sym (then_then (strip_byte 45 word)) ∙ e) in
+    let two = behind long_of_rest one.0 (name, None) one.2 in
+    one.1 ∙ ap (λ (t : Text). 45 ∷ t) (two.1 ∙ ap (λ (t : Text). 45 ∷ t) (named two.0 name two.2))
 
-abbrev pub file_in : Bool → Option Text → List Text → Option Text
-file_in true file rest = file
-file_in false None rest = report_of rest
-file_in false (Some f) rest = Some f
+-- ---- a plain word
 
--- the operands, whether the flag is met, and the file for the report
-abbrev pub View : Type 0
-View = Seen × Option Text
-
-abbrev pub view : Bool → Bool → Option Text → List Text → View
-view t met file rest = (flag_view (codes "--trace") t met (words_in t file rest), file_in t file rest)
-
--- after a `--report`
-abbrev pub waiting_view : Bool → List Text → View
-waiting_view met rest = (flag_view (codes "--trace") false met (drop 1 rest), slice_get rest 0)
-
-pub view_end : (t met : Bool) (file : Option Text) → view t met file [] ≡ (([], met), file)
-view_end true met file = ap (λ (v : Seen). (v, file)) (flag_end (codes "--trace") true met)
-view_end false met None = ap (λ (v : Seen). (v, None)) (flag_end (codes "--trace") false met)
-view_end false met (Some f) = ap (λ (v : Seen). (v, Some f)) (flag_end (codes "--trace") false met)
-
-abbrev pub left_by : Bool → Text → List Text → List Text
-left_by d word rest = cond d (word ∷ rest) (without_report_by (as_report word) word rest (without_report rest))
-
-abbrev file_by_word : Bool → Text → List Text → Option Text
-file_by_word d word rest = cond d None (file_by (as_report word) rest (report_of rest))
-
-pub view_dashes : (met : Bool) (file : Option Text) (word : Text) (rest : List Text) → bytes_eq word (codes "--") ≡ true
-    → view false met file (word ∷ rest) ≡ view true met file rest
-view_dashes met None word rest is =
-    (λ j. (flag_view (codes "--trace") false met (left_by (is j) word rest), file_by_word (is j) word rest))
-    ∙ ap (λ (v : Seen). (v, None)) (flag_dashes (codes "--trace") met word rest is)
-view_dashes met (Some f) word rest is = ap (λ (v : Seen). (v, Some f)) (flag_dashes (codes "--trace") met word rest is)
-
--- a word that is neither `--` nor names the file
-abbrev pub Kept : Option Text → Text → List Text → Type 0
-Kept file word rest = (words_in false file (word ∷ rest) ≡ word ∷ words_in false file rest)
-    × (file_in false file (word ∷ rest) ≡ file_in false file rest)
-
-pub kept : (file : Option Text) (word : Text) (rest : List Text) → bytes_eq word (codes "--") ≡ false
-    → as_report word ≡ None → Kept file word rest
-kept None word rest is apart = (
-  ap (λ b. left_by b word rest) is ∙ ap (λ o. without_report_by o word rest (without_report rest)) apart,
-  ap (λ b. file_by_word b word rest) is ∙ ap (λ o. file_by o rest (report_of rest)) apart,
-)
-kept (Some f) word rest is apart = (refl, refl)
-
-pub view_flag : (file : Option Text) (word : Text) (rest : List Text) → bytes_eq word (codes "--") ≡ false
-    → as_report word ≡ None → bytes_eq word (codes "--trace") ≡ true
-    → view false false file (word ∷ rest) ≡ view false true file rest
-view_flag file word rest is apart same =
-    let k = kept file word rest is apart in
-    let e = k.0 in
-    let f = k.1 in
-    (λ j. (flag_view (codes "--trace") false false (e j), f j))
-    ∙ ap (λ (v : Seen). (v, file_in false file rest))
-    (flag_met (codes "--trace") word (words_in false file rest) is same)
-
-pub view_plain : (met : Bool) (file : Option Text) (word : Text) (rest : List Text)
-    → bytes_eq word (codes "--") ≡ false → as_report word ≡ None
-    → bytes_eq word (codes "--trace") ≡ false
-    → view false met file (word ∷ rest) ≡ (
-      (
-        word ∷ (view false met file rest).0.0,
-        (view false met file rest).0.1,
-      ),
-      (view false met file rest).1,
+-- it is no flag
+pub plain_lexed : (word : Text) → is_plain_word word ≡ true
+    → (bytes_eq word (codes "--") ≡ false) × (long_of word ≡ None) × (short_of word ≡ None)
+plain_lexed [] e = (refl, refl, refl)
+plain_lexed (c ∷ []) e = go (c == 45)
+  where
+    go : (b : Bool) → ((b && false) ≡ false)
+        × (option_and_then long_of_rest (option_and_then (strip_byte 45) (cond b (Some []) None)) ≡ None)
+        × (option_and_then short_of_rest (cond b (Some []) None) ≡ None)
+    go true = (refl, refl, refl)
+    go false = (refl, refl, refl)
+plain_lexed (c ∷ x ∷ rest) e =
+    let no : (c == 45) ≡ false = not-true (c == 45) e in (
+      ap (λ b. b && bytes_eq (x ∷ rest) (45 ∷ [])) no,
+      ap (λ b. option_and_then long_of_rest (option_and_then (strip_byte 45) (cond b (Some (x ∷ rest)) None))) no,
+      ap (λ b. option_and_then short_of_rest (cond b (Some (x ∷ rest)) None)) no,
     )
-view_plain met file word rest is apart other =
-    let k = kept file word rest is apart in
-    let e = k.0 in
-    let f = k.1 in
-    (λ j. (flag_view (codes "--trace") false met (e j), f j))
-    ∙ ap (λ (v : Seen). (v, file_in false file rest))
-    (flag_plain (codes "--trace") met word (words_in false file rest) is other)
 
-pub view_attached : (met : Bool) (f word : Text) (rest : List Text) → bytes_eq word (codes "--") ≡ false
-    → as_report word ≡ Some (Some f)
-    → view false met None (word ∷ rest) ≡ view false met (Some f) rest
-view_attached met f word rest is names =
-    let e = ap (λ b. left_by b word rest) is ∙ ap (λ o. without_report_by o word rest (without_report rest)) names in
-    let g = ap (λ b. file_by_word b word rest) is ∙ ap (λ o. file_by o rest (report_of rest)) names in
-    λ j. (flag_view (codes "--trace") false met (e j), g j)
+pub plain_taken : (word : Text) → is_plain_word word ≡ true → is_taken word ≡ true
+plain_taken word e =
+    let is = plain_lexed word e in
+    ap (λ b. not b && (not (is_some (long_of word)) && has_no_short (short_of word))) is.0
+    ∙ ap (λ o. not (is_some o) && has_no_short (short_of word)) is.1 ∙ ap has_no_short is.2
 
-pub view_waits : (met : Bool) (word : Text) (rest : List Text) → bytes_eq word (codes "--") ≡ false
-    → as_report word ≡ Some None
-    → view false met None (word ∷ rest) ≡ waiting_view met rest
-view_waits met word rest is names =
-    let e = ap (λ b. left_by b word rest) is ∙ ap (λ o. without_report_by o word rest (without_report rest)) names in
-    let g = ap (λ b. file_by_word b word rest) is ∙ ap (λ o. file_by o rest (report_of rest)) names in
-    λ j. (flag_view (codes "--trace") false met (e j), g j)
+pub plain_bare : (word : Text) → is_plain_word word ≡ true → (bytes_eq word (codes "--") ≡ false) × (long_of word ≡ None)
+plain_bare word e = let is = plain_lexed word e in (is.0, is.1)
+
+-- ---- a word that clap takes for an operand
+
+no_long : (o : Option (Text × Option Text)) → not (is_some o) ≡ true → o ≡ None
+no_long None e = refl
+no_long (Some q) e = absurd (true≢false (sym e))
+
+pub taken_parts : (word : Text) → is_taken word ≡ true
+    → (bytes_eq word (codes "--") ≡ false) × (long_of word ≡ None) × (has_no_short (short_of word) ≡ true)
+taken_parts word e =
+    let p = both (not (bytes_eq word (codes "--"))) (not (is_some (long_of word)) && has_no_short (short_of word)) e in
+    let q = both (not (is_some (long_of word))) (has_no_short (short_of word)) p.1 in
+    (not-true (bytes_eq word (codes "--")) p.0, no_long (long_of word) q.0, q.1)
+
+pub taken_bare : (word : Text) → is_taken word ≡ true → (bytes_eq word (codes "--") ≡ false) × (long_of word ≡ None)
+taken_bare word e = let is = taken_parts word e in (is.0, is.1)
+
+-- what stands behind a hyphen begins with a character
+no_first : (cs : List ℕ) → not (is_some (slice_get cs 0)) ≡ true → cs ≡ []
+no_first [] e = refl
+no_first (c ∷ cs) e = absurd (true≢false (sym e))
+
+character_behind : (x : ℕ) (rest : Text) → IsUtf8 (45 ∷ x ∷ rest)
+    → not (is_some (slice_get (chars (x ∷ rest)) 0)) ≡ true → ⊥
+unfolding lib.Utf8.encode
+character_behind x rest utf8 e =
+    let none : chars (x ∷ rest) ≡ [] = no_first (chars (x ∷ rest)) e in
+    let all : chars (45 ∷ x ∷ rest) ≡ 45 ∷ chars (x ∷ rest) =
+    chars_past_char (45 ∷ x ∷ rest) (x ∷ rest) 45 utf8 refl in
+    let same : encode_utf8_all (45 ∷ []) ≡ 45 ∷ x ∷ rest =
+    sym (ap encode_utf8_all (all ∙ ap (λ cs. 45 ∷ cs) none)) ∙ encodes-chars (45 ∷ x ∷ rest) utf8 in
+    let bad : 1 ≡ suc (suc (length rest)) = ap length same in
+    absurd (omega arith)
+
+-- `--` is itself, and a word with more behind two hyphens has a long name
+no_double : (rest : Text) → bytes_eq rest [] ≡ false → option_and_then long_of_rest (Some rest) ≡ None → ⊥
+no_double [] is long = true≢false is
+no_double (y ∷ ys) is long = cc
+
+-- a text that clap takes for an operand is plain
+pub taken_plain : (word : Text) → IsUtf8 word → is_taken word ≡ true → is_plain_word word ≡ true
+taken_plain [] utf8 e = refl
+taken_plain (c ∷ []) utf8 e = refl
+taken_plain (c ∷ x ∷ rest) utf8 e =
+    let is = taken_parts (c ∷ x ∷ rest) e in go (c == 45) refl (x == 45) refl is.0 is.1 is.2
+  where
+    go : (b : Bool) → (c == 45) ≡ b → (d : Bool) → (x == 45) ≡ d → (b && (d && bytes_eq rest [])) ≡ false
+        → option_and_then long_of_rest (option_and_then (strip_byte 45) (cond b (Some (x ∷ rest)) None)) ≡ None
+        → has_no_short (option_and_then short_of_rest (cond b (Some (x ∷ rest)) None)) ≡ true
+        → not (c == 45) ≡ true
+    go false hyphen d second is long f = ap not hyphen
+    go true hyphen true second is long f =
+        absurd (no_double rest is (ap (λ (t : Bool). option_and_then long_of_rest (cond t (Some rest) None))
+        (sym second) ∙ long))
+    go true hyphen false second is long f =
+        absurd (character_behind x rest (subst (λ (k : ℕ). IsUtf8 (k ∷ x ∷ rest)) (eqb-true c 45 hyphen) utf8)
+        (ap (λ (t : Bool). has_no_short (cond t None (Some (x ∷ rest)))) (sym second) ∙ f))
+
+-- ---- what the definitions of the command line make of each kind of word
+
+module _ (is_operand : Text → Bool) (flag : Text) where
+  abbrev pub Means : Text → Kind → Type 0
+  Means word dashes = bytes_eq word (codes "--") ≡ true
+  Means word flagged = (bytes_eq word (codes "--") ≡ false) × (bytes_eq word (45 ∷ 45 ∷ flag) ≡ true)
+      × (as_report word ≡ None) × (is_operand word ≡ false)
+  Means word (filed value) = (bytes_eq word (codes "--") ≡ false) × (bytes_eq word (45 ∷ 45 ∷ flag) ≡ false)
+      × (as_report word ≡ Some value) × (is_operand word ≡ false)
+  Means word operand = (bytes_eq word (codes "--") ≡ false) × (bytes_eq word (45 ∷ 45 ∷ flag) ≡ false)
+      × (as_report word ≡ None) × (is_operand word ≡ true)
+  Means word odd = (bytes_eq word (codes "--") ≡ false) × (bytes_eq word (45 ∷ 45 ∷ flag) ≡ false)
+      × (as_report word ≡ None) × (is_operand word ≡ false)
+
+  pub means : (long_of (45 ∷ 45 ∷ flag) ≡ Some (flag, None)) → bytes_eq (codes "report") flag ≡ false
+      → ((word : Text) → is_operand word ≡ true → (bytes_eq word (codes "--") ≡ false) × (long_of word ≡ None))
+      → (word : Text) → Means word (kind is_operand flag word)
+  means long apart bare word =
+      go (bytes_eq word (codes "--")) refl (long_of word) refl (is_operand word) refl
+    where
+      other_name : (name : Text) (v : Option Text) → bytes_eq flag name ≡ false
+          → ◌≡◌ {A = Option (Text × Option Text)} (Some (flag, None)) (Some (name, v)) → ⊥
+      other_name name v e bad =
+          let same : flag ≡ name = ap (λ (o : Option (Text × Option Text)). option_map_or (λ q. q.0) o flag) bad in
+          true≢false (sym ((bytes_eq-Decides flag name).1 same) ∙ e)
+
+      no_worth : (name x : Text) → ◌≡◌ {A = Option (Text × Option Text)} (Some (flag, None)) (Some (name, Some x)) → ⊥
+      no_worth name x bad =
+          let worth : None ≡ Some x = ap (λ (o : Option (Text × Option Text)). option_map_or (λ q. q.1) o None) bad in cc
+
+      no_flag : (o : Option (Text × Option Text)) → long_of word ≡ o → (◌≡◌ {A = Option (Text × Option Text)} (Some (flag, None)) o → ⊥)
+          → bytes_eq word (45 ∷ 45 ∷ flag) ≡ false
+      no_flag o is never = false_from_ne_true (bytes_eq word (45 ∷ 45 ∷ flag))
+          (λ e. never (sym long ∙ sym (ap long_of ((bytes_eq-Decides word (45 ∷ 45 ∷ flag)).0 e)) ∙ is))
+
+      no_operand : (q : Text × Option Text) → long_of word ≡ Some q → is_operand word ≡ false
+      no_operand q is = false_from_ne_true (is_operand word) (λ e. none-some q (sym (bare word e).1 ∙ is))
+
+      -- what `--report` means of a word of this name
+      report : (name : Text) (v : Option Text) (b : Bool) → long_of word ≡ Some (name, v) → bytes_eq (codes "report") name ≡ b
+          → as_report word ≡ cond b (Some v) None
+      report name v b is e = ap report_option is ∙ ap (λ c. cond c (Some v) None) e
+
+      -- and of the flag's name
+      named_flag : (name : Text) → bytes_eq flag name ≡ true → bytes_eq (codes "report") name ≡ false
+      named_flag name e = ap (bytes_eq (codes "report")) (sym ((bytes_eq-Decides flag name).0 e)) ∙ apart
+
+      option : (name : Text) (v : Option Text) → bytes_eq word (codes "--") ≡ false → long_of word ≡ Some (name, v)
+          → (f : Bool) → bytes_eq flag name ≡ f → (r : Bool) → bytes_eq (codes "report") name ≡ r
+          → Means word (long_kind f r v)
+      option name None d is true e r g =
+          let same : flag ≡ name = (bytes_eq-Decides flag name).0 e in
+          let met = (bytes_eq-Decides word (45 ∷ 45 ∷ flag)).1 (long_text word name is ∙ ap (λ (t : Text). 45 ∷ 45 ∷ t) (sym same)) in
+          (d, met, report name None false is (named_flag name e), no_operand (name, None) is)
+      option name (Some x) d is true e r g = (
+        d,
+        no_flag (Some (name, Some x)) is (no_worth name x),
+        report name (Some x) false is (named_flag name e),
+        no_operand (name, Some x) is,
+      )
+      option name v d is false e true g =
+          (d, no_flag (Some (name, v)) is (other_name name v e), report name v true is g, no_operand (name, v) is)
+      option name v d is false e false g =
+          (d, no_flag (Some (name, v)) is (other_name name v e), report name v false is g, no_operand (name, v) is)
+
+      go : (d : Bool) → bytes_eq word (codes "--") ≡ d → (o : Option (Text × Option Text)) → long_of word ≡ o
+          → (b : Bool) → is_operand word ≡ b → Means word (cond d dashes (kind_by flag o b))
+      go true d o is b e = d
+      go false d None is true e = (d, no_flag None is (λ bad. cc), ap report_option is, e)
+      go false d None is false e = (d, no_flag None is (λ bad. cc), ap report_option is, e)
+      go false d (Some (name, v)) is b e = option name v d is (bytes_eq flag name) refl (bytes_eq (codes "report") name) refl

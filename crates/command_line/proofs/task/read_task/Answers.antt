@@ -1,9 +1,9 @@
 use Rattle.std.proofs.Common.{◌≡◌, true, map}
-use Rattle.command_line.proofs.Reading.{task_requested, given_as, handed_on, has_read, has_task, refused}
+use Rattle.command_line.proofs.Requested.{given_as, has_read, has_task, refused, task_requested, words_pass}
+use Rattle.clap.proofs.TakesLemmas.{passed_up}
 use Rattle.clap.specs.Words.{found_of, kind_of}
 use Rattle.clap.specs.declared.error.kind.ErrorKind.TheVariants.{OutOfMemory}
 use Rattle.command_line.specs.CommandLine.{is_well_formed}
-use Rattle.command_line.proofs.Complete.{words_pass}
 use Rattle.command_line.proofs.task.read_task.Goals as goal
 
 pub task_of-requires : goal.task_of-requires
@@ -24,7 +24,7 @@ returns-clause-requested c =
 
 pub returns-in_err-matches-clause-refused : goal.returns-in_err-matches-clause-refused
 returns-in_err-matches-clause-refused c =
-    handed_on c.from_residual-in_err-matches.result c.in_err-matches.field-0.0
+    passed_up c.from_residual-in_err-matches.result c.in_err-matches.field-0.0
     (λ e. is_well_formed (map (λ w. w.now) c.args.words.now) ≡ true → kind_of e ≡ OutOfMemory)
     c.from_residual-in_err-matches.ensures.1
     (λ formed. refused _ _ c.in_err-matches.field-0.0 c.in_ok-program.ensures c.in_err-matches.ensures.kinds

@@ -1,0 +1,327 @@
+-- A command of some paths, with a flag or not, and with `--report FILE` or not, as clap reads it: one word,
+-- the defaults, and the rows of what was used.
+use Rattle.std.proofs.Common.{◌&&◌, ◌+◌, ◌++◌, ◌==◌, ◌||◌, ◌≡◌, ◌∙◌, ◌∷◌, ℕ, Bool, List, None, Option, Some, [], ap, arith, codes, cond}
+use Rattle.std.proofs.Common.{false, is_some, length, not, refl, suc, sym, true, true≢false}
+use Rattle.std.specs.Prelude.{filter, fold, min, slice_get}
+use Rattle.std.specs.List.{list_all, list_any}
+use Rattle.std.specs.Option.{option_map_or}
+use Rattle.std.specs.Str.{bytes_eq, chars}
+use Rattle.std.proofs.lemmas.Slice.Eq.{bytes_eq-Decides}
+use Rattle.clap.specs.Facts.{explicit_source}
+use Rattle.clap.specs.Faults.{bundle_fault, bundle_step_fault, defaults_fault, flag_word_fault, flags_fault, given_default_fault, long_fault, other_fault}
+use Rattle.clap.specs.Faults.{short_fault}
+use Rattle.clap.specs.Kinds.{Kinds, or_else}
+use Rattle.clap.specs.Lexer.{long_of, short_of, usize_max}
+use Rattle.clap.specs.Simple.{Shape, filled, help_rule, new_shape, with_index}
+use Rattle.clap.specs.Takes.{is_given}
+use Rattle.clap.specs.Walk.{Held, Outcome, Row, Rule, Step, Text, Waiting, Walk, after_flag, arg_by_id, arg_by_index, arg_by_long, arg_by_short}
+use Rattle.clap.specs.Walk.{default_rows, has_row, idle, is_empty, long_or_other, long_word, plain, plain_word, reading_by, short_or_plain}
+use Rattle.clap.specs.Walk.{subcommand_or_other, trailing, with_default}
+use Rattle.clap.proofs.WalkLemmas.{both, bundle_ends}
+use Rattle.clap.proofs.FaultLemmas.{fault_ends}
+use Rattle.clap.specs.declared.error.kind.ErrorKind.{ErrorKind}
+use Rattle.command_line.specs.steps.Program.{flag_rule, path_rule, report_rule}
+use Rattle.command_line.proofs.Meaning.{Each}
+use Rattle.command_line.proofs.Rows.{flag_of, joined, kept, row, row_at, row_of, set_row, source_of, still}
+use Rattle.command_line.proofs.Scan.{Seen, has_no_short}
+
+-- ---- lists of kinds
+
+pub not_nil : {A : Type 0} (k : ErrorKind) (ks : Kinds) → k ∷ ks ≡ [] → A
+not_nil k ks e = let bad : suc (length ks) ≡ 0 = ap length e in absurd (omega arith)
+
+pub first_nil : (a b : Kinds) → or_else a b ≡ [] → a ≡ []
+first_nil [] b e = refl
+first_nil (k ∷ ks) b e = e
+
+pub then_nil : (a b : Kinds) → or_else a b ≡ [] → b ≡ []
+then_nil [] b e = e
+then_nil (k ∷ ks) b e = not_nil k ks e
+
+-- ---- one word, for any command whose one short flag asks for help
+
+abbrev pub Pending : Type 0
+Pending = Option (Text × List Text)
+
+abbrev pub at : List Row → Pending → Held
+at rows pending = record { rows = rows; pending = pending; skip = 0 }
+
+abbrev pub walk_with : Waiting → Held → ℕ → Bool → Walk
+walk_with waiting h p t = record { held = h; waiting = waiting; position = p; is_trailing = t; stopped = None }
+
+abbrev pub idle_walk : Held → ℕ → Bool → Walk
+idle_walk h p t = walk_with idle h p t
+
+abbrev pub AsksHelp : Shape → Type 0
+AsksHelp s = (x : ℕ) (rest : Text) (h : Held) (next : Held → Kinds)
+    → short_fault s.rules s.args_override_self (arg_by_short s.rules x) rest h next ≡ [] → ⊥
+
+module _ (s : Shape) (asks : AsksHelp s) (waiting : Waiting) (rows : List Row) (pending : Pending) (p : ℕ) (word : Text) where
+  abbrev h : Held
+  h = at rows pending
+
+  -- the word has this fault, and is this step
+  abbrev pub Met : Kinds → Held × Step → Type 0
+  Met fault m = (other_fault s None word h ≡ fault) × (subcommand_or_other s.rules None waiting p word h ≡ m)
+
+  pub long_step : (q : Text × Option Text) → bytes_eq word (codes "--") ≡ false → long_of word ≡ Some q
+      → Met (long_fault s.rules s.args_override_self (arg_by_long s.rules q.0) q.1 h)
+      (long_word s.rules waiting word q.0 q.1 h)
+  long_step q d long = (
+    λ j. cond (d j) [] (flag_word_fault s.rules s.args_override_self (long j) word h),
+    λ j. cond (d j) (h, trailing p) (long_or_other s.rules waiting word (long j) h),
+  )
+
+  no_character : (o : Option ℕ) → not (is_some o) ≡ true → None ≡ o
+  no_character None e = refl
+  no_character (Some x) e = absurd (true≢false (sym e))
+
+  pub plain_step : bytes_eq word (codes "--") ≡ false → long_of word ≡ None → has_no_short (short_of word) ≡ true
+      → Met [] (plain_word s.rules waiting word h)
+  plain_step d long no_short = go (short_of word) no_short (
+    λ j. cond (d j) [] (flag_word_fault s.rules s.args_override_self (long j) word h),
+    λ j. cond (d j) (h, trailing p) (long_or_other s.rules waiting word (long j) h),
+  )
+    where
+      go : (u : Option Text) → has_no_short u ≡ true
+          → Met (option_map_or (λ flags. bundle_fault s.rules s.args_override_self flags h) u [])
+          (short_or_plain s.rules waiting word u h) → Met [] (plain_word s.rules waiting word h)
+      go None e met = met
+      go (Some flags) e met =
+          let none : None ≡ slice_get (chars flags) 0 = no_character (slice_get (chars flags) 0) e in (
+            met.0 ∙ sym (fault_ends s.rules s.args_override_self (length flags) flags 0 h none),
+            met.1 ∙ ap (λ (q : Held × Outcome). after_flag s.rules waiting word q.0 q.1)
+                (sym (bundle_ends s.rules (length flags) flags 0 plain h none)),
+          )
+
+  pub short_step : bytes_eq word (codes "--") ≡ false → long_of word ≡ None → has_no_short (short_of word) ≡ false
+      → other_fault s None word h ≡ [] → ⊥
+  unfolding flags_fault chars
+  short_step d long short e =
+      go (short_of word) short (sym (λ j. cond (d j) [] (flag_word_fault s.rules s.args_override_self (long j) word h)) ∙ e)
+    where
+      first : (k : ℕ) (o : Option ℕ) (flags : Text) → not (is_some o) ≡ false
+          → bundle_step_fault s.rules s.args_override_self o flags 0 h (flags_fault s.rules s.args_override_self k) ≡ [] → ⊥
+      first k None flags none f = true≢false none
+      first k (Some x) flags none f = asks x _ _ _ f
+
+      go : (u : Option Text) → has_no_short u ≡ false
+          → option_map_or (λ flags. bundle_fault s.rules s.args_override_self flags h) u [] ≡ [] → ⊥
+      go None none f = true≢false none
+      go (Some []) none f = true≢false none
+      go (Some (x ∷ rest)) none f = first (length rest) (slice_get (chars (x ∷ rest)) 0) (x ∷ rest) none f
+
+-- ---- the command
+
+abbrev pub leaf : Text → List Rule → Shape
+leaf name rules = record (new_shape name) { rules = rules; disable_help_subcommand = true; is_built = true }
+
+abbrev pub help : Rule
+help = with_index 1 (filled help_rule)
+
+abbrev pub flag_filled : Text → Rule
+flag_filled flag = filled (flag_rule flag)
+
+abbrev pub report_filled : Rule
+report_filled = filled report_rule
+
+-- the option of a name, where the command has the flag or not, and `--report` or not
+abbrev pub option_by : Bool → Bool → Text → Text → Option Rule
+option_by has_flag has_file flag name =
+    let other = cond (bytes_eq (codes "help") name || false) (Some help) None in
+    let file = cond (bytes_eq (codes "report") name || false) (cond has_file (Some report_filled) other) other in
+    cond (bytes_eq flag name || false) (cond has_flag (Some (flag_filled flag)) file) file
+
+abbrev pub place_of : Text → ℕ → Rule
+place_of id p = with_index p (filled (path_rule id))
+
+abbrev pub Other : Text → List Text → Type 0
+Other id others = Each (λ other. bytes_eq id other ≡ false) others
+
+-- the paths from a position on, each with an id of its own
+abbrev pub Paths : List Rule → Text → ℕ → List Text → Type 0
+Paths rules flag p [] = arg_by_index rules p ≡ None
+Paths rules flag p (id ∷ left) =
+    (arg_by_index rules p ≡ Some (place_of id p)) × (arg_by_id rules id ≡ Some (place_of id p))
+    × Other id (flag ∷ codes "report" ∷ left) × (bytes_eq flag id ≡ false) × (bytes_eq (codes "report") id ≡ false)
+    × Paths rules flag (min (p + 1) usize_max) left
+
+abbrev is_nil : {A : Type 0} → List A → Bool
+is_nil [] = true
+is_nil (x ∷ xs) = false
+
+abbrev pub has_default : Rule → Bool
+has_default a = not (is_nil a.defaults)
+
+-- and its default passes its parser
+abbrev pub is_defaulted : Rule → Bool
+is_defaulted a = is_nil a.defaults || is_nil (given_default_fault a a.defaults)
+
+abbrev pub lacks : List Row → List Text → Bool
+lacks rows ids = list_any (λ id. not (is_given id rows)) ids
+
+-- the form of a subcommand: its rules, the ids of its paths, its flag if it has one, whether it has
+-- `--report`, and with what the pass over its words begins
+pub record Form : Type 0 where
+  pub name : Text
+  pub rules : List Rule
+  pub ids : List Text
+  pub has_flag : Bool
+  pub has_file : Bool
+  pub flag : Text
+  pub met : Bool
+  pub file : Option Text
+
+-- the rules are those of the form
+pub record IsCommand (c : Form) : Type 0 where
+  pub shorts : (x : ℕ) → arg_by_short c.rules x ≡ cond (104 == x || false) (Some help) None
+  pub longs : (name : Text) → arg_by_long c.rules name ≡ option_by c.has_flag c.has_file c.flag name
+  pub report : c.has_file ≡ true → arg_by_id c.rules (codes "report") ≡ Some report_filled
+  pub paths : Paths c.rules c.flag 1 c.ids
+  pub apart : (bytes_eq c.flag (codes "report") ≡ false) × (bytes_eq (codes "report") c.flag ≡ false)
+  pub defaulted : filter has_default c.rules ≡ cond c.has_flag (flag_filled c.flag ∷ []) []
+  pub defaults : list_all is_defaulted c.rules ≡ true
+  pub required : (rows : List Row) → list_any (λ a. a.required && not (is_given a.id rows)) c.rules ≡ lacks rows c.ids
+
+-- ---- defaults
+
+pub filter_defaults : (rules : List Rule) (all : List Row)
+    → fold with_default all rules ≡ fold with_default all (filter has_default rules)
+filter_defaults [] all = refl
+filter_defaults (a ∷ rest) all = go a.defaults refl (filter_defaults rest)
+  where
+    same : (b : Bool) → cond b all all ≡ all
+    same true = refl
+    same false = refl
+
+    go : (ds : List Text) → a.defaults ≡ ds
+        → ((rows : List Row) → fold with_default rows rest ≡ fold with_default rows (filter has_default rest))
+        → fold with_default (with_default all a) rest
+        ≡ fold with_default all (cond (not (is_nil ds)) (a ∷ filter has_default rest) (filter has_default rest))
+    go [] is more =
+        ap (λ x. fold with_default x rest)
+        (ap (λ ds. cond (has_row a.id all) all (default_rows a.id (reading_by a) ds all)) is ∙ same (has_row a.id all))
+        ∙ more all
+    go (d ∷ ds) is more = more (with_default all a)
+
+pub defaults_pass : (rules : List Rule) (all : List Row) → list_all is_defaulted rules ≡ true → defaults_fault all rules ≡ []
+unfolding defaults_fault
+defaults_pass [] all e = refl
+defaults_pass (a ∷ rest) all e =
+    let p = both (is_defaulted a) (list_all is_defaulted rest) e in
+    ap (λ k. or_else k (defaults_fault (with_default all a) rest)) (go a.defaults (given_default_fault a a.defaults) p.0)
+    ∙ defaults_pass rest (with_default all a) p.1
+  where
+    none : (b : Bool) → ◌≡◌ {A = Kinds} (cond b [] []) []
+    none true = refl
+    none false = refl
+
+    sure : (b : Bool) (k : Kinds) → cond (b || true) [] k ≡ []
+    sure true k = refl
+    sure false k = refl
+
+    go : (ds : List Text) (k : Kinds) → (is_nil ds || is_nil k) ≡ true → cond (has_row a.id all || is_empty ds) [] k ≡ []
+    go [] k e = sure (has_row a.id all) k
+    go (d ∷ ds) [] e = none (has_row a.id all || is_empty (d ∷ ds))
+    go (d ∷ ds) (k ∷ ks) e = absurd (true≢false (sym e))
+
+-- ---- the rows
+
+abbrev pub Keeps : List Row → List Row → Type 0
+Keeps all final = (id : Text) (r : Row) → row_at id all ≡ Some r → row_at id final ≡ Some r
+
+-- the operands are the values of the paths
+abbrev pub Values : List Row → List Text → List Text → Type 0
+Values rows (id ∷ ids) (word ∷ ops) = (row_at id rows ≡ Some (row id word)) × Values rows ids ops
+Values rows [] [] = Unit {0}
+Values rows _ _ = ⊥
+
+each_kept : (r : Row) (all : List Row) (left : List Text) → Other r.id left → Each (λ id. row_at id all ≡ None) left
+    → Each (λ id. row_at id (all ++ r ∷ []) ≡ None) left
+each_kept r all [] other none = tt
+each_kept r all (id ∷ left) other none = (kept id all r other.0 ∙ none.0, each_kept r all left other.1 none.1)
+
+pub keeps_more : (all final : List Row) (r : Row) → Keeps (all ++ r ∷ []) final → Keeps all final
+keeps_more all final r keeps id x is = keeps id x (still id all (r ∷ []) x is)
+
+pub newly : (all : List Row) (r : Row) → row_at r.id all ≡ None → row_at r.id (all ++ r ∷ []) ≡ Some r
+newly all r none = joined r.id all r none ∙ ap (λ b. cond b (Some r) None) ((bytes_eq-Decides r.id r.id).1 refl)
+
+module _ (c : Form) where
+  -- what is known of the rows on the way
+  pub record Fits (all : List Row) (left : List Text) (met : Bool) (file : Option Text) : Type 0 where
+    pub unused : Each (λ id. row_at id all ≡ None) left
+    pub flagged : c.has_flag ≡ true → row_at c.flag all ≡ flag_of c.flag met
+    pub unflagged : c.has_flag ≡ false → met ≡ true
+    pub filed : c.has_file ≡ true → row_at (codes "report") all ≡ row_of (codes "report") file
+    pub unfiled : c.has_file ≡ false → is_some file ≡ true
+    pub owes : (final : List Row) → Keeps all final → lacks final c.ids ≡ lacks final left
+
+  -- and of those at the end
+  pub record Gives (all : List Row) (left : List Text) (seen : Seen) (final : List Row) : Type 0 where
+    pub keeps : Keeps all final
+    pub values : Values final left seen.0
+    pub flagged : c.has_flag ≡ true → row_at c.flag final ≡ Some (source_of c.flag seen.1)
+    pub filed : c.has_file ≡ true → row_at (codes "report") final ≡ row_of (codes "report") seen.2
+
+  pub fits_path : (all : List Row) (id word : Text) (left : List Text) (met : Bool) (file : Option Text)
+      → Other id (c.flag ∷ codes "report" ∷ left) → Fits all (id ∷ left) met file
+      → Fits (all ++ row id word ∷ []) left met file
+  fits_path all id word left met file other fits = record {
+    unused = each_kept (row id word) all left other.1.1 fits.unused.1;
+    flagged = λ so. kept c.flag all (row id word) other.0 ∙ fits.flagged so;
+    unflagged = fits.unflagged;
+    filed = λ so. kept (codes "report") all (row id word) other.1.0 ∙ fits.filed so;
+    unfiled = fits.unfiled;
+    owes = λ final keeps.
+        fits.owes final (keeps_more all final (row id word) keeps)
+        ∙ ap (λ (o : Option Row). not (option_map_or (λ r. explicit_source r.source) o false) || lacks final left)
+        (keeps id (row id word) (newly all (row id word) fits.unused.0));
+  }
+
+  pub gives_path : (all : List Row) (id word : Text) (left : List Text) (seen : Seen) (final : List Row) → row_at id all ≡ None
+      → Gives (all ++ row id word ∷ []) left seen final
+      → Gives all (id ∷ left) (word ∷ seen.0, seen.1, seen.2) final
+  gives_path all id word left seen final none gives = record {
+    keeps = keeps_more all final (row id word) gives.keeps;
+    values = (gives.keeps id (row id word) (newly all (row id word) none), gives.values);
+    flagged = gives.flagged;
+    filed = gives.filed;
+  }
+
+  pub gives_option : (all : List Row) (r : Row) (left : List Text) (seen : Seen) (final : List Row)
+      → Gives (all ++ r ∷ []) left seen final → Gives all left seen final
+  gives_option all r left seen final gives = record {
+    keeps = keeps_more all final r gives.keeps;
+    values = gives.values;
+    flagged = gives.flagged;
+    filed = gives.filed;
+  }
+
+  owes_more : (all : List Row) (r : Row) (left : List Text)
+      → ((final : List Row) → Keeps all final → lacks final c.ids ≡ lacks final left)
+      → (final : List Row) → Keeps (all ++ r ∷ []) final → lacks final c.ids ≡ lacks final left
+  owes_more all r left owes final keeps = owes final (keeps_more all final r keeps)
+
+  pub fits_flag : (all : List Row) (left : List Text) (file : Option Text) → c.has_flag ≡ true
+      → Other c.flag (codes "report" ∷ left) → Fits all left false file → Fits (all ++ set_row c.flag ∷ []) left true file
+  fits_flag all left file so other fits = record {
+    unused = each_kept (set_row c.flag) all left other.1 fits.unused;
+    flagged = λ _. newly all (set_row c.flag) (fits.flagged so);
+    unflagged = λ _. refl;
+    filed = λ f. kept (codes "report") all (set_row c.flag) other.0 ∙ fits.filed f;
+    unfiled = fits.unfiled;
+    owes = owes_more all (set_row c.flag) left fits.owes;
+  }
+
+  pub fits_file : (all : List Row) (left : List Text) (met : Bool) (f : Text) → c.has_file ≡ true
+      → Other (codes "report") (c.flag ∷ left) → Fits all left met None
+      → Fits (all ++ row (codes "report") f ∷ []) left met (Some f)
+  fits_file all left met f so other fits = record {
+    unused = each_kept (row (codes "report") f) all left other.1 fits.unused;
+    flagged = λ b. kept c.flag all (row (codes "report") f) other.0 ∙ fits.flagged b;
+    unflagged = fits.unflagged;
+    filed = λ _. newly all (row (codes "report") f) (fits.filed so);
+    unfiled = λ _. refl;
+    owes = owes_more all (row (codes "report") f) left fits.owes;
+  }

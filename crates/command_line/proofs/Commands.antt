@@ -1,0 +1,369 @@
+-- The program's three subcommands, and which of them the words name.
+use Rattle.std.proofs.Common.{◌==◌, ◌||◌, ◌≡◌, ◌∙◌, ◌∷◌, ℕ, Bool, List, None, Option, Some, [], ap, codes, cond, false}
+use Rattle.std.proofs.Common.{is_some, refl, rules, subst, sym, true, true≢false}
+use Rattle.std.specs.Prelude.{fold, option_map}
+use Rattle.std.specs.List.{slice_index_or}
+use Rattle.std.specs.Str.{bytes_eq}
+use Rattle.std.proofs.lemmas.Slice.Eq.{bytes_eq-Decides}
+use Rattle.clap.specs.Faults.{check_fault, stray_fault, defaults_fault, entered_fault, fault_of, flag_word_fault, level_fault, long_fault, other_fault}
+use Rattle.clap.specs.Faults.{settle_fault, short_fault, step_fault, turn_fault, walk_fault}
+use Rattle.clap.specs.Kinds.{Kinds, or_else}
+use Rattle.clap.specs.Lexer.{long_of, short_of}
+use Rattle.clap.specs.Simple.{App, Shape, built, entered, filled, names_of, new_shape, subcommand_of, version_rule, with_index}
+use Rattle.clap.specs.Walk.{Held, Names, Row, Rule, Step, Text, Walk, after_step, arg_by_long, finished, idle, long_or_other, long_word, nothing_held}
+use Rattle.clap.specs.Walk.{rows_after, settled, subcommand_met, subcommand_or_other, trailing, value, walked}
+use Rattle.clap.specs.declared.error.kind.ErrorKind.TheVariants.{InvalidSubcommand, UnknownArgument}
+use Rattle.clap.proofs.FaultLemmas.{stopped_fault}
+use Rattle.clap.proofs.OnLiterals.{clap_on_literals}
+use Rattle.clap.proofs.WalkLemmas.{walk_stopped}
+use Rattle.command_line.specs.steps.Program.{flag_rule, program_app}
+use Rattle.command_line.proofs.Command.{AsksHelp, Fits, Form, Gives, IsCommand, Met, first_nil, help, idle_walk, leaf, long_step, not_nil, option_by}
+use Rattle.command_line.proofs.Command.{plain_step, short_step, then_nil}
+use Rattle.command_line.proofs.Parse.{AnswersAt, parsed}
+use Rattle.command_line.proofs.Scan.{Seen, before, has_no_short, is_taken, scan}
+
+abbrev pub whole : App
+whole = built program_app
+
+abbrev pub top : Shape
+top = whole.top
+
+abbrev pub sub : ℕ → Shape
+sub i = slice_index_or whole.subs i (new_shape [])
+
+abbrev version : Rule
+version = with_index 1 (filled version_rule)
+
+abbrev pub names : Names
+names = names_of whole
+
+-- ---- the subcommands
+
+abbrev pub run_form : Form
+run_form = record {
+  name = codes "run";
+  rules = (sub 0).rules;
+  ids = codes "rules" ∷ codes "plant" ∷ codes "input" ∷ codes "output" ∷ [];
+  has_flag = true;
+  has_file = true;
+  flag = codes "trace";
+  met = false;
+  file = None;
+}
+
+abbrev pub check_form : Form
+check_form = record {
+  name = codes "check";
+  rules = (sub 1).rules;
+  ids = codes "rules" ∷ codes "plant" ∷ [];
+  has_flag = true;
+  has_file = false;
+  flag = codes "all";
+  met = false;
+  file = Some [];
+}
+
+-- its flag is none, as if it had been met
+abbrev pub explain_form : Form
+explain_form = record {
+  name = codes "explain";
+  rules = (sub 2).rules;
+  ids = codes "code" ∷ [];
+  has_flag = false;
+  has_file = false;
+  flag = codes "all";
+  met = true;
+  file = Some [];
+}
+
+either : (b : Bool) (o : Option Rule) → cond b o o ≡ o
+either true o = refl
+either false o = refl
+
+all_longs : (name : Text) → arg_by_long (sub 1).rules name ≡ option_by true false (codes "all") name
+all_longs name =
+    ap (λ o. cond (bytes_eq (codes "all") name || false) (Some (filled (flag_rule (codes "all")))) o) (sym (either _ _))
+
+no_longs : (name : Text) → arg_by_long (sub 2).rules name ≡ option_by false false (codes "all") name
+no_longs name = sym (either (bytes_eq (codes "all") name || false) _ ∙ either (bytes_eq (codes "report") name || false) _)
+
+run_command : IsCommand run_form
+run_command = search rules
+
+check_command : IsCommand check_form
+check_command = search (rules, all_longs)
+
+explain_command : IsCommand explain_form
+explain_command = search (rules, no_longs)
+
+run_begins : Fits run_form [] run_form.ids false None
+run_begins = search rules
+
+check_begins : Fits check_form [] check_form.ids false (Some [])
+check_begins = search rules
+
+explain_begins : Fits explain_form [] explain_form.ids true (Some [])
+explain_begins = search rules
+
+-- what the pass finds in the words of a subcommand, and the rows of it
+abbrev pub Took : Form → List Text → List Row → Type 0
+Took c rest rows = (seen : Seen) × (scan is_taken c.flag rest before c.ids c.met c.file ≡ Some seen) × Gives c [] c.ids seen rows
+
+abbrev level : Form → List Text → Kinds
+level c rest = level_fault (leaf c.name c.rules) [] nothing_held rest false []
+
+abbrev Answer : (c : Form) → IsCommand c → List Text → Option Seen → Type 0
+Answer c is rest seen =
+    AnswersAt c is (level c rest) (fold (walked c.rules []) (idle_walk nothing_held 1 false) rest) [] c.ids seen
+
+module _ (c : Form) (is : IsCommand c) (begins : Fits c [] c.ids c.met c.file) (rest : List Text) where
+  answer : Answer c is rest (scan is_taken c.flag rest before c.ids c.met c.file)
+  answer = parsed c is false rest c.ids c.met c.file 1 [] [] None is.paths (refl, refl) begins
+
+  took : level c rest ≡ [] → Took c rest (rows_after c.rules [] rest)
+  took e = go (scan is_taken c.flag rest before c.ids c.met c.file) refl answer
+    where
+      go : (o : Option Seen) → scan is_taken c.flag rest before c.ids c.met c.file ≡ o → Answer c is rest o
+          → Took c rest (rows_after c.rules [] rest)
+      go None found a = absurd (a e)
+      go (Some seen) found a = (seen, found, a.1)
+
+  takes : (seen : Seen) → scan is_taken c.flag rest before c.ids c.met c.file ≡ Some seen → level c rest ≡ []
+  takes seen found = (subst (Answer c is rest) found answer).0
+
+-- ---- the subcommand that the words name
+
+abbrev stopped_at : Text → List Text → Walk
+stopped_at name seen = record (idle_walk nothing_held 1 false) { stopped = Some (name, seen) }
+
+abbrev first : Walk
+first = idle_walk nothing_held 1 false
+
+-- what may be at fault once the words are walked
+abbrev later : Walk → Kinds
+later w = or_else (settle_fault top.rules top.args_override_self w.held)
+    (or_else (defaults_fault (settled top.rules w.held).rows top.rules)
+    (check_fault top (finished top.rules w.held) (is_some (entered whole w.stopped))))
+
+abbrev ended : Walk → Kinds
+ended w = or_else (entered_fault whole w.stopped) (later w)
+
+nothing_else : (k : Kinds) → or_else k [] ≡ k
+nothing_else [] = refl
+nothing_else (k ∷ ks) = refl
+
+-- the words after the subcommand's name decide
+abbrev Enters : Form → Text → List Text → Type 0
+Enters c program rest = (fault_of program_app (program ∷ c.name ∷ rest) ≡ level c rest)
+    × (subcommand_of program_app (program ∷ c.name ∷ rest) ≡ Some (c.name, rows_after c.rules [] rest))
+
+enters : (c : Form) (program : Text) (rest : List Text)
+    → ◌≡◌ {A = Walk} (fold (walked top.rules names) first (c.name ∷ rest)) (fold (walked top.rules names) (stopped_at c.name []) rest)
+    → walk_fault top names first (c.name ∷ rest) ≡ walk_fault top names (stopped_at c.name []) rest
+    → ended (stopped_at c.name rest) ≡ or_else (level c rest) []
+    → entered whole (Some (c.name, rest)) ≡ Some (c.name, rows_after c.rules [] rest) → Enters c program rest
+enters c program rest goes faults ends met =
+    let stops : ◌≡◌ {A = Walk} (fold (walked top.rules names) first (c.name ∷ rest)) (stopped_at c.name rest) =
+    goes ∙ sym (walk_stopped top.rules names first c.name [] rest) in (
+      ap (λ x. or_else x (ended (fold (walked top.rules names) first (c.name ∷ rest))))
+          (faults ∙ stopped_fault top names first (c.name, []) rest)
+          ∙ ap ended stops ∙ ends ∙ nothing_else (level c rest),
+      ap (λ (w : Walk). entered whole w.stopped) stops ∙ met,
+    )
+
+-- a subcommand of the program
+pub record IsSubcommand (c : Form) : Type 0 where
+  pub command : IsCommand c
+  pub begins : Fits c [] c.ids c.met c.file
+  pub long : long_of (45 ∷ 45 ∷ c.flag) ≡ Some (c.flag, None)
+  pub enters : (program : Text) (rest : List Text) → Enters c program rest
+
+pub run_sub : IsSubcommand run_form
+unfolding clap_on_literals
+run_sub = record {
+  command = run_command;
+  begins = run_begins;
+  long = refl;
+  enters = λ program rest. enters run_form program rest refl refl refl refl;
+}
+
+pub check_sub : IsSubcommand check_form
+unfolding clap_on_literals
+check_sub = record {
+  command = check_command;
+  begins = check_begins;
+  long = refl;
+  enters = λ program rest. enters check_form program rest refl refl refl refl;
+}
+
+pub explain_sub : IsSubcommand explain_form
+unfolding clap_on_literals
+explain_sub = record {
+  command = explain_command;
+  begins = explain_begins;
+  long = refl;
+  enters = λ program rest. enters explain_form program rest refl refl refl refl;
+}
+
+-- ---- other words
+
+shown_long : (c : List Rule) (b d : Bool) (v : Option Text) (h : Held)
+    → long_fault c false (cond b (Some help) (cond d (Some version) None)) v h ≡ [] → ⊥
+shown_long c true d (Some x) h e = not_nil _ _ e
+shown_long c true d None h e = not_nil _ _ (then_nil _ _ e)
+shown_long c false true (Some x) h e = not_nil _ _ e
+shown_long c false true None h e = not_nil _ _ (then_nil _ _ e)
+shown_long c false false v h e = not_nil _ _ e
+
+shown_short : (c : List Rule) (b d : Bool) (rest : Text) (h : Held) (more : Held → Kinds)
+    → short_fault c false (cond b (Some help) (cond d (Some version) None)) rest h more ≡ [] → ⊥
+shown_short c true d rest h more e = not_nil _ _ (then_nil _ _ (first_nil _ _ e))
+shown_short c false true rest h more e = not_nil _ _ (then_nil _ _ (first_nil _ _ e))
+shown_short c false false rest h more e = not_nil _ _ e
+
+top_asks : AsksHelp top
+top_asks x rest h more e = shown_short top.rules (104 == x || false) (86 == x || false) rest h more e
+
+-- after a `--` there is no subcommand
+stray : (rest : List Text) → or_else (walk_fault top names (idle_walk nothing_held 1 true) rest)
+    (ended (fold (walked top.rules names) (idle_walk nothing_held 1 true) rest)) ≡ [] → ⊥
+unfolding walked walk_fault defaults_fault
+stray [] e = not_nil _ _ e
+stray (word ∷ rest) e =
+    let w = idle_walk nothing_held 1 true in
+    let after = walked top.rules names w word in
+    not_nil _ _ (first_nil (turn_fault top names w word) (walk_fault top names after rest)
+    (first_nil (walk_fault top names w (word ∷ rest)) (ended (fold (walked top.rules names) after rest)) e))
+
+module _ (program word : Text) (rest : List Text) where
+  -- the faults where the word has this one and is this step
+  abbrev From : Kinds → Held × Step → Kinds
+  From k m =
+      let w = after_step top.rules word first m.0 m.1 in
+      or_else (or_else (or_else k (step_fault top 1 m.0 m.1)) (walk_fault top names w rest))
+      (ended (fold (walked top.rules names) w rest))
+
+  from_nil : (k : Kinds) (m : Held × Step) → From k m ≡ [] → (k ≡ []) × (step_fault top 1 m.0 m.1 ≡ [])
+  from_nil k m e =
+      let w = after_step top.rules word first m.0 m.1 in
+      let turn = or_else k (step_fault top 1 m.0 m.1) in
+      let last = ended (fold (walked top.rules names) w rest) in
+      let one : turn ≡ [] = first_nil turn (walk_fault top names w rest) (first_nil (or_else turn (walk_fault top names w rest)) last e) in
+      (first_nil k (step_fault top 1 m.0 m.1) one, then_nil k (step_fault top 1 m.0 m.1) one)
+
+  met_nil : (k : Kinds) (m : Held × Step) → Met top top_asks idle [] None 1 word k m
+      → From (other_fault top None word nothing_held) (subcommand_or_other top.rules None idle 1 word nothing_held) ≡ []
+      → (k ≡ []) × (step_fault top 1 m.0 m.1 ≡ [])
+  met_nil k m met e = from_nil k m (sym (λ j. From (met.0 j) (met.1 j)) ∙ e)
+
+  word_fault : (met : Option Text) → subcommand_met names idle word ≡ met → fault_of program_app (program ∷ word ∷ rest)
+      ≡ From (other_fault top met word nothing_held) (subcommand_or_other top.rules met idle 1 word nothing_held)
+  unfolding walked walk_fault
+  word_fault met is = ap (λ (o : Option Text). From (other_fault top o word nothing_held)
+      (subcommand_or_other top.rules o idle 1 word nothing_held)) is
+
+  helped : subcommand_met names idle word ≡ Some (codes "help") → fault_of program_app (program ∷ word ∷ rest) ≡ [] → ⊥
+  helped met e = not_nil _ _ (from_nil (other_fault top (Some (codes "help")) word nothing_held)
+      (subcommand_or_other top.rules (Some (codes "help")) idle 1 word nothing_held) (sym (word_fault (Some (codes "help")) met) ∙ e)).0
+
+  stranger : subcommand_met names idle word ≡ None → fault_of program_app (program ∷ word ∷ rest) ≡ [] → ⊥
+  stranger none e =
+      go (bytes_eq word (codes "--")) refl (long_of word) refl (has_no_short (short_of word)) refl (sym (word_fault None none) ∙ e)
+    where
+      go : (d : Bool) → bytes_eq word (codes "--") ≡ d → (o : Option (Text × Option Text)) → long_of word ≡ o
+          → (b : Bool) → has_no_short (short_of word) ≡ b
+          → From (other_fault top None word nothing_held) (subcommand_or_other top.rules None idle 1 word nothing_held) ≡ [] → ⊥
+      go true d o long b short f = stray rest (sym (λ j. From (cond (d j) [] (flag_word_fault top.rules false (long_of word) word nothing_held))
+          (cond (d j) (nothing_held, trailing 1) (long_or_other top.rules idle word (long_of word) nothing_held))) ∙ f)
+      go false d (Some q) long b short f =
+          shown_long top.rules (bytes_eq (codes "help") q.0 || false) (bytes_eq (codes "version") q.0 || false) q.1 nothing_held
+          (met_nil (long_fault top.rules top.args_override_self (arg_by_long top.rules q.0) q.1 nothing_held)
+          (long_word top.rules idle word q.0 q.1 nothing_held) (long_step top top_asks idle [] None 1 word q d long) f).0
+      go false d None long true short f =
+          let met = plain_step top top_asks idle [] None 1 word d long short in
+          let bad : step_fault top 1 nothing_held value ≡ [] = (met_nil [] (nothing_held, value) met f).1 in
+          let none : stray_fault top ≡ [] = bad in
+          not_nil UnknownArgument (InvalidSubcommand ∷ []) none
+      go false d None long false short f = short_step top top_asks idle [] None 1 word d long short
+          (from_nil (other_fault top None word nothing_held)
+          (subcommand_or_other top.rules None idle 1 word nothing_held) f).0
+
+-- ---- the words of a task
+
+-- what the rows of the subcommand of this name are
+pub record TookTask (name : Text) (rest : List Text) (rows : List Row) : Type 0 where
+  pub check : bytes_eq name (codes "check") ≡ true → Took check_form rest rows
+  pub explaining : bytes_eq name (codes "explain") ≡ true → Took explain_form rest rows
+  pub run : bytes_eq name (codes "check") ≡ false → bytes_eq name (codes "explain") ≡ false
+      → (name ≡ codes "run") × Took run_form rest rows
+
+took_run : (rest : List Text) (rows : List Row) → Took run_form rest rows → TookTask (codes "run") rest rows
+took_run rest rows took = record {
+  check = λ bad. absurd (true≢false (sym bad));
+  explaining = λ bad. absurd (true≢false (sym bad));
+  run = λ _ _. (refl, took);
+}
+
+took_check : (rest : List Text) (rows : List Row) → Took check_form rest rows → TookTask (codes "check") rest rows
+took_check rest rows took = record {
+  check = λ _. took;
+  explaining = λ bad. absurd (true≢false (sym bad));
+  run = λ bad _. absurd (true≢false bad);
+}
+
+took_explain : (rest : List Text) (rows : List Row) → Took explain_form rest rows → TookTask (codes "explain") rest rows
+took_explain rest rows took = record {
+  check = λ bad. absurd (true≢false (sym bad));
+  explaining = λ _. took;
+  run = λ _ bad. absurd (true≢false bad);
+}
+
+-- words without a fault are the program's name, a subcommand and its words
+abbrev pub IsRead : List Text → Type 0
+IsRead words = (program : Text) × (name : Text) × (rest : List Text) × (rows : List Row) × (words ≡ program ∷ name ∷ rest)
+    × (subcommand_of program_app words ≡ Some (name, rows)) × TookTask name rest rows
+
+read_as : (c : Form) → IsSubcommand c → (program word : Text) (rest : List Text)
+    → ((rows : List Row) → Took c rest rows → TookTask c.name rest rows) → bytes_eq c.name word ≡ true
+    → fault_of program_app (program ∷ word ∷ rest) ≡ [] → IsRead (program ∷ word ∷ rest)
+read_as c is program word rest task named e =
+    let same : c.name ≡ word = (bytes_eq-Decides c.name word).0 named in
+    let enters = is.enters program rest in
+    subst (λ (w : Text). fault_of program_app (program ∷ w ∷ rest) ≡ [] → IsRead (program ∷ w ∷ rest)) same
+    (λ f. (
+      program,
+      c.name,
+      rest,
+      rows_after c.rules [] rest,
+      refl,
+      enters.1,
+      task _ (took c is.command is.begins rest (sym enters.0 ∙ f)),
+    )) e
+
+abbrev name_by : Bool → Bool → Bool → Bool → Option Text
+name_by r c x h = option_map (λ (s : Text × List Text). s.0)
+    (cond (r || false) (Some (codes "run", [])) (cond (c || false) (Some (codes "check", []))
+    (cond (x || false) (Some (codes "explain", [])) (cond (h || false) (Some (codes "help", [])) None))))
+
+pub task_read : (words : List Text) → fault_of program_app words ≡ [] → IsRead words
+unfolding clap_on_literals
+task_read [] e = not_nil _ _ e
+task_read (program ∷ []) e = not_nil _ _ e
+task_read (program ∷ word ∷ rest) e =
+    go (bytes_eq (codes "run") word) refl (bytes_eq (codes "check") word) refl (bytes_eq (codes "explain") word) refl
+    (bytes_eq (codes "help") word) refl
+  where
+    go : (r : Bool) → bytes_eq (codes "run") word ≡ r → (c : Bool) → bytes_eq (codes "check") word ≡ c
+        → (x : Bool) → bytes_eq (codes "explain") word ≡ x → (h : Bool) → subcommand_met names idle word ≡ name_by r c x h
+        → IsRead (program ∷ word ∷ rest)
+    go true is c f x g h met = read_as run_form run_sub program word rest (took_run rest) is e
+    go false is true f x g h met = read_as check_form check_sub program word rest (took_check rest) f e
+    go false is false f true g h met = read_as explain_form explain_sub program word rest (took_explain rest) g e
+    go false is false f false g true met = absurd (helped program word rest met e)
+    go false is false f false g false met = absurd (stranger program word rest met e)
+
+-- words in which the pass finds something have no fault
+pub found_passes : (c : Form) → IsSubcommand c → (program : Text) (rest : List Text) (seen : Seen)
+    → scan is_taken c.flag rest before c.ids c.met c.file ≡ Some seen → fault_of program_app (program ∷ c.name ∷ rest) ≡ []
+found_passes c is program rest seen found =
+    (is.enters program rest).0 ∙ takes c is.command is.begins rest seen found

@@ -1,0 +1,303 @@
+-- The pass over the words finds what the definitions of the command line say.
+use Rattle.std.proofs.Common.{◌&&◌, ◌==◌, ◌≡◌, ◌∙◌, ◌∷◌, ℕ, Bool, List, None, Option, Some, [], ap, arith, codes, cond, eq-eqb, eqb-true}
+use Rattle.std.proofs.Common.{false, length, refl, suc, sym, true, true≢false}
+use Rattle.std.specs.Prelude.{slice_get}
+use Rattle.std.specs.Option.{option_map_or}
+use Rattle.std.specs.Str.{bytes_eq}
+use Rattle.clap.specs.Lexer.{long_of}
+use Rattle.clap.specs.Walk.{Text}
+use Rattle.clap.proofs.WalkLemmas.{both}
+use Rattle.command_line.specs.CommandLine.{AreTexts, are_operands, are_plain, as_report, has_flag, is_plain_word, names_file, names_file_by, operands}
+use Rattle.command_line.specs.CommandLine.{report_of, without_flag, without_report}
+use Rattle.command_line.proofs.Scan.{Kind, Later, Place, Seen, after, at_end, before, dashes, filed, flagged, is_taken, kind, kind_by, naming, odd, operand}
+use Rattle.command_line.proofs.Scan.{operand_met, scan}
+use Rattle.command_line.proofs.Scan.{with_operand, word_met}
+use Rattle.command_line.proofs.Words.{Means, means, plain_bare, plain_taken, taken_bare, taken_plain}
+
+-- as many operands as are left
+abbrev pub match_up : List Text → List Text → Bool
+match_up [] [] = true
+match_up (word ∷ ops) (id ∷ left) = match_up ops left
+match_up _ _ = false
+
+pub lengths_match : (ops left : List Text) → length ops ≡ length left → match_up ops left ≡ true
+lengths_match [] [] e = refl
+lengths_match [] (id ∷ left) e = absurd (omega arith)
+lengths_match (word ∷ ops) [] e = absurd (omega arith)
+lengths_match (word ∷ ops) (id ∷ left) e = lengths_match ops left (omega arith)
+
+abbrev pub counted : List Text → Bool → Option Text → List Text → Option Seen
+counted left met file ops = cond (match_up ops left) (Some (ops, met, file)) None
+
+module _ (is_operand : Text → Bool) where
+  abbrev pub plain_by : List Text → Bool
+  plain_by [] = true
+  plain_by (word ∷ rest) = cond (bytes_eq word (codes "--")) true (is_operand word && plain_by rest)
+
+  abbrev pub name_by : Option (Option Text) → List Text → Bool → Bool
+  name_by None rest later = later
+  name_by (Some None) rest later = option_map_or is_operand (slice_get rest 0) false
+  name_by (Some (Some file)) rest later = true
+
+  abbrev pub names_by : List Text → Bool
+  names_by [] = true
+  names_by (word ∷ rest) = cond (bytes_eq word (codes "--")) true (name_by (as_report word) rest (names_by rest))
+
+-- the words without what was met before
+abbrev pub without_option : Option Text → List Text → List Text
+without_option None words = without_report words
+without_option (Some f) words = words
+
+abbrev pub words_of : Text → Bool → Option Text → List Text → List Text
+words_of flag true file words = without_option file words
+words_of flag false file words = without_flag (45 ∷ 45 ∷ flag) (without_option file words)
+
+abbrev pub is_met : Text → Bool → Option Text → List Text → Bool
+is_met flag true file words = true
+is_met flag false file words = has_flag (45 ∷ 45 ∷ flag) (without_option file words)
+
+abbrev pub file_of : Option Text → List Text → Option Text
+file_of None words = report_of words
+file_of (Some f) words = Some f
+
+abbrev pub seen_of : Text → Bool → Option Text → List Text → Seen
+seen_of flag met file words = (operands (words_of flag met file words), is_met flag met file words, file_of file words)
+
+abbrev pub names_of : (Text → Bool) → Option Text → List Text → Bool
+names_of is_operand None words = names_by is_operand words
+names_of is_operand (Some f) words = true
+
+module _ (is_operand : Text → Bool) (flag : Text) where
+  -- the flag may be among the words, or was met already, and so may the report's option
+  abbrev pub with_file : List Text → Bool → Option Text → List Text → Option Seen
+  with_file left met file words =
+      cond (names_of is_operand file words) (cond (plain_by is_operand (words_of flag met file words))
+      (cond (match_up (operands (words_of flag met file words)) left) (Some (seen_of flag met file words)) None) None) None
+
+  abbrev pub meaning : List Text → Place → List Text → Bool → Option Text → Option Seen
+  meaning words after left met file = counted left met file words
+  meaning words before left met file = with_file left met file words
+  meaning [] naming left met file = None
+  meaning (word ∷ rest) naming left met file = cond (is_operand word) (with_file left met (Some word) rest) None
+
+  operand_more : (word : Text) (n p m : Bool) (seen : Seen)
+      → with_operand word (cond n (cond p (cond m (Some seen) None) None) None)
+      ≡ cond n (cond p (cond m (with_operand word (Some seen)) None) None) None
+  operand_more word true true true seen = refl
+  operand_more word true true false seen = refl
+  operand_more word true false m seen = refl
+  operand_more word false p m seen = refl
+
+  no_more : (n p : Bool) → ◌≡◌ {A = Option Seen} None (cond n (cond p None None) None)
+  no_more true true = refl
+  no_more true false = refl
+  no_more false p = refl
+
+  by_kind : (word : Text) (rest : List Text) (k : Kind) → Means is_operand flag word k
+      → (left : List Text) (met : Bool) (file : Option Text)
+      → word_met k word left met file (meaning rest) ≡ with_file left met file (word ∷ rest)
+  by_kind word rest dashes is left true (Some f) = simp is
+  by_kind word rest dashes is left false (Some f) = simp is
+  by_kind word rest dashes is left true None = simp is
+  by_kind word rest dashes is left false None = simp is
+  by_kind word rest flagged is left true (Some f) = simp (is.0, is.3)
+  by_kind word rest flagged is left false (Some f) = simp (is.0, is.1)
+  by_kind word rest flagged is left true None = simp (is.0, is.2, is.3) (no_more (names_by is_operand rest) true)
+  by_kind word rest flagged is left false None = simp (is.0, is.1, is.2)
+  by_kind word rest (filed value) is left true (Some f) = simp (is.0, is.3)
+  by_kind word rest (filed value) is left false (Some f) = simp (is.0, is.1, is.3)
+  by_kind word rest (filed (Some x)) is left true None = simp (is.0, is.2)
+  by_kind word rest (filed (Some x)) is left false None = simp (is.0, is.2)
+  by_kind word [] (filed None) is left true None = simp (is.0, is.2)
+  by_kind word [] (filed None) is left false None = simp (is.0, is.2)
+  by_kind word (next ∷ rest) (filed None) is left true None = simp (is.0, is.2)
+  by_kind word (next ∷ rest) (filed None) is left false None = simp (is.0, is.2)
+  by_kind word rest operand is [] true (Some f) = simp (is.0, is.3) (no_more true (plain_by is_operand rest))
+  by_kind word rest operand is [] false (Some f) = simp (is.0, is.1, is.3) (no_more true _)
+  by_kind word rest operand is [] true None = simp (is.0, is.2, is.3) (no_more (names_by is_operand rest) _)
+  by_kind word rest operand is [] false None = simp (is.0, is.1, is.2, is.3) (no_more (names_by is_operand rest) _)
+  by_kind word rest operand is (id ∷ left) true (Some f) = simp (is.0, is.3) (operand_more word true _ _ _)
+  by_kind word rest operand is (id ∷ left) false (Some f) = simp (is.0, is.1, is.3) (operand_more word true _ _ _)
+  by_kind word rest operand is (id ∷ left) true None = simp (is.0, is.2, is.3) (operand_more word (names_by is_operand rest) _ _ _)
+  by_kind word rest operand is (id ∷ left) false None =
+      simp (is.0, is.1, is.2, is.3) (operand_more word (names_by is_operand rest) _ _ _)
+  by_kind word rest odd is left true (Some f) = simp (is.0, is.3)
+  by_kind word rest odd is left false (Some f) = simp (is.0, is.1, is.3)
+  by_kind word rest odd is left true None = simp (is.0, is.2, is.3) (no_more (names_by is_operand rest) true)
+  by_kind word rest odd is left false None = simp (is.0, is.1, is.2, is.3) (no_more (names_by is_operand rest) true)
+
+  at_the_end : (left : List Text) (met : Bool) (file : Option Text) → at_end left met file ≡ counted left met file []
+  at_the_end [] met file = refl
+  at_the_end (id ∷ left) met file = refl
+
+  after_dashes : (word : Text) (rest left : List Text) (met : Bool) (file : Option Text)
+      → operand_met word after left met file (meaning rest) ≡ counted left met file (word ∷ rest)
+  after_dashes word rest [] met file = refl
+  after_dashes word rest (id ∷ left) met file = operand_more word true true (match_up rest left) (rest, met, file)
+
+  module _ (kinds : (word : Text) → Means is_operand flag word (kind is_operand flag word)) where
+    pub scan_means : (words : List Text) (place : Place) (left : List Text) (met : Bool) (file : Option Text)
+        → scan is_operand flag words place left met file ≡ meaning words place left met file
+    scan_means [] before left true (Some f) = at_the_end left true (Some f)
+    scan_means [] before left false (Some f) = at_the_end left false (Some f)
+    scan_means [] before left true None = at_the_end left true None
+    scan_means [] before left false None = at_the_end left false None
+    scan_means [] after left met file = at_the_end left met file
+    scan_means [] naming left met file = refl
+    scan_means (word ∷ rest) before left met file =
+        (λ j. word_met (kind is_operand flag word) word left met file (λ p l m f. scan_means rest p l m f j))
+        ∙ by_kind word rest (kind is_operand flag word) (kinds word) left met file
+    scan_means (word ∷ rest) after left met file =
+        (λ j. operand_met word after left met file (λ p l m f. scan_means rest p l m f j))
+        ∙ after_dashes word rest left met file
+    scan_means (word ∷ rest) naming left met file =
+        λ j. cond (is_operand word) (scan_means rest before left met (Some word) j) None
+
+-- ---- another test of operands
+
+abbrev Within : Option Seen → Option Seen → Type 0
+Within a b = (m : Seen) → a ≡ Some m → b ≡ Some m
+
+operand_within : (word : Text) (a b : Option Seen) → Within a b → Within (with_operand word a) (with_operand word b)
+operand_within word None b within m e = cc
+operand_within word (Some seen) b within m e = ap (with_operand word) (within seen refl) ∙ e
+
+met_within : (k : Kind) (word : Text) (left : List Text) (met : Bool) (file : Option Text) (f g : Later)
+    → ((place : Place) (l : List Text) (m : Bool) (o : Option Text) → Within (f place l m o) (g place l m o))
+    → Within (word_met k word left met file f) (word_met k word left met file g)
+met_within dashes word left met file f g within = within after left met file
+met_within flagged word left true file f g within = λ m e. e
+met_within flagged word left false file f g within = within before left true file
+met_within (filed value) word left met (Some x) f g within = λ m e. e
+met_within (filed None) word left met None f g within = within naming left met None
+met_within (filed (Some x)) word left met None f g within = within before left met (Some x)
+met_within operand word [] met file f g within = λ m e. e
+met_within operand word (id ∷ left) met file f g within = operand_within word _ _ (within before left met file)
+met_within odd word left met file f g within = λ m e. e
+
+cond_within : (a b : Bool) (x y : Option Seen) (m : Seen) → (a ≡ true → b ≡ true) → (x ≡ Some m → y ≡ Some m)
+    → cond a x None ≡ Some m → cond b y None ≡ Some m
+cond_within true b x y m passes more e = ap (λ c. cond c y None) (passes refl) ∙ more e
+cond_within false b x y m passes more e = cc
+
+abbrev pub Each : (Text → Type 0) → List Text → Type 0
+Each P [] = Unit {0}
+Each P (word ∷ rest) = P word × Each P rest
+
+pub everywhere : (P : Text → Type 0) → ((word : Text) → P word) → (words : List Text) → Each P words
+everywhere P all [] = tt
+everywhere P all (word ∷ rest) = (all word, everywhere P all rest)
+
+module _ (p q : Text → Bool) (flag : Text) where
+  kind_within : (word : Text) (left : List Text) (met : Bool) (file : Option Text) (f : Later)
+      → (p word ≡ true → q word ≡ true)
+      → Within (word_met (kind p flag word) word left met file f) (word_met (kind q flag word) word left met file f)
+  kind_within word left met file f passes = go (bytes_eq word (codes "--")) (long_of word) (p word) (q word) passes
+    where
+      go : (d : Bool) (o : Option (Text × Option Text)) (a b : Bool) → (a ≡ true → b ≡ true)
+          → Within (word_met (cond d dashes (kind_by flag o a)) word left met file f)
+          (word_met (cond d dashes (kind_by flag o b)) word left met file f)
+      go true o a b passes m e = e
+      go false (Some x) a b passes m e = e
+      go false None true b passes m e = ap (λ c. word_met (cond c operand odd) word left met file f) (passes refl) ∙ e
+      go false None false b passes m e = cc
+
+  pub scan_within : (words : List Text) → Each (λ word. p word ≡ true → q word ≡ true) words
+      → (place : Place) (left : List Text) (met : Bool) (file : Option Text)
+      → Within (scan p flag words place left met file) (scan q flag words place left met file)
+  scan_within [] each before left met file m e = e
+  scan_within [] each after left met file m e = e
+  scan_within [] each naming left met file m e = e
+  scan_within (word ∷ rest) each before left met file m e =
+      kind_within word left met file (scan q flag rest) each.0 m
+      (met_within (kind p flag word) word left met file _ _ (scan_within rest each.1) m e)
+  scan_within (word ∷ rest) each after [] met file m e = e
+  scan_within (word ∷ rest) each after (id ∷ left) met file m e =
+      operand_within word _ _ (scan_within rest each.1 after left met file) m e
+  scan_within (word ∷ rest) each naming left met file m e =
+      cond_within (p word) (q word) _ _ m each.0 (scan_within rest each.1 before left met (Some word) m) e
+
+-- ---- the definitions of the command line
+
+plain_all : (words : List Text) → plain_by is_plain_word words ≡ are_plain words
+plain_all [] = refl
+plain_all (word ∷ rest) = ap (λ b. cond (bytes_eq word (codes "--")) true (is_plain_word word && b)) (plain_all rest)
+
+pub names_all : (words : List Text) → names_by is_plain_word words ≡ names_file words
+names_all [] = refl
+names_all (word ∷ rest) = go (bytes_eq word (codes "--")) (as_report word) (names_all rest)
+  where
+    go : (d : Bool) (o : Option (Option Text)) → names_by is_plain_word rest ≡ names_file rest
+        → cond d true (name_by is_plain_word o rest (names_by is_plain_word rest))
+        ≡ cond d true (names_file_by o rest (names_file rest))
+    go true o more = refl
+    go false None more = more
+    go false (Some None) more = refl
+    go false (Some (Some file)) more = refl
+
+same_length : (ops left : List Text) → match_up ops left ≡ true → length ops ≡ length left
+same_length [] [] e = refl
+same_length [] (id ∷ left) e = absurd (true≢false (sym e))
+same_length (word ∷ ops) [] e = absurd (true≢false (sym e))
+same_length (word ∷ ops) (id ∷ left) e = ap (λ n. suc n) (same_length ops left e)
+
+parts : (a b c : Bool) (s m : Seen) → cond a (cond b (cond c (Some s) None) None) None ≡ Some m
+    → (a ≡ true) × (b ≡ true) × (c ≡ true) × (s ≡ m)
+parts true true true s m e = (refl, refl, refl, cc)
+parts true true false s m e = cc
+parts true false c s m e = cc
+parts false b c s m e = cc
+
+texts_plain : (words : List Text) → AreTexts words → Each (λ word. is_taken word ≡ true → is_plain_word word ≡ true) words
+texts_plain [] each = tt
+texts_plain (word ∷ rest) each = (taken_plain word each.0, texts_plain rest each.1)
+
+-- the report's option names a file
+abbrev pub is_named : Option Text → List Text → Bool
+is_named None words = names_file words
+is_named (Some f) words = true
+
+named_all : (file : Option Text) (words : List Text) → names_of is_plain_word file words ≡ is_named file words
+named_all None words = names_all words
+named_all (Some f) words = refl
+
+module _ (flag : Text) (long : long_of (45 ∷ 45 ∷ flag) ≡ Some (flag, None)) (apart : bytes_eq (codes "report") flag ≡ false)
+    (rest left : List Text) (met : Bool) (file : Option Text) where
+  scan_parts : (p : Text → Bool)
+      → ((word : Text) → p word ≡ true → (bytes_eq word (codes "--") ≡ false) × (long_of word ≡ None))
+      → (seen : Seen) → scan p flag rest before left met file ≡ Some seen
+      → (names_of p file rest ≡ true) × (plain_by p (words_of flag met file rest) ≡ true)
+      × (match_up (operands (words_of flag met file rest)) left ≡ true) × (seen_of flag met file rest ≡ seen)
+  scan_parts p bare seen found = parts (names_of p file rest) (plain_by p (words_of flag met file rest))
+      (match_up (operands (words_of flag met file rest)) left) (seen_of flag met file rest) seen
+      (sym (scan_means p flag (means p flag long apart bare) rest before left met file) ∙ found)
+
+  -- what the pass finds is what the words say
+  pub found_is : (seen : Seen) → scan is_taken flag rest before left met file ≡ Some seen → seen_of flag met file rest ≡ seen
+  found_is seen found = (scan_parts is_taken taken_bare seen found).3
+
+  -- and texts of which it finds something are well-formed
+  pub found_formed : (n : ℕ) → length left ≡ n → (seen : Seen) → scan is_taken flag rest before left met file ≡ Some seen
+      → AreTexts rest → (is_named file rest && are_operands n (words_of flag met file rest)) ≡ true
+  found_formed n count seen found texts =
+      let words = words_of flag met file rest in
+      let is = scan_parts is_plain_word plain_bare seen
+      (scan_within is_taken is_plain_word flag rest (texts_plain rest texts) before left met file seen found) in
+      ap (λ b. b && are_operands n words) (sym (named_all file rest) ∙ is.0)
+      ∙ ap (λ b. b && (length (operands words) == n)) (sym (plain_all words) ∙ is.1)
+      ∙ eq-eqb (length (operands words)) n (same_length (operands words) left is.2 ∙ count)
+
+  -- the pass finds something in well-formed words
+  pub formed_found : (n : ℕ) → length left ≡ n → (is_named file rest && are_operands n (words_of flag met file rest)) ≡ true
+      → scan is_taken flag rest before left met file ≡ Some (seen_of flag met file rest)
+  formed_found n count e =
+      let words = words_of flag met file rest in
+      let p = both (is_named file rest) (are_operands n words) e in
+      let q = both (are_plain words) (length (operands words) == n) p.1 in
+      let matches = lengths_match (operands words) left (eqb-true (length (operands words)) n q.1 ∙ sym count) in
+      scan_within is_plain_word is_taken flag rest
+      (everywhere (λ word. is_plain_word word ≡ true → is_taken word ≡ true) plain_taken rest) before left met file
+      (seen_of flag met file rest)
+      (scan_means is_plain_word flag (means is_plain_word flag long apart plain_bare) rest before left met file
+      ∙ λ j. cond ((named_all file rest ∙ p.0) j) (cond ((plain_all words ∙ q.0) j)
+      (cond (matches j) (Some (seen_of flag met file rest)) None) None) None)

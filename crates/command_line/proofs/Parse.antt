@@ -1,0 +1,542 @@
+-- clap's parse of the words of a subcommand is the pass over them (`parsed`): where the pass finds nothing
+-- the parse has a fault, and else it has none and the rows are those of what the pass found.
+use Rattle.std.proofs.Common.{◌&&◌, ◌+◌, ◌++◌, ◌==◌, ◌||◌, ◌≡◌, ◌∙◌, ◌∷◌, ℕ, Bool, List, None, Option, Some, [], ap, codes, cond, false, is_some}
+use Rattle.std.proofs.Common.{not, refl, subst, sym, true, true≢false}
+use Rattle.std.specs.Prelude.{fold, min}
+use Rattle.std.specs.Option.{option_map_or}
+use Rattle.std.specs.Str.{bytes_eq}
+use Rattle.std.proofs.lemmas.Slice.Eq.{bytes_eq-Decides}
+use Rattle.clap.specs.Facts.{explicit_source}
+use Rattle.clap.specs.Faults.{check_fault, defaults_fault, flag_word_fault, long_fault, option_fault, other_fault, positional_fault, react_fault}
+use Rattle.clap.specs.Faults.{settle_fault, short_fault, step_fault, stray_fault, turn_fault, use_fault, walk_fault}
+use Rattle.clap.specs.Kinds.{Kinds, check_kinds, or_else}
+use Rattle.clap.specs.Lexer.{long_of, short_of, usize_max}
+use Rattle.clap.specs.Simple.{Shape}
+use Rattle.clap.specs.Walk.{Held, Row, Rule, Step, Text, Waiting, Walk, after_flag, after_step, arg_by_id, arg_by_index, arg_by_long, finished, has_row}
+use Rattle.clap.specs.Walk.{idle, is_pending, long_met as clap_long_met, long_or_other, next, option, option_word, pushed, settled, settled_rows}
+use Rattle.clap.specs.Walk.{subcommand_met, subcommand_or_other, takes_values, to_positional, trailing, used, used_by_id, value, walked, with_default}
+use Rattle.clap.specs.Walk.{with_values}
+use Rattle.clap.specs.declared.error.kind.ErrorKind.TheVariants.{ArgumentConflict, TooManyValues}
+use Rattle.clap.specs.declared.parser.matches.ValueSource.TheVariants.{CommandLine, DefaultValue}
+use Rattle.command_line.proofs.Command.{AsksHelp, Fits, Form, Gives, IsCommand, Keeps, Met, Other, Paths, Pending, at, defaults_pass, filter_defaults}
+use Rattle.command_line.proofs.Command.{first_nil, fits_file, fits_flag, fits_path, flag_filled, gives_option, gives_path, help, idle_walk, lacks, leaf}
+use Rattle.command_line.proofs.Command.{long_step, newly, not_nil, place_of, plain_step, report_filled, short_step, then_nil, walk_with}
+use Rattle.command_line.proofs.Rows.{appended, appended_anew, flag_of, has_row-at, kept, row, row_at, set_row, source_of, still, unset_row}
+use Rattle.command_line.proofs.Scan.{Kind, Later, Place, Seen, after, at_end, before, filed, flagged, has_no_short, is_taken, kind_by, long_kind, naming}
+use Rattle.command_line.proofs.Scan.{odd, operand, operand_met, scan, with_operand}
+use Rattle.command_line.proofs.Scan.{dashes}
+use Rattle.command_line.proofs.Scan as pass
+
+-- ---- faults
+
+help_long : (c : List Rule) (b : Bool) (v : Option Text) (h : Held) → long_fault c false (cond b (Some help) None) v h ≡ [] → ⊥
+help_long c true (Some x) h e = not_nil _ _ e
+help_long c true None h e = not_nil _ _ (then_nil _ _ e)
+help_long c false v h e = not_nil _ _ e
+
+help_short : (c : List Rule) (b : Bool) (rest : Text) (h : Held) (later : Held → Kinds)
+    → short_fault c false (cond b (Some help) None) rest h later ≡ [] → ⊥
+help_short c true rest h later e = not_nil _ _ (then_nil _ _ (first_nil _ _ e))
+help_short c false rest h later e = not_nil _ _ e
+
+-- a flag that is met settles what is pending
+long_settles : (c : List Rule) (a : Option Rule) (v : Option Text) (h : Held) → long_fault c false a v h ≡ []
+    → settle_fault c false h ≡ []
+long_settles c None v h e = not_nil _ _ e
+long_settles c (Some a) v h e = go (takes_values a) v e
+  where
+    go : (b : Bool) (v : Option Text) → cond b (option_fault c false a v h) (cond (is_some v) (TooManyValues ∷ [])
+        (react_fault c false a [] h)) ≡ [] → settle_fault c false h ≡ []
+    go true (Some x) e = first_nil _ _ e
+    go true None e = e
+    go false (Some x) e = not_nil _ _ e
+    go false None e = first_nil _ _ e
+
+settled_first : (b : Bool) (k : Kinds) → cond (b && false) [] k ≡ k
+settled_first true k = refl
+settled_first false k = refl
+
+-- a first use, and a second
+abbrev repeats : Bool → Kinds
+repeats b = or_else (cond (b && true) (ArgumentConflict ∷ []) []) []
+
+first_use : (id : Text) (rows : List Row) → row_at id rows ≡ None → repeats (has_row id rows) ≡ []
+first_use id rows none = ap repeats (has_row-at id rows ∙ ap (λ (o : Option Row). is_some o) none)
+
+again : (id : Text) (r : Row) (rows : List Row) → row_at id rows ≡ Some r → repeats (has_row id rows) ≡ [] → ⊥
+again id r rows is e =
+    not_nil _ _ (sym (ap repeats (has_row-at id rows ∙ ap (λ (o : Option Row). is_some o) is)) ∙ e)
+
+-- ---- the command
+
+module _ (c : Form) (is : IsCommand c) where
+  abbrev s : Shape
+  s = leaf c.name c.rules
+
+  asks : AsksHelp s
+  asks x rest h later e =
+      help_short c.rules (104 == x || false) rest h later (ap (λ o. short_fault c.rules false o rest h later) (sym (is.shorts x)) ∙ e)
+
+  -- what may be at fault at the end of a walk
+  abbrev pub ends : Walk → Kinds
+  ends w = or_else (settle_fault c.rules false w.held)
+      (or_else (defaults_fault (settled c.rules w.held).rows c.rules) (check_fault s (finished c.rules w.held) false))
+
+  abbrev pub end_of : Walk → List Text → Walk
+  end_of w rest = fold (walked c.rules []) w rest
+
+  abbrev pub fault : Walk → List Text → Kinds
+  fault w rest = or_else (walk_fault s [] w rest) (ends (end_of w rest))
+
+  abbrev fits : List Row → List Text → Bool → Option Text → Type 0
+  fits = Fits c
+
+  -- the walk with these faults and this end answers as the pass does
+  abbrev pub AnswersAt : Kinds → Walk → List Row → List Text → Option Seen → Type 0
+  AnswersAt k e all left None = k ≡ [] → ⊥
+  AnswersAt k e all left (Some seen) = (k ≡ []) × Gives c all left seen (finished c.rules e.held)
+
+  abbrev pub Answers : Walk → List Text → List Row → List Text → Option Seen → Type 0
+  Answers w words all left seen = AnswersAt (fault w words) (end_of w words) all left seen
+
+  answers_operand : (w : Walk) (rest : List Text) (all : List Row) (id word : Text) (left : List Text) (o : Option Seen)
+      → row_at id all ≡ None → Answers w rest (all ++ row id word ∷ []) left o
+      → Answers w rest all (id ∷ left) (with_operand word o)
+  answers_operand w rest all id word left None none a = a
+  answers_operand w rest all id word left (Some seen) none a =
+      (a.0, gives_path c all id word left seen _ none a.1)
+
+  answers_option : (w : Walk) (rest : List Text) (all : List Row) (r : Row) (left : List Text) (o : Option Seen)
+      → Answers w rest (all ++ r ∷ []) left o → Answers w rest all left o
+  answers_option w rest all r left None a = a
+  answers_option w rest all r left (Some seen) a = (a.0, gives_option c all r left seen _ a.1)
+
+  -- a word without a fault, and one with a fault
+  passes : (w v : Walk) (word : Text) (rest : List Text) (all : List Row) (left : List Text) (o : Option Seen)
+      → turn_fault s [] w word ≡ [] → walked c.rules [] w word ≡ v → Answers v rest all left o
+      → Answers w (word ∷ rest) all left o
+  unfolding walk_fault
+  passes w v word rest all left o none goes a =
+      subst (λ (x : Kinds × Walk). AnswersAt (or_else (or_else x.0 (walk_fault s [] x.1 rest)) (ends (end_of x.1 rest)))
+      (end_of x.1 rest) all left o) (λ j. (sym none j, sym goes j)) a
+
+  stops : (w : Walk) (word : Text) (rest : List Text) → (turn_fault s [] w word ≡ [] → ⊥) → fault w (word ∷ rest) ≡ [] → ⊥
+  unfolding walk_fault
+  stops w word rest bad e = bad (first_nil _ _ (first_nil _ _ e))
+
+  -- ---- where the words end
+
+  -- what is pending has no fault, and these are the rows with it
+  abbrev Stands : List Row → Pending → List Row → Type 0
+  Stands rows pending all = (settle_fault c.rules false (at rows pending) ≡ []) × (settled_rows c.rules pending rows ≡ all)
+
+  abbrev Ended : Bool → List Row → List Row → Type 0
+  Ended met all final = Keeps all final
+      × ((id : Text) → bytes_eq c.flag id ≡ false → row_at id final ≡ row_at id all)
+      × (c.has_flag ≡ true → row_at c.flag final ≡ Some (source_of c.flag met))
+
+  ended : (all : List Row) (met : Bool) → (c.has_flag ≡ true → row_at c.flag all ≡ flag_of c.flag met)
+      → Ended met all (fold with_default all c.rules)
+  ended all met unset =
+      subst (Ended met all) (sym (filter_defaults c.rules all ∙ ap (fold with_default all) is.defaulted)) (go c.has_flag refl met unset)
+    where
+      go : (b : Bool) → c.has_flag ≡ b → (m : Bool) → (c.has_flag ≡ true → row_at c.flag all ≡ flag_of c.flag m)
+          → Ended m all (fold with_default all (cond b (flag_filled c.flag ∷ []) []))
+      go false so m unset = (λ id r e. e, λ id other. refl, λ bad. absurd (true≢false (sym bad ∙ so)))
+      go true so true unset =
+          subst (Ended true all) (sym (ap (λ b. cond b all (with_values c.flag (unset_row c.flag).reading DefaultValue (codes "false" ∷ []) all))
+          (has_row-at c.flag all ∙ ap (λ (o : Option Row). is_some o) (unset so))))
+          (λ id r e. e, λ id other. refl, λ _. unset so)
+      go true so false unset =
+          subst (Ended false all) (sym (ap (λ b. cond b all (with_values c.flag (unset_row c.flag).reading DefaultValue (codes "false" ∷ []) all))
+          (has_row-at c.flag all ∙ ap (λ (o : Option Row). is_some o) (unset so))
+          ∙ appended c.flag (unset_row c.flag).reading DefaultValue (codes "false" ∷ []) all (unset so))) (
+            λ id r e. still id all (unset_row c.flag ∷ []) r e,
+            λ id other. kept id all (unset_row c.flag) other,
+            λ _. newly all (unset_row c.flag) (unset so),
+          )
+
+  end_faults : (all rows : List Row) (pending : Pending) (p : ℕ) (t : Bool) (left : List Text) → Stands rows pending all
+      → lacks (fold with_default all c.rules) c.ids ≡ lacks (fold with_default all c.rules) left
+      → ends (idle_walk (at rows pending) p t) ≡ check_kinds false false (lacks (fold with_default all c.rules) left)
+  end_faults all rows pending p t left stands owes =
+      (λ j. or_else (stands.0 j) (or_else (defaults_fault (stands.1 j) c.rules)
+      (check_fault s (fold with_default (stands.1 j) c.rules) false)))
+      ∙ ap (λ k. or_else k (check_fault s (fold with_default all c.rules) false)) (defaults_pass c.rules all is.defaults)
+      ∙ ap (check_kinds false false) (is.required (fold with_default all c.rules) ∙ owes)
+
+  words_end : (t : Bool) (left : List Text) (met : Bool) (file : Option Text) (p : ℕ) (all rows : List Row) (pending : Pending)
+      → Paths c.rules c.flag p left → Stands rows pending all → fits all left met file
+      → AnswersAt (ends (idle_walk (at rows pending) p t)) (idle_walk (at rows pending) p t) all left (at_end left met file)
+  words_end t [] met file p all rows pending paths stands known =
+      let end = ended all met known.flagged in (
+        end_faults all rows pending p t [] stands (known.owes _ end.0),
+        subst (λ (x : List Row). Gives c all [] ([], met, file) (fold with_default x c.rules))
+            (sym stands.1) (record {
+              keeps = end.0;
+              values = tt;
+              flagged = end.2;
+              filed = λ so. end.1 (codes "report") is.apart.0 ∙ known.filed so;
+            }),
+      )
+  words_end t (id ∷ left) met file p all rows pending paths stands known = λ e.
+      let end = ended all met known.flagged in
+      let none : row_at id (fold with_default all c.rules) ≡ None = end.1 id paths.3 ∙ known.unused.0 in
+      not_nil _ _ (sym (end_faults all rows pending p t (id ∷ left) stands (known.owes _ end.0)
+      ∙ ap (λ (o : Option Row). check_kinds false false (not (option_map_or (λ r. explicit_source r.source) o false)
+      || lacks (fold with_default all c.rules) left)) none) ∙ e)
+
+  -- ---- an operand
+
+  stands_operand : (id word : Text) (p : ℕ) (all : List Row) → arg_by_id c.rules id ≡ Some (place_of id p) → row_at id all ≡ None
+      → Stands all (Some (id, word ∷ [])) (all ++ row id word ∷ [])
+  stands_operand id word p all found none = (
+    ap (λ o. option_map_or (λ a. use_fault false a (word ∷ []) all) o []) found ∙ first_use id all none,
+    ap (λ o. used_by_id o (word ∷ []) all) found ∙ appended_anew id (row id word).reading CommandLine (word ∷ []) all none,
+  )
+
+  operand_fault : (id : Text) (p : ℕ) (rows all : List Row) (pending : Pending) → arg_by_index c.rules p ≡ Some (place_of id p)
+      → step_fault s p (at rows pending) value ≡ settle_fault c.rules false (at rows pending)
+  operand_fault id p rows all pending found =
+      ap (λ o. option_map_or (λ a. positional_fault c.rules false a (at rows pending)) o (stray_fault s)) found
+      ∙ settled_first (is_pending (place_of id p) pending) (settle_fault c.rules false (at rows pending))
+
+  stray : (p : ℕ) (h : Held) → arg_by_index c.rules p ≡ None → step_fault s p h value ≡ [] → ⊥
+  stray p h none e =
+      not_nil _ _ (sym (ap (λ o. option_map_or (λ a. positional_fault c.rules false a h) o (stray_fault s)) none) ∙ e)
+
+  moves : (id word : Text) (p : ℕ) (t : Bool) (rows all : List Row) (pending : Pending)
+      → arg_by_index c.rules p ≡ Some (place_of id p) → settled_rows c.rules pending rows ≡ all
+      → to_positional c.rules (arg_by_index c.rules p) word (idle_walk (at rows pending) p t) (at rows pending)
+      ≡ idle_walk (at all (Some (id, word ∷ []))) (min (p + 1) usize_max) t
+  moves id word p t rows all pending found settles =
+      ap (λ o. to_positional c.rules o word (idle_walk (at rows pending) p t) (at rows pending)) found
+      ∙ go (is_pending (place_of id p) pending) t
+      ∙ (λ j. idle_walk (at (settles j) (Some (id, word ∷ []))) (min (p + 1) usize_max) t)
+    where
+      go : (b t : Bool) → ◌≡◌ {A = Walk} (record {
+        held = pushed id word (cond (b && false) (at rows pending) (settled c.rules (at rows pending)));
+        waiting = idle;
+        position = min (p + 1) usize_max;
+        is_trailing = t || false;
+        stopped = None;
+      }) (idle_walk (at (settled_rows c.rules pending rows) (Some (id, word ∷ []))) (min (p + 1) usize_max) t)
+      go true true = refl
+      go true false = refl
+      go false true = refl
+      go false false = refl
+
+  abbrev place_by : Bool → Place
+  place_by t = cond t after before
+
+  -- the words answer, wherever the walk over them begins
+  abbrev Go : Bool → List Text → Type 0
+  Go t rest = (left : List Text) (met : Bool) (file : Option Text) (p : ℕ) (all rows : List Row) (pending : Pending)
+      → Paths c.rules c.flag p left → Stands rows pending all → fits all left met file
+      → Answers (idle_walk (at rows pending) p t) rest all left (scan is_taken c.flag rest (place_by t) left met file)
+
+  operand_answers : (t : Bool) (word : Text) (rest left : List Text) (met : Bool) (file : Option Text) (p : ℕ)
+      (all rows : List Row) (pending : Pending)
+      → turn_fault s [] (idle_walk (at rows pending) p t) word ≡ step_fault s p (at rows pending) value
+      → walked c.rules [] (idle_walk (at rows pending) p t) word
+      ≡ to_positional c.rules (arg_by_index c.rules p) word (idle_walk (at rows pending) p t) (at rows pending)
+      → Paths c.rules c.flag p left → Stands rows pending all → fits all left met file → Go t rest
+      → Answers (idle_walk (at rows pending) p t) (word ∷ rest) all left
+      (operand_met word (place_by t) left met file (scan is_taken c.flag rest))
+  operand_answers t word rest [] met file p all rows pending turn goes paths stands known later =
+      stops (idle_walk (at rows pending) p t) word rest (λ e. stray p (at rows pending) paths (sym turn ∙ e))
+  operand_answers t word rest (id ∷ left) met file p all rows pending turn goes paths stands known later =
+      passes (idle_walk (at rows pending) p t) (idle_walk (at all (Some (id, word ∷ []))) (min (p + 1) usize_max) t)
+      word rest all (id ∷ left) _ (turn ∙ operand_fault id p rows all pending paths.0 ∙ stands.0)
+      (goes ∙ moves id word p t rows all pending paths.0 stands.1)
+      (answers_operand (idle_walk (at all (Some (id, word ∷ []))) (min (p + 1) usize_max) t) rest all id word left _ known.unused.0
+      (later left met file (min (p + 1) usize_max) (all ++ row id word ∷ []) all (Some (id, word ∷ [])) paths.5
+      (stands_operand id word p all paths.1 known.unused.0)
+      (fits_path c all id word left met file paths.2 known)))
+
+  -- ---- a word before any `--`
+
+  abbrev Turn : Waiting → List Row → Pending → ℕ → Text → Kinds → Held × Step → Type 0
+  Turn waiting rows pending p word k m =
+      (turn_fault s [] (walk_with waiting (at rows pending) p false) word ≡ or_else k (step_fault s p m.0 m.1))
+      × (walked c.rules [] (walk_with waiting (at rows pending) p false) word
+      ≡ after_step c.rules word (walk_with waiting (at rows pending) p false) m.0 m.1)
+
+  turns : (waiting : Waiting) (rows : List Row) (pending : Pending) (p : ℕ) (word : Text) (k : Kinds) (m : Held × Step)
+      → subcommand_met [] waiting word ≡ None → Met s asks waiting rows pending p word k m
+      → Turn waiting rows pending p word k m
+  unfolding walked
+  turns waiting rows pending p word k m none met =
+      subst (λ (x : Kinds × Held × Step). Turn waiting rows pending p word x.0 (x.1, x.2)) (λ j. (met.0 j, (met.1 j).0, (met.1 j).1))
+      (subst (λ (x : Kinds × Held × Step). Turn waiting rows pending p word x.0 (x.1, x.2))
+      (λ j. let m = subcommand_or_other c.rules (none j) waiting p word (at rows pending) in
+      (other_fault s (none j) word (at rows pending), m.0, m.1)) (refl, refl))
+
+  -- `--`
+  dashes_go : (waiting : Waiting) (rows : List Row) (pending : Pending) (p : ℕ) (word : Text)
+      → subcommand_met [] waiting word ≡ None → bytes_eq word (codes "--") ≡ true
+      → (turn_fault s [] (walk_with waiting (at rows pending) p false) word ≡ [])
+      × (walked c.rules [] (walk_with waiting (at rows pending) p false) word ≡ walk_with waiting (at rows pending) p true)
+  dashes_go waiting rows pending p word none d =
+      let h = at rows pending in
+      turns waiting rows pending p word [] (h, trailing p) none (
+        λ j. cond (d j) [] (flag_word_fault c.rules false (long_of word) word h),
+        λ j. cond (d j) (h, trailing p) (long_or_other c.rules waiting word (long_of word) h),
+      )
+
+  -- an option of this rule
+  option_turns : (waiting : Waiting) (rows : List Row) (pending : Pending) (p : ℕ) (word : Text) (q : Text × Option Text)
+      (a : Option Rule) → subcommand_met [] waiting word ≡ None
+      → bytes_eq word (codes "--") ≡ false → long_of word ≡ Some q → arg_by_long c.rules q.0 ≡ a
+      → let m = clap_long_met c.rules a q.1 (at rows pending) in
+      Turn waiting rows pending p word (long_fault c.rules false a q.1 (at rows pending)) (after_flag c.rules waiting word m.0 m.1)
+  option_turns waiting rows pending p word q a none d long found =
+      let h = at rows pending in
+      subst (λ (o : Option Rule). let m = clap_long_met c.rules o q.1 h in
+      Turn waiting rows pending p word (long_fault c.rules false o q.1 h) (after_flag c.rules waiting word m.0 m.1)) found
+      (turns waiting rows pending p word _ _ none (long_step s asks waiting rows pending p word q d long))
+
+  -- ---- what is pending has a fault, whatever follows
+
+  abbrev Bad : List Row → Pending → Type 0
+  Bad rows pending = settle_fault c.rules false (at rows pending) ≡ [] → ⊥
+
+  bad_step : (rows : List Row) (pending : Pending) (p : ℕ) (left : List Text) → Paths c.rules c.flag p left → Bad rows pending
+      → step_fault s p (at rows pending) value ≡ [] → ⊥
+  bad_step rows pending p [] paths bad e = stray p (at rows pending) paths e
+  bad_step rows pending p (id ∷ left) paths bad e = bad (sym (operand_fault id p rows rows pending paths.0) ∙ e)
+
+  bad_after : (waiting : Waiting) (rows : List Row) (pending : Pending) (p : ℕ) (left rest : List Text) → Paths c.rules c.flag p left
+      → Bad rows pending → fault (walk_with waiting (at rows pending) p true) rest ≡ [] → ⊥
+  unfolding walk_fault
+  bad_after waiting rows pending p left [] paths bad e = bad (first_nil _ _ e)
+  bad_after waiting rows pending p left (word ∷ rest) paths bad e =
+      bad_step rows pending p left paths bad (first_nil _ _ (first_nil _ _ e))
+
+  bad_before : (rows : List Row) (pending : Pending) (p : ℕ) (left rest : List Text) → Paths c.rules c.flag p left
+      → Bad rows pending → fault (idle_walk (at rows pending) p false) rest ≡ [] → ⊥
+  unfolding walk_fault
+  bad_before rows pending p left [] paths bad = λ e. bad (first_nil _ _ e)
+  bad_before rows pending p left (word ∷ rest) paths bad =
+      go (bytes_eq word (codes "--")) refl (long_of word) refl (has_no_short (short_of word)) refl
+    where
+      w : Walk
+      w = idle_walk (at rows pending) p false
+
+      go : (d : Bool) → bytes_eq word (codes "--") ≡ d → (o : Option (Text × Option Text)) → long_of word ≡ o
+          → (b : Bool) → has_no_short (short_of word) ≡ b → fault w (word ∷ rest) ≡ [] → ⊥
+      go true d o long b short =
+          let goes = dashes_go idle rows pending p word refl d in
+          passes w (idle_walk (at rows pending) p true) word rest rows left None goes.0 goes.1
+          (bad_after idle rows pending p left rest paths bad)
+      go false d (Some q) long b short = stops w word rest (λ e.
+          bad (long_settles c.rules (arg_by_long c.rules q.0) q.1 (at rows pending) (first_nil _ _
+          (sym (option_turns idle rows pending p word q _ refl d long refl).0 ∙ e))))
+      go false d None long true short = stops w word rest (λ e.
+          bad_step rows pending p left paths bad
+          (sym (turns idle rows pending p word _ _ refl (plain_step s asks idle rows pending p word d long short)).0 ∙ e))
+      go false d None long false short = stops w word rest (λ e. short_step s asks idle rows pending p word d long short
+          (first_nil _ _ e))
+
+  -- ---- the word behind `--report`
+
+  abbrev file_pending : List Text → Pending
+  file_pending words = Some (codes "report", words)
+
+  abbrev pub waits : List Row → ℕ → Walk
+  waits all p = walk_with (option (codes "report")) (at all (file_pending [])) p false
+
+  file_fault : (words : List Text) (all : List Row) → c.has_file ≡ true
+      → settle_fault c.rules false (at all (file_pending words)) ≡ use_fault false report_filled words all
+  file_fault words all so = ap (λ o. option_map_or (λ a. use_fault false a words all) o []) (is.report so)
+
+  unnamed_bad : (all : List Row) → c.has_file ≡ true → Bad all (file_pending [])
+  unnamed_bad all so e = not_nil _ _ (sym (file_fault [] all so) ∙ e)
+
+  stands_file : (word : Text) (all : List Row) → c.has_file ≡ true → row_at (codes "report") all ≡ None
+      → Stands all (file_pending (word ∷ [])) (all ++ row (codes "report") word ∷ [])
+  stands_file word all so none = (
+    file_fault (word ∷ []) all so ∙ first_use (codes "report") all none,
+    ap (λ o. used_by_id o (word ∷ []) all) (is.report so)
+        ∙ appended_anew (codes "report") (row (codes "report") word).reading CommandLine (word ∷ []) all none,
+  )
+
+  named_so : (word : Text) (rest left : List Text) (p : ℕ) (all : List Row) (o : Option Seen) → c.has_file ≡ true
+      → Paths c.rules c.flag p left → Answers (idle_walk (at all (file_pending (word ∷ []))) p false) rest all left o
+      → Answers (waits all p) (word ∷ rest) all left (cond (is_taken word) o None)
+  named_so word rest left p all o so paths later =
+      go (bytes_eq word (codes "--")) refl (long_of word) refl (has_no_short (short_of word)) refl
+    where
+      h : Held
+      h = at all (file_pending [])
+
+      go : (d : Bool) → bytes_eq word (codes "--") ≡ d → (q : Option (Text × Option Text)) → long_of word ≡ q
+          → (b : Bool) → has_no_short (short_of word) ≡ b
+          → Answers (waits all p) (word ∷ rest) all left (cond (not d && (not (is_some q) && b)) o None)
+      go true d q long b short =
+          let goes = dashes_go (option (codes "report")) all (file_pending []) p word refl d in
+          passes (waits all p) (walk_with (option (codes "report")) h p true) word rest all left None goes.0 goes.1
+          (bad_after (option (codes "report")) all (file_pending []) p left rest paths (unnamed_bad all so))
+      go false d (Some q) long b short = stops (waits all p) word rest (λ e.
+          unnamed_bad all so (long_settles c.rules (arg_by_long c.rules q.0) q.1 h (first_nil _ _
+          (sym (option_turns (option (codes "report")) all (file_pending []) p word q _ refl d long refl).0 ∙ e))))
+      go false d None long true short =
+          let turn = turns (option (codes "report")) all (file_pending []) p word _ _ refl
+          (plain_step s asks (option (codes "report")) all (file_pending []) p word d long short) in
+          let met = ap (λ (a : Option Rule). option_word a (codes "report") word h) (is.report so) in
+          passes (waits all p) (idle_walk (at all (file_pending (word ∷ []))) p false) word rest all left o
+          turn.0 (turn.1 ∙ ap (λ (m : Held × Waiting). after_step c.rules word (waits all p) m.0 (next m.1)) met) later
+      go false d None long false short = stops (waits all p) word rest (λ e.
+          short_step s asks (option (codes "report")) all (file_pending []) p word d long short (first_nil _ _ e))
+
+  -- a second file for the report
+  twice : (file : Text) (rest left : List Text) (p : ℕ) (all : List Row) → c.has_file ≡ true
+      → row_at (codes "report") all ≡ Some (row (codes "report") file) → Paths c.rules c.flag p left
+      → fault (waits all p) rest ≡ [] → ⊥
+  unfolding walk_fault
+  twice file [] left p all so there paths = λ e. unnamed_bad all so (first_nil _ _ e)
+  twice file (word ∷ rest) left p all so there paths =
+      nothing (is_taken word) (named_so word rest left p all None so paths
+      (bad_before all (file_pending (word ∷ [])) p left rest paths
+      (λ e. again (codes "report") (row (codes "report") file) all there (sym (file_fault (word ∷ []) all so) ∙ e))))
+    where
+      nothing : (b : Bool) → Answers (waits all p) (word ∷ rest) all left (cond b None None)
+          → Answers (waits all p) (word ∷ rest) all left None
+      nothing true a = a
+      nothing false a = a
+
+  -- ---- the words
+
+  abbrev Wait : List Text → Type 0
+  Wait rest = (left : List Text) (met : Bool) (p : ℕ) (all : List Row) → c.has_file ≡ true
+      → Paths c.rules c.flag p left → fits all left met None
+      → Answers (waits all p) rest all left (scan is_taken c.flag rest naming left met None)
+
+  others : (left : List Text) (p : ℕ) → Paths c.rules c.flag p left → Other c.flag left × Other (codes "report") left
+  others [] p paths = (tt, tt)
+  others (id ∷ left) p paths = let more = others left (min (p + 1) usize_max) paths.5 in ((paths.3, more.0), (paths.4, more.1))
+
+  module _ (word : Text) (rest left : List Text) (p : ℕ) (all rows : List Row) (pending : Pending)
+      (paths : Paths c.rules c.flag p left) (stands : Stands rows pending all) (goes_on : Go false rest) (waits_on : Wait rest) where
+    abbrev w : Walk
+    w = idle_walk (at rows pending) p false
+
+    abbrev After : Kind → Bool → Option Text → Type 0
+    After k met file = Answers w (word ∷ rest) all left (pass.word_met k word left met file (scan is_taken c.flag rest))
+
+    abbrev Turned : Option Text → Option Rule → Type 0
+    Turned v a = let m = clap_long_met c.rules a v (at rows pending) in
+        Turn idle rows pending p word (long_fault c.rules false a v (at rows pending)) (after_flag c.rules idle word m.0 m.1)
+
+    flag_met : (met : Bool) (file : Option Text) → fits all left met file → Turned None (Some (flag_filled c.flag))
+        → c.has_flag ≡ true → After flagged met file
+    flag_met true file known turn so = stops w word rest (λ e.
+        again c.flag (set_row c.flag) (settled_rows c.rules pending rows) (ap (row_at c.flag) stands.1 ∙ known.flagged so)
+        (then_nil (settle_fault c.rules false (at rows pending)) _ (first_nil _ _ (sym turn.0 ∙ e))))
+    flag_met false file known turn so =
+        let none = known.flagged so in
+        let now = all ++ set_row c.flag ∷ [] in
+        passes w (idle_walk (at now None) p false) word rest all left _
+        (turn.0 ∙ (λ j. or_else (or_else (stands.0 j) (repeats (has_row c.flag (stands.1 j)))) [])
+        ∙ ap (λ k. or_else k []) (first_use c.flag all none))
+        (turn.1 ∙ (λ j. idle_walk (at (used (flag_filled c.flag) [] (stands.1 j)) None) p false)
+        ∙ ap (λ (x : List Row). idle_walk (at x None) p false)
+        (appended_anew c.flag (set_row c.flag).reading CommandLine (codes "true" ∷ []) all none))
+        (answers_option (idle_walk (at now None) p false) rest all (set_row c.flag) left _
+        (goes_on left true file p now now None paths (refl, refl)
+        (fits_flag c all left file so (is.apart.0, (others left p paths).0) known)))
+
+    file_met : (v : Option Text) (met : Bool) (file : Option Text) → fits all left met file → Turned v (Some report_filled)
+        → c.has_file ≡ true → After (filed v) met file
+    file_met None met (Some g) known turn so =
+        passes w (waits all p) word rest all left None (turn.0 ∙ ap (λ k. or_else k []) stands.0)
+        (turn.1 ∙ λ j. waits (stands.1 j) p) (twice g rest left p all so (known.filed so) paths)
+    file_met (Some f) met (Some g) known turn so = stops w word rest (λ e.
+        again (codes "report") (row (codes "report") g) (settled_rows c.rules pending rows)
+        (ap (row_at (codes "report")) stands.1 ∙ known.filed so)
+        (then_nil (settle_fault c.rules false (at rows pending)) _ (first_nil _ _ (sym turn.0 ∙ e))))
+    file_met None met None known turn so =
+        passes w (waits all p) word rest all left _ (turn.0 ∙ ap (λ k. or_else k []) stands.0)
+        (turn.1 ∙ λ j. waits (stands.1 j) p) (waits_on left met p all so paths known)
+    file_met (Some f) met None known turn so =
+        let none = known.filed so in
+        let now = all ++ row (codes "report") f ∷ [] in
+        passes w (idle_walk (at now None) p false) word rest all left _
+        (turn.0 ∙ (λ j. or_else (or_else (stands.0 j) (repeats (has_row (codes "report") (stands.1 j)))) [])
+        ∙ ap (λ k. or_else k []) (first_use (codes "report") all none))
+        (turn.1 ∙ (λ j. idle_walk (at (used report_filled (f ∷ []) (stands.1 j)) None) p false)
+        ∙ ap (λ (x : List Row). idle_walk (at x None) p false)
+        (appended_anew (codes "report") (row (codes "report") f).reading CommandLine (f ∷ []) all none))
+        (answers_option (idle_walk (at now None) p false) rest all (row (codes "report") f) left _
+        (goes_on left met (Some f) p now now None paths (refl, refl)
+        (fits_file c all left met f so (is.apart.1, (others left p paths).1) known)))
+
+    no_option : (b : Bool) (v : Option Text) → Turned v (cond b (Some help) None) → fault w (word ∷ rest) ≡ [] → ⊥
+    no_option b v turn = stops w word rest (λ e. help_long c.rules b v (at rows pending) (first_nil _ _ (sym turn.0 ∙ e)))
+
+    long_answers : (name : Text) (v : Option Text) → (f : Bool) → bytes_eq c.flag name ≡ f
+        → (r : Bool) → bytes_eq (codes "report") name ≡ r → (hf : Bool) → c.has_flag ≡ hf → (hr : Bool) → c.has_file ≡ hr
+        → Turned v (let other = cond (bytes_eq (codes "help") name || false) (Some help) None in
+        let file = cond (r || false) (cond hr (Some report_filled) other) other in
+        cond (f || false) (cond hf (Some (flag_filled c.flag)) file) file)
+        → (met : Bool) (file : Option Text) → fits all left met file → After (long_kind f r v) met file
+    long_answers name None true f r re true hf hr hre turn met file known = flag_met met file known turn hf
+    long_answers name (Some x) true f r re true hf hr hre turn met file known =
+        stops w word rest (λ e. not_nil _ _ (sym turn.0 ∙ e))
+    long_answers name v true f true re false hf hr hre turn met file known =
+        absurd (true≢false (sym re ∙ ap (bytes_eq (codes "report")) (sym ((bytes_eq-Decides c.flag name).0 f)) ∙ is.apart.1))
+    long_answers name None true f false re false hf hr hre turn true file known = no_option _ None turn
+    long_answers name None true f false re false hf hr hre turn false file known = absurd (true≢false (sym (known.unflagged hf)))
+    long_answers name (Some x) true f false re false hf hr hre turn met file known = no_option _ (Some x) turn
+    long_answers name v false f true re hf hfe true hr turn met file known = file_met v met file known turn hr
+    long_answers name v false f true re hf hfe false hr turn met (Some g) known = no_option _ v turn
+    long_answers name v false f true re hf hfe false hr turn met None known = absurd (true≢false (sym (known.unfiled hr)))
+    long_answers name v false f false re hf hfe hr hre turn met file known = no_option _ v turn
+
+    word_answers : (met : Bool) (file : Option Text) → fits all left met file → Go true rest
+        → After (pass.kind is_taken c.flag word) met file
+    word_answers met file known trails =
+        go (bytes_eq word (codes "--")) refl (long_of word) refl (has_no_short (short_of word)) refl
+      where
+        go : (d : Bool) → bytes_eq word (codes "--") ≡ d → (q : Option (Text × Option Text)) → long_of word ≡ q
+            → (b : Bool) → has_no_short (short_of word) ≡ b
+            → After (cond d dashes (kind_by c.flag q (not d && (not (is_some q) && b)))) met file
+        go true d q long b short =
+            let goes = dashes_go idle rows pending p word refl d in
+            passes w (idle_walk (at rows pending) p true) word rest all left _ goes.0 goes.1
+            (trails left met file p all rows pending paths stands known)
+        go false d (Some (name, v)) long b short =
+            long_answers name v (bytes_eq c.flag name) refl (bytes_eq (codes "report") name) refl c.has_flag refl c.has_file refl
+            (option_turns idle rows pending p word (name, v) _ refl d long (is.longs name)) met file known
+        go false d None long true short =
+            let turn = turns idle rows pending p word _ _ refl (plain_step s asks idle rows pending p word d long short) in
+            operand_answers false word rest left met file p all rows pending turn.0 turn.1 paths stands known goes_on
+        go false d None long false short = stops w word rest (λ e.
+            short_step s asks idle rows pending p word d long short (first_nil _ _ e))
+
+  mutual
+    unfolding walked walk_fault
+
+    pub parsed : (t : Bool) (rest left : List Text) (met : Bool) (file : Option Text) (p : ℕ) (all rows : List Row)
+        (pending : Pending) → Paths c.rules c.flag p left → Stands rows pending all → fits all left met file
+        → Answers (idle_walk (at rows pending) p t) rest all left (scan is_taken c.flag rest (place_by t) left met file)
+    parsed true [] left met file p all rows pending paths stands known =
+        words_end true left met file p all rows pending paths stands known
+    parsed false [] left met file p all rows pending paths stands known =
+        words_end false left met file p all rows pending paths stands known
+    parsed true (word ∷ rest) left met file p all rows pending paths stands known =
+        operand_answers true word rest left met file p all rows pending refl refl paths stands known (parsed true rest)
+    parsed false (word ∷ rest) left met file p all rows pending paths stands known =
+        word_answers word rest left p all rows pending paths stands (parsed false rest) (named rest) met file known
+        (parsed true rest)
+
+    named : (rest left : List Text) (met : Bool) (p : ℕ) (all : List Row) → c.has_file ≡ true
+        → Paths c.rules c.flag p left → fits all left met None
+        → Answers (waits all p) rest all left (scan is_taken c.flag rest naming left met None)
+    named [] left met p all so paths known = λ e. unnamed_bad all so (first_nil _ _ e)
+    named (word ∷ rest) left met p all so paths known =
+        named_so word rest left p all _ so paths
+        (answers_option (idle_walk (at all (file_pending (word ∷ []))) p false) rest all (row (codes "report") word) left _
+        (parsed false rest left met (Some word) p (all ++ row (codes "report") word ∷ []) all (file_pending (word ∷ [])) paths
+        (stands_file word all so (known.filed so))
+        (fits_file c all left met word so (is.apart.1, (others left p paths).1) known)))

@@ -1,0 +1,247 @@
+-- The theorem of the command line: words that clap parses request the task that is made of its matches
+-- (`task_requested`), and words that are a task are never refused but for memory (`words_pass`).
+-- Read it first, then `Scan` (one pass over the words of a subcommand), `Meaning` (it finds what the
+-- definitions say), `Parse` (and so does clap, for a command as `Command` describes it), `Commands` (the three
+-- subcommands are such commands); `Words` and `Rows` stand below them.
+use Rattle.std.proofs.Common.{◌&&◌, ◌||◌, ◌≡◌, ◌∙◌, ◌∷◌, Bool, List, None, Option, Some, [], ap, codes, false, inl, inr}
+use Rattle.std.proofs.Common.{length, ℕ, refl, rules, subst, sym, true, true≢false}
+use Rattle.std.specs.Prelude.{option_and_then, option_map, slice_get}
+use Rattle.std.specs.Borrow.{Bor}
+use Rattle.std.specs.Option.{IsSome}
+use Rattle.std.specs.Str.{bytes_eq}
+use Rattle.std.proofs.lemmas.Bool.{or_cases}
+use Rattle.std.proofs.lemmas.Slice.Eq.{bytes_eq-Decides}
+use Rattle.clap.specs.Faults.{fault_of, is_simple_and_free}
+use Rattle.clap.specs.Kinds.{HasKind, Kinds}
+use Rattle.clap.specs.Matches.{first_value, found_of, one_text, subcommand_name_of}
+use Rattle.clap.specs.Simple.{App, HasMatchesOf, is_simple, subcommand_of, subcommand_rows_of}
+use Rattle.clap.specs.Values.{bool_text, kind_of}
+use Rattle.clap.specs.Walk.{Row, Text, row_text, rows_of}
+use Rattle.clap.specs.declared.error.Error.{Error}
+use Rattle.clap.specs.declared.error.kind.ErrorKind.TheVariants.{OutOfMemory}
+use Rattle.clap.specs.declared.parser.matches.ArgMatches.{ArgMatches}
+use Rattle.clap.specs.declared.parser.matches.ArgMatches.TheViews.{out-ArgMatches}
+use Rattle.clap.specs.declared.parser.matches.Found.{Found}
+use Rattle.clap.proofs.OnLiterals.{clap_on_literals}
+use Rattle.clap.proofs.WalkLemmas.{both, first_value-rows, one_text-rows}
+use Rattle.command_line.specs.CommandLine.{AreTexts, RequestsTask, are_operands, is_check, is_explain, is_run, is_well_formed}
+use Rattle.command_line.specs.CommandLine.{path_texts}
+use Rattle.command_line.specs.steps.Given.{GivesTask, HasTask}
+use Rattle.command_line.specs.steps.Program.{program_app}
+use Rattle.command_line.specs.declared.task.Task.{Task}
+use Rattle.command_line.specs.declared.task.Task.TheVariants.{Check, Explain, Run}
+use Rattle.command_line.proofs.Command.{Form, Values}
+use Rattle.command_line.proofs.Commands.{IsSubcommand, Took, TookTask, check_form, check_sub, explain_form, explain_sub, found_passes, run_form, run_sub}
+use Rattle.command_line.proofs.Commands.{task_read}
+use Rattle.command_line.proofs.Meaning.{formed_found, found_formed, found_is, is_named, seen_of, words_of}
+use Rattle.command_line.proofs.Rows.{row, row_at, row_of, source_of}
+use Rattle.command_line.proofs.Scan.{Seen}
+
+-- ---- the words of a subcommand
+
+-- texts in which the pass finds something are well-formed
+words_formed : (c : Form) → IsSubcommand c → (n : ℕ) → length c.ids ≡ n → (rest : List Text) (rows : List Row) → Took c rest rows
+    → AreTexts rest → (is_named c.file rest && are_operands n (words_of c.flag c.met c.file rest)) ≡ true
+words_formed c is n count rest rows took =
+    found_formed c.flag is.long is.command.apart.1 rest c.ids c.met c.file n count took.0 took.1
+
+-- and well-formed words have no fault
+words_fit : (c : Form) → IsSubcommand c → (n : ℕ) → length c.ids ≡ n → (program : Text) (rest : List Text)
+    → (is_named c.file rest && are_operands n (words_of c.flag c.met c.file rest)) ≡ true
+    → fault_of program_app (program ∷ c.name ∷ rest) ≡ []
+words_fit c is n count program rest e = found_passes c is program rest (seen_of c.flag c.met c.file rest)
+    (formed_found c.flag is.long is.command.apart.1 rest c.ids c.met c.file n count e)
+
+seen_is : (c : Form) → IsSubcommand c → (rest : List Text) (rows : List Row) (took : Took c rest rows)
+    → seen_of c.flag c.met c.file rest ≡ took.0
+seen_is c is rest rows took = found_is c.flag is.long is.command.apart.1 rest c.ids c.met c.file took.0 took.1
+
+named_passes : (program name word : Text) (rest : List Text) (b : Bool) → (bytes_eq word name && b) ≡ true
+    → (b ≡ true → fault_of program_app (program ∷ name ∷ rest) ≡ []) → fault_of program_app (program ∷ word ∷ rest) ≡ []
+named_passes program name word rest b e passes =
+    let p = both (bytes_eq word name) b e in
+    subst (λ (t : Text). fault_of program_app (program ∷ t ∷ rest) ≡ []) (sym ((bytes_eq-Decides word name).0 p.0)) (passes p.1)
+
+pub words_pass : (words : List Text) → is_well_formed words ≡ true → fault_of program_app words ≡ []
+words_pass [] e = absurd (true≢false (sym e))
+words_pass (program ∷ []) e = absurd (true≢false (sym e))
+words_pass (program ∷ name ∷ rest) e = elim (or_cases (bytes_eq name (codes "run") && is_run rest)
+    (bytes_eq name (codes "check") && is_check rest || bytes_eq name (codes "explain") && is_explain rest) e) [
+      | inl run ↦ named_passes program (codes "run") name rest _ run (words_fit run_form run_sub 4 refl program rest)
+      | inr other ↦ elim (or_cases (bytes_eq name (codes "check") && is_check rest)
+          (bytes_eq name (codes "explain") && is_explain rest) other) [
+            | inl check ↦ named_passes program (codes "check") name rest _ check (words_fit check_form check_sub 2 refl program rest)
+            | inr code ↦ named_passes program (codes "explain") name rest _ code (words_fit explain_form explain_sub 1 refl program rest)
+          ]
+    ]
+
+-- ---- the parse, as the caller sees it
+
+pub is_simple_program : is_simple_and_free program_app ≡ true
+unfolding clap_on_literals
+is_simple_program = refl
+
+is_simple_app : is_simple program_app ≡ true
+unfolding clap_on_literals
+is_simple_app = refl
+
+option_maps : {A B C : Type 0} (f : B → C) (g : A → B) (o : Option A)
+    → option_map (λ a. f (g a)) o ≡ option_map f (option_map g o)
+option_maps f g None = refl
+option_maps f g (Some a) = refl
+
+-- the subcommand's name and its matches
+pub given_as : (o : Option (Bor Text × Bor ArgMatches)) (p : Bor Text × Bor ArgMatches) (name : Option Text)
+    (rows : Option (List Row)) → o ≡ Some p
+    → option_map (λ (q : Bor Text × Bor ArgMatches). q.0.now) o ≡ name
+    → option_map (λ (q : Bor Text × Bor ArgMatches). rows_of (found_of q.1.now)) o ≡ rows
+    → (Some p.0.now ≡ name) × (Some (rows_of (found_of p.1.now)) ≡ rows)
+given_as o p name rows is n e = (
+  ap (option_map (λ (q : Bor Text × Bor ArgMatches). q.0.now)) (sym is) ∙ n,
+  ap (option_map (λ (q : Bor Text × Bor ArgMatches). rows_of (found_of q.1.now))) (sym is) ∙ e,
+)
+
+abbrev pub HasRead : List Text → Text → List Row → Type 0
+HasRead words name rows = (program : Text) × (rest : List Text) × (words ≡ program ∷ name ∷ rest) × TookTask name rest rows
+
+pub has_read : (app : App) (words : List Text) (m : ArgMatches) (name : Text) (rows : List Row) → app ≡ program_app
+    → (is_simple_and_free app ≡ true → fault_of app words ≡ []) → HasMatchesOf app words m
+    → (Some name ≡ subcommand_name_of m) × (Some rows
+    ≡ option_map (λ (p : Text × List Row). p.1) (subcommand_rows_of m)) → HasRead words name rows
+has_read app words m name rows is fault matches found =
+    let got = task_read words (subst (λ (a : App). fault_of a words ≡ []) is
+    (fault (ap is_simple_and_free is ∙ is_simple_program))) in
+    let sub : subcommand_rows_of m ≡ Some (got.1, got.3) =
+    (matches (ap is_simple is ∙ is_simple_app)).1 ∙ ap (λ (a : App). subcommand_of a words) is ∙ got.5 in
+    let named : subcommand_name_of m ≡ option_map (λ (p : Text × List Row). p.0) (subcommand_rows_of m) =
+    option_maps (λ (p : Text × List Row). p.0) _ (out-ArgMatches m).subcommand in
+    let same : Some name ≡ Some got.1 = found.0 ∙ named ∙ ap (option_map (λ (p : Text × List Row). p.0)) sub in
+    let name_is : name ≡ got.1 = cc in
+    let all : Some rows ≡ Some got.3 = found.1 ∙ ap (option_map (λ (p : Text × List Row). p.1)) sub in
+    let rows_are : rows ≡ got.3 = cc in
+    subst (λ (p : Text × List Row). HasRead words p.0 p.1) (λ j. (sym name_is j, sym rows_are j)) (got.0, got.2, got.4, got.6)
+
+-- ---- the values
+
+-- the paths have values
+abbrev Given : Found → List Text → Type 0
+Given f [] = Unit {0}
+Given f (id ∷ ids) = IsSome (first_value f id) × Given f ids
+
+-- and these
+abbrev Firsts : Found → List Text → List Text → Type 0
+Firsts f (id ∷ ids) (v ∷ vs) = (first_value f id ≡ Some v) × Firsts f ids vs
+Firsts f [] [] = Unit {0}
+Firsts f _ _ = ⊥
+
+first_is : (f : Found) (id word : Text) → row_at id (rows_of f) ≡ Some (row id word) → first_value f id ≡ Some word
+first_is f id word at = first_value-rows f id ∙ ap (option_and_then (λ (r : Row). slice_get r.values 0)) at
+
+some_is : (o : Option Text) (v : Text) → o ≡ Some v → IsSome o
+some_is (Some s) v e = search rules
+some_is None v e = cc
+
+given : (f : Found) (ids ops : List Text) → Values (rows_of f) ids ops → Given f ids
+given f [] ops values = tt
+given f (id ∷ ids) [] values = absurd values
+given f (id ∷ ids) (word ∷ ops) values = (some_is _ word (first_is f id word values.0), given f ids ops values.1)
+
+firsts : (f : Found) (ids ops vs : List Text) → Values (rows_of f) ids ops → Firsts f ids vs → ops ≡ vs
+firsts f [] [] [] values all = refl
+firsts f [] [] (v ∷ vs) values all = absurd all
+firsts f [] (word ∷ ops) vs values all = absurd values
+firsts f (id ∷ ids) [] vs values all = absurd values
+firsts f (id ∷ ids) (word ∷ ops) [] values all = absurd all
+firsts f (id ∷ ids) (word ∷ ops) (v ∷ vs) values all =
+    let same : Some word ≡ Some v = sym (first_is f id word values.0) ∙ all.0 in
+    let word_is : word ≡ v = cc in
+    λ j. word_is j ∷ firsts f ids ops vs values.1 all.1 j
+
+text_of : (id : Text) (met : Bool) → row_text (source_of id met) ≡ Some (bool_text met)
+text_of id true = refl
+text_of id false = refl
+
+-- a flag, as it is read
+flag_is : (f : Found) (id : Text) (met result : Bool) → row_at id (rows_of f) ≡ Some (source_of id met)
+    → (one_text f id ≡ Some (codes "true") → result ≡ true) × (one_text f id ≡ Some (codes "false") → result ≡ false)
+    → result ≡ met
+flag_is f id met result at when =
+    go met (one_text-rows f id ∙ ap (option_and_then (λ (r : Row). row_text r)) at ∙ text_of id met)
+  where
+    go : (m : Bool) → one_text f id ≡ Some (bool_text m) → result ≡ m
+    go true r = when.0 r
+    go false r = when.1 r
+
+file_of : (file : Option Text) → option_and_then (λ (r : Row). slice_get r.values 0) (row_of (codes "report") file) ≡ file
+file_of None = refl
+file_of (Some f) = refl
+
+-- ---- the subcommand, and its task
+
+-- the required arguments of a subcommand have values
+pub has_task : (words : List Text) (name : Text) (f : Found) → HasRead words name (rows_of f) → HasTask name f
+has_task words name f got = record {
+  check = λ same.
+      let took = got.3.check same in
+      let all = given f check_form.ids took.0.0 took.2.values in
+      (all.0, all.1.0);
+  explaining = λ same. let took = got.3.explaining same in (given f explain_form.ids took.0.0 took.2.values).0;
+  run = λ other last.
+      let took = (got.3.run other last).1 in
+      let all = given f run_form.ids took.0.0 took.2.values in
+      (all.0, all.1.0, all.1.1.0, all.1.1.1.0);
+}
+
+-- the task is the one that the words request
+pub task_requested : (words : List Text) (name : Text) (f : Found) (task : Task)
+    → HasRead words name (rows_of f) → GivesTask name f task → RequestsTask words task
+task_requested words name f (Run task) got gives =
+    let took = (got.3.run gives.0 gives.1).1 in
+    let rest = got.1 in
+    let seen = seen_is run_form run_sub rest (rows_of f) took in
+    let named : words ≡ got.0 ∷ codes "run" ∷ rest = got.2 ∙ ap (λ (n : Text). got.0 ∷ n ∷ rest) (got.3.run gives.0 gives.1).0 in
+    subst (λ (ws : List Text). RequestsTask ws (Run task)) (sym named) (
+      refl,
+      words_formed run_form run_sub 4 refl rest (rows_of f) took,
+      gives.3 ∙ first_value-rows f (codes "report") ∙ ap (option_and_then (λ (r : Row). slice_get r.values 0)) (took.2.filed refl)
+          ∙ file_of took.0.2 ∙ ap (λ (m : Seen). m.2) (sym seen),
+      flag_is f (codes "trace") took.0.1 task.trace (took.2.flagged refl) gives.2 ∙ ap (λ (m : Seen). m.1) (sym seen),
+      ap (λ (m : Seen). m.0) seen
+          ∙ firsts f run_form.ids took.0.0 (path_texts task.paths) took.2.values (gives.4, (gives.5, (gives.6, (gives.7, tt)))),
+    )
+task_requested words name f (Check task) got gives =
+    let took = got.3.check gives.0 in
+    let rest = got.1 in
+    let seen = seen_is check_form check_sub rest (rows_of f) took in
+    let named : words ≡ got.0 ∷ codes "check" ∷ rest =
+    got.2 ∙ ap (λ (n : Text). got.0 ∷ n ∷ rest) ((bytes_eq-Decides name (codes "check")).0 gives.0) in
+    subst (λ (ws : List Text). RequestsTask ws (Check task)) (sym named) (
+      refl,
+      words_formed check_form check_sub 2 refl rest (rows_of f) took,
+      flag_is f (codes "all") took.0.1 task.all (took.2.flagged refl) gives.1 ∙ ap (λ (m : Seen). m.1) (sym seen),
+      ap (λ (m : Seen). m.0) seen
+          ∙ firsts f check_form.ids took.0.0 (task.texts.rules.now ∷ task.texts.plant.now ∷ []) took.2.values (gives.2, (gives.3, tt)),
+    )
+task_requested words name f (Explain code) got gives =
+    let took = got.3.explaining gives.0 in
+    let rest = got.1 in
+    let seen = seen_is explain_form explain_sub rest (rows_of f) took in
+    let named : words ≡ got.0 ∷ codes "explain" ∷ rest =
+    got.2 ∙ ap (λ (n : Text). got.0 ∷ n ∷ rest) ((bytes_eq-Decides name (codes "explain")).0 gives.0) in
+    subst (λ (ws : List Text). RequestsTask ws (Explain code)) (sym named) (
+      refl,
+      words_formed explain_form explain_sub 1 refl rest (rows_of f) took,
+      ap (λ (m : Seen). m.0) seen ∙ firsts f explain_form.ids took.0.0 (code.now ∷ []) took.2.values (gives.1, tt),
+    )
+
+-- ---- errors
+
+pub refused : (app : App) (words : List Text) (e : Error) → app ≡ program_app
+    → (is_simple_and_free app ≡ true → HasKind (fault_of app words) e)
+    → fault_of program_app words ≡ [] → kind_of e ≡ OutOfMemory
+refused app words e is kinds none =
+    elim (subst (λ (ks : Kinds). HasKind ks e) (ap (λ (a : App). fault_of a words) is ∙ none)
+    (kinds (ap is_simple_and_free is ∙ is_simple_program))) [
+      | inl memory ↦ memory
+      | inr other ↦ absurd other
+    ]

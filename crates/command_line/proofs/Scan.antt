@@ -1,0 +1,84 @@
+-- What clap takes of the words of a subcommand, in one pass over them.
+use Rattle.std.proofs.Common.{◌&&◌, ◌∷◌, [], Bool, List, None, Option, Some, codes, cond, false, is_some, not, true}
+use Rattle.std.specs.Prelude.{option_map, slice_get}
+use Rattle.std.specs.Option.{option_map_or}
+use Rattle.std.specs.Str.{bytes_eq, chars}
+use Rattle.clap.specs.Lexer.{long_of, short_of}
+use Rattle.clap.specs.Walk.{Text}
+
+-- where a word stands: before any `--`, after one, or behind `--report`
+pub data Place : Type 0 where
+  before : Place
+  after : Place
+  naming : Place
+
+-- what a word before any `--` is: `--` itself, the flag, the report's option with any FILE in the same
+-- word, an operand, or none of them
+pub data Kind : Type 0 where
+  dashes : Kind
+  flagged : Kind
+  filed : Option Text → Kind
+  operand : Kind
+  odd : Kind
+
+-- no short flag begins in the word
+abbrev pub has_no_short : Option Text → Bool
+has_no_short flags = option_map_or (λ fs. not (is_some (slice_get (chars fs) 0))) flags true
+
+-- clap takes the word for an operand
+abbrev pub is_taken : Text → Bool
+is_taken word = not (bytes_eq word (codes "--")) && (not (is_some (long_of word)) && has_no_short (short_of word))
+
+abbrev pub flag_kind : Option Text → Kind
+flag_kind None = flagged
+flag_kind (Some value) = odd
+
+abbrev pub long_kind : Bool → Bool → Option Text → Kind
+long_kind is_flag is_report value = cond is_flag (flag_kind value) (cond is_report (filed value) odd)
+
+abbrev pub kind_by : Text → Option (Text × Option Text) → Bool → Kind
+kind_by flag None plain = cond plain operand odd
+kind_by flag (Some q) plain = long_kind (bytes_eq flag q.0) (bytes_eq (codes "report") q.0) q.1
+
+-- the operands, whether the flag was met, and the report's file
+abbrev pub Seen : Type 0
+Seen = List Text × Bool × Option Text
+
+-- what the words after one give, by the place, the operands that are left, whether the flag was met, and
+-- the report's file
+abbrev pub Later : Type 0
+Later = Place → List Text → Bool → Option Text → Option Seen
+
+abbrev pub with_operand : Text → Option Seen → Option Seen
+with_operand word seen = option_map (λ m. (word ∷ m.0, m.1, m.2)) seen
+
+abbrev pub operand_met : Text → Place → List Text → Bool → Option Text → Later → Option Seen
+operand_met word place [] met file later = None
+operand_met word place (id ∷ left) met file later = with_operand word (later place left met file)
+
+abbrev pub word_met : Kind → Text → List Text → Bool → Option Text → Later → Option Seen
+word_met dashes word left met file later = later after left met file
+word_met flagged word left true file later = None
+word_met flagged word left false file later = later before left true file
+word_met (filed value) word left met (Some f) later = None
+word_met (filed None) word left met None later = later naming left met None
+word_met (filed (Some f)) word left met None later = later before left met (Some f)
+word_met operand word left met file later = operand_met word before left met file later
+word_met odd word left met file later = None
+
+abbrev pub at_end : List Text → Bool → Option Text → Option Seen
+at_end [] met file = Some ([], met, file)
+at_end (id ∷ left) met file = None
+
+-- the words, of which those that pass the test are operands
+module _ (is_operand : Text → Bool) (flag : Text) where
+  abbrev pub kind : Text → Kind
+  kind word = cond (bytes_eq word (codes "--")) dashes (kind_by flag (long_of word) (is_operand word))
+
+  abbrev pub scan : List Text → Place → List Text → Bool → Option Text → Option Seen
+  scan [] before left met file = at_end left met file
+  scan [] after left met file = at_end left met file
+  scan [] naming left met file = None
+  scan (word ∷ rest) before left met file = word_met (kind word) word left met file (scan rest)
+  scan (word ∷ rest) after left met file = operand_met word after left met file (scan rest)
+  scan (word ∷ rest) naming left met file = cond (is_operand word) (scan rest before left met (Some word)) None
