@@ -2,7 +2,9 @@
 ghost use Rattle.std.specs.Prelude.{◌≡◌, ◌+◌, ◌<◌, ◌≤◌, ◌↔◌, ◌++◌, ◌∷◌, [], ℕ, IsTrue, List, false, length, map, IfOk, IsOk, OnErr, OnOk, Err};
 ghost use Rattle.ip_headers.specs.declared.tuple.Mapping.{Mapping};
 ghost use Rattle.conntrack.specs.declared.connection.ConnId.{ConnId};
-ghost use Rattle.conntrack.specs.ConntrackEntry.{IsNoneLater, begun_with, belongs_in, connection_of, has_distinct_ids, has_id, is_taken, live_at, max_connections, touched_at};
+ghost use Rattle.conntrack.specs.ConntrackEntry.{IsNoneLater, begun_with, belongs_in, connection_of};
+ghost use Rattle.conntrack.specs.ConntrackEntry.{has_distinct_ids, has_id, is_taken, live_at, max_connections};
+ghost use Rattle.conntrack.specs.ConntrackEntry.{touched_at};
 ghost use Rattle.conntrack.specs.Phases.{no_flags};
 ghost use Rattle.conntrack.specs.Updates.{after_end};
 ghost use Rattle.ip_headers.specs.Tuple.{inverse};

@@ -8,6 +8,9 @@ use std::simd::prelude::*;
 /// How many bytes are summed at a time, one in each SIMD lane.
 const BLOCK: usize = 16;
 
+/// The length of a header without options.
+const PLAIN_HEADER: usize = 20;
+
 /// The ones' complement sum of the big-endian 16-bit words (RFC 1071); an odd last byte is padded
 /// with a zero byte. It is 0 only where every byte is 0. A header with a correct checksum sums up
 /// to ffff.
@@ -24,6 +27,18 @@ pub fn ones_sum(bytes: &[u8]) -> u16
         rest = others;
     }
     add_words(sum, rest)
+}
+
+/// The sum of a header. Most have no options: their five double words are summed one by one, which
+/// takes less than one block and a rest.
+pub(crate) fn header_sum(header: &[u8]) -> u16
+    ensures { result ≡ ones_sum_of header.now }
+{
+    if header.len() == PLAIN_HEADER {
+        add_words(0, header)
+    } else {
+        ones_sum(header)
+    }
 }
 
 /// A smaller number with the same ones' complement sum (2^32 is congruent to 1 modulo 65535).
@@ -61,6 +76,7 @@ fn fold(sum: u64) -> u16
 }
 
 /// Adds these bytes to the sum, two words at a time, and folds it.
+#[inline(always)]
 fn add_words(start: u64, bytes: &[u8]) -> u16
     requires { start < 8589934592 }
     ensures { result ≡ folded (start + words_sum bytes.now) }

@@ -4,7 +4,7 @@ ghost use Rattle.std.specs.Result.{result_err as err_of};
 ghost use Rattle.ip_headers.specs.Header.{fault_of, packet_of, payload_of, header_len, total_len, protocol, source, destination, transport_of, ttl};
 ghost use Rattle.ip_headers.specs.Tuple.{inner_tuple_of, is_error, tuple_of};
 
-use crate::sum::ones_sum;
+use crate::sum::header_sum;
 use crate::transport::{self, Transport};
 use crate::tuple::{self, Tuple};
 use byteorder::{BigEndian, ByteOrder};
@@ -87,7 +87,7 @@ impl<'a> View<'a> {
         }
         let packet = &bytes[..total_len];
         let (header, payload) = packet.split_at(header_len);
-        if ones_sum(header) != 0xffff {
+        if header_sum(header) != 0xffff {
             return Err(HeaderFault::Checksum);
         }
         // MF and the fragment offset: all but the reserved bit and DF.

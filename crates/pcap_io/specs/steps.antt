@@ -1,3 +1,4 @@
 pub mod ReadAhead
 pub mod CaptureInvariant
 pub mod Written
+pub mod Buffered

@@ -130,12 +130,16 @@ impl Model for Capture {
 }
 
 impl Capture {
-    ghost use Rattle.std.specs.Prelude.{◌≡◌, ◌≢◌, ◌<◌, ◌≤◌, ◌+◌, ◌++◌, ℕ, List, [], length, drop, true, false, Some, None, Ok, Err, IfOk, IfErr, IfSome, IsNone, IsErrOf, OnOk, OnErr};
+    ghost use Rattle.std.specs.Prelude.{◌≡◌, ◌≢◌, ◌<◌, ◌≤◌, ◌+◌, ◌++◌, ℕ, List, [], length, drop, true, false, Some};
+    ghost use Rattle.std.specs.Prelude.{None, Ok, Err, IfOk, IfErr, IfSome, IsNone, IsErrOf, OnOk, OnErr};
     ghost use Rattle.std.specs.Io.KnownBytes.{Consumes, IsAtEnd};
     ghost use Rattle.pcap_io.specs.Counting.{one_more};
     ghost use Rattle.pcap_io.specs.Pcap.{format_of, MOMENTS_END};
     ghost use Rattle.pcap_io.specs.Pcap as pcap;
-    ghost use Rattle.pcap_io.specs.CaptureStates.{CaptureState, READ_AHEAD, IsDone, ahead, is_ready, decides_next, IsPartialRecord, NextAnswers, RefusedBy, IsOfHeader, IsOfRecords, recorded};
+    ghost use Rattle.pcap_io.specs.CaptureStates.{CaptureState, READ_AHEAD, IsDone, ahead, is_ready, decides_next};
+    ghost use Rattle.pcap_io.specs.CaptureStates.{IsPartialRecord, NextAnswers, ReadsRecord, RefusedBy, IsOfHeader};
+    ghost use Rattle.pcap_io.specs.CaptureStates.{IsOfRecords, recorded};
+    ghost use Rattle.pcap_io.specs.steps.Buffered.{IsBuffered};
 
     /// Allocates the buffer and reads the file header.
     ///
@@ -216,6 +220,7 @@ impl Capture {
     /// # Errors
     /// `Refused` with `TornEnd`, `Malformed` or `TooMany`; `Device` after a failed read, which
     /// isn't tried again. After an error each call returns the same error and reads nothing.
+    #[inline(always)]
     pub fn next<R: Read>(&mut self, reader: &mut Counted<R>) -> Result<bool, CaptureError>
         ensures again { IfSome self.old.fault (λ fault. IsErrOf result fault
             × (self.new ≡ self.old)) }
@@ -264,6 +269,11 @@ impl Capture {
     {
         if let Some(fault) = self.fault {
             return Err(fault);
+        }
+        // Most records are buffered whole: their headers are decoded once.
+        if let Some(header) = self.buffered_record() {
+            self.advance(header);
+            return Ok(true);
         }
         self.last = None;
         while !self.is_ready() {
@@ -315,6 +325,35 @@ impl Capture {
             Ok(header) => header,
             Err(fault) => return self.fail(fault),
         };
+        self.advance(header);
+        Ok(true)
+    }
+
+    /// The header of the next record, if the buffer has the whole record.
+    #[inline(always)]
+    fn buffered_record(&self) -> Option<RecordHeader>
+        ensures { IfSome result (IsBuffered self.now.format self.now.count self.now.held) }
+    {
+        if self.count == MOST_RECORDS {
+            return None;
+        }
+        RecordHeader::read(self.format, self.buffer.held()).ok()
+    }
+
+    /// Takes the next record from the buffer, which has all of it.
+    #[inline(always)]
+    fn advance(&mut self, header: RecordHeader)
+        requires { IsBuffered self.old.format self.old.count self.old.held header }
+        ensures reads { (more : List ℕ) → ReadsRecord (self.old.held ++ more)
+            (Some (self.new.held ++ more)) self.old self.new }
+        ensures same { (self.new.format ≡ self.old.format) × (self.new.ended ≡ self.old.ended)
+            × (self.new.fault ≡ self.old.fault) }
+        ensures counted { self.new.count ≡ self.old.count + 1 }
+        ensures room { length self.new.held ≤ READ_AHEAD }
+        ensures record { IfSome self.new.last (λ r. (r.moment < MOMENTS_END)
+            × (length r.bytes < 262145)) }
+        ensures some { self.new.last ≢ None }
+    {
         self.count += 1;
         let moment = self
             .format
@@ -324,7 +363,6 @@ impl Capture {
         self.buffer
             .take(RECORD_HEADER_BYTES + header.captured as usize);
         self.last = Some(header.captured as usize);
-        Ok(true)
     }
 
     /// Makes this the error of this call and of all later ones.

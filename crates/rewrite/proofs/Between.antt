@@ -1,28 +1,29 @@
 -- A packet rewritten to the endpoints of a tuple has that tuple.
-use Rattle.std.proofs.Common.{◌≡◌, ℕ, ◌+◌, ◌*◌, ◌%◌, ◌<◌, ◌≤◌, inl, inr, ⊎_elim, Option, Some, None, List, length}
+use Rattle.std.proofs.Common.{◌≡◌, ℕ, ◌+◌, ◌<◌, ◌≤◌, inl, inr, ⊎_elim, Option, Some, None, List, length}
 use Rattle.std.proofs.Common.{get_or, take, drop, Bool, true, false, refl, sym, ap, subst, ◌∙◌, arith}
 use Rattle.std.specs.Prelude.{◌==◌, ◌&&◌, ◌||◌, if◌then◌else◌}
 use Rattle.std.specs.Option.{option_map}
 use Rattle.std.proofs.lemmas.Bool.{eqb-true, ne_eqb, cases_eq}
-use Rattle.std.proofs.lemmas.List.{get_or-set_other, length-set}
+use Rattle.std.proofs.lemmas.List.{get_or-set_other}
 use Rattle.ip_headers.specs.declared.tuple.Kind.{Kind}
 use Rattle.ip_headers.specs.declared.tuple.Kind.TheVariants.{Tcp, Udp, EchoRequest, EchoReply, Other}
 use Rattle.ip_headers.specs.declared.tuple.Tuple.{Tuple}
 use Rattle.ip_headers.specs.Bytes.{byte_at, u16_at, u32_at, with_u16, with_u32}
 use Rattle.ip_headers.specs.Header.{header_len, payload_at, payload_of, protocol, protocol_at, total_len, source, destination}
 use Rattle.ip_headers.specs.Passing.{Passes}
-use Rattle.ip_headers.specs.Transport.{icmp_type, transport_is_malformed}
+use Rattle.ip_headers.specs.Transport.{icmp_type}
 use Rattle.ip_headers.specs.Tuple.{kind_of, port_from, port_to, tuple_of, tuple_with}
 use Rattle.rewrite.specs.declared.change.Change.{Change}
 use Rattle.rewrite.specs.declared.change.PortsOrIdentifier.TheVariants.{Ports, Identifier}
 use Rattle.rewrite.specs.Endpoints.{PortsMatchKind, between, ports_or_identifier}
-use Rattle.rewrite.specs.Rewritten.{has_identifier, write_if_some, replaced, with_destination, with_numbers, with_ports, with_source, with_ttl}
+use Rattle.rewrite.specs.Rewritten.{has_identifier, write_if_some, replaced, with_numbers, with_ports, with_ttl}
 use Rattle.rewrite.proofs.Places.{length-word, length-number, number_apart, number_written, word_apart, word_written}
 use Rattle.rewrite.proofs.Whole.{is_icmp}
-use Rattle.rewrite.proofs.Lengths.{length-named}
-use Rattle.rewrite.proofs.Sent.{named_byte, sent, sent_byte, sent_header, sent_icmp, sent_icmp_byte}
+use Rattle.rewrite.proofs.Lengths.{icmp_long, tcp_long, udp_long}
+use Rattle.rewrite.proofs.Writes.{AsLong, as_long, timed_by}
+use Rattle.rewrite.proofs.Sent.{named_byte, sent, sent_header, sent_icmp, sent_icmp_byte}
 use Rattle.rewrite.proofs.Sent.{sent_tcp, sent_udp, timed, timed_byte, timed_payload, timed_protocol}
-use Rattle.rewrite.proofs.Passed.{payload_byte, tcp_room, within}
+use Rattle.rewrite.proofs.Passed.{SameHead, same_head, payload_byte, tcp_room, within}
 
 -- ---- fields of the payload
 
@@ -43,27 +44,6 @@ number_same : (xs ys : List ℕ) (k : ℕ) → get_or xs k 0 ≡ get_or ys k 0 �
     → get_or xs (k + 2) 0 ≡ get_or ys (k + 2) 0 → get_or xs (k + 2 + 1) 0 ≡ get_or ys (k + 2 + 1) 0
     → u32_at xs k ≡ u32_at ys k
 number_same xs ys k a b c d = rw (a, b, c, d) refl
-
--- ---- the header of the rewritten packet
-
-pub record SameHead (p q : List ℕ) : Type 0 where
-  pub protocol : protocol q ≡ protocol p
-  pub header : header_len q ≡ header_len p
-  pub total : total_len q ≡ total_len p
-
-same_head : (p : List ℕ) (change : Change) → Passes p → SameHead p (sent p change)
-same_head p change ok =
-    let long : 20 ≤ header_len p = ok.head.long in
-    let q = sent p change in
-    let second : get_or q 2 0 ≡ get_or p 2 0 =
-    sent_byte p change 2 (omega (arith, long)) (inl (omega arith)) (omega arith) (inl (omega arith)) in
-    let third : get_or q 3 0 ≡ get_or p 3 0 =
-    sent_byte p change 3 (omega (arith, long)) (inl (omega arith)) (omega arith) (inl (omega arith)) in
-    record {
-      protocol = sent_byte p change 9 (omega (arith, long)) (inl (omega arith)) (omega arith) (inl (omega arith));
-      header = ap (λ b. b % 16 * 4) (sent_byte p change 0 (omega (arith, long)) (inl (omega arith)) (omega arith) (inl (omega arith)));
-      total = rw (second, third) refl;
-    }
 
 -- ---- addresses
 
@@ -106,12 +86,7 @@ identifier_there : (t : List ℕ) (number offset id : ℕ) → protocol_at 0 t �
 identifier_there t number offset id is here some = rw (is, here, some) refl
 
 length-timed : (p : List ℕ) (change : Change) → length (timed p change) ≡ length p
-length-timed p change =
-    let from = write_if_some (with_source 0) p change.source in
-    let to = write_if_some (with_destination 0) from change.destination in
-    length-named (with_ttl 0) to change.ttl (λ n. length-set to 8 n)
-    ∙ length-named (with_destination 0) from change.destination (λ n. length-number from 16 n)
-    ∙ length-named (with_source 0) p change.source (λ n. length-number p 12 n)
+length-timed p change = timed_by (AsLong p) 0 (as_long p) 0 p change (omega arith) refl
 
 -- the words at the front of the payload
 abbrev Fronts : List ℕ → List ℕ → ℕ → ℕ → Type 0
@@ -140,39 +115,16 @@ shown p q from to same room fronts = (
       (omega (arith, room)) ∙ fronts.1),
 )
 
-pub tcp_long : (payload : List ℕ) → transport_is_malformed 6 payload ≡ false → 18 ≤ length payload
-tcp_long payload right = grind (arith, right)
-
-pub udp_long : (payload : List ℕ) → transport_is_malformed 17 payload ≡ false → 8 ≤ length payload
-udp_long payload right = grind (arith, right)
-
-pub icmp_long : (payload : List ℕ) → transport_is_malformed 1 payload ≡ false → 8 ≤ length payload
-icmp_long payload right = grind (arith, right)
-
-tcp_ports : (p : List ℕ) (change : Change) (from to : ℕ) → Passes p → protocol p ≡ 6
-    → change.numbers ≡ Some (Ports from to) → (u16_at (payload_of (sent p change)) 0 ≡ from)
-    × (u16_at (payload_of (sent p change)) 2 ≡ to)
-tcp_ports p change from to ok six e =
+ports_shown : (p : List ℕ) (change : Change) (number from to : ℕ) → Passes p → protocol p ≡ number
+    → (number == 6 || number == 17) ≡ true → change.numbers ≡ Some (Ports from to) → payload_at 0 p + 4 ≤ total_len p
+    → ((k : ℕ) → payload_at 0 p ≤ k → k < payload_at 0 p + 4 → get_or (sent p change) k 0 ≡ get_or (replaced 0 p change) k 0)
+    → (u16_at (payload_of (sent p change)) 0 ≡ from) × (u16_at (payload_of (sent p change)) 2 ≡ to)
+ports_shown p change number from to ok is some e room same =
     let t = timed p change in
-    let enough = tcp_long (payload_of p) (rw six at ok.transport) in
     let r : replaced 0 p change ≡ with_ports (payload_at 0 p) t from to = ap (λ o. write_if_some (with_numbers 0) t o) e
-    ∙ ports_there t 6 (payload_at 0 p) from to (timed_protocol p change ∙ six) (timed_payload p change) refl in
-    shown p (sent p change) from to (same_head p change ok) (omega (arith, enough, within p ok))
-    (ported p t (replaced 0 p change) (sent p change) from to r (omega (arith, length-timed p change, tcp_room p ok six))
-    (λ k past lt. sent_tcp p change k (omega (arith, ok.head.long)) six (tcp_room p ok six) past (inl (omega (arith, lt)))))
-
-udp_ports : (p : List ℕ) (change : Change) (from to : ℕ) → Passes p → protocol p ≡ 17
-    → change.numbers ≡ Some (Ports from to) → (u16_at (payload_of (sent p change)) 0 ≡ from)
-    × (u16_at (payload_of (sent p change)) 2 ≡ to)
-udp_ports p change from to ok seventeen e =
-    let t = timed p change in
-    let enough = udp_long (payload_of p) (rw seventeen at ok.transport) in
-    let r : replaced 0 p change ≡ with_ports (payload_at 0 p) t from to = ap (λ o. write_if_some (with_numbers 0) t o) e
-    ∙ ports_there t 17 (payload_at 0 p) from to (timed_protocol p change ∙ seventeen)
-    (timed_payload p change) refl in
-    shown p (sent p change) from to (same_head p change ok) (omega (arith, enough, within p ok))
-    (ported p t (replaced 0 p change) (sent p change) from to r (omega (arith, length-timed p change, enough, within p ok, ok.head.whole))
-    (λ k past lt. sent_udp p change k (omega (arith, ok.head.long)) seventeen past (inl (omega (arith, lt)))))
+    ∙ ports_there t number (payload_at 0 p) from to (timed_protocol p change ∙ is) (timed_payload p change) some in
+    shown p (sent p change) from to (same_head p change ok) room
+    (ported p t (replaced 0 p change) (sent p change) from to r (omega (arith, length-timed p change, room, ok.head.whole)) same)
 
 icmp_identifier : (p : List ℕ) (change : Change) (id : ℕ) → Passes p
     → has_identifier (protocol p) (icmp_type (payload_of p)) ≡ true
@@ -208,55 +160,26 @@ kind_by a b c d f number = if a then Some Tcp
     else (if b then Some Udp else (if c then (if d then Some EchoRequest else (if f then Some EchoReply else None))
     else Some (Other number)))
 
-by_tcp : (a b c d f : Bool) (number : ℕ) → kind_by a b c d f number ≡ Some Tcp → a ≡ true
-by_tcp true b c d f number e = refl
-by_tcp false true c d f number e = cc
-by_tcp false false true true f number e = cc
-by_tcp false false true false true number e = cc
-by_tcp false false true false false number e = cc
-by_tcp false false false d f number e = cc
+abbrev Named : Bool → Bool → Bool → Bool → Bool → Kind → Type 0
+Named a b c d f Tcp = a ≡ true
+Named a b c d f Udp = b ≡ true
+Named a b c d f EchoRequest = (c && (d || f)) ≡ true
+Named a b c d f EchoReply = (c && (d || f)) ≡ true
+Named a b c d f (Other number) = Unit {0}
 
-by_udp : (a b c d f : Bool) (number : ℕ) → kind_by a b c d f number ≡ Some Udp → b ≡ true
-by_udp true b c d f number e = cc
-by_udp false true c d f number e = refl
-by_udp false false true true f number e = cc
-by_udp false false true false true number e = cc
-by_udp false false true false false number e = cc
-by_udp false false false d f number e = cc
+named : (a b c d f : Bool) (number : ℕ) (kind : Kind) → kind_by a b c d f number ≡ Some kind → Named a b c d f kind
+named true b c d f number kind e = let is : Tcp ≡ kind = cc in subst (Named true b c d f) is refl
+named false true c d f number kind e = let is : Udp ≡ kind = cc in subst (Named false true c d f) is refl
+named false false true true f number kind e = let is : EchoRequest ≡ kind = cc in subst (Named false false true true f) is refl
+named false false true false true number kind e = let is : EchoReply ≡ kind = cc in subst (Named false false true false true) is refl
+named false false true false false number kind e = cc
+named false false false d f number kind e = let is : Other number ≡ kind = cc in subst (Named false false false d f) is tt
 
-by_ask : (a b c d f : Bool) (number : ℕ) → kind_by a b c d f number ≡ Some EchoRequest → (c && (d || f)) ≡ true
-by_ask true b c d f number e = cc
-by_ask false true c d f number e = cc
-by_ask false false true true f number e = refl
-by_ask false false true false true number e = cc
-by_ask false false true false false number e = cc
-by_ask false false false d f number e = cc
-
-by_answer : (a b c d f : Bool) (number : ℕ) → kind_by a b c d f number ≡ Some EchoReply → (c && (d || f)) ≡ true
-by_answer true b c d f number e = cc
-by_answer false true c d f number e = cc
-by_answer false false true true f number e = cc
-by_answer false false true false true number e = refl
-by_answer false false true false false number e = cc
-by_answer false false false d f number e = cc
-
-tcp_number : (number : ℕ) (payload : List ℕ) → kind_of number payload ≡ Some Tcp → number ≡ 6
-tcp_number number payload e = eqb-true number 6
-    (by_tcp (number == 6) (number == 17) (number == 1) (icmp_type payload == 8) (icmp_type payload == 0) number e)
-
-udp_number : (number : ℕ) (payload : List ℕ) → kind_of number payload ≡ Some Udp → number ≡ 17
-udp_number number payload e = eqb-true number 17
-    (by_udp (number == 6) (number == 17) (number == 1) (icmp_type payload == 8) (icmp_type payload == 0) number e)
-
-ask_there : (number : ℕ) (payload : List ℕ) → kind_of number payload ≡ Some EchoRequest
-    → has_identifier number (icmp_type payload) ≡ true
-ask_there number payload e =
-    by_ask (number == 6) (number == 17) (number == 1) (icmp_type payload == 8) (icmp_type payload == 0) number e
-
-answer_there : (number : ℕ) (payload : List ℕ) → kind_of number payload ≡ Some EchoReply
-    → has_identifier number (icmp_type payload) ≡ true
-answer_there number payload e =
-    by_answer (number == 6) (number == 17) (number == 1) (icmp_type payload == 8) (icmp_type payload == 0) number e
+-- the protocol of a packet of this kind
+of_kind : (kind : Kind) (number : ℕ) (payload : List ℕ) → kind_of number payload ≡ Some kind
+    → Named (number == 6) (number == 17) (number == 1) (icmp_type payload == 8) (icmp_type payload == 0) kind
+of_kind kind number payload e =
+    named (number == 6) (number == 17) (number == 1) (icmp_type payload == 8) (icmp_type payload == 0) number kind e
 
 kind_same : (number : ℕ) (x y : List ℕ) → (number ≡ 1 → get_or x 0 0 ≡ get_or y 0 0) → kind_of number x ≡ kind_of number y
 kind_same number x y same =
@@ -269,10 +192,20 @@ suits : (kind : Kind) (p : List ℕ) (change : Change) (from to : ℕ) → Passe
     → kind_of (protocol p) (payload_of p) ≡ Some kind → change.numbers ≡ ports_or_identifier kind from to
     → PortsMatchKind kind from to
     → (port_from kind (payload_of (sent p change)) ≡ from) × (port_to kind (payload_of (sent p change)) ≡ to)
-suits Tcp p change from to ok is e h = tcp_ports p change from to ok (tcp_number (protocol p) (payload_of p) is) e
-suits Udp p change from to ok is e h = udp_ports p change from to ok (udp_number (protocol p) (payload_of p) is) e
-suits EchoRequest p change from to ok is e h = (icmp_identifier p change from ok (ask_there (protocol p) (payload_of p) is) e, sym h)
-suits EchoReply p change from to ok is e h = (sym h, icmp_identifier p change to ok (answer_there (protocol p) (payload_of p) is) e)
+suits Tcp p change from to ok is e h =
+    let six = eqb-true (protocol p) 6 (of_kind Tcp (protocol p) (payload_of p) is) in
+    ports_shown p change 6 from to ok six refl e
+    (omega (arith, tcp_long (payload_of p) (rw six at ok.transport), within p ok))
+    (λ k past lt. sent_tcp p change k (omega (arith, ok.head.long)) six (tcp_room p ok six) past (inl (omega (arith, lt))))
+suits Udp p change from to ok is e h =
+    let seventeen = eqb-true (protocol p) 17 (of_kind Udp (protocol p) (payload_of p) is) in
+    ports_shown p change 17 from to ok seventeen refl e
+    (omega (arith, udp_long (payload_of p) (rw seventeen at ok.transport), within p ok))
+    (λ k past lt. sent_udp p change k (omega (arith, ok.head.long)) seventeen past (inl (omega (arith, lt))))
+suits EchoRequest p change from to ok is e h =
+    (icmp_identifier p change from ok (of_kind EchoRequest (protocol p) (payload_of p) is) e, sym h)
+suits EchoReply p change from to ok is e h =
+    (sym h, icmp_identifier p change to ok (of_kind EchoReply (protocol p) (payload_of p) is) e)
 suits (Other number) p change from to ok is e h = (sym h.0, sym h.1)
 
 sent_kind : (p : List ℕ) (change : Change) → Passes p

@@ -1,21 +1,20 @@
 -- The words that change under each checksum of a datagram.
-use Rattle.std.proofs.Common.{◌≡◌, ℕ, ◌+◌, ◌*◌, ◌%◌, ◌<◌, ◌≤◌, ◌⊎◌, inl, ⊎_elim, List, ◌++◌, length}
+use Rattle.std.proofs.Common.{◌≡◌, ℕ, ◌+◌, ◌*◌, ◌%◌, ◌<◌, ◌≤◌, ◌⊎◌, inl, inr, ⊎_elim, List, ◌++◌, length}
 use Rattle.std.proofs.Common.{get_or, set, take, drop, refl, sym, ap, ◌∙◌, arith}
-use Rattle.std.proofs.lemmas.Bool.{eqb-true, eq-eqb, and_parts, and_from, cases_lt}
+use Rattle.std.proofs.lemmas.Bool.{and_parts, and_from, cases_lt}
 use Rattle.std.proofs.lemmas.List.{length-set, get_or-take, get_or-drop, get_or_past, get_or-set_other, take_at, drop_at, drop-set-lt}
 use Rattle.std.proofs.lemmas.Grind.{common_steps}
-use Rattle.ip_headers.specs.Sum.{words_sum}
 use Rattle.ip_headers.specs.Bytes.{byte_at, u16_at, u32_at, with_u16, with_u32}
 use Rattle.ip_headers.specs.Header.{header_len, payload_at}
 use Rattle.rewrite.specs.declared.checksum.ChecksumDelta.{ChecksumDelta}
 use Rattle.rewrite.specs.Rewritten.{header_in, payload_in, pseudo_header_and_payload, with_ports}
 use Rattle.rewrite.specs.steps.Fields.{combined, u32_change, u16_change}
-use Rattle.rewrite.proofs.Sums.{words_sum-append, words_sum-word}
-use Rattle.rewrite.proofs.Places.{word_written, byte_apart, length-number, number_byte_apart, word_kept}
+use Rattle.rewrite.proofs.Sums.{words_sum-append}
+use Rattle.rewrite.proofs.Places.{byte_apart, length-number, length-word, number_byte_apart}
 use Rattle.rewrite.proofs.Places.{byte_in, byte_before, word_after, number_in, rest_in, number_rest_before}
 use Rattle.rewrite.proofs.Places.{byte_of_part, number_of_part, word_of_rest}
-use Rattle.rewrite.proofs.Parts.{head_with, IsHead, head_sum, head_kept, head_reads, pair_with, IsPair, length-pair}
-use Rattle.rewrite.proofs.Parts.{pair_sum, pair_kept, pair_reads, ports_sum, ports_read, ports_kept}
+use Rattle.rewrite.proofs.Parts.{head_with, IsHead, pair_with, IsPair, length-pair}
+use Rattle.rewrite.proofs.Exchange.{byte_more, covers_to, number_first, number_more, swapped, word_here, word_more}
 use Rattle.rewrite.proofs.Corrected.{Covers}
 
 -- ---- the datagram with another header
@@ -107,73 +106,36 @@ is_pair start p d = record {
 
 -- ---- the words of a part
 
-pub covers_to : (words : ChecksumDelta) (before after later : List ℕ) → later ≡ after → Covers words before after
-    → Covers words before later
-covers_to words before after later e c = record {
-  same = λ h. c.same h ∙ sym e;
-  other = λ same. c.other (same ∙ e);
-  sum = ap (λ l. words_sum l + words.old) e ∙ c.sum;
-}
-
-pub scaled : (a b : ℕ) → a * 256 ≡ b * 256 → a ≡ b
-scaled a b e = omega (arith, e)
-
 head_covered : (head : List ℕ) (source destination left from to ttl : ℕ) → IsHead head → source ≡ u32_at head 12
     → destination ≡ u32_at head 16 → left ≡ get_or head 8 0
     → Covers (combined (u16_change (left * 256) (ttl * 256))
     (combined (u32_change source from) (u32_change destination to))) head (head_with head from to ttl)
-head_covered head source destination left from to ttl is a b c = record {
-  same = λ h.
-      let one = and_parts _ _ h in
-      let two = and_parts _ _ one.1 in
-      let time : left ≡ ttl = scaled left ttl (eqb-true _ _ one.0) in
-      let first : source ≡ from = eqb-true _ _ two.0 in
-      let second : destination ≡ to = eqb-true _ _ two.1 in
-      sym (head_kept head from to ttl is (sym first ∙ a) (sym second ∙ b) (sym time ∙ c));
-  other = λ e.
-      let reads = head_reads head from to ttl is.long in
-      and_from _ _ (eq-eqb _ _ (ap (λ n. n * 256) (c ∙ ap (λ l. get_or l 8 0) e ∙ reads.left)))
-      (and_from _ _ (eq-eqb _ _ (a ∙ ap (λ l. u32_at l 12) e ∙ reads.source))
-      (eq-eqb _ _ (b ∙ ap (λ l. u32_at l 16) e ∙ reads.destination)));
-  sum = rw (a, b, c) (head_sum head from to ttl is);
-}
+head_covered head source destination left from to ttl is a b c =
+    let one = with_u32 head 12 from in
+    let len_one : length one ≡ length head = length-number head 12 from in
+    rw (a, b, c) (swapped (combined (u32_change (u32_at head 12) from) (u32_change (u32_at head 16) to))
+    (u16_change (get_or head 8 0 * 256) (ttl * 256)) head _
+    (byte_more 0 8 8 ttl _ head (with_u32 one 16 to) refl refl (omega (arith, is.long, len_one, length-number one 16 to))
+    (number_byte_apart one 16 to 8 (inl (omega arith)) ∙ number_byte_apart head 12 from 8 (inl (omega arith)))
+    (number_more 0 16 16 to _ head one refl refl (omega (arith, is.long, len_one))
+    (λ k le lt. number_byte_apart head 12 from k (inr (omega (arith, le)))) is.small
+    (number_first 0 12 12 from head refl refl (omega (arith, is.long)) is.small))))
 
 pair_covered : (pair : List ℕ) (source destination from to : ℕ) → IsPair pair → source ≡ u32_at pair 0 → destination ≡ u32_at pair 4
     → Covers (combined (u32_change source from) (u32_change destination to)) pair (pair_with pair from to)
-pair_covered pair source destination from to is a b = record {
-  same = λ h.
-      let parts = and_parts _ _ h in
-      let first : source ≡ from = eqb-true _ _ parts.0 in
-      let second : destination ≡ to = eqb-true _ _ parts.1 in
-      sym (pair_kept pair from to is (sym first ∙ a) (sym second ∙ b));
-  other = λ e.
-      let reads = pair_reads pair from to is.long in
-      and_from _ _ (eq-eqb _ _ (a ∙ ap (λ l. u32_at l 0) e ∙ reads.source)) (eq-eqb _ _ (b ∙ ap (λ l. u32_at l 4) e ∙ reads.destination));
-  sum = rw (a, b) (pair_sum pair from to is);
-}
+pair_covered pair source destination from to is a b =
+    rw (a, b) (number_more 0 4 4 to _ pair (with_u32 pair 0 from) refl refl (omega (arith, is.long, length-number pair 0 from))
+    (λ k le lt. number_byte_apart pair 0 from k (inr (omega (arith, le)))) is.small
+    (number_first 0 0 0 from pair refl refl (omega (arith, is.long)) is.small))
 
 ports_covered : (rest : List ℕ) (source destination from to : ℕ) → 4 ≤ length rest → ((i : ℕ) → get_or rest i 0 < 256)
     → source ≡ u16_at rest 0 → destination ≡ u16_at rest 2
     → Covers (combined (u16_change source from) (u16_change destination to)) rest (with_ports 0 rest from to)
-ports_covered rest source destination from to long small a b = record {
-  same = λ h.
-      let parts = and_parts _ _ h in
-      let first : source ≡ from = eqb-true _ _ parts.0 in
-      let second : destination ≡ to = eqb-true _ _ parts.1 in
-      sym (ports_kept rest 0 from to (λ i le. small i) (sym first ∙ a) (sym second ∙ b));
-  other = λ e.
-      let reads = ports_read rest from to long in
-      and_from _ _ (eq-eqb _ _ (a ∙ ap (λ l. u16_at l 0) e ∙ reads.source)) (eq-eqb _ _ (b ∙ ap (λ l. u16_at l 2) e ∙ reads.destination));
-  sum = rw (a, b) (ports_sum rest from to long);
-}
-
-word_covered : (rest : List ℕ) (old new : ℕ) → 6 ≤ length rest → ((i : ℕ) → get_or rest i 0 < 256) → old ≡ u16_at rest 4
-    → Covers (u16_change old new) rest (with_u16 rest 4 new)
-word_covered rest old new long small a = record {
-  same = λ h. sym (word_kept rest 4 new (small 4) (small 5) (sym (eqb-true old new h) ∙ a));
-  other = λ e. eq-eqb _ _ (a ∙ ap (λ l. u16_at l 4) e ∙ word_written rest 4 new (omega (arith, long)));
-  sum = rw a (words_sum-word rest 4 new (omega (arith, long)) refl refl);
-}
+ports_covered rest source destination from to long small a b =
+    rw b (word_more 0 2 2 to (u16_change source from) rest (with_u16 rest 0 from) refl refl
+    (omega (arith, long, length-word rest 0 from)) (byte_apart rest 0 from 2 (inr (omega arith)))
+    (byte_apart rest 0 from 3 (inr (omega arith))) small
+    (word_here rest 0 from source a (omega (arith, long)) (refl, refl) (small 0) (small 1)))
 
 -- words of two parts, the first of whole words
 joined_covered : (one other : ChecksumDelta) (x y x' y' : List ℕ) → length x ≡ 8 → length x' ≡ 8 → Covers one x x'
@@ -273,5 +235,5 @@ carried_covered start p source destination ttl number d room =
     rest_in t offset 4 (offset + 4) number refl ∙ ap (λ l. with_u16 l 4 number) (timed_rest start offset p source destination ttl past) in
     covers_to _ rest (with_u16 rest 4 number) (payload_in start now)
     (ap (λ n. drop (start + n) now) len ∙ rest_now)
-    (word_covered rest (u16_at p (offset + 4)) number (grind (arith, common_steps, room))
-    (λ i. small_rest p offset i d.small) (sym (word_of_rest p offset 4 (offset + 4) refl)))
+    (word_here rest 4 number (u16_at p (offset + 4)) (sym (word_of_rest p offset 4 (offset + 4) refl))
+    (grind (arith, common_steps, room)) (refl, refl) (small_rest p offset 4 d.small) (small_rest p offset 5 d.small))

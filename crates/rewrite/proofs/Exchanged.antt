@@ -1,181 +1,25 @@
 -- The changed words of a datagram under a checksum that covers the whole of it.
-use Rattle.std.proofs.Common.{◌≡◌, ℕ, zero, suc, ◌+◌, ◌*◌, ◌/◌, ◌%◌, ◌<◌, ◌≤◌, inl, inr, ⊎_elim, Option, Some, None}
-use Rattle.std.proofs.Common.{List, length, length-drop, get_or, set, drop, true, false, refl, sym, ap, ◌∙◌, arith}
-use Rattle.std.proofs.lemmas.Bool.{eqb-true, eq-eqb, ne_eqb, and_parts, and_from, cases_Bool, cases_eq, cases_lt}
-use Rattle.std.proofs.lemmas.List.{drop-set-add, get_or-drop, get_or-set_other, get_or-set_same, set-get_or}
+use Rattle.std.proofs.Common.{◌≡◌, ℕ, suc, ◌+◌, ◌*◌, ◌%◌, ◌<◌, ◌≤◌, inl, inr, Option}
+use Rattle.std.proofs.Common.{List, length, get_or, set, drop, refl, ◌∙◌, arith}
+use Rattle.std.proofs.lemmas.List.{get_or-set_other}
 use Rattle.ip_headers.specs.Bytes.{byte_at, u16_at, u32_at, with_u16, with_u32}
-use Rattle.ip_headers.specs.Header.{header_len, payload_at, protocol_at}
+use Rattle.ip_headers.specs.Header.{header_len, payload_at}
 use Rattle.rewrite.specs.declared.change.Change.{Change}
 use Rattle.rewrite.specs.declared.change.PortsOrIdentifier.{PortsOrIdentifier}
 use Rattle.rewrite.specs.declared.checksum.ChecksumDelta.{ChecksumDelta}
 use Rattle.rewrite.specs.declared.fields.Fields.{Fields}
 use Rattle.rewrite.specs.declared.fields.TransportFields.{TransportFields}
-use Rattle.rewrite.specs.declared.fields.TransportFields.TheVariants.{Tcp, Udp, Echo, Other}
-use Rattle.rewrite.specs.Rewritten.{has_identifier, with_ports}
-use Rattle.rewrite.specs.steps.Fields.{and_transport_words, combined, transport_fields_of, transport_words}
+use Rattle.rewrite.specs.Rewritten.{with_ports}
+use Rattle.rewrite.specs.steps.Fields.{and_transport_words, combined, transport_words}
 use Rattle.rewrite.specs.steps.Fields.{changed_transport_fields, changed_fields, fields_at, fields_change, len_of}
-use Rattle.rewrite.specs.steps.Fields.{u32_change, ports_named, with_transport_fields, with_fields, u16_change}
+use Rattle.rewrite.specs.steps.Fields.{u32_change, with_transport_fields, with_fields, u16_change}
 use Rattle.std.specs.Prelude.{unwrap_or}
-use Rattle.rewrite.proofs.Sums.{high_at, words_sum-set, words_sum-word}
-use Rattle.rewrite.proofs.Places.{Bytes4, byte_apart, length-number, length-word, number_byte_apart, number_kept}
-use Rattle.rewrite.proofs.Places.{number_written, rest_in, word_kept, word_of_rest, word_written}
-use Rattle.rewrite.proofs.Parts.{IsEven, words_sum-number}
+use Rattle.rewrite.proofs.Places.{byte_apart, length-number, length-word, number_byte_apart}
+use Rattle.rewrite.proofs.Exchange.{Stays, byte_more, even_len, none_more, number_first, number_more, word_more}
 use Rattle.rewrite.proofs.Corrected.{Covers}
-use Rattle.rewrite.proofs.Covered.{IsDatagram, covers_to, length-timed, pair_words, scaled, timed, timed_byte}
-use Rattle.rewrite.proofs.Whole.{of_cut_tcp, of_echo, of_other, of_tcp, of_udp}
-
--- ---- even offsets
-
-even_of : (j : ℕ) → j % 2 ≡ 0 → high_at true j ≡ true
-even_of zero e = refl
-even_of (suc zero) e = absurd (omega (arith, e))
-even_of (suc (suc j)) e = even_of j (omega (arith, e))
-
-odd_of : (j : ℕ) → j % 2 ≡ 1 → high_at true j ≡ false
-odd_of zero e = absurd (omega (arith, e))
-odd_of (suc zero) e = refl
-odd_of (suc (suc j)) e = odd_of j (omega (arith, e))
-
-is_even : (j : ℕ) → j % 2 ≡ 0 → IsEven j
-is_even j e = (even_of j e, odd_of (j + 1) (omega (arith, e)))
-
-even_len : (bytes : List ℕ) → header_len bytes % 2 ≡ 0
-even_len bytes = omega arith
-
--- ---- words exchanged one after another
-
-more : (w v : ChecksumDelta) (xs ys zs : List ℕ) → Covers w xs ys → Covers v ys zs → (xs ≡ zs → ys ≡ zs) → Covers (combined w v) xs zs
-more w v xs ys zs c d back = record {
-  same = λ h.
-      let parts = and_parts _ _ h in
-      c.same parts.0 ∙ d.same parts.1;
-  other = λ e. and_from _ _ (c.other (e ∙ sym (back e))) (d.other (back e));
-  sum = omega (arith, c.sum, d.sum);
-}
-
--- no word more
-none_more : (w : ChecksumDelta) (xs ys : List ℕ) → Covers w xs ys → Covers (combined w (u16_change 0 0)) xs ys
-none_more w xs ys c = record {
-  same = λ h. c.same (and_parts _ _ h).0;
-  other = λ e. and_from _ _ (c.other e) refl;
-  sum = omega (arith, c.sum);
-}
-
-word_here : (ys : List ℕ) (i n old : ℕ) → old ≡ u16_at ys i → i + 1 < length ys → IsEven i → get_or ys i 0 < 256
-    → get_or ys (i + 1) 0 < 256 → Covers (u16_change old n) ys (with_u16 ys i n)
-word_here ys i n old is lt even high low = record {
-  same = λ h. sym (word_kept ys i n high low (sym (eqb-true old n h) ∙ is));
-  other = λ e. eq-eqb old n (is ∙ ap (λ l. u16_at l i) e ∙ word_written ys i n lt);
-  sum = rw is (words_sum-word ys i n lt even.0 even.1);
-}
-
-number_here : (ys : List ℕ) (i n old : ℕ) → old ≡ u32_at ys i → i + 3 < length ys → IsEven i → IsEven (i + 2)
-    → Bytes4 ys i → Covers (u32_change old n) ys (with_u32 ys i n)
-number_here ys i n old is lt even next small = record {
-  same = λ h. sym (number_kept ys i n small (sym (eqb-true old n h) ∙ is));
-  other = λ e. eq-eqb old n (is ∙ ap (λ l. u32_at l i) e ∙ number_written ys i n lt);
-  sum = rw is (words_sum-number ys i n lt even next small);
-}
-
-byte_kept : (ys : List ℕ) (i n : ℕ) → n ≡ get_or ys i 0 → set ys i n ≡ ys
-byte_kept ys i n is = ap (λ v. set ys i v) is ∙ set-get_or ys i 0
-
--- the high byte of a word
-byte_here : (ys : List ℕ) (i n old : ℕ) → old ≡ get_or ys i 0 → i < length ys → high_at true i ≡ true
-    → Covers (u16_change (old * 256) (n * 256)) ys (set ys i n)
-byte_here ys i n old is lt high = record {
-  same = λ h. sym (byte_kept ys i n (sym (scaled old n (eqb-true _ _ h)) ∙ is));
-  other = λ e. eq-eqb _ _ (ap (λ v. v * 256) (is ∙ ap (λ l. get_or l i 0) e ∙ get_or-set_same ys i n 0 lt));
-  sum = rw is (rw high at (words_sum-set ys i n lt));
-}
-
--- ---- among the bytes from an offset on
-
--- reads from the bytes from an offset on
-number_of_rest : (xs : List ℕ) (a i j : ℕ) → j ≡ a + i → u32_at (drop a xs) i ≡ u32_at xs j
-number_of_rest xs a i j is =
-    let high = word_of_rest xs a i j is in
-    let low = word_of_rest xs a (i + 2) (j + 2) (omega (arith, is)) in
-    rw (high, low) refl
-
-number_rest_in : (xs : List ℕ) (a i j n : ℕ) → j ≡ a + i → drop a (with_u32 xs j n) ≡ with_u32 (drop a xs) i n
-number_rest_in xs a i j n is = rest_in (with_u16 xs j (n / 65536)) a (i + 2) (j + 2) (n % 65536) (omega (arith, is))
-    ∙ ap (λ l. with_u16 l (i + 2) (n % 65536)) (rest_in xs a i j (n / 65536) is)
-
-pub byte_of_rest : (xs : List ℕ) (a i j : ℕ) → j ≡ a + i → get_or (drop a xs) i 0 ≡ get_or xs j 0
-byte_of_rest xs a i j is = rw is (get_or-drop a xs i 0)
-
--- unchanged bytes
-abbrev Stays : List ℕ → List ℕ → ℕ → Type 0
-Stays p q j = get_or q j 0 ≡ get_or p j 0
-
-small_rest : (p q : List ℕ) (a i j : ℕ) → j ≡ a + i → Stays p q j → get_or p j 0 < 256 → get_or (drop a q) i 0 < 256
-small_rest p q a i j is stays small = rw (byte_of_rest q a i j is ∙ stays) small
-
-word_more : (a i j n : ℕ) (w : ChecksumDelta) (p q : List ℕ) → j ≡ a + i → i % 2 ≡ 0 → j + 1 < length q → Stays p q j
-    → Stays p q (j + 1) → ((k : ℕ) → get_or p k 0 < 256)
-    → Covers w (drop a p) (drop a q) → Covers (combined w (u16_change (u16_at p j) n)) (drop a p) (drop a (with_u16 q j n))
-word_more a i j n w p q is even room high low small c =
-    let ys = drop a q in
-    let old : u16_at p j ≡ u16_at ys i = sym (word_of_rest q a i j is ∙ rw (high, low) refl) in
-    let long : i + 1 < length ys = omega (arith, room, is, length-drop a q) in
-    let one = small_rest p q a i j is high (small j) in
-    let two = small_rest p q a (i + 1) (j + 1) (omega (arith, is)) low (small (j + 1)) in
-    covers_to _ (drop a p) (with_u16 ys i n) _ (rest_in q a i j n is)
-    (more w (u16_change (u16_at p j) n) (drop a p) ys (with_u16 ys i n) c (word_here ys i n (u16_at p j) old long (is_even i even) one two)
-    (λ e. sym (word_kept ys i n one two (sym (word_written ys i n long) ∙ ap (λ l. u16_at l i) (sym e) ∙ word_of_rest p a i j is ∙ old))))
-
-bytes4_rest : (p q : List ℕ) (a i j : ℕ) → j ≡ a + i → ((k : ℕ) → j ≤ k → k < j + 4 → Stays p q k)
-    → ((k : ℕ) → get_or p k 0 < 256) → Bytes4 (drop a q) i
-bytes4_rest p q a i j is stays small = record {
-  first = small_rest p q a i j is (stays j (omega arith) (omega arith)) (small j);
-  second = small_rest p q a (i + 1) (j + 1) (omega (arith, is)) (stays (j + 1) (omega arith) (omega arith)) (small (j + 1));
-  third = small_rest p q a (i + 2) (j + 2) (omega (arith, is)) (stays (j + 2) (omega arith) (omega arith)) (small (j + 2));
-  fourth = small_rest p q a (i + 3) (j + 3) (omega (arith, is)) (stays (j + 3) (omega arith) (omega arith)) (small (j + 3));
-}
-
-number_stays : (p q : List ℕ) (j : ℕ) → ((k : ℕ) → j ≤ k → k < j + 4 → Stays p q k) → u32_at q j ≡ u32_at p j
-number_stays p q j stays =
-    rw (
-      stays j (omega arith) (omega arith),
-      stays (j + 1) (omega arith) (omega arith),
-      stays (j + 2) (omega arith) (omega arith),
-      stays (j + 2 + 1) (omega arith) (omega arith),
-    ) refl
-
-number_first : (a i j n : ℕ) (p : List ℕ) → j ≡ a + i → i % 2 ≡ 0 → j + 3 < length p → ((k : ℕ) → get_or p k 0 < 256)
-    → Covers (u32_change (u32_at p j) n) (drop a p) (drop a (with_u32 p j n))
-number_first a i j n p is even room small =
-    let ys = drop a p in
-    covers_to _ ys (with_u32 ys i n) _ (number_rest_in p a i j n is)
-    (number_here ys i n (u32_at p j) (sym (number_of_rest p a i j is)) (omega (arith, room, is, length-drop a p))
-    (is_even i even) (is_even (i + 2) (omega (arith, even))) (bytes4_rest p p a i j is (λ k le lt. refl) small))
-
-number_more : (a i j n : ℕ) (w : ChecksumDelta) (p q : List ℕ) → j ≡ a + i → i % 2 ≡ 0 → j + 3 < length q
-    → ((k : ℕ) → j ≤ k → k < j + 4 → Stays p q k) → ((k : ℕ) → get_or p k 0 < 256)
-    → Covers w (drop a p) (drop a q) → Covers (combined w (u32_change (u32_at p j) n)) (drop a p) (drop a (with_u32 q j n))
-number_more a i j n w p q is even room stays small c =
-    let ys = drop a q in
-    let old : u32_at p j ≡ u32_at ys i = sym (number_of_rest q a i j is ∙ number_stays p q j stays) in
-    let long : i + 3 < length ys = omega (arith, room, is, length-drop a q) in
-    let four = bytes4_rest p q a i j is stays small in
-    covers_to _ (drop a p) (with_u32 ys i n) _ (number_rest_in q a i j n is)
-    (more w (u32_change (u32_at p j) n) (drop a p) ys (with_u32 ys i n) c
-    (number_here ys i n (u32_at p j) old long (is_even i even) (is_even (i + 2) (omega (arith, even))) four)
-    (λ e. sym (number_kept ys i n four (sym (number_written ys i n long) ∙ ap (λ l. u32_at l i) (sym e)
-    ∙ number_of_rest p a i j is ∙ old))))
-
-byte_more : (a i j n : ℕ) (w : ChecksumDelta) (p q : List ℕ) → j ≡ a + i → i % 2 ≡ 0 → j < length q → Stays p q j
-    → Covers w (drop a p) (drop a q) → Covers (combined w (u16_change (get_or p j 0 * 256) (n * 256))) (drop a p) (drop a (set q j n))
-byte_more a i j n w p q is even room stays c =
-    let ys = drop a q in
-    let old : get_or p j 0 ≡ get_or ys i 0 = sym (byte_of_rest q a i j is ∙ stays) in
-    let long : i < length ys = omega (arith, room, is, length-drop a q) in
-    let rest : drop a (set q j n) ≡ set ys i n = rw is (drop-set-add a q i n) in
-    covers_to _ (drop a p) (set ys i n) _ rest
-    (more w (u16_change (get_or p j 0 * 256) (n * 256)) (drop a p) ys (set ys i n) c
-    (byte_here ys i n (get_or p j 0) old long (is_even i even).0)
-    (λ e. sym (byte_kept ys i n (sym (get_or-set_same ys i n 0 long) ∙ ap (λ l. get_or l i 0) (sym e) ∙ byte_of_rest p a i j is ∙ old))))
+use Rattle.rewrite.proofs.Covered.{IsDatagram, length-timed, pair_words, timed, timed_byte}
+use Rattle.rewrite.proofs.Writes.{AsLong, SameAt, as_long, fields_by, same_at}
+use Rattle.rewrite.proofs.Whole.{by_protocol, carried_at}
 
 -- ---- the header
 
@@ -263,94 +107,37 @@ identifier_exchanged a start w p t x sum d room c =
     (word_more a (i + 4) (offset + 4) x w p t (omega (arith, d.at)) (omega (arith, even)) (omega (arith, room, d.len))
     (d.stays (offset + 4) (omega arith)) (d.stays (offset + 4 + 1) (omega arith)) d.small c))
 
-abbrev pub carried_at : ℕ → List ℕ → TransportFields
-carried_at start p = transport_fields_of (protocol_at start p) (drop (payload_at start p) p)
-
 -- with 8 bytes after a header all fields are there except the TCP checksum
 pub fields_room : (start : ℕ) (p : List ℕ) → payload_at start p + 8 ≤ length p → payload_at start p + len_of (carried_at start p) ≤ length p
 fields_room start p room =
-    let number = protocol_at start p in
-    let offset = payload_at start p in
-    let none : offset + 0 ≤ length p = omega (arith, room) in
-    let four : offset + 4 ≤ length p = omega (arith, room) in
-    let six_bytes : offset + 6 ≤ length p = omega (arith, room) in
-    ⊎_elim
-    (λ six. ⊎_elim
-    (λ cut. rw (of_cut_tcp number p offset six cut) four)
-    (λ long. rw (of_tcp number p offset six long) long)
-    (cases_lt (length p) (offset + 18)))
-    (λ not_six. ⊎_elim
-    (λ seventeen. rw (of_udp number p offset seventeen) room)
-    (λ not_seventeen. ⊎_elim
-    (λ there. rw (of_echo number p offset there) six_bytes)
-    (λ gone. rw (of_other number p offset (ne_eqb _ _ not_six) (ne_eqb _ _ not_seventeen) gone) none)
-    (cases_Bool (has_identifier number (byte_at p offset))))
-    (cases_eq number 17))
-    (cases_eq number 6)
+    by_protocol start p (λ c. payload_at start p + len_of c ≤ length p) (λ _ _. omega (arith, room)) (λ _ long. long) (λ _. room)
+    (λ _. omega (arith, room)) (λ _ _ _. omega (arith, room))
 
 -- what each protocol needs
 abbrev IsExchanged : ℕ → ℕ → ChecksumDelta → List ℕ → List ℕ → TransportFields → TransportFields → Type 0
 IsExchanged a start w p t old new = Covers (and_transport_words w (transport_words old) (transport_words new))
     (drop a p) (drop a (with_transport_fields (payload_at start p) t new))
 
-six_past : 4 ≤ 6
-six_past = omega arith
-
 carried_exchanged : (a start : ℕ) (w : ChecksumDelta) (p t : List ℕ) (numbers : Option PortsOrIdentifier)
     (addresses : ChecksumDelta) → Within a start p t → payload_at start p + len_of (carried_at start p) ≤ length p
     → Covers w (drop a p) (drop a t)
     → IsExchanged a start w p t (carried_at start p) (changed_transport_fields numbers addresses (carried_at start p))
 carried_exchanged a start w p t numbers addresses d room c =
-    let number = protocol_at start p in
-    let offset = payload_at start p in
-    let ports = ports_named numbers (u16_at p offset) (u16_at p (offset + 2)) in
-    let with_two = combined (combined w (u16_change (u16_at p offset) ports.0)) (u16_change (u16_at p (offset + 2)) ports.1) in
-    ⊎_elim
-    (λ six. ⊎_elim
-    (λ cut.
-    let is = of_cut_tcp number p offset six cut in
-    rw is (none_more _ _ _ (ports_exchanged a start w p t _ _ d (rw is at room) c)))
-    (λ long.
-    let is = of_tcp number p offset six long in
-    rw is (behind_ports a start 16 _ _ p t _ _ d (omega arith) refl long (ports_exchanged a start w p t _ _ d (omega (arith, long)) c)))
-    (cases_lt (length p) (offset + 18)))
-    (λ not_six. ⊎_elim
-    (λ seventeen.
-    let is = of_udp number p offset seventeen in
-    let long : offset + 8 ≤ length p = rw is at room in
-    let four : offset + 4 ≤ length p = omega (arith, long) in
-    rw is (behind_ports a start 6 _ with_two p t ports.0 ports.1 d six_past refl long
-    (ports_exchanged a start w p t ports.0 ports.1 d four c)))
-    (λ not_seventeen. ⊎_elim
-    (λ there.
-    let is = of_echo number p offset there in
-    rw is (identifier_exchanged a start w p t _ _ d (rw is at room) c))
-    (λ gone.
-    let is = of_other number p offset (ne_eqb _ _ not_six) (ne_eqb _ _ not_seventeen) gone in
-    rw is (none_more _ _ _ (none_more _ _ _ (none_more w (drop a p) (drop a t) c))))
-    (cases_Bool (has_identifier number (byte_at p offset))))
-    (cases_eq number 17))
-    (cases_eq number 6)
+    by_protocol start p (λ f. payload_at start p + len_of f ≤ length p
+    → IsExchanged a start w p t f (changed_transport_fields numbers addresses f))
+    (λ _ _ four. none_more _ _ _ (ports_exchanged a start w p t _ _ d four c))
+    (λ _ _ long. behind_ports a start 16 _ _ p t _ _ d (omega arith) refl long
+    (ports_exchanged a start w p t _ _ d (omega (arith, long)) c))
+    (λ _ long. behind_ports a start 6 _ _ p t _ _ d (omega arith) refl long
+    (ports_exchanged a start w p t _ _ d (omega (arith, long)) c))
+    (λ _ six. identifier_exchanged a start w p t _ _ d six c)
+    (λ _ _ _ _. none_more _ _ _ (none_more _ _ _ (none_more w (drop a p) (drop a t) c))) room
 
 -- ---- the whole
 
 carried_byte : (offset : ℕ) (t : List ℕ) (c : TransportFields) (k : ℕ) → k < offset
     → get_or (with_transport_fields offset t c) k 0 ≡ get_or t k 0
-carried_byte offset t (Tcp from to None) k lt =
-    byte_apart (with_u16 t offset from) (offset + 2) to k (inl (omega (arith, lt)))
-    ∙ byte_apart t offset from k (inl lt)
-carried_byte offset t (Tcp from to (Some sum)) k lt =
-    byte_apart (with_ports offset t from to) (offset + 16) sum k (inl (omega (arith, lt)))
-    ∙ byte_apart (with_u16 t offset from) (offset + 2) to k (inl (omega (arith, lt)))
-    ∙ byte_apart t offset from k (inl lt)
-carried_byte offset t (Udp from to sum) k lt =
-    byte_apart (with_ports offset t from to) (offset + 6) sum k (inl (omega (arith, lt)))
-    ∙ byte_apart (with_u16 t offset from) (offset + 2) to k (inl (omega (arith, lt)))
-    ∙ byte_apart t offset from k (inl lt)
-carried_byte offset t (Echo number sum) k lt =
-    byte_apart (with_u16 t (offset + 4) number) (offset + 2) sum k (inl (omega (arith, lt)))
-    ∙ byte_apart t (offset + 4) number k (inl (omega (arith, lt)))
-carried_byte offset t Other k lt = refl
+carried_byte offset t c k lt = fields_by (SameAt k t) (suc k) (same_at k t) offset t c (omega (arith, lt)) refl
 
 -- the bytes before the datagram stay
 pub fields_before : (start : ℕ) (p : List ℕ) (fields : Fields) (k : ℕ) → k < start → get_or (with_fields start p fields) k 0 ≡ get_or p k 0
@@ -366,14 +153,7 @@ fields_before start p fields k lt =
     ∙ number_byte_apart p (start + 12) fields.source k (inl (omega (arith, lt)))
 
 length-carried_fields : (offset : ℕ) (t : List ℕ) (c : TransportFields) → length (with_transport_fields offset t c) ≡ length t
-length-carried_fields offset t (Tcp from to None) = length-word (with_u16 t offset from) (offset + 2) to ∙ length-word t offset from
-length-carried_fields offset t (Tcp from to (Some sum)) = length-word (with_ports offset t from to) (offset + 16) sum
-    ∙ length-word (with_u16 t offset from) (offset + 2) to ∙ length-word t offset from
-length-carried_fields offset t (Udp from to sum) = length-word (with_ports offset t from to) (offset + 6) sum
-    ∙ length-word (with_u16 t offset from) (offset + 2) to ∙ length-word t offset from
-length-carried_fields offset t (Echo number sum) =
-    length-word (with_u16 t (offset + 4) number) (offset + 2) sum ∙ length-word t (offset + 4) number
-length-carried_fields offset t Other = refl
+length-carried_fields offset t c = fields_by (AsLong t) 0 (as_long t) offset t c (omega arith) refl
 
 pub fields_exchanged : (a start : ℕ) (p : List ℕ) (change : Change) → start ≡ a + 8 → IsDatagram start p
     → payload_at start p + len_of (carried_at start p) ≤ length p

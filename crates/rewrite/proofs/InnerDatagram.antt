@@ -1,66 +1,49 @@
 -- An ICMP error with a rewritten quoted datagram: the tests that it passes, and the sum under its checksum.
-use Rattle.std.proofs.Common.{◌≡◌, ◌≢◌, ℕ, ◌+◌, ◌*◌, ◌/◌, ◌%◌, ◌<◌, ◌≤◌, inl, Option, Some, None, List, length, get_or}
+use Rattle.std.proofs.Common.{◌≡◌, ◌≢◌, ℕ, suc, ◌+◌, ◌*◌, ◌%◌, ◌<◌, ◌≤◌, inl, Option, Some, None, List, length, get_or}
 use Rattle.std.proofs.Common.{take, drop, length-take, length-drop, Bool, true, false, refl, sym, ap, ◌∙◌, arith}
 use Rattle.std.specs.Prelude.{◌==◌, is_some, if◌then◌else◌}
 use Rattle.std.specs.Option.{option_and}
 use Rattle.std.proofs.lemmas.Bool.{eqb-true, and_parts, leb-true}
-use Rattle.std.proofs.lemmas.List.{ext_get_or, get_or-take, get_or-drop, get_or-set_other}
+use Rattle.std.proofs.lemmas.List.{ext_get_or, get_or-take, get_or-drop}
 use Rattle.ip_headers.specs.declared.tuple.Tuple.{Tuple}
 use Rattle.ip_headers.specs.Sum.{ones_sum_of, words_sum}
 use Rattle.ip_headers.specs.Bytes.{u16_at, with_u16}
-use Rattle.ip_headers.specs.Header.{header, header_len, payload_at, payload_of, protocol, total_len}
+use Rattle.ip_headers.specs.Header.{header_len, payload_at, payload_of, protocol, total_len}
 use Rattle.ip_headers.specs.Passing.{Passes}
 use Rattle.ip_headers.specs.Transport.{icmp_type, transport_is_malformed}
 use Rattle.ip_headers.specs.Tuple.{inner_of, inner_tuple, inner_tuple_of, is_error, is_error_type, is_readable, tuple_in}
 use Rattle.rewrite.specs.declared.change.Change.{Change}
 use Rattle.rewrite.specs.Endpoints.{between}
-use Rattle.rewrite.specs.Rewritten.{payload_in, header_in, write_if_some, inner_start, update_checksum, replaced}
-use Rattle.rewrite.specs.Rewritten.{rewritten, update_transport_checksum, with_destination, with_endpoints}
-use Rattle.rewrite.specs.Rewritten.{with_inner, with_numbers, with_source, with_ttl}
+use Rattle.rewrite.specs.Rewritten.{payload_in, write_if_some, inner_start, update_checksum}
+use Rattle.rewrite.specs.Rewritten.{rewritten, with_endpoints}
+use Rattle.rewrite.specs.Rewritten.{with_inner}
 use Rattle.rewrite.specs.steps.Fields.{HasFields, changed_fields, fields_at, fields_change, len_of, updated_checksum, with_fields}
-use Rattle.rewrite.proofs.Places.{number_byte_apart, word_kept}
+use Rattle.rewrite.proofs.Places.{word_kept}
 use Rattle.rewrite.proofs.Corrected.{update_checksum-is}
-use Rattle.rewrite.proofs.Covered.{IsDatagram, covers_to}
-use Rattle.rewrite.proofs.Whole.{whole_is}
-use Rattle.rewrite.proofs.Exchanged.{byte_of_rest, carried_at, fields_exchanged, fields_room}
+use Rattle.rewrite.proofs.Covered.{IsDatagram}
+use Rattle.rewrite.proofs.Exchange.{byte_of_rest, covers_to}
+use Rattle.rewrite.proofs.Whole.{carried_at, whole_is}
+use Rattle.rewrite.proofs.Exchanged.{fields_exchanged, fields_room}
 use Rattle.rewrite.proofs.Kept.{update_keeps_sum}
-use Rattle.rewrite.proofs.Lengths.{length-datagram, length-either, length-named, length-put, length-replaced}
-use Rattle.rewrite.proofs.Sent.{carried_byte, named_byte, numbers_byte, update_byte, sent}
-use Rattle.rewrite.proofs.Passed.{length-sent, payload_byte, sent_passes, within}
-use Rattle.rewrite.proofs.Between.{icmp_long}
+use Rattle.rewrite.proofs.Writes.{AsLong, SameAt, as_long, either_by, ends_by, named_by, same_at, update_by}
+use Rattle.rewrite.proofs.Sent.{update_byte, sent}
+use Rattle.rewrite.proofs.Passed.{head_by, length-sent, passes_by, payload_byte, sent_passes, within}
+use Rattle.rewrite.proofs.Lengths.{icmp_long}
 use Rattle.rewrite.proofs.TransportSums.{payload_checksum_word, icmp_sum_kept, payload_same}
 
 -- ---- the bytes before the quoted datagram stay
 
-replaced_byte : (start : ℕ) (p : List ℕ) (change : Change) (k : ℕ) → k < start → get_or (replaced start p change) k 0 ≡ get_or p k 0
-replaced_byte start p change k lt =
-    let from = write_if_some (with_source start) p change.source in
-    let to = write_if_some (with_destination start) from change.destination in
-    let timed = write_if_some (with_ttl start) to change.ttl in
-    named_byte (with_numbers start) timed change.numbers k (λ n. numbers_byte start timed n k (omega (arith, lt)))
-    ∙ named_byte (with_ttl start) to change.ttl k (λ n. get_or-set_other to (start + 8) k n 0 (omega (arith, lt)))
-    ∙ named_byte (with_destination start) from change.destination k (λ n. number_byte_apart from (start + 16) n k (inl (omega (arith, lt))))
-    ∙ named_byte (with_source start) p change.source k (λ n. number_byte_apart p (start + 12) n k (inl (omega (arith, lt))))
-
 ends_byte : (start : ℕ) (p : List ℕ) (t : Tuple) (k : ℕ) → k < start → get_or (with_endpoints start p t) k 0 ≡ get_or p k 0
-ends_byte start p t k lt =
-    let r = replaced start p (between t None) in
-    update_byte (header_in start) (start + 10) p (update_transport_checksum start p r) k (inl (omega (arith, lt)))
-    ∙ carried_byte start p r k (omega (arith, lt)) ∙ replaced_byte start p (between t None) k lt
+ends_byte start p t k lt = ends_by (SameAt k p) (suc k) (same_at k p) start p t (omega (arith, lt)) refl
 
-pub length-ends : (start : ℕ) (p : List ℕ) (t : Tuple) → length (with_endpoints start p t) ≡ length p
-length-ends start p t = length-datagram start p (replaced start p (between t None)) ∙ length-replaced start p (between t None)
+length-ends : (start : ℕ) (p : List ℕ) (t : Tuple) → length (with_endpoints start p t) ≡ length p
+length-ends start p t = ends_by (AsLong p) 0 (as_long p) start p t (omega arith) refl
 
 -- ---- packets that quote a datagram, and others
 
 either_is : (P : List ℕ → Type 0) (b : Bool) (xs ys : List ℕ) → (b ≡ true → P xs) → P ys → P (if b then xs else ys)
 either_is P true xs ys there gone = there refl
 either_is P false xs ys there gone = gone
-
-named_is : {A : Type 0} (P : List ℕ → Type 0) (write : List ℕ → A → List ℕ) (bytes : List ℕ) (o : Option A)
-    → ((x : A) → P (write bytes x)) → P bytes → P (write_if_some write bytes o)
-named_is P write bytes None some none = none
-named_is P write bytes (Some x) some none = some x
 
 abbrev pub inner_rewritten : List ℕ → Change → List ℕ
 inner_rewritten p change = write_if_some with_inner p change.inner
@@ -84,8 +67,8 @@ quote_rewritten_byte p t k lt = update_byte (payload_in 0) (payload_at 0 p + 2) 
     ∙ ends_byte (inner_start p) p t k (omega (arith, lt))
 
 length-quote_rewritten : (p : List ℕ) (t : Tuple) → length (quote_rewritten p t) ≡ length p
-length-quote_rewritten p t = length-put (payload_in 0) (payload_at 0 p + 2) p (with_endpoints (inner_start p) p t)
-    ∙ length-ends (inner_start p) p t
+length-quote_rewritten p t = update_by (AsLong p) 0 (as_long p) (payload_in 0) (payload_at 0 p + 2) p _ (omega arith)
+    (length-ends (inner_start p) p t)
 
 same_part : (n : ℕ) (xs ys : List ℕ) → length xs ≡ length ys → ((k : ℕ) → k < n → get_or xs k 0 ≡ get_or ys k 0) → take n xs ≡ take n ys
 same_part n xs ys len same =
@@ -101,18 +84,9 @@ quote_rewritten_passes p t ok one =
     let q = quote_rewritten p t in
     let h = header_len p in
     let n = total_len p in
-    let long : 20 ≤ h = ok.head.long in
     let same : (k : ℕ) → k < h → get_or q k 0 ≡ get_or p k 0 = λ k lt. quote_rewritten_byte p t k (omega (arith, lt)) in
-    let first : get_or q 0 0 ≡ get_or p 0 0 = same 0 (omega (arith, long)) in
-    let second : get_or q 2 0 ≡ get_or p 2 0 = same 2 (omega (arith, long)) in
-    let third : get_or q 3 0 ≡ get_or p 3 0 = same 3 (omega (arith, long)) in
-    let sixth : get_or q 6 0 ≡ get_or p 6 0 = same 6 (omega (arith, long)) in
-    let seventh : get_or q 7 0 ≡ get_or p 7 0 = same 7 (omega (arith, long)) in
-    let number : protocol q ≡ 1 = same 9 (omega (arith, long)) ∙ one in
+    let head = head_by p q (λ k lt. same k (omega (arith, ok.head.long, lt))) (same 9 (omega (arith, ok.head.long))) in
     let len : length q ≡ length p = length-quote_rewritten p t in
-    let head_same : header_len q ≡ h = ap (λ b. b % 16 * 4) first in
-    let total_same : total_len q ≡ n = rw (second, third) refl in
-    let head : header q ≡ header p = ap (λ k. take k q) head_same ∙ same_part h q p len same in
     let enough : 8 ≤ length (payload_of p) = icmp_long (payload_of p) (rw one at ok.transport) in
     let room : 8 ≤ length (drop h (take n q)) =
     omega (
@@ -124,24 +98,15 @@ quote_rewritten_passes p t ok one =
       length-drop h (take n p),
       length-take n p,
     ) in
-    record {
-      head = record {
-        long = omega (arith, head_same, long);
-        head = omega (arith, head_same, total_same, ok.head.head);
-        whole = omega (arith, total_same, len, ok.head.whole);
-        four = ap (λ b. b / 16) first ∙ ok.head.four;
-        sum = ap ones_sum_of head ∙ ok.head.sum;
-      };
-      unbroken = rw (sixth, seventh) ok.unbroken;
-      transport = rw (number, head_same, total_same) (icmp_right (drop h (take n q)) room);
-    }
+    passes_by p q ok head len (ap ones_sum_of (ap (λ k. take k q) head.header ∙ same_part h q p len same) ∙ ok.head.sum)
+    (rw one (icmp_right (drop h (take n q)) room))
 
 inner_passes : (p : List ℕ) (t : Tuple) → Passes p → Passes (with_inner p t)
 inner_passes p t ok = either_is Passes (is_some (inner_tuple_of p)) (quote_rewritten p t) p
     (λ h. quote_rewritten_passes p t ok (is_icmp p h)) ok
 
 pub inner_rewritten_passes : (p : List ℕ) (change : Change) → Passes p → Passes (inner_rewritten p change)
-inner_rewritten_passes p change ok = named_is Passes with_inner p change.inner (λ t. inner_passes p t ok) ok
+inner_rewritten_passes p change ok = named_by Passes with_inner p change.inner (λ t. inner_passes p t ok) ok
 
 pub rewritten_passes : (p : List ℕ) (change : Change) → Passes p → Passes (rewritten p change)
 unfolding rewritten
@@ -150,8 +115,8 @@ rewritten_passes p change ok = sent_passes (inner_rewritten p change) change (in
 -- ---- its length
 
 length-inner_rewritten : (p : List ℕ) (change : Change) → length (inner_rewritten p change) ≡ length p
-length-inner_rewritten p change = length-named with_inner p change.inner
-    (λ t. length-either (is_some (inner_tuple_of p)) (quote_rewritten p t) p p (length-quote_rewritten p t) refl)
+length-inner_rewritten p change = named_by (AsLong p) with_inner p change.inner
+    (λ t. either_by (AsLong p) (is_some (inner_tuple_of p)) (quote_rewritten p t) p (length-quote_rewritten p t) refl) refl
 
 pub length-rewritten : (p : List ℕ) (change : Change) → length (rewritten p change) ≡ length p
 unfolding rewritten
@@ -186,7 +151,7 @@ inner_sum_kept p t ok one =
 
 inner_rewritten_sum_kept : (p : List ℕ) (change : Change) → Passes p → protocol p ≡ 1 → SameBut 1 p (inner_rewritten p change)
 inner_rewritten_sum_kept p change ok one =
-    named_is (SameBut 1 p) with_inner p change.inner
+    named_by (SameBut 1 p) with_inner p change.inner
     (λ t. either_is (SameBut 1 p) (is_some (inner_tuple_of p)) (quote_rewritten p t) p (λ h. inner_sum_kept p t ok one)
     (one, refl)) (one, refl)
 
@@ -199,7 +164,7 @@ icmp_sum_kept_with_inner p change ok one =
 
 -- a packet of another protocol stays
 inner_rewritten_other : (p : List ℕ) (change : Change) → protocol p ≢ 1 → inner_rewritten p change ≡ p
-inner_rewritten_other p change other = named_is (λ q. q ≡ p) with_inner p change.inner
+inner_rewritten_other p change other = named_by (λ q. q ≡ p) with_inner p change.inner
     (λ t. either_is (λ q. q ≡ p) (is_some (inner_tuple_of p)) (quote_rewritten p t) p (λ h. absurd (other (is_icmp p h))) refl)
     refl
 

@@ -1,7 +1,9 @@
 pub mod Sums
 pub mod Places
+pub mod Writes
 pub mod Parts
 pub mod Corrected
+pub mod Exchange
 pub mod Covered
 pub mod Whole
 pub mod Lengths

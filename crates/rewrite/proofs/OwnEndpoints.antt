@@ -1,17 +1,16 @@
 -- A change that leaves the endpoints as they are writes the TTL and the header checksum alone.
-use Rattle.std.proofs.Common.{◌≡◌, ℕ, ◌+◌, ◌*◌, ◌≤◌, List, length, drop, Bool, true, false, set, refl, sym, ap, ◌∙◌}
-use Rattle.std.proofs.Common.{⊎_elim, Option, Some, None, arith}
+use Rattle.std.proofs.Common.{◌≡◌, ℕ, ◌+◌, ◌*◌, ◌≤◌, List, length, true, set, refl, ap, ◌∙◌}
+use Rattle.std.proofs.Common.{Option, Some, None, arith}
 use Rattle.std.specs.Prelude.{unwrap_or}
 use Rattle.std.specs.Option.{option_map}
-use Rattle.std.proofs.lemmas.Bool.{and_parts, cases_eq, cases_lt, cases_Bool, eqb-true, ne_eqb}
-use Rattle.ip_headers.specs.Bytes.{byte_at, u16_at, u32_at}
-use Rattle.ip_headers.specs.Header.{protocol_at, payload_at}
+use Rattle.std.proofs.lemmas.Bool.{and_parts, eqb-true}
+use Rattle.ip_headers.specs.Bytes.{u32_at}
+use Rattle.ip_headers.specs.Header.{payload_at}
 use Rattle.rewrite.specs.declared.change.Change.{Change}
 use Rattle.rewrite.specs.declared.change.PortsOrIdentifier.{PortsOrIdentifier}
 use Rattle.rewrite.specs.declared.checksum.ChecksumDelta.{ChecksumDelta}
 use Rattle.rewrite.specs.declared.fields.TransportFields.{TransportFields}
 use Rattle.rewrite.specs.declared.fields.TransportFields.TheVariants.{Tcp, Udp, Echo, Other}
-use Rattle.rewrite.specs.Rewritten.{has_identifier}
 use Rattle.rewrite.specs.steps.Fields.{changed_fields, changed_transport_fields, combined, fields_at, keeps_endpoints}
 use Rattle.rewrite.specs.steps.Fields.{keeps_numbers, len_of, port_change, ports_named, u16_change, u32_change, updated_checksum, with_fields}
 use Rattle.rewrite.specs.steps.Fields.{updated_udp_checksum, with_transport_fields, with_ttl_field}
@@ -19,7 +18,7 @@ use Rattle.rewrite.proofs.Covered.{IsDatagram, timed}
 use Rattle.rewrite.proofs.Parts.{bytes4}
 use Rattle.rewrite.proofs.Places.{number_kept}
 use Rattle.rewrite.proofs.Whole.{carried_at, kept_behind, kept_past_identifier, kept_past_ports, ports_kept_behind}
-use Rattle.rewrite.proofs.Whole.{timed_behind, of_tcp, of_cut_tcp, of_udp, of_echo, of_other}
+use Rattle.rewrite.proofs.Whole.{by_protocol, timed_behind}
 
 -- the same words on both sides change no checksum
 header_kept : (old new from to checksum : ℕ)
@@ -55,27 +54,14 @@ carried_kept : (start : ℕ) (p : List ℕ) (ttl : ℕ) → IsDatagram start p �
     → with_transport_fields (payload_at start p) (timed start p (u32_at p (start + 12)) (u32_at p (start + 16)) ttl)
     (carried_at start p) ≡ timed start p (u32_at p (start + 12)) (u32_at p (start + 16)) ttl
 carried_kept start p ttl d room =
-    let number = protocol_at start p in
     let offset = payload_at start p in
     let t = timed start p (u32_at p (start + 12)) (u32_at p (start + 16)) ttl in
     let b = timed_behind start p (u32_at p (start + 12)) (u32_at p (start + 16)) ttl d in
     let ports = ports_kept_behind start p t b in
-    let past_four : offset ≤ offset + 4 = omega arith in
-    let past_six : offset + 4 ≤ offset + 6 = omega arith in
-    let past_sixteen : offset + 4 ≤ offset + 16 = omega arith in
-    ⊎_elim
-    (λ six. ⊎_elim
-    (λ cut. rw (of_cut_tcp number p offset six cut) ports)
-    (λ long. rw (of_tcp number p offset six long) (kept_past_ports start p t _ _ (offset + 16) b past_sixteen ∙ ports))
-    (cases_lt (length p) (offset + 18)))
-    (λ not_six. ⊎_elim
-    (λ seventeen. rw (of_udp number p offset seventeen) (kept_past_ports start p t _ _ (offset + 6) b past_six ∙ ports))
-    (λ not_seventeen. ⊎_elim
-    (λ there. rw (of_echo number p offset there) (kept_past_identifier start p t _ b ∙ kept_behind start p t (offset + 4) b past_four))
-    (λ none. rw (of_other number p offset (ne_eqb _ _ not_six) (ne_eqb _ _ not_seventeen) none) refl)
-    (cases_Bool (has_identifier number (byte_at p offset))))
-    (cases_eq number 17))
-    (cases_eq number 6)
+    by_protocol start p (λ c. with_transport_fields offset t c ≡ t) (λ _ _. ports)
+    (λ _ _. kept_past_ports start p t _ _ (offset + 16) b (omega arith) ∙ ports)
+    (λ _. kept_past_ports start p t _ _ (offset + 6) b (omega arith) ∙ ports)
+    (λ _. kept_past_identifier start p t _ b ∙ kept_behind start p t (offset + 4) b (omega arith)) (λ _ _ _. refl)
 
 timed_kept : (start : ℕ) (p : List ℕ) (ttl : ℕ) → IsDatagram start p
     → timed start p (u32_at p (start + 12)) (u32_at p (start + 16)) ttl ≡ set p (start + 8) ttl

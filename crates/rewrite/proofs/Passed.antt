@@ -3,7 +3,7 @@ use Rattle.std.proofs.Common.{◌≡◌, ℕ, ◌+◌, ◌*◌, ◌/◌, ◌%◌
 use Rattle.std.proofs.Common.{length-take, length-drop, false, refl, sym, ap, ◌∙◌, arith}
 use Rattle.std.proofs.lemmas.Bool.{ne_eqb, cases_eq}
 use Rattle.std.proofs.lemmas.List.{get_or-take, get_or-drop}
-use Rattle.ip_headers.specs.Sum.{words_sum}
+use Rattle.ip_headers.specs.Sum.{ones_sum_of, words_sum}
 use Rattle.ip_headers.specs.Bytes.{u16_at, with_u16}
 use Rattle.ip_headers.specs.Header.{header, header_len, payload_at, payload_of, protocol, total_len}
 use Rattle.ip_headers.specs.Passing.{Passes}
@@ -13,7 +13,7 @@ use Rattle.rewrite.specs.Rewritten.{header_in, replaced}
 use Rattle.rewrite.proofs.Sums.{still_ones}
 use Rattle.rewrite.proofs.Places.{byte_apart, word_in, word_of_part}
 use Rattle.rewrite.proofs.Kept.{IsChecksumWord, update_keeps_sum}
-use Rattle.rewrite.proofs.Lengths.{length-carried, length-put, length-replaced}
+use Rattle.rewrite.proofs.Lengths.{length-carried, length-put, length-replaced, tcp_long, udp_long}
 use Rattle.rewrite.proofs.Sent.{checksum_updated, checksum_updated_header, sent, sent_byte, sent_tcp_byte, sent_udp_byte, timed, timed_byte}
 
 -- ---- the sum of the header
@@ -67,13 +67,6 @@ payload_byte xs h n i lt = get_or-drop h (take n xs) i 0 ∙ get_or-take n xs (h
 payload_len : (xs ys : List ℕ) (h n : ℕ) → length xs ≡ length ys → length (drop h (take n xs)) ≡ length (drop h (take n ys))
 payload_len xs ys h n e = omega (arith, e, length-drop h (take n xs), length-drop h (take n ys), length-take n xs, length-take n ys)
 
--- bytes 12 of TCP and 4 and 5 of UDP are within
-tcp_long : (payload : List ℕ) → transport_is_malformed 6 payload ≡ false → 20 ≤ length payload
-tcp_long payload right = grind (arith, right)
-
-udp_long : (payload : List ℕ) → transport_is_malformed 17 payload ≡ false → 8 ≤ length payload
-udp_long payload right = grind (arith, right)
-
 pub within : (p : List ℕ) → Passes p → length (payload_of p) + header_len p ≤ total_len p
 within p ok = omega (arith, length-drop (header_len p) (take (total_len p) p), length-take (total_len p) p, ok.head.head, ok.head.whole)
 
@@ -84,27 +77,51 @@ pub length-sent : (p : List ℕ) (change : Change) → length (sent p change) �
 length-sent p change = length-put (header_in 0) 10 p (checksum_updated p change)
     ∙ length-carried 0 p (replaced 0 p change) ∙ length-replaced 0 p change
 
+-- ---- the header, but for its TTL, its checksum and its addresses
+
+pub record SameHead (p q : List ℕ) : Type 0 where
+  pub byte : (k : ℕ) → k < 8 → get_or q k 0 ≡ get_or p k 0
+  pub protocol : protocol q ≡ protocol p
+  pub header : header_len q ≡ header_len p
+  pub total : total_len q ≡ total_len p
+
+pub head_by : (p q : List ℕ) → ((k : ℕ) → k < 8 → get_or q k 0 ≡ get_or p k 0) → get_or q 9 0 ≡ get_or p 9 0 → SameHead p q
+head_by p q same ninth = record {
+  byte = same;
+  protocol = ninth;
+  header = ap (λ b. b % 16 * 4) (same 0 (omega arith));
+  total = rw (same 2 (omega arith), same 3 (omega arith)) refl;
+}
+
+pub passes_by : (p q : List ℕ) → Passes p → SameHead p q → length q ≡ length p → ones_sum_of (header q) ≡ 65535
+    → transport_is_malformed (protocol p) (drop (header_len p) (take (total_len p) q)) ≡ false → Passes q
+passes_by p q ok same len sum right = record {
+  head = record {
+    long = omega (arith, same.header, ok.head.long);
+    head = omega (arith, same.header, same.total, ok.head.head);
+    whole = omega (arith, same.total, len, ok.head.whole);
+    four = ap (λ b. b / 16) (same.byte 0 (omega arith)) ∙ ok.head.four;
+    sum = sum;
+  };
+  unbroken = rw (same.byte 6 (omega arith), same.byte 7 (omega arith)) ok.unbroken;
+  transport = rw (same.protocol, same.header, same.total) right;
+}
+
+pub same_head : (p : List ℕ) (change : Change) → Passes p → SameHead p (sent p change)
+same_head p change ok =
+    let long : 20 ≤ header_len p = ok.head.long in
+    head_by p (sent p change)
+    (λ k lt. sent_byte p change k (omega (arith, long, lt)) (inl (omega (arith, lt))) (omega (arith, lt)) (inl (omega (arith, lt))))
+    (sent_byte p change 9 (omega (arith, long)) (inl (omega arith)) (omega arith) (inl (omega arith)))
+
 pub sent_passes : (p : List ℕ) (change : Change) → Passes p → Passes (sent p change)
 sent_passes p change ok =
     let q = sent p change in
     let h = header_len p in
     let n = total_len p in
     let long : 20 ≤ h = ok.head.long in
-    let first : get_or q 0 0 ≡ get_or p 0 0 =
-    sent_byte p change 0 (omega (arith, long)) (inl (omega arith)) (omega arith) (inl (omega arith)) in
-    let second : get_or q 2 0 ≡ get_or p 2 0 =
-    sent_byte p change 2 (omega (arith, long)) (inl (omega arith)) (omega arith) (inl (omega arith)) in
-    let third : get_or q 3 0 ≡ get_or p 3 0 =
-    sent_byte p change 3 (omega (arith, long)) (inl (omega arith)) (omega arith) (inl (omega arith)) in
-    let sixth : get_or q 6 0 ≡ get_or p 6 0 =
-    sent_byte p change 6 (omega (arith, long)) (inl (omega arith)) (omega arith) (inl (omega arith)) in
-    let seventh : get_or q 7 0 ≡ get_or p 7 0 =
-    sent_byte p change 7 (omega (arith, long)) (inl (omega arith)) (omega arith) (inl (omega arith)) in
-    let number : protocol q ≡ protocol p =
-    sent_byte p change 9 (omega (arith, long)) (inl (omega arith)) (omega arith) (inl (omega arith)) in
+    let same = same_head p change ok in
     let len : length q ≡ length p = length-sent p change in
-    let head_same : header_len q ≡ h = ap (λ b. b % 16 * 4) first in
-    let total_same : total_len q ≡ n = rw (second, third) refl in
     let room = within p ok in
     let tcp : protocol p ≡ 6 → get_or (drop h (take n q)) 12 0 ≡ get_or (drop h (take n p)) 12 0 = λ six.
     let enough = tcp_long (payload_of p) (rw six at ok.transport) in
@@ -113,28 +130,12 @@ sent_passes p change ok =
     (inl (omega arith)) ∙ sym (payload_byte p h n 12 (omega (arith, enough, room))) in
     let udp : protocol p ≡ 17 → u16_at (drop h (take n q)) 4 ≡ u16_at (drop h (take n p)) 4 = λ seventeen.
     let enough = udp_long (payload_of p) (rw seventeen at ok.transport) in
-    let high = payload_byte q h n 4 (omega (arith, enough, room))
-    ∙ sent_udp_byte p change (h + 4) (omega (arith, long)) seventeen (omega arith) (inl (omega arith))
-    ∙ sym (payload_byte p h n 4 (omega (arith, enough, room))) in
-    let low = payload_byte q h n 5 (omega (arith, enough, room))
-    ∙ sent_udp_byte p change (h + 5) (omega (arith, long)) seventeen (omega arith) (inl (omega arith))
-    ∙ sym (payload_byte p h n 5 (omega (arith, enough, room))) in
-    rw (high, low) refl in
-    record {
-      head = record {
-        long = omega (arith, head_same, long);
-        head = omega (arith, head_same, total_same, ok.head.head);
-        whole = omega (arith, total_same, len, ok.head.whole);
-        four = ap (λ b. b / 16) first ∙ ok.head.four;
-        sum = still_ones (header p) (header q) (header_keeps p change ok) ok.head.sum
-            (rw (get_or-take (header_len q) q 0 0 (omega (arith, head_same, long)), first)
-            (omega (arith, ok.head.four)));
-      };
-      unbroken = rw (sixth, seventh) ok.unbroken;
-      transport = rw (
-        number,
-        head_same,
-        total_same,
-        wrong_same (protocol p) (drop h (take n q)) (drop h (take n p)) (payload_len q p h n len) tcp udp,
-      ) ok.transport;
-    }
+    let byte : (k : ℕ) → 3 < k → k < 6 → get_or (drop h (take n q)) k 0 ≡ get_or (drop h (take n p)) k 0 = λ k past lt.
+    payload_byte q h n k (omega (arith, enough, room, lt))
+    ∙ sent_udp_byte p change (h + k) (omega (arith, long)) seventeen (omega (arith, past)) (inl (omega (arith, lt)))
+    ∙ sym (payload_byte p h n k (omega (arith, enough, room, lt))) in
+    rw (byte 4 (omega arith) (omega arith), byte 5 (omega arith) (omega arith)) refl in
+    passes_by p q ok same len
+    (still_ones (header p) (header q) (header_keeps p change ok) ok.head.sum
+    (rw (get_or-take (header_len q) q 0 0 (omega (arith, same.header, long)), same.byte 0 (omega arith)) (omega (arith, ok.head.four))))
+    (wrong_same (protocol p) (drop h (take n q)) (drop h (take n p)) (payload_len q p h n len) tcp udp ∙ ok.transport)

@@ -71,9 +71,6 @@ number_apart xs i n k apart =
     let d = number_byte_apart xs i n (k + 2 + 1) (grind arith) in
     omega (arith, a, b, c, d)
 
-pub number_past : (xs : List ℕ) (i v k : ℕ) → i < k → u32_at (set xs i v) k ≡ u32_at xs k
-number_past xs i v k lt = grind (arith, common_steps)
-
 -- ---- a part of the bytes after a write within it, before it or after it
 
 pub byte_in : (xs : List ℕ) (a n i j v : ℕ) → j ≡ a + i → i < n → take n (drop a (set xs j v)) ≡ set (take n (drop a xs)) i v
@@ -108,10 +105,6 @@ pub number_in : (xs : List ℕ) (a n i j w : ℕ) → j ≡ a + i → i + 3 < n
 number_in xs a n i j w is lt =
     word_in (with_u16 xs j (w / 65536)) a n (i + 2) (j + 2) (w % 65536) (omega (arith, is)) (omega (arith, lt))
     ∙ ap (λ l. with_u16 l (i + 2) (w % 65536)) (word_in xs a n i j (w / 65536) is (omega (arith, lt)))
-
-pub number_after : (xs : List ℕ) (a n j w : ℕ) → a + n ≤ j → take n (drop a (with_u32 xs j w)) ≡ take n (drop a xs)
-number_after xs a n j w le = word_after (with_u16 xs j (w / 65536)) a n (j + 2) (w % 65536) (omega (arith, le))
-    ∙ word_after xs a n j (w / 65536) le
 
 -- ---- the bytes from an offset on
 

@@ -1,7 +1,7 @@
 -- The rewritten packet, byte by byte; the list's elements may be any numbers.
 use Rattle.std.proofs.Common.{◌≡◌, ◌≢◌, ℕ, ◌+◌, ◌*◌, ◌%◌, ◌<◌, ◌≤◌, ◌⊎◌, inl, inr, Option, Some, None, List}
-use Rattle.std.proofs.Common.{length, get_or, Bool, true, false, refl, ap, ◌∙◌, arith}
-use Rattle.std.specs.Prelude.{◌==◌, ◌||◌, if◌then◌else◌}
+use Rattle.std.proofs.Common.{length, suc, get_or, false, refl, ap, ◌∙◌, arith}
+use Rattle.std.specs.Prelude.{◌==◌, ◌||◌}
 use Rattle.std.proofs.lemmas.List.{get_or-set_other}
 use Rattle.ip_headers.specs.Bytes.{u16_at, with_u16}
 use Rattle.ip_headers.specs.Header.{payload_at, protocol_at}
@@ -12,6 +12,7 @@ use Rattle.rewrite.specs.Rewritten.{payload_in, header_in, write_if_some, pseudo
 use Rattle.rewrite.specs.Rewritten.{update_udp_checksum, replaced, update_transport_checksum, update_checksums}
 use Rattle.rewrite.specs.Rewritten.{same_bytes, with_destination, with_numbers, with_ports, with_source, with_ttl}
 use Rattle.rewrite.proofs.Places.{byte_apart, number_byte_apart}
+use Rattle.rewrite.proofs.Writes.{SameAt, either_by, named_by, numbers_by, same_at, transport_by}
 use Rattle.rewrite.proofs.Whole.{by_icmp, by_tcp, by_udp}
 
 -- ---- the steps
@@ -26,13 +27,7 @@ timed p change = write_if_some (with_ttl 0)
 pub named_byte : {A : Type 0} (write : List ℕ → A → List ℕ) (bytes : List ℕ) (o : Option A) (k : ℕ)
     → ((x : A) → get_or (write bytes x) k 0 ≡ get_or bytes k 0)
     → get_or (write_if_some write bytes o) k 0 ≡ get_or bytes k 0
-named_byte write bytes None k same = refl
-named_byte write bytes (Some x) k same = same x
-
-pub either_byte : (b : Bool) (xs ys zs : List ℕ) (k : ℕ) → get_or xs k 0 ≡ get_or zs k 0 → get_or ys k 0 ≡ get_or zs k 0
-    → get_or (if b then xs else ys) k 0 ≡ get_or zs k 0
-either_byte true xs ys zs k e f = e
-either_byte false xs ys zs k e f = f
+named_byte write bytes o k same = named_by (SameAt k bytes) write bytes o same refl
 
 pub timed_byte : (p : List ℕ) (change : Change) (k : ℕ) → k ≢ 8 → (k < 12) ⊎ (19 < k) → get_or (timed p change) k 0 ≡ get_or p k 0
 timed_byte p change k other past =
@@ -44,37 +39,22 @@ timed_byte p change k other past =
 
 pub update_byte : (over : List ℕ → List ℕ) (offset : ℕ) (old now : List ℕ) (k : ℕ) → (k < offset) ⊎ (offset + 1 < k)
     → get_or (update_checksum over offset old now) k 0 ≡ get_or now k 0
-update_byte over offset old now k apart = either_byte (same_bytes (over old) (over now)) now _ now k refl (byte_apart now offset _ k apart)
+update_byte over offset old now k apart = either_by (SameAt k now) (same_bytes (over old) (over now)) now _ refl (byte_apart now offset _ k apart)
 
 pub udp_update_byte : (over : List ℕ → List ℕ) (offset : ℕ) (old now : List ℕ) (k : ℕ) → (k < offset) ⊎ (offset + 1 < k)
     → get_or (update_udp_checksum over offset old now) k 0 ≡ get_or now k 0
 udp_update_byte over offset old now k apart =
-    either_byte (same_bytes (over old) (over now) || u16_at old offset == 0) now _ now k refl
+    either_by (SameAt k now) (same_bytes (over old) (over now) || u16_at old offset == 0) now _ refl
     (byte_apart now offset _ k apart)
 
 -- ports and identifier are after the header
 pub numbers_byte : (start : ℕ) (bytes : List ℕ) (numbers : PortsOrIdentifier) (k : ℕ) → k < payload_at start bytes
     → get_or (with_numbers start bytes numbers) k 0 ≡ get_or bytes k 0
-numbers_byte start bytes (Ports from to) k lt =
-    let offset = payload_at start bytes in
-    either_byte _ (with_ports offset bytes from to) bytes bytes k
-    (byte_apart (with_u16 bytes offset from) (offset + 2) to k (inl (omega (arith, lt)))
-    ∙ byte_apart bytes offset from k (inl lt)) refl
-numbers_byte start bytes (Identifier number) k lt =
-    either_byte _ _ bytes bytes k (byte_apart bytes (payload_at start bytes + 4) number k (inl (omega (arith, lt))))
-    refl
+numbers_byte start bytes numbers k lt = numbers_by (SameAt k bytes) (suc k) (same_at k bytes) start bytes numbers (omega (arith, lt)) refl
 
-pub carried_byte : (start : ℕ) (old now : List ℕ) (k : ℕ) → k < payload_at start old
+carried_byte : (start : ℕ) (old now : List ℕ) (k : ℕ) → k < payload_at start old
     → get_or (update_transport_checksum start old now) k 0 ≡ get_or now k 0
-carried_byte start old now k lt =
-    let offset = payload_at start old in
-    either_byte _ (update_checksum (pseudo_header_and_payload start) (offset + 16) old now) _ now k
-    (update_byte (pseudo_header_and_payload start) (offset + 16) old now k (inl (omega (arith, lt))))
-    (either_byte (protocol_at start old == 17)
-    (update_udp_checksum (pseudo_header_and_payload start) (offset + 6) old now) _ now k
-    (udp_update_byte (pseudo_header_and_payload start) (offset + 6) old now k (inl (omega (arith, lt))))
-    (either_byte (protocol_at start old == 1) (update_checksum (payload_in start) (offset + 2) old now) now now k
-    (update_byte (payload_in start) (offset + 2) old now k (inl (omega (arith, lt)))) refl))
+carried_byte start old now k lt = transport_by (SameAt k now) (suc k) (same_at k now) start old now (omega (arith, lt)) refl
 
 -- ---- the header: its bytes but its checksum's are those of the datagram with another header
 
@@ -109,29 +89,30 @@ sent_byte p change k lt apart other past = sent_header p change k lt apart ∙ t
 
 -- ---- the payload, by protocol
 
+sent_past : (p : List ℕ) (change : Change) (k : ℕ) → 12 ≤ payload_at 0 p → payload_at 0 p ≤ k
+    → get_or (sent p change) k 0 ≡ get_or (checksum_updated p change) k 0
+sent_past p change k long past = update_byte (header_in 0) 10 p (checksum_updated p change) k (inr (omega (arith, long, past)))
+
 pub sent_tcp : (p : List ℕ) (change : Change) (k : ℕ) → 12 ≤ payload_at 0 p → protocol_at 0 p ≡ 6
     → payload_at 0 p + 18 ≤ length p → payload_at 0 p ≤ k → (k < payload_at 0 p + 16) ⊎ (payload_at 0 p + 17 < k)
     → get_or (sent p change) k 0 ≡ get_or (replaced 0 p change) k 0
 sent_tcp p change k long is room past apart =
-    let r = replaced 0 p change in
-    update_byte (header_in 0) 10 p (update_transport_checksum 0 p r) k (inr (omega (arith, long, past)))
-    ∙ ap (λ l. get_or l k 0) (by_tcp 0 p r is room) ∙ update_byte (pseudo_header_and_payload 0) (payload_at 0 p + 16) p r k (grind arith)
+    sent_past p change k long past ∙ ap (λ l. get_or l k 0) (by_tcp 0 p (replaced 0 p change) is room)
+    ∙ update_byte (pseudo_header_and_payload 0) (payload_at 0 p + 16) p (replaced 0 p change) k (grind arith)
 
 pub sent_udp : (p : List ℕ) (change : Change) (k : ℕ) → 12 ≤ payload_at 0 p → protocol_at 0 p ≡ 17 → payload_at 0 p ≤ k
     → (k < payload_at 0 p + 6) ⊎ (payload_at 0 p + 7 < k)
     → get_or (sent p change) k 0 ≡ get_or (replaced 0 p change) k 0
 sent_udp p change k long is past apart =
-    let r = replaced 0 p change in
-    update_byte (header_in 0) 10 p (update_transport_checksum 0 p r) k (inr (omega (arith, long, past)))
-    ∙ ap (λ l. get_or l k 0) (by_udp 0 p r is) ∙ udp_update_byte (pseudo_header_and_payload 0) (payload_at 0 p + 6) p r k (grind arith)
+    sent_past p change k long past ∙ ap (λ l. get_or l k 0) (by_udp 0 p (replaced 0 p change) is)
+    ∙ udp_update_byte (pseudo_header_and_payload 0) (payload_at 0 p + 6) p (replaced 0 p change) k (grind arith)
 
 pub sent_icmp : (p : List ℕ) (change : Change) (k : ℕ) → 12 ≤ payload_at 0 p → protocol_at 0 p ≡ 1 → payload_at 0 p ≤ k
     → (k < payload_at 0 p + 2) ⊎ (payload_at 0 p + 3 < k)
     → get_or (sent p change) k 0 ≡ get_or (replaced 0 p change) k 0
 sent_icmp p change k long is past apart =
-    let r = replaced 0 p change in
-    update_byte (header_in 0) 10 p (update_transport_checksum 0 p r) k (inr (omega (arith, long, past)))
-    ∙ ap (λ l. get_or l k 0) (by_icmp 0 p r is) ∙ update_byte (payload_in 0) (payload_at 0 p + 2) p r k (grind arith)
+    sent_past p change k long past ∙ ap (λ l. get_or l k 0) (by_icmp 0 p (replaced 0 p change) is)
+    ∙ update_byte (payload_in 0) (payload_at 0 p + 2) p (replaced 0 p change) k (grind arith)
 
 -- the written ports or identifier, by protocol
 pub ports_byte : (t : List ℕ) (numbers : Option PortsOrIdentifier) (number offset k : ℕ) → protocol_at 0 t ≡ number
@@ -139,7 +120,7 @@ pub ports_byte : (t : List ℕ) (numbers : Option PortsOrIdentifier) (number off
     → get_or (write_if_some (with_numbers 0) t numbers) k 0 ≡ get_or t k 0
 ports_byte t None number offset k is here none past = refl
 ports_byte t (Some (Ports from to)) number offset k is here none past =
-    either_byte _ (with_ports (payload_at 0 t) t from to) t t k
+    either_by (SameAt k t) _ (with_ports (payload_at 0 t) t from to) t
     (byte_apart (with_u16 t (payload_at 0 t) from) (payload_at 0 t + 2) to k (inr (omega (arith, here, past)))
     ∙ byte_apart t (payload_at 0 t) from k (inr (omega (arith, here, past)))) refl
 ports_byte t (Some (Identifier other)) number offset k is here none past = rw (is, none) refl
@@ -150,7 +131,7 @@ pub icmp_byte : (t : List ℕ) (numbers : Option PortsOrIdentifier) (number offs
 icmp_byte t None number offset k is here none before = refl
 icmp_byte t (Some (Ports from to)) number offset k is here none before = rw (is, none) refl
 icmp_byte t (Some (Identifier other)) number offset k is here none before =
-    either_byte _ _ t t k (byte_apart t (payload_at 0 t + 4) other k (inl (omega (arith, here, before)))) refl
+    either_by (SameAt k t) _ _ t (byte_apart t (payload_at 0 t + 4) other k (inl (omega (arith, here, before)))) refl
 
 pub sent_tcp_byte : (p : List ℕ) (change : Change) (k : ℕ) → 20 ≤ payload_at 0 p → protocol_at 0 p ≡ 6
     → payload_at 0 p + 18 ≤ length p → payload_at 0 p + 4 ≤ k → (k < payload_at 0 p + 16) ⊎ (payload_at 0 p + 17 < k)

@@ -14,12 +14,11 @@ use Rattle.rewrite.specs.Rewritten.{payload_in, header_in, pseudo_header_and_pay
 use Rattle.rewrite.proofs.Places.{byte_apart, word_after, word_before, rest_before, rest_in, word_of_rest}
 use Rattle.rewrite.proofs.Parts.{IsEven}
 use Rattle.rewrite.proofs.Kept.{IsChecksumWord, udp_update_keeps_sum, update_keeps_sum}
-use Rattle.rewrite.proofs.Lengths.{length-replaced}
+use Rattle.rewrite.proofs.Lengths.{icmp_long, length-replaced, udp_long}
 use Rattle.rewrite.proofs.Whole.{by_icmp, by_tcp, by_udp}
 use Rattle.rewrite.proofs.Sent.{icmp_byte, named_byte, numbers_byte, ports_byte, checksum_updated}
 use Rattle.rewrite.proofs.Sent.{checksum_updated_header, sent, timed, timed_byte, timed_payload, timed_protocol}
 use Rattle.rewrite.proofs.Passed.{tcp_room, within}
-use Rattle.rewrite.proofs.Between.{icmp_long, udp_long}
 
 -- ---- the payload's offset stays
 
@@ -140,38 +139,35 @@ past_ports p change number k long is none past =
     ports_byte (timed p change) change.numbers number (payload_at 0 p) k (timed_protocol p change ∙ is) (timed_payload p change) none past
     ∙ timed_byte p change k (omega (arith, long, past)) (inr (omega (arith, long, past)))
 
+checksum_past_ports : (p : List ℕ) (change : Change) (number k : ℕ) → Passes p → protocol p ≡ number → (number == 1) ≡ false
+    → 4 ≤ k → IsEven (8 + k) → payload_at 0 p + (k + 2) ≤ length p
+    → IsChecksumWord (pseudo_header_and_payload 0) (payload_at 0 p + k) (8 + k) p (replaced 0 p change)
+checksum_past_ports p change number k ok is none past even room =
+    let long : 20 ≤ payload_at 0 p = omega (arith, ok.head.long) in
+    let high = past_ports p change number (payload_at 0 p + k) long is none (omega (arith, past)) in
+    let low = past_ports p change number (payload_at 0 p + k + 1) long is none (omega (arith, past)) in
+    pseudo_checksum_word p (replaced 0 p change) k long (replaced_payload p change long)
+    (omega (arith, room, length-replaced 0 p change)) even (rw (high, low) refl)
+
 pub tcp_sum_kept : (p : List ℕ) (change : Change) → Passes p → protocol p ≡ 6
     → words_sum (pseudo_header_and_payload 0 (sent p change)) % 65535
     ≡ words_sum (pseudo_header_and_payload 0 p) % 65535
 tcp_sum_kept p change ok six =
-    let r = replaced 0 p change in
-    let offset = payload_at 0 p in
-    let long : 20 ≤ offset = omega (arith, ok.head.long) in
-    let room = tcp_room p ok six in
-    let high = past_ports p change 6 (offset + 16) long six refl (omega arith) in
-    let low = past_ports p change 6 (offset + 16 + 1) long six refl (omega arith) in
-    let checksum_word = pseudo_checksum_word p r 16 long (replaced_payload p change long)
-    (omega (arith, room, length-replaced 0 p change)) (refl, refl) (rw (high, low) refl) in
-    ap (λ l. words_sum l % 65535) (sent_pseudo p change long
-    ∙ ap (λ l. pseudo_header_and_payload 0 l) (by_tcp 0 p r six room))
-    ∙ update_keeps_sum (pseudo_header_and_payload 0) (offset + 16) 24 p r checksum_word
+    ap (λ l. words_sum l % 65535) (sent_pseudo p change (omega (arith, ok.head.long))
+    ∙ ap (λ l. pseudo_header_and_payload 0 l) (by_tcp 0 p (replaced 0 p change) six (tcp_room p ok six)))
+    ∙ update_keeps_sum (pseudo_header_and_payload 0) (payload_at 0 p + 16) 24 p (replaced 0 p change)
+    (checksum_past_ports p change 6 16 ok six refl (omega arith) (refl, refl) (tcp_room p ok six))
 
 pub udp_sum_kept : (p : List ℕ) (change : Change) → Passes p → protocol p ≡ 17 → u16_at p (payload_at 0 p + 6) ≢ 0
     → words_sum (pseudo_header_and_payload 0 (sent p change)) % 65535
     ≡ words_sum (pseudo_header_and_payload 0 p) % 65535
 udp_sum_kept p change ok seventeen made =
-    let r = replaced 0 p change in
-    let offset = payload_at 0 p in
-    let long : 20 ≤ offset = omega (arith, ok.head.long) in
     let enough = udp_long (payload_of p) (rw seventeen at ok.transport) in
-    let high = past_ports p change 17 (offset + 6) long seventeen refl (omega arith) in
-    let low = past_ports p change 17 (offset + 6 + 1) long seventeen refl (omega arith) in
-    let checksum_word = pseudo_checksum_word p r 6 long (replaced_payload p change long)
-    (omega (arith, enough, within p ok, ok.head.whole, length-replaced 0 p change)) (refl, refl)
-    (rw (high, low) refl) in
-    ap (λ l. words_sum l % 65535) (sent_pseudo p change long
-    ∙ ap (λ l. pseudo_header_and_payload 0 l) (by_udp 0 p r seventeen))
-    ∙ udp_update_keeps_sum (pseudo_header_and_payload 0) (offset + 6) 14 p r made checksum_word
+    ap (λ l. words_sum l % 65535) (sent_pseudo p change (omega (arith, ok.head.long))
+    ∙ ap (λ l. pseudo_header_and_payload 0 l) (by_udp 0 p (replaced 0 p change) seventeen))
+    ∙ udp_update_keeps_sum (pseudo_header_and_payload 0) (payload_at 0 p + 6) 14 p (replaced 0 p change) made
+    (checksum_past_ports p change 17 6 ok seventeen refl (omega arith) (refl, refl)
+    (omega (arith, enough, within p ok, ok.head.whole)))
 
 pub icmp_sum_kept : (p : List ℕ) (change : Change) → Passes p → protocol p ≡ 1
     → words_sum (payload_in 0 (sent p change)) % 65535 ≡ words_sum (payload_in 0 p) % 65535

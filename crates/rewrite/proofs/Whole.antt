@@ -20,7 +20,8 @@ use Rattle.rewrite.specs.steps.Fields.{transport_fields_of, changed_transport_fi
 use Rattle.rewrite.specs.steps.Fields.{identifier_named, len_of, ports_named, updated_checksum, tcp_checksum_of}
 use Rattle.rewrite.specs.steps.Fields.{with_transport_fields, with_fields}
 use Rattle.rewrite.proofs.Places.{byte_apart, Bytes4, number_byte_apart, number_apart, number_kept}
-use Rattle.rewrite.proofs.Places.{word_kept, word_after, byte_of_part, word_of_rest}
+use Rattle.rewrite.proofs.Places.{byte_after, word_kept, byte_of_part, word_of_rest}
+use Rattle.rewrite.proofs.Writes.{fields_by}
 use Rattle.rewrite.proofs.Parts.{bytes4, ports_kept}
 use Rattle.rewrite.proofs.Corrected.{update_checksum-is, update_checksum-kept, update_udp_checksum-is}
 use Rattle.rewrite.proofs.Covered.{timed, timed_byte, timed_rest, head_of, IsDatagram, same_byte-len, header_words}
@@ -101,20 +102,9 @@ replaced_header start p change d =
 
 carried_head : (start n offset : ℕ) (t : List ℕ) (c : TransportFields) → start + n ≤ offset
     → head_of start n (with_transport_fields offset t c) ≡ head_of start n t
-carried_head start n offset t (Tcp from to None) le =
-    word_after (with_u16 t offset from) start n (offset + 2) to (omega (arith, le)) ∙ word_after t start n offset from le
-carried_head start n offset t (Tcp from to (Some checksum)) le =
-    word_after (with_ports offset t from to) start n (offset + 16) checksum (omega (arith, le))
-    ∙ word_after (with_u16 t offset from) start n (offset + 2) to (omega (arith, le))
-    ∙ word_after t start n offset from le
-carried_head start n offset t (Udp from to checksum) le =
-    word_after (with_ports offset t from to) start n (offset + 6) checksum (omega (arith, le))
-    ∙ word_after (with_u16 t offset from) start n (offset + 2) to (omega (arith, le))
-    ∙ word_after t start n offset from le
-carried_head start n offset t (Echo identifier checksum) le =
-    word_after (with_u16 t (offset + 4) identifier) start n (offset + 2) checksum (omega (arith, le))
-    ∙ word_after t start n (offset + 4) identifier (omega (arith, le))
-carried_head start n offset t Other le = refl
+carried_head start n offset t c le =
+    fields_by (λ q. head_of start n q ≡ head_of start n t) (start + n) (λ q k v past h. byte_after q start n k v past ∙ h) offset t c le
+    refl
 
 in_head : (start n i j : ℕ) (xs ys : List ℕ) → head_of start n xs ≡ head_of start n ys → j ≡ start + i → i < n
     → get_or xs j 0 ≡ get_or ys j 0
@@ -211,12 +201,12 @@ kept_past_identifier start p t number b =
 abbrev pub carried_at : ℕ → List ℕ → TransportFields
 carried_at start p = transport_fields_of (protocol_at start p) (drop (payload_at start p) p)
 
--- what each protocol needs
-abbrev IsCarried : ℕ → List ℕ → ℕ → ℕ → ℕ → Option PortsOrIdentifier → Type 0
-IsCarried start p from to ttl numbers =
-    update_transport_checksum start p (write_if_some (with_numbers start) (timed start p from to ttl) numbers)
+-- a datagram whose fields are these gets them as they are changed
+abbrev IsCarried : ℕ → List ℕ → ℕ → ℕ → ℕ → Option PortsOrIdentifier → TransportFields → Type 0
+IsCarried start p from to ttl numbers fields = payload_at start p + len_of fields ≤ length p
+    → update_transport_checksum start p (write_if_some (with_numbers start) (timed start p from to ttl) numbers)
     ≡ with_transport_fields (payload_at start p) (timed start p from to ttl)
-    (changed_transport_fields numbers (pair_words start p from to) (carried_at start p))
+    (changed_transport_fields numbers (pair_words start p from to) fields)
 
 -- which checksum is updated
 pub by_tcp : (start : ℕ) (old now : List ℕ) → protocol_at start old ≡ 6 → payload_at start old + 18 ≤ length old
@@ -306,128 +296,106 @@ of_other number p offset a b c =
     let gone : has_identifier number (byte_at (drop offset p) 0) ≡ false = rw (first_of_rest p offset) c in
     rw (a, b, gone) refl
 
-carried_tcp : (start : ℕ) (p : List ℕ) (from to ttl : ℕ) (numbers : Option PortsOrIdentifier) → IsDatagram start p
-    → payload_at start p + 18 ≤ length p → protocol_at start p ≡ 6 → IsCarried start p from to ttl numbers
-carried_tcp start p from to ttl numbers d room is =
-    let offset = payload_at start p in
-    let t = timed start p from to ttl in
-    let b = timed_behind start p from to ttl d in
-    let ports = ports_named numbers (u16_at p offset) (u16_at p (offset + 2)) in
-    let now = with_ports offset t ports.0 ports.1 in
-    let written : write_if_some (with_numbers start) t numbers ≡ now =
-    write_ports numbers start t 6 offset (u16_at p offset) (u16_at p (offset + 2))
-    (b.protocol ∙ is) b.payload refl refl (ports_kept_behind start p t b) in
-    let right = update_checksum-is (pseudo_header_and_payload start) (offset + 16) p now _
-    (pseudo_covered start p from to ttl ports.0 ports.1 d (omega (arith, room)))
-    (kept_past_ports start p t ports.0 ports.1 (offset + 16) b (omega arith)) in
-    ap (λ l. update_transport_checksum start p l) written ∙ by_tcp start p now is room ∙ right
-    ∙ ap (λ c. with_transport_fields offset t (changed_transport_fields numbers (pair_words start p from to) c))
-    (sym (of_tcp (protocol_at start p) p offset is room))
-
-carried_cut_tcp : (start : ℕ) (p : List ℕ) (from to ttl : ℕ) (numbers : Option PortsOrIdentifier) → IsDatagram start p
-    → length p < payload_at start p + 18 → protocol_at start p ≡ 6 → IsCarried start p from to ttl numbers
-carried_cut_tcp start p from to ttl numbers d cut is =
-    let offset = payload_at start p in
-    let t = timed start p from to ttl in
-    let b = timed_behind start p from to ttl d in
-    let ports = ports_named numbers (u16_at p offset) (u16_at p (offset + 2)) in
-    let now = with_ports offset t ports.0 ports.1 in
-    let written : write_if_some (with_numbers start) t numbers ≡ now =
-    write_ports numbers start t 6 offset (u16_at p offset) (u16_at p (offset + 2))
-    (b.protocol ∙ is) b.payload refl refl (ports_kept_behind start p t b) in
-    ap (λ l. update_transport_checksum start p l) written ∙ by_cut_tcp start p now is cut
-    ∙ ap (λ c. with_transport_fields offset t (changed_transport_fields numbers (pair_words start p from to) c))
-    (sym (of_cut_tcp (protocol_at start p) p offset is cut))
-
-carried_udp : (start : ℕ) (p : List ℕ) (from to ttl : ℕ) (numbers : Option PortsOrIdentifier) → IsDatagram start p
-    → payload_at start p + 8 ≤ length p → protocol_at start p ≡ 17 → IsCarried start p from to ttl numbers
-carried_udp start p from to ttl numbers d room is =
-    let offset = payload_at start p in
-    let t = timed start p from to ttl in
-    let b = timed_behind start p from to ttl d in
-    let ports = ports_named numbers (u16_at p offset) (u16_at p (offset + 2)) in
-    let now = with_ports offset t ports.0 ports.1 in
-    let written : write_if_some (with_numbers start) t numbers ≡ now =
-    write_ports numbers start t 17 offset (u16_at p offset) (u16_at p (offset + 2))
-    (b.protocol ∙ is) b.payload refl refl (ports_kept_behind start p t b) in
-    let right = update_udp_checksum-is (pseudo_header_and_payload start) (offset + 6) p now _
-    (pseudo_covered start p from to ttl ports.0 ports.1 d (omega (arith, room)))
-    (kept_past_ports start p t ports.0 ports.1 (offset + 6) b (omega arith)) in
-    ap (λ l. update_transport_checksum start p l) written ∙ by_udp start p now is ∙ right
-    ∙ ap (λ c. with_transport_fields offset t (changed_transport_fields numbers (pair_words start p from to) c))
-    (sym (of_udp (protocol_at start p) p offset is))
-
-carried_echo : (start : ℕ) (p : List ℕ) (from to ttl : ℕ) (numbers : Option PortsOrIdentifier) → IsDatagram start p
-    → payload_at start p + 6 ≤ length p
-    → has_identifier (protocol_at start p) (byte_at p (payload_at start p)) ≡ true
-    → IsCarried start p from to ttl numbers
-carried_echo start p from to ttl numbers d room there =
-    let offset = payload_at start p in
-    let t = timed start p from to ttl in
-    let b = timed_behind start p from to ttl d in
-    let is : protocol_at start p ≡ 1 = is_icmp (protocol_at start p) (byte_at p offset) there in
-    let type_there : has_identifier 1 (byte_at t offset) ≡ true =
-    subst (λ (m : ℕ). has_identifier 1 m ≡ true) (sym (b.bytes offset (omega arith)))
-    (subst (λ (n : ℕ). has_identifier n (byte_at p offset) ≡ true) is there) in
-    let number = identifier_named numbers (u16_at p (offset + 4)) in
-    let now = with_u16 t (offset + 4) number in
-    let written : write_if_some (with_numbers start) t numbers ≡ now =
-    write_identifier numbers start t 1 offset (u16_at p (offset + 4)) (b.protocol ∙ is) b.payload refl type_there
-    (kept_behind start p t (offset + 4) b (omega arith)) in
-    let right = update_checksum-is (payload_in start) (offset + 2) p now _
-    (carried_covered start p from to ttl number d room) (kept_past_identifier start p t number b) in
-    ap (λ l. update_transport_checksum start p l) written ∙ by_icmp start p now is ∙ right
-    ∙ ap (λ c. with_transport_fields offset t (changed_transport_fields numbers (pair_words start p from to) c))
-    (sym (of_echo (protocol_at start p) p offset there))
-
--- the payload stays, and so does its checksum
-kept_other : (start : ℕ) (p : List ℕ) (from to ttl : ℕ) → IsDatagram start p
-    → (protocol_at start p == 6) ≡ false → (protocol_at start p == 17) ≡ false
-    → update_transport_checksum start p (timed start p from to ttl) ≡ timed start p from to ttl
-kept_other start p from to ttl d x y =
-    let offset = payload_at start p in
-    let t = timed start p from to ttl in
-    let b = timed_behind start p from to ttl d in
-    let rest : payload_in start t ≡ payload_in start p =
-    ap (λ n. drop n t) b.payload ∙ timed_rest start offset p from to ttl (omega (arith, d.long)) in
-    ⊎_elim
-    (λ one. by_icmp start p t one ∙ update_checksum-kept (payload_in start) (offset + 2) p t (sym rest))
-    (λ not_one. by_other start p t x y (ne_eqb _ _ not_one))
-    (cases_eq (protocol_at start p) 1)
-
-carried_other : (start : ℕ) (p : List ℕ) (from to ttl : ℕ) (numbers : Option PortsOrIdentifier) → IsDatagram start p
-    → (protocol_at start p == 6) ≡ false → (protocol_at start p == 17) ≡ false
-    → has_identifier (protocol_at start p) (byte_at p (payload_at start p)) ≡ false
-    → IsCarried start p from to ttl numbers
-carried_other start p from to ttl numbers d x y z =
-    let offset = payload_at start p in
-    let t = timed start p from to ttl in
-    let b = timed_behind start p from to ttl d in
-    let none : has_identifier (protocol_at start p) (byte_at t offset) ≡ false = rw (b.bytes offset (omega arith)) z in
-    ap (λ l. update_transport_checksum start p l)
-    (write_none numbers start t (protocol_at start p) offset b.protocol b.payload (or_from _ _ x y) none)
-    ∙ kept_other start p from to ttl d x y
-    ∙ ap (λ c. with_transport_fields offset t (changed_transport_fields numbers (pair_words start p from to) c))
-    (sym (of_other (protocol_at start p) p offset x y z))
-
-is_carried : (start : ℕ) (p : List ℕ) (from to ttl : ℕ) (numbers : Option PortsOrIdentifier) → IsDatagram start p
-    → payload_at start p + len_of (carried_at start p) ≤ length p → IsCarried start p from to ttl numbers
-is_carried start p from to ttl numbers d room =
+-- what is shown for each protocol holds of the fields of a datagram
+pub by_protocol : (start : ℕ) (p : List ℕ) (P : TransportFields → Type 0)
+    → (protocol_at start p ≡ 6 → length p < payload_at start p + 18
+    → P (Tcp (u16_at p (payload_at start p)) (u16_at p (payload_at start p + 2)) None))
+    → (protocol_at start p ≡ 6 → payload_at start p + 18 ≤ length p → P (Tcp (u16_at p (payload_at start p))
+    (u16_at p (payload_at start p + 2)) (Some (u16_at p (payload_at start p + 16)))))
+    → (protocol_at start p ≡ 17 → P (Udp (u16_at p (payload_at start p)) (u16_at p (payload_at start p + 2))
+    (u16_at p (payload_at start p + 6))))
+    → (has_identifier (protocol_at start p) (byte_at p (payload_at start p)) ≡ true
+    → P (Echo (u16_at p (payload_at start p + 4)) (u16_at p (payload_at start p + 2))))
+    → ((protocol_at start p == 6) ≡ false → (protocol_at start p == 17) ≡ false
+    → has_identifier (protocol_at start p) (byte_at p (payload_at start p)) ≡ false → P Other)
+    → P (carried_at start p)
+by_protocol start p P cut tcp udp echo other =
     let number = protocol_at start p in
     let offset = payload_at start p in
     ⊎_elim
     (λ six. ⊎_elim
-    (λ cut. carried_cut_tcp start p from to ttl numbers d cut six)
-    (λ long. carried_tcp start p from to ttl numbers d long six)
+    (λ lt. subst P (sym (of_cut_tcp number p offset six lt)) (cut six lt))
+    (λ room. subst P (sym (of_tcp number p offset six room)) (tcp six room))
     (cases_lt (length p) (offset + 18)))
     (λ not_six. ⊎_elim
-    (λ seventeen. carried_udp start p from to ttl numbers d (rw (of_udp number p offset seventeen) at room) seventeen)
+    (λ seventeen. subst P (sym (of_udp number p offset seventeen)) (udp seventeen))
     (λ not_seventeen. ⊎_elim
-    (λ there. carried_echo start p from to ttl numbers d (rw (of_echo number p offset there) at room) there)
-    (λ none. carried_other start p from to ttl numbers d (ne_eqb _ _ not_six) (ne_eqb _ _ not_seventeen) none)
+    (λ there. subst P (sym (of_echo number p offset there)) (echo there))
+    (λ none.
+    let a = ne_eqb _ _ not_six in
+    let b = ne_eqb _ _ not_seventeen in
+    subst P (sym (of_other number p offset a b none)) (other a b none))
     (cases_Bool (has_identifier number (byte_at p offset))))
     (cases_eq number 17))
     (cases_eq number 6)
+
+module _ (start : ℕ) (p : List ℕ) (from to ttl : ℕ) (numbers : Option PortsOrIdentifier) (d : IsDatagram start p) where
+  abbrev offset : ℕ
+  offset = payload_at start p
+
+  abbrev t : List ℕ
+  t = timed start p from to ttl
+
+  behind : Behind start p t
+  behind = timed_behind start p from to ttl d
+
+  abbrev ports : ℕ × ℕ
+  ports = ports_named numbers (u16_at p offset) (u16_at p (offset + 2))
+
+  ports_written : (number : ℕ) → protocol_at start p ≡ number → (number == 6 || number == 17) ≡ true → (number == 1) ≡ false
+      → write_if_some (with_numbers start) t numbers ≡ with_ports offset t ports.0 ports.1
+  ports_written number is some none = write_ports numbers start t number offset (u16_at p offset) (u16_at p (offset + 2))
+      (behind.protocol ∙ is) behind.payload some none (ports_kept_behind start p t behind)
+
+  carried_tcp : protocol_at start p ≡ 6 → offset + 18 ≤ length p
+      → IsCarried start p from to ttl numbers (Tcp (u16_at p offset) (u16_at p (offset + 2)) (Some (u16_at p (offset + 16))))
+  carried_tcp is room _ =
+      ap (λ l. update_transport_checksum start p l) (ports_written 6 is refl refl) ∙ by_tcp start p _ is room
+      ∙ update_checksum-is (pseudo_header_and_payload start) (offset + 16) p (with_ports offset t ports.0 ports.1) _
+      (pseudo_covered start p from to ttl ports.0 ports.1 d (omega (arith, room)))
+      (kept_past_ports start p t ports.0 ports.1 (offset + 16) behind (omega arith))
+
+  carried_udp : protocol_at start p ≡ 17
+      → IsCarried start p from to ttl numbers (Udp (u16_at p offset) (u16_at p (offset + 2)) (u16_at p (offset + 6)))
+  carried_udp is room =
+      ap (λ l. update_transport_checksum start p l) (ports_written 17 is refl refl) ∙ by_udp start p _ is
+      ∙ update_udp_checksum-is (pseudo_header_and_payload start) (offset + 6) p (with_ports offset t ports.0 ports.1) _
+      (pseudo_covered start p from to ttl ports.0 ports.1 d (omega (arith, room)))
+      (kept_past_ports start p t ports.0 ports.1 (offset + 6) behind (omega arith))
+
+  carried_echo : has_identifier (protocol_at start p) (byte_at p offset) ≡ true
+      → IsCarried start p from to ttl numbers (Echo (u16_at p (offset + 4)) (u16_at p (offset + 2)))
+  carried_echo there room =
+      let is : protocol_at start p ≡ 1 = is_icmp (protocol_at start p) (byte_at p offset) there in
+      let type_there : has_identifier 1 (byte_at t offset) ≡ true =
+      subst (λ (m : ℕ). has_identifier 1 m ≡ true) (sym (behind.bytes offset (omega arith)))
+      (subst (λ (n : ℕ). has_identifier n (byte_at p offset) ≡ true) is there) in
+      let number = identifier_named numbers (u16_at p (offset + 4)) in
+      let written : write_if_some (with_numbers start) t numbers ≡ with_u16 t (offset + 4) number =
+      write_identifier numbers start t 1 offset (u16_at p (offset + 4)) (behind.protocol ∙ is) behind.payload refl type_there
+      (kept_behind start p t (offset + 4) behind (omega arith)) in
+      ap (λ l. update_transport_checksum start p l) written ∙ by_icmp start p _ is
+      ∙ update_checksum-is (payload_in start) (offset + 2) p (with_u16 t (offset + 4) number) _
+      (carried_covered start p from to ttl number d room) (kept_past_identifier start p t number behind)
+
+  -- the payload stays, and so does its checksum
+  carried_other : (protocol_at start p == 6) ≡ false → (protocol_at start p == 17) ≡ false
+      → has_identifier (protocol_at start p) (byte_at p offset) ≡ false → IsCarried start p from to ttl numbers Other
+  carried_other x y z _ =
+      let none : has_identifier (protocol_at start p) (byte_at t offset) ≡ false = rw (behind.bytes offset (omega arith)) z in
+      let rest : payload_in start t ≡ payload_in start p =
+      ap (λ n. drop n t) behind.payload ∙ timed_rest start offset p from to ttl (omega (arith, d.long)) in
+      ap (λ l. update_transport_checksum start p l)
+      (write_none numbers start t (protocol_at start p) offset behind.protocol behind.payload (or_from _ _ x y) none)
+      ∙ ⊎_elim
+      (λ one. by_icmp start p t one ∙ update_checksum-kept (payload_in start) (offset + 2) p t (sym rest))
+      (λ not_one. by_other start p t x y (ne_eqb _ _ not_one))
+      (cases_eq (protocol_at start p) 1)
+
+  is_carried : IsCarried start p from to ttl numbers (carried_at start p)
+  is_carried = by_protocol start p (IsCarried start p from to ttl numbers)
+      (λ is cut _. ap (λ l. update_transport_checksum start p l) (ports_written 6 is refl refl) ∙ by_cut_tcp start p _ is cut)
+      carried_tcp carried_udp carried_echo carried_other
 
 -- ---- the whole
 

@@ -1,8 +1,12 @@
 //! Examples of rewritten packets, each as the contract of a function that does nothing.
+#![tactic(auto, unfolding(crate::specs::Rewritten::rewritten))]
+
 ghost use Rattle.std.specs.Prelude.{◌≡◌};
 ghost use Rattle.ip_headers.specs.declared.tuple.Kind.TheVariants.{Tcp, Udp};
 ghost use Rattle.rewrite.specs.Rewritten.{rewritten};
-ghost use Rattle.rewrite.specs.Examples.{a, a_to_b, inner_tcp, inner_udp, b_to_a, back_to_a, e, e_to_b, echo, from_e, from_e_port_8000, identifier_2, odd, one_hop, swapped, tcp, udp, unreachable};
+ghost use Rattle.rewrite.specs.Examples.{a, a_to_b, inner_tcp, inner_udp, b_to_a, back_to_a, e, e_to_b, echo, from_e};
+ghost use Rattle.rewrite.specs.Examples.{from_e_port_8000, identifier_2, odd, one_hop, swapped, tcp, udp};
+ghost use Rattle.rewrite.specs.Examples.{unreachable};
 
 /// Forwarding, and translation: UDP without a checksum stays without one.
 pub fn plain_packet()

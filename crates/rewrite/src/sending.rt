@@ -1,8 +1,10 @@
 //! Rewrites packets.
-ghost use Rattle.std.specs.Prelude.{◌≡◌, ◌+◌, ◌<◌, ◌≤◌, ◌++◌, length, OnOk, OnErr, vec_len, vec_capacity};
-ghost use Rattle.ip_headers.specs.Header.{payload_at};
+ghost use Rattle.std.specs.Prelude.{◌≡◌, ◌+◌, ◌<◌, ◌≤◌, ◌++◌, drop, length, OnOk, OnErr, vec_len, vec_capacity};
+ghost use Rattle.std.specs.Option.{option_and};
+ghost use Rattle.ip_headers.specs.Header.{header_len, payload_at};
+ghost use Rattle.ip_headers.specs.Tuple.{inner_tuple_of};
 ghost use Rattle.rewrite.specs.Rewritten.{payload_in, inner_start, update_checksum, replaced, rewritten, update_checksums, with_endpoints};
-ghost use Rattle.rewrite.specs.steps.Fields.{HasFields};
+ghost use Rattle.rewrite.specs.steps.Fields.{HasFields, changed_fields, len_of, with_fields};
 
 use crate::change::Change;
 use crate::fields::Fields;
@@ -38,15 +40,27 @@ pub fn emit(view: &View, change: &Change, out: &mut Vec<u8>) -> Result<(), Alloc
 
 /// Rewrites a packet, given its view: first the quoted datagram, if that can be translated, then
 /// the packet's own fields.
+#[inline(always)]
 pub fn rewrite_packet(packet: &mut [u8], view: &View, change: &Change)
     requires { packet.old ≡ view.now.packet.now }
     ensures { packet.new ≡ rewritten packet.old change.now }
 {
     no_fault();
-    if let Some(tuple) = view.inner_tuple().and(change.inner) {
+    if let Some(tuple) = quoted_endpoints(view, change) {
         rewrite_inner(packet, view.header.len(), tuple);
     }
     rewrite(packet, 0, change);
+}
+
+/// The new endpoints of the quoted datagram, if the packet quotes one that can be translated.
+#[inline(always)]
+fn quoted_endpoints(view: &View, change: &Change) -> Option<Tuple>
+    ensures { result ≡ option_and (inner_tuple_of view.now.packet.now) change.now.inner }
+{
+    match change.inner {
+        Some(tuple) => view.inner_tuple().and(Some(tuple)),
+        None => None,
+    }
 }
 
 /// Rewrites the datagram that an ICMP error quotes, and updates the error's checksum, which covers
@@ -69,6 +83,7 @@ fn rewrite_inner(packet: &mut [u8], payload: usize, tuple: Tuple)
 }
 
 /// Rewrites the datagram that begins at `start`, with its checksums.
+#[inline(always)]
 fn rewrite(packet: &mut [u8], start: usize, change: &Change)
     requires { HasFields start packet.old }
     ensures { packet.new ≡ update_checksums start packet.old
@@ -79,6 +94,16 @@ fn rewrite(packet: &mut [u8], start: usize, change: &Change)
     if fields.keeps_endpoints(change) {
         fields.write_ttl(packet, start, change.ttl);
     } else {
-        fields.changed(change).write(packet, start);
+        // By value, so that fields and change needn't be in memory for the others.
+        write_changed(packet, start, fields, *change);
     }
+}
+
+/// Writes the fields after a change into the datagram that begins at `start`.
+fn write_changed(packet: &mut [u8], start: usize, fields: Fields, change: Change)
+    requires long { 20 ≤ header_len (drop start packet.old) }
+    requires whole { payload_at start packet.old + len_of fields.transport ≤ length packet.old }
+    ensures { packet.new ≡ with_fields start packet.old (changed_fields change fields) }
+{
+    fields.changed(&change).write(packet, start);
 }

@@ -4,3 +4,5 @@ mod Confirmations
 mod Processing
 mod Extending
 mod FoundInterfaces
+mod OldConnections
+mod PacketFronts

@@ -9,7 +9,8 @@ ghost use Rattle.rule_paths.specs.Paths.{AreAllCosts, Caller, ruleset_cost};
 ghost use Rattle.stepping.specs.Next.{Next};
 ghost use Rattle.stepping.specs.Representing.{Represents, sent_packets, packet_of, sends_of, setup_of, recorded_of};
 
-use crate::process::{PacketBuffer, RecordResult, output_interface, process_record};
+use crate::packet_buffer::PacketBuffer;
+use crate::process::{RecordResult, output_interface, process_record};
 use crate::setup::Setup;
 use connection_table::ConnectionTable;
 use conntrack::laws::{independent_of_ids, none_later, one_more_entry};
@@ -36,7 +37,7 @@ pub struct Engine<T: Tracker> {
     /// The result of the last record; none before the first.
     ended: Option<RecordResult>,
     /// The packet that the last record forwarded; empty where there is none.
-    packet: Box<PacketBuffer>,
+    packet: PacketBuffer,
     /// All that the next record may need is reserved.
     ready: bool,
 }
@@ -69,12 +70,12 @@ impl<T: Tracker> Model for Engine<T> {
       records = e.records;
       ticks = e.events.ticks;
       held = e.connections.held;
-      newest = newest_in e.ended e.latest e.events e.packet.value.items;
+      newest = newest_in e.ended e.latest e.events e.packet;
       ready = e.ready;
     } };
 
     ghost invariant = { λ e. IsReady (setup_in e.setup.hooks) e.connections e.ended e.latest
-        e.events e.packet.value.items e.ready };
+        e.events e.packet e.ready };
 }
 
 impl<T: Tracker> Engine<T> {
@@ -90,7 +91,7 @@ impl<T: Tracker> Engine<T> {
     {
         let (setup, events) = Setup::new(alloc, checked)?;
         let idle = setup.plant().idle();
-        let packet = Box::new(alloc, PacketBuffer::new()).map_err(AllocError::from)?;
+        let packet = PacketBuffer::new(alloc)?;
         Ok(Engine {
             setup,
             connections: ConnectionTable::new(alloc, hasher, idle),
@@ -107,6 +108,7 @@ impl<T: Tracker> Engine<T> {
     ///
     /// # Errors
     /// An allocation failed. The engine is unchanged.
+    #[inline(always)]
     pub fn reserve(&mut self) -> Result<(), AllocError>
         ensures ok { OnOk result (self.new ≡ record self.old { ready = true }) }
         ensures err { OnErr result (self.new ≡ self.old) }
@@ -115,6 +117,17 @@ impl<T: Tracker> Engine<T> {
         if self.ready {
             return Ok(());
         }
+        self.reserve_connection()
+    }
+
+    /// Reserves memory for one more connection.
+    ///
+    /// # Errors
+    /// An allocation failed. The engine is unchanged.
+    fn reserve_connection(&mut self) -> Result<(), AllocError>
+        ensures ok { OnOk result (self.new ≡ record self.old { ready = true }) }
+        ensures err { OnErr result (self.new ≡ self.old) }
+    {
         self.connections.reserve()?;
         self.ready = true;
         Ok(())

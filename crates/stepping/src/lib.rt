@@ -9,6 +9,7 @@ mod interfaces;
 mod laws;
 mod lookup;
 mod nat;
+mod packet_buffer;
 mod process;
 mod setup;
 mod state;

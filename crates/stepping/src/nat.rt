@@ -38,19 +38,37 @@ pub fn translate_destination(
     ensures same { untranslated state.new.info ≡ untranslated state.old.info }
     ensures spent { Spends events.old events.new setup.now.hooks.costs.prerouting_nat }
 {
+    if let CtInfo::New(_) = state.info {
+        return translate_new_destination(setup, mappings, state, events);
+    }
+    update_destination(&state.info, &mut state.facts);
+    Ok(())
+}
+
+/// Destination NAT of the first packet of a connection: the nat chains run for no other.
+///
+/// # Errors
+/// `Rule`: a rule or a policy drops the packet.
+fn translate_new_destination(
+    setup: &Setup,
+    mappings: &Mappings,
+    state: &mut PacketState,
+    events: &mut Events,
+) -> Result<(), Cause>
+    requires room { HasRoom events.old setup.now.hooks.costs.prerouting_nat }
+    ensures step { (held : List Mapping) → HoldsSame held mappings.now.held
+        → DestinationNat (setup_in setup.now.hooks) held (path_state state.old events.old)
+        (step_result result (path_state state.new events.new)) }
+    ensures fits { (held : List Mapping) → HoldsSame held mappings.now.held → Fits state.old.info held
+        → Fits state.new.info held }
+    ensures same { untranslated state.new.info ≡ untranslated state.old.info }
+    ensures spent { Spends events.old events.new setup.now.hooks.costs.prerouting_nat }
+{
     let verdict = run_nat_chains(setup, HookStage::PreroutingNat, state, events);
     if let HookVerdict::Dropped = verdict {
         return Err(Cause::Rule);
     }
-    if let CtInfo::New(_) = state.info {
-        state.info = apply_destination_nat(
-            setup.plant(),
-            mappings,
-            &state.facts,
-            &state.info,
-            verdict,
-        );
-    }
+    state.info = apply_destination_nat(setup.plant(), mappings, &state.facts, &state.info, verdict);
     update_destination(&state.info, &mut state.facts);
     Ok(())
 }
@@ -75,22 +93,41 @@ pub fn translate_source(
     ensures same { untranslated state.new.info ≡ untranslated state.old.info }
     ensures spent { Spends events.old events.new setup.now.hooks.costs.postrouting_nat }
 {
+    if let CtInfo::New(_) = state.info {
+        return translate_new_source(setup, mappings, state, events);
+    }
+    update_source(&state.info, &mut state.facts);
+    Ok(())
+}
+
+/// Source NAT of the first packet of a connection.
+///
+/// # Errors
+/// `Rule`: a rule or a policy drops the packet; `NoPort` where no port is free.
+fn translate_new_source(
+    setup: &Setup,
+    mappings: &Mappings,
+    state: &mut PacketState,
+    events: &mut Events,
+) -> Result<(), Cause>
+    requires room { HasRoom events.old setup.now.hooks.costs.postrouting_nat }
+    ensures step { (held : List Mapping) → HoldsSame held mappings.now.held
+        → SourceNat (setup_in setup.now.hooks) held (path_state state.old events.old)
+        (step_result result (path_state state.new events.new)) }
+    ensures fits { (held : List Mapping) → HoldsSame held mappings.now.held → Fits state.old.info held
+        → Fits state.new.info held }
+    ensures same { untranslated state.new.info ≡ untranslated state.old.info }
+    ensures spent { Spends events.old events.new setup.now.hooks.costs.postrouting_nat }
+{
     let verdict = run_nat_chains(setup, HookStage::PostroutingNat, state, events);
     if let HookVerdict::Dropped = verdict {
         return Err(Cause::Rule);
     }
-    if let CtInfo::New(_) = state.info {
-        let Some(after) = apply_source_nat(
-            setup.plant(),
-            mappings,
-            &state.facts,
-            &state.info,
-            verdict,
-        ) else {
-            return Err(Cause::NoPort);
-        };
-        state.info = after;
-    }
+    let Some(after) = apply_source_nat(setup.plant(), mappings, &state.facts, &state.info, verdict)
+    else {
+        return Err(Cause::NoPort);
+    };
+    state.info = after;
     update_source(&state.info, &mut state.facts);
     Ok(())
 }

@@ -16,23 +16,16 @@ use crate::arrival::{IncomingPacket, carried};
 use crate::confirm::confirm;
 use crate::hooks::run_hooks;
 use crate::lookup::{flags_in, look_up};
+use crate::packet_buffer::PacketBuffer;
 use crate::setup::Setup;
 use crate::state::PacketState;
-use arrayvec::ArrayVec;
 use connection_table::ConnectionTable;
 use conntrack::{Moment, Tracker};
 use history::{Cause, Outcome};
 use hook_runs::{Events, HookStage};
 use ip_headers::View;
 use pcap_io::Record;
-use rewrite::rewrite_packet;
 use rule_meaning::Interface;
-
-/// The greatest total length of an IPv4 packet, in bytes.
-pub const MOST_PACKET_BYTES: usize = 65_535;
-
-/// The bytes of a packet, in a buffer of constant size.
-pub type PacketBuffer = ArrayVec<u8, MOST_PACKET_BYTES>;
 
 /// The result of a record.
 #[derive(Clone, Copy)]
@@ -58,10 +51,10 @@ pub fn process_record<T: Tracker>(
     requires later { IsNoneLater now connections.old.held }
     requires ready { IsTrue connections.old.has_room }
     requires none { events.old.events ≡ [] }
-    requires empty { packet.old.items ≡ [] }
+    requires empty { packet.old ≡ [] }
     ensures processed { HasProcessed (setup_in setup.now.hooks)
         (carried (setup_in setup.now.hooks) (recorded_of record.now)) now connections.old.held
-        connections.new.held result events.new.events packet.new.items }
+        connections.new.held result events.new.events packet.new }
     ensures limits { connections.new.limits ≡ connections.old.limits }
     // Only a new connection takes what is reserved.
     ensures room { result.begun ≡ false → IsTrue connections.new.has_room }
@@ -128,18 +121,15 @@ fn process_packet<T: Tracker>(
 /// decremented.
 #[inline(always)]
 fn send(view: &View, state: &PacketState, packet: &mut PacketBuffer)
-    requires empty { packet.old.items ≡ [] }
-    ensures sent { packet.new.items ≡ sent_on view.now.packet.now state.now.info
+    requires empty { packet.old ≡ [] }
+    ensures sent { packet.new ≡ sent_on view.now.packet.now state.now.info
         (outcome_by state.now.facts.output) }
 {
     if state.facts.output.is_none() {
         return;
     }
     let change = state.info.change(view, view.ttl().saturating_sub(1));
-    let Ok(()) = packet.try_extend_from_slice(view.packet) else {
-        unreachable!()
-    };
-    rewrite_packet(packet.as_mut_slice(), view, &change);
+    packet.put(view, &change);
 }
 
 /// The outcome of a packet that isn't dropped: forwarded where it has an output interface.

@@ -2,7 +2,9 @@
 ghost use Rattle.std.specs.Prelude.{◌≡◌, if◌then◌else◌};
 ghost use Rattle.rule_meaning.specs.declared.facts.CtState.TheVariants as states;
 ghost use Rattle.translation.specs.declared.ct_info.CtInfo.TheVariants.{New};
-ghost use Rattle.translation.specs.CtInfos.{direction_of, new_connection_of, with_nat_status, error_ct_info, incoming, known_ct_facts, tracked_connection, outgoing, ct_facts_of, ct_info_by};
+ghost use Rattle.translation.specs.CtInfos.{direction_of, new_connection_of, with_nat_status, error_ct_info};
+ghost use Rattle.translation.specs.CtInfos.{incoming, known_ct_facts, tracked_connection, outgoing, ct_facts_of};
+ghost use Rattle.translation.specs.CtInfos.{ct_info_by};
 
 use conntrack::{Belonging, ConnectionRef, Direction};
 use ip_headers::{Endpoint, Kind, Mapping, Tuple};

@@ -4,7 +4,8 @@ ghost use Rattle.ip_headers.specs.declared.tuple.Mapping.{Mapping as Mapped};
 ghost use Rattle.nat_mapping.specs.Mappings.{HoldsSame};
 ghost use Rattle.translation.specs.Fitting.{Fits, IsFitting};
 ghost use Rattle.translation.specs.CtInfos.{untranslated};
-ghost use Rattle.translation.specs.Nat.{statement_destination, internal_endpoint, with_destination_nat, has_ports, to_internal, port_named, after_destination_nat};
+ghost use Rattle.translation.specs.Nat.{statement_destination, internal_endpoint, with_destination_nat, has_ports};
+ghost use Rattle.translation.specs.Nat.{to_internal, port_named, after_destination_nat};
 
 use crate::ct_info::{CtInfo, NewConnection};
 use box_file::Plant;

@@ -1,7 +1,8 @@
 //! What rules read of a packet after NAT.
 ghost use Rattle.std.specs.Prelude.{◌≡◌};
 ghost use Rattle.translation.specs.declared.ct_info.CtInfo.TheVariants.{New};
-ghost use Rattle.translation.specs.CtInfos.{facts_after_source_nat, facts_after_destination_nat, outer_destination, outer_source, with_source, with_destination, ct_facts_after_nat};
+ghost use Rattle.translation.specs.CtInfos.{facts_after_source_nat, facts_after_destination_nat, outer_destination};
+ghost use Rattle.translation.specs.CtInfos.{outer_source, with_source, with_destination, ct_facts_after_nat};
 
 use crate::ct_info::{
     CtInfo, NewConnection, TrackedConnection, incoming, outgoing_destination, outgoing_source,

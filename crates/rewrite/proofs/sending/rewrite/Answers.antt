@@ -1,5 +1,5 @@
-use Rattle.std.proofs.Common.{◌≡◌, ℕ, List, ap, sym, subst, ◌∙◌, true, arith}
-use Rattle.rewrite.specs.steps.Fields.{changed_fields, fields_at, keeps_endpoints, with_fields, with_ttl_field}
+use Rattle.std.proofs.Common.{ap, sym, ◌∙◌, arith}
+use Rattle.rewrite.specs.steps.Fields.{changed_fields, keeps_endpoints, with_fields, with_ttl_field}
 use Rattle.rewrite.proofs.Covered.{IsDatagram}
 use Rattle.rewrite.proofs.OwnEndpoints.{own_endpoints}
 use Rattle.rewrite.proofs.Whole.{whole_is}
@@ -22,5 +22,5 @@ returns-else-keeps_endpoints c =
     let start = c.args.start in
     let change = c.args.change.now in
     let d : IsDatagram start p = record { small = c.read-fields.ensures.bytes; long = c.requires.long; whole = omega (arith, c.requires.whole) } in
-    c.write.ensures ∙ ap (λ f. with_fields start p f) (c.changed.ensures ∙ ap (λ f. changed_fields change f) c.read-fields.ensures.fields)
+    c.write_changed.ensures ∙ ap (λ f. with_fields start p (changed_fields change f)) c.read-fields.ensures.fields
     ∙ whole_is start p change d c.requires.whole

@@ -68,11 +68,11 @@ returns-then-bytes-total_len-clause-fault c =
     let total : c.read_u16-total_len.result ≡ total_len p = grind (arith, common_steps, c.read_u16-total_len.ensures) in
     sym (cut p (omega arith) (omega arith) (omega arith) (omega arith) (omega arith))
 
-pub returns-then-ones_sum-clause-fault : goal.returns-then-ones_sum-clause-fault
-returns-then-ones_sum-clause-fault c =
+pub returns-then-header_sum-clause-fault : goal.returns-then-header_sum-clause-fault
+returns-then-header_sum-clause-fault c =
     let p = c.args.bytes.now in
     let total : c.read_u16-total_len.result ≡ total_len p = grind (arith, common_steps, c.read_u16-total_len.ensures) in
-    let wrong : ones_sum_of (header p) ≢ 65535 = grind (arith, common_steps, c.ones_sum.ensures.sum) in
+    let wrong : ones_sum_of (header p) ≢ 65535 = grind (arith, common_steps, c.header_sum.ensures) in
     sym (damaged p (omega arith) (omega arith) (omega arith) (omega arith) (omega arith) wrong)
 
 pub returns-then-read_u16-ne0-clause-fault : goal.returns-then-read_u16-ne0-clause-fault
@@ -80,7 +80,7 @@ returns-then-read_u16-ne0-clause-fault c =
     let p = c.args.bytes.now in
     let n = c.read_u16-total_len.result in
     let total : n ≡ total_len p = grind (arith, common_steps, c.read_u16-total_len.ensures) in
-    let sum : ones_sum_of (take (header_len p) (take n p)) ≡ 65535 = grind (arith, common_steps, c.ones_sum.ensures.sum) in
+    let sum : ones_sum_of (take (header_len p) (take n p)) ≡ 65535 = grind (arith, common_steps, c.header_sum.ensures) in
     let head = head_by p n total (omega arith) (omega arith) (omega arith) (omega arith) sum in
     let flags = read_word p n 6 c.read_u16.result (omega arith) (omega arith) c.read_u16.ensures in
     sym (broken p head (broken_by p c.read_u16.result flags c.if-read_u16-ne0.true))
@@ -90,7 +90,7 @@ returns-then-is_malformed-clause-fault c =
     let p = c.args.bytes.now in
     let n = c.read_u16-total_len.result in
     let total : n ≡ total_len p = grind (arith, common_steps, c.read_u16-total_len.ensures) in
-    let sum : ones_sum_of (take (header_len p) (take n p)) ≡ 65535 = grind (arith, common_steps, c.ones_sum.ensures.sum) in
+    let sum : ones_sum_of (take (header_len p) (take n p)) ≡ 65535 = grind (arith, common_steps, c.header_sum.ensures) in
     let head = head_by p n total (omega arith) (omega arith) (omega arith) (omega arith) sum in
     let flags = read_word p n 6 c.read_u16.result (omega arith) (omega arith) c.read_u16.ensures in
     let transport = carried_by p c.split_at.result.1.now n c.is_malformed.result total (omega arith)
@@ -102,7 +102,7 @@ returns-clause-fault c =
     let p = c.args.bytes.now in
     let n = c.read_u16-total_len.result in
     let total : n ≡ total_len p = grind (arith, common_steps, c.read_u16-total_len.ensures) in
-    let sum : ones_sum_of (take (header_len p) (take n p)) ≡ 65535 = grind (arith, common_steps, c.ones_sum.ensures.sum) in
+    let sum : ones_sum_of (take (header_len p) (take n p)) ≡ 65535 = grind (arith, common_steps, c.header_sum.ensures) in
     let head = head_by p n total (omega arith) (omega arith) (omega arith) (omega arith) sum in
     let flags = read_word p n 6 c.read_u16.result (omega arith) (omega arith) c.read_u16.ensures in
     let transport = carried_by p c.split_at.result.1.now n c.is_malformed.result total (omega arith)
@@ -118,7 +118,7 @@ invariant_of-result-clause-whole c =
     let p = c.args.bytes.now in
     let n = c.read_u16-total_len.result in
     let total : n ≡ total_len p = grind (arith, common_steps, c.read_u16-total_len.ensures) in
-    let sum : ones_sum_of (take (header_len p) (take n p)) ≡ 65535 = grind (arith, common_steps, c.ones_sum.ensures.sum) in
+    let sum : ones_sum_of (take (header_len p) (take n p)) ≡ 65535 = grind (arith, common_steps, c.header_sum.ensures) in
     let head = head_by p n total (omega arith) (omega arith) (omega arith) (omega arith) sum in
     let flags = read_word p n 6 c.read_u16.result (omega arith) (omega arith) c.read_u16.ensures in
     let transport = carried_by p c.split_at.result.1.now n c.is_malformed.result total (omega arith)

@@ -2,7 +2,7 @@ use Rattle.std.proofs.Common.{◌≡◌, ◌∙◌, ap, subst, refl, sym, cond, 
 use Rattle.std.proofs.lemmas.Bool.{true≢false}
 use Rattle.std.specs.Io.KnownBytes.{Keeps, prepend_known}
 use Rattle.pcap_io.specs.steps.CaptureInvariant.{capture_state_of}
-use Rattle.std.proofs.KnownBytes.{Consumes-trans, Keeps-trans}
+use Rattle.std.proofs.KnownBytes.{Consumes-trans, Keeps-refl, Keeps-trans}
 use Rattle.pcap_io.specs.CaptureStates.{CaptureState, ahead, is_ready, decides_next, IsPartialRecord}
 use Rattle.pcap_io.proofs.Ready.{part_of, not_ready}
 use Rattle.pcap_io.proofs.Steps.{no_last}
@@ -87,3 +87,13 @@ returns-clause-next_answers g c none =
     let after : ahead new left ≡ Some (new.held ++ b.more) = rw c.step.ensures.ended (b.left new.held) in
     rw (b.joined, after) (next_from (mid.held ++ b.more) (Some (new.held ++ b.more)) mid old new c.step.result
     kept.format kept.count kept.latest (c.step.ensures.next_answers b.more b.none))))
+
+pub returns-in-Some-buffered_record-clause-next_answers : goal.returns-in-Some-buffered_record-clause-next_answers
+returns-in-Some-buffered_record-clause-next_answers g c none =
+    let old = c.args.self.now in
+    let new = c.advance.new.self in
+    let left = g.R.Read.remaining c.args.reader.now.inner in
+    known (ahead old left) (ahead old left) _ (Keeps-refl (ahead old left)) (λ bytes e.
+    let b = behind old.ended old.held left bytes e in
+    let after : ahead new left ≡ Some (new.held ++ b.more) = rw c.advance.ensures.same.1 (b.left new.held) in
+    rw (b.joined, after) (c.advance.ensures.reads b.more))

@@ -64,16 +64,16 @@ returns-clause-represents g c = λ history represents.
     } in
     let ended = c.process_record-ended in
     let now = c.max-now.result in
-    let moment = latest_is inside.ended inside.latest inside.events inside.packet.value.items inside.connections.held history
+    let moment = latest_is inside.ended inside.latest inside.events inside.packet inside.connections.held history
     c.self.invariant.first (ap (λ (s : EngineState). s.newest) same ∙ represents.newest) in
     next_represents alike c.args.self.now _ told history (recorded_of c.args.record.now) c.age_all.new.self.held
-    ended.result ended.new.events.events ended.new.packet.items setup inside.latest now moment c.max-now.ensures
+    ended.result ended.new.events.events ended.new.packet setup inside.latest now moment c.max-now.ensures
     (c.age_all.ensures.held ∙ ap (λ (l : Limits). live_at l now inside.connections.held)
     (c.self.invariant.limited ∙ ap limits_of setup)
     ∙ ap (live_at limits now) (ap (λ (s : EngineState). s.held) same))
     c.age_all.ensures.distinct
     (subst (λ (s : Setup). HasProcessed s (carried s (recorded_of c.args.record.now)) now c.age_all.new.self.held
-    ended.new.connections.held ended.result ended.new.events.events ended.new.packet.items) setup
+    ended.new.connections.held ended.result ended.new.events.events ended.new.packet) setup
     ended.ensures.processed)
     (ap (λ (n : ℕ). n + 1) (ap (λ (s : EngineState). s.records) same))
     refl

@@ -1,0 +1,98 @@
+//! The buffer of the packet that leaves.
+ghost use Rattle.std.specs.Prelude.{◌≡◌, ◌≤◌, [], length, take, vec_capacity, IfOk};
+ghost use Rattle.rewrite.specs.Rewritten.{rewritten};
+
+use ip_headers::View;
+use rewrite::{Change, rewrite_packet};
+use std::alloc::{AllocError, Global};
+use std::marker::Model;
+
+/// The greatest total length of an IPv4 packet, in bytes.
+const MOST_PACKET_BYTES: usize = 65_535;
+
+/// The bytes of a packet, in a buffer of constant size.
+#[derive(Drop)]
+pub struct PacketBuffer {
+    /// Of constant length and capacity; the packet is at its front.
+    bytes: Vec<u8>,
+    /// The length of the packet.
+    len: usize,
+}
+
+impl Model for PacketBuffer {
+    ghost use Rattle.std.specs.Prelude.{◌≡◌, ◌≤◌, ℕ, List, take, length, vec_capacity};
+
+    ghost Value = { List ℕ };
+
+    ghost view = { λ b. take b.len b.bytes.items };
+
+    ghost invariant = { λ b. (b.len ≤ length b.bytes.items)
+        × (length b.bytes.items ≡ 65535) × (vec_capacity b.bytes ≡ 65535) };
+}
+
+impl PacketBuffer {
+    /// No packet.
+    ///
+    /// # Errors
+    /// An allocation failed.
+    pub fn new(alloc: Global) -> Result<Self, AllocError>
+        ensures { IfOk result (λ buffer. buffer ≡ []) }
+    {
+        let mut bytes = Vec::with_capacity(alloc, MOST_PACKET_BYTES)?;
+        while bytes.len() < MOST_PACKET_BYTES {
+            bytes.push_reserved(0);
+        }
+        Ok(PacketBuffer { bytes, len: 0 })
+    }
+
+    /// The bytes of the packet.
+    #[inline(always)]
+    pub fn as_slice(&self) -> &[u8]
+        ensures bytes { result.now ≡ self.now }
+        ensures short { length result.now ≤ 65535 }
+    {
+        &self.bytes[..self.len]
+    }
+
+    /// Removes the packet.
+    #[inline(always)]
+    pub fn clear(&mut self)
+        ensures { self.new ≡ [] }
+    {
+        self.len = 0;
+    }
+
+    /// Takes the rewritten packet.
+    #[inline(always)]
+    pub fn put(&mut self, view: &View, change: &Change)
+        ensures { self.new ≡ rewritten view.now.packet.now change.now }
+    {
+        copy_to_front(&mut self.bytes, view.packet);
+        rewrite_front(&mut self.bytes, view, change);
+        self.len = view.packet.len();
+    }
+}
+
+/// Copies a packet to the front of a buffer.
+#[inline(always)]
+fn copy_to_front(bytes: &mut Vec<u8>, packet: &[u8])
+    requires { length packet.now ≤ length bytes.old.items }
+    ensures packet { take (length packet.now) bytes.new.items ≡ packet.now }
+    ensures length { length bytes.new.items ≡ length bytes.old.items }
+    ensures capacity { vec_capacity bytes.new ≡ vec_capacity bytes.old }
+{
+    bytes[0..packet.len()].copy_from_slice(packet);
+}
+
+/// Rewrites the packet at the front of a buffer.
+#[inline(always)]
+fn rewrite_front(bytes: &mut Vec<u8>, view: &View, change: &Change)
+    requires fits { length view.now.packet.now ≤ length bytes.old.items }
+    requires packet { take (length view.now.packet.now) bytes.old.items ≡ view.now.packet.now }
+    ensures packet { take (length view.now.packet.now) bytes.new.items
+        ≡ rewritten view.now.packet.now change.now }
+    ensures length { length bytes.new.items ≡ length bytes.old.items }
+    ensures capacity { vec_capacity bytes.new ≡ vec_capacity bytes.old }
+{
+    rewrite_packet(&mut bytes[0..view.packet.len()], view, change);
+}
