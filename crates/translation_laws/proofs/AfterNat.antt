@@ -1,11 +1,13 @@
 -- What NAT makes of the state of a packet that isn't dropped.
-use Rattle.std.proofs.Common.{◌≡◌, ℕ, Bool, true, false, List, Option, Some, None, refl, sym, ap, subst, ◌∙◌}
+use Rattle.std.proofs.Common.{◌≡◌, ℕ, Bool, true, false, List, [], ◌++◌, Option, Some, None, refl, sym, ap, subst}
+use Rattle.std.proofs.Common.{append_assoc, append-nil, ◌∙◌}
 use Rattle.std.specs.Prelude.{nat_lt, if◌then◌else◌}
 use Rattle.std.proofs.lemmas.Bool.{both_ways}
 use Rattle.std.proofs.lemmas.Option.{same_Some}
 use Rattle.list_laws.specs.Options.{some_of_map}
 use Rattle.box_file.specs.Box.{is_own, route}
 use Rattle.ip_headers.specs.declared.tuple.Mapping.{Mapping}
+use Rattle.rule_meaning.specs.declared.facts.Facts.{Facts}
 use Rattle.rule_meaning.specs.declared.facts.Interface.{Interface}
 use Rattle.rule_meaning.specs.declared.event.Event.{Event}
 use Rattle.rule_meaning.specs.declared.event.HookVerdict.{HookVerdict}
@@ -79,6 +81,24 @@ accepts (Translated t) es on told untold = absurd (both_ways (did_nat_act es) un
 
 -- ---- NAT
 
+-- on a path with these events the nat chains of postrouting gave this result to a packet with this state
+pub record IsAsked (setup : Setup) (info : CtInfo) (asked : HookResult) (es : List Event) : Type 0 where
+  pub facts : Facts
+  pub before : List Event
+  pub ran : NatChains setup stages.PostroutingNat info facts before asked
+  pub later : List Event
+  pub among : es ≡ asked.events ++ later
+
+asked_still : (setup : Setup) (info : CtInfo) (asked : HookResult) (es more : List Event)
+    → IsAsked setup info asked es → IsAsked setup info asked (es ++ more)
+asked_still setup info asked es more q = record {
+  facts = q.facts;
+  before = q.before;
+  ran = q.ran;
+  later = q.later ++ more;
+  among = ap (λ (l : List Event). l ++ more) q.among ∙ append_assoc asked.events q.later more;
+}
+
 -- of a packet that came by this interface
 module _ (setup : Setup) (mappings : List Mapping) (input : Interface) where
   abbrev pub HasState : CtInfo → PathState → Type 0
@@ -87,8 +107,8 @@ module _ (setup : Setup) (mappings : List Mapping) (input : Interface) where
   -- source NAT of one with this state; none of one for the box
   pub data AfterSourceNat (info : CtInfo) (s : PathState) : Type 0 where
     delivered : s.facts.output ≡ None → s.info ≡ info → AfterSourceNat info s
-    forwarded_on : (asked : HookResult) → (did_nat_act s.events ≡ false → asked.verdict ≡ Accepted)
-        → asked.facts.input ≡ input
+    forwarded_on : (asked : HookResult) → IsAsked setup info asked s.events
+        → (did_nat_act s.events ≡ false → asked.verdict ≡ Accepted) → asked.facts.input ≡ input
         → after_source_nat setup.plant mappings asked.facts info asked.verdict ≡ Some s.info → AfterSourceNat info s
 
   -- destination NAT of one with this state: what is true of the state that it gave; without a NAT statement the chains
@@ -103,8 +123,10 @@ module _ (setup : Setup) (mappings : List Mapping) (input : Interface) where
 
   source_kept : (info : CtInfo) → IsKeptByChains (AfterSourceNat info)
   source_kept info s end k (delivered none is) = delivered (ap (λ x. x.1) k.interfaces ∙ none) is
-  source_kept info s end k (forwarded_on asked on entered is) =
-      forwarded_on asked (λ none. on (k.untold none)) entered is
+  source_kept info s end k (forwarded_on asked ran on entered is) =
+      forwarded_on asked
+      (subst (IsAsked setup info asked) (sym k.grown.1) (asked_still setup info asked s.events k.grown.0 ran))
+      (λ none. on (k.untold none)) entered is
 
   module _ (info : CtInfo) where
     abbrev Between : PathState → Type 0
@@ -146,6 +168,15 @@ module _ (setup : Setup) (mappings : List Mapping) (input : Interface) where
         subst (IfContinues AfterNat) (sym x.is)
         (by_result x.end.verdict refl (after_source_nat setup.plant mappings x.end.facts s.info x.end.verdict) refl)
       where
+        asked_now : (w : CtInfo) → s.info ≡ w → IsAsked setup w x.end x.end.events
+        asked_now w is = record {
+          facts = s.facts;
+          before = s.events;
+          ran = subst (λ (v : CtInfo). NatChains setup stages.PostroutingNat v s.facts s.events x.end) is x.ran;
+          later = [];
+          among = sym (append-nil x.end.events);
+        }
+
         by_result : (v : HookVerdict) → x.end.verdict ≡ v → (o : Option CtInfo)
             → after_source_nat setup.plant mappings x.end.facts s.info x.end.verdict ≡ o
             → IfContinues AfterNat (source_nat_result v o (after_chains x.end s))
@@ -156,7 +187,8 @@ module _ (setup : Setup) (mappings : List Mapping) (input : Interface) where
             record {
               asked = d.asked;
               accepted = λ none. d.accepted (kept.0.untold none);
-              so = forwarded_on x.end (accepts x.end.verdict x.end.events (subst IsOpen (sym e) tt) kept.1)
+              so = forwarded_on x.end (asked_now _ d.so.1)
+                  (accepts x.end.verdict x.end.events (subst IsOpen (sym e) tt) kept.1)
                   (ap (λ i. i.0) kept.0.interfaces ∙ d.so.0)
                   (ap (λ (w : CtInfo). after_source_nat setup.plant mappings x.end.facts w x.end.verdict) (sym d.so.1)
                   ∙ f);
@@ -210,7 +242,7 @@ module _ (setup : Setup) (mappings : List Mapping) (input : Interface) (s : Path
   left_stays : (info : CtInfo) → IsOld info → AfterSourceNat setup mappings input info s → s.info ≡ info
   left_stays (New new_connection) old l = absurd old
   left_stays info old (delivered none is) = is
-  left_stays info old (forwarded_on asked on entered is) = sym (same_Some info s.info is)
+  left_stays info old (forwarded_on asked ran on entered is) = sym (same_Some info s.info is)
 
   pub stays : (info : CtInfo) → IsOld info → AfterNat setup mappings input info s → s.info ≡ info
   stays (New new_connection) old n = absurd old
@@ -219,7 +251,7 @@ module _ (setup : Setup) (mappings : List Mapping) (input : Interface) (s : Path
   first_left : (d : NewConnection) → AfterSourceNat setup mappings input (New d) s → (left : NewConnection)
       × (s.info ≡ New left)
   first_left d (delivered none is) = (d, is)
-  first_left d (forwarded_on asked on entered is) =
+  first_left d (forwarded_on asked ran on entered is) =
       let x = external_source setup.plant asked.facts d asked.verdict in
       let r = some_of_map (λ (d : NewConnection). New d) (with_source_nat mappings d x) s.info is in
       (r.0, sym r.2)

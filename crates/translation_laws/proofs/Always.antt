@@ -1,13 +1,16 @@
 -- The laws, in each history.
 use Rattle.std.specs.Prelude.{max}
-use Rattle.std.proofs.Common.{◌≤◌, arith, ◌≡◌, ◌≢◌, ℕ, IsTrue, List, None, Result, Ok, Err, inl, refl, ap, subst}
+use Rattle.std.proofs.Common.{◌≤◌, arith, ◌≡◌, ◌≢◌, ℕ, IsTrue, List, Some, None, Result, Ok, Err, inl, refl, sym, ap}
+use Rattle.std.proofs.Common.{subst, ◌∙◌}
 use Rattle.std.specs.List.{All}
 use Rattle.std.proofs.lemmas.List.Elements.{All-contains}
+use Rattle.std.proofs.lemmas.Option.{none-some}
+use Rattle.ip_headers.specs.declared.tuple.Mapping.{Mapping}
 use Rattle.ip_headers.specs.declared.tuple.Tuple.{Tuple}
 use Rattle.ip_headers.specs.Header.{fault_of}
 use Rattle.conntrack.specs.declared.connection.ConntrackEntry.{ConntrackEntry}
 use Rattle.conntrack.specs.ConntrackEntry.{have_disjoint_tuples}
-use Rattle.conntrack.specs.Histories.{NoChange}
+use Rattle.conntrack.specs.Histories.{ConnectionChange, NoChange, begun}
 use Rattle.nat_mapping.specs.Mappings.{IsOneToOne}
 use Rattle.history.specs.declared.outcome.Cause.{Cause}
 use Rattle.pcap_io.specs.Pcap.{Recorded}
@@ -17,9 +20,10 @@ use Rattle.translation.specs.LiveMappings.{mappings_in}
 use Rattle.stepping.specs.Carried.{ReceivedPacket, carried}
 use Rattle.stepping.specs.Next.{EntryOf, Next, live_at_record, moment_after}
 use Rattle.translation_laws.specs.Histories.{IsHistory, alive_at, latest_choice, listed_at}
-use Rattle.translation_laws.specs.Laws.{AreApart, BeginsOne, ComesWith, CountsForNone, GivenToOne, Hairpins}
+use Rattle.translation_laws.specs.Laws.{AllocatesPort, AreApart, BeginsOne, ComesWith, CountsForNone, GivenToOne, Hairpins}
 use Rattle.translation_laws.specs.Laws.{HistoryLaws, IsAccepted, KeepsClass, LeavesTranslated, LiveLaws, OneInternal}
 use Rattle.translation_laws.specs.Laws.{OnePort, WasChosen}
+use Rattle.translation_laws.proofs.Allocated.{allocated_among, allocates_port}
 use Rattle.translation_laws.proofs.Carried.{FaultLaws, IsFaultless, carried_faultless}
 use Rattle.translation_laws.proofs.Chosen.{AllChosen, CandidatesAlike, HasClass, chosen_kept, class_kept}
 use Rattle.translation_laws.proofs.Each.{each_mapping}
@@ -146,6 +150,20 @@ module _ (known : Known) (setup : Setup) where
         (lifted_before known.more setup IsOne (one_to_one_kept known.laws) history is r)) ports m among kind external
         other untold
 
+    -- a connection is begun by a packet that was looked up
+    allocates_so : Next setup history r e → AllocatesPort setup history r e
+    allocates_so n = record {
+      only = allocates_port setup history r e n;
+      mapped = λ a t comes m from.
+          allocated_among setup held now a t e (accepted_so n a t comes (begun_accepted n m from)) m from;
+    }
+      where
+        -- a dropped packet begins none
+        begun_accepted : Next setup history r e → (m : Mapping) → (begun e.tracked.change).source ≡ Some m
+            → IsAccepted e
+        begun_accepted n m from cause dropped =
+            none-some m (sym (ap (λ (c : ConnectionChange). (begun c).source) (dropped_so n cause dropped)) ∙ from)
+
   pub history_obeys : (history : List Entry) → IsHistory setup history → HistoryLaws setup history
   history_obeys history is = record {
     live = live_always history is;
@@ -158,5 +176,6 @@ module _ (known : Known) (setup : Setup) where
           begins = begins_so history is r e n;
           dropped = dropped_so history is r e n;
           hairpins = hairpins_so history is r e n;
+          allocates = allocates_so history is r e n;
         };
   }

@@ -94,7 +94,7 @@ module _ (setup : Setup) (mappings : List Mapping) (input : Interface) (t : Tupl
       by_source : AfterSourceNat setup mappings input (New turned) s → FromFirst mappings states.New t s.info
       by_source (delivered none is) =
           subst (FromFirst mappings states.New t) (sym is) (refl, drafted_by None turned refl)
-      by_source (forwarded_on asked on entered is) =
+      by_source (forwarded_on asked ran on entered is) =
           let x = external_source setup.plant asked.facts turned asked.verdict in
           let d = some_of_map (λ (d : NewConnection). New d) (with_source_nat mappings turned x) s.info is in
           subst (FromFirst mappings states.New t) d.2 (refl, drafted_by x d.0 d.1)

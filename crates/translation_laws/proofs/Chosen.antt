@@ -92,7 +92,7 @@ module _ (mappings : List Mapping) (t : Tuple) (x : ExternalSource) (port : ℕ)
       fresh_alike all mappings t.kind t.source x.address port ports (ap afresh (sym none) ∙ found)
 
   -- a port that wasn't allocated was live before
-  went_before : (has_port_range : Bool) → port_choice_by has_port_range there ≡ None
+  pub went_before : (has_port_range : Bool) → port_choice_by has_port_range there ≡ None
       → Contains mappings (mapping_at t.kind t.source (end_at x.address port))
   went_before has_port_range port_choice =
       let so = not_afresh has_port_range there port_choice in

@@ -1,9 +1,10 @@
 -- What a search finds, and what the searches for mappings find.
-use Rattle.std.proofs.Common.{◌≡◌, ℕ, Bool, true, false, List, [], ◌∷◌, Option, Some, ◌⊎◌, inl, inr, sym, ap}
+use Rattle.std.proofs.Common.{◌≡◌, ℕ, Bool, true, false, List, [], ◌∷◌, Option, Some, ◌⊎◌, inl, inr, refl, sym, ap}
 use Rattle.std.proofs.Common.{subst, ◌∙◌, arith}
 use Rattle.std.specs.List.{Contains, find}
 use Rattle.std.specs.Option.{option_map}
-use Rattle.std.proofs.lemmas.Bool.{and_parts, and_from, cases_Bool, cond-true, cond-false, both_ways, eqb-true}
+use Rattle.std.proofs.lemmas.Bool.{and_parts, and_from, cases_Bool, cond-true, cond-false, both_ways, eq-eqb}
+use Rattle.std.proofs.lemmas.Bool.{eqb-true}
 use Rattle.std.proofs.lemmas.Option.{none-some, same_Some}
 use Rattle.list_laws.specs.Lists.{Contains-head}
 use Rattle.list_laws.specs.Elements.{Contains-cases, Contains-tail}
@@ -96,3 +97,13 @@ inbound_found m mappings among =
     let r = one_found (has_external m.kind m.external) mappings m among
     (and_from _ _ (same_kind-refl m.kind) (same_endpoint-refl m.external)) in
     (r.0.internal, ap (λ (o : Option Mapping). option_map (λ (n : Mapping). n.internal) o) r.1)
+
+-- the internal endpoint of a live mapping has a port at its external address
+pub port_found : (m : Mapping) (mappings : List Mapping) → Contains mappings m
+    → (port : ℕ) × (port_of m.kind m.internal m.external.address mappings ≡ Some port)
+unfolding port_of
+port_found m mappings among =
+    let r = one_found (has_internal m.kind m.internal m.external.address) mappings m among
+    (and_from _ _ (same_kind-refl m.kind) (and_from _ _ (same_endpoint-refl m.internal)
+    (eq-eqb m.external.address m.external.address refl))) in
+    (r.0.external.port, ap (λ (o : Option Mapping). option_map (λ (n : Mapping). n.external.port) o) r.1)

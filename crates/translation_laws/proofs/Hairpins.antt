@@ -107,7 +107,7 @@ module _ (laws : MappingLaws) (mappings : List Mapping) (one : IsOneToOne mappin
       (untold : did_nat_act s.events ≡ false) (forwarded : s.facts.output ≡ None → ⊥) where
     by_source : AfterSourceNat setup mappings input (New run_inside) s → IsMapped s.info
     by_source (delivered none is) = absurd (forwarded none)
-    by_source (forwarded_on asked accepted same is) =
+    by_source (forwarded_on asked ran accepted same is) =
         left_so setup.plant asked.facts s.info
         (subst (λ (i : Interface). is_same_interface i.index (owner setup.plant t.destination.address) ≡ false)
         (sym same) entered)

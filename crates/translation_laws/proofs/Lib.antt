@@ -20,5 +20,6 @@ mod Leaves
 mod First
 mod Touched
 mod Hairpins
+mod Allocated
 mod Entries
 mod Always

@@ -38,7 +38,7 @@ DestSo mappings t d =
     → (m ≡ mapping_at t.kind d.tuple.destination t.destination)
     × (inbound_of t.kind t.destination mappings ≡ Some d.tuple.destination)
 
-record IsTurned (mappings : List Mapping) (t : Tuple) (d : NewConnection) : Type 0 where
+pub record IsTurned (mappings : List Mapping) (t : Tuple) (d : NewConnection) : Type 0 where
   pub kind : d.tuple.kind ≡ t.kind
   pub source : d.tuple.source ≡ t.source
   pub none : d.source ≡ None
@@ -69,7 +69,7 @@ module _ (plant : PlantTree) (mappings : List Mapping) (f : Facts) (t : Tuple) w
   behind_parts true o i e = (refl, e)
   behind_parts false o i e = cc
 
-  turned_so : (verdict : HookVerdict) → IsTurned mappings t (with_destination_nat plant mappings f (new_connection_of t)
+  pub turned_so : (verdict : HookVerdict) → IsTurned mappings t (with_destination_nat plant mappings f (new_connection_of t)
       verdict)
   turned_so (Translated how) =
       record { kind = refl; source = refl; none = refl; dest = λ m e. absurd (none-some m e); shape = aimed_suits how }

@@ -1,7 +1,7 @@
 -- Rules keep the interfaces and the earlier events; a NAT statement and a `notrack` that take effect are among their
 -- events.
 use Rattle.std.proofs.Common.{◌≡◌, ℕ, Bool, true, false, IsTrue, List, [], ◌∷◌, ◌++◌, Option, Some, None, refl, sym}
-use Rattle.std.proofs.Common.{◌||◌, ap, subst, ◌∙◌}
+use Rattle.std.proofs.Common.{◌||◌, ap, append_assoc, append-nil, subst, ◌∙◌}
 use Rattle.std.specs.List.{list_any}
 use Rattle.std.proofs.Math.Bool.{or-false}
 use Rattle.std.proofs.lemmas.Bool.{or_left, or_parts, or_right}
@@ -93,6 +93,7 @@ interfaces_of f = (f.input, f.output)
 
 pub record Kept (f g : Facts) (es later : List Event) : Type 0 where
   pub interfaces : interfaces_of g ≡ interfaces_of f
+  pub grown : (more : List Event) × (later ≡ es ++ more)
   pub untold : did_nat_act later ≡ false → did_nat_act es ≡ false
   pub exempt : (at_look_up : Option Bool) → TellExempt f.ct at_look_up (did_exempt es)
       → TellExempt g.ct at_look_up (did_exempt later)
@@ -103,11 +104,17 @@ RecordsNat (Translated t) es = IsTrue (did_nat_act es)
 RecordsNat _ es = Unit {0}
 
 kept_none : (f : Facts) (es : List Event) → Kept f f es es
-kept_none f es = record { interfaces = refl; untold = λ none. none; exempt = λ at_look_up told. told }
+kept_none f es = record {
+  interfaces = refl;
+  grown = ([], sym (append-nil es));
+  untold = λ none. none;
+  exempt = λ at_look_up told. told;
+}
 
 kept_more : (f : Facts) (es later : List Event) → did_exempt later ≡ false → Kept f f es (es ++ later)
 kept_more f es later none = record {
   interfaces = refl;
+  grown = (later, refl);
   untold = none_earlier es later;
   exempt = λ at_look_up told. told_still f.ct at_look_up es later none told;
 }
@@ -115,6 +122,10 @@ kept_more f es later none = record {
 kept_then : (f g h : Facts) (es mid later : List Event) → Kept f g es mid → Kept g h mid later → Kept f h es later
 kept_then f g h es mid later one two = record {
   interfaces = two.interfaces ∙ one.interfaces;
+  grown = (
+    one.grown.0 ++ two.grown.0,
+    two.grown.1 ∙ ap (λ (l : List Event). l ++ two.grown.0) one.grown.1 ∙ append_assoc es one.grown.0 two.grown.0,
+  );
   untold = λ none. one.untold (two.untold none);
   exempt = λ at_look_up told. two.exempt at_look_up (one.exempt at_look_up told);
 }
@@ -197,6 +208,7 @@ module _ {S : Type 0} (p : Program S)
       let so : NoteKept f e g = subst (WayKept f) is k in
       record {
         interfaces = so.0;
+        grown = (e ∷ [], refl);
         untold = none_earlier es (e ∷ []);
         exempt = λ at_look_up told. so.1 at_look_up es told;
       }

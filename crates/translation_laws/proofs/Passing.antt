@@ -34,7 +34,7 @@ use Rattle.stepping.specs.Lookups.{belonging_by_tuple, belonging_of, ct_info_by_
 use Rattle.stepping.specs.Lookups.{lookup_tuple_of, others_beside, others_in}
 use Rattle.stepping.specs.Paths.{PathState, StepResult, Continue, Drop, on_arrival}
 use Rattle.stepping.specs.Confirmations.{Confirm, confirmation_by, confirmation_of, confirmed, mark_in, refusal}
-use Rattle.stepping.specs.Confirmations.{reply_to, unless_refused}
+use Rattle.stepping.specs.Confirmations.{port_choice_for, reply_to, unless_refused}
 use Rattle.stepping.specs.Next.{AfterLookUp, EntryOf, HooksAndConfirm, LookUp, Path, arrival_of, entry_of, outcome_by}
 use Rattle.stepping.specs.Next.{sent_on, tracked_as, tuple_in}
 use Rattle.translation_laws.specs.Laws.{IsAccepted}
@@ -246,6 +246,8 @@ module _ (setup : Setup) (held : List ConntrackEntry) (now : ℕ) (a : ReceivedP
     pub looked_up : IsLookedUp setup (interface_facts setup.plant a.interface) held a.packet t end
     pub tracked : e.tracked ≡ updates.entry_of (belongs_by held a.packet t) (arrival_of now a.packet t)
         (confirmation_by end.info (mark_in end.facts.ct))
+    pub port_choice : e.port_choice
+        ≡ port_choice_for (mappings_in (after_end (belongs_by held a.packet t) held)) end.info
     pub events : e.events ≡ end.events
     pub outcome : e.outcome ≡ outcome_by end.facts.output
     pub packet : e.packet ≡ sent_on a.packet end.info (outcome_by end.facts.output)
@@ -258,6 +260,9 @@ module _ (setup : Setup) (held : List ConntrackEntry) (now : ℕ) (a : ReceivedP
     tracked = ap (λ (x : Entry). x.tracked) is
         ∙ tracked_is now held a.packet t (Continue s) l.read
         (its_look_up setup (interface_facts setup.plant a.interface) held a.packet t s l);
+    port_choice = ap (λ (x : Entry). x.port_choice) is
+        ∙ ap (λ (b : Belonging). port_choice_for (mappings_in (after_end b held)) s.info)
+        (belongs_is held a.packet t l.read);
     events = ap (λ (x : Entry). x.events) is;
     outcome = ap (λ (x : Entry). x.outcome) is;
     packet = ap (λ (x : Entry). x.packet) is;

@@ -1,7 +1,7 @@
 -- The laws of NAT and of the connections alive, in each history.
 use Rattle.std.specs.Prelude.{◌≡◌, ◌≢◌, ◌↔◌, ◌⊎◌, ℕ, ◌-◌, ◌<◌, ◌≤◌, Bool, true, false, ◌&&◌, if◌then◌else◌}
-use Rattle.std.specs.Prelude.{IsTrue}
-use Rattle.std.specs.Prelude.{List, [], ◌∷◌, map, Some, None, Ok}
+use Rattle.std.specs.Prelude.{IsTrue, is_some}
+use Rattle.std.specs.Prelude.{List, [], ◌∷◌, ◌++◌, map, Some, None, Ok}
 use Rattle.std.specs.List.{Contains, list_any}
 use Rattle.box_file.specs.Box.{owner}
 use Rattle.ip_headers.specs.declared.tuple.Mapping.{Mapping}
@@ -19,16 +19,23 @@ use Rattle.conntrack.specs.declared.connection.Flags.{Flags}
 use Rattle.conntrack.specs.declared.connection.ConntrackEntry.{ConntrackEntry}
 use Rattle.conntrack.specs.Phases.{is_closing, is_lone_syn}
 use Rattle.conntrack.specs.ConntrackEntry.{belongs_in, first_state, is_incoming, limit_of, connection_ref}
-use Rattle.conntrack.specs.Histories.{ConnectionChange, NoChange, Begins, Touches, Creation, begun_in}
+use Rattle.conntrack.specs.Histories.{ConnectionChange, NoChange, Begins, Touches, Creation, begun, begun_in}
 use Rattle.conntrack.specs.Histories.{connection_in, is_creation, is_ended}
 use Rattle.conntrack.specs.Updates.{after_end}
 use Rattle.pcap_io.specs.Pcap.{Recorded}
 use Rattle.port_pool.specs.Candidates.{same_class_and_parity}
 use Rattle.nat_mapping.specs.Mappings.{source_of}
+use Rattle.rule_meaning.specs.declared.event.HookVerdict.{HookVerdict}
+use Rattle.rule_meaning.specs.declared.event.HookVerdict.TheVariants.{Translated}
+use Rattle.rule_meaning.specs.declared.event.NatAction.TheVariants.{Masquerade, Source}
 use Rattle.rule_meaning.specs.declared.event.RuleVerdict.{RuleVerdict}
 use Rattle.rule_meaning.specs.declared.event.RuleVerdict.TheVariants.{Translate}
 use Rattle.rule_meaning.specs.declared.event.Event.{Event}
 use Rattle.rule_meaning.specs.declared.event.Event.TheVariants.{TookVerdict, Untracked}
+use Rattle.rule_meaning.specs.declared.facts.Facts.{Facts}
+use Rattle.rule_meaning.specs.Hooks.{Chains, HookResult}
+use Rattle.hook_runs.specs.declared.stages.HookStage.TheVariants.{PostroutingNat}
+use Rattle.hook_runs.specs.Stages.{chains_in_stage}
 use Rattle.history.specs.declared.outcome.Cause.{Cause}
 use Rattle.history.specs.declared.outcome.Outcome.TheVariants.{Passed, Dropped}
 use Rattle.history.specs.Setup.{Setup, limits_of}
@@ -238,6 +245,37 @@ Hairpins setup history r e =
     → (interface : ℕ) → e.outcome ≡ Passed interface
     → IsHairpinned t m (mappings_before setup history r t (flags_in (transport_of a.packet))) e
 
+-- ---- the port of a new mapping
+
+-- the nat chains ended with a NAT statement that names ports
+abbrev pub names_ports : HookVerdict → Bool
+names_ports (Translated (Source address ports)) = is_some ports
+names_ports (Translated (Masquerade ports)) = is_some ports
+names_ports _ = false
+
+-- on the entry's path the nat chains of postrouting gave this result
+pub record EndsSourceNat (setup : Setup) (e : Entry) (end : HookResult) : Type 0 where
+  pub facts : Facts
+  pub before : List Event
+  pub ran : Chains setup.plant setup.rules (chains_in_stage PostroutingNat) facts before end
+  pub later : List Event
+  pub among : e.events ≡ end.events ++ later
+
+-- the mapping of the entry's connection, among these live ones: a live one is reused (RFC 4787, REQ-1). For
+-- another one a port is allocated, and the entry tells whether the statement that acted names ports
+pub record AllocatedAmong (setup : Setup) (e : Entry) (live : List Mapping) (m : Mapping) : Type 0 where
+  pub reused : Contains live m → e.port_choice ≡ None
+  pub allocated : (Contains live m → ⊥)
+      → (end : HookResult) × EndsSourceNat setup e end × (e.port_choice ≡ Some (names_ports end.verdict))
+
+-- an entry tells of an allocation for the mapping of the source of a connection that it begins, and for no
+-- other
+pub record AllocatesPort (setup : Setup) (history : List Entry) (r : Recorded) (e : Entry) : Type 0 where
+  pub only : e.port_choice ≢ None → (begun e.tracked.change).source ≢ None
+  pub mapped : (a : ReceivedPacket) (t : Tuple) → ComesWith setup r e a t → (m : Mapping)
+      → (begun e.tracked.change).source ≡ Some m
+      → AllocatedAmong setup e (mappings_before setup history r t (flags_in (transport_of a.packet))) m
+
 -- ---- together
 
 -- of the connections alive at a time after a history, and of their list
@@ -261,6 +299,7 @@ pub record EntryLaws (setup : Setup) (history : List Entry) (r : Recorded) (e : 
   pub begins : BeginsOne setup history r e
   pub dropped : CountsForNone e
   pub hairpins : Hairpins setup history r e
+  pub allocates : AllocatesPort setup history r e
 
 -- of a history: at its last time, at each later one, and of each record that extends it
 pub record HistoryLaws (setup : Setup) (history : List Entry) : Type 0 where
