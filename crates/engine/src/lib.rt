@@ -9,6 +9,9 @@ mod replay;
 mod runs;
 
 pub use fault::{RulesFault, RunFault};
+// What a caller of single steps needs: the engine, what became of a record, and its entry.
+pub use history::{Entry, Outcome as Passed};
 pub use judging::{Counts, judge};
 pub use laws::{no_meaning, one_judging, one_meaning, one_refusal, some_answer, some_judging};
 pub use runs::{Summary, run};
+pub use stepping::Engine;

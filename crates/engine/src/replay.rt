@@ -1,5 +1,6 @@
 //! Replays the records of a capture.
-ghost use Rattle.std.specs.Prelude.{◌≡◌, ◌≢◌, ◌<◌, ◌≤◌, ◌+◌, ◌⊎◌, [], Bool, List, ℕ, Option, true, false, Ok, Err, None, IfOk, IfErr, IfSome, IsErrOf, OnOk, OnErr, length};
+ghost use Rattle.std.specs.Prelude.{◌≡◌, ◌≢◌, ◌<◌, ◌≤◌, ◌+◌, ◌⊎◌, [], Bool, List, ℕ, Option, true, false, Ok, Err};
+ghost use Rattle.std.specs.Prelude.{None, IfOk, IfErr, IfSome, IsErrOf, OnOk, OnErr, length};
 ghost use Rattle.std.specs.Io.KnownBytes.{IsAtEnd};
 ghost use Rattle.pcap_io.specs.Counting.{AppendsPrefix, one_more};
 ghost use Rattle.pcap_io.specs.CaptureStates.{READ_AHEAD, is_ready};
@@ -12,7 +13,9 @@ ghost use Rattle.history.specs.History.{Entry};
 ghost use Rattle.engine.specs.declared.fault.RunFault.{RunFault};
 ghost use Rattle.engine.specs.AfterFault.{OneFailed};
 ghost use Rattle.engine.specs.Refusals.{IsOfRecord};
-ghost use Rattle.engine.specs.steps.Replayed.{AllWritten, BreaksAtRecord, Interrupts, IsStop, OneOfTwo, PrefixWritten, ReplayRepresents, Replayed, ReplayStart, TakesRecord, unread_input, ending_at};
+ghost use Rattle.engine.specs.steps.Replayed.{AllWritten, BreaksAtRecord, Interrupts, IsStop, OneOfTwo};
+ghost use Rattle.engine.specs.steps.Replayed.{PrefixWritten, ReplayRepresents, Replayed, ReplayStart, TakesRecord};
+ghost use Rattle.engine.specs.steps.Replayed.{unread_input, ending_at};
 ghost use Rattle.engine.specs.steps.Written.{FinishFails, OutputsFinished, IsWithin, FaultLeaves, OutputsWritten, ReportUnfinished, torn_at};
 
 use crate::fault::RunFault;

@@ -35,7 +35,7 @@ pub data Call (Input Output : Type 0) : Type 0 where
   -- replays a capture: the keys, the texts of the ruleset and the box file, IN before and after, OUT
   -- before and after, the report's file before and after (none for standard output), and whether there
   -- is a trace; whether the capture is torn
-  run : RandomState → Text → Text → Input → Input → Output → Output → Option (Output × Output) → Bool
+  run : RandomState → Text → Text → Input → Input → Output → Output → Option Output → Option Output → Bool
       → Result Bool RunFault → Call Input Output
   -- checks a ruleset's text for a box file's text, and counts its tables, chains and rules
   judge : Text → Text → Result Counts RunFault → Call Input Output

@@ -1,5 +1,5 @@
 -- `nftrun run` (own): its calls in order, and its status.
-use Rattle.std.specs.Prelude.{◌≡◌, ◌++◌, Bool, List, [], ◌∷◌, Option, Some, None, Result, Ok, Err, codes, if◌then◌else◌, option_map, ⊤}
+use Rattle.std.specs.Prelude.{◌≡◌, ◌++◌, Bool, List, [], ◌∷◌, Option, Some, None, Result, Ok, Err, codes, if◌then◌else◌, ⊤}
 use Rattle.std.specs.IoError.{error_kind}
 use Rattle.std.specs.declared.io.Error.{Error}
 use Rattle.std.specs.declared.io.ErrorKind.{ErrorKind}
@@ -10,7 +10,7 @@ use Rattle.command_line.specs.declared.task.ReplayPaths.{ReplayPaths}
 use Rattle.command_line.specs.declared.task.ReplayTask.{ReplayTask}
 use Rattle.program.specs.Calls.{Call, Text, read, open_input, identify, draw_keys, create, run}
 use Rattle.program.specs.Identity.{is_same_file}
-use Rattle.program.specs.Status.{of_fault, of_end, of_error}
+use Rattle.program.specs.Status.{of_run, of_error}
 use Rattle.program.specs.declared.identity.FileIdentity.{FileIdentity}
 use Rattle.program.specs.declared.status.Status.{Status}
 use Rattle.program.specs.declared.status.Status.TheVariants.{SameFile, SameReport}
@@ -32,12 +32,9 @@ Then {C = C} {A = A} First Next calls status =
 -- opened (for the report too, if it has one), and the flag of the trace; no call follows
 abbrev pub Runs : {I O : Type 0} → Bool → RandomState → Text → Text → I → O → Option O → List (Call I O)
     → Status → Type 0
-Runs traced keys rules box input output report (run k r b i i' o o' file t (Err fault) ∷ []) status =
-    (k ≡ keys) × (r ≡ rules) × (b ≡ box) × (i ≡ input) × (o ≡ output) × (option_map (λ f. f.0) file ≡ report)
-    × (t ≡ traced) × (status ≡ of_fault fault)
-Runs traced keys rules box input output report (run k r b i i' o o' file t (Ok torn) ∷ []) status =
-    (k ≡ keys) × (r ≡ rules) × (b ≡ box) × (i ≡ input) × (o ≡ output) × (option_map (λ f. f.0) file ≡ report)
-    × (t ≡ traced) × (status ≡ of_end torn)
+Runs traced keys rules box input output report (run k r b i i' o o' f f' t answer ∷ []) status =
+    (k ≡ keys) × (r ≡ rules) × (b ≡ box) × (i ≡ input) × (o ≡ output) × (f ≡ report) × (t ≡ traced)
+    × (status ≡ of_run answer)
 Runs _ _ _ _ _ _ _ _ _ = ⊥
 
 -- a file that doesn't exist yet is no fault; any other error is

@@ -1,6 +1,6 @@
 -- Statuses and exit statuses (own): 0 done, 1 ruleset, 2 usage, 3 box file, 4 capture, 5 device, 6
 -- memory, 7 torn.
-use Rattle.std.specs.Prelude.{ℕ, Bool, true, false}
+use Rattle.std.specs.Prelude.{ℕ, Bool, true, false, Result, Ok, Err}
 use Rattle.std.specs.IoError.{error_kind}
 use Rattle.std.specs.declared.io.Error.{Error}
 use Rattle.std.specs.declared.io.ErrorKind.{ErrorKind}
@@ -22,6 +22,11 @@ of_fault faults.Memory = Memory
 abbrev pub of_end : Bool → Status
 of_end false = Success
 of_end true = Torn
+
+-- the status of a run
+abbrev pub of_run : Result Bool RunFault → Status
+of_run (Ok torn) = of_end torn
+of_run (Err fault) = of_fault fault
 
 -- the status of a failed system call
 abbrev pub of_kind : ErrorKind → Status

@@ -1,10 +1,11 @@
 //! Explains a status and locates its fault.
 use crate::status::Status;
 use box_file::Plant;
-use capture_remarks::remarks;
+use capture_remarks::{capture_location, remarks};
 use command_line::{ReplayPaths, Task};
-use engine::RunFault;
-use fault_search::{SourcePaths, Sources, all_faults, capture_location, explained};
+use engine::RulesFault;
+use fault_advice::explained;
+use fault_location::{Fault, SourcePaths, Sources, all_faults};
 use std::rt::Files;
 use std::{fs, io};
 
@@ -37,11 +38,12 @@ fn source_paths<'a>(task: &Task<'a>) -> Option<SourcePaths<'a>> {
 }
 
 /// The fault of a status, if it has one.
-fn fault_of(status: Status) -> Option<RunFault> {
+fn fault_of(status: Status) -> Option<Fault> {
     match status {
-        Status::Rules(fault) => Some(RunFault::Rules(fault)),
-        Status::Box(fault) => Some(RunFault::Box(fault)),
-        Status::Capture(fault) => Some(RunFault::Capture(fault)),
+        Status::Rules(RulesFault::Text(fault)) => Some(Fault::Text(fault)),
+        Status::Rules(RulesFault::Check(fault)) => Some(Fault::Check(fault)),
+        Status::Box(fault) => Some(Fault::Box(fault)),
+        Status::Capture(fault) => Some(Fault::Capture(fault)),
         _ => None,
     }
 }
@@ -70,7 +72,7 @@ fn print_all_faults<R: Files + Eprint + AllocGlobal>(
 
 fn print_location<R: Files + Eprint + AllocGlobal>(
     rt: &R,
-    fault: RunFault,
+    fault: Fault,
     paths: SourcePaths<'_>,
 ) -> io::Result<()> {
     let rules = read_again(rt, paths.rules);

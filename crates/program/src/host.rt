@@ -16,10 +16,13 @@ use std::io;
 /// Nothing else is known of it, so what is proved over it is true of the calls that were made, in
 /// their order.
 pub trait Host {
-    ghost use Rattle.std.specs.Prelude.{◌≡◌, None, Some};
+    ghost use Rattle.std.specs.Prelude.{◌≡◌};
     ghost use Rattle.std.specs.Result.{result_map_both};
     ghost use Rattle.clap.specs.Values.{kind_of};
-    ghost use Rattle.program.specs.Calls.{Call, words, errors_to_terminal, read, open_input, identify, draw_keys, create, run, judge, print_accepted, print_status, explain_status, remark_on_capture, list_faults, warn_of_nft, show, explain, word_texts, bytes_of};
+    ghost use Rattle.program.specs.Calls.{Call, words, errors_to_terminal, read, open_input, identify, draw_keys};
+    ghost use Rattle.program.specs.Calls.{create, run, judge, print_accepted, print_status, explain_status};
+    ghost use Rattle.program.specs.Calls.{remark_on_capture, list_faults, warn_of_nft, show, explain, word_texts};
+    ghost use Rattle.program.specs.Calls.{bytes_of};
 
     /// A capture open for reading.
     type Input: Drop;
@@ -65,8 +68,8 @@ pub trait Host {
         ensures { happens self.old (create path.now result) self.new };
 
     /// Replays the capture through the ruleset on a box, writes the packets that leave, and prints
-    /// the report to standard output, with a trace if `trace` is set. Its hash tables use the keys
-    /// `hasher`. Returns whether the capture is torn.
+    /// the report to a file, or to standard output where there is none, with a trace if `trace` is
+    /// set. Its hash tables use the keys `hasher`. Returns whether the capture is torn.
     fn run(
         &mut self,
         hasher: RandomState,
@@ -74,26 +77,12 @@ pub trait Host {
         plant: &[u8],
         input: &mut Self::Input,
         output: &mut Self::Output,
-        trace: bool,
-    ) -> Result<bool, RunFault>
-        ensures { happens self.old
-            (run hasher rules.now plant.now input.old input.new output.old output.new None trace result)
-            self.new };
-
-    /// As `run`, with the report in a file.
-    fn run_to_file(
-        &mut self,
-        hasher: RandomState,
-        rules: &[u8],
-        plant: &[u8],
-        input: &mut Self::Input,
-        output: &mut Self::Output,
-        report: &mut Self::Output,
+        report: &mut Option<Self::Output>,
         trace: bool,
     ) -> Result<bool, RunFault>
         ensures { happens self.old
             (run hasher rules.now plant.now input.old input.new output.old output.new
-            (Some (report.old, report.new)) trace result)
+            report.old report.new trace result)
             self.new };
 
     /// Checks a ruleset for a box, and counts its tables, chains and rules.

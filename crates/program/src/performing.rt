@@ -4,7 +4,9 @@ ghost use Rattle.program.specs.Status.{code_of};
 ghost use Rattle.program.specs.steps.Finishing.{ParsesRunsAndPrints};
 ghost use Rattle.clap.specs.Values.{kind_of};
 ghost use Rattle.program.specs.Calls.{HappenInOrder, MakesCalls};
-ghost use Rattle.program.specs.Performing.{Explains, Performs, RunsTask, Shows, all_faults_calls, asks_all, detail_calls, explanation_calls, is_replayed, is_success, meaning_calls, nft_calls, remark_calls, status_line_calls, usage_status};
+ghost use Rattle.program.specs.Performing.{Explains, Performs, RunsTask, Shows, all_faults_calls, asks_all};
+ghost use Rattle.program.specs.Performing.{detail_calls, explanation_calls, is_replayed, is_success, meaning_calls};
+ghost use Rattle.program.specs.Performing.{nft_calls, remark_calls, status_line_calls, usage_status};
 
 use crate::examining::examine;
 use crate::host::Host;

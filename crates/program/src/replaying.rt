@@ -47,7 +47,7 @@ fn try_replay<H: Host>(host: &mut H, task: &ReplayTask<'_>) -> Result<bool, Stat
     check_report(host, task)?;
     let hasher = host.draw_keys()?;
     let mut output = host.create(paths.output)?;
-    let report = create_report(host, task)?;
+    let mut report = create_report(host, task)?;
     play(
         host,
         hasher,
@@ -55,7 +55,7 @@ fn try_replay<H: Host>(host: &mut H, task: &ReplayTask<'_>) -> Result<bool, Stat
         &plant,
         &mut input,
         &mut output,
-        report,
+        &mut report,
         task.trace,
     )
 }
@@ -68,20 +68,14 @@ fn play<H: Host>(
     plant: &[u8],
     input: &mut H::Input,
     output: &mut H::Output,
-    report: Option<H::Output>,
+    report: &mut Option<H::Output>,
     trace: bool,
 ) -> Result<bool, Status>
     ensures { MakesCalls H.happens host.old host.new (λ calls.
-        Runs trace hasher rules.now plant.now input.old output.old report
+        Runs trace hasher rules.now plant.now input.old output.old report.old
         calls (replay_status result)) }
 {
-    let torn = match report {
-        Some(mut file) => {
-            host.run_to_file(hasher, rules, plant, input, output, &mut file, trace)?
-        }
-        None => host.run(hasher, rules, plant, input, output, trace)?,
-    };
-    Ok(torn)
+    Ok(host.run(hasher, rules, plant, input, output, report, trace)?)
 }
 
 /// Writing OUT must not overwrite what is read, nor the report.

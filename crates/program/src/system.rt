@@ -1,7 +1,5 @@
 //! The host that makes the system calls: files, outputs, and the engine over them.
-ghost use Rattle.std.specs.Prelude.{None, Some};
-ghost use Rattle.program.specs.Calls.{run};
-ghost use Rattle.program.specs.steps.Promised.{IsGuaranteed};
+ghost use Rattle.program.specs.steps.Promised.{IsGuaranteed, Writes};
 
 use crate::closed_pipe::{PipeWriter, is_closed_pipe};
 use crate::diagnosis::{explain_status, list_faults, remark_on_capture, warn_of_nft};
@@ -18,7 +16,7 @@ use pcap_io::Counted;
 use std::env::{self, Env};
 use std::fs::OpenFile;
 use std::hash::RandomState;
-use std::io::IsTerminal;
+use std::io::{IsTerminal, Write};
 use std::os::unix::fs::MetadataExt;
 use std::random::RandomSource;
 use std::rt::{Clock, Files};
@@ -89,6 +87,15 @@ impl<R: AllocGlobal> System<'_, R> {
 }
 
 impl<'a, R: Clock + Eprint> System<'a, R> {
+    /// How progress is shown beside the report, if that goes to standard output.
+    fn progress_line(&self, to_output: bool) -> ProgressLine {
+        if to_output && self.terminals.output {
+            ProgressLine::Appended
+        } else {
+            ProgressLine::Overwritten
+        }
+    }
+
     /// The progress display of a run; none where standard error is no terminal.
     fn progress(&self, line: ProgressLine) -> Option<Progress<'a, R>> {
         if !self.terminals.errors {
@@ -129,53 +136,21 @@ impl<R: Eprint + AllocGlobal> System<'_, R> {
     }
 }
 
-/// A run whose report goes to standard output. `is_closed` becomes whether nobody reads that any more.
-fn run_to_output<R: Clock + Files + Print + Eprint + AllocGlobal>(
+/// A run with its report to any writer.
+fn run_into<R: Clock + Files + Eprint + AllocGlobal, W: Write>(
     rt: &R,
     hasher: RandomState,
     rules: &[u8],
     plant: &[u8],
     input: &mut Counted<R::File>,
     output: &mut Counted<R::File>,
-    trace: bool,
-    progress: Option<Progress<'_, R>>,
-    is_closed: &mut bool,
-) -> Result<bool, RunFault>
-    ensures { IsGuaranteed (λ c. R.File.remaining c.inner) (λ c. R.File.contents c.inner)
-        (run hasher rules.now plant.now input.old input.new output.old output.new None trace result) }
-{
-    let mut reader = Counted::new(ProgressReader::new(input, progress));
-    let mut report = Counted::new(PipeWriter::new(io::writer(rt)));
-    let outcome = engine::run(
-        rt.alloc(),
-        hasher,
-        rules,
-        plant,
-        &mut reader,
-        output,
-        &mut report,
-        trace,
-    );
-    reader.into_inner().end();
-    *is_closed = report.into_inner().is_closed();
-    Ok(outcome?.torn)
-}
-
-/// A run whose report goes to a file.
-fn run_to_file<R: Clock + Files + Eprint + AllocGlobal>(
-    rt: &R,
-    hasher: RandomState,
-    rules: &[u8],
-    plant: &[u8],
-    input: &mut Counted<R::File>,
-    output: &mut Counted<R::File>,
-    report: &mut Counted<R::File>,
+    report: &mut Counted<W>,
     trace: bool,
     progress: Option<Progress<'_, R>>,
 ) -> Result<bool, RunFault>
-    ensures { IsGuaranteed (λ c. R.File.remaining c.inner) (λ c. R.File.contents c.inner)
-        (run hasher rules.now plant.now input.old input.new output.old output.new
-        (Some (report.old, report.new)) trace result) }
+    ensures { Writes rules.now plant.now trace (R.File.remaining input.old.inner)
+        (R.File.contents output.old.inner) (R.File.contents output.new.inner)
+        (W.contents report.old.inner) (W.contents report.new.inner) result }
 {
     let mut reader = Counted::new(ProgressReader::new(input, progress));
     let outcome = engine::run(
@@ -252,49 +227,38 @@ impl<R: Clock + Env + Files + Print + Eprint + RandomSource + AllocGlobal> Host 
         plant: &[u8],
         input: &mut Self::Input,
         output: &mut Self::Output,
+        report: &mut Option<Self::Output>,
         trace: bool,
     ) -> Result<bool, RunFault> {
-        let line = if self.terminals.output {
-            ProgressLine::Appended
-        } else {
-            ProgressLine::Overwritten
-        };
-        let progress = self.progress(line);
+        let rt = self.rt;
+        let progress = self.progress(self.progress_line(report.is_none()));
         let mut is_closed = false;
-        let outcome = run_to_output(
-            self.rt,
-            hasher,
-            rules,
-            plant,
-            input,
-            output,
-            trace,
-            progress,
-            &mut is_closed,
-        );
+        let outcome = match report {
+            Some(file) => run_into(
+                rt, hasher, rules, plant, input, output, file, trace, progress,
+            ),
+            None => {
+                let mut writer = Counted::new(PipeWriter::new(io::writer(rt)));
+                let outcome = run_into(
+                    rt,
+                    hasher,
+                    rules,
+                    plant,
+                    input,
+                    output,
+                    &mut writer,
+                    trace,
+                    progress,
+                );
+                is_closed = writer.into_inner().is_closed();
+                outcome
+            }
+        };
         self.failed = if is_closed {
             Some(Failed::ClosedPipe)
         } else {
             Failed::in_run(input.failures(), output.failures(), &outcome)
         };
-        outcome
-    }
-
-    fn run_to_file(
-        &mut self,
-        hasher: RandomState,
-        rules: &[u8],
-        plant: &[u8],
-        input: &mut Self::Input,
-        output: &mut Self::Output,
-        report: &mut Self::Output,
-        trace: bool,
-    ) -> Result<bool, RunFault> {
-        let progress = self.progress(ProgressLine::Overwritten);
-        let outcome = run_to_file(
-            self.rt, hasher, rules, plant, input, output, report, trace, progress,
-        );
-        self.failed = Failed::in_run(input.failures(), output.failures(), &outcome);
         outcome
     }
 

@@ -240,24 +240,12 @@ impl Host for Recorder {
         plant: &[u8],
         _input: &mut (),
         _output: &mut (),
+        report: &mut Option<()>,
         trace: bool,
     ) -> Result<bool, RunFault> {
+        let to: &[u8] = if report.is_some() { b" to a file" } else { b"" };
         let end: &[u8] = if trace { b" traced" } else { b"" };
-        self.outcome(&[b"run ", rules, b" ", plant, end])
-    }
-
-    fn run_to_file(
-        &mut self,
-        _hasher: RandomState,
-        rules: &[u8],
-        plant: &[u8],
-        _input: &mut (),
-        _output: &mut (),
-        _report: &mut (),
-        trace: bool,
-    ) -> Result<bool, RunFault> {
-        let end: &[u8] = if trace { b" traced" } else { b"" };
-        self.outcome(&[b"run ", rules, b" ", plant, b" to a file", end])
+        self.outcome(&[b"run ", rules, b" ", plant, to, end])
     }
 
     fn judge(&mut self, rules: &[u8], plant: &[u8]) -> Result<Counts, RunFault> {
