@@ -1,5 +1,6 @@
 -- Looking up the explanation of a code.
-use Rattle.std.proofs.Common.{◌≡◌, ◌∙◌, ◌||◌, ◌+◌, ◌<◌, ◌≤◌, ℕ, Bool, true, false, refl, ap, List, Option, Some, None, IfSome, is_some, map, length, drop, get_or}
+use Rattle.std.proofs.Common.{◌≡◌, ◌∙◌, ◌||◌, ◌+◌, ◌<◌, ◌≤◌, ℕ, Bool, true, false, refl, ap, List, Option, Some, None}
+use Rattle.std.proofs.Common.{IfSome, is_some, map, length, drop, get_or}
 use Rattle.std.proofs.lemmas.List.{drop_all, drop_more}
 use Rattle.std.specs.Str.{bytes_eq}
 use Rattle.std.specs.Option.{option_or}

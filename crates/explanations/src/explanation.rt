@@ -4,7 +4,7 @@ ghost use Rattle.explanations.specs.Codes.{has_code, is_code};
 
 use crate::table::{CAPTURE, PLANT, RULESET, TEXT};
 
-/// What a code means, in the words of docs/SPEC.md, docs/BOX.md and docs/CAPTURES.md.
+/// What a code means.
 #[derive(Clone, Copy)]
 pub struct Explanation {
     /// The code, as the line of a fault has it: `E05`.

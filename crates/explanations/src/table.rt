@@ -1,4 +1,4 @@
-//! What each code means, as docs/SPEC.md, docs/BOX.md and docs/CAPTURES.md have it.
+//! What each code means. `scripts/codes` writes docs/CHECK.md from these tables.
 
 use crate::explanation::Explanation;
 

@@ -71,16 +71,14 @@ pub fn unclosed_brace(alloc: Global, text: &[u8]) -> Result<Option<OpenBrace>, A
         if quotes.skips(*byte) {
             continue;
         }
-        match byte {
-            b'\n' => at_start = true,
-            b' ' | b'\t' | b'\r' => {}
-            _ => {
-                seen = offset;
-                if at_start && begins_outside(text, offset, open.len()) {
-                    break;
-                }
-                at_start = false;
+        if *byte == b'\n' {
+            at_start = true;
+        } else if !matches!(byte, b' ' | b'\t' | b'\r') {
+            seen = offset;
+            if at_start && begins_outside(text, offset, open.len()) {
+                break;
             }
+            at_start = false;
         }
         match byte {
             b'{' => open.push(offset)?,

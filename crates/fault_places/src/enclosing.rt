@@ -1,5 +1,6 @@
 //! The table, chain and rule around an offset of a ruleset's text.
 use crate::brace_parts::{Level, Span, spans};
+use crate::part::{holds, part_around};
 use std::alloc::{AllocError, Global};
 
 /// The table and the declaration around an offset, and the number of its rule in the chain.
@@ -34,16 +35,6 @@ pub fn enclosing_items(
     })
 }
 
-/// The part around an offset.
-fn part_around(parts: &[Span], offset: usize) -> Option<Span> {
-    for part in parts {
-        if part.start <= offset && offset < part.end {
-            return Some(*part);
-        }
-    }
-    None
-}
-
 /// The number of the rule around an offset, in its chain.
 fn number(rules: &[Span], chain: Span, offset: usize) -> Option<usize> {
     let mut before = 0usize;
@@ -51,7 +42,7 @@ fn number(rules: &[Span], chain: Span, offset: usize) -> Option<usize> {
         if rule.start < chain.start {
             continue;
         }
-        if rule.start <= offset && offset < rule.end {
+        if holds(*rule, offset) {
             return Some(before.saturating_add(1));
         }
         before = before.saturating_add(1);

@@ -5,8 +5,10 @@
 //! Rulesets are judged on the box `box.txt`, box files with the ruleset `whole.nft`; of a capture
 //! the fault's position is printed.
 use anyhow::Result;
-use engine::{Counts, judge};
-use fault_search::{SourcePaths, Sources, all_faults, capture_location, explained};
+use capture_remarks::capture_location;
+use engine::{Counts, RulesFault, RunFault, judge};
+use fault_advice::explained;
+use fault_location::{Fault, SourcePaths, Sources, all_faults};
 use std::alloc::{AllocError, Global};
 use std::fs;
 
@@ -89,9 +91,24 @@ fn diagnostics_of_texts(alloc: Global, sources: Sources<'_>) -> Result<String, A
         Ok(counts) => return accepted(alloc, counts),
         Err(fault) => fault,
     };
-    let lines = explained(alloc, fault, sources)?;
+    let lines = explanation(alloc, fault, sources)?;
     let faults = all_faults(alloc, sources)?;
     format!(in alloc; "nftrun: {fault}\n{}\n{}", lines.as_str(), faults.as_str())
+}
+
+/// What `--explain` prints of a fault of a text; nothing of another one.
+pub fn explanation(
+    alloc: Global,
+    fault: RunFault,
+    sources: Sources<'_>,
+) -> Result<String, AllocError> {
+    let fault = match fault {
+        RunFault::Rules(RulesFault::Text(fault)) => Fault::Text(fault),
+        RunFault::Rules(RulesFault::Check(fault)) => Fault::Check(fault),
+        RunFault::Box(fault) => Fault::Box(fault),
+        _ => return Ok(String::new(alloc)),
+    };
+    explained(alloc, fault, sources)
 }
 
 /// What is counted in an accepted ruleset.

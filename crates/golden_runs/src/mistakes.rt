@@ -1,9 +1,10 @@
 //! Rulesets with one typical mistake each. `mistakes.txt` has for each, below a line `== NAME`, the
 //! ruleset, below `-- told` what `--explain` prints for it, and below `-- mended` the ruleset that
 //! follows the advice, which has to be accepted. The box is `faults/box.txt`.
+use crate::fault_texts::explanation;
 use anyhow::Result;
 use engine::judge;
-use fault_search::{SourcePaths, Sources, explained};
+use fault_location::{SourcePaths, Sources};
 use std::alloc::{AllocError, Global};
 use std::fs;
 
@@ -55,7 +56,7 @@ fn told_of<'a>(alloc: Global, rules: &'a str, plant: &'a [u8]) -> Result<String,
     match judge(alloc, sources.rules, plant) {
         Ok(_) => String::from_str(alloc, "accepted\n"),
         Err(fault) => {
-            let lines = explained(alloc, fault, sources)?;
+            let lines = explanation(alloc, fault, sources)?;
             format!(in alloc; "nftrun: {fault}\n{}", lines.as_str())
         }
     }

@@ -4,7 +4,7 @@ use crate::outline::{Outline, Range};
 use crate::sets::part_at;
 use crate::tokens::Tokens;
 use crate::warning::Warning;
-use nft_tree::{Chain, ChainKind, Head, Hook, Policy, Priority, PriorityName, Ruleset};
+use nft_tree::{Chain, ChainKind, Head, Hook, Policy, Priority, PriorityName, Ruleset, Table};
 use std::alloc::{AllocError, Global};
 
 /// The priorities at which Linux translates destinations and sources (linux/netfilter_ipv4.h).
@@ -89,18 +89,28 @@ pub(crate) fn judge_chains(
 ) -> Result<(), AllocError> {
     let mut chains: Vec<BaseChain> = Vec::new(alloc);
     for table in &ruleset.tables {
-        for item in &table.items {
-            let Some(chain) = item.chain() else {
-                continue;
-            };
-            if let Some(head) = &chain.head {
-                let part = part_at(&outline.heads, chains.len());
-                judge_head(chain, head, tokens, part, findings)?;
-                chains.push(BaseChain::of(head))?;
-            }
-        }
+        judge_heads(table, tokens, outline, &mut chains, findings)?;
     }
     judge_order(&chains, tokens, outline, findings)
+}
+
+/// Adds the warnings about the heads of a table's base chains, and appends these chains to those of
+/// the tables before.
+fn judge_heads(
+    table: &Table,
+    tokens: &Tokens<'_>,
+    outline: &Outline,
+    chains: &mut Vec<BaseChain>,
+    findings: &mut Findings<'_>,
+) -> Result<(), AllocError> {
+    for chain in table.items.iter().filter_map(|item| item.chain()) {
+        if let Some(head) = &chain.head {
+            let part = part_at(&outline.heads, chains.len());
+            judge_head(chain, head, tokens, part, findings)?;
+            chains.push(BaseChain::of(head))?;
+        }
+    }
+    Ok(())
 }
 
 /// Adds the warnings about one head.

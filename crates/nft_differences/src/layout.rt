@@ -23,37 +23,67 @@ pub(crate) fn judge_layout(
     if let Some(offset) = carriage_return(tokens.text) {
         findings.add_at(offset, Warning::CarriageReturn)?;
     }
+    judge_second_comments(tokens, outline, findings)?;
+    judge_names(tokens, outline, findings)?;
+    judge_tokens(tokens, findings)
+}
+
+/// Adds the warnings about comments of what has one already.
+fn judge_second_comments(
+    tokens: &Tokens<'_>,
+    outline: &Outline,
+    findings: &mut Findings<'_>,
+) -> Result<(), AllocError> {
     for index in &outline.second_comments {
         findings.add(tokens, *index, Warning::SecondComment)?;
     }
+    Ok(())
+}
+
+/// Adds the warnings about names.
+fn judge_names(
+    tokens: &Tokens<'_>,
+    outline: &Outline,
+    findings: &mut Findings<'_>,
+) -> Result<(), AllocError> {
     for index in &outline.names {
         judge_name(tokens, *index, findings)?;
     }
+    Ok(())
+}
+
+/// Adds the warnings about single tokens, and about newlines and ends where they stand.
+fn judge_tokens(tokens: &Tokens<'_>, findings: &mut Findings<'_>) -> Result<(), AllocError> {
     let mut nesting = Nesting::OUTSIDE;
     let mut declaration = 0;
     for index in 0..tokens.len() {
         judge_token(tokens, index, findings)?;
         match tokens.bytes(index) {
-            b"{" => {
-                if nesting.depth == 1 {
-                    nesting.declaration = declaration_at(tokens, declaration);
-                }
-                nesting.depth = nesting.depth.saturating_add(1);
-            }
+            b"{" => nesting = opened(tokens, nesting, declaration),
             b"}" => {
                 judge_closing(tokens, index, nesting, findings)?;
                 nesting.depth = nesting.depth.saturating_sub(1);
             }
             b"\n" => judge_newline(tokens, index, nesting, findings)?,
-            b"chain" | b"set" | b"map" if nesting.depth == 1 => {
-                if !is_name(tokens, index) {
-                    declaration = index;
-                }
+            b"chain" | b"set" | b"map" if nesting.depth == 1 && !is_name(tokens, index) => {
+                declaration = index;
             }
             _ => {}
         }
     }
     Ok(())
+}
+
+/// The nesting behind an opening brace; `declaration` is the last word that begins one.
+fn opened(tokens: &Tokens<'_>, nesting: Nesting, declaration: usize) -> Nesting {
+    Nesting {
+        depth: nesting.depth.saturating_add(1),
+        declaration: if nesting.depth == 1 {
+            declaration_at(tokens, declaration)
+        } else {
+            nesting.declaration
+        },
+    }
 }
 
 /// Whether a token is the name of a declaration.

@@ -46,16 +46,29 @@ pub(crate) fn judge_rules(
     outline: &Outline,
     findings: &mut Findings<'_>,
 ) -> Result<(), AllocError> {
-    let mut number = 0usize;
+    let mut number = 0;
     for table in &ruleset.tables {
-        for item in &table.items {
-            if let Some(chain) = item.chain() {
-                judge_chain(alloc, table, chain, tokens, outline, number, findings)?;
-                number = number.saturating_add(chain.rules.len());
-            }
-        }
+        number = judge_table(alloc, table, tokens, outline, number, findings)?;
     }
     Ok(())
+}
+
+/// Adds the warnings about a table's rules, of which the first has this number in the text; returns
+/// the number after the last.
+fn judge_table(
+    alloc: Global,
+    table: &Table,
+    tokens: &Tokens<'_>,
+    outline: &Outline,
+    first: usize,
+    findings: &mut Findings<'_>,
+) -> Result<usize, AllocError> {
+    let mut number = first;
+    for chain in table.items.iter().filter_map(|item| item.chain()) {
+        judge_chain(alloc, table, chain, tokens, outline, number, findings)?;
+        number = number.saturating_add(chain.rules.len());
+    }
+    Ok(number)
 }
 
 /// Adds the warnings about a chain's rules, of which the first has this number in the text.

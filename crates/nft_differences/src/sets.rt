@@ -6,8 +6,8 @@ use crate::outline::{Outline, Range};
 use crate::tokens::Tokens;
 use crate::warning::Warning;
 use nft_tree::{
-    ComparedType, Element, Item, Key, MapDecl, Pair, Ruleset, SetDecl, SetFlag, Value, ValueRange,
-    ValueType,
+    ComparedType, Element, Item, Key, MapDecl, Pair, Ruleset, SetDecl, SetFlag, Table, Value,
+    ValueRange, ValueType,
 };
 use std::alloc::{AllocError, Global};
 
@@ -47,12 +47,11 @@ impl<'a, 't> List<'a, 't> {
                 b"{" | b"," => is_next = true,
                 b"}" => break,
                 b"\n" => {}
-                _ => {
-                    if is_next {
-                        starts.push(index)?;
-                    }
+                _ if is_next => {
+                    starts.push(index)?;
                     is_next = false;
                 }
+                _ => {}
             }
         }
         Ok(List {
@@ -116,19 +115,34 @@ pub(crate) fn judge_sets(
     outline: &Outline,
     findings: &mut Findings<'_>,
 ) -> Result<(), AllocError> {
-    let mut number = 0usize;
+    let mut number = 0;
     for table in &ruleset.tables {
-        for item in &table.items {
-            let part = part_at(&outline.sets, number);
-            match item {
-                Item::Set(set) => judge_set(alloc, set, tokens, part, findings)?,
-                Item::Map(map) => judge_map(alloc, map, tokens, part, findings)?,
-                Item::Comment(_) | Item::Chain(_) => continue,
-            }
-            number = number.saturating_add(1);
-        }
+        number = judge_table(alloc, table, tokens, outline, number, findings)?;
     }
     Ok(())
+}
+
+/// Adds the warnings about a table's sets and maps, of which the first has this number in the text;
+/// returns the number after the last.
+fn judge_table(
+    alloc: Global,
+    table: &Table,
+    tokens: &Tokens<'_>,
+    outline: &Outline,
+    first: usize,
+    findings: &mut Findings<'_>,
+) -> Result<usize, AllocError> {
+    let mut number = first;
+    for item in &table.items {
+        let part = part_at(&outline.sets, number);
+        match item {
+            Item::Set(set) => judge_set(alloc, set, tokens, part, findings)?,
+            Item::Map(map) => judge_map(alloc, map, tokens, part, findings)?,
+            Item::Comment(_) | Item::Chain(_) => continue,
+        }
+        number = number.saturating_add(1);
+    }
+    Ok(number)
 }
 
 /// The part of this number; an empty one where there is none.
@@ -308,14 +322,12 @@ impl List<'_, '_> {
         value_type: ComparedType,
         findings: &mut Findings<'_>,
     ) -> Result<(), AllocError> {
+        if !is_interface(value_type) {
+            return Ok(());
+        }
         for (number, element) in elements.iter().enumerate() {
-            match &element.key {
-                Key::Single(ValueRange::One(value)) => {
-                    if is_interface(value_type) {
-                        self.judge_value(value, number, findings)?;
-                    }
-                }
-                Key::Single(_) | Key::Joined(_) => {}
+            if let Key::Single(ValueRange::One(value)) = &element.key {
+                self.judge_value(value, number, findings)?;
             }
         }
         Ok(())

@@ -1,0 +1,131 @@
+//! The place at which the grammar stops in a part of a ruleset, and what it allows there.
+use fault_location::{UnreadablePart, Wrapper, open_braces};
+use fault_places::{Level, Span, Words, bytes_of, part_around, rest_from, spans, up_to};
+use std::alloc::{AllocError, Global};
+
+/// The longest prefix of a part that is tried with other words behind it, in bytes.
+const MOST_BYTES: usize = 4096;
+
+/// The place at which the grammar stops in a part.
+#[derive(Drop)]
+pub struct Stop<'a> {
+    pub alloc: Global,
+    pub text: &'a [u8],
+    pub unreadable: UnreadablePart,
+    pub offset: usize,
+    pub words: Words<'a>,
+    /// The number of the word at the place.
+    pub at: usize,
+    /// How many words the grammar allows: an unsupported word may stand behind others that it
+    /// doesn't.
+    pub allowed: usize,
+    /// The chain around a rule's first word.
+    chain: Option<Span>,
+}
+
+impl<'a> Stop<'a> {
+    /// The place at an offset of a part.
+    pub fn new(
+        alloc: Global,
+        text: &'a [u8],
+        unreadable: UnreadablePart,
+        offset: usize,
+    ) -> Result<Stop<'a>, AllocError> {
+        let words = Words::of(alloc, text, unreadable.part)?;
+        let at = words.count_before(offset);
+        let chain = if unreadable.level == Level::Rules && at == 0 {
+            part_around(&spans(alloc, text, Level::Declarations)?, offset)
+        } else {
+            None
+        };
+        let (wrapper, part) = (unreadable.wrapper, unreadable.part);
+        let allowed = wrapper.longest_prefix(alloc, text, part, &words.spans)?;
+        Ok(Stop {
+            alloc,
+            text,
+            unreadable,
+            offset,
+            words,
+            at,
+            allowed: allowed.min(at),
+            chain,
+        })
+    }
+
+    /// The word at the place; empty at the end of the part.
+    pub fn here(&self) -> &'a str {
+        self.words.get(self.at)
+    }
+
+    /// The word so many places before it.
+    pub fn before(&self, places: usize) -> &'a str {
+        self.words.before(self.at, places)
+    }
+
+    pub fn is_in_rule(&self) -> bool {
+        self.unreadable.level == Level::Rules
+    }
+
+    /// What stands before the place.
+    pub fn start(&self) -> Span {
+        up_to(self.unreadable.part, self.offset)
+    }
+
+    /// Whether the grammar allows this behind what stands before the place: in its part, or, where
+    /// that begins here, in its chain.
+    pub fn allows(&self, added: &str) -> Result<bool, AllocError> {
+        if self.is_prefix(self.unreadable.wrapper, self.start(), added)? {
+            return Ok(true);
+        }
+        match self.chain {
+            Some(chain) => self.is_prefix(Wrapper::Declaration, up_to(chain, self.offset), added),
+            None => Ok(false),
+        }
+    }
+
+    /// Whether the grammar allows this behind the start of the part.
+    pub fn allows_behind(&self, start: Span, added: &str) -> Result<bool, AllocError> {
+        self.is_prefix(self.unreadable.wrapper, start, added)
+    }
+
+    /// Whether some ending completes the start of a part with this behind it.
+    fn is_prefix(&self, wrapper: Wrapper, start: Span, added: &str) -> Result<bool, AllocError> {
+        let before = bytes_of(self.text, start);
+        if before.len() > MOST_BYTES {
+            return Ok(false);
+        }
+        let mut prefix = before.to_vec(self.alloc)?;
+        prefix.push(b' ')?;
+        prefix.extend_from_slice(added.as_bytes())?;
+        let open = open_in(self.alloc, &prefix)?;
+        wrapper.is_prefix(self.alloc, &prefix, open)
+    }
+
+    /// Those of some words that the grammar allows at the place.
+    pub fn allowed_of<'w>(&self, words: &[&'w str]) -> Result<Vec<&'w str>, AllocError> {
+        let mut allowed = Vec::new(self.alloc);
+        for word in words {
+            if self.allows(word)? {
+                allowed.push(*word)?;
+            }
+        }
+        Ok(allowed)
+    }
+
+    /// Whether the part can be read without one of its words.
+    pub fn reads_without(&self, word: Span) -> Result<bool, AllocError> {
+        let part = self.unreadable.part;
+        let behind = Span {
+            start: word.end,
+            end: part.end,
+        };
+        let mut without = bytes_of(self.text, up_to(part, word.start)).to_vec(self.alloc)?;
+        without.extend_from_slice(bytes_of(self.text, behind))?;
+        self.unreadable.wrapper.reads(self.alloc, &without)
+    }
+}
+
+/// How many braces a text leaves open.
+fn open_in(alloc: Global, text: &[u8]) -> Result<usize, AllocError> {
+    Ok(open_braces(&Words::of(alloc, text, rest_from(text, 0))?))
+}
