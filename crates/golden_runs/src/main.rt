@@ -4,7 +4,8 @@
 //!
 //! Between the two, it makes the runs of `data/*.rows`, each with its expected packets and report,
 //! the texts of `data/faults` with their expected diagnostics (`fault_texts`), and the rulesets of
-//! `data/mistakes.txt` (`mistakes`). It prints each difference, and how many there were.
+//! `data/mistakes.txt` (`mistakes`) and of `data/warned.txt` (`warned`). It prints each difference,
+//! and how many there were.
 //!
 //! A file of rows has a line `row NAME` for each row, and below it:
 //!
@@ -40,6 +41,7 @@ mod notation;
 mod packets;
 mod records;
 mod rows;
+mod warned;
 
 use anyhow::Result;
 use fault_texts::compare_all;
@@ -49,6 +51,7 @@ use rows::{Row, RunResult, run_over};
 use std::hash::RandomState;
 use std::process::ExitCode;
 use std::{fs, str};
+use warned::compare_warned;
 
 /// OUT of the program's run.
 const OUTPUT: &str = "longer.pcap";
@@ -74,6 +77,9 @@ const FAULT_LINES: &str = "faults/lines.txt";
 /// Rulesets with a mistake, what is told of it, and the mended ones.
 const MISTAKES: &str = "mistakes.txt";
 
+/// Rulesets that nft(8) refuses or means otherwise, and what is told of each.
+const WARNED: &str = "warned.txt";
+
 fn main(rt: HostRuntime) -> Result<ExitCode> {
     let status = program::start(&rt, &rt.stdout(), &rt.stderr());
     print_sent(&rt)?;
@@ -82,6 +88,7 @@ fn main(rt: HostRuntime) -> Result<ExitCode> {
     }
     compare_texts(&rt)?;
     compare_rulesets(&rt)?;
+    compare_warnings(&rt)?;
     Ok(ExitCode::from(status))
 }
 
@@ -114,6 +121,14 @@ fn compare_rulesets(rt: &HostRuntime) -> Result<()> {
     let stored = fs::read_to_string(rt, MISTAKES)?;
     let rulesets = compare_mistakes(rt, stored.as_str())?;
     println!(rt; "{MISTAKES}: {rulesets} rulesets")?;
+    Ok(())
+}
+
+/// Compares what is told of rulesets that nft refuses or means otherwise.
+fn compare_warnings(rt: &HostRuntime) -> Result<()> {
+    let stored = fs::read_to_string(rt, WARNED)?;
+    let rulesets = compare_warned(rt, stored.as_str())?;
+    println!(rt; "{WARNED}: {rulesets} rulesets")?;
     Ok(())
 }
 

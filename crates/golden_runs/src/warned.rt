@@ -1,10 +1,7 @@
 //! Rulesets that are accepted here, each with what is told of it that nft(8) refuses or means
-//! otherwise. Prints each difference, and how many there were.
-//!
-//! `warned.txt` has a line `== NAME` before each ruleset, and behind it a line `-- nft takes it` or
-//! `-- nft refuses it`, as nft 1.0.6 did, and the warnings. `tools/linux/check-warnings` asks an nft.
-#![tactic(auto)]
-
+//! otherwise. `warned.txt` has a line `== NAME` before each ruleset, and behind it a line
+//! `-- nft takes it` or `-- nft refuses it`, as nft 1.0.6 did, and the warnings.
+//! `tools/linux/check-warnings` asks an nft. The box is `box.txt`.
 use anyhow::Result;
 use engine::judge;
 use nft_differences::warnings;
@@ -18,16 +15,17 @@ const FOOT: &str = "\n-- ";
 /// What stands for a carriage return, so that the file has none.
 const RETURN: &str = "<CR>";
 
-fn main(rt: HostRuntime) -> Result<()> {
-    let stored = fs::read_to_string(&rt, "warned.txt")?;
-    let plant = fs::read(&rt, "box.txt")?;
+const BOX: &str = "box.txt";
+
+/// Prints each difference from what is stored, and gives the number of rulesets.
+pub fn compare_warned(rt: &HostRuntime, stored: &str) -> Result<u64> {
+    let plant = fs::read(rt, BOX)?;
     let mut number: u64 = 0;
-    for part in stored.as_str().split(HEAD).skip(1) {
-        compare(&rt, part, &plant)?;
+    for part in stored.split(HEAD).skip(1) {
+        compare(rt, part, &plant)?;
         number = number.saturating_add(1);
     }
-    println!(rt; "{number} rulesets")?;
-    Ok(())
+    Ok(number)
 }
 
 /// Compares what is told of a ruleset with what is stored.
