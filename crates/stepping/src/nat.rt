@@ -12,7 +12,7 @@ use crate::setup::Setup;
 use crate::state::PacketState;
 use history::Cause;
 use hook_runs::{Events, HookStage};
-use nat_mapping::Mappings;
+use nat_mapping::{MapError, Mappings};
 use rule_meaning::HookVerdict;
 use translation::{
     CtInfo, apply_destination_nat, apply_source_nat, update_destination, update_source,
@@ -68,7 +68,7 @@ fn translate_new_destination(
     if let HookVerdict::Dropped = verdict {
         return Err(Cause::Rule);
     }
-    state.info = apply_destination_nat(setup.plant(), mappings, &state.facts, &state.info, verdict);
+    apply_destination_nat(setup.plant(), mappings, &state.facts, &mut state.info, verdict);
     update_destination(&state.info, &mut state.facts);
     Ok(())
 }
@@ -123,11 +123,10 @@ fn translate_new_source(
     if let HookVerdict::Dropped = verdict {
         return Err(Cause::Rule);
     }
-    let Some(after) = apply_source_nat(setup.plant(), mappings, &state.facts, &state.info, verdict)
-    else {
-        return Err(Cause::NoPort);
-    };
-    state.info = after;
+    match apply_source_nat(setup.plant(), mappings, &state.facts, &mut state.info, verdict) {
+        Ok(()) => {}
+        Err(MapError::NoPort) => return Err(Cause::NoPort),
+    }
     update_source(&state.info, &mut state.facts);
     Ok(())
 }

@@ -14,61 +14,50 @@ use nat_mapping::Mappings;
 use nat_mapping::laws::inbound_is_held;
 use rule_meaning::{Facts, HookVerdict, NatAction};
 
-/// The state after destination NAT, by the verdict of the nat chains: a new connection goes where a
-/// NAT statement sends it, or without one to the internal endpoint of a live mapping.
+/// Destination NAT, by the verdict of the nat chains: a new connection goes where a NAT statement
+/// sends it, or without one to the internal endpoint of a live mapping.
+#[inline(always)]
 pub fn apply_destination_nat(
     plant: &Plant,
     mappings: &Mappings,
     facts: &Facts,
-    info: &CtInfo,
+    info: &mut CtInfo,
     verdict: HookVerdict,
-) -> CtInfo
+)
     // For each list that represents the mappings held.
     ensures info { (held : List Mapped) → HoldsSame held mappings.now.held
-        → result ≡ after_destination_nat plant.now held facts.now info.now verdict }
-    ensures fits { (held : List Mapped) → HoldsSame held mappings.now.held → Fits info.now held
-        → Fits result held }
+        → info.new ≡ after_destination_nat plant.now held facts.now info.old verdict }
+    ensures fits { (held : List Mapped) → HoldsSame held mappings.now.held → Fits info.old held
+        → Fits info.new held }
     // The connection stays the same.
-    ensures same { untranslated result ≡ untranslated info.now }
+    ensures same { untranslated info.new ≡ untranslated info.old }
 {
-    match info {
-        CtInfo::New(new_connection) => CtInfo::New(with_destination_nat(
-            plant,
-            mappings,
-            facts,
-            *new_connection,
-            verdict,
-        )),
-        CtInfo::Tracked(_) | CtInfo::Related(_) | CtInfo::Invalid | CtInfo::Untracked => *info,
+    if let CtInfo::New(new_connection) = info {
+        translate_destination(plant, mappings, facts, new_connection, verdict);
     }
 }
 
-fn with_destination_nat(
+fn translate_destination(
     plant: &Plant,
     mappings: &Mappings,
     facts: &Facts,
-    new_connection: NewConnection,
+    new_connection: &mut NewConnection,
     verdict: HookVerdict,
-) -> NewConnection
+)
     ensures new_connection { (held : List Mapped) → HoldsSame held mappings.now.held
-        → result ≡ with_destination_nat plant.now held facts.now new_connection verdict }
+        → new_connection.new
+        ≡ with_destination_nat plant.now held facts.now new_connection.old verdict }
     ensures fits { (held : List Mapped) → HoldsSame held mappings.now.held
-        → IsFitting new_connection held → IsFitting result held }
-    ensures same { result.original ≡ new_connection.original }
+        → IsFitting new_connection.old held → IsFitting new_connection.new held }
+    ensures same { new_connection.new.original ≡ new_connection.old.original }
 {
     match verdict {
         HookVerdict::Translated(translation) => {
-            let mut sent = new_connection;
-            sent.tuple.destination = statement_destination(
-                plant,
-                facts,
-                &new_connection,
-                translation,
-            );
-            sent
+            let destination = statement_destination(plant, facts, new_connection, translation);
+            new_connection.tuple.destination = destination;
         }
         HookVerdict::Accepted => to_internal(mappings, new_connection),
-        HookVerdict::Dropped => new_connection,
+        HookVerdict::Dropped => {}
     }
 }
 
@@ -112,29 +101,28 @@ fn has_ports(kind: Kind) -> bool
 }
 
 /// Sends a connection to the internal endpoint of the live mapping at its destination, if any.
-fn to_internal(mappings: &Mappings, new_connection: NewConnection) -> NewConnection
+fn to_internal(mappings: &Mappings, new_connection: &mut NewConnection)
     ensures new_connection { (held : List Mapped) → HoldsSame held mappings.now.held
-        → result ≡ to_internal new_connection (internal_endpoint held new_connection) }
+        → new_connection.new
+        ≡ to_internal new_connection.old (internal_endpoint held new_connection.old) }
     ensures fits { (held : List Mapped) → HoldsSame held mappings.now.held
-        → IsFitting new_connection held → IsFitting result held }
-    ensures same { result.original ≡ new_connection.original }
+        → IsFitting new_connection.old held → IsFitting new_connection.new held }
+    ensures same { new_connection.new.original ≡ new_connection.old.original }
 {
     let kind = new_connection.tuple.kind;
     if !has_ports(kind) {
-        return new_connection;
+        return;
     }
     let external = new_connection.tuple.destination;
     // The mapping found is one of those held.
     inbound_is_held();
     let Some(internal) = mappings.inbound(kind, external) else {
-        return new_connection;
+        return;
     };
-    let mut to_internal = new_connection;
-    to_internal.tuple.destination = internal;
-    to_internal.dest = Some(Mapping {
+    new_connection.tuple.destination = internal;
+    new_connection.dest = Some(Mapping {
         kind,
         internal,
         external,
     });
-    to_internal
 }

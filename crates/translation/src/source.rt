@@ -1,5 +1,7 @@
 //! Source NAT.
-ghost use Rattle.std.specs.Prelude.{◌≡◌, List, IfSome};
+ghost use Rattle.std.specs.Prelude.{◌≡◌, List, OnErr};
+ghost use Rattle.std.specs.Option.{option_map};
+ghost use Rattle.std.specs.Result.{result_ok};
 ghost use Rattle.ip_headers.specs.declared.tuple.Mapping.{Mapping as Mapped};
 ghost use Rattle.nat_mapping.specs.Mappings.{HoldsSame};
 ghost use Rattle.translation.specs.Fitting.{Fits, IsFitting};
@@ -15,80 +17,78 @@ use nat_mapping::{MapError, Mappings};
 use port_pool::CandidateRange;
 use rule_meaning::{Facts, HookVerdict, PortInterval};
 
-/// The state after source NAT, by the verdict of the nat chains: the source of a new connection is
-/// mapped by a NAT statement, or for hairpinning. `None` where no port is free.
+/// Source NAT, by the verdict of the nat chains: the source of a new connection is mapped by a NAT
+/// statement, or for hairpinning.
+///
+/// # Errors
+/// No port is free. The state is unchanged.
+#[inline(always)]
 pub fn apply_source_nat(
     plant: &Plant,
     mappings: &Mappings,
     facts: &Facts,
-    info: &CtInfo,
+    info: &mut CtInfo,
     verdict: HookVerdict,
-) -> Option<CtInfo>
+) -> Result<(), MapError>
     // For each list that represents the mappings held.
     ensures info { (held : List Mapped) → HoldsSame held mappings.now.held
-        → result ≡ after_source_nat plant.now held facts.now info.now verdict }
-    ensures fits { (held : List Mapped) → HoldsSame held mappings.now.held → Fits info.now held
-        → IfSome result (λ after. Fits after held) }
+        → after_source_nat plant.now held facts.now info.old verdict
+        ≡ option_map (λ _. info.new) (result_ok result) }
+    ensures fits { (held : List Mapped) → HoldsSame held mappings.now.held → Fits info.old held
+        → Fits info.new held }
     // The connection stays the same.
-    ensures same { IfSome result (λ after. untranslated after ≡ untranslated info.now) }
+    ensures same { untranslated info.new ≡ untranslated info.old }
+    ensures err { OnErr result (info.new ≡ info.old) }
 {
-    match info {
-        CtInfo::New(new_connection) => {
-            let external_source = external_source(plant, facts, new_connection, verdict);
-            Some(CtInfo::New(with_source_nat(mappings, *new_connection, external_source)?))
-        }
-        CtInfo::Tracked(_) | CtInfo::Related(_) | CtInfo::Invalid | CtInfo::Untracked => Some(
-            *info,
-        ),
+    if let CtInfo::New(new_connection) = info {
+        let external_source = external_source(plant, facts, new_connection, verdict);
+        return translate_source(mappings, new_connection, external_source);
     }
+    Ok(())
 }
 
-/// `None` where no port is free.
-fn with_source_nat(
+fn translate_source(
     mappings: &Mappings,
-    new_connection: NewConnection,
+    new_connection: &mut NewConnection,
     external_source: Option<ExternalSource>,
-) -> Option<NewConnection>
+) -> Result<(), MapError>
     ensures new_connection { (held : List Mapped) → HoldsSame held mappings.now.held
-        → result ≡ with_source_nat held new_connection external_source }
+        → with_source_nat held new_connection.old external_source
+        ≡ option_map (λ _. new_connection.new) (result_ok result) }
     ensures fits { (held : List Mapped) → HoldsSame held mappings.now.held
-        → IsFitting new_connection held → IfSome result (λ after. IsFitting after held) }
-    ensures same { IfSome result (λ after. after.original ≡ new_connection.original) }
+        → IsFitting new_connection.old held → IsFitting new_connection.new held }
+    ensures same { new_connection.new.original ≡ new_connection.old.original }
+    ensures err { OnErr result (new_connection.new ≡ new_connection.old) }
 {
     let Some(external_source) = external_source else {
-        return Some(new_connection);
+        return Ok(());
     };
     let (kind, internal) = (new_connection.tuple.kind, new_connection.tuple.source);
     let range = range_of(external_source.ports);
     // With that port the mappings stay one to one.
     stays_one_to_one();
-    match mappings.source(kind, internal, external_source.address, range) {
-        Ok(port) => Some(with_source_mapping(new_connection, &external_source, port)),
-        Err(MapError::NoPort) => None,
-    }
+    let port = mappings.source(kind, internal, external_source.address, range)?;
+    map_source(new_connection, &external_source, port);
+    Ok(())
 }
 
 /// Maps the source to this port of the external address.
-fn with_source_mapping(
-    new_connection: NewConnection,
-    external_source: &ExternalSource,
-    port: u16,
-) -> NewConnection
-    ensures { result ≡ with_source_mapping new_connection external_source.now port }
+fn map_source(new_connection: &mut NewConnection, external_source: &ExternalSource, port: u16)
+    ensures { new_connection.new
+        ≡ with_source_mapping new_connection.old external_source.now port }
 {
+    let (kind, internal) = (new_connection.tuple.kind, new_connection.tuple.source);
     let external = Endpoint {
         address: external_source.address,
         port,
     };
-    let mut mapped = new_connection;
-    mapped.tuple.source = external;
-    mapped.source = Some(Mapping {
-        kind: new_connection.tuple.kind,
-        internal: new_connection.tuple.source,
+    new_connection.tuple.source = external;
+    new_connection.source = Some(Mapping {
+        kind,
+        internal,
         external,
     });
-    mapped.has_port_range = external_source.ports.is_some();
-    mapped
+    new_connection.has_port_range = external_source.ports.is_some();
 }
 
 fn range_of(ports: Option<PortInterval>) -> Option<CandidateRange>
