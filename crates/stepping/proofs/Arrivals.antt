@@ -1,5 +1,6 @@
 -- The packet of a record, by the answers of the tests.
 use Rattle.std.proofs.Common.{◌≡◌, ℕ, ◌-◌, List, length, take, drop, Option, Some, None, Result, Ok, Err, sym, ap, ◌∙◌}
+use Rattle.std.proofs.Common.{Bor}
 use Rattle.std.proofs.Math.Seq.{take-length}
 use Rattle.std.proofs.lemmas.List.{length-drop}
 use Rattle.std.specs.Option.{option_map}
@@ -32,12 +33,12 @@ module _ (setup : Setup) (r : Recorded) where
       → failed k ≡ carried setup r
   without_link cause k e is = ap failed is ∙ ap (carried_after setup r.bytes) e
 
-  module _ (l : Link) (found : Option Interface) (e : Ok l ≡ link_of r.link r.bytes)
-      (f : option_map (λ input. input.index) found ≡ input_interface setup l.interface) where
-    by_interface : (is : Option Interface) → found ≡ is
-        → carried_by (drop l.packet r.bytes) (option_map (λ input. input.index) is) ≡ carried setup r
+  module _ (l : Link) (found : Option (Bor Interface)) (e : Ok l ≡ link_of r.link r.bytes)
+      (f : option_map (λ input. input.now.index) found ≡ input_interface setup l.interface) where
+    by_interface : (is : Option (Bor Interface)) → found ≡ is
+        → carried_by (drop l.packet r.bytes) (option_map (λ input. input.now.index) is) ≡ carried setup r
     by_interface is g =
-        ap (λ (o : Option Interface). carried_by (drop l.packet r.bytes) (option_map (λ input. input.index) o)) (sym g)
+        ap (λ (o : Option (Bor Interface)). carried_by (drop l.packet r.bytes) (option_map (λ input. input.now.index) o)) (sym g)
         ∙ ap (carried_by (drop l.packet r.bytes)) f ∙ ap (carried_after setup r.bytes) e
 
     pub without_interface : found ≡ None → failed causes.Interface ≡ carried setup r
@@ -49,14 +50,14 @@ module _ (setup : Setup) (r : Recorded) where
     all_behind : behind ≡ drop l.packet r.bytes
     all_behind = from_offset l.packet r.bytes
 
-    pub without_header : (input : Interface) (fault : HeaderFault) (k : Cause) → found ≡ Some input
+    pub without_header : (input : Bor Interface) (fault : HeaderFault) (k : Cause) → found ≡ Some input
         → Some fault ≡ fault_of behind → k ≡ cause_of fault → failed k ≡ carried setup r
     without_header input fault k g h is = ap failed is
-        ∙ ap (carried_with input.index (drop l.packet r.bytes)) (h ∙ ap fault_of all_behind)
+        ∙ ap (carried_with input.now.index (drop l.packet r.bytes)) (h ∙ ap fault_of all_behind)
         ∙ by_interface (Some input) g
 
-    pub with_packet : (input : Interface) (packet : List ℕ) → found ≡ Some input → None ≡ fault_of behind
-        → packet ≡ packet_of behind → received input.index packet ≡ carried setup r
-    with_packet input packet g h is = ap (received input.index) (is ∙ ap packet_of all_behind)
-        ∙ ap (carried_with input.index (drop l.packet r.bytes)) (h ∙ ap fault_of all_behind)
+    pub with_packet : (input : Bor Interface) (packet : List ℕ) → found ≡ Some input → None ≡ fault_of behind
+        → packet ≡ packet_of behind → received input.now.index packet ≡ carried setup r
+    with_packet input packet g h is = ap (received input.now.index) (is ∙ ap packet_of all_behind)
+        ∙ ap (carried_with input.now.index (drop l.packet r.bytes)) (h ∙ ap fault_of all_behind)
         ∙ by_interface (Some input) g

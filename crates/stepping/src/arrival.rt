@@ -14,7 +14,7 @@ use rule_meaning::Interface;
 /// A packet and its input interface.
 #[derive(Clone, Copy)]
 pub struct IncomingPacket<'a> {
-    pub input: Interface,
+    pub input: &'a Interface,
     pub view: View<'a>,
 }
 
@@ -23,10 +23,11 @@ pub struct IncomingPacket<'a> {
 /// # Errors
 /// The first test that fails, of the link header, the input interface and the packet's headers.
 #[inline(always)]
-pub fn carried<'a>(setup: &Setup, record: &Record<'a>) -> Result<IncomingPacket<'a>, Cause>
+pub fn carried<'a>(setup: &'a Setup, record: &Record<'a>) -> Result<IncomingPacket<'a>, Cause>
     ensures carried { received_in result ≡ carried (setup_in setup.now.hooks) (recorded_of record.now) }
     ensures known { IfOk result (λ incoming.
-        incoming.input ≡ interface_facts setup.now.hooks.plant incoming.input.index) }
+        incoming.input.now
+        ≡ interface_facts setup.now.hooks.plant incoming.input.now.index) }
 {
     let link = match record.link() {
         Ok(link) => link,

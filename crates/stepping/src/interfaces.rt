@@ -1,5 +1,6 @@
 //! The interfaces of a box, as rules read them.
 ghost use Rattle.std.specs.Prelude.{◌≡◌, find, IfOk, map};
+ghost use Rattle.std.specs.Option.{option_copied};
 ghost use Rattle.stepping.specs.Carried.{interface_facts};
 ghost use Rattle.stepping.specs.steps.Interfaces.{interfaces_of, is_at};
 
@@ -35,13 +36,13 @@ fn interfaces_at(
 
 /// The first of these interfaces that has this index.
 #[inline(always)]
-pub fn find_interface(interfaces: &[Interface], index: u32) -> Option<Interface>
-    ensures { result ≡ find (is_at index) interfaces.now }
+pub fn find_interface(interfaces: &[Interface], index: u32) -> Option<&Interface>
+    ensures { option_copied result ≡ find (is_at index) interfaces.now }
 {
     let mut rest = interfaces;
     while let [interface, others @ ..] = rest {
         if interface.index == index {
-            return Some(*interface);
+            return Some(interface);
         }
         rest = others;
     }

@@ -68,7 +68,13 @@ fn translate_new_destination(
     if let HookVerdict::Dropped = verdict {
         return Err(Cause::Rule);
     }
-    apply_destination_nat(setup.plant(), mappings, &state.facts, &mut state.info, verdict);
+    apply_destination_nat(
+        setup.plant(),
+        mappings,
+        &state.facts,
+        &mut state.info,
+        verdict,
+    );
     update_destination(&state.info, &mut state.facts);
     Ok(())
 }
@@ -123,7 +129,13 @@ fn translate_new_source(
     if let HookVerdict::Dropped = verdict {
         return Err(Cause::Rule);
     }
-    match apply_source_nat(setup.plant(), mappings, &state.facts, &mut state.info, verdict) {
+    match apply_source_nat(
+        setup.plant(),
+        mappings,
+        &state.facts,
+        &mut state.info,
+        verdict,
+    ) {
         Ok(()) => {}
         Err(MapError::NoPort) => return Err(Cause::NoPort),
     }

@@ -65,7 +65,7 @@ pub fn process_record<T: Tracker>(
         Err(cause) => return dropped(cause, 0),
     };
     let length = view.total_length();
-    let mut state = PacketState::received(&view, input);
+    let mut state = PacketState::received(&view, *input);
     match process_packet(setup, &view, now, connections, &mut state, events) {
         Ok(begun) => {
             send(&view, &state, packet);

@@ -1,6 +1,6 @@
 //! The configuration of a box, compiled.
 ghost use Rattle.std.specs.Prelude.{◌≡◌, ◌≤◌, ℕ, [], IfOk, IfSome};
-ghost use Rattle.std.specs.Option.{option_map};
+ghost use Rattle.std.specs.Option.{option_copied, option_map};
 ghost use Rattle.nft_tree.specs.Tree.{TableTree};
 ghost use Rattle.rule_paths.specs.Paths.{AreAllCosts, Caller, ruleset_cost};
 ghost use Rattle.hook_runs.specs.Stages.{total_stage_cost, stage_cost};
@@ -64,23 +64,23 @@ impl Setup {
     /// The input interface: the link header's, if the box has it; without one the box file's
     /// default.
     #[inline(always)]
-    pub fn input_interface(&self, link_interface: Option<u32>) -> Option<Interface>
-        ensures index { option_map (λ input. input.index) result
+    pub fn input_interface(&self, link_interface: Option<u32>) -> Option<&Interface>
+        ensures index { option_map (λ input. input.now.index) result
             ≡ input_interface (setup_in self.now.hooks) link_interface }
         ensures known { IfSome result (λ input.
-            input ≡ interface_facts self.now.hooks.plant input.index) }
+            input.now ≡ interface_facts self.now.hooks.plant input.now.index) }
     {
         match link_interface {
             Some(index) => self.interface(index),
-            None => Some(self.entering),
+            None => Some(&self.entering),
         }
     }
 
     /// The interface of this index, if the box has it.
     #[inline(always)]
     #[tactic(auto, using(crate::proofs::FoundInterfaces::found))]
-    fn interface(&self, index: u32) -> Option<Interface>
-        ensures { result ≡ option_map (λ name. interface_facts self.now.hooks.plant index)
+    fn interface(&self, index: u32) -> Option<&Interface>
+        ensures { option_copied result ≡ option_map (λ name. interface_facts self.now.hooks.plant index)
             (name_of self.now.hooks.plant index) }
     {
         find_interface(&self.interfaces, index)
@@ -92,7 +92,7 @@ impl Setup {
         ensures { result ≡ interface_facts self.now.hooks.plant index }
     {
         match self.interface(index) {
-            Some(interface) => interface,
+            Some(interface) => *interface,
             None => interface_facts(self.plant(), index),
         }
     }

@@ -61,7 +61,7 @@ output_interface _ = None
 -- a packet and its input interface
 abbrev pub received_in : Result IncomingPacket Cause → Result ReceivedPacket Cause
 received_in (Ok incoming) =
-    Ok (record { interface = incoming.input.index; packet = incoming.view.packet.now })
+    Ok (record { interface = incoming.input.now.index; packet = incoming.view.packet.now })
 received_in (Err cause) = Err cause
 
 -- ---- the connections held after it
