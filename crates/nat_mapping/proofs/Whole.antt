@@ -1,5 +1,5 @@
 -- The effect of the calls on the tables and on the list that they represent.
-use Rattle.std.proofs.Common.{◌≡◌, ℕ, ◌<◌, ◌+◌, Bool, true, false, cond, is_some, ◌∷◌, Option, Some, None, refl, sym, ◌∙◌, ap, arith}
+use Rattle.std.proofs.Common.{◌≡◌, ℕ, ◌<◌, ◌+◌, Bool, true, false, cond, is_some, ◌∷◌, Option, Some, None, IfSome, refl, sym, ◌∙◌, ap, subst, arith}
 use Rattle.std.specs.HashMap.{get, IsUnique}
 use Rattle.std.specs.List.{Contains}
 use Rattle.std.proofs.lemmas.Option.{same_Some}
@@ -18,6 +18,7 @@ use Rattle.nat_mapping.specs.steps.Keys.{inbound_key_of, pool_key_of, mapping_at
 use Rattle.nat_mapping.specs.steps.Pooled.{taken_in, IsPooled}
 use Rattle.nat_mapping.specs.steps.Consistent.{held_by, holders_at, Sources, Inbounds, IsSound, IsConsistent}
 use Rattle.nat_mapping.proofs.Equal.{source_test, inbound_test}
+use Rattle.nat_mapping.proofs.Same.{source_eq, source_fun}
 use Rattle.nat_mapping.proofs.Sets.{Sets, sets_by}
 use Rattle.nat_mapping.proofs.Lists.{has_holder, contains_tail}
 use Rattle.nat_mapping.proofs.Answers.{filed_among, kept_out, kept as found_in, holders_by}
@@ -30,6 +31,21 @@ SourceSet old new key w = (q : SourceKey) → get same_source new q ≡ cond (sa
 
 abbrev pub InboundSet : Inbounds → Inbounds → InboundKey → Option Endpoint → Type 0
 InboundSet old new key w = (q : InboundKey) → get same_inbound new q ≡ cond (same_inbound key q) w (get same_inbound old q)
+
+-- what tables say by the test that the type of keys derives
+pub source_set : (old new : Sources) (key own : SourceKey) (w : Option MappedPort) → key ≡ own
+    → ((q : SourceKey) → get source_eq new q ≡ cond (source_eq key q) w (get source_eq old q)) → SourceSet old new own w
+source_set old new key own w same is =
+    let P : (SourceKey → SourceKey → Bool) → Type 0 = λ eq. (q : SourceKey) → get eq new q ≡ cond (eq key q) w (get eq old q) in
+    subst (λ k. SourceSet old new k w) same (subst P source_fun is)
+
+pub source_found : (t : Sources) (key own : SourceKey) (o : Option MappedPort) → key ≡ own → get source_eq t key ≡ o → get same_source t own ≡ o
+source_found t key own o same is =
+    let P : (SourceKey → SourceKey → Bool) → Type 0 = λ eq. get eq t key ≡ o in
+    ap (get same_source t) (sym same) ∙ subst P source_fun is
+
+pub source_unique : (t : Sources) → IsUnique source_eq t → IsUnique same_source t
+source_unique t unique = let P : (SourceKey → SourceKey → Bool) → Type 0 = λ eq. IsUnique eq t in subst P source_fun unique
 
 -- tables with the same values represent the same mappings
 sound_same : (sources sources' : SourceKey → Option MappedPort) (inbounds inbounds' : InboundKey → Option Endpoint)
@@ -96,6 +112,11 @@ module _ (sources : Sources) (inbounds : Inbounds) (pools : Pools) (kept : IsCon
         → holders_of m (held_by sources.entries) ≡ h.holders
     holders_are h is port = counts_of sources kept.unique m
         ∙ holders_by (get same_source sources (source_key_of m)) m.external.port h is port
+
+    pub few_holders : IsOneToOne (m ∷ held_by sources.entries) → (limit : ℕ) → holders_of m (held_by sources.entries) < limit
+        → (o : Option MappedPort) → get same_source sources (source_key_of m) ≡ o → IfSome o (λ h. h.holders < limit)
+    few_holders one limit few None is = tt
+    few_holders one limit few (Some h) is = omega (arith, holders_are h is (own_port one h is), few)
 
     -- what is held is in the table
     pub held_found : Contains (held_by sources.entries) m

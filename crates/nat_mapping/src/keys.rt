@@ -123,15 +123,6 @@ fn pool_hashes_differ(one: PoolKey, other: PoolKey)
     hash_words_differ(other.kind, second, one.kind, first);
 }
 
-impl MappedPort {
-    /// A mapping with one holder.
-    pub(crate) fn first(port: u16) -> Self
-        ensures { result ≡ record { port = port; holders = 1 } }
-    {
-        Self { port, holders: 1 }
-    }
-}
-
 /// The key of its internal endpoint and external address.
 pub(crate) fn source_key(m: Mapping) -> SourceKey
     ensures { result ≡ source_key_of m }

@@ -14,8 +14,8 @@ use crate::keys::{
 };
 use crate::pools::Pools;
 use crate::tables::{
-    find_inbound, find_source, insert_inbound, insert_source, remove_inbound, remove_source,
-    spare_inbounds, spare_sources, update_source,
+    add_holder, find_inbound, find_source, insert_inbound, remove_holder, remove_inbound,
+    spare_inbounds, spare_sources,
 };
 use ip_headers::{Endpoint, Kind, Mapping};
 use port_pool::CandidateRange;
@@ -210,17 +210,10 @@ impl Mappings {
         ensures held { HoldsSame (m ∷ self.old.held) self.new.held }
         ensures room { self.old.room ≤ self.new.room + 1 }
     {
-        let key = source_key(m);
-        match find_source(&self.sources, key) {
-            Some(mapped) => {
-                let more = MappedPort {
-                    port: mapped.port,
-                    holders: mapped.holders + 1,
-                };
-                update_source(&mut self.sources, key, more);
-            }
+        match add_holder(&mut self.sources, source_key(m), m.external.port) {
+            // It has its port already.
+            Some(_) => (),
             None => {
-                insert_source(&mut self.sources, key, MappedPort::first(m.external.port));
                 insert_inbound(&mut self.inbounds, inbound_key(m), m.internal);
                 self.pools.take(pool_key(m), m.external.port);
             }
@@ -233,23 +226,12 @@ impl Mappings {
         ensures held { HoldsSame self.old.held (m ∷ self.new.held) }
         ensures room { self.old.room ≤ self.new.room }
     {
-        let key = source_key(m);
-        match find_source(&self.sources, key) {
-            None => unreachable!(),
-            Some(mapped) => {
-                if mapped.holders > 1 {
-                    let fewer = MappedPort {
-                        port: mapped.port,
-                        holders: mapped.holders - 1,
-                    };
-                    update_source(&mut self.sources, key, fewer);
-                } else {
-                    remove_source(&mut self.sources, key);
-                    remove_inbound(&mut self.inbounds, inbound_key(m));
-                    self.pools.give(pool_key(m), m.external.port);
-                }
-            }
+        let before = remove_holder(&mut self.sources, source_key(m));
+        if before.holders > 1 {
+            return;
         }
+        remove_inbound(&mut self.inbounds, inbound_key(m));
+        self.pools.give(pool_key(m), m.external.port);
     }
 }
 

@@ -200,6 +200,7 @@ fn start_pool(pool: Pool, order: Order, port: u16) -> Pool
 }
 
 /// Adds a pool.
+#[tactic(auto, using(crate::proofs::Same::pool_fun))]
 fn insert_pool(pools: &mut HashMap<PoolKey, Pool, WordState>, key: PoolKey, pool: Pool)
     requires { 0 < spare pools.old }
     ensures pools { (q : Key) → get same_pool pools.new q
@@ -214,6 +215,7 @@ fn insert_pool(pools: &mut HashMap<PoolKey, Pool, WordState>, key: PoolKey, pool
 }
 
 /// Removes a pool.
+#[tactic(auto, using(crate::proofs::Same::pool_fun))]
 fn remove_pool(pools: &mut HashMap<PoolKey, Pool, WordState>, key: PoolKey) -> Option<Pool>
     ensures value { result ≡ get same_pool pools.old key }
     ensures pools { (q : Key) → get same_pool pools.new q

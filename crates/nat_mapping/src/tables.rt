@@ -1,16 +1,19 @@
 //! The two tables of mappings, and their changes at one key.
-ghost use Rattle.std.specs.Prelude.{◌≡◌, ◌+◌, ◌<◌, ◌≤◌, IsSome, Some, None, cond};
+ghost use Rattle.std.specs.Prelude.{◌≡◌, ◌+◌, ◌<◌, ◌≤◌, IfSome, IsSome, Some, None, cond};
 ghost use Rattle.std.specs.HashMap.{get, spare, IsUnique};
 ghost use Rattle.nat_mapping.specs.declared.keys.SourceKey.{SourceKey as ByInternal};
 ghost use Rattle.nat_mapping.specs.declared.keys.InboundKey.{InboundKey as ByExternal};
-ghost use Rattle.nat_mapping.specs.steps.Keys.{same_inbound, same_source};
+ghost use Rattle.nat_mapping.specs.steps.Keys.{one_fewer, one_more, same_inbound, same_source};
 
 use crate::keys::{InboundKey, MappedPort, SourceKey};
 use ip_headers::Endpoint;
 use std::collections::HashMap;
+use std::collections::hash_map::Entry;
+use std::hash::Hash;
 use word_hash::WordState;
 
 /// A mapping's port and holders.
+#[tactic(auto, using(crate::proofs::Same::source_fun))]
 pub(crate) fn find_source(
     sources: &HashMap<SourceKey, MappedPort, WordState>,
     key: SourceKey,
@@ -21,6 +24,7 @@ pub(crate) fn find_source(
 }
 
 /// The internal endpoint behind an external one.
+#[tactic(auto, using(crate::proofs::Same::inbound_fun))]
 pub(crate) fn find_inbound(
     inbounds: &HashMap<InboundKey, Endpoint, WordState>,
     key: InboundKey,
@@ -48,52 +52,64 @@ pub(crate) fn spare_inbounds(inbounds: &HashMap<InboundKey, Endpoint, WordState>
     inbounds.capacity() - inbounds.len()
 }
 
-/// Changes a mapping's port and holders.
-pub(crate) fn update_source(
-    sources: &mut HashMap<SourceKey, MappedPort, WordState>,
-    key: SourceKey,
-    mapped: MappedPort,
-)
-    requires { IsSome (get same_source sources.old key) }
-    ensures values { (q : ByInternal)
-        → get same_source sources.new q ≡ cond (same_source key q) (Some mapped)
-        (get same_source sources.old q) }
-    ensures spare { spare sources.new ≡ spare sources.old }
-    ensures unique { IsUnique same_source sources.new }
-{
-    if let Some(entry) = sources.get_mut(&key) {
-        *entry = mapped;
-    }
-}
-
-/// Adds a mapping.
-pub(crate) fn insert_source(
-    sources: &mut HashMap<SourceKey, MappedPort, WordState>,
-    key: SourceKey,
-    mapped: MappedPort,
-)
-    requires { 0 < spare sources.old }
-    ensures values { (q : ByInternal)
-        → get same_source sources.new q ≡ cond (same_source key q) (Some mapped)
-        (get same_source sources.old q) }
+/// Adds a holder under a key, with this port if it is the first. What was there before.
+pub(crate) fn add_holder<K: Eq + Hash + Drop>(
+    sources: &mut HashMap<K, MappedPort, WordState>,
+    key: K,
+    port: u16,
+) -> Option<MappedPort>
+    requires room { 0 < spare sources.old }
+    requires few { IfSome (get K.eq sources.old key) (λ h. h.holders < usize.MAX) }
+    ensures before { result ≡ get K.eq sources.old key }
+    ensures values { (q : K) → get K.eq sources.new q
+        ≡ cond (K.eq key q) (Some (one_more port result)) (get K.eq sources.old q) }
     ensures spare { spare sources.old ≤ spare sources.new + 1 }
-    ensures unique { IsUnique same_source sources.new }
+    ensures unique { IsUnique K.eq sources.new }
 {
-    match sources.insert(key, mapped) {
-        Ok(_) => (),
+    match sources.entry(key) {
+        Ok(Entry::Vacant(entry)) => {
+            entry.insert(MappedPort { port, holders: 1 });
+            None
+        }
+        Ok(Entry::Occupied(mut entry)) => {
+            let mapped = *entry.get();
+            entry.insert(MappedPort {
+                port: mapped.port,
+                holders: mapped.holders + 1,
+            });
+            Some(mapped)
+        }
         Err(_) => unreachable!(),
     }
 }
 
-/// Removes a mapping.
-pub(crate) fn remove_source(sources: &mut HashMap<SourceKey, MappedPort, WordState>, key: SourceKey)
-    ensures values { (q : ByInternal)
-        → get same_source sources.new q ≡ cond (same_source key q) None
-        (get same_source sources.old q) }
+/// Removes a holder under a key, and the key with the last one. What was there before.
+pub(crate) fn remove_holder<K: Eq + Hash + Drop + Copy>(
+    sources: &mut HashMap<K, MappedPort, WordState>,
+    key: K,
+) -> MappedPort
+    requires { IsSome (get K.eq sources.old key) }
+    ensures before { get K.eq sources.old key ≡ Some result }
+    ensures fewer { 1 < result.holders → (q : K) → get K.eq sources.new q
+        ≡ cond (K.eq key q) (Some (one_fewer result)) (get K.eq sources.old q) }
+    ensures last { result.holders ≤ 1 → (q : K) → get K.eq sources.new q
+        ≡ cond (K.eq key q) None (get K.eq sources.old q) }
     ensures spare { spare sources.old ≤ spare sources.new }
-    ensures unique { IsUnique same_source sources.new }
+    ensures unique { IsUnique K.eq sources.new }
 {
-    sources.remove(&key);
+    let Some(entry) = sources.get_mut(&key) else {
+        unreachable!()
+    };
+    let mapped = *entry;
+    if mapped.holders > 1 {
+        *entry = MappedPort {
+            port: mapped.port,
+            holders: mapped.holders - 1,
+        };
+    } else {
+        sources.remove(&key);
+    }
+    mapped
 }
 
 /// Maps an external endpoint to an internal one.

@@ -1,5 +1,5 @@
 -- The keys of mappings.
-use Rattle.std.specs.Prelude.{ℕ, Bool, ◌==◌, ◌&&◌, List, ◌++◌}
+use Rattle.std.specs.Prelude.{ℕ, ◌+◌, ◌-◌, Bool, ◌==◌, ◌&&◌, List, ◌++◌, Option, Some, None}
 use Rattle.std.specs.Hash as fed
 use Rattle.ip_headers.specs.declared.tuple.Endpoint.{Endpoint}
 use Rattle.ip_headers.specs.declared.tuple.Mapping.{Mapping}
@@ -35,6 +35,15 @@ mapping_at key mapped = record {
   internal = key.internal;
   external = record { address = key.address; port = mapped.port };
 }
+
+-- with one holder more: the first, if there was no mapping
+abbrev pub one_more : ℕ → Option MappedPort → MappedPort
+one_more port None = record { port = port; holders = 1 }
+one_more port (Some mapped) = record { port = mapped.port; holders = mapped.holders + 1 }
+
+-- with one holder fewer
+abbrev pub one_fewer : MappedPort → MappedPort
+one_fewer mapped = record { port = mapped.port; holders = mapped.holders - 1 }
 
 -- the key of a port of a pool
 abbrev pub inbound_at : PoolKey → ℕ → InboundKey

@@ -1,5 +1,5 @@
 use Rattle.std.proofs.Common.{◌≡◌, subst, Some, cond, Bool}
-use Rattle.std.specs.HashMap.{get, IsUnique}
+use Rattle.std.specs.HashMap.{get}
 use Rattle.nat_mapping.specs.declared.keys.PoolKey.{PoolKey}
 use Rattle.nat_mapping.proofs.Same.{pool_fun}
 use Rattle.nat_mapping.proofs.pools.insert_pool.Goals as goal
@@ -9,8 +9,3 @@ returns-clause-pools c q =
     let P : (PoolKey → PoolKey → Bool) → Type 0 =
     λ eq. get eq c.insert.new.self q ≡ cond (eq c.args.key q) (Some c.args.pool) (get eq c.args.pools.now q) in
     subst P pool_fun (c.in-Ok.ensures.updates.0 q)
-
-pub returns-clause-unique : goal.returns-clause-unique
-returns-clause-unique c =
-    let P : (PoolKey → PoolKey → Bool) → Type 0 = λ eq. IsUnique eq c.insert.new.self in
-    subst P pool_fun c.insert.ensures.unique

@@ -1,21 +1,11 @@
 use Rattle.std.proofs.Common.{◌≡◌, subst, None, cond, Bool}
-use Rattle.std.specs.HashMap.{get, IsUnique}
+use Rattle.std.specs.HashMap.{get}
 use Rattle.nat_mapping.specs.declared.keys.PoolKey.{PoolKey}
 use Rattle.nat_mapping.proofs.Same.{pool_fun}
 use Rattle.nat_mapping.proofs.pools.remove_pool.Goals as goal
-
-pub returns-clause-value : goal.returns-clause-value
-returns-clause-value c =
-    let P : (PoolKey → PoolKey → Bool) → Type 0 = λ eq. c.remove.result ≡ get eq c.args.pools.now c.args.key in
-    subst P pool_fun c.remove.ensures.value
 
 pub returns-clause-pools : goal.returns-clause-pools
 returns-clause-pools c q =
     let P : (PoolKey → PoolKey → Bool) → Type 0 =
     λ eq. get eq c.remove.new.self q ≡ cond (eq c.args.key q) None (get eq c.args.pools.now q) in
     subst P pool_fun (c.remove.ensures.updates.0 q)
-
-pub returns-clause-unique : goal.returns-clause-unique
-returns-clause-unique c =
-    let P : (PoolKey → PoolKey → Bool) → Type 0 = λ eq. IsUnique eq c.remove.new.self in
-    subst P pool_fun c.remove.ensures.unique

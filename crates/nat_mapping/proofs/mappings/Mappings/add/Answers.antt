@@ -1,85 +1,84 @@
-use Rattle.std.proofs.Common.{◌≡◌, ◌+◌, subst, sym, ◌∙◌, ap, refl, arith, Some, None, List, ◌∷◌, true}
-use Rattle.std.specs.HashMap.{get}
-use Rattle.ip_headers.specs.declared.tuple.Mapping.{Mapping}
+use Rattle.std.proofs.Common.{◌≡◌, ◌<◌, subst, sym, ◌∙◌, ap, refl, arith, Option, Some, IfSome, Bool, true}
+use Rattle.std.specs.HashMap.{get, IsUnique}
 use Rattle.nat_mapping.specs.declared.keys.SourceKey.{SourceKey}
 use Rattle.nat_mapping.specs.declared.keys.InboundKey.{InboundKey}
 use Rattle.nat_mapping.specs.declared.keys.PoolKey.{PoolKey}
 use Rattle.nat_mapping.specs.declared.keys.MappedPort.{MappedPort}
-use Rattle.nat_mapping.specs.Mappings.{HoldsSame, IsOneToOne, holders_of, has_pool}
-use Rattle.nat_mapping.specs.steps.Keys.{same_source, source_key_of}
+use Rattle.nat_mapping.specs.Mappings.{has_pool}
+use Rattle.nat_mapping.specs.steps.Keys.{one_more, same_source, source_key_of}
 use Rattle.nat_mapping.specs.steps.Pooled.{taken_in}
-use Rattle.nat_mapping.specs.steps.Consistent.{held_by}
 use Rattle.nat_mapping.proofs.Changes.{PortSet}
-use Rattle.nat_mapping.proofs.Whole.{SourceSet, InboundSet, own_port, holders_are, port_free, changed, one_held_more, begun, begun_held}
+use Rattle.nat_mapping.proofs.Same.{source_fun}
+use Rattle.nat_mapping.proofs.Whole.{SourceSet, InboundSet, source_set, source_found, source_unique, own_port, few_holders, port_free, changed}
+use Rattle.nat_mapping.proofs.Whole.{one_held_more, begun, begun_held}
 use Rattle.nat_mapping.proofs.mappings.Mappings.add.Goals as goal
-use Rattle.nat_mapping.proofs.mappings.Mappings.add.Goals.{In-None, In-Some}
+use Rattle.nat_mapping.proofs.mappings.Mappings.add.Goals.{After-add_holder, In-Some}
 
--- what the table says of the mapping
-found : (c : In-Some) → get same_source c.self.inside.sources (source_key_of c.args.m) ≡ Some c.in-Some.mapped
-found c = ap (get same_source c.self.inside.sources) (sym c.source_key-key.ensures) ∙ sym c.find_source.ensures ∙ c.in-Some.is
+-- what the table said of the mapping, and what it says now
+before : (c : After-add_holder) → get same_source c.self.inside.sources (source_key_of c.args.m) ≡ c.add_holder.result
+before c = source_found c.self.inside.sources c.source_key.result _ c.add_holder.result c.source_key.ensures (sym c.add_holder.ensures.before)
 
-port : (c : In-Some) → c.in-Some.mapped.port ≡ c.args.m.external.port
-port c = own_port c.self.inside.sources c.self.inside.inbounds c.self.inside.pools c.self.invariant c.args.m
-    (subst (λ (held : List Mapping). IsOneToOne (c.args.m ∷ held)) (sym (ap (λ v. v.held) c.self.view_is)) c.requires.one_to_one)
-    c.in-Some.mapped (found c)
+set : (c : After-add_holder) → SourceSet c.self.inside.sources c.add_holder.new.sources (source_key_of c.args.m)
+    (Some (one_more c.args.m.external.port c.add_holder.result))
+set c = source_set c.self.inside.sources c.add_holder.new.sources c.source_key.result _ _ c.source_key.ensures c.add_holder.ensures.values
 
-none : (c : In-None) → get same_source c.self.inside.sources (source_key_of c.args.m) ≡ None
-none c = ap (get same_source c.self.inside.sources) (sym c.source_key-key.ensures) ∙ sym c.find_source.ensures ∙ c.in-None.is
+unique : (c : After-add_holder) → IsUnique same_source c.add_holder.new.sources
+unique c = source_unique c.add_holder.new.sources c.add_holder.ensures.unique
 
-pub overflow_add-more : goal.overflow_add-more
-overflow_add-more c =
-    let p = (goal.at.overflow_add-more c).In-Some in
-    let count = holders_are c.self.inside.sources c.self.inside.inbounds c.self.inside.pools c.self.invariant c.args.m
-    c.in-Some.mapped (found p) (port p) in
-    omega (arith, count, ap (holders_of c.args.m) (ap (λ v. v.held) c.self.view_is), c.requires.few)
+pub add_holder-requires-clause-few : goal.add_holder-requires-clause-few
+add_holder-requires-clause-few c =
+    let P : (SourceKey → SourceKey → Bool) → SourceKey → Type 0 =
+    λ eq k. IfSome (get eq c.self.inside.sources k) (λ (h : MappedPort). h.holders < 18446744073709551615) in
+    subst (λ eq. P eq c.source_key.result) (sym source_fun) (subst (P same_source) (sym c.source_key.ensures)
+    (few_holders c.self.inside.sources c.self.inside.inbounds c.self.inside.pools c.self.invariant c.args.m
+    (rw (← c.self.view_is) at c.requires.one_to_one) _ (rw (← c.self.view_is) at c.requires.few) _ refl))
 
 pub invariant_of-self : goal.invariant_of-self
 invariant_of-self c =
-    let p = (goal.at.invariant_of-self c).In-Some in
-    let more : MappedPort = record { port = c.in-Some.mapped.port; holders = c.in-Some.mapped.holders + 1 } in
-    let S : SourceKey → Type 0 = λ k. SourceSet c.self.inside.sources c.update_source.new.sources k (Some more) in
-    changed c.self.inside.sources c.self.inside.inbounds c.self.inside.pools c.self.invariant c.args.m
-    c.update_source.new.sources c.in-Some.mapped more (found p) (port p) refl c.update_source.ensures.unique
-    (subst S c.source_key-key.ensures c.update_source.ensures.values) (omega arith)
+    let p = (goal.at.invariant_of-self c).After-add_holder in
+    let was = before p ∙ c.in-Some.is in
+    let S : Option MappedPort → Type 0 =
+    λ o. SourceSet c.self.inside.sources c.add_holder.new.sources (source_key_of c.args.m) (Some (one_more c.args.m.external.port o)) in
+    changed c.self.inside.sources c.self.inside.inbounds c.self.inside.pools c.self.invariant c.args.m c.add_holder.new.sources _ _ was
+    (own_port c.self.inside.sources c.self.inside.inbounds c.self.inside.pools c.self.invariant c.args.m
+    (rw (← c.self.view_is) at c.requires.one_to_one) _ was) refl (unique p) (subst S c.in-Some.is (set p)) (omega arith)
 
 pub returns-in-Some-clause-held : goal.returns-in-Some-clause-held
 returns-in-Some-clause-held c =
-    let p = (goal.at.returns-in-Some-clause-held c).In-Some in
-    let more : MappedPort = record { port = c.in-Some.mapped.port; holders = c.in-Some.mapped.holders + 1 } in
-    let S : SourceKey → Type 0 = λ k. SourceSet c.self.inside.sources c.update_source.new.sources k (Some more) in
-    subst (λ (held : List Mapping). HoldsSame (c.args.m ∷ held) (held_by c.update_source.new.sources.entries)) (ap (λ v. v.held) c.self.view_is)
-    (one_held_more c.self.inside.sources c.self.inside.inbounds c.self.inside.pools c.self.invariant c.args.m
-    c.update_source.new.sources c.in-Some.mapped more (found p) (port p) refl
-    c.update_source.ensures.unique (subst S c.source_key-key.ensures c.update_source.ensures.values) refl)
+    let p = (goal.at.returns-in-Some-clause-held c).After-add_holder in
+    let was = before p ∙ c.in-Some.is in
+    let S : Option MappedPort → Type 0 =
+    λ o. SourceSet c.self.inside.sources c.add_holder.new.sources (source_key_of c.args.m) (Some (one_more c.args.m.external.port o)) in
+    rw (← c.self.view_is)
+    (one_held_more c.self.inside.sources c.self.inside.inbounds c.self.inside.pools c.self.invariant c.args.m c.add_holder.new.sources _ _ was
+    (own_port c.self.inside.sources c.self.inside.inbounds c.self.inside.pools c.self.invariant c.args.m
+    (rw (← c.self.view_is) at c.requires.one_to_one) _ was) refl (unique p) (subst S c.in-Some.is (set p)) refl)
 
 pub invariant_of-self-in-None : goal.invariant_of-self-in-None
 invariant_of-self-in-None c =
-    let p = (goal.at.invariant_of-self-in-None c).In-None in
-    let S : SourceKey → Type 0 = λ k. SourceSet c.self.inside.sources c.insert_source.new.sources k (Some c.first.result) in
+    let p = (goal.at.invariant_of-self-in-None c).After-add_holder in
+    let S : Option MappedPort → Type 0 =
+    λ o. SourceSet c.self.inside.sources c.add_holder.new.sources (source_key_of c.args.m) (Some (one_more c.args.m.external.port o)) in
     let O : InboundKey → Type 0 = λ k. InboundSet c.self.inside.inbounds c.insert_inbound.new.inbounds k (Some c.args.m.internal) in
     let P : PoolKey → Type 0 = λ k. PortSet (taken_in c.self.inside.pools) (taken_in c.take.new.self) k c.args.m.external.port true in
     begun c.self.inside.sources c.self.inside.inbounds c.self.inside.pools c.self.invariant c.args.m
-    c.insert_source.new.sources c.insert_inbound.new.inbounds c.take.new.self c.insert_source.ensures.unique
-    c.take.ensures.pooled c.first.result (ap (λ (h : MappedPort). h.port) c.first.ensures)
-    (omega (arith, ap (λ (h : MappedPort). h.holders) c.first.ensures))
-    (subst (λ (held : List Mapping). IsOneToOne (c.args.m ∷ held)) (sym (ap (λ v. v.held) c.self.view_is)) c.requires.one_to_one) (none p)
-    (subst S c.source_key-key.ensures c.insert_source.ensures.values)
-    (subst O c.inbound_key.ensures c.insert_inbound.ensures.values)
-    (subst P c.pool_key.ensures c.take.ensures.taken)
+    c.add_holder.new.sources c.insert_inbound.new.inbounds c.take.new.self (unique p) c.take.ensures.pooled _ refl (omega arith)
+    (rw (← c.self.view_is) at c.requires.one_to_one) (before p ∙ c.in-None.is) (subst S c.in-None.is (set p))
+    (subst O c.inbound_key.ensures c.insert_inbound.ensures.values) (subst P c.pool_key.ensures c.take.ensures.taken)
 
 pub returns-in-None-clause-held : goal.returns-in-None-clause-held
 returns-in-None-clause-held c =
-    let S : SourceKey → Type 0 = λ k. SourceSet c.self.inside.sources c.insert_source.new.sources k (Some c.first.result) in
-    subst (λ (held : List Mapping). HoldsSame (c.args.m ∷ held) (held_by c.insert_source.new.sources.entries)) (ap (λ v. v.held) c.self.view_is)
-    (begun_held c.self.inside.sources c.self.inside.inbounds c.self.inside.pools c.self.invariant c.args.m
-    c.insert_source.new.sources c.insert_inbound.new.inbounds c.take.new.self c.insert_source.ensures.unique
-    c.take.ensures.pooled c.first.result (ap (λ (h : MappedPort). h.port) c.first.ensures)
-    (ap (λ (h : MappedPort). h.holders) c.first.ensures) (none (goal.at.returns-in-None-clause-held c).In-None)
-    (subst S c.source_key-key.ensures c.insert_source.ensures.values))
+    let p = (goal.at.returns-in-None-clause-held c).After-add_holder in
+    let S : Option MappedPort → Type 0 =
+    λ o. SourceSet c.self.inside.sources c.add_holder.new.sources (source_key_of c.args.m) (Some (one_more c.args.m.external.port o)) in
+    rw (← c.self.view_is) (begun_held c.self.inside.sources c.self.inside.inbounds c.self.inside.pools c.self.invariant c.args.m
+    c.add_holder.new.sources c.insert_inbound.new.inbounds c.take.new.self (unique p) c.take.ensures.pooled _ refl refl
+    (before p ∙ c.in-None.is) (subst S c.in-None.is (set p)))
 
 pub take-requires-clause-free : goal.take-requires-clause-free
 take-requires-clause-free c bitmap =
+    let p = (goal.at.take-requires-clause-free c).After-add_holder in
     ap (λ k. taken_in c.self.inside.pools k c.args.m.external.port) c.pool_key.ensures
     ∙ port_free c.self.inside.sources c.self.inside.inbounds c.self.inside.pools c.self.invariant c.args.m
-    (subst (λ (held : List Mapping). IsOneToOne (c.args.m ∷ held)) (sym (ap (λ v. v.held) c.self.view_is)) c.requires.one_to_one)
-    (none (goal.at.take-requires-clause-free c).In-None) (ap (λ (k : PoolKey). has_pool k.kind) (sym c.pool_key.ensures) ∙ bitmap)
+    (rw (← c.self.view_is) at c.requires.one_to_one) (before p ∙ c.in-None.is)
+    (ap (λ (k : PoolKey). has_pool k.kind) (sym c.pool_key.ensures) ∙ bitmap)
