@@ -1,1 +1,1 @@
-pub mod SipHash
+pub mod WordHash

@@ -1,6 +1,6 @@
 use Rattle.std.proofs.Common.{rules, take_all}
 use Rattle.std.proofs.hash.Loops.{byte_more}
-use Rattle.word_hash.specs.SipHash.{after_write}
+use Rattle.word_hash.specs.WordHash.{after_write}
 use Rattle.word_hash.proofs.WordHasherHasher.write.Goals as goal
 
 pub returns-then-bytes-eq8 : goal.returns-then-bytes-eq8

@@ -1,5 +1,5 @@
 use Rattle.std.proofs.Common.{◌≡◌, take, fold}
-use Rattle.word_hash.specs.SipHash.{after_word}
+use Rattle.word_hash.specs.WordHash.{after_word}
 use Rattle.word_hash.proofs.WordHasherHasher.write.Given as goal
 
 abbrev pub invariant-loop-byte : goal.invariant-loop-byte

@@ -1,7 +1,7 @@
 use Rattle.std.proofs.Common.{◌∙◌, ap, sym}
 use Rattle.std.specs.Hash.{le_bytes}
 use Rattle.std.proofs.lemmas.Nat.{from_le_bytes-to_le_bytes_8}
-use Rattle.word_hash.specs.SipHash.{after_word, after_write}
+use Rattle.word_hash.specs.WordHash.{after_word, after_write}
 use Rattle.word_hash.proofs.WordHasherHasher.write_u64.Goals as goal
 
 pub returns : goal.returns
