@@ -1,15 +1,7 @@
 -- Lists with the same mappings and holders have the same lookups, where they are one to one.
 use Rattle.std.proofs.Common.{◌≡◌, ℕ, Bool, true, not, List, Option, Some, None, is_some, refl, sym, ap, ◌∙◌, arith}
-use Rattle.std.specs.List.{find, Contains}
-use Rattle.std.specs.Option.{option_map}
-use Rattle.std.proofs.lemmas.Bool.{eqb-true, and_parts}
-use Rattle.ip_headers.specs.declared.tuple.Kind.{Kind}
-use Rattle.ip_headers.specs.declared.tuple.Endpoint.{Endpoint}
-use Rattle.ip_headers.specs.declared.tuple.Mapping.{Mapping}
-use Rattle.port_pool.specs.declared.range.CandidateRange.{CandidateRange}
-use Rattle.port_pool.specs.Candidates.{candidates}
-use Rattle.nat_mapping.specs.Mappings.{has_external, has_internal, HoldsSame, inbound_of, port_of, is_port_held}
-use Rattle.nat_mapping.specs.Mappings.{first_free_port, source_of, or_else, order_of, IsOneToOne}
+use Rattle.nat_mapping.proofs.Names.{CandidateRange, Contains, Endpoint, HoldsSame, IsOneToOne, Kind, Mapping, and_parts, candidates, eqb-true, find}
+use Rattle.nat_mapping.proofs.Names.{first_free_port, has_external, has_internal, inbound_of, is_port_held, option_map, or_else, order_of, port_of, source_of}
 use Rattle.nat_mapping.proofs.Equal.{kind_test, endpoint_test}
 use Rattle.nat_mapping.proofs.Lists.{found_among, none_such, has_holder, is_among}
 use Rattle.nat_mapping.proofs.OneMore.{one_to_one-within}

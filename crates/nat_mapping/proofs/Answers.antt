@@ -2,24 +2,10 @@
 use Rattle.std.specs.Prelude.{◌==◌}
 use Rattle.std.proofs.Common.{◌≡◌, ℕ, ◌<◌, Bool, true, false, not, cond, is_some, List, Option, Some}
 use Rattle.std.proofs.Common.{None, refl, sym, ◌∙◌, ap, subst, inl, inr, arith}
-use Rattle.std.specs.List.{find}
-use Rattle.std.specs.Option.{option_map}
-use Rattle.std.proofs.lemmas.Option.{same_Some}
-use Rattle.std.proofs.lemmas.Bool.{cases_Bool, cond-true, cond-false, both_ways, and_parts, and_from, eqb-true, eq-eqb}
-use Rattle.ip_headers.specs.declared.tuple.Kind.{Kind}
-use Rattle.ip_headers.specs.declared.tuple.Endpoint.{Endpoint}
-use Rattle.ip_headers.specs.declared.tuple.Mapping.{Mapping}
-use Rattle.port_pool.specs.declared.range.CandidateRange.{CandidateRange}
-use Rattle.nat_mapping.specs.declared.keys.SourceKey.{SourceKey}
-use Rattle.nat_mapping.specs.declared.keys.InboundKey.{InboundKey}
-use Rattle.nat_mapping.specs.declared.keys.PoolKey.{PoolKey}
-use Rattle.nat_mapping.specs.declared.keys.MappedPort.{MappedPort}
-use Rattle.port_pool.specs.Candidates.{candidates}
-use Rattle.std.specs.List.{Contains}
-use Rattle.nat_mapping.specs.Mappings.{holders_of, has_external, has_internal, inbound_of, port_of}
-use Rattle.nat_mapping.specs.Mappings.{is_port_held, order_of, or_else, source_of, IsOneToOne}
-use Rattle.nat_mapping.specs.steps.Keys.{source_key_of, inbound_key_of, inbound_at, mapping_at}
-use Rattle.nat_mapping.specs.steps.Consistent.{holders_at, CountsHolders, IsSound}
+use Rattle.nat_mapping.proofs.Names.{CandidateRange, Contains, CountsHolders, Endpoint, InboundKey, IsOneToOne, IsSound, Kind, MappedPort, Mapping, PoolKey}
+use Rattle.nat_mapping.proofs.Names.{SourceKey, and_from, and_parts, both_ways, candidates, cases_Bool, cond-false, cond-true, eq-eqb, eqb-true, find}
+use Rattle.nat_mapping.proofs.Names.{has_external, has_internal, holders_at, holders_of, inbound_at, inbound_key_of, inbound_of, is_port_held, mapping_at}
+use Rattle.nat_mapping.proofs.Names.{option_map, or_else, order_of, port_of, same_Some, source_key_of, source_of}
 use Rattle.nat_mapping.proofs.Equal.{kind_test, endpoint_test}
 use Rattle.nat_mapping.proofs.Lists.{find_held, find_none, has_holder, is_among}
 

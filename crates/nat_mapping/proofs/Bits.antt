@@ -1,16 +1,9 @@
 -- One port of one pool.
 use Rattle.std.specs.Prelude.{◌==◌, ◌&&◌, if◌then◌else◌}
 use Rattle.std.proofs.Common.{◌≡◌, ℕ, Some, None, cond, Bool, true, false, is_some, refl, sym, ◌∙◌, ap, Option, inl, inr}
-use Rattle.std.proofs.lemmas.Bool.{cond-true, and_from, eq-eqb}
-use Rattle.std.proofs.lemmas.Option.{none-some, same_Some}
-use Rattle.port_pool.specs.declared.order.Order.{Order}
-use Rattle.port_pool.specs.declared.pool.Pool.{Pool}
-use Rattle.port_pool.specs.Taken.{is_taken, order_of as pool_order}
-use Rattle.nat_mapping.specs.declared.keys.PoolKey.{PoolKey}
-use Rattle.nat_mapping.specs.Mappings.{order_of, has_pool}
-use Rattle.nat_mapping.specs.steps.Keys.{same_pool}
-use Rattle.nat_mapping.specs.steps.Ports.{is_taken_by, order_by}
-use Rattle.nat_mapping.specs.steps.Pooled.{AreUsed}
+use Rattle.nat_mapping.proofs.Names.{AreUsed, Order, Pool, PoolKey, and_from, cond-true, eq-eqb, has_pool, is_taken, is_taken_by, none-some, order_by, order_of}
+use Rattle.nat_mapping.proofs.Names.{same_Some, same_pool}
+use Rattle.port_pool.specs.Taken.{order_of as pool_order}
 use Rattle.nat_mapping.proofs.Equal.{pool_test, decide, apart_false}
 use Rattle.nat_mapping.proofs.Sets.{Sets}
 
@@ -90,27 +83,10 @@ pub orders_set : (old new : PoolKey → Option Pool) (key : PoolKey) (w : Option
     → Sets (λ q. order_by (old q)) (λ q. order_by (new q)) key (order_by w)
 orders_set old new key w sets = record { at = ap order_by sets.at; off = λ q apart. ap order_by (sets.off q apart) }
 
--- pools of another kind don't change
-pub no_pool : (old new : PoolKey → ℕ → Bool) (key : PoolKey) (port : ℕ) (b : Bool) → has_pool key.kind ≡ false
-    → ((q : PoolKey) (p : ℕ) → new q p ≡ old q p) → (q : PoolKey) (p : ℕ) → has_pool q.kind ≡ true
-    → new q p ≡ (if same_pool key q && p == port then b else old q p)
-no_pool old new key port b none same q p some =
-    let apart : ¬ (key ≡ q) = λ e. let contra : true ≡ false = sym some ∙ ap (λ (k : PoolKey). has_pool k.kind) (sym e) ∙ none in cc in
-    same q p ∙ ap (λ t. if t && p == port then b else old q p) (sym (apart_false same_pool pool_test key q apart))
-
 -- ---- a port is taken of each pool
 
 module _ (orders orders' : PoolKey → Option Order) (taken taken' : PoolKey → ℕ → Bool) (key : PoolKey) (port : ℕ)
     (used : AreUsed orders taken) where
-  -- one more port is taken
-  pub used_more : ((q : PoolKey) → orders' q ≡ orders q) → BitSet taken taken' key port true → AreUsed orders' taken'
-  used_more same set = record {
-    order = λ k o e. used.order k o (sym (same k) ∙ e);
-    bitmap = λ k e. used.bitmap k (ap is_some (sym (same k)) ∙ e);
-    used = λ k e. let old = used.used k (ap is_some (sym (same k)) ∙ e) in
-        (old.0, set k old.0 ∙ taken_either (same_pool key k && old.0 == port) (taken k old.0) old.1);
-  }
-
   -- a new pool, with that port taken
   pub used_begun : (order : Order) → order ≡ order_of key.kind → has_pool key.kind ≡ true
       → Sets orders orders' key (Some order) → BitSet taken taken' key port true → AreUsed orders' taken'

@@ -2,20 +2,10 @@
 use Rattle.std.specs.Prelude.{◌==◌, ◌&&◌, if◌then◌else◌}
 use Rattle.std.proofs.Common.{◌≡◌, ℕ, ◌<◌, ◌+◌, Bool, true, false, cond, is_some, Option, Some}
 use Rattle.std.proofs.Common.{None, refl, sym, ◌∙◌, ap, subst, inl, inr, arith}
-use Rattle.std.proofs.lemmas.Bool.{cases_Bool, cond-true, cond-false, and_parts, and_from, and_right, eqb-true, eq-eqb, false_from_ne_true}
-use Rattle.std.proofs.lemmas.Option.{same_Some}
-use Rattle.list_laws.specs.Options.{none_not_some}
-use Rattle.ip_headers.specs.declared.tuple.Endpoint.{Endpoint}
-use Rattle.ip_headers.specs.declared.tuple.Mapping.{Mapping}
-use Rattle.nat_mapping.specs.declared.keys.SourceKey.{SourceKey}
-use Rattle.nat_mapping.specs.declared.keys.InboundKey.{InboundKey}
-use Rattle.nat_mapping.specs.declared.keys.PoolKey.{PoolKey}
-use Rattle.nat_mapping.specs.declared.keys.MappedPort.{MappedPort}
-use Rattle.ip_headers.specs.Same.{same_kind, same_endpoint}
-use Rattle.nat_mapping.specs.Mappings.{same_mapping, has_pool}
-use Rattle.nat_mapping.specs.steps.Keys.{same_source, same_inbound, same_pool, source_key_of}
-use Rattle.nat_mapping.specs.steps.Keys.{inbound_key_of, pool_key_of, mapping_at, source_at, inbound_at}
-use Rattle.nat_mapping.specs.steps.Consistent.{holders_at, ArePorts, IsSound}
+use Rattle.nat_mapping.proofs.Names.{ArePorts, Endpoint, InboundKey, IsSound, MappedPort, Mapping, PoolKey, SourceKey, and_from, and_parts, and_right}
+use Rattle.nat_mapping.proofs.Names.{cases_Bool, cond-false, cond-true, eq-eqb, eqb-true, false_from_ne_true, has_pool, holders_at, inbound_at, inbound_key_of}
+use Rattle.nat_mapping.proofs.Names.{mapping_at, none_not_some, pool_key_of, same_Some, same_endpoint, same_inbound, same_kind, same_mapping, same_pool}
+use Rattle.nat_mapping.proofs.Names.{same_source, source_at, source_key_of}
 use Rattle.nat_mapping.proofs.Equal.{source_test, inbound_test, pool_test, decide, mapping_exact}
 use Rattle.nat_mapping.proofs.Sets.{Sets}
 

@@ -1,22 +1,9 @@
 -- The list of mappings that entries represent.
 use Rattle.std.specs.Prelude.{◌==◌, ◌&&◌, replicate}
 use Rattle.std.proofs.Common.{◌≡◌, ℕ, ◌+◌, ◌*◌, Bool, true, false, cond, List, [], ◌∷◌, ◌++◌, refl, sym, ◌∙◌, ap, subst, inl, inr, arith}
-use Rattle.std.specs.Map.{lookup, keys_of}
-use Rattle.std.specs.List.{IsDistinct, sum_by}
-use Rattle.std.specs.HashMap.{get, IsUnique}
-use Rattle.std.proofs.lemmas.Bool.{cases_Bool}
-use Rattle.std.proofs.lemmas.Map.{lookup-none}
-use Rattle.std.proofs.lemmas.Map.Entries.{none_past_head, lookup_head, lookup_tail}
-use Rattle.std.proofs.lemmas.Map.Keys.{IsDistinct-tail}
-use Rattle.std.proofs.lemmas.List.Sums.{sum_by-append}
-use Rattle.std.proofs.lemmas.List.Folds.{sum_by-replicate}
-use Rattle.ip_headers.specs.declared.tuple.Mapping.{Mapping}
-use Rattle.nat_mapping.specs.declared.keys.SourceKey.{SourceKey}
-use Rattle.nat_mapping.specs.declared.keys.MappedPort.{MappedPort}
-use Rattle.ip_headers.specs.Same.{same_kind, same_endpoint}
-use Rattle.nat_mapping.specs.Mappings.{same_mapping, holders_of, HoldsSame}
-use Rattle.nat_mapping.specs.steps.Keys.{source_key_of, mapping_at, same_source}
-use Rattle.nat_mapping.specs.steps.Consistent.{held_by, holders_at, CountsHolders, Sources}
+use Rattle.nat_mapping.proofs.Names.{CountsHolders, HoldsSame, IsDistinct, IsDistinct-tail, IsUnique, MappedPort, Mapping, SourceKey, Sources, cases_Bool, get}
+use Rattle.nat_mapping.proofs.Names.{held_by, holders_at, holders_of, keys_of, lookup, lookup-none, lookup_head, lookup_tail, mapping_at, none_past_head}
+use Rattle.nat_mapping.proofs.Names.{same_endpoint, same_kind, same_mapping, same_source, source_key_of, sum_by, sum_by-append, sum_by-replicate}
 use Rattle.nat_mapping.proofs.Equal.{source_test, equivalence}
 
 regroup : (a b c d : Bool) → (a && (b && (c && d))) ≡ ((a && (b && c)) && d)

@@ -1,13 +1,8 @@
 -- Equal keys.
 use Rattle.std.proofs.Common.{◌≡◌, ℕ, ◌&&◌, Bool, true, false, eqb, refl, sym, ◌∙◌, ap, subst, ◌⊎◌, inl, inr}
-use Rattle.std.specs.Cmp.{IsEquivalence}
-use Rattle.std.proofs.lemmas.Bool.{eqb-true, eq-eqb, and_parts, and_from, cases_Bool, both_ways, false_from_ne_true}
-use Rattle.ip_headers.specs.steps.Equal.{same_kind-refl, same_kind-true, same_endpoint-refl, same_endpoint-true}
-use Rattle.ip_headers.specs.declared.tuple.Endpoint.{Endpoint}
-use Rattle.ip_headers.specs.declared.tuple.Mapping.{Mapping}
-use Rattle.ip_headers.specs.Same.{same_kind, same_endpoint}
-use Rattle.nat_mapping.specs.Mappings.{same_mapping}
-use Rattle.nat_mapping.specs.steps.Keys.{same_source, same_inbound, same_pool}
+use Rattle.nat_mapping.proofs.Names.{Endpoint, IsEquivalence, Mapping, and_from, and_parts, both_ways, cases_Bool, eq-eqb, eqb-true, false_from_ne_true}
+use Rattle.nat_mapping.proofs.Names.{same_endpoint, same_endpoint-refl, same_endpoint-true, same_inbound, same_kind, same_kind-refl, same_kind-true}
+use Rattle.nat_mapping.proofs.Names.{same_mapping, same_pool, same_source}
 
 -- a test passes where the two are equal, and only there
 pub record IsTest {K : Type 0} (e : K → K → Bool) : Type 0 where

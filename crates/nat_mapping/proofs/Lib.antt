@@ -1,3 +1,4 @@
+pub mod Names
 pub mod Equal
 pub mod Same
 pub mod Sets

@@ -1,13 +1,8 @@
 -- What a search of the list finds is in it.
 use Rattle.std.proofs.Common.{◌≡◌, ℕ, ◌<◌, Bool, true, false, cond, List, [], ◌∷◌, ◌⊎◌, Some, None, sym, ◌∙◌, subst, inl, inr, arith}
-use Rattle.std.specs.List.{find, Contains}
-use Rattle.std.proofs.lemmas.List.Elements.{Contains-push, Contains-push_cases, Contains-append_cases}
-use Rattle.std.proofs.lemmas.List.Elements.{Contains-append_left, Contains-append_right}
-use Rattle.std.proofs.lemmas.Bool.{cases_Bool, cond-true, cond-false, both_ways}
-use Rattle.std.proofs.lemmas.Option.{none-some, same_Some}
-use Rattle.nat_mapping.specs.steps.Holders.{holders_cons, holders_none}
-use Rattle.ip_headers.specs.declared.tuple.Mapping.{Mapping}
-use Rattle.nat_mapping.specs.Mappings.{same_mapping, holders_of, HoldsSame}
+use Rattle.nat_mapping.proofs.Names.{Contains, Contains-append_cases, Contains-append_left, Contains-append_right, Contains-push, Contains-push_cases}
+use Rattle.nat_mapping.proofs.Names.{HoldsSame, Mapping, both_ways, cases_Bool, cond-false, cond-true, find, holders_cons, holders_none, holders_of, none-some}
+use Rattle.nat_mapping.proofs.Names.{same_Some, same_mapping}
 use Rattle.nat_mapping.proofs.Equal.{mapping_same, mapping_exact}
 
 pub holders_here : (m : Mapping) (held : List Mapping) → 0 < holders_of m (m ∷ held)

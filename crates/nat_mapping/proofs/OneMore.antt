@@ -1,17 +1,8 @@
 -- One more mapping: the list stays one to one.
 use Rattle.std.proofs.Common.{◌≡◌, ℕ, Bool, true, not, List, [], ◌∷◌, Option, Some, None, ◌⊎◌, inl, inr, is_some, refl, sym, ap, subst, ◌∙◌}
-use Rattle.std.specs.List.{find, Contains}
-use Rattle.std.specs.Option.{option_map}
-use Rattle.std.proofs.lemmas.Bool.{cases_Bool, cond-true, cond-false, eqb-true, eq-eqb, and_parts, and_from}
-use Rattle.std.proofs.lemmas.Option.{none-some, same_Some}
-use Rattle.list_laws.specs.Options.{some_of_map}
-use Rattle.ip_headers.specs.declared.tuple.Kind.{Kind}
-use Rattle.ip_headers.specs.declared.tuple.Endpoint.{Endpoint}
-use Rattle.ip_headers.specs.declared.tuple.Mapping.{Mapping}
-use Rattle.port_pool.specs.declared.range.CandidateRange.{CandidateRange}
-use Rattle.port_pool.specs.Candidates.{candidates}
-use Rattle.nat_mapping.specs.Mappings.{has_external, has_internal, inbound_of, port_of, is_port_held}
-use Rattle.nat_mapping.specs.Mappings.{first_free_port, source_of, or_else, order_of, IsOneToOne}
+use Rattle.nat_mapping.proofs.Names.{CandidateRange, Contains, Endpoint, IsOneToOne, Kind, Mapping, and_from, and_parts, candidates, cases_Bool, cond-false}
+use Rattle.nat_mapping.proofs.Names.{cond-true, eq-eqb, eqb-true, find, first_free_port, has_external, has_internal, inbound_of, is_port_held, none-some}
+use Rattle.nat_mapping.proofs.Names.{option_map, or_else, order_of, port_of, same_Some, some_of_map, source_of}
 use Rattle.nat_mapping.proofs.Equal.{kind_test, endpoint_test}
 use Rattle.nat_mapping.proofs.Lists.{found_among, none_such, contains_cases}
 

@@ -2,23 +2,10 @@
 use Rattle.std.specs.Prelude.{map, ◌||◌}
 use Rattle.std.proofs.Common.{◌≡◌, ℕ, Bool, true, is_some, List, [], ◌∷◌, Option, Some, None, suc}
 use Rattle.std.proofs.Common.{length, refl, sym, subst, ◌∙◌, ap, inl, inr, arith}
-use Rattle.std.specs.HashMap.{get, hash_map_len}
-use Rattle.std.specs.List.{Contains}
-use Rattle.std.specs.Map.{keys_of}
-use Rattle.std.specs.Set.{is_member, unique_keys}
-use Rattle.std.proofs.lemmas.Bool.{cases_Bool, cond-true, cond-false, or_left, or_right, or_cases}
-use Rattle.std.proofs.lemmas.Map.Made.{length-from_keys, is_some-lookup}
-use Rattle.std.proofs.lemmas.Map.Entries.{length-keys_of}
-use Rattle.std.proofs.lemmas.Bool.Decides.{same_from_decides}
-use Rattle.ip_headers.specs.declared.tuple.Mapping.{Mapping}
-use Rattle.port_pool.specs.declared.pool.Pool.{Pool}
-use Rattle.nat_mapping.specs.declared.keys.PoolKey.{PoolKey}
-use Rattle.nat_mapping.specs.declared.pools.Pools.{Pools}
-use Rattle.nat_mapping.specs.Mappings.{has_pool, pooled, share_pool, pool_count_of}
-use Rattle.nat_mapping.specs.steps.Keys.{pool_key_of, same_pool}
-use Rattle.nat_mapping.specs.steps.Consistent.{Sources, Inbounds, IsConsistent, CountsHolders}
-use Rattle.nat_mapping.specs.steps.Keys.{same_source, inbound_at, source_at}
-use Rattle.nat_mapping.specs.steps.Ports.{is_taken_by, order_by}
+use Rattle.nat_mapping.proofs.Names.{Contains, CountsHolders, Inbounds, IsConsistent, Mapping, Pool, PoolKey, Pools, Sources, cases_Bool, cond-false, cond-true}
+use Rattle.nat_mapping.proofs.Names.{get, has_pool, hash_map_len, inbound_at, is_member, is_some-lookup, is_taken_by, keys_of, length-from_keys, length-keys_of}
+use Rattle.nat_mapping.proofs.Names.{or_cases, or_left, or_right, order_by, pool_count_of, pool_key_of, pooled, same_from_decides, same_pool, same_source}
+use Rattle.nat_mapping.proofs.Names.{share_pool, source_at, unique_keys}
 use Rattle.nat_mapping.proofs.Answers.{kept_out, filed_among}
 use Rattle.nat_mapping.proofs.Equal.{pool_test, equivalence}
 use Rattle.nat_mapping.proofs.Lists.{contains_cases, contains_tail, has_holder, holders_here, is_among}

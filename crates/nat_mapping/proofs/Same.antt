@@ -1,13 +1,9 @@
 -- The tests of two keys that their types derive.
 use Rattle.std.proofs.Common.{◌≡◌, Bool, rules}
-use Rattle.std.proofs.lemmas.Bool.Decides.{nat_tests}
+use Rattle.nat_mapping.proofs.Names.{InboundKey, PoolKey, SourceKey, nat_tests, same_inbound, same_pool, same_source}
 use Rattle.nat_mapping.specs.contracts.keys.SourceKeyPartialEq.TheImpl as sources
 use Rattle.nat_mapping.specs.contracts.keys.InboundKeyPartialEq.TheImpl as inbounds
 use Rattle.nat_mapping.specs.contracts.keys.PoolKeyPartialEq.TheImpl as pool
-use Rattle.nat_mapping.specs.declared.keys.SourceKey.{SourceKey}
-use Rattle.nat_mapping.specs.declared.keys.InboundKey.{InboundKey}
-use Rattle.nat_mapping.specs.declared.keys.PoolKey.{PoolKey}
-use Rattle.nat_mapping.specs.steps.Keys.{same_source, same_inbound, same_pool}
 
 abbrev pub source_eq : SourceKey → SourceKey → Bool
 source_eq a b = sources.eq-value.it a b

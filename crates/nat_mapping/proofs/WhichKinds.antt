@@ -1,13 +1,7 @@
 -- Kinds with pools and without.
 use Rattle.std.proofs.Common.{◌≡◌, ◌≢◌, ℕ, Bool, true, false, cond, Option, Some, None, is_some, refl}
-use Rattle.std.specs.List.{find}
-use Rattle.ip_headers.specs.declared.tuple.Kind.{Kind}
-use Rattle.ip_headers.specs.declared.tuple.Kind.TheVariants.{Tcp, Udp, EchoRequest, EchoReply, Other}
-use Rattle.port_pool.specs.declared.order.Order.{Order}
-use Rattle.port_pool.specs.declared.order.Order.TheVariants.{Ports, Identifiers, Zero}
-use Rattle.port_pool.specs.declared.range.CandidateRange.{CandidateRange}
-use Rattle.port_pool.specs.Candidates.{candidates}
-use Rattle.nat_mapping.specs.Mappings.{order_of, has_pool}
+use Rattle.nat_mapping.proofs.Names.{CandidateRange, EchoReply, EchoRequest, Identifiers, Kind, Order, Other, Ports, Tcp, Udp, Zero, candidates, find, has_pool}
+use Rattle.nat_mapping.proofs.Names.{order_of}
 
 pub row_order : (kind : Kind) → has_pool kind ≡ true → order_of kind ≢ Zero
 row_order Tcp is = λ e. absurd (cc)

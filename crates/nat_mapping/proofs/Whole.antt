@@ -1,22 +1,9 @@
 -- The effect of the calls on the tables and on the list that they represent.
 use Rattle.std.proofs.Common.{◌≡◌, ℕ, ◌<◌, ◌+◌, Bool, true, false, cond, is_some, ◌∷◌, Option, Some, None, IfSome, refl, sym, ◌∙◌, ap, subst, arith}
-use Rattle.std.specs.HashMap.{get, IsUnique}
-use Rattle.std.specs.List.{Contains}
-use Rattle.std.proofs.lemmas.Option.{same_Some}
-use Rattle.nat_mapping.specs.steps.Holders.{holders_cons}
-use Rattle.list_laws.specs.Lists.{Contains-head}
-use Rattle.ip_headers.specs.declared.tuple.Endpoint.{Endpoint}
-use Rattle.ip_headers.specs.declared.tuple.Mapping.{Mapping}
-use Rattle.nat_mapping.specs.declared.keys.SourceKey.{SourceKey}
-use Rattle.nat_mapping.specs.declared.keys.InboundKey.{InboundKey}
-use Rattle.nat_mapping.specs.declared.keys.PoolKey.{PoolKey}
-use Rattle.nat_mapping.specs.declared.keys.MappedPort.{MappedPort}
-use Rattle.nat_mapping.specs.declared.pools.Pools.{Pools}
-use Rattle.nat_mapping.specs.Mappings.{same_mapping, holders_of, HoldsSame, IsOneToOne, has_pool}
-use Rattle.nat_mapping.specs.steps.Keys.{same_source, same_inbound, source_key_of}
-use Rattle.nat_mapping.specs.steps.Keys.{inbound_key_of, pool_key_of, mapping_at, source_at}
-use Rattle.nat_mapping.specs.steps.Pooled.{taken_in, IsPooled}
-use Rattle.nat_mapping.specs.steps.Consistent.{held_by, holders_at, Sources, Inbounds, IsSound, IsConsistent}
+use Rattle.nat_mapping.proofs.Names.{Contains, Contains-head, Endpoint, HoldsSame, InboundKey, Inbounds, IsConsistent, IsOneToOne, IsPooled, IsSound, IsUnique}
+use Rattle.nat_mapping.proofs.Names.{MappedPort, Mapping, PoolKey, Pools, SourceKey, Sources, get, has_pool, held_by, holders_at, holders_cons, holders_of}
+use Rattle.nat_mapping.proofs.Names.{inbound_key_of, mapping_at, pool_key_of, same_Some, same_inbound, same_mapping, same_source, source_at, source_key_of}
+use Rattle.nat_mapping.proofs.Names.{taken_in}
 use Rattle.nat_mapping.proofs.Equal.{source_test, inbound_test}
 use Rattle.nat_mapping.proofs.Same.{source_eq, source_fun}
 use Rattle.nat_mapping.proofs.Sets.{Sets, sets_by}

@@ -1,5 +1,4 @@
-use Rattle.ip_headers.specs.HashWords.{hash_word}
-use Rattle.ip_headers.specs.steps.WordBytes.{first_word}
+use Rattle.nat_mapping.proofs.Names.{first_word, hash_word}
 use Rattle.nat_mapping.proofs.keys.inbound_hashes_differ.Goals as goal
 
 pub returns : goal.returns

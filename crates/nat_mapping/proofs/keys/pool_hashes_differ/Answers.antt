@@ -1,6 +1,4 @@
-use Rattle.ip_headers.specs.HashWords.{hash_word}
-use Rattle.ip_headers.specs.declared.tuple.Endpoint.{Endpoint}
-use Rattle.ip_headers.specs.steps.WordBytes.{first_word}
+use Rattle.nat_mapping.proofs.Names.{Endpoint, first_word, hash_word}
 use Rattle.nat_mapping.proofs.keys.pool_hashes_differ.Goals as goal
 
 pub returns : goal.returns

@@ -1,13 +1,5 @@
 use Rattle.std.proofs.Common.{◌≡◌, ℕ, Bool, true, false, not, is_some, Option, None, Some, sym, ◌∙◌, ap}
-use Rattle.std.specs.HashMap.{get}
-use Rattle.std.specs.List.{find}
-use Rattle.std.proofs.lemmas.Bool.{cond-true, cond-false}
-use Rattle.ip_headers.specs.declared.tuple.Endpoint.{Endpoint}
-use Rattle.port_pool.specs.Candidates.{candidates}
-use Rattle.nat_mapping.specs.declared.keys.PoolKey.{PoolKey}
-use Rattle.nat_mapping.specs.Mappings.{order_of, has_pool}
-use Rattle.nat_mapping.specs.steps.Keys.{inbound_at, same_inbound}
-use Rattle.nat_mapping.specs.steps.Pooled.{taken_in}
+use Rattle.nat_mapping.proofs.Names.{Endpoint, PoolKey, candidates, cond-false, cond-true, find, get, has_pool, inbound_at, order_of, same_inbound, taken_in}
 use Rattle.nat_mapping.proofs.WhichKinds.{zero_found, zero_order}
 use Rattle.nat_mapping.proofs.mappings.first_free_port.Goals as goal
 

@@ -1,6 +1,5 @@
 use Rattle.std.proofs.Common.{◌-◌, ◌≤◌, vec_len}
-use Rattle.std.specs.List.{All}
-use Rattle.nat_mapping.specs.steps.Ports.{IsSpare}
+use Rattle.nat_mapping.proofs.Names.{All, IsSpare}
 use Rattle.nat_mapping.proofs.pools.fill_spares.Given as goal
 
 abbrev pub invariant-loop-alloc : goal.invariant-loop-alloc

@@ -1,10 +1,5 @@
 use Rattle.std.proofs.Common.{◌≡◌, ℕ, Option, subst, Some, cond, Bool, true, false, sym, ap, is_some, ◌∙◌}
-use Rattle.std.specs.Bool.{OnTrue, OnFalse}
-use Rattle.std.specs.HashMap.{get}
-use Rattle.port_pool.specs.declared.pool.Pool.{Pool}
-use Rattle.nat_mapping.specs.declared.keys.PoolKey.{PoolKey}
-use Rattle.nat_mapping.specs.steps.Keys.{same_pool}
-use Rattle.nat_mapping.specs.steps.Ports.{is_taken_by}
+use Rattle.nat_mapping.proofs.Names.{OnFalse, OnTrue, Pool, PoolKey, get, is_taken_by, same_pool}
 use Rattle.nat_mapping.proofs.Same.{pool_fun}
 use Rattle.nat_mapping.proofs.Equal.{pool_test}
 use Rattle.nat_mapping.proofs.Sets.{Sets, sets_by}

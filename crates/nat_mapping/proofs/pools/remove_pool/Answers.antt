@@ -1,6 +1,5 @@
 use Rattle.std.proofs.Common.{◌≡◌, subst, None, cond, Bool}
-use Rattle.std.specs.HashMap.{get}
-use Rattle.nat_mapping.specs.declared.keys.PoolKey.{PoolKey}
+use Rattle.nat_mapping.proofs.Names.{PoolKey, get}
 use Rattle.nat_mapping.proofs.Same.{pool_fun}
 use Rattle.nat_mapping.proofs.pools.remove_pool.Goals as goal
 

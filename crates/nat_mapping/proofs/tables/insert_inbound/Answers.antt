@@ -1,6 +1,5 @@
 use Rattle.std.proofs.Common.{◌≡◌, subst, Some, cond, Bool}
-use Rattle.std.specs.HashMap.{get}
-use Rattle.nat_mapping.specs.declared.keys.InboundKey.{InboundKey}
+use Rattle.nat_mapping.proofs.Names.{InboundKey, get}
 use Rattle.nat_mapping.proofs.Same.{inbound_fun}
 use Rattle.nat_mapping.proofs.tables.insert_inbound.Goals as goal
 

@@ -1,12 +1,6 @@
 use Rattle.std.proofs.Common.{◌≡◌, ◌<◌, subst, sym, ◌∙◌, ap, refl, arith, Option, Some, IfSome, Bool, true}
-use Rattle.std.specs.HashMap.{get, IsUnique}
-use Rattle.nat_mapping.specs.declared.keys.SourceKey.{SourceKey}
-use Rattle.nat_mapping.specs.declared.keys.InboundKey.{InboundKey}
-use Rattle.nat_mapping.specs.declared.keys.PoolKey.{PoolKey}
-use Rattle.nat_mapping.specs.declared.keys.MappedPort.{MappedPort}
-use Rattle.nat_mapping.specs.Mappings.{has_pool}
-use Rattle.nat_mapping.specs.steps.Keys.{one_more, same_source, source_key_of}
-use Rattle.nat_mapping.specs.steps.Pooled.{taken_in}
+use Rattle.nat_mapping.proofs.Names.{InboundKey, IsUnique, MappedPort, PoolKey, SourceKey, get, has_pool, same_source, source_key_of, taken_in}
+use Rattle.nat_mapping.specs.steps.Keys.{one_more}
 use Rattle.nat_mapping.proofs.Changes.{PortSet}
 use Rattle.nat_mapping.proofs.Same.{source_fun}
 use Rattle.nat_mapping.proofs.Whole.{SourceSet, InboundSet, source_set, source_found, source_unique, own_port, few_holders, port_free, changed}

@@ -1,8 +1,5 @@
 use Rattle.std.proofs.Common.{sym, ◌∙◌, ap, is_some}
-use Rattle.std.specs.Map.{lookup}
-use Rattle.std.proofs.lemmas.Option.{none-some}
-use Rattle.nat_mapping.specs.steps.Keys.{same_source, same_inbound, inbound_at}
-use Rattle.nat_mapping.specs.steps.Consistent.{held_by}
+use Rattle.nat_mapping.proofs.Names.{held_by, inbound_at, lookup, none-some, same_inbound, same_source}
 use Rattle.nat_mapping.proofs.Entries.{distinct_none}
 use Rattle.nat_mapping.proofs.mappings.Mappings.new.Goals as goal
 

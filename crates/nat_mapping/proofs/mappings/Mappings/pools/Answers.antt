@@ -1,7 +1,5 @@
 use Rattle.std.proofs.Common.{◌≡◌, List, ap, arith}
-use Rattle.std.specs.HashMap.{hash_map_len}
-use Rattle.ip_headers.specs.declared.tuple.Mapping.{Mapping}
-use Rattle.nat_mapping.specs.Mappings.{HoldsSame, pool_count_of}
+use Rattle.nat_mapping.proofs.Names.{HoldsSame, Mapping, hash_map_len, pool_count_of}
 use Rattle.nat_mapping.proofs.Entries.{counts_same}
 use Rattle.nat_mapping.proofs.PoolCounts.{pools_counted}
 use Rattle.nat_mapping.proofs.mappings.Mappings.pools.Goals as goal

@@ -1,11 +1,5 @@
 use Rattle.std.proofs.Common.{◌≡◌, ◌<◌, ◌≤◌, subst, sym, ◌∙◌, ap, refl, arith, Some, None, IsSome, Bool, false}
-use Rattle.std.specs.HashMap.{get, IsUnique}
-use Rattle.nat_mapping.specs.declared.keys.SourceKey.{SourceKey}
-use Rattle.nat_mapping.specs.declared.keys.InboundKey.{InboundKey}
-use Rattle.nat_mapping.specs.declared.keys.PoolKey.{PoolKey}
-use Rattle.nat_mapping.specs.Mappings.{has_pool}
-use Rattle.nat_mapping.specs.steps.Keys.{one_fewer, same_source, source_key_of}
-use Rattle.nat_mapping.specs.steps.Pooled.{taken_in}
+use Rattle.nat_mapping.proofs.Names.{InboundKey, IsUnique, PoolKey, SourceKey, get, has_pool, one_fewer, same_source, source_key_of, taken_in}
 use Rattle.nat_mapping.proofs.Changes.{PortSet}
 use Rattle.nat_mapping.proofs.Same.{source_fun}
 use Rattle.nat_mapping.proofs.Whole.{SourceSet, InboundSet, source_set, source_found, source_unique, held_found, held_port, port_taken, changed}

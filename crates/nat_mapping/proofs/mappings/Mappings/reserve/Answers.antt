@@ -1,11 +1,5 @@
 use Rattle.std.proofs.Common.{◌≡◌, subst, ap, Bool, List, refl}
-use Rattle.std.specs.HashMap.{get, IsUnique}
-use Rattle.ip_headers.specs.declared.tuple.Mapping.{Mapping}
-use Rattle.nat_mapping.specs.declared.keys.SourceKey.{SourceKey}
-use Rattle.nat_mapping.specs.declared.keys.InboundKey.{InboundKey}
-use Rattle.nat_mapping.specs.Mappings.{HoldsSame}
-use Rattle.nat_mapping.specs.steps.Keys.{same_inbound, same_source}
-use Rattle.nat_mapping.specs.steps.Consistent.{held_by}
+use Rattle.nat_mapping.proofs.Names.{HoldsSame, InboundKey, IsUnique, Mapping, SourceKey, get, held_by, same_inbound, same_source}
 use Rattle.nat_mapping.proofs.Same.{source_fun, inbound_fun}
 use Rattle.nat_mapping.proofs.Whole.{grown, grown_held}
 use Rattle.nat_mapping.proofs.mappings.Mappings.reserve.Goals as goal

@@ -1,17 +1,6 @@
 use Rattle.std.proofs.Common.{◌≡◌, ◌↔◌, ℕ, List, not, is_some, sym, subst, ◌∙◌, ap, refl, Option, Some, None, Result, Err}
-use Rattle.std.specs.Result.{IfOk}
-use Rattle.std.specs.HashMap.{get}
-use Rattle.std.specs.List.{find}
-use Rattle.std.specs.Option.{ok_or, option_map}
-use Rattle.std.proofs.lemmas.Option.{none-some}
-use Rattle.port_pool.specs.Candidates.{candidates}
-use Rattle.ip_headers.specs.declared.tuple.Mapping.{Mapping}
-use Rattle.nat_mapping.specs.declared.mappings.MapError.{MapError}
-use Rattle.nat_mapping.specs.declared.mappings.MapError.TheVariants.{NoPort}
-use Rattle.nat_mapping.specs.declared.keys.PoolKey.{PoolKey}
-use Rattle.nat_mapping.specs.declared.keys.MappedPort.{MappedPort}
-use Rattle.nat_mapping.specs.Mappings.{HoldsSame, or_else, order_of, source_of}
-use Rattle.nat_mapping.specs.steps.Keys.{inbound_at, same_inbound}
+use Rattle.nat_mapping.proofs.Names.{HoldsSame, IfOk, MapError, MappedPort, Mapping, NoPort, PoolKey, candidates, find, get, inbound_at, none-some, ok_or}
+use Rattle.nat_mapping.proofs.Names.{option_map, or_else, order_of, same_inbound, source_of}
 use Rattle.nat_mapping.proofs.Answers.{source_is}
 use Rattle.nat_mapping.proofs.Entries.{counts_same}
 use Rattle.nat_mapping.proofs.mappings.Mappings.source.Goals as goal

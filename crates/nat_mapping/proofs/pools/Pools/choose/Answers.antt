@@ -1,13 +1,6 @@
 use Rattle.std.proofs.Common.{◌≡◌, not, Some, None, Bool, subst, sym, ◌∙◌, ap, Option}
-use Rattle.std.specs.List.{find}
-use Rattle.std.specs.HashMap.{get}
-use Rattle.port_pool.specs.declared.order.Order.{Order}
-use Rattle.port_pool.specs.declared.pool.Pool.{Pool}
-use Rattle.port_pool.specs.Candidates.{candidates}
-use Rattle.port_pool.specs.Taken.{is_taken, order_of as pool_order}
-use Rattle.nat_mapping.specs.declared.keys.PoolKey.{PoolKey}
-use Rattle.nat_mapping.specs.Mappings.{order_of}
-use Rattle.nat_mapping.specs.steps.Ports.{is_taken_by, order_by}
+use Rattle.nat_mapping.proofs.Names.{Order, Pool, PoolKey, candidates, find, get, is_taken, is_taken_by, order_by, order_of}
+use Rattle.port_pool.specs.Taken.{order_of as pool_order}
 use Rattle.nat_mapping.proofs.Same.{pool_fun}
 use Rattle.nat_mapping.proofs.pools.Pools.choose.Goals as goal
 

@@ -1,13 +1,6 @@
 use Rattle.std.proofs.Common.{◌≡◌, ◌≢◌, ℕ, Bool, true, false, None, Some, subst, sym, ◌∙◌, ap}
-use Rattle.std.specs.Bool.{OnTrue, OnFalse}
-use Rattle.std.specs.HashMap.{get}
-use Rattle.port_pool.specs.declared.order.Order.{Order}
-use Rattle.port_pool.specs.declared.order.Order.TheVariants.{Zero}
+use Rattle.nat_mapping.proofs.Names.{OnFalse, OnTrue, Order, Zero, get, has_pool, is_taken_by, order_by, order_of, orders_in, same_pool, taken_in}
 use Rattle.port_pool.specs.Taken.{order_of as pool_order}
-use Rattle.nat_mapping.specs.Mappings.{order_of, has_pool}
-use Rattle.nat_mapping.specs.steps.Keys.{same_pool}
-use Rattle.nat_mapping.specs.steps.Ports.{is_taken_by, order_by}
-use Rattle.nat_mapping.specs.steps.Pooled.{orders_in, taken_in}
 use Rattle.nat_mapping.proofs.Equal.{pool_test}
 use Rattle.nat_mapping.proofs.WhichKinds.{row_order}
 use Rattle.nat_mapping.proofs.Sets.{sets_by}

@@ -1,10 +1,5 @@
 use Rattle.std.proofs.Common.{◌≡◌, subst, Bool, ap}
-use Rattle.std.specs.HashMap.{get, IsUnique}
-use Rattle.nat_mapping.specs.declared.keys.PoolKey.{PoolKey}
-use Rattle.ip_headers.specs.declared.tuple.Kind.TheVariants.{Tcp}
-use Rattle.nat_mapping.specs.steps.Keys.{same_pool}
-use Rattle.nat_mapping.specs.steps.Pooled.{AreUsed, orders_in, taken_in}
-use Rattle.nat_mapping.specs.steps.Ports.{is_taken_by, order_by}
+use Rattle.nat_mapping.proofs.Names.{AreUsed, IsUnique, PoolKey, Tcp, get, is_taken_by, order_by, orders_in, same_pool, taken_in}
 use Rattle.nat_mapping.proofs.Same.{pool_fun}
 use Rattle.nat_mapping.proofs.Bits.{used_same}
 use Rattle.nat_mapping.proofs.pools.Pools.reserve.Goals as goal

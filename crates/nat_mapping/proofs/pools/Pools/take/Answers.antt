@@ -1,10 +1,5 @@
 use Rattle.std.proofs.Common.{◌≡◌, true, None, Some, is_some, sym, ◌∙◌, ap, arith}
-use Rattle.std.specs.HashMap.{get}
-use Rattle.std.proofs.lemmas.List.Elements.{All-pop}
-use Rattle.nat_mapping.specs.steps.Keys.{same_pool}
-use Rattle.nat_mapping.specs.Mappings.{has_pool}
-use Rattle.nat_mapping.specs.steps.Ports.{is_taken_by, order_by, IsSpare}
-use Rattle.nat_mapping.specs.steps.Pooled.{orders_in, taken_in}
+use Rattle.nat_mapping.proofs.Names.{All-pop, IsSpare, get, has_pool, is_taken_by, order_by, orders_in, same_pool, taken_in}
 use Rattle.nat_mapping.proofs.Equal.{pool_test}
 use Rattle.nat_mapping.proofs.WhichKinds.{is_none}
 use Rattle.nat_mapping.proofs.Sets.{sets_by}
