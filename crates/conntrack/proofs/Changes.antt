@@ -2,23 +2,12 @@
 use Rattle.std.proofs.Common.{◌≡◌, ℕ, ◌+◌, ◌-◌, ◌<◌, ◌≤◌, List, [], ◌∷◌, ◌++◌, map, length, Option, Bool}
 use Rattle.std.proofs.Common.{true, false, not, refl, sym, ◌∙◌, ap, subst, arith}
 use Rattle.std.specs.Prelude.{filter, nat_lt}
-use Rattle.std.proofs.lemmas.Bool.{eqb-true, lt-ltb, ltb-true, and_parts, or_parts, not-true, true≢false}
-use Rattle.std.proofs.lemmas.Bool.Decides.{nat_tests}
-use Rattle.std.proofs.lemmas.List.{append-nil}
-use Rattle.std.proofs.lemmas.List.Elements.{filter-append}
-use Rattle.box_file.specs.declared.idle_line.IdleKind.{IdleKind}
-use Rattle.box_file.specs.declared.idle_line.IdleKind.TheVariants.{Udp, Established, Transitory, Echo, Other}
-use Rattle.conntrack.specs.declared.connection.ConntrackEntry.{ConntrackEntry}
-use Rattle.conntrack.specs.declared.connection.ConnId.{ConnId}
-use Rattle.conntrack.specs.declared.connection.Flags.{Flags}
-use Rattle.conntrack.specs.declared.connection.Direction.{Direction}
-use Rattle.box_file.specs.declared.limits.Limits.{Limits}
-use Rattle.conntrack.specs.ConntrackEntry.{has_id, same_id, has_distinct_ids, touched, touched_at, is_live, live_at, begun_with, limit_of}
-use Rattle.conntrack.specs.Phases.{idle_kind, limit_in, phase_of}
-use Rattle.conntrack.specs.Histories.{TrackedPacket, ConnectionChange, NoChange, Begins, Touches, is_that, live_list}
-use Rattle.conntrack.specs.steps.Changes.{unended, changed_by, connection_begun, ended_by, touched_if, begun_by}
+use Rattle.conntrack.proofs.Names.{Begins, ConnId, ConnectionChange, ConntrackEntry, Direction, Echo, Established, Flags, IdleKind, Limits, NoChange, Touches}
+use Rattle.conntrack.proofs.Names.{TrackedPacket, Transitory, and_parts, append-nil, begun_by, begun_with, changed_by, connection_begun, ended_by, eqb-true}
+use Rattle.conntrack.proofs.Names.{filter-append, has_distinct_ids, has_id, has_ids_below, idle_kind, is_live, is_that, limit_in, limit_of, live_at, live_list}
+use Rattle.conntrack.proofs.Names.{lt-ltb, ltb-true, nat_tests, not-true, or_parts, phase_of, same_id, touched, touched_at, touched_if, true≢false, unended}
+use Rattle.box_file.specs.declared.idle_line.IdleKind.TheVariants.{Udp, Other}
 use Rattle.conntrack.proofs.Searches.{unended-cons, live_list-unended}
-use Rattle.conntrack.specs.steps.Ids.{has_ids_below}
 use Rattle.conntrack.proofs.Ids.{has_id-filter, distinct-filter, below-filter, distinct-touched_at}
 use Rattle.conntrack.proofs.Ids.{below-touched_at, distinct-push, below-push, has_id-below}
 

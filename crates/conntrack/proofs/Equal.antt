@@ -1,11 +1,7 @@
 -- Equal tuples, in either order.
 use Rattle.std.proofs.Common.{◌≡◌, refl, arith}
-use Rattle.std.proofs.lemmas.Bool.Decides.{nat_tests}
-use Rattle.ip_headers.specs.declared.tuple.Kind.{Kind}
-use Rattle.ip_headers.specs.declared.tuple.Kind.TheVariants.{Tcp, Udp, EchoRequest, EchoReply, Other}
-use Rattle.ip_headers.specs.declared.tuple.Endpoint.{Endpoint}
-use Rattle.ip_headers.specs.declared.tuple.Tuple.{Tuple}
-use Rattle.ip_headers.specs.Same.{same_kind, same_endpoint, same_tuple}
+use Rattle.conntrack.proofs.Names.{EchoReply, EchoRequest, Endpoint, Kind, Tcp, Tuple, nat_tests, same_endpoint, same_kind, same_tuple}
+use Rattle.ip_headers.specs.declared.tuple.Kind.TheVariants.{Udp, Other}
 
 same_kind-sym : (a b : Kind) → same_kind a b ≡ same_kind b a
 same_kind-sym Tcp Tcp = refl

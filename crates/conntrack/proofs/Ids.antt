@@ -1,25 +1,11 @@
 -- Ids of entries, and lists that are equal except for ids.
-use Rattle.std.proofs.Common.{◌≡◌, ℕ, zero, suc, ◌+◌, ◌-◌, ◌^◌, take, get_or, ◌<◌, ◌≤◌, List, [], ◌∷◌, ◌++◌, length}
-use Rattle.std.proofs.Common.{Option, Some, Bool, true, false, not, ◌&&◌, ◌||◌, cond, refl, ◌∙◌, ap, arith, inl, inr}
-use Rattle.std.specs.Prelude.{filter, max, min}
-use Rattle.std.specs.List.{find}
-use Rattle.std.proofs.lemmas.Bool.{eq-eqb, and_parts, and_from, not-true, not_from_false, or_left, or_right}
-use Rattle.std.proofs.lemmas.Bool.{or_parts, or_from, false_from_ne_true, cases_eq}
-use Rattle.std.proofs.lemmas.Bool.Decides.{nat_tests}
-use Rattle.std.proofs.lemmas.List.{take_more}
-use Rattle.std.proofs.lemmas.List.Folds.{list_any-append}
-use Rattle.std.proofs.Math.Bool.{or-false}
+use Rattle.std.proofs.Common.{◌≡◌, ℕ, ◌+◌, ◌<◌, ◌≤◌, List, [], ◌∷◌, ◌++◌, length}
+use Rattle.std.proofs.Common.{Option, Some, Bool, true, false, not, ◌&&◌, ◌||◌, cond, refl, ◌∙◌, ap, arith}
+use Rattle.std.specs.Prelude.{filter}
+use Rattle.conntrack.proofs.Names.{ConnId, ConntrackEntry, Direction, Flags, Limits, Tuple, and_from, and_parts, eq-eqb, find, has_distinct_ids, has_id}
+use Rattle.conntrack.proofs.Names.{has_ids_below, have_disjoint_tuples, is_incoming, is_live, is_taken, list_any-append, live_at, nat_tests, not-true}
+use Rattle.conntrack.proofs.Names.{not_from_false, or-false, or_from, or_left, or_parts, or_right, same_id, same_tuple, touched, touched_at, without}
 use Rattle.conntrack.proofs.Lists.{filter_where_none, list_any-filter}
-use Rattle.conntrack.specs.declared.connection.ConntrackEntry.{ConntrackEntry}
-use Rattle.conntrack.specs.declared.connection.ConnId.{ConnId}
-use Rattle.ip_headers.specs.declared.tuple.Tuple.{Tuple}
-use Rattle.conntrack.specs.declared.connection.Flags.{Flags}
-use Rattle.conntrack.specs.declared.connection.Direction.{Direction}
-use Rattle.box_file.specs.declared.limits.Limits.{Limits}
-use Rattle.conntrack.specs.ConntrackEntry.{has_id, same_id, has_distinct_ids, touched, touched_at, without, is_live}
-use Rattle.conntrack.specs.ConntrackEntry.{live_at, is_taken, is_incoming, have_disjoint_tuples}
-use Rattle.conntrack.specs.steps.Ids.{has_ids_below}
-use Rattle.ip_headers.specs.Same.{same_tuple}
 use Rattle.conntrack.proofs.Equal.{same_tuple-sym}
 
 -- a filter adds no id
@@ -78,26 +64,6 @@ pub below-push : (n : ℕ) (held : List ConntrackEntry) (new : ConntrackEntry) �
     → new.id.0 ≡ n → has_ids_below (n + 1) (held ++ new ∷ []) ≡ true
 below-push n [] new h k = grind (arith, nat_tests)
 below-push n (x ∷ held) new h k = grind (arith, nat_tests, below-push n held new)
-
--- a number above some ids, and above one more
-below_wider : (m n : ℕ) (held : List ConntrackEntry) → m ≤ n → has_ids_below m held ≡ true → has_ids_below n held ≡ true
-below_wider m n [] le h = refl
-below_wider m n (x ∷ held) le h = grind (arith, nat_tests, below_wider m n held)
-
-below_one_more : (n : ℕ) (held : List ConntrackEntry) (new : ConntrackEntry) → has_ids_below n held ≡ true
-    → new.id.0 < n → has_ids_below n (held ++ new ∷ []) ≡ true
-below_one_more n [] new h lt = grind (arith, nat_tests)
-below_one_more n (x ∷ held) new h lt = grind (arith, nat_tests, below_one_more n held new)
-
-pub past_more : (held : List ConntrackEntry) (i next past : ℕ) (d : ConntrackEntry) → i < length held
-    → past ≡ max next (min ((get_or held i d).id.0 + 1) (2 ^ 64 - 1))
-    → (next < 2 ^ 64 - 1 → has_ids_below next (take i held) ≡ true) → past < 2 ^ 64 - 1
-    → has_ids_below past (take (i + 1) held) ≡ true
-past_more held i next past d lt is were small =
-    ap (has_ids_below past) (take_more held i d lt)
-    ∙ below_one_more past (take i held) (get_or held i d)
-    (below_wider next past (take i held) (omega (arith, is)) (were (omega (arith, is, small))))
-    (omega (arith, is, small))
 
 -- the first expired entry
 found_with_id : (b : Bool) (x h : ConntrackEntry) (o : Option ConntrackEntry) (held : List ConntrackEntry)
@@ -236,28 +202,6 @@ length-without_le id (x ∷ held) = grind (arith, length-without_le id held)
 pub length-without : (id : ConnId) (held : List ConntrackEntry) → has_id id held ≡ true → length (without id held) < length held
 length-without id [] h = cc
 length-without id (x ∷ held) h = grind (arith, length-without_le id held, length-without id held)
-
-has_other-without : (i j : ConnId) (held : List ConntrackEntry) → (i.0 ≡ j.0 → ⊥) → has_id i held ≡ true → has_id i (without j held) ≡ true
-has_other-without i j [] d h = h
-has_other-without i j (x ∷ held) d h = grind (arith, nat_tests, has_other-without i j held d)
-
--- so many ids need so many entries
-pub ids_within : (n : ℕ) (held : List ConntrackEntry) → ((k : ℕ) → k < n → has_id (record { 0 = k }) held ≡ true) → n ≤ length held
-ids_within zero held h = omega arith
-ids_within (suc n) held h =
-    let id : ConnId = record { 0 = n } in
-    let fewer : n ≤ length (without id held) =
-    ids_within n (without id held) (λ k lt. has_other-without (record { 0 = k }) id held (λ e. omega arith)
-    (h k (omega arith))) in
-    omega (arith, length-without id held (h n (omega arith)))
-
--- if all smaller ids are taken, the number of entries is free
-pub id_free : (held : List ConntrackEntry) → ((k : ℕ) → k < length held → has_id (record { 0 = k }) held ≡ true)
-    → has_id (record { 0 = length held }) held ≡ false
-id_free held h =
-    false_from_ne_true _ (λ e. let more = ids_within (suc (length held)) held
-    (λ k lt. elim (cases_eq k (length held)) [ inl same ↦ rw same e | inr other ↦ h k (omega arith) ]) in
-    omega arith)
 
 pub ruleset id_rules = (
   distinct-filter,

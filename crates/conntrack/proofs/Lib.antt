@@ -1,3 +1,4 @@
+pub mod Names
 pub mod Lists
 pub mod Equal
 pub mod Ids

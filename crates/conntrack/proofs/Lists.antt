@@ -1,8 +1,7 @@
 -- Lemmas on lists: searches in filtered lists.
 use Rattle.std.proofs.Common.{◌≡◌, List, [], ◌∷◌, Option, None, Some, Bool, true, false, not, ◌||◌, cond, refl, ap, arith}
 use Rattle.std.specs.Prelude.{filter}
-use Rattle.std.specs.List.{find, list_any}
-use Rattle.list_laws.specs.Lists.{find-filter}
+use Rattle.conntrack.proofs.Names.{find, find-filter, list_any}
 
 pub ruleset find_filter_rules = (find-filter)
 

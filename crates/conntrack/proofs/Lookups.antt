@@ -1,27 +1,13 @@
 -- Two lists that are equal except for ids: lookups find the same position, and changes agree.
 use Rattle.std.proofs.Common.{◌≡◌, ℕ, List, [], ◌∷◌, map, Option, None, Some, Bool, true, false}
 use Rattle.std.proofs.Common.{not, ◌&&◌, ◌||◌, cond, refl, sym, ◌∙◌, ap, subst}
-use Rattle.std.specs.List.{find}
-use Rattle.std.proofs.lemmas.Bool.{eq-eqb, and_parts, or_parts, not-true, true≢false}
-use Rattle.conntrack.specs.declared.connection.ConntrackEntry.{ConntrackEntry}
-use Rattle.conntrack.specs.declared.belonging.ConnectionRef.{ConnectionRef}
-use Rattle.conntrack.specs.declared.connection.ConnId.{ConnId}
-use Rattle.ip_headers.specs.declared.tuple.Tuple.{Tuple}
-use Rattle.conntrack.specs.declared.connection.Flags.{Flags}
-use Rattle.conntrack.specs.declared.connection.Direction.{Direction}
-use Rattle.conntrack.specs.declared.connection.Direction.TheVariants.{Original, Reply}
-use Rattle.conntrack.specs.declared.belonging.Belonging.{Belonging}
-use Rattle.conntrack.specs.declared.belonging.Belonging.TheVariants.{NotFound, Ends, Found}
-use Rattle.conntrack.specs.ConntrackEntry.{has_id, same_id, has_distinct_ids, touched, touched_at, without}
-use Rattle.conntrack.specs.ConntrackEntry.{without_id, belonging_by, belongs_in, of_original, of_reply}
-use Rattle.conntrack.specs.ConntrackEntry.{connection_ref, is_taken, have_disjoint_tuples}
-use Rattle.ip_headers.specs.Same.{same_tuple}
-use Rattle.conntrack.specs.Phases.{is_lone_syn, is_closing}
-use Rattle.std.specs.Option.{option_map}
+use Rattle.conntrack.proofs.Names.{Belonging, ConnId, ConnectionRef, ConntrackEntry, Direction, Ends, Flags, Found, NotFound, Original, Reply, Tuple, and_parts}
+use Rattle.conntrack.proofs.Names.{belonging_by, belongs_in, connection_ref, eq-eqb, find, has_distinct_ids, has_id, have_disjoint_tuples, is_closing}
+use Rattle.conntrack.proofs.Names.{is_lone_syn, is_taken, not-true, of_original, of_reply, option_map, or_parts, same_id, same_tuple, same_tuple-true, touched}
+use Rattle.conntrack.proofs.Names.{touched_at, true≢false, without, without_id}
 use Rattle.conntrack.proofs.Lists.{list_any_either, list_any_found}
 use Rattle.conntrack.proofs.Same.{option_map-find}
 use Rattle.conntrack.proofs.Ids.{has_id-found, other_id, without_new}
-use Rattle.ip_headers.specs.steps.Equal.{same_tuple-true}
 
 -- the positions of an id
 abbrev pub marks : ConnId → List ConntrackEntry → List Bool

@@ -2,28 +2,12 @@
 use Rattle.std.proofs.Common.{◌≡◌, ℕ, ◌≤◌, List, [], ◌∷◌, ◌++◌, map, length, Option, Bool, true}
 use Rattle.std.proofs.Common.{false, not, cond, refl, sym, ◌∙◌, ap, arith}
 use Rattle.std.specs.Prelude.{filter}
-use Rattle.std.proofs.lemmas.List.{append-nil, map-append, length-map}
-use Rattle.std.proofs.lemmas.List.Elements.{filter-append}
-use Rattle.ip_headers.specs.declared.tuple.Kind.{Kind}
-use Rattle.ip_headers.specs.declared.tuple.Mapping.{Mapping}
-use Rattle.ip_headers.specs.declared.tuple.Tuple.{Tuple}
-use Rattle.conntrack.specs.declared.connection.ConnId.{ConnId}
-use Rattle.conntrack.specs.declared.connection.Connection.{Connection}
-use Rattle.conntrack.specs.declared.connection.Direction.{Direction}
-use Rattle.conntrack.specs.declared.connection.Flags.{Flags}
-use Rattle.conntrack.specs.declared.connection.ConntrackEntry.{ConntrackEntry}
-use Rattle.box_file.specs.declared.limits.Limits.{Limits}
-use Rattle.conntrack.specs.declared.belonging.Belonging.{Belonging}
-use Rattle.conntrack.specs.declared.belonging.Belonging.TheVariants.{NotFound, Ends, Found}
-use Rattle.conntrack.specs.declared.belonging.ConnectionRef.{ConnectionRef}
-use Rattle.conntrack.specs.ConntrackEntry.{IsNoneLater, have_disjoint_tuples, begun_with, belongs_in, connection_of}
-use Rattle.conntrack.specs.ConntrackEntry.{has_distinct_ids, has_id, is_live, is_taken, live_at, without_id}
-use Rattle.conntrack.specs.ConntrackEntry.{belonging_without_id, same_id, state_of, touched, touched_at, without}
-use Rattle.conntrack.specs.Phases.{no_flags}
-use Rattle.conntrack.specs.Histories.{TrackedPacket, RepresentsAt, belongs, is_that, live_list}
-use Rattle.conntrack.specs.Updates.{DoesNotClash, Arrival, Confirmation, Unconfirmed, Confirmed, after_end}
-use Rattle.conntrack.specs.Updates.{after_packet, ended_by_packet, entry_at, entry_of, change_of_packet, with_begun}
-use Rattle.conntrack.specs.steps.Changes.{changed_by}
+use Rattle.conntrack.proofs.Names.{Arrival, Belonging, Confirmation, Confirmed, ConnId, Connection, ConnectionRef, ConntrackEntry, Direction, DoesNotClash}
+use Rattle.conntrack.proofs.Names.{Ends, Flags, Found, IsNoneLater, Kind, Limits, Mapping, NotFound, RepresentsAt, TrackedPacket, Tuple, Unconfirmed, after_end}
+use Rattle.conntrack.proofs.Names.{after_packet, append-nil, begun_with, belonging_without_id, belongs, belongs_in, change_of_packet, changed_by, connection_of}
+use Rattle.conntrack.proofs.Names.{ended_by_packet, entry_at, entry_of, filter-append, has_distinct_ids, has_id, have_disjoint_tuples, is_live, is_taken}
+use Rattle.conntrack.proofs.Names.{is_that, length-map, live_at, live_list, map-append, no_flags, same_id, state_of, touched, touched_at, with_begun, without}
+use Rattle.conntrack.proofs.Names.{without_id}
 use Rattle.conntrack.proofs.Ids.{apart-filter, apart-push, apart-touched_at, distinct-filter}
 use Rattle.conntrack.proofs.Searches.{live_list-unended}
 use Rattle.conntrack.proofs.Changes.{IsTouchHeld, filter-swap, filter-true, live_at-later, live_at-touched_at}

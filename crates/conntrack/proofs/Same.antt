@@ -1,19 +1,8 @@
 -- Lists that are equal except for ids have the same lookups.
 use Rattle.std.proofs.Common.{◌≡◌, ℕ, List, [], ◌∷◌, map, Option, None, Some, Bool, true, false, ◌&&◌, cond, refl, sym, ◌∙◌, ap}
-use Rattle.std.specs.List.{find, list_any}
-use Rattle.std.specs.Option.{option_map}
-use Rattle.conntrack.specs.declared.connection.ConntrackEntry.{ConntrackEntry}
-use Rattle.conntrack.specs.declared.connection.ConnId.{ConnId}
-use Rattle.ip_headers.specs.declared.tuple.Tuple.{Tuple}
-use Rattle.conntrack.specs.declared.connection.Flags.{Flags}
-use Rattle.conntrack.specs.ConntrackEntry.{without_id, belonging_without_id, ref_without_id, belonging_by, belongs_in}
-use Rattle.conntrack.specs.ConntrackEntry.{of_original, of_reply, is_taken, is_incoming, connection_ref, live_at}
-use Rattle.ip_headers.specs.Same.{same_tuple}
-use Rattle.conntrack.specs.Phases.{is_lone_syn, is_closing}
-use Rattle.conntrack.specs.declared.belonging.Belonging.TheVariants.{Ends, Found}
-use Rattle.conntrack.specs.declared.connection.Direction.TheVariants.{Original}
-use Rattle.box_file.specs.declared.limits.Limits.{Limits}
-use Rattle.conntrack.specs.Histories.{TrackedPacket, RepresentsAt, belongs, live_list}
+use Rattle.conntrack.proofs.Names.{ConnId, ConntrackEntry, Ends, Flags, Found, Limits, Original, RepresentsAt, TrackedPacket, Tuple, belonging_by}
+use Rattle.conntrack.proofs.Names.{belonging_without_id, belongs, belongs_in, connection_ref, find, is_closing, is_incoming, is_lone_syn, is_taken, list_any}
+use Rattle.conntrack.proofs.Names.{live_at, live_list, of_original, of_reply, option_map, ref_without_id, same_tuple, without_id}
 
 pub option_map-find : {A B : Type 0} (f : A → B) (p : B → Bool) (xs : List A) → option_map f (find (λ x. p (f x)) xs) ≡ find p (map f xs)
 option_map-find f p [] = refl

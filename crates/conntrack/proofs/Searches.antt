@@ -2,19 +2,10 @@
 use Rattle.std.proofs.Common.{◌≡◌, ℕ, suc, ◌<◌, List, [], ◌∷◌, ◌++◌, map, length, Option, Bool, true}
 use Rattle.std.proofs.Common.{false, not, ◌&&◌, ◌||◌, cond, eqb, refl, ap, arith}
 use Rattle.std.specs.Prelude.{filter}
-use Rattle.std.specs.List.{AllByRecursion}
-use Rattle.std.proofs.lemmas.Bool.{ne_eqb, eq-eqb}
-use Rattle.std.proofs.lemmas.List.{map-append}
-use Rattle.std.proofs.lemmas.List.Elements.{filter-append}
-use Rattle.std.proofs.Math.Bool.{or-false}
-use Rattle.conntrack.specs.declared.connection.Direction.{Direction}
-use Rattle.conntrack.specs.declared.connection.Flags.{Flags}
-use Rattle.box_file.specs.declared.limits.Limits.{Limits}
-use Rattle.conntrack.specs.ConntrackEntry.{is_live, live_at, touched, begun_with}
-use Rattle.conntrack.specs.Histories.{Creation, TrackedPacket, ConnectionChange, NoChange, Begins, Touches}
-use Rattle.conntrack.specs.Histories.{begun_in, number_if_begins, is_ended, is_that, connection_in, replayed}
-use Rattle.conntrack.specs.Histories.{creation_of, entries_of, is_touch_of, live_list}
-use Rattle.conntrack.specs.steps.Changes.{unended, changed_by, connection_begun, touched_if, begun_by}
+use Rattle.conntrack.proofs.Names.{AllByRecursion, Begins, ConnectionChange, Creation, Direction, Flags, Limits, NoChange, Touches, TrackedPacket, begun_by}
+use Rattle.conntrack.proofs.Names.{begun_in, begun_with, changed_by, connection_begun, connection_in, creation_of, entries_of, eq-eqb, filter-append, is_ended}
+use Rattle.conntrack.proofs.Names.{is_live, is_that, is_touch_of, live_at, live_list, map-append, ne_eqb, number_if_begins, or-false, replayed, touched}
+use Rattle.conntrack.proofs.Names.{touched_if, unended}
 
 -- a filter and a map that change along
 pub map-filter-change : {A B : Type 0} (f g : A → B) (p q : A → Bool) (r : B → Bool) (u : B → B) (cs : List A)

@@ -23,6 +23,9 @@ use step_count::Steps;
 pub struct ListTracker {
     conns: Vec<ConntrackEntry>,
     limits: Limits,
+    // The id of the next entry: 64 bits last longer than any run.
+    next_id: usize,
+    ghost below: { IsTrue (has_ids_below next_id conns.items) },
     ghost distinct: { IsTrue (has_distinct_ids conns.items) },
     ghost apart: { IsTrue (have_disjoint_tuples conns.items) },
 }
@@ -158,55 +161,13 @@ fn find_by_id(conns: &[ConntrackEntry], id: ConnId) -> Option<ConntrackEntry>
     conns.iter().find(|held| held.id == id).copied()
 }
 
-/// Whether an entry has this id.
-fn has(conns: &[ConntrackEntry], id: ConnId) -> bool
-    ensures { result ≡ has_id id conns.now }
-{
-    conns.iter().any(|held| held.id == id)
-}
-
-/// An id that no entry has.
-fn free_id(conns: &[ConntrackEntry]) -> ConnId
-    ensures { has_id result conns.now ≡ false }
-{
-    let next = next_number(conns);
-    if next < usize::MAX {
-        ConnId(next)
-    } else {
-        least_free(conns)
-    }
-}
-
-/// A number above all ids, saturated at the greatest `usize`.
-fn next_number(conns: &[ConntrackEntry]) -> usize
-    ensures { result < 2 ^ 64 - 1 → has_ids_below result conns.now ≡ true }
-{
-    let mut next: usize = 0;
-    for held in conns {
-        next = next.max(held.id.0.saturating_add(1));
-    }
-    next
-}
-
-/// The least id that no entry has.
-fn least_free(conns: &[ConntrackEntry]) -> ConnId
-    ensures { has_id result conns.now ≡ false }
-{
-    for number in 0..conns.len() {
-        let id = ConnId(number);
-        if !has(conns, id) {
-            return id;
-        }
-    }
-    ConnId(conns.len())
-}
-
 impl Tracker for ListTracker {
     ghost held = { λ t. t.conns.items };
 
     ghost limits = { λ t. t.limits };
 
-    ghost has_room = { λ t. nat_lt (vec_len t.conns) (vec_capacity t.conns) };
+    ghost has_room = { λ t. nat_lt (vec_len t.conns) (vec_capacity t.conns)
+        && nat_lt t.next_id (2 ^ 64 - 1) };
 
     ghost max_slots = { None };
 
@@ -215,6 +176,7 @@ impl Tracker for ListTracker {
         ListTracker {
             conns: Vec::new(alloc),
             limits: idle,
+            next_id: 0,
         }
     }
 
@@ -238,6 +200,9 @@ impl Tracker for ListTracker {
     }
 
     fn reserve_one(&mut self) -> Result<(), Memory> {
+        if self.next_id == usize::MAX {
+            return Err(Memory);
+        }
         if self.conns.len() < self.conns.capacity() {
             return Ok(());
         }
@@ -261,7 +226,8 @@ impl Tracker for ListTracker {
         if is_taken(&self.conns, connection.reply) {
             return Err(BeginError::Clash);
         }
-        let id = free_id(&self.conns);
+        let id = ConnId(self.next_id);
+        self.next_id += 1;
         match self.conns.push(ConntrackEntry {
             id,
             original: connection.original,

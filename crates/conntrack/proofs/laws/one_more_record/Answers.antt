@@ -1,6 +1,5 @@
 use Rattle.std.proofs.Common.{sym, ◌∙◌, ap, map, arith}
-use Rattle.conntrack.specs.ConntrackEntry.{without_id}
-use Rattle.conntrack.specs.Tuples.{no_tuple}
+use Rattle.conntrack.proofs.Names.{no_tuple, without_id}
 use Rattle.conntrack.proofs.Packets.{recorded_nothing, represents_after}
 use Rattle.conntrack.proofs.laws.one_more_record.Goals as goal
 

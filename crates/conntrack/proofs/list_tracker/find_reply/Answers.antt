@@ -1,9 +1,5 @@
 use Rattle.std.proofs.Common.{rules, tests, ◌&&◌, ◌∙◌}
-use Rattle.std.proofs.lemmas.Iterator.{YieldsList-from_slice}
-use Rattle.std.proofs.lemmas.Iterator.Search.{find_from_yields_List}
-use Rattle.conntrack.specs.declared.connection.ConntrackEntry.{ConntrackEntry}
-use Rattle.conntrack.specs.ConntrackEntry.{is_live}
-use Rattle.ip_headers.specs.Same.{same_tuple}
+use Rattle.conntrack.proofs.Names.{ConntrackEntry, YieldsList-from_slice, find_from_yields_List, is_live, same_tuple}
 use Rattle.conntrack.proofs.list_tracker.find_reply.Goals as goal
 
 pub returns : goal.returns

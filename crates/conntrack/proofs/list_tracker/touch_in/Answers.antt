@@ -1,9 +1,6 @@
 use Rattle.std.proofs.Common.{arith}
 use Rattle.std.specs.Prelude.{if◌then◌else◌}
-use Rattle.std.proofs.lemmas.List.{get_or_default}
-use Rattle.std.proofs.lemmas.List.Edits.{map_over_more}
-use Rattle.conntrack.specs.declared.connection.ConntrackEntry.{ConntrackEntry}
-use Rattle.conntrack.specs.ConntrackEntry.{touched, same_id}
+use Rattle.conntrack.proofs.Names.{ConntrackEntry, get_or_default, map_over_more, same_id, touched}
 use Rattle.conntrack.proofs.list_tracker.touch_in.Goals as goal
 
 pub loop-held-preserved : goal.loop-held-preserved

@@ -1,6 +1,5 @@
 use Rattle.std.proofs.Common.{not, refl, sym, ap}
-use Rattle.std.specs.Option.{option_map}
-use Rattle.conntrack.specs.ConntrackEntry.{aged_of, is_live}
+use Rattle.conntrack.proofs.Names.{aged_of, is_live, option_map}
 use Rattle.conntrack.proofs.Lists.{filter_where_none}
 use Rattle.conntrack.proofs.Ids.{found_by_id, has_id-found, length-without, live_at-without_expired}
 use Rattle.conntrack.proofs.list_tracker.ListTrackerTracker.age.Goals as goal

@@ -1,6 +1,5 @@
 use Rattle.std.proofs.Common.{sym, ◌∙◌}
-use Rattle.std.proofs.lemmas.Bool.{true≢false}
-use Rattle.conntrack.specs.ConntrackEntry.{same_id}
+use Rattle.conntrack.proofs.Names.{same_id, true≢false}
 use Rattle.conntrack.proofs.Lists.{none_passes}
 use Rattle.conntrack.proofs.list_tracker.ListTrackerTracker.end.Goals as goal
 
