@@ -156,13 +156,9 @@ impl Slots {
         ensures steps { Counts 1 steps.old steps.new }
     {
         steps.tick();
-        match self.slab.get_mut(key) {
-            Some(slot) => {
-                slot.touch(direction, flags, mark, now);
-                slot.queue()
-            }
-            None => unreachable!(),
-        }
+        let slot = &mut self.slab[key];
+        slot.touch(direction, flags, mark, now);
+        slot.queue()
     }
 
     /// Takes the links of one: it is in no list then.
@@ -177,14 +173,10 @@ impl Slots {
         ensures steps { Counts 1 steps.old steps.new }
     {
         steps.tick();
-        match self.slab.get_mut(key) {
-            Some(slot) => {
-                let links = slot.links;
-                slot.links.list = None;
-                links
-            }
-            None => unreachable!(),
-        }
+        let slot = &mut self.slab[key];
+        let links = slot.links;
+        slot.links.list = None;
+        links
     }
 
     /// Sets the links of one.
@@ -196,10 +188,7 @@ impl Slots {
         ensures steps { Counts 1 steps.old steps.new }
     {
         steps.tick();
-        match self.slab.get_mut(key) {
-            Some(slot) => slot.links = links,
-            None => unreachable!(),
-        }
+        self.slab[key].links = links;
     }
 
     /// Sets the next node of one.
@@ -211,10 +200,7 @@ impl Slots {
         ensures steps { Counts 1 steps.old steps.new }
     {
         steps.tick();
-        match self.slab.get_mut(key) {
-            Some(slot) => slot.links.link.next = to,
-            None => unreachable!(),
-        }
+        self.slab[key].links.link.next = to;
     }
 
     /// Sets the previous node of one.
@@ -226,9 +212,6 @@ impl Slots {
         ensures steps { Counts 1 steps.old steps.new }
     {
         steps.tick();
-        match self.slab.get_mut(key) {
-            Some(slot) => slot.links.link.prev = to,
-            None => unreachable!(),
-        }
+        self.slab[key].links.link.prev = to;
     }
 }
