@@ -2,18 +2,10 @@
 use Rattle.std.proofs.Common.{◌≡◌, ℕ, ◌-◌, ◌<◌, ◌≤◌, Option, Some, None, IsSome, false, slice_get}
 use Rattle.std.proofs.Common.{get_or, refl, sym, ap, ◌∙◌, arith, lt-ltb}
 use Rattle.std.specs.Prelude.{IfSome, option_map}
-use Rattle.std.proofs.lemmas.Bool.Decides.{nat_tests}
-use Rattle.std.proofs.lemmas.Option.{same_Some, none-some}
-use Rattle.futures.specs.LinkedLists.{IsIn}
-use Rattle.conntrack.specs.declared.connection.ConntrackEntry.{ConntrackEntry}
-use Rattle.box_file.specs.declared.idle_line.IdleKind.{IdleKind}
+use Rattle.aged_tracker.proofs.Names.{AgedSlots, ConntrackEntry, IdleKind, IsAllLive, IsIn, IsLiveQueue, IsTable, Limits, idle_at, idle_kind, is_live, keys_in}
+use Rattle.aged_tracker.proofs.Names.{last_at, last_by, limit_at, limit_in, limit_of, nat_tests, none-some, phase_of, queue_number, queue_of, queues_of}
+use Rattle.aged_tracker.proofs.Names.{same_Some, slots_of}
 use Rattle.box_file.specs.declared.idle_line.IdleKind.TheVariants as idle
-use Rattle.conntrack.specs.ConntrackEntry.{is_live, limit_of}
-use Rattle.conntrack.specs.Phases.{idle_kind, limit_in, phase_of}
-use Rattle.box_file.specs.declared.limits.Limits.{Limits}
-use Rattle.aged_tracker.specs.declared.aged_slots.AgedSlots.{AgedSlots}
-use Rattle.aged_tracker.specs.steps.Table.{idle_at, queue_number, queue_of, keys_in, slots_of, queues_of, IsTable}
-use Rattle.aged_tracker.specs.steps.Table.{IsLiveQueue, IsAllLive, limit_at, last_at, last_by}
 use Rattle.aged_tracker.proofs.Keys.{IsRising-front, none_in, front_in}
 
 idle_at-number : (k : IdleKind) → idle_at (queue_number k) ≡ k

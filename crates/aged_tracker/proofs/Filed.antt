@@ -1,11 +1,7 @@
 -- Keys that join or leave their lists.
 use Rattle.std.proofs.Common.{◌≡◌, ◌≢◌, ◌⊎◌, ℕ, [], ◌∷◌, ◌++◌, Option, Some, None, sym, ap, ◌∙◌, subst, inl, inr}
-use Rattle.std.proofs.lemmas.Bool.{cases_eq}
-use Rattle.std.proofs.lemmas.Option.{same_Some, none-some}
-use Rattle.futures.specs.LinkedLists.{without, IsIn, IsApart}
-use Rattle.aged_tracker.specs.steps.SlotLists.{Lists, Unlinks, Pushes}
-use Rattle.futures.proofs.LinkLemmas.{IsIn-without}
-use Rattle.aged_tracker.specs.steps.Table.{IsFiled, keys_in, owner_in}
+use Rattle.aged_tracker.proofs.Names.{IsApart, IsFiled, IsIn, IsIn-without, Lists, Pushes, Unlinks, cases_eq, keys_in, none-some, owner_in, same_Some}
+use Rattle.futures.specs.LinkedLists.{without}
 use Rattle.aged_tracker.proofs.Keys.{IsIn-without_kept, IsApart-without, IsIn-push, IsIn-push_kept, IsIn-push_last, IsApart-push}
 
 -- the lists of all keys but one are unchanged

@@ -1,26 +1,12 @@
 -- Lookups, and live entries.
 use Rattle.std.proofs.Common.{◌≡◌, ℕ, ◌+◌, List, [], ◌∷◌, length, Option, Some, None, Bool, true, false, not}
 use Rattle.std.proofs.Common.{◌||◌, ◌&&◌, cond, eqb, refl, sym, ap, ◌∙◌, inl, inr, arith}
-use Rattle.std.specs.List.{find, list_any}
+use Rattle.aged_tracker.proofs.Names.{ConnId, ConntrackEntry, Flags, Found, IsAllLive, IsIn, IsKeyed, Limits, NotFound, Reply, Tuple, and_parts, belonging_by}
+use Rattle.aged_tracker.proofs.Names.{belonging_of, belongs_in, cases_Bool, connection_ref, cons_held, eqb-true, find, find-filter, has_distinct_ids, has_id}
+use Rattle.aged_tracker.proofs.Names.{held_in, is_incoming, is_live, list_any, live_at, nat_tests, not-true, of_original, of_reply, or_left, or_parts, or_right}
+use Rattle.aged_tracker.proofs.Names.{same_Some, same_id, same_tuple}
 use Rattle.std.specs.Prelude.{filter, if◌then◌else◌}
-use Rattle.std.proofs.lemmas.Bool.{cases_Bool, or_left, or_right, or_parts, and_parts, not-true, eqb-true}
-use Rattle.std.proofs.lemmas.Bool.Decides.{nat_tests}
-use Rattle.std.proofs.lemmas.Option.{same_Some}
-use Rattle.futures.specs.LinkedLists.{IsIn}
-use Rattle.conntrack.specs.declared.connection.ConntrackEntry.{ConntrackEntry}
-use Rattle.conntrack.specs.declared.connection.ConnId.{ConnId}
-use Rattle.ip_headers.specs.declared.tuple.Tuple.{Tuple}
-use Rattle.conntrack.specs.declared.connection.Flags.{Flags}
-use Rattle.conntrack.specs.declared.connection.Direction.TheVariants.{Reply}
-use Rattle.conntrack.specs.declared.belonging.Belonging.TheVariants.{NotFound, Found}
-use Rattle.ip_headers.specs.Same.{same_tuple}
-use Rattle.conntrack.specs.ConntrackEntry.{is_incoming, is_live, live_at, belongs_in, belonging_by, connection_ref}
-use Rattle.conntrack.specs.ConntrackEntry.{of_original, of_reply, same_id, has_id, has_distinct_ids, without}
-use Rattle.list_laws.specs.Lists.{find-filter}
-use Rattle.box_file.specs.declared.limits.Limits.{Limits}
-use Rattle.aged_tracker.specs.steps.SlotLists.{held_in, cons_held}
-use Rattle.aged_tracker.specs.steps.Table.{IsAllLive}
-use Rattle.aged_tracker.specs.steps.Keyed.{IsKeyed, belonging_of}
+use Rattle.conntrack.specs.ConntrackEntry.{without}
 use Rattle.aged_tracker.proofs.Tables.{IsNamed, filter_cons, same_id-named}
 use Rattle.aged_tracker.proofs.Members.{not_both, find_none, find_only, any_some}
 use Rattle.aged_tracker.proofs.Keyed.{one_owner, no_owner}

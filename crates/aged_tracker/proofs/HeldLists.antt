@@ -1,8 +1,6 @@
 -- The entries at some keys.
 use Rattle.std.proofs.Common.{◌≡◌, ℕ, List, [], ◌∷◌, ◌++◌, Option, Some, None, refl, ap, ◌∙◌, inl, inr}
-use Rattle.futures.specs.LinkedLists.{IsIn}
-use Rattle.conntrack.specs.declared.connection.ConntrackEntry.{ConntrackEntry}
-use Rattle.aged_tracker.specs.steps.SlotLists.{cons_held, held_in}
+use Rattle.aged_tracker.proofs.Names.{ConntrackEntry, IsIn, cons_held, held_in}
 
 pub held_same : (old new : ℕ → Option ConntrackEntry) (keys : List ℕ) → ((k : ℕ) → IsIn k keys → new k ≡ old k)
     → held_in new keys ≡ held_in old keys

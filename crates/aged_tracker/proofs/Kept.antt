@@ -2,16 +2,12 @@
 use Rattle.std.proofs.Common.{◌≡◌, ◌≢◌, ℕ, ◌-◌, ◌<◌, ◌≤◌, List, [], ◌∷◌, ◌++◌, cond, Option, Some}
 use Rattle.std.proofs.Common.{None, refl, sym, ap, ◌∙◌, subst, inl, inr}
 use Rattle.std.specs.Prelude.{option_map}
-use Rattle.std.proofs.lemmas.Bool.{cases_eq, cases_lt, lt-ltb, le-ltb}
-use Rattle.std.proofs.lemmas.Option.{same_Some}
-use Rattle.slab.specs.Slab.{Slab, get, Updates}
+use Rattle.aged_tracker.proofs.Names.{IsRing, IsRing-kept, IsRings, Link, Pushes, SameExceptLinks, SameLists, Slab, Slot, Unlinks, Updates, cases_eq, cases_lt}
+use Rattle.aged_tracker.proofs.Names.{except_links, held_at, held_of, keys_of, le-ltb, link_at, link_by, lists_of, next_of, number, owner_by, owner_of, prev_of}
+use Rattle.aged_tracker.proofs.Names.{same_Some}
+use Rattle.std.proofs.lemmas.Bool.{lt-ltb}
+use Rattle.slab.specs.Slab.{get}
 use Rattle.futures.specs.LinkedLists.{without}
-use Rattle.futures.proofs.LinkLemmas.{IsRing-kept}
-use Rattle.aged_tracker.specs.declared.slot.Link.{Link}
-use Rattle.aged_tracker.specs.declared.slot.Slot.{Slot}
-use Rattle.aged_tracker.specs.steps.SlotLists.{number, link_by, link_at, next_of, prev_of, owner_by, owner_of}
-use Rattle.aged_tracker.specs.steps.SlotLists.{held_of, held_at, except_links, keys_of, lists_of}
-use Rattle.aged_tracker.specs.steps.SlotLists.{IsRing, IsRings, Unlinks, Pushes, SameExceptLinks, SameLists}
 use Rattle.aged_tracker.proofs.Links.{kept_by, link_at-head, link_at-slot}
 use Rattle.aged_tracker.proofs.Moved.{OwnRing, Skipped, Spliced, ring_left, ring_others, ring_pushed, ring_beside, ring_stays}
 use Rattle.aged_tracker.proofs.Walks.{ring_keys, whole_ring}

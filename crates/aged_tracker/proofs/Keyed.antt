@@ -1,17 +1,8 @@
 -- The index from tuples to slots, and lookups.
 use Rattle.std.proofs.Common.{◌≡◌, ◌≢◌, ℕ, List, [], ◌∷◌, Option, Some, None, true, false, cond, refl, sym, ap, ◌∙◌, subst, inl, inr}
-use Rattle.std.proofs.lemmas.Bool.{cases_Bool, or_cases, cond-true, cond-false, false_from_ne_true}
-use Rattle.std.proofs.lemmas.Bool.{or_from, or_left, or_right, or_parts, and_from, not_from_false, cases_eq}
-use Rattle.std.proofs.lemmas.Option.{same_Some, none-some}
-use Rattle.futures.specs.LinkedLists.{IsIn, IsApart}
-use Rattle.conntrack.specs.declared.connection.ConntrackEntry.{ConntrackEntry}
-use Rattle.ip_headers.specs.declared.tuple.Tuple.{Tuple}
-use Rattle.conntrack.specs.ConntrackEntry.{is_incoming, is_taken, have_disjoint_tuples}
-use Rattle.ip_headers.specs.Same.{same_tuple}
-use Rattle.ip_headers.specs.steps.Equal.{same_tuple-refl, same_tuple-true}
-use Rattle.aged_tracker.specs.steps.SlotLists.{held_in, cons_held}
-use Rattle.aged_tracker.specs.steps.Table.{Sets}
-use Rattle.aged_tracker.specs.steps.Keyed.{IsKeyed}
+use Rattle.aged_tracker.proofs.Names.{ConntrackEntry, IsApart, IsIn, IsKeyed, Sets, Tuple, and_from, cases_Bool, cases_eq, cond-false, cond-true, cons_held}
+use Rattle.aged_tracker.proofs.Names.{false_from_ne_true, have_disjoint_tuples, held_in, is_incoming, is_taken, none-some, not_from_false, or_cases, or_from}
+use Rattle.aged_tracker.proofs.Names.{or_left, or_parts, or_right, same_Some, same_tuple, same_tuple-refl, same_tuple-true}
 use Rattle.aged_tracker.proofs.Members.{not_both, any_none, any_some}
 
 pub incoming-original : (h : ConntrackEntry) → is_incoming h.original h ≡ true

@@ -1,10 +1,8 @@
 -- Lists of distinct keys.
 use Rattle.std.proofs.Common.{◌≡◌, ◌≢◌, ◌⊎◌, ℕ, ◌≤◌, List, [], ◌∷◌, ◌++◌, slice_get, Some, None, refl, sym, ap, ◌∙◌, subst, inl, inr, arith}
-use Rattle.std.proofs.lemmas.Bool.{cases_eq, cond-true, not_from_false, ne_eqb}
-use Rattle.std.proofs.lemmas.Option.{same_Some, none-some}
-use Rattle.futures.specs.LinkedLists.{without, IsIn, IsApart}
-use Rattle.futures.proofs.LinkLemmas.{without_head, IsIn-without}
-use Rattle.aged_tracker.specs.steps.Table.{IsRising, IsSorted}
+use Rattle.aged_tracker.proofs.Names.{IsApart, IsIn, IsIn-without, IsRising, IsSorted, cases_eq, cond-true, ne_eqb, none-some, not_from_false, same_Some}
+use Rattle.aged_tracker.proofs.Names.{without_head}
+use Rattle.futures.specs.LinkedLists.{without}
 
 pub without_past : (key first : ℕ) (rest : List ℕ) → first ≢ key → without key (first ∷ rest) ≡ first ∷ without key rest
 without_past key first rest other = cond-true _ _ _ (not_from_false _ (ne_eqb first key other))

@@ -1,3 +1,4 @@
+pub mod Names
 pub mod Keys
 pub mod HeldLists
 pub mod Ordered

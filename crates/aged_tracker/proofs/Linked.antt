@@ -2,16 +2,9 @@
 use Rattle.std.proofs.Common.{◌≡◌, ◌≢◌, ℕ, ◌<◌, ◌≤◌, List, length, get_or, set, slice_get, Option}
 use Rattle.std.proofs.Common.{Some, None, IsSome, refl, sym, ap, ◌∙◌, subst, inl, inr, arith}
 use Rattle.std.specs.Prelude.{option_map}
-use Rattle.std.proofs.lemmas.Bool.{cases_eq}
-use Rattle.std.proofs.lemmas.Option.{same_Some, none-some}
-use Rattle.std.proofs.lemmas.List.{get_or-set_same, get_or-set_other}
-use Rattle.conntrack.specs.declared.connection.ConnId.{ConnId}
-use Rattle.futures.specs.LinkedLists.{IsIn}
-use Rattle.aged_tracker.specs.steps.SlotLists.{Lists, Unlinks, Pushes, held_in}
-use Rattle.conntrack.specs.declared.connection.ConntrackEntry.{ConntrackEntry}
-use Rattle.conntrack.specs.ConntrackEntry.{IsNoneLater}
-use Rattle.aged_tracker.specs.steps.Table.{queue_of, keys_in, owner_in, IsFiled, IsLinked, IsOldest, IsRising}
-use Rattle.aged_tracker.specs.steps.Table.{Sets, last_at, last_by, queue_list}
+use Rattle.aged_tracker.proofs.Names.{ConnId, ConntrackEntry, IsFiled, IsIn, IsLinked, IsNoneLater, IsOldest, IsRising, Lists, Pushes, Sets, Unlinks, cases_eq}
+use Rattle.aged_tracker.proofs.Names.{get_or-set_other, get_or-set_same, held_in, keys_in, last_at, last_by, none-some, owner_in, queue_list, queue_of}
+use Rattle.aged_tracker.proofs.Names.{same_Some}
 use Rattle.aged_tracker.proofs.Keys.{IsSorted-without, IsSorted-push, IsSorted-to, front_in}
 use Rattle.aged_tracker.proofs.Filed.{IsFiled-unlink, IsFiled-push}
 use Rattle.aged_tracker.proofs.Tables.{none_later-at}

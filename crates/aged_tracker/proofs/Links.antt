@@ -2,14 +2,10 @@
 use Rattle.std.proofs.Common.{◌≡◌, ◌≢◌, ℕ, ◌+◌, ◌-◌, ◌<◌, ◌≤◌, cond, List, get_or, Option, Some, None}
 use Rattle.std.proofs.Common.{IsSome, is_some, refl, sym, ap, ◌∙◌, subst, inl, inr, arith}
 use Rattle.std.specs.Prelude.{option_map}
-use Rattle.std.proofs.lemmas.Bool.{cases_lt, lt-ltb, le-ltb}
-use Rattle.std.proofs.lemmas.Option.{none-some}
-use Rattle.slab.specs.Slab.{Slab, get, Updates}
-use Rattle.futures.proofs.LinkLemmas.{IsOn}
-use Rattle.aged_tracker.specs.declared.slot.Link.{Link}
-use Rattle.aged_tracker.specs.declared.slot.Slot.{Slot}
-use Rattle.aged_tracker.specs.steps.SlotLists.{no_link, link_by, link_at, owner_by, owner_of, IsRing, IsNode}
-use Rattle.aged_tracker.specs.steps.SlotLists.{Relinks, except_neighbours, SameExceptNeighbours, except_links, SameExceptLinks}
+use Rattle.aged_tracker.proofs.Names.{IsNode, IsOn, IsRing, Link, Relinks, SameExceptLinks, SameExceptNeighbours, Slab, Slot, Updates, cases_lt, except_links}
+use Rattle.aged_tracker.proofs.Names.{except_neighbours, le-ltb, link_at, link_by, no_link, none-some, owner_by, owner_of}
+use Rattle.std.proofs.lemmas.Bool.{lt-ltb}
+use Rattle.slab.specs.Slab.{get}
 
 pub some_of : {X : Type 0} (o : Option X) → IsSome o → (x : X) × (o ≡ Some x)
 some_of None is = absurd cc

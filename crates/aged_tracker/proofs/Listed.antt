@@ -2,21 +2,12 @@
 use Rattle.std.proofs.Common.{◌≡◌, ◌≢◌, ℕ, zero, suc, ◌+◌, ◌<◌, ◌≤◌, List, [], ◌∷◌, get_or, map, Option, Some, None, IsSome, eqb, false}
 use Rattle.std.proofs.Common.{refl, sym, ap, ◌∙◌, subst, inl, inr, arith}
 use Rattle.std.specs.Prelude.{option_map}
-use Rattle.std.specs.List.{AllByRecursion, Contains, IsDistinct}
-use Rattle.std.specs.List.Sorted.{IsNonDecreasingBy, IsPermutation}
-use Rattle.std.proofs.lemmas.Bool.{ne_eqb, eq-eqb, true≢false}
-use Rattle.std.proofs.lemmas.Bool.Decides.{nat_tests}
-use Rattle.std.proofs.lemmas.List.Sorted.{Contains-permutation, IsPermutation-map, IsPermutation-sym}
-use Rattle.std.proofs.lemmas.Map.Keys.{IsDistinct-IsPermutation, IsDistinct-head, IsDistinct-tail}
-use Rattle.slab.specs.Slab.{Slab, entries, entries_from, get}
-use Rattle.slab.proofs.SlabLemmas.{Contains-entries}
-use Rattle.futures.specs.LinkedLists.{IsIn}
-use Rattle.list_laws.specs.Decisions.{Contains-cases, Contains-none}
-use Rattle.list_laws.specs.Elements.{Contains-map, Contains-tail, Contains-unmap}
-use Rattle.list_laws.specs.Lists.{Contains-head}
-use Rattle.aged_tracker.specs.declared.slot.Slot.{Slot}
-use Rattle.aged_tracker.specs.steps.SlotLists.{held_at, held_of}
-use Rattle.aged_tracker.specs.steps.Table.{IsOrder, IsSorted, keys_by, numbered_key, order_in, serial_at, serial_by}
+use Rattle.aged_tracker.proofs.Names.{AllByRecursion, Contains, Contains-cases, Contains-entries, Contains-head, Contains-map, Contains-none}
+use Rattle.aged_tracker.proofs.Names.{Contains-permutation, Contains-tail, Contains-unmap, IsDistinct, IsDistinct-IsPermutation, IsDistinct-head}
+use Rattle.aged_tracker.proofs.Names.{IsDistinct-tail, IsIn, IsNonDecreasingBy, IsOrder, IsPermutation, IsPermutation-map, IsPermutation-sym, IsSorted, Slab}
+use Rattle.aged_tracker.proofs.Names.{Slot, entries, entries_from, eq-eqb, held_at, held_of, keys_by, nat_tests, ne_eqb, numbered_key, order_in, serial_at}
+use Rattle.aged_tracker.proofs.Names.{serial_by, true≢false}
+use Rattle.slab.specs.Slab.{get}
 use Rattle.aged_tracker.proofs.Links.{some_of}
 use Rattle.aged_tracker.proofs.Ordered.{IsBelow, one_order, same_number}
 use Rattle.aged_tracker.proofs.Turns.{slot_by}

@@ -1,11 +1,7 @@
 -- Searches in the entries.
 use Rattle.std.proofs.Common.{◌≡◌, ℕ, List, [], ◌∷◌, Option, Some, None, Bool, true, false, refl, sym, ap, ◌∙◌, subst, inl, inr}
-use Rattle.std.specs.List.{find, list_any}
-use Rattle.std.proofs.lemmas.Bool.{false_from_ne_true, or_from, or_left, or_right, and_from, not_from_false, cases_eq, ne_eqb}
-use Rattle.futures.specs.LinkedLists.{IsIn, IsApart}
-use Rattle.conntrack.specs.declared.connection.ConntrackEntry.{ConntrackEntry}
-use Rattle.conntrack.specs.ConntrackEntry.{same_id, has_id, has_distinct_ids}
-use Rattle.aged_tracker.specs.steps.SlotLists.{held_in, cons_held}
+use Rattle.aged_tracker.proofs.Names.{ConntrackEntry, IsApart, IsIn, and_from, cases_eq, cons_held, false_from_ne_true, find, has_distinct_ids, has_id, held_in}
+use Rattle.aged_tracker.proofs.Names.{list_any, ne_eqb, not_from_false, or_from, or_left, or_right, same_id}
 use Rattle.aged_tracker.proofs.Tables.{IsNamed}
 
 pub not_both : {P : Type 0} (b : Bool) → b ≡ true → b ≡ false → P

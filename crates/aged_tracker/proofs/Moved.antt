@@ -2,18 +2,12 @@
 use Rattle.std.proofs.Common.{◌≡◌, ◌≢◌, ℕ, ◌+◌, ◌<◌, List, [], ◌∷◌, ◌++◌, Option, Some, None, IsSome}
 use Rattle.std.proofs.Common.{refl, sym, ap, ◌∙◌, subst, inl, inr}
 use Rattle.std.specs.Prelude.{IfSome, option_map}
-use Rattle.std.proofs.lemmas.Bool.{cases_eq}
-use Rattle.std.proofs.lemmas.Option.{same_Some, none-some}
-use Rattle.slab.specs.Slab.{Slab, get, Updates}
-use Rattle.futures.specs.LinkedLists.{IsIn, without}
-use Rattle.futures.specs.Links.{Joins, Inserts}
-use Rattle.futures.proofs.LinkLemmas.{IsOn, prev_end_on, prev_on, next_on, IsRing-kept, IsRing-skip, IsRing-push, rings_apart, free_not_on}
-use Rattle.aged_tracker.specs.declared.slot.Link.{Link}
-use Rattle.aged_tracker.specs.declared.slot.Slot.{Slot}
-use Rattle.aged_tracker.specs.steps.SlotLists.{number, link_at, next_of, prev_of, owner_of, owner_by, IsRing, except_links, SameExceptLinks}
+use Rattle.aged_tracker.proofs.Names.{Inserts, IsIn, IsOn, IsRing, IsRing-kept, IsRing-push, IsRing-skip, Joins, Link, ListLinks, Relinks, SameExceptLinks}
+use Rattle.aged_tracker.proofs.Names.{Slab, Slot, Updates, cases_eq, except_links, free_not_on, link_at, next_of, next_on, none-some, number, owner_by}
+use Rattle.aged_tracker.proofs.Names.{owner_of, prev_end_on, prev_of, prev_on, rings_apart, same_Some, with_links}
+use Rattle.slab.specs.Slab.{get}
+use Rattle.futures.specs.LinkedLists.{without}
 use Rattle.aged_tracker.proofs.Links.{Relinks-slot, links_but, some_of}
-use Rattle.aged_tracker.specs.declared.slot.ListLinks.{ListLinks}
-use Rattle.aged_tracker.specs.steps.SlotLists.{with_links, Relinks}
 
 -- the key is in one of the circular lists
 pub record OwnRing (slots : Slab Slot) (heads : List Link) (key : ℕ) : Type 0 where

@@ -1,12 +1,10 @@
 -- The order of creation: the keys of all entries, by rising numbers.
 use Rattle.std.proofs.Common.{◌≡◌, ◌≢◌, ℕ, zero, suc, ◌<◌, cond, List, [], ◌∷◌, ◌++◌, Option, Some, None, IsSome}
 use Rattle.std.proofs.Common.{refl, sym, ap, ◌∙◌, subst, inl, inr, arith}
-use Rattle.std.proofs.lemmas.Bool.{cases_eq, cases_lt, lt-ltb, le-ltb}
-use Rattle.std.proofs.lemmas.Option.{none-some}
-use Rattle.futures.specs.LinkedLists.{IsIn, IsApart, without}
-use Rattle.futures.proofs.LinkLemmas.{IsIn-without}
-use Rattle.conntrack.specs.declared.connection.ConntrackEntry.{ConntrackEntry}
-use Rattle.aged_tracker.specs.steps.Table.{IsOrder, IsSorted, Sets, in_order, insert_key, insert_used}
+use Rattle.aged_tracker.proofs.Names.{ConntrackEntry, IsApart, IsIn, IsIn-without, IsOrder, IsSorted, Sets, cases_eq, cases_lt, in_order, insert_key}
+use Rattle.aged_tracker.proofs.Names.{insert_used, le-ltb, none-some}
+use Rattle.std.proofs.lemmas.Bool.{lt-ltb}
+use Rattle.futures.specs.LinkedLists.{without}
 use Rattle.aged_tracker.proofs.Keys.{IsIn-push, IsIn-push_kept, IsIn-push_last, IsIn-without_kept, IsSorted-push, IsSorted-to, IsSorted-without}
 
 pub not_none : {X P : Type 0} (o : Option X) → o ≡ None → IsSome o → P

@@ -1,9 +1,7 @@
 -- The test of two tuples that `Tuple` derives.
 use Rattle.std.proofs.Common.{◌≡◌, Bool, rules}
-use Rattle.std.proofs.lemmas.Bool.Decides.{nat_tests}
+use Rattle.aged_tracker.proofs.Names.{Tuple, nat_tests, same_tuple}
 use Rattle.ip_headers.specs.contracts.tuple.TuplePartialEq.TheImpl.{eq-value}
-use Rattle.ip_headers.specs.declared.tuple.Tuple.{Tuple}
-use Rattle.ip_headers.specs.Same.{same_tuple}
 
 abbrev pub derived_eq : Tuple → Tuple → Bool
 derived_eq a b = eq-value.it a b

@@ -2,17 +2,10 @@
 use Rattle.std.proofs.Common.{◌≡◌, ◌≢◌, ℕ, ◌≤◌, List, [], ◌∷◌, map, Option, Some, None, IsSome, Bool, true, false}
 use Rattle.std.proofs.Common.{not, ◌||◌, cond, refl, sym, ap, ◌∙◌, subst, inl, inr, arith}
 use Rattle.std.specs.Prelude.{filter, option_map}
-use Rattle.std.proofs.lemmas.Bool.{cases_eq, ne_eqb, eq-eqb, eqb-true, not_from_false}
-use Rattle.futures.specs.LinkedLists.{IsIn, IsApart}
-use Rattle.aged_tracker.specs.steps.SlotLists.{cons_held, held_in}
+use Rattle.aged_tracker.proofs.Names.{ConnId, ConntrackEntry, Direction, Flags, IsIn, IsNoneLater, Sets, cases_eq, cons_held, eq-eqb, eqb-true, has_id}
+use Rattle.aged_tracker.proofs.Names.{held_in, last_at, last_by, ne_eqb, not_from_false, same_id, touched, touched_at, without_head}
 use Rattle.futures.specs.LinkedLists as linked
-use Rattle.futures.proofs.LinkLemmas.{without_head}
-use Rattle.conntrack.specs.declared.connection.ConntrackEntry.{ConntrackEntry}
-use Rattle.conntrack.specs.declared.connection.ConnId.{ConnId}
-use Rattle.conntrack.specs.declared.connection.Direction.{Direction}
-use Rattle.conntrack.specs.declared.connection.Flags.{Flags}
-use Rattle.conntrack.specs.ConntrackEntry.{same_id, has_id, without, touched, touched_at, IsNoneLater}
-use Rattle.aged_tracker.specs.steps.Table.{Sets, last_at, last_by}
+use Rattle.conntrack.specs.ConntrackEntry.{without}
 use Rattle.aged_tracker.proofs.Keys.{without_past}
 
 -- each entry has its slot's key as id

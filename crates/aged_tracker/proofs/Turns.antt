@@ -2,26 +2,14 @@
 use Rattle.std.proofs.Common.{◌≡◌, ◌≢◌, ℕ, ◌+◌, ◌<◌, List, [], ◌∷◌, ◌++◌, length, get_or, set, Option, Some, None}
 use Rattle.std.proofs.Common.{IsSome, refl, sym, ap, ◌∙◌, subst, inl, inr, arith, length-set}
 use Rattle.std.specs.Prelude.{IfSome, option_map}
-use Rattle.std.proofs.lemmas.Bool.{cases_eq}
-use Rattle.std.proofs.lemmas.Option.{same_Some}
-use Rattle.std.proofs.lemmas.List.{get_or-set_same, get_or-set_other}
-use Rattle.slab.specs.Slab.{Slab, get, Updates}
-use Rattle.slab.proofs.SlabLemmas.{ContainsKey-within}
-use Rattle.futures.specs.LinkedLists.{IsIn}
+use Rattle.aged_tracker.proofs.Names.{AgedSlots, ConnId, ConntrackEntry, ContainsKey-within, Direction, Flags, IsIn-without, IsNoneLater, IsOldest}
+use Rattle.aged_tracker.proofs.Names.{IsOrder, IsRings, IsTable, Link, Lists, MAX_KEYS, Pushes, SameExceptLinks, SameLists, Sets, Slab, Slot, Unlinks, Updates}
+use Rattle.aged_tracker.proofs.Names.{cases_eq, except_links, get_or-set_other, get_or-set_same, held_at, held_by, held_in, held_of, link_by, lists_of}
+use Rattle.aged_tracker.proofs.Names.{order_in, order_of, owner_by, owner_of, queue_of, queues_of, same_Some, serial_at, serial_by, slots_of, touched}
+use Rattle.aged_tracker.proofs.Names.{touched_at, updated}
+use Rattle.slab.specs.Slab.{get}
 use Rattle.futures.specs.LinkedLists as linked
-use Rattle.futures.proofs.LinkLemmas.{IsIn-without}
-use Rattle.conntrack.specs.declared.connection.ConnId.{ConnId}
-use Rattle.conntrack.specs.declared.connection.Direction.{Direction}
-use Rattle.conntrack.specs.declared.connection.Flags.{Flags}
-use Rattle.conntrack.specs.declared.connection.ConntrackEntry.{ConntrackEntry}
-use Rattle.conntrack.specs.ConntrackEntry.{IsNoneLater, touched, touched_at, without}
-use Rattle.aged_tracker.specs.declared.aged_slots.AgedSlots.{AgedSlots}
-use Rattle.aged_tracker.specs.declared.slot.Link.{Link}
-use Rattle.aged_tracker.specs.declared.slot.Slot.{Slot}
-use Rattle.aged_tracker.specs.steps.SlotLists.{MAX_KEYS, updated, held_of, held_at, held_in, link_by, owner_by, owner_of}
-use Rattle.aged_tracker.specs.steps.SlotLists.{lists_of, except_links, IsRings, Lists, Unlinks, Pushes, SameExceptLinks, SameLists}
-use Rattle.aged_tracker.specs.steps.Table.{queue_of, slots_of, order_in, order_of, queues_of, serial_at, serial_by}
-use Rattle.aged_tracker.specs.steps.Table.{held_by, IsTable, IsOldest, IsOrder, Sets}
+use Rattle.conntrack.specs.ConntrackEntry.{without}
 use Rattle.aged_tracker.proofs.HeldLists.{held_same, held_push}
 use Rattle.aged_tracker.proofs.Kept.{same_rings, same_lists, held_aside, rings_off, lists_off}
 use Rattle.aged_tracker.proofs.Tables.{held_touched, held_without}

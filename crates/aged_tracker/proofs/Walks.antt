@@ -1,15 +1,12 @@
 -- The keys along a circular list.
 use Rattle.std.proofs.Common.{◌≡◌, ◌≢◌, ◌⊎◌, ℕ, zero, suc, ◌+◌, ◌-◌, ◌<◌, ◌≤◌, cond, List, [], ◌∷◌, length, slice_get}
 use Rattle.std.proofs.Common.{Some, None, refl, sym, ap, ◌∙◌, subst, inl, inr, arith}
-use Rattle.std.proofs.lemmas.Bool.{cases_eq, lt-ltb, le-ltb}
-use Rattle.slab.specs.Slab.{Slab, get}
-use Rattle.slab.proofs.SlabLemmas.{ContainsKey-within}
-use Rattle.futures.specs.LinkedLists.{IsIn, IsApart, without}
+use Rattle.aged_tracker.proofs.Names.{ContainsKey-within, IsApart, IsIn, IsIn-without, IsRing, Link, Slab, Slot, cases_eq, key_at, keys_of, le-ltb}
+use Rattle.aged_tracker.proofs.Names.{length-without, next_of, prev_of, walk}
+use Rattle.std.proofs.lemmas.Bool.{lt-ltb}
+use Rattle.slab.specs.Slab.{get}
+use Rattle.futures.specs.LinkedLists.{without}
 use Rattle.futures.specs.Links as ring
-use Rattle.futures.proofs.LinkLemmas.{length-without, IsIn-without}
-use Rattle.aged_tracker.specs.declared.slot.Link.{Link}
-use Rattle.aged_tracker.specs.declared.slot.Slot.{Slot}
-use Rattle.aged_tracker.specs.steps.SlotLists.{next_of, prev_of, IsRing, key_at, walk, keys_of}
 use Rattle.aged_tracker.proofs.Keys.{IsApart-without}
 use Rattle.aged_tracker.proofs.Links.{owned_some}
 

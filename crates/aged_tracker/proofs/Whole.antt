@@ -1,22 +1,11 @@
 -- The invariant of an `AgedTracker` when an entry is touched, created or removed.
 use Rattle.std.proofs.Common.{◌≡◌, ℕ, ◌+◌, ◌-◌, [], ◌∷◌, ◌++◌, length, Option, Some, None, IsSome, is_some}
 use Rattle.std.proofs.Common.{true, false, cond, refl, sym, ap, ◌∙◌, subst, arith, length-append}
-use Rattle.std.proofs.lemmas.List.{length-map}
+use Rattle.aged_tracker.proofs.Names.{AgedSlots, ConnId, ConntrackEntry, Direction, Flags, IsConsistent, IsIn, IsKeyed, IsTable, Sets, Tuple, aged_of, eqb-true}
+use Rattle.aged_tracker.proofs.Names.{false_from_ne_true, has_distinct_ids, has_id, have_disjoint_tuples, held_by, is_taken, length-map, none-some, order_of}
+use Rattle.aged_tracker.proofs.Names.{removed_entry, same_id, same_tuple, serial_at, slots_of, touched, touched_at}
 use Rattle.std.specs.Prelude.{IfSome, option_map}
-use Rattle.std.proofs.lemmas.Bool.{eqb-true, false_from_ne_true}
-use Rattle.std.proofs.lemmas.Option.{none-some}
-use Rattle.futures.specs.LinkedLists.{IsIn}
-use Rattle.conntrack.specs.declared.connection.ConntrackEntry.{ConntrackEntry}
-use Rattle.ip_headers.specs.declared.tuple.Tuple.{Tuple}
-use Rattle.conntrack.specs.declared.connection.ConnId.{ConnId}
-use Rattle.conntrack.specs.declared.connection.Direction.{Direction}
-use Rattle.conntrack.specs.declared.connection.Flags.{Flags}
-use Rattle.ip_headers.specs.Same.{same_tuple}
-use Rattle.conntrack.specs.ConntrackEntry.{aged_of, same_id, removed_entry, has_id, touched, touched_at, without}
-use Rattle.conntrack.specs.ConntrackEntry.{is_taken, has_distinct_ids, have_disjoint_tuples}
-use Rattle.aged_tracker.specs.declared.aged_slots.AgedSlots.{AgedSlots}
-use Rattle.aged_tracker.specs.steps.Table.{IsTable, Sets, held_by, order_of, serial_at, slots_of}
-use Rattle.aged_tracker.specs.steps.Keyed.{IsKeyed, IsConsistent}
+use Rattle.conntrack.specs.ConntrackEntry.{without}
 use Rattle.aged_tracker.proofs.Tables.{has_id-slot, same_id-named}
 use Rattle.aged_tracker.proofs.Links.{some_of}
 use Rattle.aged_tracker.proofs.Ordered.{apart_by_serial}

@@ -1,12 +1,7 @@
 use Rattle.std.proofs.Common.{◌≡◌, ℕ, ◌++◌, ◌∷◌, [], get_or, map, take, Some, sym, ap, ◌∙◌, rules, arith}
 use Rattle.std.specs.Prelude.{IsSome, option_map}
-use Rattle.std.proofs.lemmas.List.{get_or_default, map-append}
-use Rattle.std.proofs.lemmas.List.Elements.{Contains-get_or}
+use Rattle.aged_tracker.proofs.Names.{Contains-get_or, connection_of, get_or_default, held_at, held_in, held_of, keys_by, map-append, map-more}
 use Rattle.slab.specs.Slab.{get}
-use Rattle.list_laws.specs.Lists.{map-more}
-use Rattle.conntrack.specs.ConntrackEntry.{connection_of}
-use Rattle.aged_tracker.specs.steps.SlotLists.{held_at, held_in, held_of}
-use Rattle.aged_tracker.specs.steps.Table.{keys_by}
 use Rattle.aged_tracker.proofs.HeldLists.{held_push}
 use Rattle.aged_tracker.proofs.Links.{some_of}
 use Rattle.aged_tracker.proofs.Listed.{at_in}

@@ -1,7 +1,5 @@
 use Rattle.std.proofs.Common.{◌≡◌, ◌≤◌, map, take}
-use Rattle.conntrack.specs.ConntrackEntry.{connection_of}
-use Rattle.aged_tracker.specs.steps.SlotLists.{held_at, held_in}
-use Rattle.aged_tracker.specs.steps.Table.{keys_by}
+use Rattle.aged_tracker.proofs.Names.{connection_of, held_at, held_in, keys_by}
 use Rattle.aged_tracker.proofs.aged_slots.connections.Given as goal
 
 abbrev pub invariant-loop-entry : goal.invariant-loop-entry

@@ -1,6 +1,5 @@
 use Rattle.std.proofs.Common.{ap, ◌∙◌}
-use Rattle.aged_tracker.specs.declared.slot.Link.{Link}
-use Rattle.aged_tracker.specs.steps.SlotLists.{number, key_at, keys_of, next_of, prev_of}
+use Rattle.aged_tracker.proofs.Names.{Link, key_at, keys_of, next_of, number, prev_of}
 use Rattle.aged_tracker.proofs.Walks.{chain_first}
 use Rattle.aged_tracker.proofs.linked_lists.front.Goals as goal
 

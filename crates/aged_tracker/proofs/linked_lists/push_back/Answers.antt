@@ -1,7 +1,5 @@
 use Rattle.std.proofs.Common.{◌≡◌, ◌≢◌, ℕ, ◌+◌, Some, ap, sym, ◌∙◌, arith}
-use Rattle.futures.proofs.LinkLemmas.{prev_end_on, free_not_on}
-use Rattle.aged_tracker.specs.declared.slot.Link.{Link}
-use Rattle.aged_tracker.specs.steps.SlotLists.{number, keys_of, next_of, prev_of, owner_of}
+use Rattle.aged_tracker.proofs.Names.{Link, free_not_on, keys_of, next_of, number, owner_of, prev_end_on, prev_of}
 use Rattle.aged_tracker.proofs.Links.{bare_owner, on_place, aside_kept, aside_place}
 use Rattle.aged_tracker.proofs.Moved.{Spliced, Placed, placed}
 use Rattle.aged_tracker.proofs.Kept.{rings_pushed, lists_pushed}

@@ -1,10 +1,6 @@
 use Rattle.std.proofs.Common.{◌≡◌, ℕ, ◌+◌, ◌<◌, Some, None, ap, sym, ◌∙◌, arith}
-use Rattle.std.proofs.lemmas.Option.{same_Some}
+use Rattle.aged_tracker.proofs.Names.{IsNode, IsOn, Link, ListLinks, keys_of, link_at, next_of, next_on, number, owner_of, prev_of, prev_on, same_Some}
 use Rattle.slab.specs.Slab.{get}
-use Rattle.futures.proofs.LinkLemmas.{IsOn, prev_on, next_on}
-use Rattle.aged_tracker.specs.declared.slot.Link.{Link}
-use Rattle.aged_tracker.specs.declared.slot.ListLinks.{ListLinks}
-use Rattle.aged_tracker.specs.steps.SlotLists.{number, link_at, keys_of, next_of, prev_of, owner_of, IsNode}
 use Rattle.aged_tracker.proofs.Links.{bare_owner, bare_place, on_place, aside_kept, aside_place, owned_some}
 use Rattle.aged_tracker.proofs.Moved.{Skipped, Placed, placed, unmoved}
 use Rattle.aged_tracker.proofs.Kept.{rings_unlinked, lists_unlinked}

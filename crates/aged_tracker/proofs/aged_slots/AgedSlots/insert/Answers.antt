@@ -1,12 +1,7 @@
 use Rattle.std.proofs.Common.{◌≡◌, ◌<◌, ◌++◌, ◌∷◌, [], length, Some, refl, ap, sym, ◌∙◌, subst, rules, arith}
 use Rattle.std.specs.Prelude.{nat_lt, ◌&&◌}
-use Rattle.std.proofs.lemmas.Bool.{and_parts, ltb-true}
-use Rattle.slab.specs.Slab.{slab_len}
-use Rattle.conntrack.specs.declared.connection.Flags.{Flags}
-use Rattle.conntrack.specs.declared.connection.ConntrackEntry.{ConntrackEntry}
-use Rattle.conntrack.specs.ConntrackEntry.{begun_with}
-use Rattle.aged_tracker.specs.steps.SlotLists.{MAX_KEYS, held_at, held_of}
-use Rattle.aged_tracker.specs.steps.Table.{MAX_SERIAL, held_by, queue_by, queue_of, slots_of, Sets}
+use Rattle.aged_tracker.proofs.Names.{ConntrackEntry, Flags, MAX_KEYS, MAX_SERIAL, Sets, and_parts, begun_with, held_at, held_by, held_of, ltb-true, queue_by}
+use Rattle.aged_tracker.proofs.Names.{queue_of, slab_len, slots_of}
 use Rattle.aged_tracker.proofs.Turns.{begun_rings, begun_sets, begun_held, begun_table}
 use Rattle.aged_tracker.proofs.aged_slots.AgedSlots.insert.Goals as goal
 use Rattle.aged_tracker.proofs.aged_slots.AgedSlots.insert.Goals.{After-oldest_of}

@@ -1,8 +1,5 @@
 use Rattle.std.proofs.Common.{map, sym, rules}
-use Rattle.std.specs.List.Sorted.{IsPermutation}
-use Rattle.std.proofs.lemmas.List.Sorted.{IsNonDecreasingBy-from_sort_by_key}
-use Rattle.slab.specs.Slab.{entries}
-use Rattle.aged_tracker.specs.steps.Table.{numbered_key}
+use Rattle.aged_tracker.proofs.Names.{IsNonDecreasingBy-from_sort_by_key, IsPermutation, entries, numbered_key}
 use Rattle.aged_tracker.proofs.Turns.{slot_by}
 use Rattle.aged_tracker.proofs.Listed.{keys_used, listed_order}
 use Rattle.aged_tracker.proofs.aged_slots.AgedSlots.list.Goals as goal

@@ -1,7 +1,6 @@
 use Rattle.std.proofs.Common.{◌≡◌, Some, None, IsSome, sym, ◌∙◌, refl, subst}
+use Rattle.aged_tracker.proofs.Names.{order_of, same_tuple, slots_of}
 use Rattle.std.specs.HashMap.{get}
-use Rattle.aged_tracker.specs.steps.Table.{order_of, slots_of}
-use Rattle.ip_headers.specs.Same.{same_tuple}
 use Rattle.aged_tracker.proofs.Whole.{slot_listed, distinct_by, apart_by}
 use Rattle.aged_tracker.proofs.Found.{belongs_none, belongs_some}
 use Rattle.aged_tracker.proofs.aged_tracker.AgedTracker.find.Goals as goal

@@ -1,10 +1,6 @@
 use Rattle.std.proofs.Common.{◌≡◌, ◌+◌, Some, refl, ap, sym, subst, length, arith, ◌∙◌}
-use Rattle.std.proofs.lemmas.Option.{same_Some}
-use Rattle.conntrack.specs.declared.connection.Aged.{Aged}
-use Rattle.conntrack.specs.declared.connection.ConnId.{ConnId}
-use Rattle.conntrack.specs.declared.connection.ConntrackEntry.{ConntrackEntry}
-use Rattle.conntrack.specs.ConntrackEntry.{aged_of, live_at, removed_entry, without}
-use Rattle.aged_tracker.specs.steps.Table.{order_of, slots_of}
+use Rattle.aged_tracker.proofs.Names.{Aged, ConnId, ConntrackEntry, aged_of, live_at, order_of, removed_entry, same_Some, slots_of}
+use Rattle.conntrack.specs.ConntrackEntry.{without}
 use Rattle.aged_tracker.proofs.Links.{some_of}
 use Rattle.aged_tracker.proofs.Whole.{has_by, distinct_by, handed_over, one_fewer}
 use Rattle.aged_tracker.proofs.Found.{live_all, live_without}

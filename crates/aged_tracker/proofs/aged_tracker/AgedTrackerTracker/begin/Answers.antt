@@ -1,7 +1,6 @@
 use Rattle.std.proofs.Common.{◌≡◌, Some, IsSome, IsTrue, cond, rules, ap, sym, ◌∙◌, false, is_some}
+use Rattle.aged_tracker.proofs.Names.{begun_with, is_taken, same_tuple}
 use Rattle.std.specs.HashMap.{get}
-use Rattle.conntrack.specs.ConntrackEntry.{is_taken, begun_with}
-use Rattle.ip_headers.specs.Same.{same_tuple}
 use Rattle.aged_tracker.proofs.Members.{not_both}
 use Rattle.aged_tracker.proofs.Whole.{fresh_id, taken_by, free_by, no_key, aged_begun, none_of}
 use Rattle.aged_tracker.proofs.aged_tracker.AgedTrackerTracker.begin.Goals as goal

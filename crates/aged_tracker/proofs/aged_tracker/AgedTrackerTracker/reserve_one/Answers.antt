@@ -1,7 +1,6 @@
 use Rattle.std.proofs.Common.{◌≡◌, refl, subst, Bool}
+use Rattle.aged_tracker.proofs.Names.{Tuple, same_tuple}
 use Rattle.std.specs.HashMap.{get}
-use Rattle.ip_headers.specs.declared.tuple.Tuple.{Tuple}
-use Rattle.ip_headers.specs.Same.{same_tuple}
 use Rattle.aged_tracker.proofs.Same.{same_fun}
 use Rattle.aged_tracker.proofs.Whole.{aged_grown}
 use Rattle.aged_tracker.proofs.aged_tracker.AgedTrackerTracker.reserve_one.Goals as goal

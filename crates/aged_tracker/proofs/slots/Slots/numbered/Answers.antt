@@ -1,8 +1,5 @@
 use Rattle.std.proofs.Common.{rules}
-use Rattle.std.proofs.lemmas.Iterator.{items_from_collect, YieldsList-from_map}
-use Rattle.std.proofs.lemmas.Iterator.Consumers.{YieldsList-from_first}
-use Rattle.slab.specs.Slab.{entries}
-use Rattle.aged_tracker.specs.steps.Table.{numbered_key}
+use Rattle.aged_tracker.proofs.Names.{YieldsList-from_first, YieldsList-from_map, entries, items_from_collect, numbered_key}
 use Rattle.aged_tracker.proofs.slots.Slots.numbered.Goals as goal
 
 pub returns-in-Ok-clause-numbered : goal.returns-in-Ok-clause-numbered

@@ -1,0 +1,51 @@
+-- Names of other crates and of the definitions, for the proofs.
+pub use Rattle.aged_tracker.specs.declared.aged_slots.AgedSlots.{AgedSlots}
+pub use Rattle.aged_tracker.specs.declared.slot.Link.{Link}
+pub use Rattle.aged_tracker.specs.declared.slot.ListLinks.{ListLinks}
+pub use Rattle.aged_tracker.specs.declared.slot.Slot.{Slot}
+pub use Rattle.aged_tracker.specs.steps.Keyed.{IsConsistent, IsKeyed, belonging_of}
+pub use Rattle.aged_tracker.specs.steps.SlotLists.{IsNode, IsRing, IsRings, Lists, MAX_KEYS, Pushes, Relinks, SameExceptLinks, SameExceptNeighbours, SameLists}
+pub use Rattle.aged_tracker.specs.steps.SlotLists.{Unlinks, cons_held, except_links, except_neighbours, held_at, held_in, held_of, key_at, keys_of, link_at}
+pub use Rattle.aged_tracker.specs.steps.SlotLists.{link_by, lists_of, next_of, no_link, number, owner_by, owner_of, prev_of, updated, walk, with_links}
+pub use Rattle.aged_tracker.specs.steps.Table.{IsAllLive, IsFiled, IsLinked, IsLiveQueue, IsOldest, IsOrder, IsRising, IsSorted, IsTable, MAX_SERIAL, Sets}
+pub use Rattle.aged_tracker.specs.steps.Table.{held_by, idle_at, in_order, insert_key, insert_used, keys_by, keys_in, last_at, last_by, limit_at, numbered_key}
+pub use Rattle.aged_tracker.specs.steps.Table.{order_in, order_of, owner_in, queue_by, queue_list, queue_number, queue_of, queues_of, serial_at, serial_by}
+pub use Rattle.aged_tracker.specs.steps.Table.{slots_of}
+pub use Rattle.box_file.specs.declared.idle_line.IdleKind.{IdleKind}
+pub use Rattle.box_file.specs.declared.limits.Limits.{Limits}
+pub use Rattle.conntrack.specs.ConntrackEntry.{IsNoneLater, aged_of, begun_with, belonging_by, belongs_in, connection_of, connection_ref, has_distinct_ids}
+pub use Rattle.conntrack.specs.ConntrackEntry.{has_id, have_disjoint_tuples, is_incoming, is_live, is_taken, limit_of, live_at, of_original, of_reply}
+pub use Rattle.conntrack.specs.ConntrackEntry.{removed_entry, same_id, touched, touched_at}
+pub use Rattle.conntrack.specs.Phases.{idle_kind, limit_in, phase_of}
+pub use Rattle.conntrack.specs.declared.belonging.Belonging.TheVariants.{Found, NotFound}
+pub use Rattle.conntrack.specs.declared.connection.Aged.{Aged}
+pub use Rattle.conntrack.specs.declared.connection.ConnId.{ConnId}
+pub use Rattle.conntrack.specs.declared.connection.ConntrackEntry.{ConntrackEntry}
+pub use Rattle.conntrack.specs.declared.connection.Direction.{Direction}
+pub use Rattle.conntrack.specs.declared.connection.Direction.TheVariants.{Reply}
+pub use Rattle.conntrack.specs.declared.connection.Flags.{Flags}
+pub use Rattle.futures.proofs.LinkLemmas.{IsIn-without, IsOn, IsRing-kept, IsRing-push, IsRing-skip, free_not_on, length-without, next_on, prev_end_on, prev_on}
+pub use Rattle.futures.proofs.LinkLemmas.{rings_apart, without_head}
+pub use Rattle.futures.specs.LinkedLists.{IsApart, IsIn}
+pub use Rattle.futures.specs.Links.{Inserts, Joins}
+pub use Rattle.ip_headers.specs.Same.{same_tuple}
+pub use Rattle.ip_headers.specs.declared.tuple.Tuple.{Tuple}
+pub use Rattle.ip_headers.specs.steps.Equal.{same_tuple-refl, same_tuple-true}
+pub use Rattle.list_laws.specs.Decisions.{Contains-cases, Contains-none}
+pub use Rattle.list_laws.specs.Elements.{Contains-map, Contains-tail, Contains-unmap}
+pub use Rattle.list_laws.specs.Lists.{Contains-head, find-filter, map-more}
+pub use Rattle.slab.proofs.SlabLemmas.{Contains-entries, ContainsKey-within}
+pub use Rattle.slab.specs.Slab.{Slab, Updates, entries, entries_from, slab_len}
+pub use Rattle.std.proofs.lemmas.Bool.{and_from, and_parts, cases_Bool, cases_eq, cases_lt, cond-false, cond-true, eq-eqb, eqb-true, false_from_ne_true, le-ltb}
+pub use Rattle.std.proofs.lemmas.Bool.{ltb-true, ne_eqb, not-true, not_from_false, or_cases, or_from, or_left, or_parts, or_right, true≢false}
+pub use Rattle.std.proofs.lemmas.Bool.Decides.{nat_tests}
+pub use Rattle.std.proofs.lemmas.Iterator.{YieldsList-from_map, items_from_collect}
+pub use Rattle.std.proofs.lemmas.Iterator.Consumers.{YieldsList-from_first}
+pub use Rattle.std.proofs.lemmas.List.{get_or-set_other, get_or-set_same, get_or_default, length-map, map-append}
+pub use Rattle.std.proofs.lemmas.List.Elements.{Contains-get_or}
+pub use Rattle.std.proofs.lemmas.List.Sorted.{Contains-permutation, IsNonDecreasingBy-from_sort_by_key, IsPermutation-map, IsPermutation-sym}
+pub use Rattle.std.proofs.lemmas.Map.Keys.{IsDistinct-IsPermutation, IsDistinct-head, IsDistinct-tail}
+pub use Rattle.std.proofs.lemmas.Option.{none-some, same_Some}
+pub use Rattle.std.specs.List.{AllByRecursion, Contains, find, list_any}
+unfoldable pub use Rattle.std.specs.List.{IsDistinct}
+pub use Rattle.std.specs.List.Sorted.{IsNonDecreasingBy, IsPermutation}
