@@ -14,8 +14,7 @@ use crate::keys::{
 };
 use crate::pools::Pools;
 use crate::tables::{
-    add_holder, find_inbound, find_source, insert_inbound, remove_holder, remove_inbound,
-    spare_inbounds, spare_sources,
+    add_holder, find_inbound, find_source, insert_inbound, remove_holder, remove_inbound, spare_of,
 };
 use ip_headers::{Endpoint, Kind, Mapping};
 use port_pool::CandidateRange;
@@ -158,7 +157,7 @@ impl Mappings {
     fn room(&self) -> usize
         ensures { result ≡ self.now.room }
     {
-        let tables = spare_sources(&self.sources).min(spare_inbounds(&self.inbounds));
+        let tables = spare_of(&self.sources).min(spare_of(&self.inbounds));
         tables.min(self.pools.room())
     }
 

@@ -11,6 +11,7 @@ ghost use Rattle.nat_mapping.specs.steps.Keys.{same_pool};
 ghost use Rattle.nat_mapping.specs.steps.Ports.{is_taken_by, order_by, IsSpare};
 
 use crate::keys::{PoolKey, has_pool, order};
+use crate::tables::spare_of;
 use port_pool::{CandidateRange, Order, Pool, choose_unused};
 use std::alloc::{AllocError, Global};
 use std::collections::HashMap;
@@ -56,7 +57,7 @@ impl Pools {
     pub(crate) fn room(&self) -> usize
         ensures { result ≡ pool_room self.now }
     {
-        (self.pools.capacity() - self.pools.len()).min(self.spares.len())
+        spare_of(&self.pools).min(self.spares.len())
     }
 
     /// The first free candidate.

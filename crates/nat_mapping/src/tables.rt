@@ -38,18 +38,11 @@ pub(crate) fn find_inbound(
     inbounds.get(&key).copied()
 }
 
-/// How many more mappings fit without growing.
-pub(crate) fn spare_sources(sources: &HashMap<SourceKey, MappedPort, WordState>) -> usize
-    ensures { result ≡ spare sources.now }
+/// How many more keys fit in a table without growing.
+pub(crate) fn spare_of<K: Eq + Hash, V>(table: &HashMap<K, V, WordState>) -> usize
+    ensures { result ≡ spare table.now }
 {
-    sources.capacity() - sources.len()
-}
-
-/// How many more external endpoints fit without growing.
-pub(crate) fn spare_inbounds(inbounds: &HashMap<InboundKey, Endpoint, WordState>) -> usize
-    ensures { result ≡ spare inbounds.now }
-{
-    inbounds.capacity() - inbounds.len()
+    table.capacity() - table.len()
 }
 
 /// Adds a holder under a key, with this port if it is the first. What was there before.
