@@ -1,13 +1,13 @@
 -- The tables' lookups are those of the list.
 use Rattle.std.specs.Prelude.{◌==◌}
-use Rattle.std.proofs.Common.{◌≡◌, ℕ, ◌<◌, Bool, true, false, not, cond, is_some, List, Option, Some}
+use Rattle.std.proofs.Common.{◌≡◌, ℕ, ◌<◌, Bool, true, not, cond, is_some, List, Option, Some}
 use Rattle.std.proofs.Common.{None, refl, sym, ◌∙◌, ap, subst, inl, inr, arith}
 use Rattle.nat_mapping.proofs.Names.{CandidateRange, Contains, CountsHolders, Endpoint, InboundKey, IsOneToOne, IsSound, Kind, MappedPort, Mapping, PoolKey}
-use Rattle.nat_mapping.proofs.Names.{SourceKey, and_from, and_parts, both_ways, candidates, cases_Bool, cond-false, cond-true, eq-eqb, eqb-true, find}
+use Rattle.nat_mapping.proofs.Names.{SourceKey, and_from, and_parts, candidates, cases_Bool, cond-false, cond-true, eq-eqb, eqb-true, find}
 use Rattle.nat_mapping.proofs.Names.{has_external, has_internal, holders_at, holders_of, inbound_at, inbound_key_of, inbound_of, is_port_held, mapping_at}
 use Rattle.nat_mapping.proofs.Names.{option_map, or_else, order_of, port_of, same_Some, source_key_of, source_of}
 use Rattle.nat_mapping.proofs.Equal.{kind_test, endpoint_test}
-use Rattle.nat_mapping.proofs.Lists.{find_held, find_none, has_holder, is_among}
+use Rattle.nat_mapping.proofs.Lists.{found_among, none_such, has_holder, is_among}
 
 -- where a mapping has holders, it is found
 pub holding_at : (o : Option MappedPort) (port : ℕ) → 0 < holders_at o port → (h : MappedPort) × ((o ≡ Some h) × (h.port ≡ port))
@@ -55,22 +55,21 @@ module _ (sources : SourceKey → Option MappedPort) (inbounds : InboundKey → 
       none (Some i) is e =
           let back = sound.back (record { kind = kind; external = external }) i is in
           let m : Mapping = mapping_at (record { kind = kind; internal = i; address = external.address }) back.0 in
-          let fails : has_external kind external m ≡ false = find_none (has_external kind external) held m e (filed _ back.0 back.1.0) in
           let port : (m.external.port == external.port) ≡ true = eq-eqb _ _ back.1.1 in
-          absurd (both_ways (has_external kind external m) fails
+          absurd (none_such (has_external kind external) held m e (is_among m held (filed _ back.0 back.1.0))
           (and_from _ _ (kind_test.same kind) (and_from _ _ (eq-eqb external.address external.address refl) port)))
 
       by : (f : Option Mapping) → find (has_external kind external) held ≡ f
           → option_map (λ m. m.internal) f ≡ inbounds (record { kind = kind; external = external })
       by (Some m) e =
-          let got = find_held (has_external kind external) held m e in
-          let parts = and_parts _ _ got.0 in
+          let got = found_among (has_external kind external) held m e in
+          let parts = and_parts _ _ got.1 in
           let same_kinds : kind ≡ m.kind = sym (kind_test.exact _ _ parts.0) in
           let same_ends : external ≡ m.external = sym (endpoint_test.exact _ _ parts.1) in
           let same : ◌≡◌ {A = InboundKey} (record { kind = kind; external = external }) (inbound_key_of m) =
           ap (λ k. record { kind = k; external = external }) same_kinds
           ∙ ap (λ x. record { kind = m.kind; external = x }) same_ends in
-          sym (ap inbounds same ∙ kept_out m got.1)
+          sym (ap inbounds same ∙ kept_out m (has_holder m held got.0))
       by None e = none (inbounds (record { kind = kind; external = external })) refl e
 
   pub port_is : (kind : Kind) (internal : Endpoint) (address : ℕ)
@@ -87,18 +86,15 @@ module _ (sources : SourceKey → Option MappedPort) (inbounds : InboundKey → 
       none None is e = refl
       none (Some h) is e =
           let m : Mapping = mapping_at (record { kind = kind; internal = internal; address = address }) h in
-          let fails : has_internal kind internal address m ≡ false =
-          find_none (has_internal kind internal address) held m e (filed _ h is) in
-          absurd (both_ways (has_internal kind internal address m) fails
-          (and_from _ _ (kind_test.same kind) (and_from _ _ (endpoint_test.same internal)
+          absurd (none_such (has_internal kind internal address) held m e (is_among m held (filed _ h is)) (and_from _ _ (kind_test.same kind) (and_from _ _ (endpoint_test.same internal)
           (eq-eqb address address refl))))
 
       by : (f : Option Mapping) → find (has_internal kind internal address) held ≡ f
           → option_map (λ m. m.external.port) f ≡ option_map (λ h. h.port)
           (sources (record { kind = kind; internal = internal; address = address }))
       by (Some m) e =
-          let got = find_held (has_internal kind internal address) held m e in
-          let parts = and_parts _ _ got.0 in
+          let got = found_among (has_internal kind internal address) held m e in
+          let parts = and_parts _ _ got.1 in
           let ends = and_parts _ _ parts.1 in
           let same_kinds : kind ≡ m.kind = sym (kind_test.exact _ _ parts.0) in
           let same_ends : internal ≡ m.internal = sym (endpoint_test.exact _ _ ends.0) in
@@ -107,7 +103,7 @@ module _ (sources : SourceKey → Option MappedPort) (inbounds : InboundKey → 
           ap (λ k. record { kind = k; internal = internal; address = address }) same_kinds
           ∙ ap (λ x. record { kind = m.kind; internal = x; address = address }) same_ends
           ∙ ap (λ x. record { kind = m.kind; internal = m.internal; address = x }) same_addresses in
-          let found = kept m got.1 in
+          let found = kept m (has_holder m held got.0) in
           sym (ap (λ k. option_map (λ h. h.port) (sources k)) same ∙ ap (option_map (λ h. h.port)) found.1.0 ∙ ap Some found.1.1)
       by None e = none (sources (record { kind = kind; internal = internal; address = address })) refl e
 

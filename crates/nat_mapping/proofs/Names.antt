@@ -35,7 +35,7 @@ pub use Rattle.port_pool.specs.declared.range.CandidateRange.{CandidateRange}
 pub use Rattle.std.proofs.lemmas.Bool.{and_from, and_parts, and_right, both_ways, cases_Bool, cond-false, cond-true, eq-eqb, eqb-true, false_from_ne_true}
 pub use Rattle.std.proofs.lemmas.Bool.{or_cases, or_left, or_right}
 pub use Rattle.std.proofs.lemmas.Bool.Decides.{nat_tests, same_from_decides}
-pub use Rattle.std.proofs.lemmas.List.Elements.{All-pop, Contains-append_cases, Contains-append_left, Contains-append_right, Contains-push, Contains-push_cases}
+pub use Rattle.std.proofs.lemmas.List.Elements.{All-pop}
 pub use Rattle.std.proofs.lemmas.List.Folds.{sum_by-replicate}
 pub use Rattle.std.proofs.lemmas.List.Sums.{sum_by-append}
 pub use Rattle.std.proofs.lemmas.Map.{lookup-none}

@@ -1,10 +1,11 @@
 -- One more mapping: the list stays one to one.
-use Rattle.std.proofs.Common.{◌≡◌, ℕ, Bool, true, not, List, [], ◌∷◌, Option, Some, None, ◌⊎◌, inl, inr, is_some, refl, sym, ap, subst, ◌∙◌}
-use Rattle.nat_mapping.proofs.Names.{CandidateRange, Contains, Endpoint, IsOneToOne, Kind, Mapping, and_from, and_parts, candidates, cases_Bool, cond-false}
-use Rattle.nat_mapping.proofs.Names.{cond-true, eq-eqb, eqb-true, find, first_free_port, has_external, has_internal, inbound_of, is_port_held, none-some}
-use Rattle.nat_mapping.proofs.Names.{option_map, or_else, order_of, port_of, same_Some, some_of_map, source_of}
+use Rattle.std.proofs.Common.{◌≡◌, ℕ, true, not, List, ◌∷◌, Option, Some, None, inl, inr, is_some, refl, sym, ap, subst, ◌∙◌}
+use Rattle.nat_mapping.proofs.Names.{CandidateRange, Contains, Endpoint, IsOneToOne, Kind, Mapping, and_from, and_parts, candidates}
+use Rattle.nat_mapping.proofs.Names.{eq-eqb, eqb-true, find, first_free_port, has_external, has_internal, inbound_of, is_port_held, none-some}
+use Rattle.nat_mapping.proofs.Names.{option_map, or_else, order_of, port_of, some_of_map, source_of}
 use Rattle.nat_mapping.proofs.Equal.{kind_test, endpoint_test}
-use Rattle.nat_mapping.proofs.Lists.{found_among, none_such, contains_cases}
+use Rattle.list_laws.specs.Decisions.{Contains-cases}
+use Rattle.nat_mapping.proofs.Lists.{found_among, none_such}
 
 none_of_map : {X Y : Type 0} (f : X → Y) (o : Option X) → option_map f o ≡ None → o ≡ None
 none_of_map f None h = refl
@@ -14,23 +15,28 @@ not_some : {X : Type 0} (o : Option X) → not (is_some o) ≡ true → o ≡ No
 not_some None h = refl
 not_some (Some x) h = cc
 
--- the mapping found passes
-found_passes : (p : ℕ → Bool) (xs : List ℕ) (x : ℕ) → find p xs ≡ Some x → p x ≡ true
-found_passes p [] x h = absurd (none-some x h)
-found_passes p (y ∷ xs) x h =
-    elim (cases_Bool (p y)) [
-      | inl t ↦
-          let same : y ≡ x = same_Some y x (sym (cond-true (p y) (Some y) (find p xs) t) ∙ h) in
-          let P : ℕ → Type 0 = λ k. p k ≡ true in subst P same t
-      | inr f ↦ found_passes p xs x (sym (cond-false (p y) (Some y) (find p xs) f) ∙ h)
-    ]
-
 -- a part of a one-to-one list is one to one
 pub one_to_one-within : (some all : List Mapping) → ((m : Mapping) → Contains some m → Contains all m) → IsOneToOne all → IsOneToOne some
 one_to_one-within some all within one = record {
   one_internal = λ m n x y k e. one.one_internal m n (within m x) (within n y) k e;
   one_port = λ m n x y k i e. one.one_port m n (within m x) (within n y) k i e;
 }
+
+-- what holds of all pairs of a list, and of one more element with itself and with each
+pairs_cons : {X : Type 0} (R : X → X → Type 0) → ((a b : X) → R a b → R b a) → (x : X) (xs : List X) → R x x
+    → ((a : X) → Contains xs a → R a x) → ((a b : X) → Contains xs a → Contains xs b → R a b)
+    → (a b : X) → Contains (x ∷ xs) a → Contains (x ∷ xs) b → R a b
+pairs_cons R flip x xs same others rest a b p q =
+    elim (Contains-cases x a xs p) [
+      | inl d ↦ elim (Contains-cases x b xs q) [
+        | inl e ↦ subst (λ z. R z b) d (subst (R x) e same)
+        | inr z ↦ subst (λ y. R y b) d (flip b x (others b z))
+      ]
+      | inr y ↦ elim (Contains-cases x b xs q) [
+        | inl e ↦ subst (R a) e (others a y)
+        | inr z ↦ rest a b y z
+      ]
+    ]
 
 module _ (held : List Mapping) (one : IsOneToOne held) where
   -- it has the internal endpoint of those with its external one, and the port of those with its internal one at its address
@@ -40,34 +46,13 @@ module _ (held : List Mapping) (one : IsOneToOne held) where
         → n.external.address ≡ m.external.address → n.external.port ≡ m.external.port
 
   one_to_one-cons : (m : Mapping) → Suits m → IsOneToOne (m ∷ held)
-  one_to_one-cons m suits = record { one_internal = internals; one_port = ports }
-    where
-      internals : (a b : Mapping) → Contains (m ∷ held) a → Contains (m ∷ held) b → a.kind ≡ b.kind
-          → a.external ≡ b.external → a.internal ≡ b.internal
-      internals a b x y = cases (contains_cases a m held x) (contains_cases b m held y)
-        where
-          cases : (a ≡ m) ⊎ Contains held a → (b ≡ m) ⊎ Contains held b → a.kind ≡ b.kind → a.external ≡ b.external
-              → a.internal ≡ b.internal
-          cases (inr x) (inr y) k e = one.one_internal a b x y k e
-          cases (inr x) (inl q) k e = suits.one_internal a x (k ∙ ap (λ z. z.kind) q) (e ∙ ap (λ z. z.external) q)
-              ∙ ap (λ z. z.internal) (sym q)
-          cases (inl p) (inr y) k e = sym (suits.one_internal b y (sym k ∙ ap (λ z. z.kind) p)
-              (sym e ∙ ap (λ z. z.external) p) ∙ ap (λ z. z.internal) (sym p))
-          cases (inl p) (inl q) k e = ap (λ z. z.internal) (p ∙ sym q)
-
-      ports : (a b : Mapping) → Contains (m ∷ held) a → Contains (m ∷ held) b → a.kind ≡ b.kind
-          → a.internal ≡ b.internal → a.external.address ≡ b.external.address → a.external.port ≡ b.external.port
-      ports a b x y = cases (contains_cases a m held x) (contains_cases b m held y)
-        where
-          cases : (a ≡ m) ⊎ Contains held a → (b ≡ m) ⊎ Contains held b → a.kind ≡ b.kind → a.internal ≡ b.internal
-              → a.external.address ≡ b.external.address → a.external.port ≡ b.external.port
-          cases (inr x) (inr y) k i e = one.one_port a b x y k i e
-          cases (inr x) (inl q) k i e = suits.one_port a x (k ∙ ap (λ z. z.kind) q) (i ∙ ap (λ z. z.internal) q)
-              (e ∙ ap (λ z. z.external.address) q) ∙ ap (λ z. z.external.port) (sym q)
-          cases (inl p) (inr y) k i e = sym (suits.one_port b y (sym k ∙ ap (λ z. z.kind) p)
-              (sym i ∙ ap (λ z. z.internal) p) (sym e ∙ ap (λ z. z.external.address) p)
-              ∙ ap (λ z. z.external.port) (sym p))
-          cases (inl p) (inl q) k i e = ap (λ z. z.external.port) (p ∙ sym q)
+  one_to_one-cons m suits = record {
+    one_internal = pairs_cons (λ a b. a.kind ≡ b.kind → a.external ≡ b.external → a.internal ≡ b.internal)
+        (λ a b r k e. sym (r (sym k) (sym e))) m held (λ k e. refl) suits.one_internal one.one_internal;
+    one_port = pairs_cons (λ a b. a.kind ≡ b.kind → a.internal ≡ b.internal
+        → a.external.address ≡ b.external.address → a.external.port ≡ b.external.port)
+        (λ a b r k i e. sym (r (sym k) (sym i) (sym e))) m held (λ k i e. refl) suits.one_port one.one_port;
+  }
 
   -- ---- the mapping that `source` gives
 
@@ -132,9 +117,9 @@ module _ (held : List Mapping) (one : IsOneToOne held) where
             → or_else o (first_free_port kind internal address range held) ≡ Some port → Suits gotten
         by_port (Some p) e k = reused (e ∙ k)
         by_port None e k =
-            let passes = found_passes (λ p. not (is_port_held kind address held p))
+            let found = found_among (λ p. not (is_port_held kind address held p))
             (candidates (order_of kind) internal.port range) port k in
-            chosen e (not_some (inbound_of kind (record { address = address; port = port }) held) passes)
+            chosen e (not_some (inbound_of kind (record { address = address; port = port }) held) found.1)
 
 -- ---- the mapping that a destination lookup finds
 

@@ -8,7 +8,8 @@ use Rattle.nat_mapping.proofs.Names.{or_cases, or_left, or_right, order_by, pool
 use Rattle.nat_mapping.proofs.Names.{share_pool, source_at, unique_keys}
 use Rattle.nat_mapping.proofs.Answers.{kept_out, filed_among}
 use Rattle.nat_mapping.proofs.Equal.{pool_test, equivalence}
-use Rattle.nat_mapping.proofs.Lists.{contains_cases, contains_tail, has_holder, holders_here, is_among}
+use Rattle.list_laws.specs.Decisions.{Contains-cases, Contains-there}
+use Rattle.nat_mapping.proofs.Lists.{has_holder, holders_here, is_among}
 
 -- mappings share a pool where their pool keys are equal
 member_map : (held : List Mapping) (m : Mapping) → is_member same_pool (map pool_key_of held) (pool_key_of m) ≡ is_member share_pool held m
@@ -41,10 +42,10 @@ member_key (x ∷ held) m key among some is =
     let within : List Mapping → Bool = λ ms. is_member same_pool (map pool_key_of ms) key in
     let first : has_pool x.kind ≡ true → within (pooled (x ∷ held)) ≡ within (x ∷ pooled held) =
     λ t. ap within (cond-true (has_pool x.kind) (x ∷ pooled held) (pooled held) t) in
-    elim (contains_cases m x held among) [
-      | inl here ↦ first (ap (λ (y : Mapping). has_pool y.kind) (sym here) ∙ some)
+    elim (Contains-cases x m held among) [
+      | inl here ↦ first (ap (λ (y : Mapping). has_pool y.kind) here ∙ some)
           ∙ or_left (same_pool key (pool_key_of x)) (within (pooled held))
-          (ap (same_pool key) (ap pool_key_of (sym here) ∙ is) ∙ pool_test.same key)
+          (ap (same_pool key) (ap pool_key_of here ∙ is) ∙ pool_test.same key)
       | inr behind ↦ elim (cases_Bool (has_pool x.kind)) [
         | inl t ↦ first t ∙ or_right (same_pool key (pool_key_of x)) (within (pooled held)) (member_key held m key behind some is)
         | inr f ↦ ap within (cond-false (has_pool x.kind) (x ∷ pooled held) (pooled held) f) ∙ member_key held m key behind some is
@@ -57,7 +58,7 @@ key_member [] key t = absurd (cc)
 key_member (x ∷ held) key t =
     let within : List Mapping → Bool = λ ms. is_member same_pool (map pool_key_of ms) key in
     let behind : within (pooled held) ≡ true → (m : Mapping) × (Contains (x ∷ held) m × (has_pool m.kind ≡ true) × (pool_key_of m ≡ key)) =
-    λ u. let m = key_member held key u in (m.0, (contains_tail m.0 x held m.1.0, m.1.1, m.1.2)) in
+    λ u. let m = key_member held key u in (m.0, (Contains-there x m.0 held m.1.0, m.1.1, m.1.2)) in
     elim (cases_Bool (has_pool x.kind)) [
       | inl some ↦ elim (or_cases (same_pool key (pool_key_of x)) (within (pooled held))
           (sym (ap within (cond-true (has_pool x.kind) (x ∷ pooled held) (pooled held) some)) ∙ t)) [

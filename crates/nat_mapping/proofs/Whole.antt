@@ -7,7 +7,8 @@ use Rattle.nat_mapping.proofs.Names.{taken_in}
 use Rattle.nat_mapping.proofs.Equal.{source_test, inbound_test}
 use Rattle.nat_mapping.proofs.Same.{source_eq, source_fun}
 use Rattle.nat_mapping.proofs.Sets.{Sets, sets_by}
-use Rattle.nat_mapping.proofs.Lists.{has_holder, contains_tail}
+use Rattle.list_laws.specs.Decisions.{Contains-there}
+use Rattle.nat_mapping.proofs.Lists.{has_holder}
 use Rattle.nat_mapping.proofs.Answers.{filed_among, kept_out, kept as found_in, holders_by}
 use Rattle.nat_mapping.proofs.Changes.{PortSet, sound_changed, sound_begun, sound_ended, inbound_free, holds_none, holds_some, one_more}
 use Rattle.nat_mapping.proofs.Entries.{counts_of}
@@ -80,7 +81,7 @@ module _ (sources : Sources) (inbounds : Inbounds) (pools : Pools) (kept : IsCon
         let among : Contains (held_by sources.entries) n =
         filed_among _ _ _ kept.sound (held_by sources.entries) (counts_of sources kept.unique)
         (source_key_of m) h is in
-        one.one_port n m (contains_tail n m (held_by sources.entries) among) (Contains-head m (held_by sources.entries)) refl refl refl
+        one.one_port n m (Contains-there m n (held_by sources.entries) among) (Contains-head m (held_by sources.entries)) refl refl refl
 
     pub own_internal : IsOneToOne (m ∷ held_by sources.entries) → (i : Endpoint)
         → get same_inbound inbounds (inbound_key_of m) ≡ Some i → i ≡ m.internal
@@ -92,7 +93,7 @@ module _ (sources : Sources) (inbounds : Inbounds) (pools : Pools) (kept : IsCon
         (source_at (inbound_key_of m) i) back.0 back.1.0 in
         let external : n.external ≡ m.external =
         ap (λ p. let w : Endpoint = record { address = m.external.address; port = p } in w) back.1.1 in
-        one.one_internal n m (contains_tail n m (held_by sources.entries) among) (Contains-head m (held_by sources.entries)) refl external
+        one.one_internal n m (Contains-there m n (held_by sources.entries) among) (Contains-head m (held_by sources.entries)) refl external
 
     -- the table says how many holders there are
     pub holders_are : (h : MappedPort) → get same_source sources (source_key_of m) ≡ Some h → h.port ≡ m.external.port
