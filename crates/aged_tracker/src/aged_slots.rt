@@ -141,18 +141,7 @@ impl AgedSlots {
         ensures rises { steps.old ≤ steps.new }
         ensures steps { steps.new ≤ steps.old + 4 }
     {
-        let held = ConntrackEntry {
-            id: ConnId(self.slots.vacant_key()),
-            original: connection.original,
-            reply: connection.reply,
-            mark: connection.mark,
-            last: connection.last,
-            from_original: flags,
-            from_reply: Flags::none(),
-            replied: false,
-            source: connection.source,
-            dest: connection.dest,
-        };
+        let held = connection.begun(ConnId(self.slots.vacant_key()), flags);
         let queue = queue_by(held.original.kind, held.phase());
         let key = self.slots.fill(&held, self.next_serial, steps);
         self.next_serial += 1;

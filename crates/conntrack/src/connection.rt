@@ -1,7 +1,7 @@
 //! Conntrack entries.
 ghost use Rattle.std.specs.Prelude.{◌≡◌, true};
 ghost use Rattle.conntrack.specs.Phases.{flags_of, is_closing, is_lone_syn, no_flags, phase_by, phase_of, seen_more};
-ghost use Rattle.conntrack.specs.ConntrackEntry.{aged_of, connection_of, is_live, limit_of, touched};
+ghost use Rattle.conntrack.specs.ConntrackEntry.{aged_of, begun_with, connection_of, is_live, limit_of, touched};
 
 use crate::limits::limit_by;
 use box_file::Limits;
@@ -158,6 +158,27 @@ impl Phase {
             Phase::Established
         } else {
             Phase::Opening
+        }
+    }
+}
+
+impl Connection {
+    /// Its entry with this id, after its first packet, which had these flags.
+    #[inline(always)]
+    pub fn begun(self, id: ConnId, flags: Flags) -> ConntrackEntry
+        ensures { result ≡ begun_with id self flags }
+    {
+        ConntrackEntry {
+            id,
+            original: self.original,
+            reply: self.reply,
+            mark: self.mark,
+            last: self.last,
+            from_original: flags,
+            from_reply: Flags::none(),
+            replied: false,
+            source: self.source,
+            dest: self.dest,
         }
     }
 }

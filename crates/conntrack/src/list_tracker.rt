@@ -228,18 +228,7 @@ impl Tracker for ListTracker {
         }
         let id = ConnId(self.next_id);
         self.next_id += 1;
-        match self.conns.push(ConntrackEntry {
-            id,
-            original: connection.original,
-            reply: connection.reply,
-            mark: connection.mark,
-            last: connection.last,
-            from_original: flags,
-            from_reply: Flags::none(),
-            replied: false,
-            source: connection.source,
-            dest: connection.dest,
-        }) {
+        match self.conns.push(connection.begun(id, flags)) {
             Ok(()) => Ok(id),
             Err(_) => unreachable!(),
         }

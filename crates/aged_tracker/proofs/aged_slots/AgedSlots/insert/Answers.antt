@@ -1,13 +1,13 @@
 use Rattle.std.proofs.Common.{◌≡◌, ◌<◌, ◌++◌, ◌∷◌, [], length, Some, refl, ap, sym, ◌∙◌, subst, rules, arith}
 use Rattle.std.specs.Prelude.{nat_lt, ◌&&◌}
-use Rattle.aged_tracker.proofs.Names.{ConntrackEntry, Flags, MAX_KEYS, MAX_SERIAL, Sets, and_parts, begun_with, held_at, held_by, held_of, ltb-true, queue_by}
+use Rattle.aged_tracker.proofs.Names.{ConntrackEntry, MAX_KEYS, MAX_SERIAL, Sets, and_parts, begun_with, held_at, held_by, held_of, ltb-true, queue_by}
 use Rattle.aged_tracker.proofs.Names.{queue_of, slab_len, slots_of}
 use Rattle.aged_tracker.proofs.Turns.{begun_rings, begun_sets, begun_held, begun_table}
 use Rattle.aged_tracker.proofs.aged_slots.AgedSlots.insert.Goals as goal
 use Rattle.aged_tracker.proofs.aged_slots.AgedSlots.insert.Goals.{After-oldest_of}
 
 to : (c : After-oldest_of) → c.queue_by-queue.result ≡ queue_of (held_of c.fill-key.result c.fill-key.ensures.fills.slot)
-to c = c.queue_by-queue.ensures.queue ∙ ap (queue_by c.args.connection.original.kind) c.phase.ensures
+to c = c.queue_by-queue.ensures.queue ∙ ap (queue_by c.begun-held.result.original.kind) c.phase.ensures
     ∙ ap queue_of (sym c.fill-key.ensures.fills.holds)
 
 few : (c : After-oldest_of) → c.fill-key.result < MAX_KEYS
@@ -22,8 +22,7 @@ made : (c : After-oldest_of) → held_of c.fill-key.result c.fill-key.ensures.fi
     ≡ begun_with (record { 0 = c.fill-key.result }) c.args.connection c.args.flags
 made c =
     c.fill-key.ensures.fills.holds
-    ∙ ap (λ (f : Flags). record (begun_with (record { 0 = c.fill-key.result }) c.args.connection
-    c.args.flags) { from_reply = f }) c.none.ensures
+    ∙ ap (λ (h : ConntrackEntry). record h { id = record { 0 = c.fill-key.result } }) c.begun-held.ensures
 
 pub push_back-requires-clause-rings : goal.push_back-requires-clause-rings
 push_back-requires-clause-rings c = begun_rings c.args.self.now c.fill-key.new.self c.fill-key.result
@@ -38,7 +37,7 @@ returns-clause-table c =
     c.push_back.new.slots c.push_back.new.heads c.queue_by-queue.result c.fill-key.ensures.fills.numbered
     c.push_back.ensures.except_links c.push_back.ensures.lists (to (goal.at.returns-clause-table c).After-oldest_of)
     c.args.connection.last c.oldest_of.result c.requires.later
-    (ap (λ (h : ConntrackEntry). h.last) c.fill-key.ensures.fills.holds) c.push_back.ensures.rings
+    (ap (λ (h : ConntrackEntry). h.last) (made (goal.at.returns-clause-table c).After-oldest_of)) c.push_back.ensures.rings
     c.oldest_of.ensures.oldest long c.queue_by-queue.ensures.range (few (goal.at.returns-clause-table c).After-oldest_of) _ refl
 
 pub returns-clause-held : goal.returns-clause-held
