@@ -4,7 +4,7 @@
 //! It is multilinear hashing with half the multiplications (Lemire and Kaser, Strongly universal
 //! string hashing is fast, 2014), with five random keys. Two keys of a table that are chosen without
 //! knowledge of these agree in any n of their hashes' 32 bits with probability 1 in 2^n: whoever
-//! writes a capture before a run draws its keys can't make tuples collide. It takes a tenth of the
+//! writes a capture before a run draws its keys can't make tuples collide. It takes a sixth of the
 //! instructions of SipHash-1-3. A third word would get the keys of the second, for which this isn't
 //! shown. Keys of different types belong in different tables. Which slot of a table a key gets
 //! depends on the hash, no result of a table does.
