@@ -1,6 +1,5 @@
 -- A queue's front is its oldest entry, so if the front is live all are.
-use Rattle.std.proofs.Common.{◌≡◌, ℕ, ◌-◌, ◌<◌, ◌≤◌, Option, Some, None, IsSome, false, slice_get}
-use Rattle.std.proofs.Common.{get_or, refl, sym, ap, ◌∙◌, arith, lt-ltb}
+use Rattle.std.proofs.Common.{◌≡◌, ℕ, ◌-◌, ◌<◌, ◌≤◌, Option, Some, None, IsSome, false, slice_get, get_or, refl, sym, ap, ◌∙◌, arith, lt-ltb}
 use Rattle.std.specs.Prelude.{IfSome, option_map}
 use Rattle.aged_tracker.proofs.Names.{AgedSlots, ConntrackEntry, IdleKind, IsAllLive, IsIn, IsLiveQueue, IsTable, Limits, idle_at, idle_kind, is_live, keys_in}
 use Rattle.aged_tracker.proofs.Names.{last_at, last_by, limit_at, limit_in, limit_of, nat_tests, none-some, phase_of, queue_number, queue_of, queues_of}

@@ -1,6 +1,5 @@
 -- The lists of a set after a key left one or joined one, or none changed.
-use Rattle.std.proofs.Common.{◌≡◌, ◌≢◌, ℕ, ◌-◌, ◌<◌, ◌≤◌, List, [], ◌∷◌, ◌++◌, cond, Option, Some}
-use Rattle.std.proofs.Common.{None, refl, sym, ap, ◌∙◌, subst, inl, inr}
+use Rattle.std.proofs.Common.{◌≡◌, ◌≢◌, ℕ, ◌-◌, ◌<◌, ◌≤◌, List, [], ◌∷◌, ◌++◌, cond, Option, Some, None, refl, sym, ap, ◌∙◌, subst, inl, inr}
 use Rattle.std.specs.Prelude.{option_map}
 use Rattle.aged_tracker.proofs.Names.{IsRing, IsRing-kept, IsRings, Link, Pushes, SameExceptLinks, SameLists, Slab, Slot, Unlinks, Updates, cases_eq, cases_lt}
 use Rattle.aged_tracker.proofs.Names.{except_links, held_at, held_of, keys_of, le-ltb, link_at, link_by, lists_of, next_of, number, owner_by, owner_of, prev_of}

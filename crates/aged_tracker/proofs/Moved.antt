@@ -1,6 +1,5 @@
 -- Circular lists after a key left one, or joined one.
-use Rattle.std.proofs.Common.{◌≡◌, ◌≢◌, ℕ, ◌+◌, ◌<◌, List, [], ◌∷◌, ◌++◌, Option, Some, None, IsSome}
-use Rattle.std.proofs.Common.{refl, sym, ap, ◌∙◌, subst, inl, inr}
+use Rattle.std.proofs.Common.{◌≡◌, ◌≢◌, ℕ, ◌+◌, ◌<◌, List, [], ◌∷◌, ◌++◌, Option, Some, None, IsSome, refl, sym, ap, ◌∙◌, subst, inl, inr}
 use Rattle.std.specs.Prelude.{IfSome, option_map}
 use Rattle.aged_tracker.proofs.Names.{Inserts, IsIn, IsOn, IsRing, IsRing-kept, IsRing-push, IsRing-skip, Joins, Link, ListLinks, Relinks, SameExceptLinks}
 use Rattle.aged_tracker.proofs.Names.{Slab, Slot, Updates, cases_eq, except_links, free_not_on, link_at, next_of, next_on, none-some, number, owner_by}

@@ -1,6 +1,5 @@
 -- The order of creation: the keys of all entries, by rising numbers.
-use Rattle.std.proofs.Common.{◌≡◌, ◌≢◌, ℕ, zero, suc, ◌<◌, cond, List, [], ◌∷◌, ◌++◌, Option, Some, None, IsSome}
-use Rattle.std.proofs.Common.{refl, sym, ap, ◌∙◌, subst, inl, inr, arith}
+use Rattle.std.proofs.Common.{◌≡◌, ◌≢◌, ℕ, zero, suc, ◌<◌, cond, List, [], ◌∷◌, ◌++◌, Option, Some, None, IsSome, refl, sym, ap, ◌∙◌, subst, inl, inr, arith}
 use Rattle.aged_tracker.proofs.Names.{ConntrackEntry, IsApart, IsIn, IsIn-without, IsOrder, IsSorted, Sets, cases_eq, cases_lt, in_order, insert_key}
 use Rattle.aged_tracker.proofs.Names.{insert_used, le-ltb, none-some}
 use Rattle.std.proofs.lemmas.Bool.{lt-ltb}

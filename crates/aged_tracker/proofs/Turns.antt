@@ -1,12 +1,12 @@
 -- The effect of the calls on slots and lists on the table.
-use Rattle.std.proofs.Common.{◌≡◌, ◌≢◌, ℕ, ◌+◌, ◌<◌, List, [], ◌∷◌, ◌++◌, length, get_or, set, Option, Some, None}
-use Rattle.std.proofs.Common.{IsSome, refl, sym, ap, ◌∙◌, subst, inl, inr, arith, length-set}
+use Rattle.std.proofs.Common.{◌≡◌, ◌≢◌, ℕ, ◌+◌, ◌<◌, List, [], ◌∷◌, ◌++◌, length, get_or, set, Option, Some, None, IsSome, refl, sym, ap, ◌∙◌, subst, inl, inr}
+use Rattle.std.proofs.Common.{arith, length-set}
 use Rattle.std.specs.Prelude.{IfSome, option_map}
-use Rattle.aged_tracker.proofs.Names.{AgedSlots, ConnId, ConntrackEntry, ContainsKey-within, Direction, Flags, IsIn-without, IsNoneLater, IsOldest}
-use Rattle.aged_tracker.proofs.Names.{IsOrder, IsRings, IsTable, Link, Lists, MAX_KEYS, Pushes, SameExceptLinks, SameLists, Sets, Slab, Slot, Unlinks, Updates}
-use Rattle.aged_tracker.proofs.Names.{cases_eq, except_links, get_or-set_other, get_or-set_same, held_at, held_by, held_in, held_of, link_by, lists_of}
-use Rattle.aged_tracker.proofs.Names.{order_in, order_of, owner_by, owner_of, queue_of, queues_of, same_Some, serial_at, serial_by, slots_of, touched}
-use Rattle.aged_tracker.proofs.Names.{touched_at, updated}
+use Rattle.aged_tracker.proofs.Names.{AgedSlots, ConnId, ConntrackEntry, ContainsKey-within, Direction, Flags, IsIn-without, IsNoneLater, IsOldest, IsOrder}
+use Rattle.aged_tracker.proofs.Names.{IsRings, IsTable, Link, Lists, MAX_KEYS, Pushes, SameExceptLinks, SameLists, Sets, Slab, Slot, Unlinks, Updates, cases_eq}
+use Rattle.aged_tracker.proofs.Names.{except_links, get_or-set_other, get_or-set_same, held_at, held_by, held_in, held_of, link_by, lists_of, order_in}
+use Rattle.aged_tracker.proofs.Names.{order_of, owner_by, owner_of, queue_of, queues_of, same_Some, serial_at, serial_by, slots_of, touched, touched_at}
+use Rattle.aged_tracker.proofs.Names.{updated}
 use Rattle.slab.specs.Slab.{get}
 use Rattle.futures.specs.LinkedLists as linked
 use Rattle.conntrack.specs.ConntrackEntry.{without}
@@ -15,8 +15,7 @@ use Rattle.aged_tracker.proofs.Kept.{same_rings, same_lists, held_aside, rings_o
 use Rattle.aged_tracker.proofs.Tables.{held_touched, held_without}
 use Rattle.aged_tracker.proofs.Ordered.{not_none, in_order-is, order_kept, order_begun, order_ended}
 use Rattle.aged_tracker.proofs.Links.{kept_by, some_of}
-use Rattle.aged_tracker.proofs.Linked.{last_least, oldest_off, off_others, linked_touched, oldest_set}
-use Rattle.aged_tracker.proofs.Linked.{linked_begun, oldest_begun, linked_ended, oldest_ended}
+use Rattle.aged_tracker.proofs.Linked.{last_least, oldest_off, off_others, linked_touched, oldest_set, linked_begun, oldest_begun, linked_ended, oldest_ended}
 
 -- ---- unchanged lists, and slots that are set
 

@@ -1,6 +1,5 @@
 -- The effect of one more record, by its cases and on the live connections.
-use Rattle.std.proofs.Common.{◌≡◌, ℕ, ◌+◌, ◌-◌, ◌<◌, ◌≤◌, List, [], ◌∷◌, ◌++◌, map, length, Option, Bool}
-use Rattle.std.proofs.Common.{true, false, not, refl, sym, ◌∙◌, ap, subst, arith}
+use Rattle.std.proofs.Common.{◌≡◌, ℕ, ◌+◌, ◌-◌, ◌<◌, ◌≤◌, List, [], ◌∷◌, ◌++◌, map, length, Option, Bool, true, false, not, refl, sym, ◌∙◌, ap, subst, arith}
 use Rattle.std.specs.Prelude.{filter, nat_lt}
 use Rattle.conntrack.proofs.Names.{Begins, ConnId, ConnectionChange, ConntrackEntry, Direction, Echo, Established, Flags, IdleKind, Limits, NoChange, Touches}
 use Rattle.conntrack.proofs.Names.{TrackedPacket, Transitory, and_parts, append-nil, begun_by, begun_with, changed_by, connection_begun, ended_by, eqb-true}
@@ -8,8 +7,7 @@ use Rattle.conntrack.proofs.Names.{filter-append, has_distinct_ids, has_id, has_
 use Rattle.conntrack.proofs.Names.{lt-ltb, ltb-true, nat_tests, not-true, or_parts, phase_of, same_id, touched, touched_at, touched_if, true≢false, unended}
 use Rattle.box_file.specs.declared.idle_line.IdleKind.TheVariants.{Udp, Other}
 use Rattle.conntrack.proofs.Searches.{unended-cons, live_list-unended}
-use Rattle.conntrack.proofs.Ids.{has_id-filter, distinct-filter, below-filter, distinct-touched_at}
-use Rattle.conntrack.proofs.Ids.{below-touched_at, distinct-push, below-push, has_id-below}
+use Rattle.conntrack.proofs.Ids.{has_id-filter, distinct-filter, below-filter, distinct-touched_at, below-touched_at, distinct-push, below-push, has_id-below}
 
 pub filter-true : {X : Type 0} (xs : List X) → filter (λ x. true) xs ≡ xs
 filter-true [] = refl

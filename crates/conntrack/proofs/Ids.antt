@@ -1,6 +1,5 @@
 -- Ids of entries, and lists that are equal except for ids.
-use Rattle.std.proofs.Common.{◌≡◌, ℕ, ◌+◌, ◌<◌, ◌≤◌, List, [], ◌∷◌, ◌++◌, length}
-use Rattle.std.proofs.Common.{Option, Some, Bool, true, false, not, ◌&&◌, ◌||◌, cond, refl, ◌∙◌, ap, arith}
+use Rattle.std.proofs.Common.{◌≡◌, ℕ, ◌+◌, ◌<◌, ◌≤◌, List, [], ◌∷◌, ◌++◌, length, Option, Some, Bool, true, false, not, ◌&&◌, ◌||◌, cond, refl, ◌∙◌, ap, arith}
 use Rattle.std.specs.Prelude.{filter}
 use Rattle.conntrack.proofs.Names.{ConnId, ConntrackEntry, Direction, Flags, Limits, Tuple, and_from, and_parts, eq-eqb, find, has_distinct_ids, has_id}
 use Rattle.conntrack.proofs.Names.{has_ids_below, have_disjoint_tuples, is_incoming, is_live, is_taken, list_any-append, live_at, nat_tests, not-true}

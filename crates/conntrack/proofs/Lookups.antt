@@ -1,6 +1,5 @@
 -- Two lists that are equal except for ids: lookups find the same position, and changes agree.
-use Rattle.std.proofs.Common.{◌≡◌, ℕ, List, [], ◌∷◌, map, Option, None, Some, Bool, true, false}
-use Rattle.std.proofs.Common.{not, ◌&&◌, ◌||◌, cond, refl, sym, ◌∙◌, ap, subst}
+use Rattle.std.proofs.Common.{◌≡◌, ℕ, List, [], ◌∷◌, map, Option, None, Some, Bool, true, false, not, ◌&&◌, ◌||◌, cond, refl, sym, ◌∙◌, ap, subst}
 use Rattle.conntrack.proofs.Names.{Belonging, ConnId, ConnectionRef, ConntrackEntry, Direction, Ends, Flags, Found, NotFound, Original, Reply, Tuple, and_parts}
 use Rattle.conntrack.proofs.Names.{belonging_by, belongs_in, connection_ref, eq-eqb, find, has_distinct_ids, has_id, have_disjoint_tuples, is_closing}
 use Rattle.conntrack.proofs.Names.{is_lone_syn, is_taken, not-true, of_original, of_reply, option_map, or_parts, same_id, same_tuple, same_tuple-true, touched}

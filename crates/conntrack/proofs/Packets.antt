@@ -1,6 +1,5 @@
 -- The effect of one packet on a table's entries and on a history's connections.
-use Rattle.std.proofs.Common.{◌≡◌, ℕ, ◌≤◌, List, [], ◌∷◌, ◌++◌, map, length, Option, Bool, true}
-use Rattle.std.proofs.Common.{false, not, cond, refl, sym, ◌∙◌, ap, arith}
+use Rattle.std.proofs.Common.{◌≡◌, ℕ, ◌≤◌, List, [], ◌∷◌, ◌++◌, map, length, Option, Bool, true, false, not, cond, refl, sym, ◌∙◌, ap, arith}
 use Rattle.std.specs.Prelude.{filter}
 use Rattle.conntrack.proofs.Names.{Arrival, Belonging, Confirmation, Confirmed, ConnId, Connection, ConnectionRef, ConntrackEntry, Direction, DoesNotClash}
 use Rattle.conntrack.proofs.Names.{Ends, Flags, Found, IsNoneLater, Kind, Limits, Mapping, NotFound, RepresentsAt, TrackedPacket, Tuple, Unconfirmed, after_end}
@@ -10,8 +9,8 @@ use Rattle.conntrack.proofs.Names.{is_that, length-map, live_at, live_list, map-
 use Rattle.conntrack.proofs.Names.{without_id}
 use Rattle.conntrack.proofs.Ids.{apart-filter, apart-push, apart-touched_at, distinct-filter}
 use Rattle.conntrack.proofs.Searches.{live_list-unended}
-use Rattle.conntrack.proofs.Changes.{IsTouchHeld, filter-swap, filter-true, live_at-later, live_at-touched_at}
-use Rattle.conntrack.proofs.Changes.{live_at_last, live_list-cons, live_list-distinct, map-same}
+use Rattle.conntrack.proofs.Changes.{IsTouchHeld, filter-swap, filter-true, live_at-later, live_at-touched_at, live_at_last, live_list-cons, live_list-distinct}
+use Rattle.conntrack.proofs.Changes.{map-same}
 use Rattle.conntrack.proofs.Lookups.{ended_is_free, found_is_held, marks, nowhere_is_free, marked, same_place, touched_alike, without_alike}
 
 -- the entry that a lookup found is in the list

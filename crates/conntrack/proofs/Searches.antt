@@ -1,6 +1,5 @@
 -- The effect of one more record on searches of the history.
-use Rattle.std.proofs.Common.{◌≡◌, ℕ, suc, ◌<◌, List, [], ◌∷◌, ◌++◌, map, length, Option, Bool, true}
-use Rattle.std.proofs.Common.{false, not, ◌&&◌, ◌||◌, cond, eqb, refl, ap, arith}
+use Rattle.std.proofs.Common.{◌≡◌, ℕ, suc, ◌<◌, List, [], ◌∷◌, ◌++◌, map, length, Option, Bool, true, false, not, ◌&&◌, ◌||◌, cond, eqb, refl, ap, arith}
 use Rattle.std.specs.Prelude.{filter}
 use Rattle.conntrack.proofs.Names.{AllByRecursion, Begins, ConnectionChange, Creation, Direction, Flags, Limits, NoChange, Touches, TrackedPacket, begun_by}
 use Rattle.conntrack.proofs.Names.{begun_in, begun_with, changed_by, connection_begun, connection_in, creation_of, entries_of, eq-eqb, filter-append, is_ended}

@@ -1,11 +1,10 @@
 -- The tables' lookups are those of the list.
 use Rattle.std.specs.Prelude.{◌==◌}
-use Rattle.std.proofs.Common.{◌≡◌, ℕ, ◌<◌, Bool, true, not, cond, is_some, List, Option, Some}
-use Rattle.std.proofs.Common.{None, refl, sym, ◌∙◌, ap, subst, inl, inr, arith}
+use Rattle.std.proofs.Common.{◌≡◌, ℕ, ◌<◌, Bool, true, not, cond, is_some, List, Option, Some, None, refl, sym, ◌∙◌, ap, subst, inl, inr, arith}
 use Rattle.nat_mapping.proofs.Names.{CandidateRange, Contains, CountsHolders, Endpoint, InboundKey, IsOneToOne, IsSound, Kind, MappedPort, Mapping, PoolKey}
-use Rattle.nat_mapping.proofs.Names.{SourceKey, and_from, and_parts, candidates, cases_Bool, cond-false, cond-true, eq-eqb, eqb-true, find}
-use Rattle.nat_mapping.proofs.Names.{has_external, has_internal, holders_at, holders_of, inbound_at, inbound_key_of, inbound_of, is_port_held, mapping_at}
-use Rattle.nat_mapping.proofs.Names.{option_map, or_else, order_of, port_of, same_Some, source_key_of, source_of}
+use Rattle.nat_mapping.proofs.Names.{SourceKey, and_from, and_parts, candidates, cases_Bool, cond-false, cond-true, eq-eqb, eqb-true, find, has_external}
+use Rattle.nat_mapping.proofs.Names.{has_internal, holders_at, holders_of, inbound_at, inbound_key_of, inbound_of, is_port_held, mapping_at, option_map}
+use Rattle.nat_mapping.proofs.Names.{or_else, order_of, port_of, same_Some, source_key_of, source_of}
 use Rattle.nat_mapping.proofs.Equal.{kind_test, endpoint_test}
 use Rattle.nat_mapping.proofs.Lists.{found_among, none_such, has_holder, is_among}
 

@@ -1,7 +1,6 @@
 -- What a call changes.
 use Rattle.std.specs.Prelude.{◌==◌, ◌&&◌, if◌then◌else◌}
-use Rattle.std.proofs.Common.{◌≡◌, ℕ, ◌<◌, ◌+◌, Bool, true, false, cond, is_some, Option, Some}
-use Rattle.std.proofs.Common.{None, refl, sym, ◌∙◌, ap, subst, inl, inr, arith}
+use Rattle.std.proofs.Common.{◌≡◌, ℕ, ◌<◌, ◌+◌, Bool, true, false, cond, is_some, Option, Some, None, refl, sym, ◌∙◌, ap, subst, inl, inr, arith}
 use Rattle.nat_mapping.proofs.Names.{ArePorts, Endpoint, InboundKey, IsSound, MappedPort, Mapping, PoolKey, SourceKey, and_from, and_parts, and_right}
 use Rattle.nat_mapping.proofs.Names.{cases_Bool, cond-false, cond-true, eq-eqb, eqb-true, false_from_ne_true, has_pool, holders_at, inbound_at, inbound_key_of}
 use Rattle.nat_mapping.proofs.Names.{mapping_at, none_not_some, pool_key_of, same_Some, same_endpoint, same_inbound, same_kind, same_mapping, same_pool}

@@ -1,7 +1,6 @@
 -- The number of pools.
 use Rattle.std.specs.Prelude.{map, ◌||◌}
-use Rattle.std.proofs.Common.{◌≡◌, ℕ, Bool, true, is_some, List, [], ◌∷◌, Option, Some, None, suc}
-use Rattle.std.proofs.Common.{length, refl, sym, subst, ◌∙◌, ap, inl, inr, arith}
+use Rattle.std.proofs.Common.{◌≡◌, ℕ, Bool, true, is_some, List, [], ◌∷◌, Option, Some, None, suc, length, refl, sym, subst, ◌∙◌, ap, inl, inr, arith}
 use Rattle.nat_mapping.proofs.Names.{Contains, CountsHolders, Inbounds, IsConsistent, Mapping, Pool, PoolKey, Pools, Sources, cases_Bool, cond-false, cond-true}
 use Rattle.nat_mapping.proofs.Names.{get, has_pool, hash_map_len, inbound_at, is_member, is_some-lookup, is_taken_by, keys_of, length-from_keys, length-keys_of}
 use Rattle.nat_mapping.proofs.Names.{or_cases, or_left, or_right, order_by, pool_count_of, pool_key_of, pooled, same_from_decides, same_pool, same_source}
