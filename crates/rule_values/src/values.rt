@@ -139,13 +139,11 @@ fn joined_fail(value_check: ValueCheck, plant: &Plant, kinds: &KeyTypes, values:
         (joined_ranges (key_types_of kinds.now) (map value_tree values.now)) }
 {
     for (part, value) in values.iter().enumerate() {
-        match kinds.kind(part) {
-            None => return false,
-            Some(kind) => {
-                if value_check.fails_value(plant, kind, value) {
-                    return true;
-                }
-            }
+        let Some(kind) = kinds.kind(part) else {
+            return false;
+        };
+        if value_check.fails_value(plant, kind, value) {
+            return true;
         }
     }
     false

@@ -2,8 +2,8 @@ use Rattle.rule_values.specs.steps.Views.{key_types_of}
 use Rattle.rule_values.proofs.Joined.{ends, goes_on, passes, stops}
 use Rattle.rule_values.proofs.values.joined_fail.Goals as goal
 
-pub returns-in-None : goal.returns-in-None
-returns-in-None c = stops _ _ (key_types_of c.args.kinds.now) c.args.values.now c.loop-part.part c.loop-part.invariant c.in-None.ensures
+pub returns-in_default : goal.returns-in_default
+returns-in_default c = stops _ _ (key_types_of c.args.kinds.now) c.args.values.now c.loop-part.part c.loop-part.invariant c.in_default.ensures
 
 pub returns-then-fails_value : goal.returns-then-fails_value
 returns-then-fails_value c = passes _ _ (key_types_of c.args.kinds.now) c.args.values.now c.loop-part.part
