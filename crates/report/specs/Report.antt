@@ -62,6 +62,10 @@ on_chain rules table chain line_on =
 
 -- ---- lines of entries
 
+-- `KIND N FAMILY TABLE CHAIN`, what of the chain, and what is told of that
+abbrev pub chain_line : Text → ℕ → TableTree → ChainTree → Text → Text → Text
+chain_line kind n t c about told = kind ++ and_number n ++ and_word (chain_name t c) ++ about ++ told ++ end
+
 -- the prefix of a log statement
 abbrev pub prefix_in : Option Statement → Text
 prefix_in (Some (tree.log (Some prefix))) = and_word prefix
@@ -75,8 +79,7 @@ statement_at c position =
 -- `log N FAMILY TABLE CHAIN RULE`, and the prefix where there is one
 abbrev pub log_line : ℕ → StatementPosition → TableTree → ChainTree → Text
 log_line n position t c =
-    codes "log" ++ and_number n ++ and_word (chain_name t c) ++ and_number position.rule.rule
-    ++ prefix_in (statement_at c position) ++ end
+    chain_line (codes "log") n t c (and_number position.rule.rule) (prefix_in (statement_at c position))
 
 -- the name of the table's chain of this number
 abbrev pub target : TableTree → ℕ → Text
@@ -100,8 +103,7 @@ verdict_words t (decisions.Translate nat_action) = nat_word nat_action
 -- `trace N FAMILY TABLE CHAIN RULE VERDICT`
 abbrev pub verdict_line : ℕ → ℕ → RuleVerdict → TableTree → ChainTree → Text
 verdict_line n rule verdict t c =
-    codes "trace" ++ and_number n ++ and_word (chain_name t c) ++ and_number rule
-    ++ and_word (verdict_words t verdict) ++ end
+    chain_line (codes "trace") n t c (and_number rule) (and_word (verdict_words t verdict))
 
 abbrev pub policy_word : Policy → Text
 policy_word policies.Accept = codes "accept"
@@ -110,8 +112,7 @@ policy_word policies.Drop = codes "drop"
 -- `trace N FAMILY TABLE CHAIN policy POLICY`
 abbrev pub policy_line : ℕ → Policy → TableTree → ChainTree → Text
 policy_line n policy t c =
-    codes "trace" ++ and_number n ++ and_word (chain_name t c) ++ codes " policy"
-    ++ and_word (policy_word policy) ++ end
+    chain_line (codes "trace") n t c (codes " policy") (and_word (policy_word policy))
 
 -- the line of an event of record n: of a log always, of a verdict and a policy where it is traced
 abbrev pub event_line : List TableTree → Bool → ℕ → Event → Text

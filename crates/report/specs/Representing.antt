@@ -15,9 +15,8 @@ use Rattle.history.specs.History.{Entry}
 use Rattle.report.specs.declared.tallies.Tally.{Tally}
 use Rattle.report.specs.declared.notes.Note.{Note}
 use Rattle.report.specs.declared.notes.Note.TheVariants as notes
-use Rattle.report.specs.Report.{passed, local, dropped, begun, packets, bytes, entry_lines, on_chain}
-use Rattle.report.specs.Report.{log_line}
-use Rattle.report.specs.Report.{verdict_line, policy_line, outcome_line}
+use Rattle.report.specs.Report.{passed, local, dropped, begun, packets, bytes, entry_lines, event_line}
+use Rattle.report.specs.Report.{outcome_line}
 
 -- a writer's known bytes grow by what completes the written part to this text
 abbrev pub AppendsRest : Option Text → Option Text → Text → Text → Type 0
@@ -70,11 +69,7 @@ tally_of start at history =
 
 -- the line of a note
 abbrev pub note_line : List TableTree → Note → Text
-note_line rules (notes.Logged number at) = on_chain rules at.rule.table at.rule.chain (log_line number at)
-note_line rules (notes.TookVerdict number rule verdict) =
-    on_chain rules rule.table rule.chain (verdict_line number rule.rule verdict)
-note_line rules (notes.TookPolicy number chain policy) =
-    on_chain rules chain.table chain.chain (policy_line number policy)
+note_line rules (notes.Event number event) = event_line rules true number event
 note_line rules (notes.Ended number outcome) = outcome_line true number outcome
 
 -- the report of a history under these rules: its numbers are the history's, and its notes are the lines

@@ -1,19 +1,22 @@
 //! Lines of notes.
-ghost use Rattle.std.specs.Prelude.{◌≡◌, true};
+ghost use Rattle.std.specs.Prelude.{◌≡◌, ℕ, true};
 ghost use Rattle.std.specs.List.{flat_map};
 ghost use Rattle.nft_tree.specs.Tree.{tables_of};
-ghost use Rattle.report.specs.Report.{verdict_line, log_line, on_chain, outcome_line, policy_line};
+ghost use Rattle.report.specs.Report.{event_line, outcome_line};
 ghost use Rattle.report.specs.Representing.{note_line};
+ghost use Rattle.report.specs.steps.NoteLines.{line_text};
 ghost use Rattle.report.specs.steps.Paging.{CountsFailure, Puts};
 
-use crate::names::{family_word, find, outcome_word, policy_word, prefix, verdict_pieces};
+use crate::names::{
+    ChainInTable, family_word, find, outcome_word, policy_word, prefix, verdict_pieces,
+};
 use crate::notes::Note;
 use crate::page::Page;
 use crate::piece::Piece;
 use history::Outcome;
-use nft_tree::{Policy, RuleNo, Ruleset};
+use nft_tree::Ruleset;
 use pcap_io::{Counted, DeviceFailed};
-use rule_meaning::{ChainNo, RuleVerdict, StatementPosition};
+use rule_meaning::Event;
 use std::io::Write;
 
 /// Appends the lines of notes, in their order.
@@ -46,114 +49,86 @@ fn put_note<W: Write>(
     ensures flushes { writer.new.flushes ≡ writer.old.flushes }
 {
     match note {
-        Note::Logged(number, position) => put_log(page, writer, rules, number, position),
-        Note::TookVerdict(number, rule, verdict) => put_verdict(
-            page, writer, rules, number, rule, verdict,
-        ),
-        Note::TookPolicy(number, chain, policy) => put_policy(
-            page, writer, rules, number, chain, policy,
-        ),
+        Note::Event(number, event) => put_event(page, writer, number, chain_line(rules, event)),
         Note::Ended(number, outcome) => put_outcome(page, writer, number, outcome),
     }
 }
 
-fn put_log<W: Write>(
-    page: &mut Page,
-    writer: &mut Counted<W>,
-    rules: &Ruleset,
-    number: u64,
-    position: StatementPosition,
-) -> Result<(), DeviceFailed>
-    ensures puts { Puts result page.old.text.items (W.contents writer.old.inner) page.new.text.items
-        (W.contents writer.new.inner) (on_chain (tables_of rules.now) position.rule.table
-        position.rule.chain (log_line number position)) }
-    ensures counts { CountsFailure result writer.old.failures writer.new.failures }
-    ensures flushes { writer.new.flushes ≡ writer.old.flushes }
-{
-    let Some(found) = find(rules, position.rule.table, position.rule.chain) else {
-        return Ok(());
-    };
-    let family = family_word(found.table.family);
-    let before = prefix(found.chain, position);
-    page.put_all(
-        writer,
-        &[
-            Piece::Text(b"log"),
-            Piece::Number(u128::from(number)),
-            Piece::Word(family),
-            Piece::Word(&found.table.name),
-            Piece::Word(&found.chain.name),
-            Piece::Number(u128::from(position.rule.rule)),
-            before,
-            Piece::Text(b"\n"),
-        ],
-    )
+/// A line about a chain, but for the record's number.
+#[derive(Clone, Copy)]
+pub(crate) struct ChainLine<'a> {
+    kind: &'a [u8],
+    chain: ChainInTable<'a>,
+    /// What of the chain it is about: a rule, or the policy.
+    about: Piece<'a>,
+    /// What is told of that.
+    told: (Piece<'a>, Piece<'a>),
 }
 
-fn put_verdict<W: Write>(
-    page: &mut Page,
-    writer: &mut Counted<W>,
-    rules: &Ruleset,
-    number: u64,
-    rule: RuleNo,
-    verdict: RuleVerdict,
-) -> Result<(), DeviceFailed>
-    ensures puts { Puts result page.old.text.items (W.contents writer.old.inner) page.new.text.items
-        (W.contents writer.new.inner) (on_chain (tables_of rules.now) rule.table rule.chain
-        (verdict_line number rule.rule verdict)) }
-    ensures counts { CountsFailure result writer.old.failures writer.new.failures }
-    ensures flushes { writer.new.flushes ≡ writer.old.flushes }
+/// The line of an event; none where it has no line, or no such chain.
+fn chain_line(rules: &Ruleset, event: Event) -> Option<ChainLine<'_>>
+    ensures { (number : ℕ) → line_text number result
+        ≡ event_line (tables_of rules.now) true number event }
 {
-    let Some(found) = find(rules, rule.table, rule.chain) else {
-        return Ok(());
-    };
-    let family = family_word(found.table.family);
-    let (word, target) = verdict_pieces(found.table, verdict);
-    page.put_all(
-        writer,
-        &[
-            Piece::Text(b"trace"),
-            Piece::Number(u128::from(number)),
-            Piece::Word(family),
-            Piece::Word(&found.table.name),
-            Piece::Word(&found.chain.name),
-            Piece::Number(u128::from(rule.rule)),
-            word,
-            target,
-            Piece::Text(b"\n"),
-        ],
-    )
+    match event {
+        Event::Logged(position) => {
+            let chain = find(rules, position.rule.table, position.rule.chain)?;
+            Some(ChainLine {
+                kind: b"log",
+                chain,
+                about: Piece::Number(u128::from(position.rule.rule)),
+                told: (prefix(chain.chain, position), Piece::Text(b"")),
+            })
+        }
+        Event::TookVerdict(rule, verdict) => {
+            let chain = find(rules, rule.table, rule.chain)?;
+            Some(ChainLine {
+                kind: b"trace",
+                chain,
+                about: Piece::Number(u128::from(rule.rule)),
+                told: verdict_pieces(chain.table, verdict),
+            })
+        }
+        Event::TookPolicy(chain, policy) => {
+            let chain = find(rules, chain.table, chain.chain)?;
+            Some(ChainLine {
+                kind: b"trace",
+                chain,
+                about: Piece::Text(b" policy"),
+                told: (Piece::Word(policy_word(policy)), Piece::Text(b"")),
+            })
+        }
+        _ => None,
+    }
 }
 
-fn put_policy<W: Write>(
+/// Appends the line of an event, if it has one.
+fn put_event<W: Write>(
     page: &mut Page,
     writer: &mut Counted<W>,
-    rules: &Ruleset,
     number: u64,
-    chain: ChainNo,
-    policy: Policy,
+    line: Option<ChainLine>,
 ) -> Result<(), DeviceFailed>
     ensures puts { Puts result page.old.text.items (W.contents writer.old.inner) page.new.text.items
-        (W.contents writer.new.inner) (on_chain (tables_of rules.now) chain.table chain.chain
-        (policy_line number policy)) }
+        (W.contents writer.new.inner) (line_text number line.entry) }
     ensures counts { CountsFailure result writer.old.failures writer.new.failures }
     ensures flushes { writer.new.flushes ≡ writer.old.flushes }
 {
-    let Some(found) = find(rules, chain.table, chain.chain) else {
+    let Some(line) = line else {
         return Ok(());
     };
-    let family = family_word(found.table.family);
-    let word = policy_word(policy);
+    let family = family_word(line.chain.table.family);
     page.put_all(
         writer,
         &[
-            Piece::Text(b"trace"),
+            Piece::Text(line.kind),
             Piece::Number(u128::from(number)),
             Piece::Word(family),
-            Piece::Word(&found.table.name),
-            Piece::Word(&found.chain.name),
-            Piece::Text(b" policy"),
-            Piece::Word(word),
+            Piece::Word(&line.chain.table.name),
+            Piece::Word(&line.chain.chain.name),
+            line.about,
+            line.told.0,
+            line.told.1,
             Piece::Text(b"\n"),
         ],
     )

@@ -3,19 +3,14 @@ ghost use Rattle.std.specs.Prelude.{◌≡◌, ◌≤◌, ◌+◌, ◌++◌, len
 ghost use Rattle.report.specs.steps.Noting.{noted, noted_event};
 
 use history::{Entry, Outcome};
-use nft_tree::{Policy, RuleNo};
-use rule_meaning::{ChainNo, Event, RuleVerdict, StatementPosition};
+use rule_meaning::Event;
 use std::alloc::AllocError;
 
 /// One line of the report, about the record of this number.
 #[derive(Clone, Copy)]
 pub enum Note {
-    /// A `log` statement was evaluated.
-    Logged(u64, StatementPosition),
-    /// A rule's verdict took effect.
-    TookVerdict(u64, RuleNo, RuleVerdict),
-    /// A base chain ended, and its policy took effect.
-    TookPolicy(u64, ChainNo, Policy),
+    /// A `log` statement was evaluated, or a rule's verdict or a policy took effect.
+    Event(u64, Event),
     /// The record's outcome.
     Ended(u64, Outcome),
 }
@@ -26,13 +21,10 @@ impl Note {
         ensures { result ≡ noted_event trace number event }
     {
         match event {
-            Event::Logged(position) => Some(Note::Logged(number, position)),
-            Event::TookVerdict(rule, verdict) if trace => Some(Note::TookVerdict(
-                number, rule, verdict,
-            )),
-            Event::TookPolicy(chain, policy) if trace => Some(Note::TookPolicy(
-                number, chain, policy,
-            )),
+            Event::Logged(_) => Some(Note::Event(number, event)),
+            Event::TookVerdict(_, _) | Event::TookPolicy(_, _) if trace => {
+                Some(Note::Event(number, event))
+            }
             _ => None,
         }
     }

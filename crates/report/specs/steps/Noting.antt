@@ -10,11 +10,11 @@ use Rattle.report.specs.declared.notes.Note.TheVariants as notes
 
 -- the note of an event of record n: of a log always, of a verdict and a policy where it is traced
 abbrev pub noted_event : Bool → ℕ → Event → Option Note
-noted_event trace n (events.Logged at) = Some (notes.Logged n at)
+noted_event trace n (events.Logged at) = Some (notes.Event n (events.Logged at))
 noted_event trace n (events.TookVerdict rule verdict) =
-    cond trace (Some (notes.TookVerdict n rule verdict)) None
+    cond trace (Some (notes.Event n (events.TookVerdict rule verdict))) None
 noted_event trace n (events.TookPolicy chain policy) =
-    cond trace (Some (notes.TookPolicy n chain policy)) None
+    cond trace (Some (notes.Event n (events.TookPolicy chain policy))) None
 noted_event trace n _ = None
 
 abbrev pub noted_end : Bool → ℕ → Outcome → List Note

@@ -1,0 +1,15 @@
+use Rattle.std.proofs.Common.{◌∙◌, ap, sym}
+use Rattle.nft_tree.specs.Tree.{table_tree, chain_tree}
+use Rattle.report.specs.steps.NoteLines.{line_text}
+use Rattle.report.specs.steps.Paging.{piece_text}
+use Rattle.report.proofs.Texts.{chain_written, puts_as}
+use Rattle.report.proofs.note_lines.put_event.Goals as goal
+
+pub returns-clause-puts : goal.returns-clause-puts
+returns-clause-puts g c =
+    let l = c.in-Some.line in
+    puts_as c.put_all.result _ _ _ _ _ _ c.put_all.ensures.puts
+    (chain_written l.kind.now c.args.number c.from.result (table_tree l.chain.table.now) (chain_tree l.chain.chain.now)
+    _ _ _ (piece_text l.about) (piece_text l.told.0) (piece_text l.told.1) c.from.ensures c.family_word-family.ensures
+    c.deref.ensures.value c.deref-2.ensures.value
+    ∙ ap (line_text c.args.number) (sym c.in-Some.is))
