@@ -1,21 +1,28 @@
 //! Lowers NAT statements.
 ghost use Rattle.std.specs.Prelude.{◌≡◌, ◌<◌, false, not, true, IfOk, OnOk};
 ghost use Rattle.std.specs.Option.{option_map};
-ghost use Rattle.nft_tree.specs.Tree.{destination_tree, nat_tree, source_tree, statement};
+ghost use Rattle.nft_tree.specs.Tree.{map_lookup_tree, nat_tree};
 ghost use Rattle.nft_tree.specs.Tree as tree;
 ghost use Rattle.rule_types.specs.Types.{statement_mismatches};
-ghost use Rattle.rule_values.specs.Faults.{are_ports, destination_out_of_range, if_some, is_port, nat_out_of_range, source_out_of_range};
-ghost use Rattle.rule_meaning.specs.Statements.{destination_of, give, ports_of, source_of, nat_action_of, with_value};
+ghost use Rattle.rule_values.specs.Faults.{are_ports, if_some, is_port, nat_out_of_range};
+ghost use Rattle.rule_meaning.specs.Statements.{give, ports_of, nat_action_of, with_value};
 ghost use Rattle.lowering.specs.Lowered.{Extends, HasDeclared};
-ghost use Rattle.lowering.specs.steps.Actions.{AlwaysHasEffect, HasEffect, scope_of};
+ghost use Rattle.lowering.specs.steps.Actions.{HasEffect, nat_by_map, scope_of};
 
 use crate::lookup_tables::number_map_index;
 use box_file::Plant;
 use filter_vm::{Action, Lookups};
-use nft_tree::{DestinationTarget, Nat, PortRange, SourceTarget, ValueType};
+use nft_tree::{DestinationTarget, MapLookup, Nat, PortRange, SourceTarget, ValueType};
 use rule_meaning::{NatAction, PortInterval, RuleVerdict};
 use rule_names::TableNames;
 use std::alloc::{AllocError, Global};
+
+/// The side of a packet's tuple that a NAT statement translates.
+#[derive(Clone, Copy)]
+pub(crate) enum Side {
+    Source,
+    Destination,
+}
 
 /// A port, which is checked to be below 2^16.
 fn port(number: u64) -> u16
@@ -64,75 +71,42 @@ fn some_ports(range: Option<PortRange>) -> Option<PortInterval>
     }
 }
 
-/// `snat`.
-fn lower_snat(
-    alloc: Global,
-    plant: &Plant,
-    names: &TableNames,
-    target: &SourceTarget,
-    lookups: &mut Lookups,
-) -> Result<Action, AllocError>
-    requires declared { HasDeclared plant.now names.now lookups.old }
-    requires types { statement_mismatches names.now
-        (tree.nat (tree.source (source_tree target.now))) ≡ false }
-    requires bounds { source_out_of_range (source_tree target.now) ≡ false }
-    ensures extends { OnOk result (Extends lookups.old lookups.new) }
-    ensures effect { IfOk result (HasEffect lookups.new
-        (λ f. with_value (λ t. give (RuleVerdict.Translate t))
-        (source_of (scope_of plant.now names.now) (source_tree target.now) f))) }
+/// The verdict that translates.
+fn translate(action: NatAction) -> Action
+    ensures { result ≡ Action.GiveVerdict (RuleVerdict.Translate action) }
 {
-    match target {
-        SourceTarget::Address(address, ports) => Ok(Action::GiveVerdict(RuleVerdict::Translate(
-            NatAction::Source(*address, some_ports(*ports)),
-        ))),
-        SourceTarget::MapLookup(look) => {
-            let number = number_map_index(
-                alloc,
-                plant,
-                names,
-                look.selector,
-                ValueType::Address,
-                &look.map,
-                lookups,
-            )?;
-            Ok(Action::TranslateSource(look.selector, number))
-        }
-    }
+    Action::GiveVerdict(RuleVerdict::Translate(action))
 }
 
-/// `dnat`.
-fn lower_dnat(
+/// `snat` or `dnat` to the address that a map gives. The table of an anonymous map is added.
+fn lower_nat_by_map(
     alloc: Global,
     plant: &Plant,
     names: &TableNames,
-    target: &DestinationTarget,
+    side: Side,
+    look: &MapLookup,
     lookups: &mut Lookups,
 ) -> Result<Action, AllocError>
     requires declared { HasDeclared plant.now names.now lookups.old }
     requires types { statement_mismatches names.now
-        (tree.nat (tree.destination (destination_tree target.now))) ≡ false }
-    requires bounds { destination_out_of_range (destination_tree target.now) ≡ false }
+        (tree.nat (nat_by_map side (map_lookup_tree look.now))) ≡ false }
     ensures extends { OnOk result (Extends lookups.old lookups.new) }
     ensures effect { IfOk result (HasEffect lookups.new
-        (λ f. with_value (λ t. give (RuleVerdict.Translate t))
-        (destination_of (scope_of plant.now names.now) (destination_tree target.now) f))) }
+        (λ f. with_value (λ t. give (RuleVerdict.Translate t)) (nat_action_of
+        (scope_of plant.now names.now) (nat_by_map side (map_lookup_tree look.now)) f))) }
 {
-    match target {
-        DestinationTarget::Address(address, port) => Ok(Action::GiveVerdict(RuleVerdict::Translate(
-            NatAction::Destination(*address, some_port(*port)),
-        ))),
-        DestinationTarget::MapLookup(look) => {
-            let number = number_map_index(
-                alloc,
-                plant,
-                names,
-                look.selector,
-                ValueType::Address,
-                &look.map,
-                lookups,
-            )?;
-            Ok(Action::TranslateDestination(look.selector, number))
-        }
+    let number = number_map_index(
+        alloc,
+        plant,
+        names,
+        look.selector,
+        ValueType::Address,
+        &look.map,
+        lookups,
+    )?;
+    match side {
+        Side::Source => Ok(Action::TranslateSource(look.selector, number)),
+        Side::Destination => Ok(Action::TranslateDestination(look.selector, number)),
     }
 }
 
@@ -153,13 +127,30 @@ pub(crate) fn lower_nat(
         (nat_action_of (scope_of plant.now names.now) (nat_tree nat.now) f))) }
 {
     match nat {
-        Nat::Source(target) => lower_snat(alloc, plant, names, target, lookups),
-        Nat::Destination(target) => lower_dnat(alloc, plant, names, target, lookups),
-        Nat::Masquerade(ports) => Ok(Action::GiveVerdict(RuleVerdict::Translate(
-            NatAction::Masquerade(some_ports(*ports)),
+        Nat::Source(SourceTarget::MapLookup(look)) => lower_nat_by_map(
+            alloc,
+            plant,
+            names,
+            Side::Source,
+            look,
+            lookups,
+        ),
+        Nat::Destination(DestinationTarget::MapLookup(look)) => lower_nat_by_map(
+            alloc,
+            plant,
+            names,
+            Side::Destination,
+            look,
+            lookups,
+        ),
+        Nat::Source(SourceTarget::Address(address, ports)) => Ok(translate(NatAction::Source(
+            *address,
+            some_ports(*ports),
         ))),
-        Nat::Redirect(port) => Ok(Action::GiveVerdict(RuleVerdict::Translate(NatAction::Redirect(
-            some_port(*port),
-        )))),
+        Nat::Destination(DestinationTarget::Address(address, port)) => Ok(translate(
+            NatAction::Destination(*address, some_port(*port)),
+        )),
+        Nat::Masquerade(ports) => Ok(translate(NatAction::Masquerade(some_ports(*ports)))),
+        Nat::Redirect(port) => Ok(translate(NatAction::Redirect(some_port(*port)))),
     }
 }
