@@ -13,11 +13,10 @@ use crate::slot::{LISTS, Link, MAX_KEYS, idle_at, queue_by};
 use crate::slots::Slots;
 use box_file::Limits;
 use conntrack::{
-    Belonging, ConnId, Connection, ConntrackEntry, Direction, Flags, Memory, Moment, Steps,
-    limit_in,
+    Belonging, ConnId, Connection, ConntrackEntry, Direction, Flags, Moment, Steps, limit_in,
 };
 use ip_headers::Tuple;
-use std::alloc::Global;
+use std::alloc::{AllocError, Global};
 
 /// The slots, which are numbered in the order of their creation, and a queue for each timeout. In
 /// `steps` calls count the slots that they read or write.
@@ -211,9 +210,9 @@ impl AgedSlots {
     ///
     /// # Errors
     ///
-    /// `Memory` where memory ran out, or where the next key has no 32-bit node index: the slab's
+    /// `AllocError` where memory ran out, or where the next key has no 32-bit node index: the slab's
     /// contracts don't bound its keys by how many slots are in use; or where all numbers are used.
-    pub fn reserve_one(&mut self) -> Result<(), Memory>
+    pub fn reserve_one(&mut self) -> Result<(), AllocError>
         requires table { IsTable self.old }
         ensures table { IsTable self.new }
         ensures held { held_by self.new ≡ held_by self.old }
@@ -223,7 +222,7 @@ impl AgedSlots {
         ensures spared { IsTrue (has_room self.old) → (self.new ≡ self.old) × IsOk result }
     {
         if self.slots.vacant_key() >= MAX_KEYS || self.next_serial == u64::MAX {
-            return Err(Memory);
+            return Err(AllocError);
         }
         if self.slots.len() < self.slots.capacity() {
             return Ok(());
@@ -232,7 +231,7 @@ impl AgedSlots {
     }
 
     /// All entries in the order of their creation.
-    pub fn list(&self, alloc: Global, steps: &mut Steps) -> Result<Vec<Connection>, Memory>
+    pub fn list(&self, alloc: Global, steps: &mut Steps) -> Result<Vec<Connection>, AllocError>
         requires { IsTable self.now }
         ensures list { IfOk result (λ all. all.items ≡ map connection_of (held_by self.now)) }
         ensures rises { steps.old ≤ steps.new }
@@ -249,7 +248,7 @@ fn connections(
     order: &[(u64, usize)],
     alloc: Global,
     steps: &mut Steps,
-) -> Result<Vec<Connection>, Memory>
+) -> Result<Vec<Connection>, AllocError>
     requires { (key : ℕ) → IsIn key (keys_by order.now) → ContainsKey slots.now key }
     ensures list { IfOk result (λ all. all.items
         ≡ map connection_of (held_in (held_at slots.now) (keys_by order.now))) }
@@ -258,9 +257,7 @@ fn connections(
     let mut all = Vec::new(alloc);
     for entry in order {
         let connection = connection_at(slots, entry.1, steps);
-        if all.push(connection).is_err() {
-            return Err(Memory);
-        }
+        all.push(connection)?;
     }
     Ok(all)
 }

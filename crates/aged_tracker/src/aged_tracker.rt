@@ -9,11 +9,11 @@ use crate::aged_slots::AgedSlots;
 use box_file::Limits;
 use conntrack::laws::independent_of_ids;
 use conntrack::{
-    Aged, BeginError, Belonging, ConnId, Connection, Direction, Flags, MAX_CONNECTIONS, Memory,
-    Moment, Steps, Tracker,
+    Aged, BeginError, Belonging, ConnId, Connection, Direction, Flags, MAX_CONNECTIONS, Moment,
+    Steps, Tracker,
 };
 use ip_headers::Tuple;
-use std::alloc::Global;
+use std::alloc::{AllocError, Global};
 use std::collections::HashMap;
 use std::hash::RandomState;
 use std::marker::Model;
@@ -105,15 +105,12 @@ impl Tracker for AgedTracker {
         self.slots.touch(id, direction, flags, mark, now, steps);
     }
 
-    fn reserve_one(&mut self) -> Result<(), Memory> {
+    fn reserve_one(&mut self) -> Result<(), AllocError> {
         self.slots.reserve_one()?;
         if spare_of(&self.keys) >= 2 {
             return Ok(());
         }
-        match self.keys.reserve(2) {
-            Ok(()) => Ok(()),
-            Err(_) => Err(Memory),
-        }
+        self.keys.reserve(2)
     }
 
     fn begin(
@@ -155,7 +152,7 @@ impl Tracker for AgedTracker {
         self.live
     }
 
-    fn list(&self, alloc: Global, steps: &mut Steps) -> Result<Vec<Connection>, Memory> {
+    fn list(&self, alloc: Global, steps: &mut Steps) -> Result<Vec<Connection>, AllocError> {
         self.slots.list(alloc, steps)
     }
 }

@@ -9,9 +9,9 @@ ghost use Rattle.aged_tracker.specs.steps.Table.{numbered_key, queue_of};
 ghost use Rattle.aged_tracker.specs.declared.slot.Link.{Link as Linked};
 
 use crate::slot::{Link, ListLinks, NodeIndex, Slot};
-use conntrack::{ConntrackEntry, Direction, Flags, Memory, Moment, Steps};
+use conntrack::{ConntrackEntry, Direction, Flags, Moment, Steps};
 use slab::Slab;
-use std::alloc::Global;
+use std::alloc::{AllocError, Global};
 use std::marker::Model;
 
 /// The slots by their keys.
@@ -66,17 +66,14 @@ impl Slots {
     ///
     /// # Errors
     ///
-    /// `Memory` where memory ran out.
-    pub fn reserve_one(&mut self) -> Result<(), Memory>
+    /// `AllocError` where memory ran out.
+    pub fn reserve_one(&mut self) -> Result<(), AllocError>
         ensures room { OnOk result (IsTrue (nat_lt (slab_len self.new) self.new.capacity)) }
         ensures rest_kept { self.new ≡ record self.old { capacity = self.new.capacity } }
         ensures spared { IsTrue (nat_lt (slab_len self.old) self.old.capacity)
             → (self.new ≡ self.old) × IsOk result }
     {
-        match self.slab.reserve(1) {
-            Ok(()) => Ok(()),
-            Err(_) => Err(Memory),
-        }
+        self.slab.reserve(1)
     }
 
     /// Reads one.
@@ -92,21 +89,20 @@ impl Slots {
     ///
     /// # Errors
     ///
-    /// `Memory` where memory ran out.
-    pub fn numbered(&self, alloc: Global, steps: &mut Steps) -> Result<Vec<(u64, usize)>, Memory>
+    /// `AllocError` where memory ran out.
+    pub fn numbered(
+        &self,
+        alloc: Global,
+        steps: &mut Steps,
+    ) -> Result<Vec<(u64, usize)>, AllocError>
         ensures numbered { IfOk result (λ all. all.items ≡ map numbered_key (entries self.now)) }
         ensures steps { Counts (slab_len self.now) steps.old steps.new }
     {
         steps.add(self.slab.len());
-        match self
-            .slab
+        self.slab
             .iter()
             .map(|entry| (entry.1.serial, entry.0))
             .collect(alloc)
-        {
-            Ok(all) => Ok(all),
-            Err(_) => Err(Memory),
-        }
     }
 
     /// Fills a free one, which is in no list yet.

@@ -16,9 +16,7 @@ ghost use Rattle.connection_table.specs.Table.{IsConfirmable, begun_as};
 
 use box_file::Limits;
 use conntrack::laws::{looked_up, none_later};
-use conntrack::{
-    Aged, BeginError, Belonging, Connection, ConnectionRef, Flags, Memory, Moment, Tracker,
-};
+use conntrack::{Aged, BeginError, Belonging, Connection, ConnectionRef, Flags, Moment, Tracker};
 use ip_headers::{Mapping as Mapped, Tuple};
 use nat_mapping::Mappings;
 use nat_mapping::laws::{same_answers, stays_one_to_one};
@@ -80,13 +78,8 @@ impl<T: Tracker> ConnectionTable<T> {
         ensures kept { IsTrue self.old.has_room → IsTrue self.new.has_room }
         ensures spared { IsTrue self.old.has_room → (self.new ≡ self.old) × IsOk result }
     {
-        let Ok(()) = self.tracker.reserve_one() else {
-            return Err(AllocError);
-        };
-        match self.mappings.reserve_one() {
-            Ok(()) => Ok(()),
-            Err(nat_mapping::Memory) => Err(AllocError),
-        }
+        self.tracker.reserve_one()?;
+        self.mappings.reserve_one()
     }
 
     /// Removes all entries that have expired at a moment, and releases their mappings.
@@ -232,10 +225,7 @@ impl<T: Tracker> ConnectionTable<T> {
         ensures { IfOk result (λ all. all.items ≡ map connection_of self.now.held) }
     {
         let mut steps = start();
-        match self.tracker.list(alloc, &mut steps) {
-            Ok(all) => Ok(all),
-            Err(Memory) => Err(AllocError),
-        }
+        self.tracker.list(alloc, &mut steps)
     }
 }
 

@@ -15,4 +15,4 @@ pub use connection::{Aged, ConnId, Connection, ConntrackEntry, Direction, Flags,
 pub use limits::{idle_kind, limit_by, limit_in};
 pub use list_tracker::ListTracker;
 pub use step_count::Steps;
-pub use tracker::{BeginError, MAX_CONNECTIONS, Memory, Tracker};
+pub use tracker::{BeginError, MAX_CONNECTIONS, Tracker};

@@ -11,10 +11,10 @@ ghost use Rattle.conntrack.specs.ConntrackEntry.{same_id, touched, touched_at, w
 
 use crate::belonging::{Belonging, ConnectionRef};
 use crate::connection::{Aged, ConnId, Connection, ConntrackEntry, Direction, Flags, Moment};
-use crate::tracker::{BeginError, MAX_CONNECTIONS, Memory, Tracker};
+use crate::tracker::{BeginError, MAX_CONNECTIONS, Tracker};
 use box_file::Limits;
 use ip_headers::Tuple;
-use std::alloc::Global;
+use std::alloc::{AllocError, Global};
 use std::hash::RandomState;
 use step_count::Steps;
 
@@ -199,17 +199,14 @@ impl Tracker for ListTracker {
         touch_in(&mut self.conns, id, direction, flags, mark, now);
     }
 
-    fn reserve_one(&mut self) -> Result<(), Memory> {
+    fn reserve_one(&mut self) -> Result<(), AllocError> {
         if self.next_id == usize::MAX {
-            return Err(Memory);
+            return Err(AllocError);
         }
         if self.conns.len() < self.conns.capacity() {
             return Ok(());
         }
-        match self.conns.reserve(1) {
-            Ok(()) => Ok(()),
-            Err(_) => Err(Memory),
-        }
+        self.conns.reserve(1)
     }
 
     #[tactic(auto, using(crate::proofs::Ids::id_rules))]
@@ -262,16 +259,11 @@ impl Tracker for ListTracker {
         self.conns.len()
     }
 
-    fn list(&self, alloc: Global, steps: &mut Steps) -> Result<Vec<Connection>, Memory> {
+    fn list(&self, alloc: Global, steps: &mut Steps) -> Result<Vec<Connection>, AllocError> {
         steps.add(self.conns.len());
-        match self
-            .conns
+        self.conns
             .iter()
             .map(|held| held.connection())
             .collect(alloc)
-        {
-            Ok(all) => Ok(all),
-            Err(_) => Err(Memory),
-        }
     }
 }

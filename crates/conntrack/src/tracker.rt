@@ -11,18 +11,13 @@ use crate::belonging::Belonging;
 use crate::connection::{Aged, ConnId, Connection, Direction, Flags, Moment};
 use box_file::Limits;
 use ip_headers::Tuple;
-use std::alloc::Global;
+use std::alloc::{AllocError, Global};
 use std::hash::RandomState;
 use step_count::Steps;
 use thiserror::Error;
 
 /// The most entries that a table holds.
 pub const MAX_CONNECTIONS: usize = 1_048_576;
-
-/// Memory ran out.
-#[derive(Clone, Copy, Debug, PartialEq, Eq, Error)]
-#[error("memory")]
-pub struct Memory;
 
 /// Why a connection isn't created.
 #[derive(Clone, Copy, Debug, PartialEq, Eq, Error)]
@@ -100,8 +95,8 @@ pub trait Tracker: Drop {
     ///
     /// # Errors
     ///
-    /// `Memory` where memory ran out; the entries stay.
-    fn reserve_one(&mut self) -> Result<(), Memory>
+    /// `AllocError` where memory ran out; the entries stay.
+    fn reserve_one(&mut self) -> Result<(), AllocError>
         ensures held { held self.new ≡ held self.old }
         ensures limits { limits self.new ≡ limits self.old }
         ensures room { OnOk result (IsTrue (has_room self.new)) }
@@ -168,8 +163,8 @@ pub trait Tracker: Drop {
     ///
     /// # Errors
     ///
-    /// `Memory` where memory ran out.
-    fn list(&self, alloc: Global, steps: &mut Steps) -> Result<Vec<Connection>, Memory>
+    /// `AllocError` where memory ran out.
+    fn list(&self, alloc: Global, steps: &mut Steps) -> Result<Vec<Connection>, AllocError>
         ensures list { IfOk result (λ all. all.items ≡ map connection_of (held self.now)) }
         ensures steps { steps.old ≤ steps.new };
 }

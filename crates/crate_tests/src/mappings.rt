@@ -6,9 +6,9 @@ ghost use Rattle.nat_mapping.specs.Mappings.{holders_of};
 use crate::support::check_row;
 use ip_headers::{Endpoint, Kind, Mapping};
 use nat_mapping::laws::{inbound_is_held, stays_one_to_one};
-use nat_mapping::{MapError, Mappings, Memory};
+use nat_mapping::{MapError, Mappings};
 use port_pool::CandidateRange;
-use std::alloc::Global;
+use std::alloc::{AllocError, Global};
 use std::hash::RandomState;
 use std::process::Abort;
 
@@ -40,7 +40,7 @@ fn held(
     internal: Endpoint,
     address: u32,
     number: usize,
-) -> Result<Option<u16>, Memory>
+) -> Result<Option<u16>, AllocError>
     requires number { number < 1000 }
     requires few { (m : Mapped) → holders_of m table.old.held ≤ number }
     ensures few { (m : Mapped) → holders_of m table.new.held ≤ number + 1 }

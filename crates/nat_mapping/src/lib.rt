@@ -8,4 +8,4 @@ mod mappings;
 mod pools;
 mod tables;
 
-pub use mappings::{MapError, Mappings, Memory};
+pub use mappings::{MapError, Mappings};

@@ -18,17 +18,12 @@ use crate::tables::{
 };
 use ip_headers::{Endpoint, Kind, Mapping};
 use port_pool::CandidateRange;
-use std::alloc::Global;
+use std::alloc::{AllocError, Global};
 use std::collections::HashMap;
 use std::hash::RandomState;
 use std::marker::Model;
 use thiserror::Error;
 use word_hash::WordState;
-
-/// Memory ran out.
-#[derive(Clone, Copy, Debug, PartialEq, Eq, Error)]
-#[error("memory")]
-pub struct Memory;
 
 /// Why an internal endpoint gets no external port.
 #[derive(Clone, Copy, Debug, PartialEq, Eq, Error)]
@@ -144,7 +139,7 @@ impl Mappings {
     /// # Errors
     ///
     /// Where memory ran out; the mappings stay.
-    pub fn reserve_one(&mut self) -> Result<(), Memory>
+    pub fn reserve_one(&mut self) -> Result<(), AllocError>
         ensures held { HoldsSame self.old.held self.new.held }
         ensures ok { OnOk result (2 ≤ self.new.room) }
         ensures room { self.old.room ≤ self.new.room }
@@ -161,7 +156,7 @@ impl Mappings {
         tables.min(self.pools.room())
     }
 
-    fn reserve(&mut self, mappings: usize) -> Result<(), Memory>
+    fn reserve(&mut self, mappings: usize) -> Result<(), AllocError>
         requires { mappings ≤ 2 }
         ensures held { HoldsSame self.old.held self.new.held }
         ensures ok { OnOk result (mappings ≤ self.new.room) }
@@ -171,16 +166,9 @@ impl Mappings {
         if mappings <= self.room() {
             return Ok(());
         }
-        if self.sources.reserve(mappings).is_err() {
-            return Err(Memory);
-        }
-        if self.inbounds.reserve(mappings).is_err() {
-            return Err(Memory);
-        }
-        match self.pools.reserve(mappings) {
-            Ok(()) => Ok(()),
-            Err(_) => Err(Memory),
-        }
+        self.sources.reserve(mappings)?;
+        self.inbounds.reserve(mappings)?;
+        self.pools.reserve(mappings)
     }
 
     /// Adds a holder of a mapping.
@@ -188,7 +176,7 @@ impl Mappings {
     /// # Errors
     ///
     /// Where no memory is reserved and none is left; the mappings stay.
-    pub fn hold(&mut self, m: Mapping) -> Result<(), Memory>
+    pub fn hold(&mut self, m: Mapping) -> Result<(), AllocError>
         requires one_to_one { IsOneToOne (m ∷ self.old.held) }
         requires few { holders_of m self.old.held < usize.MAX }
         ensures ok { OnOk result (HoldsSame (m ∷ self.old.held) self.new.held) }

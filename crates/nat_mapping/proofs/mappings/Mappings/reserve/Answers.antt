@@ -24,12 +24,12 @@ held c =
     subst H (ap (λ v. v.held) c.self.view_is) (grown_held c.self.inside.sources c.self.inside.inbounds c.self.inside.pools
     c.self.invariant c.reserve.new.self (unique c) (sources c))
 
-pub invariant_of-self-then-is_err-2 : goal.invariant_of-self-then-is_err-2
-invariant_of-self-then-is_err-2 c =
-    let p = (goal.at.invariant_of-self-then-is_err-2 c).After-reserve in
+pub invariant_of-self-in_err-reserve-2 : goal.invariant_of-self-in_err-reserve-2
+invariant_of-self-in_err-reserve-2 c =
+    let p = (goal.at.invariant_of-self-in_err-reserve-2 c).After-reserve in
     grown c.self.inside.sources c.self.inside.inbounds c.self.inside.pools c.self.invariant c.reserve.new.self
     c.reserve-2.new.self c.self.inside.pools (unique p) (sources p)
-    (inbounds (goal.at.invariant_of-self-then-is_err-2 c).After-reserve-2) (λ q p. refl) c.self.invariant.pooled
+    (inbounds (goal.at.invariant_of-self-in_err-reserve-2 c).After-reserve-2) (λ q p. refl) c.self.invariant.pooled
 
 pub invariant_of-self-2 : goal.invariant_of-self-2
 invariant_of-self-2 c =
@@ -38,8 +38,8 @@ invariant_of-self-2 c =
     c.reserve-2.new.self c.reserve-3.new.self (unique p) (sources p)
     (inbounds (goal.at.invariant_of-self-2 c).After-reserve-2) c.reserve-3.ensures.taken c.reserve-3.ensures.pooled
 
-pub returns-then-is_err-2-clause-held : goal.returns-then-is_err-2-clause-held
-returns-then-is_err-2-clause-held c = held (goal.at.returns-then-is_err-2-clause-held c).After-reserve
+pub returns-in_err-reserve-2-clause-held : goal.returns-in_err-reserve-2-clause-held
+returns-in_err-reserve-2-clause-held c = held (goal.at.returns-in_err-reserve-2-clause-held c).After-reserve
 
 pub returns-clause-held : goal.returns-clause-held
 returns-clause-held c = held (goal.at.returns-clause-held c).After-reserve
