@@ -238,9 +238,7 @@ fn hold(mappings: &mut Mappings, mapping: Option<Mapped>)
     ensures room { mappings.old.room ≤ mappings.new.room + 1 }
 {
     if let Some(mapping) = mapping {
-        let Ok(()) = mappings.hold(mapping) else {
-            unreachable!()
-        };
+        mappings.hold_reserved(mapping);
     }
 }
 

@@ -185,12 +185,12 @@ impl Mappings {
         ensures room { self.old.room ≤ self.new.room + 1 }
     {
         self.reserve(1)?;
-        self.add(m);
+        self.hold_reserved(m);
         Ok(())
     }
 
     /// Adds a holder of a mapping for which memory is reserved.
-    fn add(&mut self, m: Mapping)
+    pub fn hold_reserved(&mut self, m: Mapping)
         requires one_to_one { IsOneToOne (m ∷ self.old.held) }
         requires few { holders_of m self.old.held < usize.MAX }
         requires room { 0 < self.old.room }

@@ -5,8 +5,8 @@ use Rattle.nat_mapping.proofs.Changes.{PortSet}
 use Rattle.nat_mapping.proofs.Same.{source_fun}
 use Rattle.nat_mapping.proofs.Whole.{SourceSet, InboundSet, source_set, source_found, source_unique, own_port, few_holders, port_free, changed}
 use Rattle.nat_mapping.proofs.Whole.{one_held_more, begun, begun_held}
-use Rattle.nat_mapping.proofs.mappings.Mappings.add.Goals as goal
-use Rattle.nat_mapping.proofs.mappings.Mappings.add.Goals.{After-add_holder}
+use Rattle.nat_mapping.proofs.mappings.Mappings.hold_reserved.Goals as goal
+use Rattle.nat_mapping.proofs.mappings.Mappings.hold_reserved.Goals.{After-add_holder}
 
 -- what the table said of the mapping, and what it says now
 before : (c : After-add_holder) → get same_source c.self.inside.sources (source_key_of c.args.m) ≡ c.add_holder.result
