@@ -2,6 +2,7 @@
 //! indexes, sets and maps to tables of intervals.
 #![tactic(auto)]
 
+mod asked;
 mod declarations;
 mod keys;
 mod lookup_tables;
@@ -10,5 +11,6 @@ mod nat_statements;
 mod statements;
 mod tables;
 
+pub use asked::{asked_numbers, asked_selector};
 pub use declarations::declared;
 pub use statements::action;

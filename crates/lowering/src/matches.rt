@@ -61,7 +61,7 @@ fn word_number(value_type: ValueType, word: &[u8]) -> u128
 }
 
 /// The selector and the type of `ct state` or `ct status`.
-fn bit_source(field: BitField) -> (Selector, ValueType)
+pub(crate) fn bit_source(field: BitField) -> (Selector, ValueType)
     ensures selector { result.0 ≡ bit_selector field }
     ensures named { result.1 ≡ bit_type field }
 {
@@ -72,7 +72,7 @@ fn bit_source(field: BitField) -> (Selector, ValueType)
 }
 
 /// The bits of the words, together.
-fn bits_of(value_type: ValueType, words: &[Vec<u8>]) -> u128
+pub(crate) fn bits_of(value_type: ValueType, words: &[Vec<u8>]) -> u128
     ensures { result ≡ union (map (word_number value_type) (map (λ w. w.items) words.now)) }
 {
     let mut bits = 0;
@@ -107,7 +107,7 @@ fn flag_number(flag: &Flag) -> u128
 }
 
 /// The bits of TCP flags, together.
-fn flags_of(flags: &[Flag]) -> u128
+pub(crate) fn flags_of(flags: &[Flag]) -> u128
     ensures { result ≡ flags_of (map flag_tree flags.now) }
 {
     let mut bits = 0;
