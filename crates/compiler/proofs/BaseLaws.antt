@@ -13,12 +13,12 @@ use Rattle.filter_vm.specs.declared.code.Start.{Start}
 use Rattle.filter_vm.specs.declared.code.TableCode.{TableCode}
 use Rattle.filter_vm.specs.Machine.{Stop, exec, enter_chain, run_table, base_chain_stop, base_chain_result}
 use Rattle.compiler.specs.Compiled.{start_head, base_chain_head}
-use Rattle.compiler.specs.CodeLayout.{IsCode, RulesAt, IsTableCode, reached_program}
+use Rattle.compiler.specs.CodeLayout.{IsCode, RulesAt, IsTableCode, left_program}
 use Rattle.rule_laws.specs.Ranking.{IsRanking}
 use Rattle.compiler.proofs.DoesLaws.{Does, finish-last}
 use Rattle.compiler.proofs.LayoutLaws.{rules-in}
 use Rattle.compiler.proofs.DroppingLaws.{left-runs, left-ranking}
-use Rattle.compiler.proofs.ReachedLaws.{reached-left}
+use Rattle.compiler.proofs.LeftLaws.{left-leaves}
 use Rattle.compiler.proofs.Simulation.{simulates}
 
 -- with enough fuel and no open call
@@ -84,11 +84,11 @@ module _ (plant : PlantTree) (tables : List TableTree) (table : TableTree) (b : 
       → (base_chain_stop code start f es).after ≡ o
   runs-after rules f es o has run =
       let p = table_program plant b.number.table table in
-      let left_at = (reached_program plant b.number.table table).rules_at in
-      let leaves = reached-left plant b.number.table table in
+      let left_at = (left_program plant b.number.table table is.left).rules_at in
+      let leaves = left-leaves plant b.number.table table is.left is.are_left in
       let left = left-runs p left_at leaves b.number.chain rules f es o has run in
       ap (λ (s : Stop). s.after) (stops f es)
-      ∙ goes-there (reached_program plant b.number.table table) t weight cost depth is.laid_out
+      ∙ goes-there (left_program plant b.number.table table is.left) t weight cost depth is.laid_out
       (left-ranking p left_at leaves weight cost depth costs_rank_chains)
       b.number.chain (start.cost - 1) left.0 f es o left.1 (omega arith) shallow left.2
 

@@ -115,7 +115,7 @@ module _ {S : Type 0} (p : Program S) (left_at : ℕ → Option (List (List S)))
     by-rule : {c n : ℕ} (r : List S) (rs : List (List S)) (f : Facts) {es : List Event} {o : RunResult}
         → Stays c n (in_rule 1 r rs) f es o → (Reach : Facts → Type 0) (ks : List (List S)) → Reach f
         → LeavesOut p Reach c n (r ∷ rs) ks → Runs left_program c n (at_rule ks) f es o
-    by-rule r rs f stays Reach [] here out = absurd (out f here)
+    by-rule r rs f stays Reach [] here out = absurd out
     by-rule {c} {n} r rs f {es} {o} stays Reach (left ∷ ks) here (inl out) =
         next_rule (subst (λ ss. Runs left_program c n (in_rule 1 ss ks) f es o) (sym out.0)
         (stays.0 (behind p Reach c n r) ks (λ g to. (f, here, to)) out.1))
@@ -178,7 +178,7 @@ module _ {S : Type 0} (p : Program S) (left_at : ℕ → Option (List (List S)))
         → sum_by (sum_by weight) ks ≤ sum_by (sum_by weight) rs
     lighter weight Reach c n [] [] out = omega arith
     lighter weight Reach c n [] (left ∷ ks) out = absurd out
-    lighter weight Reach c n (r ∷ rs) [] out = omega arith
+    lighter weight Reach c n (r ∷ rs) [] out = absurd out
     lighter weight Reach c n (r ∷ rs) (left ∷ ks) (inl out) =
         let rest = lighter weight (behind p Reach c n r) c (n + 1) rs ks out.1 in
         let same : sum_by weight left ≡ sum_by weight r = ap (sum_by weight) out.0 in
@@ -193,7 +193,7 @@ module _ {S : Type 0} (p : Program S) (left_at : ℕ → Option (List (List S)))
         → LeavesOut p Reach c n rs ks → Contains ks rule → Contains rule s → Contains rs rule
     was-there Reach c n [] [] rule s out here inside = here
     was-there Reach c n [] (left ∷ ks) rule s out here inside = absurd out
-    was-there Reach c n (r ∷ rs) [] rule s out here inside = let l = here.1 in absurd (omega arith)
+    was-there Reach c n (r ∷ rs) [] rule s out here inside = absurd out
     was-there Reach c n (r ∷ rs) (left ∷ ks) rule s (inl out) here inside = ⊎_elim
         (λ is. subst (Contains (r ∷ rs)) (sym out.0 ∙ is) (Contains-head r rs))
         (λ later. Contains-tail r rs rule

@@ -1,6 +1,10 @@
 pub mod AddLaws
-pub mod ReachedLaws
+pub mod FirstLaws
+pub mod MarkLaws
+pub mod ShadowLaws
+pub mod FlagLaws
 pub mod DroppingLaws
+pub mod LeftLaws
 pub mod TableLaws
 pub mod StartLaws
 pub mod OrderLaws

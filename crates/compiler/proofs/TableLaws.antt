@@ -1,12 +1,13 @@
 -- The chains of a table, one after another, and the tables of a ruleset.
-use Rattle.std.proofs.Common.{◌≡◌, ℕ, ◌+◌, ◌-◌, ◌^◌, ◌<◌, ◌≤◌, Bool, false, List, [], ◌∷◌, ◌++◌, length, Some, refl, sym, ap, ◌∙◌, subst, ⊎_elim}
+use Rattle.std.proofs.Common.{◌≡◌, ℕ, zero, suc, ◌+◌, ◌-◌, ◌^◌, ◌<◌, ◌≤◌, ◌⊎◌, inl, inr, Bool, false, List, [], ◌∷◌, ◌++◌, length, map, Option, Some}
+use Rattle.std.proofs.Common.{refl, sym, ap, ◌∙◌, subst, ⊎_elim}
 use Rattle.std.proofs.Common.{arith, length-append, append_assoc}
 use Rattle.std.specs.Prelude.{slice_get, min, sum_by}
-use Rattle.std.specs.List.{list_any, filter_map}
+use Rattle.std.specs.List.{list_any, filter_map, AllZip}
 use Rattle.std.proofs.lemmas.List.{append-nil}
 use Rattle.std.proofs.lemmas.List.Sums.{sum_by-cons, sum_by-append}
 use Rattle.std.proofs.lemmas.Bool.{cases_lt}
-use Rattle.std.proofs.lemmas.Option.{slice_get_within}
+use Rattle.std.proofs.lemmas.Option.{slice_get_within, none-some, same_Some}
 use Rattle.list_laws.specs.Options.{some_of_map}
 use Rattle.nft_tree.specs.Tree as tree
 use Rattle.nft_tree.specs.Tree.{Statement, ChainTree, ItemTree, TableTree}
@@ -14,11 +15,12 @@ use Rattle.nft_tree.specs.TableItems.{chain_in, chains_of}
 use Rattle.box_file.specs.Box.{PlantTree}
 use Rattle.rule_types.specs.Types.{rule_mismatches, item_mismatches, table_mismatches}
 use Rattle.rule_values.specs.Faults.{if_some, item_out_of_range, priority_out_of_range}
-use Rattle.rule_meaning.specs.Runs.{Program}
+use Rattle.rule_meaning.specs.Runs.{table_program}
 use Rattle.filter_vm.specs.declared.code.TableCode.{TableCode}
 use Rattle.lowering.specs.Lowered.{Extends}
-use Rattle.compiler.specs.CodeLayout.{RulesAt, IsTableCode, AreTableCodes, reached, rules_in, reached_program, chain_steps, dropped_rules}
-use Rattle.compiler.specs.steps.Adding.{ExtendsCode, Adds, rule_out_of_range}
+use Rattle.compiler.specs.DroppedRules.{AreLeft}
+use Rattle.compiler.specs.CodeLayout.{StatementsAt, RulesAt, IsTableCode, AreTableCodes, rules_in, left_statements, left_program, chain_steps, dropped_rules}
+use Rattle.compiler.specs.steps.Adding.{ExtendsCode, AddsChain, rule_out_of_range}
 use Rattle.compiler.proofs.AddLaws.{keeps_push, slice_get-push, extends_itself, extends_code_itself, extends_code_on, none_first, none_later}
 
 -- ---- what is wrong with no item is wrong with no chain
@@ -57,131 +59,166 @@ slice_get-seam : {A : Type 0} (xs : List A) (y : A) (ys : List A) → slice_get 
 slice_get-seam [] y ys = refl
 slice_get-seam (x ∷ xs) y ys = slice_get-seam xs y ys
 
--- loop invariant: these chains of the table are left, and those before are in the code
-pub record ChainsSoFar (p : Program Statement) (all rest : List ChainTree) (now : TableCode) : Type 0 where
-  pub front : List ChainTree
-  pub split : all ≡ front ++ rest
-  pub count : length now.chain_offsets.items ≡ length front
-  pub placed : (c : ℕ) (chain : ChainTree) → c < length front → slice_get all c ≡ Some chain
-      → (at_step : ℕ) × (slice_get now.chain_offsets.items c ≡ Some at_step)
-      × ((later : TableCode) → ExtendsCode now later → RulesAt p later at_step c 1 (reached (rules_in chain)))
-  pub steps : length now.steps.items ≡ sum_by chain_steps front
-  pub dropped : now.dropped ≡ min (sum_by dropped_rules front) (2 ^ 64 - 1)
+push-cases : {A : Type 0} (xs : List A) (y : A) (i : ℕ) (x : A) → slice_get (xs ++ y ∷ []) i ≡ Some x
+    → (slice_get xs i ≡ Some x) ⊎ ((i ≡ length xs) × (y ≡ x))
+push-cases [] y zero x is = inr (refl, same_Some y x is)
+push-cases [] y (suc i) x is = absurd (none-some x is)
+push-cases (z ∷ xs) y zero x is = inl is
+push-cases (z ∷ xs) y (suc i) x is = ⊎_elim
+    (λ early. inl early)
+    (λ last. inr (ap suc last.0, last.1))
+    (push-cases xs y i x is)
 
-pub chains_none : (p : Program Statement) (all rest : List ChainTree) (t : TableCode) → rest ≡ all
-    → t.chain_offsets.items ≡ [] → t.steps.items ≡ [] → t.dropped ≡ 0 → ChainsSoFar p all rest t
-chains_none p all rest t is none no_steps no_dropped = record {
-  front = [];
-  split = sym is;
-  count = ap length none;
-  placed =
-      λ c chain lt has. absurd (omega arith);
-  steps = ap length no_steps;
-  dropped = no_dropped ∙ omega arith;
-}
+zip-push : {A B : Type 0} (R : A → B → Type 0) (xs : List A) (ys : List B) (x : A) (y : B) → AllZip R xs ys
+    → R x y → AllZip R (xs ++ x ∷ []) (ys ++ y ∷ [])
+zip-push R [] [] x y all here = (here, tt)
+zip-push R [] (z ∷ ys) x y all here = absurd all
+zip-push R (z ∷ xs) [] x y all here = absurd all
+zip-push R (z ∷ xs) (w ∷ ys) x y all here = (all.0, zip-push R xs ys x y all.1 here)
+
+sum_by-push : {A : Type 0} (weigh : A → ℕ) (xs : List A) (x : A) → sum_by weigh (xs ++ x ∷ []) ≡ sum_by weigh xs + weigh x
+sum_by-push weigh xs x = omega (arith, sum_by-append weigh xs (x ∷ []), sum_by-cons weigh x [])
 
 counted : (s d m : ℕ) → min (min s m + d) m ≡ min (s + d) m
 counted s d m = omega arith
 
-pub chains_more : (p : Program Statement) (all rest others : List ChainTree) (chain : ChainTree)
-    (now with_place new : TableCode) → rest ≡ chain ∷ others
-    → with_place.chain_offsets.items ≡ now.chain_offsets.items ++ length now.steps.items ∷ []
-    → with_place.steps ≡ now.steps → with_place.lookups ≡ now.lookups
-    → Adds (λ later at_step. RulesAt p later at_step (length now.chain_offsets.items) 1 (reached (rules_in chain)))
-    with_place new
-    → length new.steps.items ≡ length now.steps.items + chain_steps chain
-    → new.dropped ≡ min (now.dropped + dropped_rules chain) (2 ^ 64 - 1)
-    → ChainsSoFar p all rest now → ChainsSoFar p all others new
-chains_more p all rest others chain now with_place new is chain_offsets steps lookups adds long dropped so = record {
-  front = so.front ++ chain ∷ [];
-  split = split;
-  count = ap (λ ps. length ps.items) adds.same_places ∙ ap length chain_offsets
-      ∙ omega (
-        arith,
-        so.count,
-        length-append now.chain_offsets.items (length now.steps.items ∷ []),
-        length-append so.front (chain ∷ []),
-      );
-  placed = λ c x lt has. ⊎_elim (before c x has) (here c x lt has) (cases_lt c (length so.front));
-  steps = long ∙ ap (λ n. n + chain_steps chain) so.steps ∙ sym (sum_by-push chain_steps so.front chain);
-  dropped = dropped ∙ ap (λ n. min (n + dropped_rules chain) (2 ^ 64 - 1)) so.dropped
-      ∙ counted (sum_by dropped_rules so.front) (dropped_rules chain) (2 ^ 64 - 1)
-      ∙ ap (λ n. min n (2 ^ 64 - 1)) (sym (sum_by-push dropped_rules so.front chain));
-}
-  where
-    sum_by-push : (weigh : ChainTree → ℕ) (xs : List ChainTree) (x : ChainTree)
-        → sum_by weigh (xs ++ x ∷ []) ≡ sum_by weigh xs + weigh x
-    sum_by-push weigh xs x = omega (arith, sum_by-append weigh xs (x ∷ []), sum_by-cons weigh x [])
+module _ (plant : PlantTree) (number : ℕ) (t : TableTree) where
+  -- loop invariant: these chains of the table remain, and those before are in the code
+  pub record ChainsSoFar (rest : List ChainTree) (now : TableCode) : Type 0 where
+    pub front : List ChainTree
+    pub left : List (List (Option (List Statement)))
+    pub split : chains_of t ≡ front ++ rest
+    pub are_left : AllZip (λ chain rules. AreLeft plant (rules_in chain) rules) front left
+    pub count : length now.chain_offsets.items ≡ length left
+    pub placed : (c : ℕ) (rules : List (Option (List Statement))) → slice_get left c ≡ Some rules → (at_step : ℕ)
+        × (slice_get now.chain_offsets.items c ≡ Some at_step)
+        × ((later : TableCode) → ExtendsCode now later
+        → RulesAt (table_program plant number t) later at_step c 1 (map left_statements rules))
+    pub steps : length now.steps.items ≡ sum_by chain_steps left
+    pub dropped : now.dropped ≡ min (sum_by dropped_rules left) (2 ^ 64 - 1)
 
-    split : all ≡ (so.front ++ chain ∷ []) ++ others
-    split = so.split ∙ ap (λ xs. so.front ++ xs) is ∙ sym (append_assoc so.front (chain ∷ []) others)
+  pub chains_none : (rest : List ChainTree) (now : TableCode) → rest ≡ chains_of t → now.chain_offsets.items ≡ []
+      → now.steps.items ≡ [] → now.dropped ≡ 0 → ChainsSoFar rest now
+  chains_none rest now is none no_steps no_dropped = record {
+    front = [];
+    left = [];
+    split = sym is;
+    are_left = tt;
+    count = ap length none;
+    placed = λ c rules has. absurd (none-some rules has);
+    steps = ap length no_steps;
+    dropped = no_dropped ∙ omega arith;
+  }
 
-    pushed : ExtendsCode now with_place
-    pushed = record {
-      steps = λ i x h. subst (λ ss. slice_get ss.items i ≡ Some x) (sym steps) h;
-      chain_offsets = λ i x h. subst (λ ps. slice_get ps i ≡ Some x) (sym chain_offsets)
-          (keeps_push now.chain_offsets.items (length now.steps.items) i x h);
-      lookups = subst (λ l. Extends now.lookups l) (sym lookups) (extends_itself now.lookups);
-    }
+  pub chains_more : (rest others : List ChainTree) (chain : ChainTree) (now with_place new : TableCode)
+      → rest ≡ chain ∷ others
+      → with_place.chain_offsets.items ≡ now.chain_offsets.items ++ length now.steps.items ∷ []
+      → with_place.steps ≡ now.steps → with_place.lookups ≡ now.lookups → with_place.dropped ≡ now.dropped
+      → AddsChain plant number t (length now.chain_offsets.items) chain with_place new
+      → ChainsSoFar rest now → ChainsSoFar others new
+  chains_more rest others chain now with_place new is chain_offsets steps lookups dropped added so = record {
+    front = so.front ++ chain ∷ [];
+    left = so.left ++ added.left ∷ [];
+    split = so.split ∙ ap (λ xs. so.front ++ xs) is ∙ sym (append_assoc so.front (chain ∷ []) others);
+    are_left = zip-push (λ chain rules. AreLeft plant (rules_in chain) rules) so.front so.left chain added.left
+        so.are_left added.are_left;
+    count = ap (λ ps. length ps.items) added.adds.same_places ∙ ap length chain_offsets
+        ∙ omega (
+          arith,
+          so.count,
+          length-append now.chain_offsets.items (length now.steps.items ∷ []),
+          length-append so.left (added.left ∷ []),
+        );
+    placed = λ c rules has. ⊎_elim (before c rules) (here c rules) (push-cases so.left added.left c rules has);
+    steps = added.steps ∙ ap (λ ss. length ss.items + chain_steps added.left) steps
+        ∙ ap (λ n. n + chain_steps added.left) so.steps ∙ sym (sum_by-push chain_steps so.left added.left);
+    dropped = added.dropped ∙ ap (λ n. min (n + dropped_rules added.left) (2 ^ 64 - 1)) (dropped ∙ so.dropped)
+        ∙ counted (sum_by dropped_rules so.left) (dropped_rules added.left) (2 ^ 64 - 1)
+        ∙ ap (λ n. min n (2 ^ 64 - 1)) (sym (sum_by-push dropped_rules so.left added.left));
+  }
+    where
+      pushed : ExtendsCode now with_place
+      pushed = record {
+        steps = λ i x h. subst (λ ss. slice_get ss.items i ≡ Some x) (sym steps) h;
+        chain_offsets = λ i x h. subst (λ ps. slice_get ps i ≡ Some x) (sym chain_offsets)
+            (keeps_push now.chain_offsets.items (length now.steps.items) i x h);
+        lookups = subst (λ l. Extends now.lookups l) (sym lookups) (extends_itself now.lookups);
+      }
 
-    grown : ExtendsCode now new
-    grown = extends_code_on now with_place new pushed adds.extends_code
+      grown : ExtendsCode now new
+      grown = extends_code_on now with_place new pushed added.adds.extends_code
 
-    before : (c : ℕ) (x : ChainTree) → slice_get all c ≡ Some x → c < length so.front → (at_step : ℕ)
-        × (slice_get new.chain_offsets.items c ≡ Some at_step)
-        × ((later : TableCode) → ExtendsCode new later → RulesAt p later at_step c 1 (reached (rules_in x)))
-    before c x has lt =
-        let old = so.placed c x lt has in
-        (old.0, grown.chain_offsets c old.0 old.1, λ later g. old.2 later (extends_code_on now new later grown g))
+      before : (c : ℕ) (rules : List (Option (List Statement))) → slice_get so.left c ≡ Some rules → (at_step : ℕ)
+          × (slice_get new.chain_offsets.items c ≡ Some at_step)
+          × ((later : TableCode) → ExtendsCode new later
+          → RulesAt (table_program plant number t) later at_step c 1 (map left_statements rules))
+      before c rules has =
+          let old = so.placed c rules has in
+          (old.0, grown.chain_offsets c old.0 old.1, λ later g. old.2 later (extends_code_on now new later grown g))
 
-    here : (c : ℕ) (x : ChainTree) → c < length (so.front ++ chain ∷ []) → slice_get all c ≡ Some x
-        → length so.front ≤ c → (at_step : ℕ) × (slice_get new.chain_offsets.items c ≡ Some at_step)
-        × ((later : TableCode) → ExtendsCode new later → RulesAt p later at_step c 1 (reached (rules_in x)))
-    here c x lt has ge =
-        let at : c ≡ length so.front = omega (arith, length-append so.front (chain ∷ [])) in
-        let at_place : c ≡ length now.chain_offsets.items = at ∙ sym so.count in
-        let same : Some chain ≡ Some x = sym (ap (λ xs. slice_get xs c)
-        (so.split ∙ ap (λ xs. so.front ++ xs) is) ∙ ap (λ n. slice_get (so.front ++ chain ∷ others) n) at
-        ∙ slice_get-seam so.front chain others) ∙ has in
-        let is_x : chain ≡ x = cc in
-        let n : length with_place.steps.items ≡ length now.steps.items = ap (λ ss. length ss.items) steps in
-        let got : slice_get with_place.chain_offsets.items (length now.chain_offsets.items)
-        ≡ Some (length now.steps.items) = ap (λ ps. slice_get ps (length now.chain_offsets.items))
-        chain_offsets ∙ slice_get-push now.chain_offsets.items (length now.steps.items) in (
-          length now.steps.items,
-          subst (λ m. slice_get new.chain_offsets.items m ≡ Some (length now.steps.items)) (sym at_place)
-              (adds.extends_code.chain_offsets (length now.chain_offsets.items) (length now.steps.items) got),
-          λ later g. subst (λ y. RulesAt p later (length now.steps.items) c 1 (reached (rules_in y))) is_x
-              (subst (λ m. RulesAt p later (length now.steps.items) m 1 (reached (rules_in chain))) (sym at_place)
-              (subst (λ a. RulesAt p later a (length now.chain_offsets.items) 1 (reached (rules_in chain))) n
-              (adds.holds later g))),
+      here : (c : ℕ) (rules : List (Option (List Statement))) → (c ≡ length so.left) × (added.left ≡ rules)
+          → (at_step : ℕ) × (slice_get new.chain_offsets.items c ≡ Some at_step)
+          × ((later : TableCode) → ExtendsCode new later
+          → RulesAt (table_program plant number t) later at_step c 1 (map left_statements rules))
+      here c rules last =
+          let at_place : c ≡ length now.chain_offsets.items = last.0 ∙ sym so.count in
+          let n : length with_place.steps.items ≡ length now.steps.items = ap (λ ss. length ss.items) steps in
+          let got : slice_get with_place.chain_offsets.items (length now.chain_offsets.items)
+          ≡ Some (length now.steps.items) = ap (λ ps. slice_get ps (length now.chain_offsets.items))
+          chain_offsets ∙ slice_get-push now.chain_offsets.items (length now.steps.items) in (
+            length now.steps.items,
+            subst (λ m. slice_get new.chain_offsets.items m ≡ Some (length now.steps.items)) (sym at_place)
+                (added.adds.extends_code.chain_offsets (length now.chain_offsets.items) (length now.steps.items) got),
+            λ later g. subst (λ rs. RulesAt (table_program plant number t) later (length now.steps.items) c 1
+                (map left_statements rs)) last.1
+                (subst (λ m. RulesAt (table_program plant number t) later (length now.steps.items) m 1
+                (map left_statements added.left)) (sym at_place)
+                (subst (λ a. RulesAt (table_program plant number t) later a (length now.chain_offsets.items) 1
+                (map left_statements added.left)) n (added.adds.holds later g))),
+          )
+
+  -- the same steps, of a program with other rules
+  module _ (left : List (List (Option (List Statement)))) (code : TableCode) where
+    statements-as : (at_step c n k : ℕ) (ss : List Statement)
+        → StatementsAt (table_program plant number t) code at_step c n k ss
+        → StatementsAt (left_program plant number t left) code at_step c n k ss
+    statements-as at_step c n k [] here = tt
+    statements-as at_step c n k (s ∷ ss) here =
+        let is = here.0.2 in (
+          (here.0.0, here.0.1, record { rule = is.rule; skip = is.skip; effect = is.effect }),
+          statements-as (at_step + 1) c n (k + 1) ss here.1,
         )
 
-pub chains_all : (plant : PlantTree) (number : ℕ) (t : TableTree) (rest : List ChainTree) (now : TableCode)
-    → rest ≡ [] → ChainsSoFar (reached_program plant number t) (chains_of t) rest now
-    → IsTableCode plant number t now
-chains_all plant number t rest now none so = record {
-  laid_out = record { chains = placed };
-  steps = so.steps ∙ ap (sum_by chain_steps) (sym whole);
-  dropped = so.dropped ∙ ap (λ xs. min (sum_by dropped_rules xs) (2 ^ 64 - 1)) (sym whole);
-}
-  where
-    whole : chains_of t ≡ so.front
-    whole = so.split ∙ ap (λ xs. so.front ++ xs) none ∙ append-nil so.front
+    rules-as : (at_step c n : ℕ) (rs : List (List Statement))
+        → RulesAt (table_program plant number t) code at_step c n rs
+        → RulesAt (left_program plant number t left) code at_step c n rs
+    rules-as at_step c n [] here = here
+    rules-as at_step c n (r ∷ rs) here =
+        (statements-as at_step c n 1 r here.0, rules-as (at_step + length r) c (n + 1) rs here.1)
 
-    placed : (c : ℕ) (rules : List (List Statement)) → (reached_program plant number t).rules_at c ≡ Some rules
-        → (at_step : ℕ) × (slice_get now.chain_offsets.items c ≡ Some at_step)
-        × RulesAt (reached_program plant number t) now at_step c 1 rules
-    placed c rules has =
-        let found = some_of_map (λ x. reached (rules_in x)) (slice_get (chains_of t) c) rules has in
-        let lt : c < length so.front = subst (λ xs. c < length xs) whole
-        (slice_get_within (chains_of t) c found.0 found.1) in
-        let holds = so.placed c found.0 lt found.1 in (
-          holds.0,
-          holds.1,
-          subst (λ rs. RulesAt (reached_program plant number t) now holds.0 c 1 rs) found.2
-              (holds.2 now (extends_code_itself now)),
-        )
+  pub chains_all : (rest : List ChainTree) (now : TableCode) → rest ≡ [] → ChainsSoFar rest now
+      → IsTableCode plant number t now
+  chains_all rest now none so = record {
+    left = so.left;
+    are_left = subst (λ chains. AllZip (λ chain rules. AreLeft plant (rules_in chain) rules) chains so.left)
+        (sym (so.split ∙ ap (λ xs. so.front ++ xs) none ∙ append-nil so.front)) so.are_left;
+    laid_out = record { chains = placed };
+    steps = so.steps;
+    dropped = so.dropped;
+  }
+    where
+      placed : (c : ℕ) (rules : List (List Statement)) → (left_program plant number t so.left).rules_at c ≡ Some rules
+          → (at_step : ℕ) × (slice_get now.chain_offsets.items c ≡ Some at_step)
+          × RulesAt (left_program plant number t so.left) now at_step c 1 rules
+      placed c rules has =
+          let found = some_of_map (map left_statements) (slice_get so.left c) rules has in
+          let holds = so.placed c found.0 found.1 in (
+            holds.0,
+            holds.1,
+            subst (λ rs. RulesAt (left_program plant number t so.left) now holds.0 c 1 rs) found.2
+                (rules-as so.left now holds.0 c 1 (map left_statements found.0)
+                (holds.2 now (extends_code_itself now))),
+          )
 
 -- ---- the tables of a ruleset
 

@@ -1,3 +1,4 @@
 pub mod Compiled
+pub mod DroppedRules
 pub mod CodeLayout
 pub mod steps

@@ -3,6 +3,8 @@
 
 mod compiled_chain;
 mod compiling;
+mod dropped;
+mod firsts;
 mod reached;
 mod rules;
 mod starts;

@@ -3,17 +3,16 @@ use Rattle.std.specs.List.{list_any}
 use Rattle.list_laws.specs.Lists.{head_and_rest}
 use Rattle.nft_tree.specs.declared.chain.Chain.{Chain}
 use Rattle.nft_tree.specs.Tree.{ChainTree, chain_tree}
-use Rattle.nft_tree.specs.TableItems.{chains_of}
 use Rattle.filter_vm.specs.declared.code.TableCode.{TableCode}
-use Rattle.compiler.specs.CodeLayout.{RulesAt, reached, reached_program, rules_in}
-use Rattle.compiler.specs.steps.Adding.{Adds}
+use Rattle.compiler.specs.steps.Adding.{AddsChain}
 use Rattle.compiler.proofs.AddLaws.{declared_kept, nothing_left, none_later}
 use Rattle.compiler.proofs.TableLaws.{chain_misfits, chain_rules_wrong, types_free, bounds_free, chains_none, chains_more, chains_all}
 use Rattle.compiler.proofs.tables.table_code.Goals as goal
 
 pub loop-rest-init : goal.loop-rest-init
 loop-rest-init c = record {
-  placed = chains_none _ (chains_of c.args.names.now) _ _ c.chains-rest.ensures.all c.new-2.ensures.items c.new.ensures.items refl;
+  placed = chains_none c.args.plant.now c.args.table c.args.names.now _ _ c.chains-rest.ensures.all
+      c.new-2.ensures.items c.new.ensures.items refl;
   declared = c.in_ok-declared.ensures;
   types = ap (list_any (chain_misfits c.args.names.now)) c.chains-rest.ensures.all
       ∙ types_free c.args.names.now c.requires.types;
@@ -36,18 +35,16 @@ loop-rest-preserved c =
       lookups = c.loop-rest.code.lookups;
       dropped = c.loop-rest.code.dropped;
     } in
-    let p = reached_program c.args.plant.now c.args.table c.args.names.now in
     let number : c.in_ok-to_u32.field-0 ≡ length c.loop-rest.code.chain_offsets.items =
     c.in_ok-to_u32.ensures ∙ c.len.ensures ∙ c.loop-rest.code.chain_offsets.ok.0 in
     let here : length c.list.result.now ≡ length c.loop-rest.code.steps.items = ap length c.list.ensures.items in
-    let adds = subst (λ n. Adds (λ later at_step. RulesAt p later at_step n 1
-    (reached (rules_in (tree c.chain-item.result)))) with_place c.add_chain.new.code) number
-    c.in_ok-add_chain.ensures.adds in
+    let added = subst (λ n. AddsChain c.args.plant.now c.args.table c.args.names.now n (tree c.chain-item.result)
+    with_place c.add_chain.new.code) number c.in_ok-add_chain.ensures in
     record {
-      placed = chains_more p (chains_of c.args.names.now) (map tree rest) (map tree others)
+      placed = chains_more c.args.plant.now c.args.table c.args.names.now (map tree rest) (map tree others)
           (tree c.chain-item.result) c.loop-rest.code with_place c.add_chain.new.code is
-          (c.in_ok-push.ensures.items ∙ ap (λ n. c.loop-rest.code.chain_offsets.items ++ n ∷ []) here) refl refl
-          adds c.in_ok-add_chain.ensures.steps c.in_ok-add_chain.ensures.dropped c.loop-rest.invariant.placed;
+          (c.in_ok-push.ensures.items ∙ ap (λ n. c.loop-rest.code.chain_offsets.items ++ n ∷ []) here) refl refl refl
+          added c.loop-rest.invariant.placed;
       declared = declared_kept _ _ _ _ c.in_ok-add_chain.ensures.adds.extends_code.lookups c.loop-rest.invariant.declared;
       types = none_later _ _ types;
       bounds = none_later _ _ bounds;
