@@ -38,10 +38,6 @@ pub if_ok_then : {T E : Type 0} (r : Result T E) (P Q : T → Type 0) → IfOk r
 if_ok_then (Ok x) P Q p h = h x p
 if_ok_then (Err e) P Q p h = tt
 
-pub if_err_then : {T E : Type 0} (r : Result T E) (P Q : E → Type 0) → IfErr r P → ((e : E) → P e → Q e) → IfErr r Q
-if_err_then (Ok x) P Q p h = tt
-if_err_then (Err e) P Q p h = h e p
-
 pub if_err_both : {T E : Type 0} (r : Result T E) (O P Q : E → Type 0) → IfErr r O → IfErr r P
     → ((e : E) → O e → P e → Q e) → IfErr r Q
 if_err_both (Ok x) O P Q o p h = tt
@@ -408,9 +404,9 @@ not_of_texts (Box fault) P within of = absurd within
 not_of_texts Device P within of = absurd of
 not_of_texts Memory P within of = absurd of
 
--- ---- the same of the setup that was checked
+-- ---- the texts that were checked
 
--- with which the texts are accepted
+-- are accepted
 abbrev pub accepted_of : (rules box : List ℕ) (checked : CheckedTree) → IsChecked rules box checked → Accepted rules box
 accepted_of rules box checked fine = record {
   setup = setup_of checked;
@@ -419,36 +415,19 @@ accepted_of rules box checked fine = record {
   well_formed = fine.well_formed;
 }
 
-pub wrote_all : Single → (rules box : List ℕ) (checked : CheckedTree) (start : ReplayStart) (format : Format)
-    (input to_come unread w r : Option (List ℕ)) (count : ℕ) (torn : Bool)
-    → IsChecked rules box checked → start.setup ≡ setup_of checked → Opened input to_come format
-    → IfSome to_come (λ bytes. OutputsWritten start format bytes count torn unread w r)
-    → IfSome input (λ bytes. WroteOutputs rules box bytes start.trace count torn start.sent w start.report r)
-wrote_all one rules box checked start format input to_come unread w r count torn fine same opened done =
-    wrote one rules box (accepted_of rules box checked fine) start format input to_come unread w r count torn same
-    opened done
-
-pub refuses_all : (rules box : List ℕ) (checked : CheckedTree) (setup : Setup) (trace : Bool) (format : Format)
-    (input to_come : Option (List ℕ)) (old new : Devices) (fault : RunFault)
-    → IsChecked rules box checked → Opened input to_come format → IsWithin fault
-    → IfSome to_come (λ bytes. FaultLeaves setup trace format bytes old new fault) → Refuses rules box input fault
-refuses_all rules box checked setup trace format input to_come old new fault fine opened within says =
-    refuses_within rules box (accepted_of rules box checked fine) setup trace format input to_come old new fault opened
-    within says
-
-pub left_all : (rules box : List ℕ) (trace : Bool) (checked : CheckedTree) (setup : Setup) (format : Format)
+-- a fault behind the header, over the reader as `Capture::open` left it
+pub left_all : (rules box : List ℕ) (trace : Bool) (accepted : Accepted rules box) (setup : Setup) (format : Format)
     (input to_come : Option (List ℕ)) (old new : Devices) (unread : Option (List ℕ)) (failed : ℕ) (part : List ℕ)
     (fault : RunFault)
-    → failed ≡ old.reads_failed → Consumes input unread part → length part ≤ READ_AHEAD → IsChecked rules box checked
-    → setup ≡ setup_of checked → Opened input to_come format → IsWithin fault
+    → failed ≡ old.reads_failed → Consumes input unread part → length part ≤ READ_AHEAD → setup ≡ accepted.setup
+    → Opened input to_come format → IsWithin fault
     → IfSome to_come (λ bytes. FaultLeaves setup trace format bytes (opened_of old unread failed) new fault)
     → IfSome input (λ bytes. LeftDevices rules box bytes trace old new fault)
-left_all rules box trace checked setup format None to_come old new unread failed part fault before takes few fine same
+left_all rules box trace accepted setup format None to_come old new unread failed part fault before takes few same
     opened within says = tt
-left_all rules box trace checked setup format (Some bytes) to_come old new unread failed part fault before takes few
-    fine same opened within says =
-    left_within rules box trace (accepted_of rules box checked fine) format bytes old new unread failed fault opened.1
-    within before
+left_all rules box trace accepted setup format (Some bytes) to_come old new unread failed part fault before takes few
+    same opened within says =
+    left_within rules box trace accepted format bytes old new unread failed fault opened.1 within before
     (λ left kept all_read. unbegun bytes part old new unread left takes few kept all_read)
     (subst (λ (s : Setup). FaultLeaves s trace format (drop HEADER_BYTES bytes) (opened_of old unread failed) new fault)
     same

@@ -192,13 +192,49 @@ pub record Fetched (old new : CaptureState) (before after : Option (List ℕ)) :
   pub takes : (part : List ℕ) × Consumes before after part
   pub drained : new.ended ≡ true → IsAtEnd after
 
+-- the reader over one call of the capture, before which the pending output was written
+pub fetched : (old mid new : CaptureState) (before after : Option (List ℕ)) → mid ≡ old
+    → (old.ended ≡ true → IsAtEnd before) → ((part : List ℕ) × Consumes before after part)
+    → ((mid.ended ≡ true → IsAtEnd before) → new.ended ≡ true → IsAtEnd after)
+    → Fetched mid new before after
+fetched old mid new before after same at_end takes drains =
+    let still : mid.ended ≡ true → IsAtEnd before = λ e. at_end (sym (ap (λ (s : CaptureState). s.ended) same) ∙ e) in
+    record { at_end = still; takes = takes; drained = drains still }
+
+-- what is known of a call of the capture behind these records
+pub record AtRead (replay : Replay) (new : CaptureState) (start : ReplayStart) (format : Format)
+    (bytes unread after w r : Option (List ℕ)) : Type 0 where
+  pub carried : IfSome bytes (λ bytes. Carried replay start format bytes unread w r)
+  pub same : replay.records.format ≡ format
+  pub fetched : Fetched replay.records new unread after
+  pub few : length new.held ≤ READ_AHEAD
+
+-- before which the pending output was written
+pub read_after : (before replay : Replay) (new : CaptureState) (start : ReplayStart) (format : Format)
+    (bytes unread after w w' r r' : Option (List ℕ)) → replay.records ≡ before.records
+    → before.records.format ≡ format → (before.records.ended ≡ true → IsAtEnd unread)
+    → IfSome bytes (λ bytes. Carried before start format bytes unread w r)
+    → ((history : List Entry) → ReplayRepresents before start history w r
+    → ReplayRepresents replay start history w' r') → ((part : List ℕ) × Consumes unread after part)
+    → ((replay.records.ended ≡ true → IsAtEnd unread) → new.ended ≡ true → IsAtEnd after)
+    → length new.held ≤ READ_AHEAD → AtRead replay new start format bytes unread after w' r'
+read_after before replay new start format bytes unread after w w' r r' same kept at_end c still takes drains few =
+    record {
+      carried = kept_up before replay start format bytes unread w w' r r' same still c;
+      same = ap (λ (s : CaptureState). s.format) same ∙ kept;
+      fetched = fetched before.records replay.records new unread after same at_end takes drains;
+      few = few;
+    }
+
 further : (replay : Replay) (new : CaptureState) (start : ReplayStart) (format : Format) (bytes : List ℕ)
-    (unread after w r : Option (List ℕ)) (c : Carried replay start format bytes unread w r)
-    → replay.records.format ≡ format
-    → Fetched replay.records new unread after → IfSome (ahead replay.records unread) (λ bytes.
+    (unread after w r : Option (List ℕ)) (call : AtRead replay new start format (Some bytes) unread after w r)
+    → IfSome (ahead replay.records unread) (λ bytes.
     NextAnswers bytes (ahead new after) replay.records new (Ok true))
-    → (taken : Recorded) × Further start format bytes c.rest after new taken c.history
-further replay new start format bytes unread after w r c same fetched says =
+    → (taken : Recorded) × Further start format bytes call.carried.rest after new taken call.carried.history
+further replay new start format bytes unread after w r call says =
+    let c : Carried replay start format bytes unread w r = call.carried in
+    let same = call.same in
+    let fetched = call.fetched in
     let reads : ReadsRecord c.rest (ahead new after) replay.records new =
     said replay start format bytes unread w r c
     (λ rest. NextAnswers rest (ahead new after) replay.records new (Ok true)) fetched.at_end says in
@@ -270,16 +306,16 @@ still_plays replay new start history w r p = record {
 
 -- one more record was processed
 pub more : (replay replay' : Replay) (new : CaptureState) (start : ReplayStart) (format : Format)
-    (a unread after w w' r : Option (List ℕ)) → IfSome a (λ bytes. Carried replay start format bytes unread w r)
-    → replay.records.format ≡ format
-    → Fetched replay.records new unread after → IfSome (ahead replay.records unread) (λ bytes.
+    (a unread after w w' r : Option (List ℕ)) → AtRead replay new start format a unread after w r
+    → IfSome (ahead replay.records unread) (λ bytes.
     NextAnswers bytes (ahead new after) replay.records new (Ok true))
     → ((history : List Entry) → ReplayRepresents (read_on replay new) start history w r
     → IfSome new.last (λ taken. TakesRecord replay' start history taken w' r)) → replay'.records ≡ new
     → IfSome a (λ bytes. Carried replay' start format bytes after w' r)
-more replay replay' new start format None unread after w w' r c same fetched says takes is = tt
-more replay replay' new start format (Some bytes) unread after w w' r c same fetched says takes is =
-    let f = further replay new start format bytes unread after w r c same fetched says in
+more replay replay' new start format None unread after w w' r call says takes is = tt
+more replay replay' new start format (Some bytes) unread after w w' r call says takes is =
+    let c : Carried replay start format bytes unread w r = call.carried in
+    let f = further replay new start format bytes unread after w r call says in
     let t : TakesRecord replay' start c.history f.0 w' r =
     known new.last f.0 (λ taken. TakesRecord replay' start c.history taken w' r) f.1.last_is
     (takes c.history (still_plays replay new start c.history w r c.replay_represents)) in
@@ -312,17 +348,16 @@ halted replay start format (Some bytes) unread w w' r r' c few part = record {
 
 -- at a record
 pub halted_at : (replay : Replay) (new : CaptureState) (start : ReplayStart) (format : Format)
-    (a unread after w w' r r' : Option (List ℕ)) → IfSome a (λ bytes. Carried replay start format bytes unread w r)
-    → replay.records.format ≡ format
-    → Fetched replay.records new unread after → length new.held ≤ READ_AHEAD
+    (a unread after w w' r r' : Option (List ℕ)) → AtRead replay new start format a unread after w r
     → IfSome (ahead replay.records unread) (λ bytes.
     NextAnswers bytes (ahead new after) replay.records new (Ok true))
     → ((history : List Entry) → ReplayRepresents (read_on replay new) start history w r → IfSome new.last (λ taken.
     BreaksAtRecord start history taken w' r'))
     → IfSome a (λ bytes. HaltedByWrite start format bytes after w' r')
-halted_at replay new start format None unread after w w' r r' c same fetched few says breaks = tt
-halted_at replay new start format (Some bytes) unread after w w' r r' c same fetched few says breaks =
-    let f = further replay new start format bytes unread after w r c same fetched says in
+halted_at replay new start format None unread after w w' r r' call says breaks = tt
+halted_at replay new start format (Some bytes) unread after w w' r r' call says breaks =
+    let c : Carried replay start format bytes unread w r = call.carried in
+    let f = further replay new start format bytes unread after w r call says in
     let b : BreaksAtRecord start c.history f.0 w' r' =
     known new.last f.0 (λ taken. BreaksAtRecord start c.history taken w' r') f.1.last_is
     (breaks c.history (still_plays replay new start c.history w r c.replay_represents)) in
@@ -335,23 +370,22 @@ halted_at replay new start format (Some bytes) unread after w w' r r' c same fet
         follows = moved start.setup format bytes f.1.rest (new.held ++ f.1.left.left) (b.entry ∷ c.history)
             f.1.left.joined (f.1.follows b.entry b.next);
       };
-      few = few;
+      few = call.few;
       part = b.part;
     }
 
 -- at a failed allocation, before which all output was written
 pub lacks : (replay : Replay) (new : CaptureState) (start : ReplayStart) (format : Format)
-    (a unread after w w' r r' : Option (List ℕ)) → IfSome a (λ bytes. Carried replay start format bytes unread w r)
-    → replay.records.format ≡ format
-    → Fetched replay.records new unread after → length new.held ≤ READ_AHEAD
+    (a unread after w w' r r' : Option (List ℕ)) → AtRead replay new start format a unread after w r
     → IfSome (ahead replay.records unread) (λ bytes.
     NextAnswers bytes (ahead new after) replay.records new (Ok true))
     → ((history : List Entry) → ReplayRepresents (read_on replay new) start history w r
     → AllWritten start history w' r')
     → IfSome a (λ bytes. CutByMemory start format bytes after w' r')
-lacks replay new start format None unread after w w' r r' c same fetched few says all = tt
-lacks replay new start format (Some bytes) unread after w w' r r' c same fetched few says all =
-    let f = further replay new start format bytes unread after w r c same fetched says in
+lacks replay new start format None unread after w w' r r' call says all = tt
+lacks replay new start format (Some bytes) unread after w w' r r' call says all =
+    let c : Carried replay start format bytes unread w r = call.carried in
+    let f = further replay new start format bytes unread after w r call says in
     record {
       reached = record {
         ahead = frame f.1.captured ++ new.held;
@@ -366,7 +400,7 @@ lacks replay new start format (Some bytes) unread after w w' r r' c same fetched
       is_record = f.1.is_record;
       more = new.held;
       read = refl;
-      few = few;
+      few = call.few;
       all = all c.history (still_plays replay new start c.history w r c.replay_represents);
     }
 
@@ -415,16 +449,17 @@ cut replay replay' new start format (Some bytes) unread after w w' r r' c is sam
 
 -- where the bytes to come are no further record
 replayed : (replay : Replay) (new : CaptureState) (start : ReplayStart) (format : Format) (ending : Ending)
-    (a unread after w r : Option (List ℕ)) → IfSome a (λ bytes. Carried replay start format bytes unread w r)
-    → Fetched replay.records new unread after → length new.held ≤ READ_AHEAD
+    (a unread after w r : Option (List ℕ)) → AtRead replay new start format a unread after w r
     → IfSome (ahead replay.records unread)
     (λ rest. Ends format ending replay.records.count rest × (ahead new after ≡ Some rest)) → IfSome a (λ bytes.
     Replayed (read_on replay new) start format bytes ending after w r)
-replayed replay new start format ending None unread after w r c fetched few says = tt
-replayed replay new start format ending (Some bytes) unread after w r c fetched few says =
+replayed replay new start format ending None unread after w r call says = tt
+replayed replay new start format ending (Some bytes) unread after w r call says =
+    let c : Carried replay start format bytes unread w r = call.carried in
     let s : Ends format ending replay.records.count c.rest × (ahead new after ≡ Some c.rest) =
     said replay start format bytes unread w r c
-    (λ rest. Ends format ending replay.records.count rest × (ahead new after ≡ Some rest)) fetched.at_end says in
+    (λ rest. Ends format ending replay.records.count rest × (ahead new after ≡ Some rest)) call.fetched.at_end says in
+    let fetched = call.fetched in
     let l = still_left new unread after c.left fetched.takes.0 c.rest c.is_left fetched.takes.1 fetched.drained s.1 in
     record {
       reached = record {
@@ -434,7 +469,7 @@ replayed replay new start format ending (Some bytes) unread after w r c fetched 
         history = c.history;
         follows = moved start.setup format bytes c.rest (new.held ++ l.left) c.history l.joined c.follows;
       };
-      few = few;
+      few = call.few;
       ends = subst (Ends format ending (length c.follows.records)) l.joined (subst
           (λ (n : ℕ). Ends format ending n c.rest) c.counted s.0);
       replay_represents = still_plays replay new start c.history w r c.replay_represents;
@@ -449,15 +484,13 @@ in_format f g ending count o after e h =
 
 -- at the end of the bytes
 pub ended : (replay : Replay) (new : CaptureState) (start : ReplayStart) (format : Format)
-    (a unread after w r : Option (List ℕ)) → IfSome a (λ bytes. Carried replay start format bytes unread w r)
-    → replay.records.format ≡ format
-    → Fetched replay.records new unread after → length new.held ≤ READ_AHEAD
+    (a unread after w r : Option (List ℕ)) → AtRead replay new start format a unread after w r
     → IfSome (ahead replay.records unread) (λ bytes. NextAnswers bytes (ahead new after) replay.records new (Ok false))
     → IfSome a (λ bytes. Replayed (read_on replay new) start format bytes (ending_at None) after w r)
-ended replay new start format a unread after w r c same fetched few says =
-    replayed replay new start format Whole a unread after w r c fetched few
+ended replay new start format a unread after w r call says =
+    replayed replay new start format Whole a unread after w r call
     (in_format replay.records.format format Whole replay.records.count (ahead replay.records unread) (ahead new after)
-    same
+    call.same
     (IfSome_weaker (ahead replay.records unread) (λ bytes. Ends replay.records.format Whole replay.records.count bytes
     × (ahead new after ≡ Some []))
     (λ bytes. Ends replay.records.format Whole replay.records.count bytes × (ahead new after ≡ Some bytes))
@@ -474,24 +507,22 @@ stops captures.LinkType is = absurd is
 -- at a fault of the records
 pub refused : (replay : Replay) (new : CaptureState) (start : ReplayStart) (format : Format) (fault : CaptureFault)
     (a unread after w r : Option (List ℕ)) → IsOfRecords (Refused fault)
-    → IfSome a (λ bytes. Carried replay start format bytes unread w r) → replay.records.format ≡ format
-    → Fetched replay.records new unread after → length new.held ≤ READ_AHEAD
-    → IfSome (ahead replay.records unread)
+    → AtRead replay new start format a unread after w r → IfSome (ahead replay.records unread)
     (λ bytes. NextAnswers bytes (ahead new after) replay.records new (Err (Refused fault))) → IfSome a (λ bytes.
     Replayed (read_on replay new) start format bytes (ending_at (Some fault)) after w r)
-refused replay new start format captures.TornEnd a unread after w r is c same fetched few says =
-    replayed replay new start format Torn a unread after w r c fetched few (in_format replay.records.format format Torn
-    replay.records.count (ahead replay.records unread) (ahead new after) same says)
-refused replay new start format captures.Malformed a unread after w r is c same fetched few says =
-    replayed replay new start format Malformed a unread after w r c fetched few
+refused replay new start format captures.TornEnd a unread after w r is call says =
+    replayed replay new start format Torn a unread after w r call (in_format replay.records.format format Torn
+    replay.records.count (ahead replay.records unread) (ahead new after) call.same says)
+refused replay new start format captures.Malformed a unread after w r is call says =
+    replayed replay new start format Malformed a unread after w r call
     (in_format replay.records.format format Malformed replay.records.count (ahead replay.records unread)
-    (ahead new after) same says)
-refused replay new start format captures.TooMany a unread after w r is c same fetched few says =
-    replayed replay new start format Over a unread after w r c fetched few (in_format replay.records.format format Over
-    replay.records.count (ahead replay.records unread) (ahead new after) same says)
-refused replay new start format captures.Magic a unread after w r is c same fetched few says = absurd is
-refused replay new start format captures.Version a unread after w r is c same fetched few says = absurd is
-refused replay new start format captures.LinkType a unread after w r is c same fetched few says = absurd is
+    (ahead new after) call.same says)
+refused replay new start format captures.TooMany a unread after w r is call says =
+    replayed replay new start format Over a unread after w r call (in_format replay.records.format format Over
+    replay.records.count (ahead replay.records unread) (ahead new after) call.same says)
+refused replay new start format captures.Magic a unread after w r is call says = absurd is
+refused replay new start format captures.Version a unread after w r is call says = absurd is
+refused replay new start format captures.LinkType a unread after w r is call says = absurd is
 
 -- what is no fault of a run is a torn end
 pub torn_only : (fault : CaptureFault) (torn : Bool) → torn_at (Some fault) ≡ Ok torn → fault ≡ captures.TornEnd

@@ -14,18 +14,22 @@ use Rattle.history.specs.Setup.{Setup}
 use Rattle.engine.specs.declared.fault.RunFault.{RunFault}
 use Rattle.engine.specs.declared.fault.RunFault.TheVariants.{Rules, Box, Capture, Device, Memory}
 use Rattle.pcap_io.specs.declared.counted.Counted.{Counted}
+use Rattle.pcap_io.specs.declared.sink.SinkError.{SinkError}
+use Rattle.pcap_io.specs.declared.sink.SinkError.TheVariants as sinks
 use Rattle.std.specs.Io.KnownBytes.{Keeps}
 use Rattle.std.proofs.KnownBytes.{Keeps-refl}
 use Rattle.pcap_io.specs.steps.Written.{part_same, part_none}
 use Rattle.list_laws.specs.Options.{IfSome_weaker}
 use Rattle.engine.specs.declared.replay.Replay.{Replay}
+use Rattle.engine.specs.declared.runs.Summary.{Summary}
 use Rattle.engine.specs.Meaning.{ending_of}
 use Rattle.engine.specs.Refusals.{IsOfRecord, fault_at}
-use Rattle.engine.specs.AfterFault.{Devices, OneFailed, Untouched}
-use Rattle.engine.specs.steps.Replayed.{AllWritten, HaltedByWrite, Interrupts, IsStop, OneOfTwo, PrefixWritten}
-use Rattle.engine.specs.steps.Replayed.{ReplayRepresents, Replayed, ReplayStart, unread_input, ending_at}
-use Rattle.engine.specs.steps.Written.{FinishFails, OutputsFinished, IsWithin, FaultLeaves, OutputsWritten}
-use Rattle.engine.specs.steps.Written.{ReportUnfinished, start_of, torn_at}
+use Rattle.engine.specs.AfterFault.{CountsFault, Devices, NoneFailed}
+use Rattle.engine.specs.steps.Faults.{IsInterruption, of_sink}
+use Rattle.engine.specs.steps.Replayed.{HaltedByWrite, Interrupts, IsStop, ReplayRepresents, Replayed, ReplayStart}
+use Rattle.engine.specs.steps.Replayed.{CountsWriteFault, Writers, unread_input, ending_at}
+use Rattle.engine.specs.steps.Written.{FinishFails, OutputsFinished, IsWithin, FaultLeaves, LeavesPrefix}
+use Rattle.engine.specs.steps.Written.{OutputsWritten, start_of, torn_at}
 use Rattle.engine.proofs.Histories.{history_length}
 use Rattle.engine.proofs.Known.{nothing}
 
@@ -35,46 +39,10 @@ not_err is = cc
 
 -- ---- how the records stop
 
-abbrev IsCapture : RunFault → Type 0
-IsCapture (Rules fault) = ⊥
-IsCapture (Box fault) = ⊥
-IsCapture (Capture fault) = Unit {0}
-IsCapture Device = ⊥
-IsCapture Memory = ⊥
-
-torn_capture : (stop : Option CaptureFault) → IfErr (torn_at stop) IsCapture
-torn_capture None = tt
-torn_capture (Some captures.TornEnd) = tt
-torn_capture (Some captures.Malformed) = tt
-torn_capture (Some captures.TooMany) = tt
-torn_capture (Some captures.Magic) = tt
-torn_capture (Some captures.Version) = tt
-torn_capture (Some captures.LinkType) = tt
-
 -- the fault at which the records stop
 from_stop : (stop : Option CaptureFault) (fault : RunFault) (P : RunFault → Type 0) → torn_at stop ≡ Err fault
     → IfErr (torn_at stop) P → P fault
 from_stop stop fault P e h = let Q : Result Bool RunFault → Type 0 = λ r. IfErr r P in subst Q e h
-
-pub ended_stop : (start : ReplayStart) (history : List Entry) (stop : Option CaptureFault) (w r : Option (List ℕ))
-    (before after : ℕ) (fault : RunFault) → torn_at stop ≡ Err fault → AllWritten start history w r
-    → FinishFails start history stop w r before after fault
-ended_stop start history stop w r before after (Capture fault) e all = (e, all)
-ended_stop start history stop w r before after (Rules fault) e all =
-    absurd (from_stop stop (Rules fault) IsCapture e (torn_capture stop))
-ended_stop start history stop w r before after (Box fault) e all =
-    absurd (from_stop stop (Box fault) IsCapture e (torn_capture stop))
-ended_stop start history stop w r before after Device e all =
-    absurd (from_stop stop Device IsCapture e (torn_capture stop))
-ended_stop start history stop w r before after Memory e all =
-    absurd (from_stop stop Memory IsCapture e (torn_capture stop))
-
-pub ended_device : (start : ReplayStart) (history : List Entry) (stop : Option CaptureFault) (torn : Bool)
-    (w r : Option (List ℕ)) (before after : ℕ) → torn_at stop ≡ Ok torn → PrefixWritten start history w r
-    ⊎ (ReportUnfinished start history torn w r × (after ≡ one_more before))
-    → FinishFails start history stop w r before after Device
-ended_device start history stop torn w r before after e (inl part) = inl part
-ended_device start history stop torn w r before after e (inr (u, failed)) = inr (torn, e, u, failed)
 
 within_stop : (stop : Option CaptureFault) → IsStop stop → IfErr (torn_at stop) IsWithin
 within_stop None is = tt
@@ -122,11 +90,11 @@ ending_torn (Some captures.LinkType) torn e = cc
 -- ---- before the first record
 
 -- nothing but a beginning of the header was written
-pub halted_open : (start : ReplayStart) (s : CaptureState) (unread w r : Option (List ℕ)) → length s.held ≤ READ_AHEAD
-    → start.report ≡ r → AppendsPrefix start.sent w sll2_header
-    → IfSome (unread_input s unread) (λ bytes. HaltedByWrite start s.format bytes unread w r)
-halted_open start s None w r few same part = tt
-halted_open start s (Some left) w r few same part =
+halted_open : (start : ReplayStart) (s : CaptureState) (unread w : Option (List ℕ)) → length s.held ≤ READ_AHEAD
+    → AppendsPrefix start.sent w sll2_header
+    → IfSome (unread_input s unread) (λ bytes. HaltedByWrite start s.format bytes unread w start.report)
+halted_open start s None w few part = tt
+halted_open start s (Some left) w few part =
     record {
       reached = record {
         ahead = s.held;
@@ -144,11 +112,34 @@ halted_open start s (Some left) w r few same part =
       few = few;
       part = record {
         part_sent = part_same start.sent w sll2_header (capture_text []) part (sym (append-nil sll2_header));
-        part_lines = subst (λ (x : Option (List ℕ)). AppendsPrefix start.report x []) same (part_none start.report []);
+        part_lines = part_none start.report [];
       };
     }
 
 -- ---- by the fault
+
+-- an interruption comes within the records, and no record is refused for it
+pub interrupted_within : (fault : RunFault) → IsInterruption fault → IsWithin fault
+interrupted_within Device is = tt
+interrupted_within Memory is = tt
+interrupted_within (Rules fault) is = absurd is
+interrupted_within (Box fault) is = absurd is
+interrupted_within (Capture fault) is = absurd is
+
+pub interrupted_by_none : (fault : RunFault) → IsInterruption fault → IsOfRecord fault → ⊥
+interrupted_by_none (Capture fault) is refused = is
+interrupted_by_none Device is refused = refused
+interrupted_by_none Memory is refused = refused
+interrupted_by_none (Rules fault) is refused = refused
+interrupted_by_none (Box fault) is refused = refused
+
+abbrev writers_in : Devices → Writers
+writers_in d = record {
+  sent = d.sent;
+  report = d.report;
+  sends_failed = d.sends_failed;
+  reports_failed = d.reports_failed;
+}
 
 -- one fault, whatever holds where there is none
 pub fault_as : {T U : Type 0} (fault other : RunFault) → IsErrOf {T = T} (Err fault) other
@@ -160,38 +151,6 @@ pub no_device : {T U : Type 0} (fault : RunFault) → IsErrOf {T = T} (Err fault
     → IsErrOf {T = U} (Err fault) Device → ⊥
 no_device fault memory device = cc
 
--- one failed call behind a beginning in which none failed
-pub failed_after : (a a' b between b' c c' : ℕ) → between ≡ b → OneFailed a a' between b' c c'
-    → OneFailed a a' b b' c c'
-failed_after a a' b between b' c c' same failed = subst (λ (n : ℕ). OneFailed a a' n b' c c') same failed
-
--- one of a writer's, behind calls of which none failed
-pub failed_ending : (a a' b b1 b' c c1 c' : ℕ) → a' ≡ a → b1 ≡ b → c1 ≡ c → OneOfTwo b1 b' c1 c'
-    → OneFailed a a' b b' c c'
-failed_ending a a' b b1 b' c c1 c' e f g (inl h) = inr (inl (e, h.0 ∙ ap one_more f, h.1 ∙ g))
-failed_ending a a' b b1 b' c c1 c' e f g (inr h) = inr (inr (e, h.0 ∙ f, h.1 ∙ ap one_more g))
-
--- a fault by which the records were left before their end comes within them, and no record is refused for it
-pub interrupted_within : {T : Type 0} (fault : RunFault) → IsErrOf {T = T} (Err fault) Device
-    ⊎ IsErrOf {T = T} (Err fault) Memory → IsWithin fault
-interrupted_within Device is = tt
-interrupted_within Memory is = tt
-interrupted_within (Rules fault) (inl e) = cc
-interrupted_within (Rules fault) (inr e) = cc
-interrupted_within (Box fault) (inl e) = cc
-interrupted_within (Box fault) (inr e) = cc
-interrupted_within (Capture fault) (inl e) = cc
-interrupted_within (Capture fault) (inr e) = cc
-
-pub interrupted_by_none : {T : Type 0} (fault : RunFault) → IsErrOf {T = T} (Err fault) Device
-    ⊎ IsErrOf {T = T} (Err fault) Memory → IsOfRecord fault → ⊥
-interrupted_by_none Device is refused = refused
-interrupted_by_none Memory is refused = refused
-interrupted_by_none (Rules fault) is refused = refused
-interrupted_by_none (Box fault) is refused = refused
-interrupted_by_none (Capture fault) (inl e) refused = cc
-interrupted_by_none (Capture fault) (inr e) refused = cc
-
 -- a record that is refused is no device that failed
 pub refused_by_none : {T : Type 0} (fault : RunFault) → IsOfRecord fault → IsErrOf {T = T} (Err fault) Device → ⊥
 refused_by_none Device refused e = refused
@@ -199,6 +158,19 @@ refused_by_none Memory refused e = refused
 refused_by_none (Rules fault) refused e = refused
 refused_by_none (Box fault) refused e = refused
 refused_by_none (Capture fault) refused e = cc
+
+-- a fault behind calls of which none failed, and behind which no read came
+pub counts_ending : (fault : RunFault) (old mid new : Devices) → NoneFailed old mid
+    → new.reads_failed ≡ mid.reads_failed
+    → CountsWriteFault {T = Bool} (Err fault) (writers_in mid) (writers_in new) → CountsFault {T = Summary} (Err fault) old new
+counts_ending Device old mid new none same (inl h) =
+    inr (inl (same ∙ none.0, h.0 ∙ ap one_more none.1, h.1 ∙ none.2))
+counts_ending Device old mid new none same (inr h) =
+    inr (inr (same ∙ none.0, h.0 ∙ none.1, h.1 ∙ ap one_more none.2))
+counts_ending Memory old mid new none same h = (same ∙ none.0, h.0 ∙ none.1, h.1 ∙ none.2)
+counts_ending (Rules fault) old mid new none same h = (same ∙ none.0, h.0 ∙ none.1, h.1 ∙ none.2)
+counts_ending (Box fault) old mid new none same h = (same ∙ none.0, h.0 ∙ none.1, h.1 ∙ none.2)
+counts_ending (Capture fault) old mid new none same h = (same ∙ none.0, h.0 ∙ none.1, h.1 ∙ none.2)
 
 pub fault_leaves_interrupted : (setup : Setup) (trace : Bool) (format : Format) (a : Option (List ℕ))
     (old new : Devices) (fault : RunFault)
@@ -212,56 +184,43 @@ fault_leaves_interrupted setup trace format (Some bytes) old new (Rules fault) h
 fault_leaves_interrupted setup trace format (Some bytes) old new (Box fault) h = absurd h
 fault_leaves_interrupted setup trace format (Some bytes) old new (Capture fault) h = absurd h
 
--- writers that are as they were hold what they held
-pub untouched : {W : Type 0} (contents : W → Option (List ℕ)) (old new : Counted W) (r : Option (List ℕ)) → new ≡ old
-    → Keeps (contents old.inner) (contents new.inner) × Keeps r r
-untouched {W = W} contents old new r e = (
-  subst (λ (x : Counted W). Keeps (contents old.inner) (contents x.inner)) (sym e) (Keeps-refl (contents old.inner)),
-  Keeps-refl r,
-)
+-- a writer that is as it was holds what it held
+pub still_held : {W : Type 0} (contents : W → Option (List ℕ)) (old new : Counted W) → new ≡ old
+    → Keeps (contents old.inner) (contents new.inner)
+still_held {W = W} contents old new e =
+    subst (λ (x : Counted W). Keeps (contents old.inner) (contents x.inner)) (sym e) (Keeps-refl (contents old.inner))
 
 -- before the first record: a prefix of the header is written, or an allocation failed
-pub fault_leaves_begun : {T : Type 0} (setup : Setup) (trace : Bool) (s : CaptureState) (old new : Devices)
-    (fault : RunFault) → IsErrOf {T = T} (Err fault) Device ⊎ IsErrOf {T = T} (Err fault) Memory
-    → length s.held ≤ READ_AHEAD
-    → new.unread ≡ old.unread → new.reads_failed ≡ old.reads_failed → old.report ≡ new.report
-    → AppendsPrefix old.sent new.sent sll2_header → (fault ≡ Memory → Untouched old new)
-    → IfSome (unread_input s old.unread) (λ bytes. FaultLeaves setup trace s.format bytes old new fault)
-fault_leaves_begun setup trace s old new Device is few same no_failure kept part none =
+pub fault_leaves_begun : (setup : Setup) (trace : Bool) (s : CaptureState) (old : Devices) (w : Option (List ℕ))
+    (failed : ℕ) (error : SinkError) → length s.held ≤ READ_AHEAD → AppendsPrefix old.sent w sll2_header
+    → (error ≡ sinks.Memory → Keeps old.sent w)
+    → LeavesPrefix setup trace s (of_sink error) old (record old { sent = w; sends_failed = failed })
+fault_leaves_begun setup trace s old w failed sinks.Device few part none =
     IfSome_weaker (unread_input s old.unread)
-    (λ bytes. HaltedByWrite (start_of setup trace old) s.format bytes old.unread new.sent new.report) (λ bytes.
-    FaultLeaves setup trace s.format bytes old new Device)
-    (λ bytes h. inl (inr (
-      subst (λ (u : Option (List ℕ)). HaltedByWrite (start_of setup trace old) s.format bytes u
-          new.sent new.report) (sym same) h,
-      no_failure,
-    ))) (halted_open (start_of setup trace old) s old.unread new.sent new.report few kept part)
-fault_leaves_begun setup trace s old new Memory is few same no_failure kept part none =
-    nothing (unread_input s old.unread) (λ bytes. FaultLeaves setup trace s.format bytes old new Memory) (λ bytes.
-    inr (same, none refl, no_failure))
-fault_leaves_begun setup trace s old new (Rules fault) (inl e) few same no_failure kept part none = cc
-fault_leaves_begun setup trace s old new (Rules fault) (inr e) few same no_failure kept part none = cc
-fault_leaves_begun setup trace s old new (Box fault) (inl e) few same no_failure kept part none = cc
-fault_leaves_begun setup trace s old new (Box fault) (inr e) few same no_failure kept part none = cc
-fault_leaves_begun setup trace s old new (Capture fault) (inl e) few same no_failure kept part none = cc
-fault_leaves_begun setup trace s old new (Capture fault) (inr e) few same no_failure kept part none = cc
+    (λ bytes. HaltedByWrite (start_of setup trace old) s.format bytes old.unread w old.report) (λ bytes.
+    FaultLeaves setup trace s.format bytes old (record old { sent = w; sends_failed = failed }) Device)
+    (λ bytes h. inl (inr (h, refl))) (halted_open (start_of setup trace old) s old.unread w few part)
+fault_leaves_begun setup trace s old w failed sinks.Memory few part none =
+    nothing (unread_input s old.unread)
+    (λ bytes. FaultLeaves setup trace s.format bytes old (record old { sent = w; sends_failed = failed }) Memory)
+    (λ bytes. inr (refl, (none refl, Keeps-refl old.report), refl))
 
 -- a fault after the last record
 pub fault_leaves_ended : (replay : Replay) (setup : Setup) (trace : Bool) (format : Format) (a w r : Option (List ℕ))
     (stop : Option CaptureFault) (old new : Devices) (before : ℕ) (fault : RunFault) → IsStop stop
-    → (fault ≡ Device) ⊎ (torn_at stop ≡ Err fault) → new.reads_failed ≡ old.reads_failed → before ≡ old.reports_failed
+    → new.reads_failed ≡ old.reads_failed → before ≡ old.reports_failed
     → ((history : List Entry) → ReplayRepresents replay (start_of setup trace old) history w r
     → FinishFails (start_of setup trace old) history stop new.sent new.report before new.reports_failed fault)
     → IfSome a (λ bytes. Replayed replay (start_of setup trace old) format bytes (ending_at stop) new.unread w r)
     → IfSome a (λ bytes. FaultLeaves setup trace format bytes old new fault)
-fault_leaves_ended replay setup trace format None w r stop old new before fault is why no_failure same ends i = tt
-fault_leaves_ended replay setup trace format (Some bytes) w r stop old new before (Rules fault) is why no_failure same
+fault_leaves_ended replay setup trace format None w r stop old new before fault is no_failure same ends i = tt
+fault_leaves_ended replay setup trace format (Some bytes) w r stop old new before (Rules fault) is no_failure same
     ends i = absurd (ends i.reached.history i.replay_represents)
-fault_leaves_ended replay setup trace format (Some bytes) w r stop old new before (Box fault) is why no_failure same
+fault_leaves_ended replay setup trace format (Some bytes) w r stop old new before (Box fault) is no_failure same
     ends i = absurd (ends i.reached.history i.replay_represents)
-fault_leaves_ended replay setup trace format (Some bytes) w r stop old new before Memory is why no_failure same ends i =
+fault_leaves_ended replay setup trace format (Some bytes) w r stop old new before Memory is no_failure same ends i =
     absurd (ends i.reached.history i.replay_represents)
-fault_leaves_ended replay setup trace format (Some bytes) w r stop old new before (Capture fault) is why no_failure same
+fault_leaves_ended replay setup trace format (Some bytes) w r stop old new before (Capture fault) is no_failure same
     ends i =
     let e = ends i.reached.history i.replay_represents in (
       record {
@@ -274,7 +233,7 @@ fault_leaves_ended replay setup trace format (Some bytes) w r stop old new befor
       },
       no_failure,
     )
-fault_leaves_ended replay setup trace format (Some bytes) w r stop old new before Device is why no_failure same ends i =
+fault_leaves_ended replay setup trace format (Some bytes) w r stop old new before Device is no_failure same ends i =
     by_call (ends i.reached.history i.replay_represents)
   where
     by_call : FinishFails (start_of setup trace old) i.reached.history stop new.sent new.report before

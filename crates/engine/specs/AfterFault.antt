@@ -1,6 +1,6 @@
 -- The reader and the writers after a fault, and the count of failed calls (own).
-use Rattle.std.specs.Prelude.{◌≡◌, ◌<◌, ◌≤◌, ◌++◌, ℕ, Bool, List, [], length, drop, All, Option, ◌⊎◌, Some}
-use Rattle.std.specs.Prelude.{Ok}
+use Rattle.std.specs.Prelude.{◌≡◌, ◌<◌, ◌≤◌, ◌++◌, ℕ, Bool, true, List, [], length, drop, All, Option, ◌⊎◌}
+use Rattle.std.specs.Prelude.{Some, Result, Ok, Err}
 use Rattle.std.specs.Io.KnownBytes.{Appends, Keeps}
 use Rattle.pcap_io.specs.declared.format.Format.{Format}
 use Rattle.pcap_io.specs.declared.fault.CaptureFault.{CaptureFault}
@@ -9,6 +9,7 @@ use Rattle.pcap_io.specs.Pcap.{decoded_records}
 use Rattle.pcap_io.specs.Pcap.{HEADER_BYTES, MOST_RECORDS}
 use Rattle.pcap_io.specs.CaptureStates.{READ_AHEAD}
 use Rattle.pcap_io.specs.Counting.{AppendsPrefix, one_more}
+use Rattle.pcap_io.specs.declared.counted.Counted.{Counted}
 use Rattle.history.specs.History.{Entry, capture_text}
 use Rattle.report.specs.Report.{entry_lines, report_text}
 use Rattle.stepping.specs.Next.{IsHistoryOf}
@@ -25,6 +26,18 @@ pub record Devices : Type 0 where
   pub reads_failed : ℕ
   pub sends_failed : ℕ
   pub reports_failed : ℕ
+
+-- of a reader and two writers that count their calls, by what each has left or holds
+abbrev pub devices : {R W W2 : Type 0} → (R → Option (List ℕ)) → (W → Option (List ℕ))
+    → (W2 → Option (List ℕ)) → Counted R → Counted W → Counted W2 → Devices
+devices remaining sent_bytes report_bytes capture sent report = record {
+  unread = remaining capture.inner;
+  sent = sent_bytes sent.inner;
+  report = report_bytes report.inner;
+  reads_failed = capture.failures;
+  sends_failed = sent.failures;
+  reports_failed = report.failures;
+}
 
 -- nothing was written
 abbrev pub Untouched : Devices → Devices → Type 0
@@ -159,10 +172,28 @@ LeftDevices rules box capture trace old new Device = LeftByDeviceFault rules box
 LeftDevices rules box capture trace old new Memory = NothingTaken capture old new
     ⊎ OutOfMemory rules box capture trace old new
 
--- ---- failed calls
+-- ---- failed calls and flushes
 
--- exactly one of three counts rose, by one
-abbrev pub OneFailed : (a a' b b' c c' : ℕ) → Type 0
-OneFailed a a' b b' c c' =
-    ((a' ≡ one_more a) × (b' ≡ b) × (c' ≡ c))
-    ⊎ (((a' ≡ a) × (b' ≡ one_more b) × (c' ≡ c)) ⊎ ((a' ≡ a) × (b' ≡ b) × (c' ≡ one_more c)))
+-- no call failed
+abbrev pub NoneFailed : Devices → Devices → Type 0
+NoneFailed old new = (new.reads_failed ≡ old.reads_failed) × (new.sends_failed ≡ old.sends_failed)
+    × (new.reports_failed ≡ old.reports_failed)
+
+-- exactly one of the three counts rose, by one
+abbrev pub OneFailed : Devices → Devices → Type 0
+OneFailed old new =
+    ((new.reads_failed ≡ one_more old.reads_failed) × (new.sends_failed ≡ old.sends_failed)
+    × (new.reports_failed ≡ old.reports_failed))
+    ⊎ (((new.reads_failed ≡ old.reads_failed) × (new.sends_failed ≡ one_more old.sends_failed)
+    × (new.reports_failed ≡ old.reports_failed))
+    ⊎ ((new.reads_failed ≡ old.reads_failed) × (new.sends_failed ≡ old.sends_failed)
+    × (new.reports_failed ≡ one_more old.reports_failed)))
+
+-- `Device` is exactly one failed call; otherwise none failed
+abbrev pub CountsFault : {T : Type 0} → Result T RunFault → Devices → Devices → Type 0
+CountsFault (Err Device) old new = OneFailed old new
+CountsFault _ old new = NoneFailed old new
+
+-- all that both writers were given is flushed
+abbrev pub AllFlushed : {W W2 : Type 0} → Counted W → Counted W2 → Type 0
+AllFlushed sent report = (sent.is_flushed ≡ true) × (report.is_flushed ≡ true)

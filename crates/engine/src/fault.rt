@@ -1,7 +1,7 @@
 //! Errors of a run.
 use box_file::BoxFault;
 use nft_parser::TextFault;
-use pcap_io::{CaptureFault, DeviceFailed};
+use pcap_io::{CaptureFault, DeviceFailed, SinkError};
 use rule_check::CheckFault;
 use std::alloc::AllocError;
 use thiserror::Error;
@@ -45,6 +45,20 @@ impl From<DeviceFailed> for RunFault {
 
     fn from(_error: DeviceFailed) -> RunFault {
         RunFault::Device
+    }
+}
+
+impl From<SinkError> for RunFault {
+    ghost use Rattle.std.specs.Prelude.{◌≡◌};
+    ghost use Rattle.engine.specs.steps.Faults.{of_sink};
+
+    ghost from_gives = { λ error fault. fault ≡ of_sink error };
+
+    fn from(error: SinkError) -> RunFault {
+        match error {
+            SinkError::Device => RunFault::Device,
+            SinkError::Memory => RunFault::Memory,
+        }
     }
 }
 

@@ -1,19 +1,14 @@
 //! Runs a ruleset over a capture.
-ghost use Rattle.std.specs.Prelude.{◌≡◌, ◌≢◌, ◌≤◌, ◌⊎◌, [], List, length, true, Err, None, IfOk, IfErr, IfSome, OnOk, IsErrOf};
+ghost use Rattle.std.specs.Prelude.{◌≡◌, ◌⊎◌, IfOk, IfErr, IfSome, OnOk, IsErrOf};
 ghost use Rattle.std.specs.Io.KnownBytes.{IsAtEnd};
-ghost use Rattle.pcap_io.specs.CaptureStates.{READ_AHEAD};
-ghost use Rattle.stepping.specs.Representing.{Represents};
 ghost use Rattle.engine.specs.declared.fault.RunFault.{RunFault};
 ghost use Rattle.engine.specs.Meaning.{WroteOutputs};
 ghost use Rattle.engine.specs.Refusals.{Refuses, IsOfRecord, IsOfTexts, IsBeforeHeader};
-ghost use Rattle.engine.specs.AfterFault.{LeftDevices, OneFailed};
-ghost use Rattle.engine.specs.steps.Replayed.{unread_input};
-ghost use Rattle.engine.specs.steps.Written.{IsWithin, FaultLeaves, OutputsWritten};
+ghost use Rattle.engine.specs.AfterFault.{AllFlushed, CountsFault, LeftDevices, devices};
 
 use crate::fault::RunFault;
 use crate::inputs::checked;
-use crate::replay::Replay;
-use aged_tracker::AgedTracker;
+use crate::replay::replay_capture;
 use box_file::one_box;
 use nft_parser::one_tree;
 use pcap_io::{Capture, CaptureError, Counted, one_reading};
@@ -70,12 +65,10 @@ pub fn run<R: Read, W: Write, W2: Write>(
     // The reader has ended.
     ensures drained { OnOk result (IsAtEnd (R.remaining capture.new.inner)) }
     // All is flushed, also at a refused record and after a failed allocation.
-    ensures flushed { OnOk result ((sent.new.is_flushed ≡ true) × (report.new.is_flushed ≡ true)) }
-    ensures refused { IfErr result (λ fault. IsOfRecord fault → (sent.new.is_flushed ≡ true)
-        × (report.new.is_flushed ≡ true)) }
+    ensures flushed { OnOk result (AllFlushed sent.new report.new) }
+    ensures refused { IfErr result (λ fault. IsOfRecord fault → AllFlushed sent.new report.new) }
     ensures memory { IsErrOf result RunFault.Memory
-        → ((sent.new ≡ sent.old) × (report.new ≡ report.old)) ⊎ ((sent.new.is_flushed ≡ true)
-        × (report.new.is_flushed ≡ true)) }
+        → ((sent.new ≡ sent.old) × (report.new ≡ report.old)) ⊎ AllFlushed sent.new report.new }
     // A refusal is the one that the inputs have.
     ensures refusals { IfErr result (λ fault.
         Refuses rules.now plant.now (R.remaining capture.old.inner) fault) }
@@ -88,29 +81,12 @@ pub fn run<R: Read, W: Write, W2: Write>(
     // it unless a write failed; the reader is at most one buffer ahead.
     ensures left { IfErr result (λ fault. IfSome (R.remaining capture.old.inner) (λ input.
         LeftDevices rules.now plant.now input trace
-        (record {
-          unread = R.remaining capture.old.inner;
-          sent = W.contents sent.old.inner;
-          report = W2.contents report.old.inner;
-          reads_failed = capture.old.failures;
-          sends_failed = sent.old.failures;
-          reports_failed = report.old.failures;
-        })
-        (record {
-          unread = R.remaining capture.new.inner;
-          sent = W.contents sent.new.inner;
-          report = W2.contents report.new.inner;
-          reads_failed = capture.new.failures;
-          sends_failed = sent.new.failures;
-          reports_failed = report.new.failures;
-        }) fault)) }
+        (devices R.remaining W.contents W2.contents capture.old sent.old report.old)
+        (devices R.remaining W.contents W2.contents capture.new sent.new report.new) fault)) }
     // `Device` is exactly one failed call; otherwise none failed.
-    ensures device { IsErrOf result RunFault.Device
-        → OneFailed capture.old.failures capture.new.failures sent.old.failures sent.new.failures
-        report.old.failures report.new.failures }
-    ensures no_failure { result ≢ Err RunFault.Device
-        → (capture.new.failures ≡ capture.old.failures) × (sent.new.failures ≡ sent.old.failures)
-        × (report.new.failures ≡ report.old.failures) }
+    ensures failures { CountsFault result
+        (devices R.remaining W.contents W2.contents capture.old sent.old report.old)
+        (devices R.remaining W.contents W2.contents capture.new sent.new report.new) }
 {
     let checked = checked(alloc, rules, plant)?;
     let records = match Capture::open(alloc, capture) {
@@ -125,67 +101,5 @@ pub fn run<R: Read, W: Write, W2: Write>(
     one_reading();
     one_entry();
     let engine = Engine::new(alloc, hasher, checked)?;
-    write_texts(alloc, engine, records, trace, capture, sent, report)
-}
-
-/// Processes an accepted capture, writes both outputs, and flushes both writers.
-fn write_texts<R: Read, W: Write, W2: Write>(
-    alloc: Global,
-    engine: Engine<AgedTracker>,
-    records: Capture,
-    trace: bool,
-    capture: &mut Counted<R>,
-    sent: &mut Counted<W>,
-    report: &mut Counted<W2>,
-) -> Result<Summary, RunFault>
-    requires fresh { (records.fault ≡ None) × (records.count ≡ 0) × (records.latest ≡ 0) }
-    requires represents { Represents engine [] }
-    requires few { length records.held ≤ READ_AHEAD }
-    requires drained { records.ended ≡ true → IsAtEnd (R.remaining capture.old.inner) }
-    ensures ok { IfOk result (λ summary.
-        IfSome (unread_input records (R.remaining capture.old.inner)) (λ bytes.
-        OutputsWritten (record {
-          setup = engine.setup;
-          trace = trace;
-          sent = W.contents sent.old.inner;
-          report = W2.contents report.old.inner;
-        }) records.format bytes summary.records summary.torn
-        (R.remaining capture.new.inner) (W.contents sent.new.inner)
-        (W2.contents report.new.inner))) }
-    ensures drained { OnOk result (IsAtEnd (R.remaining capture.new.inner)) }
-    ensures flushed { OnOk result ((sent.new.is_flushed ≡ true) × (report.new.is_flushed ≡ true)) }
-    ensures refused { IfErr result (λ fault. IsOfRecord fault → (sent.new.is_flushed ≡ true)
-        × (report.new.is_flushed ≡ true)) }
-    ensures memory { IsErrOf result RunFault.Memory
-        → ((sent.new ≡ sent.old) × (report.new ≡ report.old)) ⊎ ((sent.new.is_flushed ≡ true)
-        × (report.new.is_flushed ≡ true)) }
-    ensures within { IfErr result IsWithin }
-    ensures left { IfErr result (λ fault.
-        IfSome (unread_input records (R.remaining capture.old.inner)) (λ bytes.
-        FaultLeaves engine.setup trace records.format bytes
-        (record {
-          unread = R.remaining capture.old.inner;
-          sent = W.contents sent.old.inner;
-          report = W2.contents report.old.inner;
-          reads_failed = capture.old.failures;
-          sends_failed = sent.old.failures;
-          reports_failed = report.old.failures;
-        })
-        (record {
-          unread = R.remaining capture.new.inner;
-          sent = W.contents sent.new.inner;
-          report = W2.contents report.new.inner;
-          reads_failed = capture.new.failures;
-          sends_failed = sent.new.failures;
-          reports_failed = report.new.failures;
-        }) fault)) }
-    ensures device { IsErrOf result RunFault.Device
-        → OneFailed capture.old.failures capture.new.failures sent.old.failures sent.new.failures
-        report.old.failures report.new.failures }
-    ensures no_failure { result ≢ Err RunFault.Device
-        → (capture.new.failures ≡ capture.old.failures) × (sent.new.failures ≡ sent.old.failures)
-        × (report.new.failures ≡ report.old.failures) }
-{
-    let mut replay = Replay::new(alloc, engine, records, trace, sent)?;
-    replay.write(capture, sent, report)
+    replay_capture(alloc, engine, records, trace, capture, sent, report)
 }

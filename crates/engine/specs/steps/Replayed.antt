@@ -1,7 +1,8 @@
 -- The replay of a capture's records.
-use Rattle.std.specs.Prelude.{◌≡◌, ◌≤◌, ℕ, Bool, List, [], ◌∷◌, ◌++◌, length, All, ◌⊎◌, Option, Some, None}
+use Rattle.std.specs.Prelude.{◌≡◌, ◌≤◌, ℕ, Bool, true, List, [], ◌∷◌, ◌++◌, length, All, ◌⊎◌, Option, Some}
+use Rattle.std.specs.Prelude.{None, IfSome, Result, Err, MatchResult}
 use Rattle.std.specs.List.{flat_map}
-use Rattle.std.specs.Io.KnownBytes.{Appends, prepend_known}
+use Rattle.std.specs.Io.KnownBytes.{Appends, IsAtEnd, prepend_known}
 use Rattle.pcap_io.specs.declared.format.Format.{Format}
 use Rattle.pcap_io.specs.declared.fault.CaptureFault.{CaptureFault}
 use Rattle.pcap_io.specs.declared.fault.CaptureFault.TheVariants as captures
@@ -10,6 +11,8 @@ use Rattle.pcap_io.specs.Pcap.{frame, stream_of, decoded_records, MOST_RECORDS}
 use Rattle.pcap_io.specs.CaptureStates.{CaptureState, READ_AHEAD}
 use Rattle.pcap_io.specs.Sll2.{sll2_record}
 use Rattle.pcap_io.specs.Counting.{AppendsPrefix, one_more}
+use Rattle.pcap_io.specs.declared.counted.Counted.{Counted}
+use Rattle.pcap_io.specs.declared.whole.DeviceFailed.{DeviceFailed}
 use Rattle.pcap_io.specs.Buffering.{AppendsBuffered}
 use Rattle.history.specs.History.{Entry, capture_text, in_order, sends}
 use Rattle.report.specs.Report.{entry_lines}
@@ -20,6 +23,7 @@ use Rattle.stepping.specs.Representing.{Represents}
 use Rattle.engine.specs.declared.fault.RunFault.{RunFault}
 use Rattle.engine.specs.declared.fault.RunFault.TheVariants.{Device, Memory}
 use Rattle.engine.specs.declared.replay.Replay.{Replay}
+use Rattle.engine.specs.AfterFault.{Devices}
 use Rattle.engine.specs.Meaning.{ending_of}
 
 -- the output capture's records of a history
@@ -42,6 +46,43 @@ ending_at (Some captures.TooMany) = Over
 ending_at _ = Whole
 
 -- ---- the writers
+
+-- what the two writers hold, where it is known, and their numbers of failed calls
+pub record Writers : Type 0 where
+  pub sent : Option (List ℕ)
+  pub report : Option (List ℕ)
+  pub sends_failed : ℕ
+  pub reports_failed : ℕ
+
+-- of two writers that count their calls, by what each holds
+abbrev pub writers : {W W2 : Type 0} → (W → Option (List ℕ)) → (W2 → Option (List ℕ)) → Counted W
+    → Counted W2 → Writers
+writers sent_bytes report_bytes sent report = record {
+  sent = sent_bytes sent.inner;
+  report = report_bytes report.inner;
+  sends_failed = sent.failures;
+  reports_failed = report.failures;
+}
+
+-- no call of a writer failed
+abbrev pub NoWriteFailed : Writers → Writers → Type 0
+NoWriteFailed old new = (new.sends_failed ≡ old.sends_failed) × (new.reports_failed ≡ old.reports_failed)
+
+-- exactly one did
+abbrev pub OneWriteFailed : Writers → Writers → Type 0
+OneWriteFailed old new =
+    ((new.sends_failed ≡ one_more old.sends_failed) × (new.reports_failed ≡ old.reports_failed))
+    ⊎ ((new.sends_failed ≡ old.sends_failed) × (new.reports_failed ≡ one_more old.reports_failed))
+
+-- an error is one failed call
+abbrev pub CountsFailedWrite : {T : Type 0} → Result T DeviceFailed → Writers → Writers → Type 0
+CountsFailedWrite result old new =
+    MatchResult result (λ _. NoWriteFailed old new) (λ _. OneWriteFailed old new)
+
+-- `Device` is
+abbrev pub CountsWriteFault : {T : Type 0} → Result T RunFault → Writers → Writers → Type 0
+CountsWriteFault (Err Device) old new = OneWriteFailed old new
+CountsWriteFault _ old new = NoWriteFailed old new
 
 -- the start of a replay: the configuration, whether it traces, and what the two writers hold, where it is
 -- known
@@ -74,6 +115,12 @@ pub record ReplayRepresents (replay : Replay) (start : ReplayStart) (history : L
   pub reports : IsReportOf replay.numbers start.setup.rules start.trace history lines
   pub appends_report : Appends start.report r lines
 
+-- before the first record, whatever the report's writer holds
+abbrev pub IsBegun : Replay → Setup → Bool → Option (List ℕ) → Option (List ℕ) → Type 0
+IsBegun replay setup trace old_sent new_sent = (report : Option (List ℕ))
+    → ReplayRepresents replay (record { setup = setup; trace = trace; sent = old_sent; report = report }) []
+    new_sent report
+
 -- one more record was processed
 pub record TakesRecord (replay : Replay) (start : ReplayStart) (history : List Entry) (taken : Recorded)
     (w r : Option (List ℕ)) : Type 0 where
@@ -88,7 +135,52 @@ pub record BreaksAtRecord (start : ReplayStart) (history : List Entry) (taken : 
   pub next : Next start.setup history taken entry
   pub part : PrefixWritten start (entry ∷ history) w r
 
+-- ---- what a call leaves of the history that a replay represents, whichever it is
+
+-- it still represents it
+abbrev pub StillRepresents : Replay → Replay → Writers → Writers → Type 0
+StillRepresents replay now old new = (start : ReplayStart) (history : List Entry)
+    → ReplayRepresents replay start history old.sent old.report
+    → ReplayRepresents now start history new.sent new.report
+
+-- its outputs are written
+abbrev pub WritesAll : Replay → Writers → Writers → Type 0
+WritesAll replay old new = (start : ReplayStart) (history : List Entry)
+    → ReplayRepresents replay start history old.sent old.report
+    → AllWritten start history new.sent new.report
+
+-- a prefix of them is
+abbrev pub WritesPrefix : Replay → Writers → Writers → Type 0
+WritesPrefix replay old new = (start : ReplayStart) (history : List Entry)
+    → ReplayRepresents replay start history old.sent old.report
+    → PrefixWritten start history new.sent new.report
+
+-- the last record read is processed too, or it isn't, or a prefix of the outputs with its entry is written;
+-- the report's writer isn't called
+abbrev pub TakesLast : Replay → Replay → Option (List ℕ) → Option (List ℕ) → Type 0
+TakesLast replay now old_sent new_sent =
+    (start : ReplayStart) (history : List Entry) (report : Option (List ℕ))
+    → ReplayRepresents replay start history old_sent report
+    → IfSome replay.records.last (λ taken. TakesRecord now start history taken new_sent report)
+
+abbrev pub KeepsLast : Replay → Replay → Option (List ℕ) → Option (List ℕ) → Type 0
+KeepsLast replay now old_sent new_sent =
+    (start : ReplayStart) (history : List Entry) (report : Option (List ℕ))
+    → ReplayRepresents replay start history old_sent report
+    → ReplayRepresents now start history new_sent report
+
+abbrev pub BreaksAtLast : Replay → Option (List ℕ) → Option (List ℕ) → Type 0
+BreaksAtLast replay old_sent new_sent =
+    (start : ReplayStart) (history : List Entry) (report : Option (List ℕ))
+    → ReplayRepresents replay start history old_sent report
+    → IfSome replay.records.last (λ taken. BreaksAtRecord start history taken new_sent report)
+
 -- ---- all records
+
+-- a capture of which no record was read
+abbrev pub IsOpened : CaptureState → Option (List ℕ) → Type 0
+IsOpened s unread = (s.fault ≡ None) × (s.count ≡ 0) × (s.latest ≡ 0) × (length s.held ≤ READ_AHEAD)
+    × (s.ended ≡ true → IsAtEnd unread)
 
 -- the bytes to come: the capture's buffer and what the reader has left
 abbrev pub unread_input : CaptureState → Option (List ℕ) → Option (List ℕ)
@@ -161,8 +253,11 @@ Interrupts start format bytes unread w r before after Memory = CutByMemory start
     × (after ≡ before)
 Interrupts start format bytes unread w r before after _ = ⊥
 
--- ---- failed calls
-
--- exactly one of two counts rose, by one
-abbrev pub OneOfTwo : (a a' b b' : ℕ) → Type 0
-OneOfTwo a a' b b' = ((a' ≡ one_more a) × (b' ≡ b)) ⊎ ((a' ≡ a) × (b' ≡ one_more b))
+-- the bytes to come are the records processed, and stop so; or a fault interrupts them
+abbrev pub ReplaysAll : Replay → Replay → Result (Option CaptureFault) RunFault → Devices → Devices → Type 0
+ReplaysAll replay now result old new = (start : ReplayStart)
+    → ReplayRepresents replay start [] old.sent old.report
+    → IfSome (unread_input replay.records old.unread) (λ bytes. MatchResult result
+    (λ stop. Replayed now start replay.records.format bytes (ending_at stop) new.unread new.sent new.report)
+    (Interrupts start replay.records.format bytes new.unread new.sent new.report old.reads_failed
+    new.reads_failed))

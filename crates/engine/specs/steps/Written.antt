@@ -1,12 +1,12 @@
 -- The outputs of a capture whose header is accepted.
 use Rattle.std.specs.Prelude.{◌≡◌, ◌≤◌, ◌++◌, ℕ, Bool, true, false, List, length, Option, Some, None}
-use Rattle.std.specs.Prelude.{Result, Ok, Err, ◌⊎◌}
+use Rattle.std.specs.Prelude.{IfSome, Result, Ok, Err, MatchResult, ◌⊎◌}
 use Rattle.std.specs.Io.KnownBytes.{Appends}
 use Rattle.pcap_io.specs.declared.format.Format.{Format}
 use Rattle.pcap_io.specs.declared.fault.CaptureFault.{CaptureFault}
 use Rattle.pcap_io.specs.declared.fault.CaptureFault.TheVariants as captures
 use Rattle.pcap_io.specs.Pcap.{Ending, Ends}
-use Rattle.pcap_io.specs.CaptureStates.{READ_AHEAD}
+use Rattle.pcap_io.specs.CaptureStates.{CaptureState, READ_AHEAD}
 use Rattle.pcap_io.specs.Counting.{AppendsPrefix, one_more}
 use Rattle.history.specs.History.{Entry, capture_text}
 use Rattle.report.specs.Report.{report_text}
@@ -16,7 +16,10 @@ use Rattle.engine.specs.declared.fault.RunFault.TheVariants.{Capture, Device, Me
 use Rattle.engine.specs.Meaning.{ending_of}
 use Rattle.engine.specs.Refusals.{fault_at}
 use Rattle.engine.specs.AfterFault.{Devices, Untouched}
-use Rattle.engine.specs.steps.Replayed.{AllWritten, Interrupts, PrefixWritten, ReadSoFar, ReplayStart}
+use Rattle.engine.specs.declared.replay.Replay.{Replay}
+use Rattle.engine.specs.declared.runs.Summary.{Summary}
+use Rattle.engine.specs.steps.Replayed.{AllWritten, Interrupts, PrefixWritten, ReadSoFar, ReplayRepresents}
+use Rattle.engine.specs.steps.Replayed.{ReplayStart, Writers, unread_input}
 
 -- whether the capture ends inside a record, or the fault at which its records stop
 abbrev pub torn_at : Option CaptureFault → Result Bool RunFault
@@ -46,6 +49,13 @@ FinishFails start history stop w r before after (Capture fault) = (torn_at stop 
 FinishFails start history stop w r before after Device = PrefixWritten start history w r ⊎ ((torn : Bool)
     × (torn_at stop ≡ Ok torn) × ReportUnfinished start history torn w r × (after ≡ one_more before))
 FinishFails start history stop w r before after _ = ⊥
+
+-- a replay whose records stop so is finished, or a fault stops it
+abbrev pub Finishes : Replay → Option CaptureFault → Result Bool RunFault → Writers → Writers → Type 0
+Finishes replay stop result old new = (start : ReplayStart) (history : List Entry)
+    → ReplayRepresents replay start history old.sent old.report
+    → MatchResult result (λ torn. OutputsFinished start history torn new.sent new.report)
+    (FinishFails start history stop new.sent new.report old.reports_failed new.reports_failed)
 
 -- ---- the whole
 
@@ -99,6 +109,17 @@ FaultLeaves setup trace format bytes old new Memory =
     new.reads_failed Memory
     ⊎ Unchanged old new
 FaultLeaves setup trace format bytes old new _ = ⊥
+
+-- the bytes to come are so many records, and their outputs are written
+abbrev pub WritesOutputs : Setup → Bool → CaptureState → Summary → Devices → Devices → Type 0
+WritesOutputs setup trace records summary old new = IfSome (unread_input records old.unread) (λ bytes.
+    OutputsWritten (start_of setup trace old) records.format bytes summary.records summary.torn new.unread
+    new.sent new.report)
+
+-- a fault among these bytes leaves a prefix of the outputs
+abbrev pub LeavesPrefix : Setup → Bool → CaptureState → RunFault → Devices → Devices → Type 0
+LeavesPrefix setup trace records fault old new = IfSome (unread_input records old.unread) (λ bytes.
+    FaultLeaves setup trace records.format bytes old new fault)
 
 -- a fault among the records
 abbrev pub IsWithin : RunFault → Type 0

@@ -1,11 +1,11 @@
 use Rattle.std.proofs.Common.{Err, ap, refl}
 use Rattle.std.proofs.KnownBytes.{Consumes-nil, Keeps-refl}
 use Rattle.std.proofs.lemmas.Result.{err_from_is_err_and}
-use Rattle.engine.specs.AfterFault.{Devices}
-use Rattle.engine.specs.steps.Replayed.{ReplayStart}
+use Rattle.engine.specs.AfterFault.{devices}
+use Rattle.engine.specs.steps.Written.{start_of}
 use Rattle.engine.proofs.JudgeRefusing.{misjudged}
 use Rattle.engine.proofs.Meanings.{Single, accepted_of, if_ok_then, if_err_both, left_all, left_of_texts, left_unopened}
-use Rattle.engine.proofs.Meanings.{left_unread, left_untouched, opened, refused_unread, refuses_all, wrote_all}
+use Rattle.engine.proofs.Meanings.{left_unread, left_untouched, opened, refused_unread, refuses_within, wrote}
 use Rattle.engine.proofs.runs.run.Goals as goal
 
 pub returns-in_err-checked-clause-refusals : goal.returns-in_err-checked-clause-refusals
@@ -16,14 +16,8 @@ returns-in_err-checked-clause-refusals g c =
 pub returns-in_err-checked-clause-left : goal.returns-in_err-checked-clause-left
 returns-in_err-checked-clause-left g c =
     let p = err_from_is_err_and c.from_residual.result c.from_residual.ensures.1 in
-    let old : Devices = record {
-      unread = g.R.Read.remaining c.args.capture.now.inner;
-      sent = g.W.Write.contents c.args.sent.now.inner;
-      report = g.W2.Write.contents c.args.report.now.inner;
-      reads_failed = c.args.capture.now.failures;
-      sends_failed = c.args.sent.now.failures;
-      reports_failed = c.args.report.now.failures;
-    } in
+    let state = devices g.R.Read.remaining g.W.Write.contents g.W2.Write.contents in
+    let old = state c.args.capture.now c.args.sent.now c.args.report.now in
     rw p.1 (rw p.2 (left_of_texts _ _ _ _ old old c.in_err-checked.field-0.0 (Consumes-nil _)
     (Keeps-refl _, Keeps-refl _) refl c.in_err-checked.ensures.refused))
 
@@ -35,22 +29,9 @@ returns-in-Err-Refused-clause-refusals g c =
 
 pub returns-in-Err-Refused-clause-left : goal.returns-in-Err-Refused-clause-left
 returns-in-Err-Refused-clause-left g c =
-    let old : Devices = record {
-      unread = g.R.Read.remaining c.args.capture.now.inner;
-      sent = g.W.Write.contents c.args.sent.now.inner;
-      report = g.W2.Write.contents c.args.report.now.inner;
-      reads_failed = c.args.capture.now.failures;
-      sends_failed = c.args.sent.now.failures;
-      reports_failed = c.args.report.now.failures;
-    } in
-    let new : Devices = record {
-      unread = g.R.Read.remaining c.open.new.reader.inner;
-      sent = g.W.Write.contents c.args.sent.now.inner;
-      report = g.W2.Write.contents c.args.report.now.inner;
-      reads_failed = c.open.new.reader.failures;
-      sends_failed = c.args.sent.now.failures;
-      reports_failed = c.args.report.now.failures;
-    } in
+    let state = devices g.R.Read.remaining g.W.Write.contents g.W2.Write.contents in
+    let old = state c.args.capture.now c.args.sent.now c.args.report.now in
+    let new = state c.open.new.reader c.args.sent.now c.args.report.now in
     let read = c.open.ensures.read in
     let h = left_unread c.args.rules.now c.args.plant.now c.args.trace _ old new read.0 c.in-Err-Refused.fault read.1
     read.2 (Keeps-refl _, Keeps-refl _) (c.in-Err-Refused.ensures.no_failure (λ e. cc))
@@ -59,22 +40,9 @@ returns-in-Err-Refused-clause-left g c =
 
 pub returns-in-Err-Memory-clause-left : goal.returns-in-Err-Memory-clause-left
 returns-in-Err-Memory-clause-left g c =
-    let old : Devices = record {
-      unread = g.R.Read.remaining c.args.capture.now.inner;
-      sent = g.W.Write.contents c.args.sent.now.inner;
-      report = g.W2.Write.contents c.args.report.now.inner;
-      reads_failed = c.args.capture.now.failures;
-      sends_failed = c.args.sent.now.failures;
-      reports_failed = c.args.report.now.failures;
-    } in
-    let new : Devices = record {
-      unread = g.R.Read.remaining c.open.new.reader.inner;
-      sent = g.W.Write.contents c.args.sent.now.inner;
-      report = g.W2.Write.contents c.args.report.now.inner;
-      reads_failed = c.open.new.reader.failures;
-      sends_failed = c.args.sent.now.failures;
-      reports_failed = c.args.report.now.failures;
-    } in
+    let state = devices g.R.Read.remaining g.W.Write.contents g.W2.Write.contents in
+    let old = state c.args.capture.now c.args.sent.now c.args.report.now in
+    let new = state c.open.new.reader c.args.sent.now c.args.report.now in
     let read = c.open.ensures.read in
     left_untouched _ _ _ _ old new read.0 read.1 read.2 (Keeps-refl _, Keeps-refl _) (c.in-Err-Memory.ensures.no_failure
     (λ e. cc))
@@ -87,32 +55,25 @@ returns-clause-meaning g c =
       reading = c.one_reading.ensures;
       entry = c.one_entry.ensures.one;
     } in
-    let start : ReplayStart = record {
-      setup = c.in_ok-engine.engine.setup;
-      trace = c.args.trace;
-      sent = g.W.Write.contents c.args.sent.now.inner;
-      report = g.W2.Write.contents c.args.report.now.inner;
-    } in
+    let state = devices g.R.Read.remaining g.W.Write.contents g.W2.Write.contents in
+    let start = start_of c.in_ok-engine.engine.setup c.args.trace (state c.args.capture.now c.args.sent.now c.args.report.now)
+    in
     let read = c.open.ensures.read in
-    if_ok_then _ _ _ c.write_texts.ensures.ok (λ summary done.
-    wrote_all one _ _ _ start _ _ _ _ _ _ _ _ c.in_ok-checked.ensures.fine c.in_ok-engine.ensures.setup
+    if_ok_then _ _ _ c.replay_capture.ensures.written (λ summary done.
+    wrote one _ _ (accepted_of _ _ c.in_ok-checked.checked c.in_ok-checked.ensures.fine) start _ _ _ _ _ _ _ _
+    c.in_ok-engine.ensures.setup
     (opened _ c.in-Ok.records _ read.0 read.1 c.in-Ok.ensures.drained c.in-Ok.ensures.bytes) done)
 
 pub returns-clause-left : goal.returns-clause-left
 returns-clause-left g c =
-    let old : Devices = record {
-      unread = g.R.Read.remaining c.args.capture.now.inner;
-      sent = g.W.Write.contents c.args.sent.now.inner;
-      report = g.W2.Write.contents c.args.report.now.inner;
-      reads_failed = c.args.capture.now.failures;
-      sends_failed = c.args.sent.now.failures;
-      reports_failed = c.args.report.now.failures;
-    } in
+    let state = devices g.R.Read.remaining g.W.Write.contents g.W2.Write.contents in
+    let old = state c.args.capture.now c.args.sent.now c.args.report.now in
     let no_failure = c.in-Ok.ensures.no_failure (λ e. cc) in
     let read = c.open.ensures.read in
-    if_err_both _ _ _ _ c.write_texts.ensures.within c.write_texts.ensures.left (λ fault within says.
-    left_all _ _ _ _ _ _ _ _ old _ (g.R.Read.remaining c.open.new.reader.inner) c.open.new.reader.failures read.0 fault
-    no_failure read.1 read.2 c.in_ok-checked.ensures.fine c.in_ok-engine.ensures.setup
+    if_err_both _ _ _ _ c.replay_capture.ensures.within c.replay_capture.ensures.left (λ fault within says.
+    left_all _ _ _ (accepted_of _ _ c.in_ok-checked.checked c.in_ok-checked.ensures.fine) _ _ _ _ old _
+    (g.R.Read.remaining c.open.new.reader.inner) c.open.new.reader.failures read.0 fault no_failure read.1 read.2
+    c.in_ok-engine.ensures.setup
     (opened _ c.in-Ok.records _ read.0 read.1 c.in-Ok.ensures.drained c.in-Ok.ensures.bytes) within says)
 
 pub returns-in-Err-Device-clause-left : goal.returns-in-Err-Device-clause-left
@@ -125,45 +86,19 @@ returns-in-Err-Device-clause-left g c =
 pub returns-in_err-engine-clause-left : goal.returns-in_err-engine-clause-left
 returns-in_err-engine-clause-left g c =
     let p = err_from_is_err_and c.from_residual-in_err-engine.result c.from_residual-in_err-engine.ensures.1 in
-    let old : Devices = record {
-      unread = g.R.Read.remaining c.args.capture.now.inner;
-      sent = g.W.Write.contents c.args.sent.now.inner;
-      report = g.W2.Write.contents c.args.report.now.inner;
-      reads_failed = c.args.capture.now.failures;
-      sends_failed = c.args.sent.now.failures;
-      reports_failed = c.args.report.now.failures;
-    } in
-    let new : Devices = record {
-      unread = g.R.Read.remaining c.open.new.reader.inner;
-      sent = g.W.Write.contents c.args.sent.now.inner;
-      report = g.W2.Write.contents c.args.report.now.inner;
-      reads_failed = c.open.new.reader.failures;
-      sends_failed = c.args.sent.now.failures;
-      reports_failed = c.args.report.now.failures;
-    } in
+    let state = devices g.R.Read.remaining g.W.Write.contents g.W2.Write.contents in
+    let old = state c.args.capture.now c.args.sent.now c.args.report.now in
+    let new = state c.open.new.reader c.args.sent.now c.args.report.now in
     let read = c.open.ensures.read in
     rw p.1 (rw p.2 (left_untouched _ _ _ _ old new read.0 read.1 read.2 (Keeps-refl _, Keeps-refl _)
     (c.in-Ok.ensures.no_failure (λ e. cc))))
 
 pub returns-clause-refusals : goal.returns-clause-refusals
 returns-clause-refusals g c =
-    let old : Devices = record {
-      unread = g.R.Read.remaining c.open.new.reader.inner;
-      sent = g.W.Write.contents c.args.sent.now.inner;
-      report = g.W2.Write.contents c.args.report.now.inner;
-      reads_failed = c.open.new.reader.failures;
-      sends_failed = c.args.sent.now.failures;
-      reports_failed = c.args.report.now.failures;
-    } in
-    let new : Devices = record {
-      unread = g.R.Read.remaining c.write_texts.new.capture.inner;
-      sent = g.W.Write.contents c.write_texts.new.sent.inner;
-      report = g.W2.Write.contents c.write_texts.new.report.inner;
-      reads_failed = c.write_texts.new.capture.failures;
-      sends_failed = c.write_texts.new.sent.failures;
-      reports_failed = c.write_texts.new.report.failures;
-    } in
+    let state = devices g.R.Read.remaining g.W.Write.contents g.W2.Write.contents in
+    let old = state c.open.new.reader c.args.sent.now c.args.report.now in
+    let new = state c.replay_capture.new.capture c.replay_capture.new.sent c.replay_capture.new.report in
     let read = c.open.ensures.read in
-    if_err_both _ _ _ _ c.write_texts.ensures.within c.write_texts.ensures.left (λ fault within says.
-    refuses_all _ _ _ _ _ _ _ _ old new fault c.in_ok-checked.ensures.fine
+    if_err_both _ _ _ _ c.replay_capture.ensures.within c.replay_capture.ensures.left (λ fault within says.
+    refuses_within _ _ (accepted_of _ _ c.in_ok-checked.checked c.in_ok-checked.ensures.fine) _ _ _ _ _ old new fault
     (opened _ c.in-Ok.records _ read.0 read.1 c.in-Ok.ensures.drained c.in-Ok.ensures.bytes) within says)

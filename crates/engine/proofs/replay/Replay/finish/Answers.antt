@@ -1,16 +1,33 @@
-use Rattle.std.proofs.Common.{◌∙◌, sym, inl}
+use Rattle.std.proofs.Common.{◌∙◌, sym, inl, inr}
 use Rattle.std.proofs.lemmas.Result.{err_from_is_err_and}
-use Rattle.engine.proofs.Texts.{ended_device}
+use Rattle.engine.proofs.WritingOutputs.{finished, part_unsent, unfinished}
 use Rattle.engine.proofs.replay.Replay.finish.Goals as goal
 
-pub returns-in_err-finish_outputs-in-Ok-clause-ended : goal.returns-in_err-finish_outputs-in-Ok-clause-ended
-returns-in_err-finish_outputs-in-Ok-clause-ended g c = λ start history p.
+pub returns-in_err-finish-in-Ok-clause-finished : goal.returns-in_err-finish-in-Ok-clause-finished
+returns-in_err-finish-in-Ok-clause-finished g c =
     let q = err_from_is_err_and c.from_residual.result c.from_residual.ensures.1 in
-    rw q.1 (rw q.2 (ended_device start history c.args.stop c.in-Ok.torn _ _ c.args.report.now.failures _
-    (sym c.torn_at.ensures ∙ c.in-Ok.is) (c.in_err-finish_outputs-in-Ok.ensures.part start history p)))
+    rw q.1 (rw q.2 (λ start history p.
+    inl (part_unsent c.args.self.now start history _ _ _ p c.in_err-finish-in-Ok.ensures.part)))
 
-pub returns-in_err-close-in-Err-clause-ended : goal.returns-in_err-close-in-Err-clause-ended
-returns-in_err-close-in-Err-clause-ended g c = λ start history p.
-    let q = err_from_is_err_and c.from_residual-in_err-close-in-Err.result c.from_residual-in_err-close-in-Err.ensures.1
-    in
-    rw q.1 (rw q.2 (inl (c.in_err-close-in-Err.ensures.part start history p)))
+pub returns-in_err-lines-in-Ok-clause-finished : goal.returns-in_err-lines-in-Ok-clause-finished
+returns-in_err-lines-in-Ok-clause-finished g c =
+    let q = err_from_is_err_and c.from_residual-in_err-lines-in-Ok.result
+    c.from_residual-in_err-lines-in-Ok.ensures.1 in
+    rw q.1 (rw q.2 (λ start history p. inr (
+      c.in-Ok.torn,
+      sym c.torn_at.ensures ∙ c.in-Ok.is,
+      unfinished c.args.self.now start history _ _ _ _ _ _ _ p c.in_ok-finish-in-Ok.ensures.ok c.rules.ensures
+          (c.live-live.ensures history p.represents) c.in_err-lines-in-Ok.ensures.part,
+      c.in_err-lines-in-Ok.ensures.device,
+    )))
+
+pub returns-in_ok-lines-in-Ok-clause-finished : goal.returns-in_ok-lines-in-Ok-clause-finished
+returns-in_ok-lines-in-Ok-clause-finished g c = λ start history p.
+    finished c.args.self.now start history _ _ _ _ _ _ _ p c.in_ok-finish-in-Ok.ensures.ok c.rules.ensures
+    (c.live-live.ensures history p.represents) c.in_ok-lines-in-Ok.ensures.ok
+
+pub returns-in_err-close-in-Err-clause-finished : goal.returns-in_err-close-in-Err-clause-finished
+returns-in_err-close-in-Err-clause-finished g c =
+    let q = err_from_is_err_and c.from_residual-in_err-close-in-Err.result
+    c.from_residual-in_err-close-in-Err.ensures.1 in
+    rw q.1 (rw q.2 (λ start history p. inl (c.in_err-close-in-Err.ensures.written start history p)))

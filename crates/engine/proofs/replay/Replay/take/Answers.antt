@@ -12,17 +12,17 @@ unreachable-requires-in_default-entry g c =
     c.in_default-entry.ensures.newest (t.0 ∷ s.0) t.2
 
 pub returns-in_default-clause-broken : goal.returns-in_default-clause-broken
-returns-in_default-clause-broken g c = λ start history report p is.
+returns-in_default-clause-broken g c = λ is start history report p.
     broke_unread c.args.self.now start history _ _ report p (λ taken.
     c.one_entry.ensures.some _ history taken c.judged.ensures)
 
 pub returns-in_default-reserve-clause-broken : goal.returns-in_default-reserve-clause-broken
-returns-in_default-reserve-clause-broken g c = λ start history report p is.
+returns-in_default-reserve-clause-broken g c = λ is start history report p.
     broke_unread c.args.self.now start history _ _ report p (λ taken.
     c.one_entry.ensures.some _ history taken c.judged.ensures)
 
 pub returns-in_err-put-clause-broken : goal.returns-in_err-put-clause-broken
-returns-in_err-put-clause-broken g c = λ start history report p is.
+returns-in_err-put-clause-broken g c = λ is start history report p.
     let roomy = replay_of c.reserve.new.self c.reserve-2.new.self c.args.self.now c.args.self.now.sink in
     let q = roomier c.args.self.now c.reserve.new.self true c.reserve-2.new.self start history _ report
     c.in-Ok.ensures.ok c.reserve-2.ensures.same p in
@@ -31,8 +31,8 @@ returns-in_err-put-clause-broken g c = λ start history report p is.
     (c.in-Ok-step.ensures.represents history q.represents) c.in-Some-leaving.ensures.sends
     c.in_err-put.ensures.part)
 
-pub returns-in_ok-put-clause-ok : goal.returns-in_ok-put-clause-ok
-returns-in_ok-put-clause-ok g c = λ start history report p is.
+pub returns-in_ok-put-clause-taken : goal.returns-in_ok-put-clause-taken
+returns-in_ok-put-clause-taken g c = λ is start history report p.
     let roomy = replay_of c.reserve.new.self c.reserve-2.new.self c.args.self.now c.args.self.now.sink in
     let q = roomier c.args.self.now c.reserve.new.self true c.reserve-2.new.self start history _ report
     c.in-Ok.ensures.ok c.reserve-2.ensures.same p in
@@ -41,8 +41,8 @@ returns-in_ok-put-clause-ok g c = λ start history report p is.
     c.step.ensures.setup (c.in-Ok-step.ensures.represents history q.represents) c.in-Some-entry.ensures.newest
     c.in-Ok-note.ensures.noted c.in-Some-leaving.ensures.sends c.in_ok-put.ensures.ok)
 
-pub returns-in_default-leaving-clause-ok : goal.returns-in_default-leaving-clause-ok
-returns-in_default-leaving-clause-ok g c = λ start history report p is.
+pub returns-in_default-leaving-clause-taken : goal.returns-in_default-leaving-clause-taken
+returns-in_default-leaving-clause-taken g c = λ is start history report p.
     let roomy = replay_of c.reserve.new.self c.reserve-2.new.self c.args.self.now c.args.self.now.sink in
     let q = roomier c.args.self.now c.reserve.new.self true c.reserve-2.new.self start history _ report
     c.in-Ok.ensures.ok c.reserve-2.ensures.same p in

@@ -1,7 +1,7 @@
 use Rattle.std.proofs.lemmas.Result.{err_from_is_err_and}
 use Rattle.pcap_io.specs.Sll2.{sll2_header}
 use Rattle.pcap_io.specs.steps.Written.{part_none}
-use Rattle.engine.proofs.replay.Outputs.open.Goals as goal
+use Rattle.engine.proofs.replay.Replay.new.Goals as goal
 
 pub returns-in_err-numbers-clause-part : goal.returns-in_err-numbers-clause-part
 returns-in_err-numbers-clause-part g c =

@@ -1,0 +1,115 @@
+use Rattle.std.proofs.Common.{◌∙◌, Err, ap, inr, refl, sym, subst}
+use Rattle.std.proofs.lemmas.Result.{err_from_is_err_and}
+use Rattle.pcap_io.specs.CaptureStates.{CaptureState}
+use Rattle.engine.specs.AfterFault.{Devices, devices}
+use Rattle.engine.specs.steps.Replayed.{ReplayStart}
+use Rattle.engine.specs.steps.Written.{LeavesPrefix, WritesOutputs, start_of}
+use Rattle.engine.proofs.Texts.{all_written, counts_ending, fault_as, fault_leaves_begun, fault_leaves_ended, fault_leaves_interrupted}
+use Rattle.engine.proofs.Texts.{interrupted_by_none, interrupted_within, no_device, refused_by_none, still_held}
+use Rattle.engine.proofs.Texts.{within_end}
+use Rattle.engine.proofs.replay.replay_capture.Goals as goal
+
+pub returns-in_err-replay-clause-left : goal.returns-in_err-replay-clause-left
+returns-in_err-replay-clause-left g c =
+    let q = err_from_is_err_and c.from_residual.result c.from_residual.ensures.1 in
+    let old = devices g.R.Read.remaining g.W.Write.contents g.W2.Write.contents c.args.capture.now c.args.sent.now
+    c.args.report.now in
+    rw q.1 (rw q.2 (fault_leaves_begun c.args.engine.setup c.args.trace c.args.records old
+    (g.W.Write.contents c.new.new.sent.inner) c.new.new.sent.failures c.in_err-replay.field-0.0 c.requires.opened.3
+    c.in_err-replay.ensures.part
+    (λ e. still_held g.W.Write.contents c.args.sent.now c.new.new.sent (c.in_err-replay.ensures.memory (ap Err e)))))
+
+-- ---- a fault interrupts the records
+
+pub returns-in_err-stop-clause-left : goal.returns-in_err-stop-clause-left
+returns-in_err-stop-clause-left g c =
+    let q = err_from_is_err_and c.from_residual-in_err-stop.result c.from_residual-in_err-stop.ensures.1 in
+    let state = devices g.R.Read.remaining g.W.Write.contents g.W2.Write.contents in
+    let old = state c.args.capture.now c.args.sent.now c.args.report.now in
+    let new = state c.replay_records.new.capture c.replay_records.new.sent c.replay_records.new.report in
+    let start = start_of c.args.engine.setup c.args.trace old in
+    rw q.1 (rw q.2 (subst (λ (s : CaptureState).
+    LeavesPrefix c.args.engine.setup c.args.trace s c.in_err-stop.field-0.0 old new) c.in_ok-replay.ensures.same.1
+    (fault_leaves_interrupted _ _ _ _ old new c.in_err-stop.field-0.0
+    (c.in_err-stop.ensures.replayed start (c.in_ok-replay.ensures.begun start.report)))))
+
+pub returns-in_err-stop-clause-within : goal.returns-in_err-stop-clause-within
+returns-in_err-stop-clause-within g c =
+    let q = err_from_is_err_and c.from_residual-in_err-stop.result c.from_residual-in_err-stop.ensures.1 in
+    rw q.1 (rw q.2 (interrupted_within c.in_err-stop.field-0.0 c.in_err-stop.ensures.interruption))
+
+pub returns-in_err-stop-clause-refused : goal.returns-in_err-stop-clause-refused
+returns-in_err-stop-clause-refused g c =
+    let q = err_from_is_err_and c.from_residual-in_err-stop.result c.from_residual-in_err-stop.ensures.1 in
+    rw q.1 (rw q.2 (λ refused. absurd (interrupted_by_none c.in_err-stop.field-0.0 c.in_err-stop.ensures.interruption
+    refused)))
+
+pub returns-in_err-stop-clause-memory : goal.returns-in_err-stop-clause-memory
+returns-in_err-stop-clause-memory g c = λ is.
+    let q = err_from_is_err_and c.from_residual-in_err-stop.result c.from_residual-in_err-stop.ensures.1 in
+    inr (c.in_err-stop.ensures.flushed (fault_as c.in_err-stop.field-0.0 _ (sym (q.1 ∙ ap Err q.2) ∙ is)))
+
+-- ---- the records stop, and a fault comes then
+
+pub returns-in_err-torn-clause-left : goal.returns-in_err-torn-clause-left
+returns-in_err-torn-clause-left g c =
+    let q = err_from_is_err_and c.from_residual-in_err-torn.result c.from_residual-in_err-torn.ensures.1 in
+    let state = devices g.R.Read.remaining g.W.Write.contents g.W2.Write.contents in
+    let old = state c.args.capture.now c.args.sent.now c.args.report.now in
+    let new = state c.replay_records.new.capture c.finish.new.sent c.finish.new.report in
+    let start = start_of c.args.engine.setup c.args.trace old in
+    let no_failure = c.in_ok-stop.ensures.failures in
+    rw q.1 (rw q.2 (subst (λ (s : CaptureState).
+    LeavesPrefix c.args.engine.setup c.args.trace s c.in_err-torn.field-0.0 old new) c.in_ok-replay.ensures.same.1
+    (fault_leaves_ended c.replay_records.new.self _ _ _ _
+    (g.W.Write.contents c.replay_records.new.sent.inner) (g.W2.Write.contents c.replay_records.new.report.inner)
+    c.in_ok-stop.stop old new c.replay_records.new.report.failures c.in_err-torn.field-0.0
+    c.in_ok-stop.ensures.stop no_failure.0 no_failure.2 (λ history p. c.in_err-torn.ensures.finished start history p)
+    (c.in_ok-stop.ensures.replayed start (c.in_ok-replay.ensures.begun start.report)))))
+
+pub returns-in_err-torn-clause-within : goal.returns-in_err-torn-clause-within
+returns-in_err-torn-clause-within g c =
+    let q = err_from_is_err_and c.from_residual-in_err-torn.result c.from_residual-in_err-torn.ensures.1 in
+    rw q.1 (rw q.2 (within_end c.in_ok-stop.stop c.in_err-torn.field-0.0 c.in_ok-stop.ensures.stop
+    c.in_err-torn.ensures.fault))
+
+pub returns-in_err-torn-clause-refused : goal.returns-in_err-torn-clause-refused
+returns-in_err-torn-clause-refused g c =
+    let q = err_from_is_err_and c.from_residual-in_err-torn.result c.from_residual-in_err-torn.ensures.1 in
+    rw q.1 (rw q.2 (λ refused. c.in_err-torn.ensures.flushed (refused_by_none c.in_err-torn.field-0.0 refused)))
+
+pub returns-in_err-torn-clause-memory : goal.returns-in_err-torn-clause-memory
+returns-in_err-torn-clause-memory g c = λ is.
+    let q = err_from_is_err_and c.from_residual-in_err-torn.result c.from_residual-in_err-torn.ensures.1 in
+    inr (c.in_err-torn.ensures.flushed (λ device.
+    no_device c.in_err-torn.field-0.0 (sym (q.1 ∙ ap Err q.2) ∙ is) device))
+
+pub returns-in_err-torn-clause-failures : goal.returns-in_err-torn-clause-failures
+returns-in_err-torn-clause-failures g c =
+    let q = err_from_is_err_and c.from_residual-in_err-torn.result c.from_residual-in_err-torn.ensures.1 in
+    let state = devices g.R.Read.remaining g.W.Write.contents g.W2.Write.contents in
+    let old = state c.args.capture.now c.args.sent.now c.args.report.now in
+    let mid = state c.replay_records.new.capture c.replay_records.new.sent c.replay_records.new.report in
+    let new = state c.replay_records.new.capture c.finish.new.sent c.finish.new.report in
+    let none = c.in_ok-stop.ensures.failures in
+    rw q.1 (rw q.2 (counts_ending c.in_err-torn.field-0.0 old mid new
+    (none.0, none.1 ∙ c.in_ok-replay.ensures.no_failure, none.2) refl c.in_err-torn.ensures.failures))
+
+-- ---- all is written
+
+pub returns-clause-written : goal.returns-clause-written
+returns-clause-written g c =
+    let state = devices g.R.Read.remaining g.W.Write.contents g.W2.Write.contents in
+    let old = state c.args.capture.now c.args.sent.now c.args.report.now in
+    let start = start_of c.args.engine.setup c.args.trace old in
+    subst (λ (s : CaptureState). WritesOutputs c.args.engine.setup c.args.trace s
+    (record { records = c.records.result; torn = c.in_ok-torn.torn }) old
+    (state c.replay_records.new.capture c.finish.new.sent c.finish.new.report)) c.in_ok-replay.ensures.same.1
+    (all_written c.replay_records.new.self start _ _ _ (g.W.Write.contents c.replay_records.new.sent.inner) _
+    (g.W2.Write.contents c.replay_records.new.report.inner) _ c.in_ok-stop.stop c.in_ok-torn.torn _
+    c.in_ok-torn.ensures.torn (c.records.ensures ∙ c.finish.ensures.records)
+    (λ history p. c.in_ok-torn.ensures.finished start history p)
+    (c.in_ok-stop.ensures.replayed start (c.in_ok-replay.ensures.begun start.report)))
+
+pub returns-clause-drained : goal.returns-clause-drained
+returns-clause-drained g c = c.in_ok-stop.ensures.drained c.in_ok-torn.torn c.in_ok-torn.ensures.torn

@@ -1,0 +1,16 @@
+-- The faults of a replay.
+use Rattle.pcap_io.specs.declared.sink.SinkError.{SinkError}
+use Rattle.pcap_io.specs.declared.sink.SinkError.TheVariants as sinks
+use Rattle.engine.specs.declared.fault.RunFault.{RunFault}
+use Rattle.engine.specs.declared.fault.RunFault.TheVariants.{Device, Memory}
+
+-- the output capture can't be opened
+abbrev pub of_sink : SinkError → RunFault
+of_sink sinks.Device = Device
+of_sink sinks.Memory = Memory
+
+-- a call failed among the records
+abbrev pub IsInterruption : RunFault → Type 0
+IsInterruption Device = Unit {0}
+IsInterruption Memory = Unit {0}
+IsInterruption _ = ⊥
