@@ -202,27 +202,8 @@ refuses_within rules box accepted setup trace format input to_come old new Memor
 
 -- ---- the devices
 
-taken_so_far : (rules box bytes : List ℕ) (accepted : Accepted rules box) (format : Format) (new : Devices)
-    → format_of bytes ≡ Ok format → ReadSoFar accepted.setup format (drop HEADER_BYTES bytes) new.unread
-    → RecordsTaken rules box bytes new
-taken_so_far rules box bytes accepted format new header at =
-    record {
-      accepted = accepted;
-      format = format;
-      header = header;
-      records = at.follows.records;
-      ahead = at.ahead;
-      left = at.left;
-      joined = at.follows.joined;
-      unread = at.is_left;
-      each = at.follows.each;
-      not_over = at.follows.not_over;
-      history = at.history;
-      is_history = at.follows.is_history;
-    }
-
 -- once the capture is opened, before which no read failed
-abbrev opened_of : Devices → Option (List ℕ) → ℕ → Devices
+abbrev pub opened_of : Devices → Option (List ℕ) → ℕ → Devices
 opened_of old unread failed = record {
   unread = unread;
   sent = old.sent;
@@ -232,76 +213,86 @@ opened_of old unread failed = record {
   reports_failed = old.reports_failed;
 }
 
-left_within : (rules box : List ℕ) (trace : Bool) (accepted : Accepted rules box) (format : Format) (bytes : List ℕ)
-    (old new : Devices) (unread : Option (List ℕ)) (failed : ℕ) (fault : RunFault) → format_of bytes ≡ Ok format
-    → IsWithin fault
-    → failed ≡ old.reads_failed → (new.unread ≡ unread → Untouched old new → new.reads_failed ≡ old.reads_failed
-    → NothingTaken bytes old new)
-    → FaultLeaves accepted.setup trace format (drop HEADER_BYTES bytes) (opened_of old unread failed) new fault
-    → LeftDevices rules box bytes trace old new fault
-unfolding taken_so_far
-left_within rules box trace accepted format bytes old new unread failed (Rules fault) header within before none says =
-    absurd within
-left_within rules box trace accepted format bytes old new unread failed (Box fault) header within before none says =
-    absurd within
-left_within rules box trace accepted format bytes old new unread failed (Capture fault) header within before none
-    (h, no_failure) =
-    inr (record {
-      taken_so_far = taken_so_far rules box bytes accepted format new header h.reached;
-      few = h.few;
-      ending = h.ending;
-      ends = h.ends;
-      refused = h.refused;
-      sent = h.all.all_sent;
-      report = h.all.all_lines;
-      all_read = no_failure ∙ before;
-    })
-left_within rules box trace accepted format bytes old new unread failed Device header within before none
-    (inl (inl (c, fails))) =
-    failed_read (record {
-      taken_so_far = taken_so_far rules box bytes accepted format new header c.reached;
-      few = c.few;
-      torn = c.torn;
-      ends = c.ends;
-      sent = c.all.all_sent;
-      report = c.all.all_lines;
-      failed = fails ∙ ap one_more before;
-    })
-left_within rules box trace accepted format bytes old new unread failed Device header within before none
-    (inl (inr (h, no_failure))) =
-    failed_write (record {
-      taken_so_far = taken_so_far rules box bytes accepted format new header h.reached;
-      few = h.few;
-      sent = h.part.part_sent;
-      report = h.part.part_lines;
-      all_read = no_failure ∙ before;
-    })
-left_within rules box trace accepted format bytes old new unread failed Device header within before none
-    (inr (u, fails)) =
-    failed_report (record {
-      taken_so_far = taken_so_far rules box bytes accepted format new header u.reached;
-      few = u.few;
-      torn = u.torn;
-      ends = u.ends;
-      sent = u.unfinished.all_sent;
-      report = u.unfinished.part_lines;
-      failed = fails;
-    })
-left_within rules box trace accepted format bytes old new unread failed Memory header within before none
-    (inl (l, no_failure)) =
-    inr (record {
-      taken_so_far = taken_so_far rules box bytes accepted format new header l.reached;
-      untaken = l.untaken;
-      is_record = l.is_record;
-      more = l.more;
-      read = l.read;
-      few = l.few;
-      sent = l.all.all_sent;
-      report = l.all.all_lines;
-      all_read = no_failure ∙ before;
-    })
-left_within rules box trace accepted format bytes old new unread failed Memory header within before none
-    (inr (same, kept, no_failure)) = inl (none same kept (no_failure ∙ before))
+module _ {rules box : List ℕ} (trace : Bool) (accepted : Accepted rules box) (format : Format) (bytes : List ℕ)
+    (old new : Devices) (header : format_of bytes ≡ Ok format)
+  where
+    abbrev so_far : ReadSoFar accepted.setup format (drop HEADER_BYTES bytes) new.unread → RecordsTaken rules box bytes new
+    so_far at =
+        record {
+          accepted = accepted;
+          format = format;
+          header = header;
+          records = at.follows.records;
+          ahead = at.ahead;
+          left = at.left;
+          joined = at.follows.joined;
+          unread = at.is_left;
+          each = at.follows.each;
+          not_over = at.follows.not_over;
+          history = at.history;
+          is_history = at.follows.is_history;
+        }
+
+    left_within : (unread : Option (List ℕ)) (failed : ℕ) (fault : RunFault) → IsWithin fault
+        → failed ≡ old.reads_failed → (new.unread ≡ unread → Untouched old new → new.reads_failed ≡ old.reads_failed
+        → NothingTaken bytes old new)
+        → FaultLeaves accepted.setup trace format (drop HEADER_BYTES bytes) (opened_of old unread failed) new fault
+        → LeftDevices rules box bytes trace old new fault
+    left_within unread failed (Rules fault) within before none says = absurd within
+    left_within unread failed (Box fault) within before none says = absurd within
+    left_within unread failed (Capture fault) within before none (h, no_failure) =
+        inr (record {
+          taken_so_far = so_far h.reached;
+          few = h.few;
+          ending = h.ending;
+          ends = h.ends;
+          refused = h.refused;
+          sent = h.all.all_sent;
+          report = h.all.all_lines;
+          all_read = no_failure ∙ before;
+        })
+    left_within unread failed Device within before none (inl (inl (c, fails))) =
+        failed_read (record {
+          taken_so_far = so_far c.reached;
+          few = c.few;
+          torn = c.torn;
+          ends = c.ends;
+          sent = c.all.all_sent;
+          report = c.all.all_lines;
+          failed = fails ∙ ap one_more before;
+        })
+    left_within unread failed Device within before none (inl (inr (h, no_failure))) =
+        failed_write (record {
+          taken_so_far = so_far h.reached;
+          few = h.few;
+          sent = h.part.part_sent;
+          report = h.part.part_lines;
+          all_read = no_failure ∙ before;
+        })
+    left_within unread failed Device within before none (inr (u, fails)) =
+        failed_report (record {
+          taken_so_far = so_far u.reached;
+          few = u.few;
+          torn = u.torn;
+          ends = u.ends;
+          sent = u.unfinished.all_sent;
+          report = u.unfinished.part_lines;
+          failed = fails;
+        })
+    left_within unread failed Memory within before none (inl (l, no_failure)) =
+        inr (record {
+          taken_so_far = so_far l.reached;
+          untaken = l.untaken;
+          is_record = l.is_record;
+          more = l.more;
+          read = l.read;
+          few = l.few;
+          sent = l.all.all_sent;
+          report = l.all.all_lines;
+          all_read = no_failure ∙ before;
+        })
+    left_within unread failed Memory within before none (inr (same, kept, no_failure)) =
+        inl (none same kept (no_failure ∙ before))
 
 -- ---- before the first record
 
@@ -427,7 +418,7 @@ left_all rules box trace accepted setup format None to_come old new unread faile
     opened within says = tt
 left_all rules box trace accepted setup format (Some bytes) to_come old new unread failed part fault before takes few
     same opened within says =
-    left_within rules box trace accepted format bytes old new unread failed fault opened.1 within before
+    left_within trace accepted format bytes old new opened.1 unread failed fault within before
     (λ left kept all_read. unbegun bytes part old new unread left takes few kept all_read)
     (subst (λ (s : Setup). FaultLeaves s trace format (drop HEADER_BYTES bytes) (opened_of old unread failed) new fault)
     same

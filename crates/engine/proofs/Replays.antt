@@ -25,8 +25,8 @@ use Rattle.engine.specs.declared.fault.RunFault.TheVariants as faults
 use Rattle.engine.specs.declared.replay.Replay.{Replay}
 use Rattle.engine.specs.Meaning.{ending_of}
 use Rattle.engine.specs.steps.Written.{torn_at}
-use Rattle.engine.specs.steps.Replayed.{AllWritten, BreaksAtRecord, CutByRead, BeginsWithRecords, HaltedByWrite}
-use Rattle.engine.specs.steps.Replayed.{Interrupts, IsStop, CutByMemory, PrefixWritten, ReplayRepresents, ReadSoFar}
+use Rattle.engine.specs.steps.Replayed.{AllWritten, BreaksAtRecord, BeginsWithRecords}
+use Rattle.engine.specs.steps.Replayed.{Interrupts, IsStop, PrefixWritten, ReplayRepresents, ReadSoFar}
 use Rattle.engine.specs.steps.Replayed.{Replayed, ReplayStart, TakesRecord, unread_input, ending_at}
 use Rattle.engine.proofs.Known.{known}
 use Rattle.engine.proofs.Histories.{is_history_more, latest_after, latest_more, decoded_more}
@@ -335,74 +335,84 @@ more replay replay' new start format (Some bytes) unread after w w' r call says 
 
 -- where a prefix of the output is written
 pub halted : (replay : Replay) (start : ReplayStart) (format : Format) (a unread w w' r r' : Option (List ℕ))
-    → IfSome a (λ bytes. Carried replay start format bytes unread w r) → length replay.records.held ≤ READ_AHEAD
+    (before failed : ℕ) → failed ≡ before → IfSome a (λ bytes. Carried replay start format bytes unread w r)
+    → length replay.records.held ≤ READ_AHEAD
     → ((history : List Entry) → ReplayRepresents replay start history w r → PrefixWritten start history w' r')
-    → IfSome a (λ bytes. HaltedByWrite start format bytes unread w' r')
-halted replay start format None unread w w' r r' c few part = tt
-halted replay start format (Some bytes) unread w w' r r' c few part = record {
-  reached =
-      reached replay start format bytes unread w r c;
-  few = few;
-  part = part c.history c.replay_represents;
-}
+    → IfSome a (λ bytes. Interrupts start format bytes unread w' r' before failed faults.Device)
+halted replay start format None unread w w' r r' before failed none c few part = tt
+halted replay start format (Some bytes) unread w w' r r' before failed none c few part = inr (
+  record {
+    reached = reached replay start format bytes unread w r c;
+    few = few;
+    part = part c.history c.replay_represents;
+  },
+  none,
+)
 
 -- at a record
 pub halted_at : (replay : Replay) (new : CaptureState) (start : ReplayStart) (format : Format)
-    (a unread after w w' r r' : Option (List ℕ)) → AtRead replay new start format a unread after w r
+    (a unread after w w' r r' : Option (List ℕ)) (before failed : ℕ) → failed ≡ before
+    → AtRead replay new start format a unread after w r
     → IfSome (ahead replay.records unread) (λ bytes.
     NextAnswers bytes (ahead new after) replay.records new (Ok true))
     → ((history : List Entry) → ReplayRepresents (read_on replay new) start history w r → IfSome new.last (λ taken.
     BreaksAtRecord start history taken w' r'))
-    → IfSome a (λ bytes. HaltedByWrite start format bytes after w' r')
-halted_at replay new start format None unread after w w' r r' call says breaks = tt
-halted_at replay new start format (Some bytes) unread after w w' r r' call says breaks =
+    → IfSome a (λ bytes. Interrupts start format bytes after w' r' before failed faults.Device)
+halted_at replay new start format None unread after w w' r r' before failed none call says breaks = tt
+halted_at replay new start format (Some bytes) unread after w w' r r' before failed none call says breaks =
     let c : Carried replay start format bytes unread w r = call.carried in
     let f = further replay new start format bytes unread after w r call says in
     let b : BreaksAtRecord start c.history f.0 w' r' =
     known new.last f.0 (λ taken. BreaksAtRecord start c.history taken w' r') f.1.last_is
     (breaks c.history (still_plays replay new start c.history w r c.replay_represents)) in
-    record {
-      reached = record {
-        ahead = new.held;
-        left = f.1.left.left;
-        is_left = f.1.left.is_left;
-        history = b.entry ∷ c.history;
-        follows = moved start.setup format bytes f.1.rest (new.held ++ f.1.left.left) (b.entry ∷ c.history)
-            f.1.left.joined (f.1.follows b.entry b.next);
-      };
-      few = call.few;
-      part = b.part;
-    }
+    inr (
+      record {
+        reached = record {
+          ahead = new.held;
+          left = f.1.left.left;
+          is_left = f.1.left.is_left;
+          history = b.entry ∷ c.history;
+          follows = moved start.setup format bytes f.1.rest (new.held ++ f.1.left.left) (b.entry ∷ c.history)
+              f.1.left.joined (f.1.follows b.entry b.next);
+        };
+        few = call.few;
+        part = b.part;
+      },
+      none,
+    )
 
 -- at a failed allocation, before which all output was written
 pub lacks : (replay : Replay) (new : CaptureState) (start : ReplayStart) (format : Format)
-    (a unread after w w' r r' : Option (List ℕ)) → AtRead replay new start format a unread after w r
+    (a unread after w w' r r' : Option (List ℕ)) (before failed : ℕ) → failed ≡ before
+    → AtRead replay new start format a unread after w r
     → IfSome (ahead replay.records unread) (λ bytes.
     NextAnswers bytes (ahead new after) replay.records new (Ok true))
     → ((history : List Entry) → ReplayRepresents (read_on replay new) start history w r
     → AllWritten start history w' r')
-    → IfSome a (λ bytes. CutByMemory start format bytes after w' r')
-lacks replay new start format None unread after w w' r r' call says all = tt
-lacks replay new start format (Some bytes) unread after w w' r r' call says all =
+    → IfSome a (λ bytes. Interrupts start format bytes after w' r' before failed faults.Memory)
+lacks replay new start format None unread after w w' r r' before failed none call says all = tt
+lacks replay new start format (Some bytes) unread after w w' r r' before failed none call says all =
     let c : Carried replay start format bytes unread w r = call.carried in
-    let f = further replay new start format bytes unread after w r call says in
-    record {
-      reached = record {
-        ahead = frame f.1.captured ++ new.held;
-        left = f.1.left.left;
-        is_left = f.1.left.is_left;
-        history = c.history;
-        follows = moved start.setup format bytes c.rest ((frame f.1.captured ++ new.held) ++ f.1.left.left) c.history
-            (f.1.joined ∙ ap (λ xs. frame f.1.captured ++ xs) f.1.left.joined
-            ∙ sym (append_assoc (frame f.1.captured) new.held f.1.left.left)) c.follows;
-      };
-      untaken = f.1.captured;
-      is_record = f.1.is_record;
-      more = new.held;
-      read = refl;
-      few = call.few;
-      all = all c.history (still_plays replay new start c.history w r c.replay_represents);
-    }
+    let f = further replay new start format bytes unread after w r call says in (
+      record {
+        reached = record {
+          ahead = frame f.1.captured ++ new.held;
+          left = f.1.left.left;
+          is_left = f.1.left.is_left;
+          history = c.history;
+          follows = moved start.setup format bytes c.rest ((frame f.1.captured ++ new.held) ++ f.1.left.left) c.history
+              (f.1.joined ∙ ap (λ xs. frame f.1.captured ++ xs) f.1.left.joined
+              ∙ sym (append_assoc (frame f.1.captured) new.held f.1.left.left)) c.follows;
+        };
+        untaken = f.1.captured;
+        is_record = f.1.is_record;
+        more = new.held;
+        read = refl;
+        few = call.few;
+        all = all c.history (still_plays replay new start c.history w r c.replay_represents);
+      },
+      none,
+    )
 
 -- at a failed read, before which all output was written
 part_ends : (format : Format) (count : ℕ) (held : List ℕ) → IsPartialRecord format count held → (torn : Bool)
@@ -411,7 +421,8 @@ part_ends format count held (inl whole) = (false, whole)
 part_ends format count held (inr torn) = (true, torn)
 
 pub cut : (replay replay' : Replay) (new : CaptureState) (start : ReplayStart) (format : Format)
-    (a unread after w w' r r' : Option (List ℕ)) → IfSome a (λ bytes. Carried replay start format bytes unread w r)
+    (a unread after w w' r r' : Option (List ℕ)) (before failed : ℕ) → failed ≡ one_more before
+    → IfSome a (λ bytes. Carried replay start format bytes unread w r)
     → replay'.records ≡ replay.records
     → replay'.records.format ≡ format → Fetched replay'.records new unread after → length new.held ≤ READ_AHEAD
     → IfSome (ahead replay'.records unread)
@@ -419,9 +430,11 @@ pub cut : (replay replay' : Replay) (new : CaptureState) (start : ReplayStart) (
     → new.format ≡ replay'.records.format
     → new.count ≡ replay'.records.count → ((history : List Entry) → ReplayRepresents replay start history w r
     → AllWritten start history w' r')
-    → IfSome a (λ bytes. CutByRead start format bytes after w' r')
-cut replay replay' new start format None unread after w w' r r' c is same fetched few says kept count all = tt
-cut replay replay' new start format (Some bytes) unread after w w' r r' c is same fetched few says kept count all =
+    → IfSome a (λ bytes. Interrupts start format bytes after w' r' before failed faults.Device)
+cut replay replay' new start format None unread after w w' r r' before failed fails c is same fetched few says kept
+    count all = tt
+cut replay replay' new start format (Some bytes) unread after w w' r r' before failed fails c is same fetched few says
+    kept count all =
     let b : FailsBetween c.rest (ahead new after) new =
     known (ahead replay'.records unread) c.rest (λ rest.
     NextAnswers rest (ahead new after) replay'.records new (Err Device))
@@ -433,19 +446,22 @@ cut replay replay' new start format (Some bytes) unread after w w' r r' c is sam
     subst (λ (n : ℕ). IsPartialRecord format n new.held) (count ∙ ap (λ (s : CaptureState). s.count) is ∙ c.counted)
     (subst (λ (f : Format). IsPartialRecord f new.count new.held) (kept ∙ same) b.part) in
     let ends = part_ends format (length c.follows.records) new.held part in
-    record {
-      reached = record {
-        ahead = new.held;
-        left = l.left;
-        is_left = l.is_left;
-        history = c.history;
-        follows = moved start.setup format bytes c.rest (new.held ++ l.left) c.history l.joined c.follows;
-      };
-      few = few;
-      torn = ends.0;
-      ends = ends.1;
-      all = all c.history c.replay_represents;
-    }
+    inl (
+      record {
+        reached = record {
+          ahead = new.held;
+          left = l.left;
+          is_left = l.is_left;
+          history = c.history;
+          follows = moved start.setup format bytes c.rest (new.held ++ l.left) c.history l.joined c.follows;
+        };
+        few = few;
+        torn = ends.0;
+        ends = ends.1;
+        all = all c.history c.replay_represents;
+      },
+      fails,
+    )
 
 -- where the bytes to come are no further record
 replayed : (replay : Replay) (new : CaptureState) (start : ReplayStart) (format : Format) (ending : Ending)
@@ -532,29 +548,3 @@ torn_only captures.TooMany torn e = cc
 torn_only captures.Magic torn e = cc
 torn_only captures.Version torn e = cc
 torn_only captures.LinkType torn e = cc
-
--- ---- by the fault
-
--- a read failed
-pub interrupts_cut : (start : ReplayStart) (format : Format) (a unread w r : Option (List ℕ)) (before after : ℕ)
-    → after ≡ one_more before → IfSome a (λ bytes. CutByRead start format bytes unread w r)
-    → IfSome a (λ bytes. Interrupts start format bytes unread w r before after faults.Device)
-interrupts_cut start format a unread w r before after failed h =
-    IfSome_weaker a (λ bytes. CutByRead start format bytes unread w r)
-    (λ bytes. Interrupts start format bytes unread w r before after faults.Device) (λ bytes c. inl (c, failed)) h
-
--- a writer failed
-pub interrupts_halted : (start : ReplayStart) (format : Format) (a unread w r : Option (List ℕ)) (before after : ℕ)
-    → after ≡ before → IfSome a (λ bytes. HaltedByWrite start format bytes unread w r)
-    → IfSome a (λ bytes. Interrupts start format bytes unread w r before after faults.Device)
-interrupts_halted start format a unread w r before after no_failure h =
-    IfSome_weaker a (λ bytes. HaltedByWrite start format bytes unread w r)
-    (λ bytes. Interrupts start format bytes unread w r before after faults.Device) (λ bytes c. inr (c, no_failure)) h
-
--- an allocation failed at a record
-pub interrupts_lacks : (start : ReplayStart) (format : Format) (a unread w r : Option (List ℕ)) (before after : ℕ)
-    → after ≡ before → IfSome a (λ bytes. CutByMemory start format bytes unread w r)
-    → IfSome a (λ bytes. Interrupts start format bytes unread w r before after faults.Memory)
-interrupts_lacks start format a unread w r before after no_failure h =
-    IfSome_weaker a (λ bytes. CutByMemory start format bytes unread w r)
-    (λ bytes. Interrupts start format bytes unread w r before after faults.Memory) (λ bytes c. (c, no_failure)) h

@@ -33,14 +33,6 @@ replay_of engine numbers replay sink = record {
   sink = sink;
 }
 
--- ---- the report's lines
-
--- its rules are those of the start
-rules_are : (replay : Replay) (start : ReplayStart) (history : List Entry) (rules : List TableTree)
-    (w r : Option (List ℕ)) → ReplayRepresents replay start history w r → rules ≡ replay.engine.setup.rules
-    → rules ≡ start.setup.rules
-rules_are replay start history rules w r p e = e ∙ ap (λ (s : Setup). s.rules) p.same
-
 -- what was written before and now
 lines_all : (a b c : Option (List ℕ)) (lines text : List ℕ) → Appends a b lines → AppendsRest b c lines text
     → Appends a c text
@@ -52,29 +44,56 @@ lines_part : (a b c : Option (List ℕ)) (lines text : List ℕ) → Appends a b
 lines_part a b c lines text before (rest, whole, after) =
     part_same a c (lines ++ rest) text (part_after a b c lines rest before after) whole
 
--- what was written so far is a prefix
-lines_so_far : (replay : Replay) (start : ReplayStart) (history : List Entry) (w r : Option (List ℕ))
-    → ReplayRepresents replay start history w r
-    → AppendsPrefix start.report r (entry_lines start.setup.rules start.trace history)
-lines_so_far replay start history w r p = (
-  p.lines,
-  flat_map (note_line start.setup.rules) replay.numbers.notes,
-  sym p.reports.rest,
-  p.appends_report,
-)
+-- ---- the outputs of a history, by calls of the writers
 
--- facts of a report under these rules
-drained : (P : List TableTree → Bool → List Entry → List ℕ → Type 0) (replay : Replay) (start : ReplayStart)
-    (history : List Entry) (rules : List TableTree) (w r : Option (List ℕ))
-    (p : ReplayRepresents replay start history w r) → rules ≡ replay.engine.setup.rules
-    → ((trace : Bool) (history : List Entry) (lines : List ℕ) → IsReportOf replay.numbers rules trace history lines
-    → P rules trace history lines) → P start.setup.rules start.trace history p.lines
-drained P replay start history rules w r p e drains =
-    subst (λ (rs : List TableTree). IsReportOf replay.numbers rs start.trace history p.lines
-    → P rs start.trace history p.lines) (rules_are replay start history rules w r p e)
-    (drains start.trace history p.lines) p.reports
+module _ (start : ReplayStart) (history : List Entry) where
+  abbrev lines : List ℕ
+  lines = entry_lines start.setup.rules start.trace history
 
--- the represented history doesn't depend on the reserved notes
+  -- what is written stays so
+  pub prefix_written : (w w' r r' : Option (List ℕ)) → AllWritten start history w r → Keeps w w' → Keeps r r'
+      → PrefixWritten start history w' r'
+  prefix_written w w' r r' all kept kept' =
+      record {
+        part_sent = part_whole start.sent w' (capture_text history) (Appends-kept start.sent w w' (capture_text history)
+            all.all_sent kept);
+        part_lines = part_whole start.report r' lines (Appends-kept start.report r r' lines all.all_lines kept');
+      }
+
+  pub still_written : (w r r' : Option (List ℕ)) → AllWritten start history w r → Keeps r r'
+      → AllWritten start history w r'
+  still_written w r r' all kept = record {
+    all_sent = all.all_sent;
+    all_lines = Appends-kept start.report r r' lines all.all_lines kept;
+  }
+
+  -- a prefix is one of the extended history's output
+  pub part_more : (e : Entry) (w r : Option (List ℕ)) → PrefixWritten start history w r
+      → PrefixWritten start (e ∷ history) w r
+  part_more e w r p =
+      record {
+        part_sent = part_same start.sent w (capture_text history ++ flat_map sll2_record (sends e))
+            (capture_text (e ∷ history)) (part_first start.sent w (capture_text history) (flat_map sll2_record (sends e))
+            p.part_sent)
+            (sym (captured_more history e));
+        part_lines = part_first start.report r lines (lines_of start.setup.rules start.trace (length (e ∷ history)) e)
+            p.part_lines;
+      }
+
+  -- a record wasn't processed, and a prefix of the history's output is written
+  pub broke_writing : (last : Option Recorded) (w w' r r' : Option (List ℕ))
+      → IfSome last (λ taken. BreaksAtRecord start history taken w r) → PrefixWritten start history w' r'
+      → IfSome last (λ taken. BreaksAtRecord start history taken w' r')
+  broke_writing None w w' r r' b part = tt
+  broke_writing (Some taken) w w' r r' b part = record {
+    entry = b.entry;
+    next = b.next;
+    part = part_more b.entry w' r' part;
+  }
+
+-- ---- what doesn't change the represented history
+
+-- the reserved notes
 with_room : (k : ReportState) (room : ℕ) (rules : List TableTree) (trace : Bool) (history : List Entry) (told : List ℕ)
     → IsReportOf k rules trace history told → IsReportOf (record k { room = room }) rules trace history told
 with_room k room rules trace history told h =
@@ -89,137 +108,7 @@ with_room k room rules trace history told h =
       rest = h.rest;
     }
 
--- ---- all pending output is written
-
--- the sink's writer failed
-pub part_unsent : (replay : Replay) (start : ReplayStart) (history : List Entry) (w w' r : Option (List ℕ))
-    → ReplayRepresents replay start history w r → AppendsPrefix w w' replay.sink.buffered
-    → PrefixWritten start history w' r
-part_unsent replay start history w w' r p part =
-    record {
-      part_sent = gets_some [] replay.sink.buffered start.sent w w' (capture_text history) p.gets part;
-      part_lines = lines_so_far replay start history w r p;
-    }
-
--- the report's did
-pub part_undrained : (replay : Replay) (start : ReplayStart) (history : List Entry) (rules : List TableTree)
-    (w w' r r' : Option (List ℕ)) → ReplayRepresents replay start history w r → rules ≡ replay.engine.setup.rules
-    → Appends w w' replay.sink.buffered
-    → ((trace : Bool) (history : List Entry) (lines : List ℕ) → IsReportOf replay.numbers rules trace history lines
-    → AppendsRestPrefix r r' lines (entry_lines rules trace history)) → PrefixWritten start history w' r'
-part_undrained replay start history rules w w' r r' p e sent drains =
-    record {
-      part_sent = part_whole start.sent w' (capture_text history) (gets_all [] replay.sink.buffered start.sent w w'
-          (capture_text history) p.gets sent);
-      part_lines = lines_part start.report r r' p.lines (entry_lines start.setup.rules start.trace history)
-          p.appends_report
-          (drained (λ rules trace history lines. AppendsRestPrefix r r' lines (entry_lines rules trace history)) replay
-          start history rules w r p e drains);
-    }
-
--- the written output is a prefix
-pub prefix_written : (start : ReplayStart) (history : List Entry) (w w' r r' : Option (List ℕ))
-    → AllWritten start history w r → Keeps w w' → Keeps r r' → PrefixWritten start history w' r'
-prefix_written start history w w' r r' all kept kept' =
-    record {
-      part_sent = part_whole start.sent w' (capture_text history) (Appends-kept start.sent w w' (capture_text history)
-          all.all_sent kept);
-      part_lines = part_whole start.report r' (entry_lines start.setup.rules start.trace history) (Appends-kept
-          start.report r r' (entry_lines start.setup.rules start.trace history) all.all_lines kept');
-    }
-
-pub still_written : (start : ReplayStart) (history : List Entry) (w r r' : Option (List ℕ))
-    → AllWritten start history w r → Keeps r r' → AllWritten start history w r'
-still_written start history w r r' all kept =
-    record {
-      all_sent = all.all_sent;
-      all_lines =
-          Appends-kept start.report r r' (entry_lines start.setup.rules start.trace history) all.all_lines kept;
-    }
-
--- neither did
-pub all_drained : (replay : Replay) (start : ReplayStart) (history : List Entry) (rules : List TableTree)
-    (numbers : ReportState) (sink : SinkState) (w w' r r' : Option (List ℕ)) → ReplayRepresents replay start history w r
-    → rules ≡ replay.engine.setup.rules
-    → Appends w w' replay.sink.buffered → sink.buffered ≡ []
-    → ((trace : Bool) (history : List Entry) (lines : List ℕ) → IsReportOf replay.numbers rules trace history lines
-    → AppendsRest r r' lines (entry_lines rules trace history)
-    × IsReportOf numbers rules trace history (entry_lines rules trace history))
-    → ReplayRepresents (replay_of replay.engine numbers replay sink) start history w' r'
-    × AllWritten start history w' r'
-all_drained replay start history rules numbers sink w w' r r' p e sent empty drains =
-    let now = drained (λ rules trace history lines. AppendsRest r r' lines (entry_lines rules trace history)
-    × IsReportOf numbers rules trace history (entry_lines rules trace history)) replay start history rules w r p e
-    drains in
-    let out : Appends start.sent w' (capture_text history) =
-    gets_all [] replay.sink.buffered start.sent w w' (capture_text history) p.gets sent in
-    let lines : Appends start.report r' (entry_lines start.setup.rules start.trace history) =
-    lines_all start.report r r' p.lines (entry_lines start.setup.rules start.trace history) p.appends_report now.0
-    in (
-      record {
-        same = p.same;
-        represents = p.represents;
-        gets = (
-          capture_text history,
-          sym (append-nil (capture_text history))
-              ∙ ap (λ ws. capture_text history ++ ws) (sym empty),
-          out,
-        );
-        lines = entry_lines start.setup.rules start.trace history;
-        reports = now.1;
-        appends_report = lines;
-      },
-      record { all_sent = out; all_lines = lines },
-    )
-
--- ---- after the last record
-
--- the number of live connections is the engine's
-pub finished : (replay : Replay) (start : ReplayStart) (history : List Entry) (rules : List TableTree) (live : ℕ)
-    (torn : Bool) (w w' r r' : Option (List ℕ)) → ReplayRepresents replay start history w r
-    → Appends w w' replay.sink.buffered → rules ≡ replay.engine.setup.rules
-    → live ≡ length (live_in replay.engine.setup history)
-    → ((trace : Bool) (history : List Entry) (lines : List ℕ) → IsReportOf replay.numbers rules trace history lines
-    → AppendsRest r r' lines (entry_lines rules trace history ++ closing_lines rules history live torn))
-    → OutputsFinished start history torn w' r'
-finished replay start history rules live torn w w' r r' p sent e lives says =
-    record {
-      all_sent = gets_all [] replay.sink.buffered start.sent w w' (capture_text history) p.gets sent;
-      all_lines = subst (λ (n : ℕ). Appends start.report r'
-          (entry_lines start.setup.rules start.trace history ++ closing_lines start.setup.rules history n torn)) (lives
-          ∙ ap (λ (s : Setup). length (live_in s history)) p.same)
-          (lines_all start.report r r' p.lines
-          (entry_lines start.setup.rules start.trace history ++ closing_lines start.setup.rules history live torn)
-          p.appends_report
-          (drained (λ rules trace history lines.
-          AppendsRest r r' lines (entry_lines rules trace history ++ closing_lines rules history live torn)) replay
-          start history rules w r p e says));
-    }
-
-pub unfinished : (replay : Replay) (start : ReplayStart) (history : List Entry) (rules : List TableTree) (live : ℕ)
-    (torn : Bool) (w w' r r' : Option (List ℕ)) → ReplayRepresents replay start history w r
-    → Appends w w' replay.sink.buffered → rules ≡ replay.engine.setup.rules
-    → live ≡ length (live_in replay.engine.setup history)
-    → ((trace : Bool) (history : List Entry) (lines : List ℕ) → IsReportOf replay.numbers rules trace history lines
-    → AppendsRestPrefix r r' lines (entry_lines rules trace history ++ closing_lines rules history live torn))
-    → ReportUnfinished start history torn w' r'
-unfinished replay start history rules live torn w w' r r' p sent e lives says =
-    record {
-      all_sent = gets_all [] replay.sink.buffered start.sent w w' (capture_text history) p.gets sent;
-      part_lines = subst (λ (n : ℕ). AppendsPrefix start.report r'
-          (entry_lines start.setup.rules start.trace history ++ closing_lines start.setup.rules history n torn)) (lives
-          ∙ ap (λ (s : Setup). length (live_in s history)) p.same)
-          (lines_part start.report r r' p.lines
-          (entry_lines start.setup.rules start.trace history ++ closing_lines start.setup.rules history live torn)
-          p.appends_report
-          (drained (λ rules trace history lines.
-          AppendsRestPrefix r r' lines (entry_lines rules trace history ++ closing_lines rules history live torn))
-          replay start history rules w r p e says));
-    }
-
--- ---- one record
-
--- nor does a represented history depend on whether the engine is ready
+-- whether the engine is ready
 pub readied : (engine now : EngineState) (ready : Bool) (history : List Entry) → now ≡ record engine { ready = ready }
     → Represents engine history → Represents now history
 readied engine now ready history is s =
@@ -227,21 +116,7 @@ readied engine now ready history is s =
     record { records = s.records; newest = s.newest; held = s.held } in
     subst (λ (e : EngineState). Represents e history) (sym is) same
 
--- with its next record and its notes reserved it represents the same history
-pub roomier : (replay : Replay) (engine : EngineState) (ready : Bool) (numbers : ReportState) (start : ReplayStart)
-    (history : List Entry) (w r : Option (List ℕ)) → engine ≡ record replay.engine { ready = ready }
-    → numbers ≡ record replay.numbers { room = numbers.room } → ReplayRepresents replay start history w r
-    → ReplayRepresents (replay_of engine numbers replay replay.sink) start history w r
-roomier replay engine ready numbers start history w r is_engine is p =
-    record {
-      same = ap (λ (e : EngineState). e.setup) is_engine ∙ p.same;
-      represents = readied replay.engine engine ready history is_engine p.represents;
-      gets = p.gets;
-      lines = p.lines;
-      reports = subst (λ (k : ReportState). IsReportOf k start.setup.rules start.trace history p.lines) (sym is)
-          (with_room replay.numbers numbers.room start.setup.rules start.trace history p.lines p.reports);
-      appends_report = p.appends_report;
-    }
+-- ---- one record
 
 -- what is said of a record that was read
 pub at_record : (last : Option Recorded) (taken : Recorded) (P : Recorded → Type 0) → Some taken ≡ last → P taken
@@ -253,19 +128,6 @@ abbrev pub Stepped : Setup → List Entry → Recorded → EngineState → Outco
 Stepped setup history taken engine outcome = (e : Entry) × Next setup history taken e × Represents engine (e ∷ history)
     × (outcome ≡ e.outcome)
 
-next_as : (replay : Replay) (start : ReplayStart) (history : List Entry) (taken : Recorded) (e : Entry)
-    (w r : Option (List ℕ)) → ReplayRepresents replay start history w r → Next replay.engine.setup history taken e
-    → Next start.setup history taken e
-next_as replay start history taken e w r p n = subst (λ (s : Setup). Next s history taken e) p.same n
-
--- the lines of the entries before are a beginning
-lines_before : (replay : Replay) (start : ReplayStart) (history : List Entry) (e : Entry) (w r : Option (List ℕ))
-    → ReplayRepresents replay start history w r
-    → AppendsPrefix start.report r (entry_lines start.setup.rules start.trace (e ∷ history))
-lines_before replay start history e w r p =
-    part_first start.report r (entry_lines start.setup.rules start.trace history)
-    (lines_of start.setup.rules start.trace (length (e ∷ history)) e) (lines_so_far replay start history w r p)
-
 sends_one : (s : Sent) (xs : List Sent) → s ∷ [] ≡ xs → sll2_record s ≡ flat_map sll2_record xs
 sends_one s xs e = sym (append-nil (sll2_record s)) ∙ ap (flat_map sll2_record) e
 
@@ -274,127 +136,246 @@ lends : (engine : EngineState) (history : List Entry) (e : Entry) (xs : List Sen
     → xs ≡ sends_of engine.newest → xs ≡ sends e
 lends engine history e xs s is = is ∙ ap sends_of s.newest
 
--- a prefix of a history's output is one of the extended history's output
-pub part_more : (start : ReplayStart) (history : List Entry) (e : Entry) (w r : Option (List ℕ))
-    → PrefixWritten start history w r → PrefixWritten start (e ∷ history) w r
-part_more start history e w r p =
-    record {
-      part_sent = part_same start.sent w (capture_text history ++ flat_map sll2_record (sends e))
-          (capture_text (e ∷ history)) (part_first start.sent w (capture_text history) (flat_map sll2_record (sends e))
-          p.part_sent)
-          (sym (captured_more history e));
-      part_lines = part_first start.report r (entry_lines start.setup.rules start.trace history)
-          (lines_of start.setup.rules start.trace (length (e ∷ history)) e) p.part_lines;
-    }
-
--- it wasn't taken
-pub broke_before : (replay : Replay) (start : ReplayStart) (history : List Entry) (taken : Recorded)
-    (w r : Option (List ℕ)) → ReplayRepresents replay start history w r
-    → ((e : Entry) × Next replay.engine.setup history taken e) → BreaksAtRecord start history taken w r
-broke_before replay start history taken w r p (e, n) =
-    record {
-      entry = e;
-      next = next_as replay start history taken e w r p n;
-      part = part_more start history e w r (record {
-        part_sent =
-            gets_so_far [] replay.sink.buffered start.sent w (capture_text history) p.gets;
-        part_lines = lines_so_far replay start history w r p;
-      });
-    }
-
-pub broke_unread : (replay : Replay) (start : ReplayStart) (history : List Entry) (last : Option Recorded)
-    (w r : Option (List ℕ)) → ReplayRepresents replay start history w r → ((taken : Recorded) → (e : Entry)
-    × Next replay.engine.setup history taken e)
-    → IfSome last (λ taken. BreaksAtRecord start history taken w r)
-broke_unread replay start history None w r p entries = tt
-broke_unread replay start history (Some taken) w r p entries =
-    broke_before replay start history taken w r p (entries taken)
-
--- it wasn't processed, and a prefix of the history's output is written
-pub broke_writing : (start : ReplayStart) (history : List Entry) (last : Option Recorded) (w w' r r' : Option (List ℕ))
-    → IfSome last (λ taken. BreaksAtRecord start history taken w r) → PrefixWritten start history w' r'
-    → IfSome last (λ taken. BreaksAtRecord start history taken w' r')
-broke_writing start history None w w' r r' b part = tt
-broke_writing start history (Some taken) w w' r r' b part = record {
-  entry = b.entry;
-  next = b.next;
-  part = part_more start history b.entry w' r' part;
-}
-
--- its packet wasn't all written
-pub broke_sending : (replay : Replay) (start : ReplayStart) (history : List Entry) (taken : Recorded)
-    (engine : EngineState) (outcome : Outcome) (s : Sent) (w w' r : Option (List ℕ))
-    → ReplayRepresents replay start history w r
-    → Stepped replay.engine.setup history taken engine outcome → s ∷ [] ≡ sends_of engine.newest
-    → AppendsPrefix w w' (replay.sink.buffered ++ sll2_record s) → BreaksAtRecord start history taken w' r
-broke_sending replay start history taken engine outcome s w w' r p t is part =
-    record {
-      entry = t.0;
-      next = next_as replay start history taken t.0 w r p t.1;
-      part = record {
-        part_sent = part_same start.sent w' (capture_text history ++ sll2_record s) (capture_text (t.0 ∷ history))
-            (gets_part [] replay.sink.buffered start.sent w w' (capture_text history) (sll2_record s) p.gets part)
-            (ap (λ xs. capture_text history ++ xs) (sends_one s (sends t.0) (lends engine history t.0 (s ∷ []) t.2 is))
-            ∙ sym (captured_more history t.0));
-        part_lines = lines_before replay start history t.0 w r p;
-      };
-    }
-
 -- what a report's note promises
 abbrev pub Noted : ReportState → ReportState → lent.Entry → Type 0
 Noted old new told = (rules : List TableTree) (trace : Bool) (history : List Entry) (lines : List ℕ) (e : Entry)
     → IsReportOf old rules trace history lines → IsEntry e history told → IsReportOf new rules trace (e ∷ history) lines
 
--- it was processed and noted, and its packet is written or buffered
-took : (replay : Replay) (start : ReplayStart) (history : List Entry) (taken : Recorded) (engine : EngineState)
-    (outcome : Outcome) (numbers : ReportState) (told : lent.Entry) (sink : SinkState) (w w' r : Option (List ℕ))
-    → ReplayRepresents replay start history w r
-    → engine.setup ≡ replay.engine.setup → (t : Stepped replay.engine.setup history taken engine outcome)
-    → ((history : List Entry) → Represents engine history → IsNewest (Some told) history)
-    → Noted replay.numbers numbers told
-    → AppendsBuffered replay.sink.buffered w w' sink.buffered (flat_map sll2_record (sends t.0))
-    → TakesRecord (replay_of engine numbers replay sink) start history taken w' r
-took replay start history taken engine outcome numbers told sink w w' r p same t newest noted gets =
-    record {
-      entry = t.0;
-      next = next_as replay start history taken t.0 w r p t.1;
-      replay_represents = record {
-        same = same ∙ p.same;
-        represents = t.2;
-        gets = subst (λ (xs : List ℕ). AppendsBuffered [] start.sent w' sink.buffered xs)
-            (sym (captured_more history t.0))
-            (gets_more [] replay.sink.buffered sink.buffered start.sent w w' (capture_text history)
-            (flat_map sll2_record (sends t.0)) p.gets gets);
-        lines = p.lines;
-        reports = noted start.setup.rules start.trace history p.lines t.0 p.reports (newest (t.0 ∷ history) t.2);
-        appends_report = p.appends_report;
-      };
+-- ---- from a represented history
+
+module _ {replay : Replay} {start : ReplayStart} {history : List Entry} {w r : Option (List ℕ)}
+    (p : ReplayRepresents replay start history w r)
+  where
+    -- its rules are those of the start
+    rules_are : (rules : List TableTree) → rules ≡ replay.engine.setup.rules → rules ≡ start.setup.rules
+    rules_are rules e = e ∙ ap (λ (s : Setup). s.rules) p.same
+
+    -- what was written so far is a prefix
+    lines_so_far : AppendsPrefix start.report r (entry_lines start.setup.rules start.trace history)
+    lines_so_far = (
+      p.lines,
+      flat_map (note_line start.setup.rules) replay.numbers.notes,
+      sym p.reports.rest,
+      p.appends_report,
+    )
+
+    -- facts of a report under these rules
+    drained : (P : List TableTree → Bool → List Entry → List ℕ → Type 0) (rules : List TableTree)
+        → rules ≡ replay.engine.setup.rules
+        → ((trace : Bool) (history : List Entry) (lines : List ℕ) → IsReportOf replay.numbers rules trace history lines
+        → P rules trace history lines) → P start.setup.rules start.trace history p.lines
+    drained P rules e drains =
+        subst (λ (rs : List TableTree). IsReportOf replay.numbers rs start.trace history p.lines
+        → P rs start.trace history p.lines) (rules_are rules e) (drains start.trace history p.lines) p.reports
+
+    -- all that is buffered was sent
+    all_sent : (w' : Option (List ℕ)) → Appends w w' replay.sink.buffered → Appends start.sent w' (capture_text history)
+    all_sent w' sent = gets_all [] replay.sink.buffered start.sent w w' (capture_text history) p.gets sent
+
+    -- ---- all pending output is written
+
+    -- the sink's writer failed
+    pub part_unsent : (w' : Option (List ℕ)) → AppendsPrefix w w' replay.sink.buffered
+        → PrefixWritten start history w' r
+    part_unsent w' part = record {
+      part_sent = gets_some [] replay.sink.buffered start.sent w w' (capture_text history) p.gets part;
+      part_lines = lines_so_far;
     }
 
--- it sends none
-pub took_silently : (replay : Replay) (start : ReplayStart) (history : List Entry) (taken : Recorded)
-    (engine : EngineState) (outcome : Outcome) (numbers : ReportState) (told : lent.Entry) (w r : Option (List ℕ))
-    → ReplayRepresents replay start history w r
-    → engine.setup ≡ replay.engine.setup → Stepped replay.engine.setup history taken engine outcome
-    → ((history : List Entry) → Represents engine history → IsNewest (Some told) history)
-    → Noted replay.numbers numbers told
-    → [] ≡ sends_of engine.newest → TakesRecord (replay_of engine numbers replay replay.sink) start history taken w r
-took_silently replay start history taken engine outcome numbers told w r p same t newest noted none =
-    took replay start history taken engine outcome numbers told replay.sink w w r p same t newest noted
-    (subst (λ (xs : List Sent). AppendsBuffered replay.sink.buffered w w replay.sink.buffered (flat_map sll2_record xs))
-    (lends engine history t.0 [] t.2 none) (gets_none replay.sink.buffered w))
+    -- the report's did
+    pub part_undrained : (rules : List TableTree) (w' r' : Option (List ℕ)) → rules ≡ replay.engine.setup.rules
+        → Appends w w' replay.sink.buffered
+        → ((trace : Bool) (history : List Entry) (lines : List ℕ) → IsReportOf replay.numbers rules trace history lines
+        → AppendsRestPrefix r r' lines (entry_lines rules trace history)) → PrefixWritten start history w' r'
+    part_undrained rules w' r' e sent drains =
+        record {
+          part_sent = part_whole start.sent w' (capture_text history) (all_sent w' sent);
+          part_lines = lines_part start.report r r' p.lines (entry_lines start.setup.rules start.trace history)
+              p.appends_report
+              (drained (λ rules trace history lines. AppendsRestPrefix r r' lines (entry_lines rules trace history))
+              rules e drains);
+        }
 
--- it sends one
-pub took_sending : (replay : Replay) (start : ReplayStart) (history : List Entry) (taken : Recorded)
-    (engine : EngineState) (outcome : Outcome) (numbers : ReportState) (told : lent.Entry) (sink : SinkState) (s : Sent)
-    (w w' r : Option (List ℕ))
-    → ReplayRepresents replay start history w r → engine.setup ≡ replay.engine.setup
-    → Stepped replay.engine.setup history taken engine outcome → ((history : List Entry) → Represents engine history
-    → IsNewest (Some told) history)
-    → Noted replay.numbers numbers told → s ∷ [] ≡ sends_of engine.newest
-    → AppendsBuffered replay.sink.buffered w w' sink.buffered (sll2_record s)
-    → TakesRecord (replay_of engine numbers replay sink) start history taken w' r
-took_sending replay start history taken engine outcome numbers told sink s w w' r p same t newest noted is gets =
-    took replay start history taken engine outcome numbers told sink w w' r p same t newest noted
-    (subst (λ (xs : List ℕ). AppendsBuffered replay.sink.buffered w w' sink.buffered xs)
-    (sends_one s (sends t.0) (lends engine history t.0 (s ∷ []) t.2 is)) gets)
+    -- neither did
+    pub all_drained : (rules : List TableTree) (numbers : ReportState) (sink : SinkState) (w' r' : Option (List ℕ))
+        → rules ≡ replay.engine.setup.rules → Appends w w' replay.sink.buffered → sink.buffered ≡ []
+        → ((trace : Bool) (history : List Entry) (lines : List ℕ) → IsReportOf replay.numbers rules trace history lines
+        → AppendsRest r r' lines (entry_lines rules trace history)
+        × IsReportOf numbers rules trace history (entry_lines rules trace history))
+        → ReplayRepresents (replay_of replay.engine numbers replay sink) start history w' r'
+        × AllWritten start history w' r'
+    all_drained rules numbers sink w' r' e sent empty drains =
+        let now = drained (λ rules trace history lines. AppendsRest r r' lines (entry_lines rules trace history)
+        × IsReportOf numbers rules trace history (entry_lines rules trace history)) rules e drains in
+        let lines : Appends start.report r' (entry_lines start.setup.rules start.trace history) =
+        lines_all start.report r r' p.lines (entry_lines start.setup.rules start.trace history) p.appends_report now.0
+        in (
+          record {
+            same = p.same;
+            represents = p.represents;
+            gets = (
+              capture_text history,
+              sym (append-nil (capture_text history)) ∙ ap (λ ws. capture_text history ++ ws) (sym empty),
+              all_sent w' sent,
+            );
+            lines = entry_lines start.setup.rules start.trace history;
+            reports = now.1;
+            appends_report = lines;
+          },
+          record { all_sent = all_sent w' sent; all_lines = lines },
+        )
+
+    -- ---- after the last record
+
+    -- with the number of live connections, which is the engine's
+    live_lines : (P : List ℕ → Type 0) (live : ℕ) (torn : Bool) → live ≡ length (live_in replay.engine.setup history)
+        → P (entry_lines start.setup.rules start.trace history ++ closing_lines start.setup.rules history live torn)
+        → P (entry_lines start.setup.rules start.trace history
+        ++ closing_lines start.setup.rules history (length (live_in start.setup history)) torn)
+    live_lines P live torn lives h =
+        subst (λ (n : ℕ). P (entry_lines start.setup.rules start.trace history
+        ++ closing_lines start.setup.rules history n torn)) (lives ∙ ap (λ (s : Setup). length (live_in s history)) p.same) h
+
+    pub finished : (rules : List TableTree) (live : ℕ) (torn : Bool) (w' r' : Option (List ℕ))
+        → Appends w w' replay.sink.buffered → rules ≡ replay.engine.setup.rules
+        → live ≡ length (live_in replay.engine.setup history)
+        → ((trace : Bool) (history : List Entry) (lines : List ℕ) → IsReportOf replay.numbers rules trace history lines
+        → AppendsRest r r' lines (entry_lines rules trace history ++ closing_lines rules history live torn))
+        → OutputsFinished start history torn w' r'
+    finished rules live torn w' r' sent e lives says =
+        record {
+          all_sent = all_sent w' sent;
+          all_lines = live_lines (Appends start.report r') live torn lives
+              (lines_all start.report r r' p.lines
+              (entry_lines start.setup.rules start.trace history ++ closing_lines start.setup.rules history live torn)
+              p.appends_report
+              (drained (λ rules trace history lines.
+              AppendsRest r r' lines (entry_lines rules trace history ++ closing_lines rules history live torn)) rules e
+              says));
+        }
+
+    pub unfinished : (rules : List TableTree) (live : ℕ) (torn : Bool) (w' r' : Option (List ℕ))
+        → Appends w w' replay.sink.buffered → rules ≡ replay.engine.setup.rules
+        → live ≡ length (live_in replay.engine.setup history)
+        → ((trace : Bool) (history : List Entry) (lines : List ℕ) → IsReportOf replay.numbers rules trace history lines
+        → AppendsRestPrefix r r' lines (entry_lines rules trace history ++ closing_lines rules history live torn))
+        → ReportUnfinished start history torn w' r'
+    unfinished rules live torn w' r' sent e lives says =
+        record {
+          all_sent = all_sent w' sent;
+          part_lines = live_lines (AppendsPrefix start.report r') live torn lives
+              (lines_part start.report r r' p.lines
+              (entry_lines start.setup.rules start.trace history ++ closing_lines start.setup.rules history live torn)
+              p.appends_report
+              (drained (λ rules trace history lines.
+              AppendsRestPrefix r r' lines (entry_lines rules trace history ++ closing_lines rules history live torn))
+              rules e says));
+        }
+
+    -- ---- the next record
+
+    -- with its next record and its notes reserved it represents the same history
+    pub roomier : (engine : EngineState) (ready : Bool) (numbers : ReportState)
+        → engine ≡ record replay.engine { ready = ready } → numbers ≡ record replay.numbers { room = numbers.room }
+        → ReplayRepresents (replay_of engine numbers replay replay.sink) start history w r
+    roomier engine ready numbers is_engine is =
+        record {
+          same = ap (λ (e : EngineState). e.setup) is_engine ∙ p.same;
+          represents = readied replay.engine engine ready history is_engine p.represents;
+          gets = p.gets;
+          lines = p.lines;
+          reports = subst (λ (k : ReportState). IsReportOf k start.setup.rules start.trace history p.lines) (sym is)
+              (with_room replay.numbers numbers.room start.setup.rules start.trace history p.lines p.reports);
+          appends_report = p.appends_report;
+        }
+
+    next_as : (taken : Recorded) (e : Entry) → Next replay.engine.setup history taken e
+        → Next start.setup history taken e
+    next_as taken e n = subst (λ (s : Setup). Next s history taken e) p.same n
+
+    -- it wasn't taken
+    broke_before : (taken : Recorded) → ((e : Entry) × Next replay.engine.setup history taken e)
+        → BreaksAtRecord start history taken w r
+    broke_before taken (e, n) = record {
+      entry = e;
+      next = next_as taken e n;
+      part = part_more start history e w r (record {
+        part_sent = gets_so_far [] replay.sink.buffered start.sent w (capture_text history) p.gets;
+        part_lines = lines_so_far;
+      });
+    }
+
+    pub broke_unread : (last : Option Recorded)
+        → ((taken : Recorded) → (e : Entry) × Next replay.engine.setup history taken e)
+        → IfSome last (λ taken. BreaksAtRecord start history taken w r)
+    broke_unread None entries = tt
+    broke_unread (Some taken) entries = broke_before taken (entries taken)
+
+    -- its packet wasn't all written
+    pub broke_sending : (taken : Recorded) (engine : EngineState) (outcome : Outcome) (s : Sent) (w' : Option (List ℕ))
+        → Stepped replay.engine.setup history taken engine outcome → s ∷ [] ≡ sends_of engine.newest
+        → AppendsPrefix w w' (replay.sink.buffered ++ sll2_record s) → BreaksAtRecord start history taken w' r
+    broke_sending taken engine outcome s w' t is part =
+        record {
+          entry = t.0;
+          next = next_as taken t.0 t.1;
+          part = record {
+            part_sent = part_same start.sent w' (capture_text history ++ sll2_record s) (capture_text (t.0 ∷ history))
+                (gets_part [] replay.sink.buffered start.sent w w' (capture_text history) (sll2_record s) p.gets part)
+                (ap (λ xs. capture_text history ++ xs) (sends_one s (sends t.0) (lends engine history t.0 (s ∷ []) t.2
+                is))
+                ∙ sym (captured_more history t.0));
+            part_lines = part_first start.report r (entry_lines start.setup.rules start.trace history)
+                (lines_of start.setup.rules start.trace (length (t.0 ∷ history)) t.0) lines_so_far;
+          };
+        }
+
+    -- it was processed and noted, and its packet is written or buffered
+    took : (taken : Recorded) (engine : EngineState) (outcome : Outcome) (numbers : ReportState) (told : lent.Entry)
+        (sink : SinkState) (w' : Option (List ℕ)) → engine.setup ≡ replay.engine.setup
+        → (t : Stepped replay.engine.setup history taken engine outcome)
+        → ((history : List Entry) → Represents engine history → IsNewest (Some told) history)
+        → Noted replay.numbers numbers told
+        → AppendsBuffered replay.sink.buffered w w' sink.buffered (flat_map sll2_record (sends t.0))
+        → TakesRecord (replay_of engine numbers replay sink) start history taken w' r
+    took taken engine outcome numbers told sink w' same t newest noted gets =
+        record {
+          entry = t.0;
+          next = next_as taken t.0 t.1;
+          replay_represents = record {
+            same = same ∙ p.same;
+            represents = t.2;
+            gets = subst (λ (xs : List ℕ). AppendsBuffered [] start.sent w' sink.buffered xs)
+                (sym (captured_more history t.0))
+                (gets_more [] replay.sink.buffered sink.buffered start.sent w w' (capture_text history)
+                (flat_map sll2_record (sends t.0)) p.gets gets);
+            lines = p.lines;
+            reports = noted start.setup.rules start.trace history p.lines t.0 p.reports (newest (t.0 ∷ history) t.2);
+            appends_report = p.appends_report;
+          };
+        }
+
+    -- it sends none
+    pub took_silently : (taken : Recorded) (engine : EngineState) (outcome : Outcome) (numbers : ReportState)
+        (told : lent.Entry) → engine.setup ≡ replay.engine.setup
+        → Stepped replay.engine.setup history taken engine outcome
+        → ((history : List Entry) → Represents engine history → IsNewest (Some told) history)
+        → Noted replay.numbers numbers told → [] ≡ sends_of engine.newest
+        → TakesRecord (replay_of engine numbers replay replay.sink) start history taken w r
+    took_silently taken engine outcome numbers told same t newest noted none =
+        took taken engine outcome numbers told replay.sink w same t newest noted
+        (subst (λ (xs : List Sent). AppendsBuffered replay.sink.buffered w w replay.sink.buffered
+        (flat_map sll2_record xs)) (lends engine history t.0 [] t.2 none) (gets_none replay.sink.buffered w))
+
+    -- it sends one
+    pub took_sending : (taken : Recorded) (engine : EngineState) (outcome : Outcome) (numbers : ReportState)
+        (told : lent.Entry) (sink : SinkState) (s : Sent) (w' : Option (List ℕ)) → engine.setup ≡ replay.engine.setup
+        → Stepped replay.engine.setup history taken engine outcome
+        → ((history : List Entry) → Represents engine history → IsNewest (Some told) history)
+        → Noted replay.numbers numbers told → s ∷ [] ≡ sends_of engine.newest
+        → AppendsBuffered replay.sink.buffered w w' sink.buffered (sll2_record s)
+        → TakesRecord (replay_of engine numbers replay sink) start history taken w' r
+    took_sending taken engine outcome numbers told sink s w' same t newest noted is gets =
+        took taken engine outcome numbers told sink w' same t newest noted
+        (subst (λ (xs : List ℕ). AppendsBuffered replay.sink.buffered w w' sink.buffered xs)
+        (sends_one s (sends t.0) (lends engine history t.0 (s ∷ []) t.2 is)) gets)

@@ -1,5 +1,5 @@
 //! Replays the records of a capture.
-ghost use Rattle.std.specs.Prelude.{◌≡◌, ◌≢◌, ◌<◌, ◌+◌, ◌⊎◌, [], Bool, List, true, false, Ok, Err, None, IfOk, IfErr};
+ghost use Rattle.std.specs.Prelude.{◌≡◌, ◌≢◌, ◌<◌, ◌+◌, ◌⊎◌, [], Bool, true, false, Ok, Err, None, IfOk, IfErr};
 ghost use Rattle.std.specs.Prelude.{IsErrOf, OnOk, OnErr, MatchResult};
 ghost use Rattle.std.specs.Io.KnownBytes.{IsAtEnd};
 ghost use Rattle.pcap_io.specs.Counting.{AppendsPrefix, one_more};
@@ -7,14 +7,13 @@ ghost use Rattle.pcap_io.specs.CaptureStates.{is_ready};
 ghost use Rattle.pcap_io.specs.Sll2.{sll2_header};
 ghost use Rattle.pcap_io.specs.declared.sink.SinkError.{SinkError};
 ghost use Rattle.stepping.specs.Representing.{Represents};
-ghost use Rattle.history.specs.History.{Entry};
 ghost use Rattle.engine.specs.declared.fault.RunFault.{RunFault};
 ghost use Rattle.engine.specs.AfterFault.{AllFlushed, CountsFault, devices};
 ghost use Rattle.engine.specs.Refusals.{IsOfRecord};
 ghost use Rattle.engine.specs.steps.Faults.{IsInterruption};
 ghost use Rattle.engine.specs.steps.Replayed.{BreaksAtLast, CountsFailedWrite, CountsWriteFault, IsBegun, IsOpened};
-ghost use Rattle.engine.specs.steps.Replayed.{IsStop, KeepsLast, ReplaysAll, StillRepresents, TakesLast};
-ghost use Rattle.engine.specs.steps.Replayed.{WritesAll, WritesPrefix, writers};
+ghost use Rattle.engine.specs.steps.Replayed.{IsStop, KeepsLast, ReplaysAll, RepresentsSome, StillRepresents};
+ghost use Rattle.engine.specs.steps.Replayed.{TakesLast, WritesAll, WritesPrefix, writers};
 ghost use Rattle.engine.specs.steps.Written.{Finishes, IsWithin, LeavesPrefix, WritesOutputs, torn_at};
 
 use crate::fault::RunFault;
@@ -172,14 +171,13 @@ impl Replay {
         sent: &mut Counted<W>,
         report: &mut Counted<W2>,
     ) -> Result<(), DeviceFailed>
-        ensures represents { OnOk result (StillRepresents self.old self.new
+        ensures kept { MatchResult result (λ _. StillRepresents self.old self.new
             (writers W.contents W2.contents sent.old report.old)
+            (writers W.contents W2.contents sent.new report.new))
+            (λ _. WritesPrefix self.old (writers W.contents W2.contents sent.old report.old)
             (writers W.contents W2.contents sent.new report.new)) }
         // All output is written before a read.
         ensures written { OnOk result (is_ready self.old.records ≡ false → WritesAll self.old
-            (writers W.contents W2.contents sent.old report.old)
-            (writers W.contents W2.contents sent.new report.new)) }
-        ensures part { OnErr result (WritesPrefix self.old
             (writers W.contents W2.contents sent.old report.old)
             (writers W.contents W2.contents sent.new report.new)) }
         ensures same { (self.new.engine ≡ self.old.engine) × (self.new.records ≡ self.old.records)
@@ -227,15 +225,14 @@ impl Replay {
         requires read { self.old.records.last ≢ None }
         requires few { (self.old.engine.records < 4294967296)
             × (self.old.numbers.records < 4294967296) }
-        requires represents { (history : List Entry) × Represents self.old.engine history }
+        requires represents { RepresentsSome self.old.engine }
         ensures taken { result ≡ Ok true → TakesLast self.old self.new
             (W.contents sent.old.inner) (W.contents sent.new.inner) }
         ensures kept { result ≡ Ok false → KeepsLast self.old self.new
             (W.contents sent.old.inner) (W.contents sent.new.inner) }
         ensures broken { result ≢ Ok true → BreaksAtLast self.old
             (W.contents sent.old.inner) (W.contents sent.new.inner) }
-        ensures represents { result ≡ Ok true → (history : List Entry)
-            × Represents self.new.engine history }
+        ensures represents { result ≡ Ok true → RepresentsSome self.new.engine }
         ensures counted { result ≡ Ok true → (self.new.engine.records ≡ self.old.engine.records + 1)
             × (self.new.numbers.records ≡ self.old.numbers.records + 1) }
         ensures same { self.new.records ≡ self.old.records }

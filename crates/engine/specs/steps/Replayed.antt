@@ -19,7 +19,7 @@ use Rattle.report.specs.Report.{entry_lines}
 use Rattle.report.specs.Representing.{IsReportOf}
 use Rattle.history.specs.Setup.{Setup}
 use Rattle.stepping.specs.Next.{Next, IsHistoryOf}
-use Rattle.stepping.specs.Representing.{Represents}
+use Rattle.stepping.specs.Representing.{EngineState, Represents}
 use Rattle.engine.specs.declared.fault.RunFault.{RunFault}
 use Rattle.engine.specs.declared.fault.RunFault.TheVariants.{Device, Memory}
 use Rattle.engine.specs.declared.replay.Replay.{Replay}
@@ -103,6 +103,10 @@ pub record PrefixWritten (start : ReplayStart) (history : List Entry) (w r : Opt
   pub part_lines : AppendsPrefix start.report r (entry_lines start.setup.rules start.trace history)
 
 -- ---- one record after another
+
+-- an engine represents a history
+abbrev pub RepresentsSome : EngineState → Type 0
+RepresentsSome engine = (history : List Entry) × Represents engine history
 
 -- a replay represents a history: its engine and its report do, and both outputs are written but for the
 -- sink's buffer and the report's notes

@@ -1,8 +1,7 @@
 use Rattle.std.proofs.Common.{◌∙◌, Err, ap, inr, refl, sym, subst}
 use Rattle.std.proofs.lemmas.Result.{err_from_is_err_and}
 use Rattle.pcap_io.specs.CaptureStates.{CaptureState}
-use Rattle.engine.specs.AfterFault.{Devices, devices}
-use Rattle.engine.specs.steps.Replayed.{ReplayStart}
+use Rattle.engine.specs.AfterFault.{devices}
 use Rattle.engine.specs.steps.Written.{LeavesPrefix, WritesOutputs, start_of}
 use Rattle.engine.proofs.Texts.{all_written, counts_ending, fault_as, fault_leaves_begun, fault_leaves_ended, fault_leaves_interrupted}
 use Rattle.engine.proofs.Texts.{interrupted_by_none, interrupted_within, no_device, refused_by_none, still_held}

@@ -7,7 +7,7 @@ pub returns-in_err-finish-in-Ok-clause-finished : goal.returns-in_err-finish-in-
 returns-in_err-finish-in-Ok-clause-finished g c =
     let q = err_from_is_err_and c.from_residual.result c.from_residual.ensures.1 in
     rw q.1 (rw q.2 (λ start history p.
-    inl (part_unsent c.args.self.now start history _ _ _ p c.in_err-finish-in-Ok.ensures.part)))
+    inl (part_unsent p _ c.in_err-finish-in-Ok.ensures.part)))
 
 pub returns-in_err-lines-in-Ok-clause-finished : goal.returns-in_err-lines-in-Ok-clause-finished
 returns-in_err-lines-in-Ok-clause-finished g c =
@@ -16,14 +16,14 @@ returns-in_err-lines-in-Ok-clause-finished g c =
     rw q.1 (rw q.2 (λ start history p. inr (
       c.in-Ok.torn,
       sym c.torn_at.ensures ∙ c.in-Ok.is,
-      unfinished c.args.self.now start history _ _ _ _ _ _ _ p c.in_ok-finish-in-Ok.ensures.ok c.rules.ensures
+      unfinished p _ _ _ _ _ c.in_ok-finish-in-Ok.ensures.ok c.rules.ensures
           (c.live-live.ensures history p.represents) c.in_err-lines-in-Ok.ensures.part,
       c.in_err-lines-in-Ok.ensures.device,
     )))
 
 pub returns-in_ok-lines-in-Ok-clause-finished : goal.returns-in_ok-lines-in-Ok-clause-finished
 returns-in_ok-lines-in-Ok-clause-finished g c = λ start history p.
-    finished c.args.self.now start history _ _ _ _ _ _ _ p c.in_ok-finish-in-Ok.ensures.ok c.rules.ensures
+    finished p _ _ _ _ _ c.in_ok-finish-in-Ok.ensures.ok c.rules.ensures
     (c.live-live.ensures history p.represents) c.in_ok-lines-in-Ok.ensures.ok
 
 pub returns-in_err-close-in-Err-clause-finished : goal.returns-in_err-close-in-Err-clause-finished

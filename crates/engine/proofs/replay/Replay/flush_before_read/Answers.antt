@@ -2,23 +2,23 @@ use Rattle.std.proofs.lemmas.Result.{err_from_is_err_and}
 use Rattle.engine.proofs.WritingOutputs.{all_drained, part_undrained, part_unsent}
 use Rattle.engine.proofs.replay.Replay.flush_before_read.Goals as goal
 
-pub returns-in_err-send-clause-part : goal.returns-in_err-send-clause-part
-returns-in_err-send-clause-part g c =
+pub returns-in_err-send-clause-kept : goal.returns-in_err-send-clause-kept
+returns-in_err-send-clause-kept g c =
     let q = err_from_is_err_and c.from_residual.result c.from_residual.ensures.1 in
-    rw q.1 (λ start history p. part_unsent c.args.self.now start history _ _ _ p c.in_err-send.ensures.part)
+    rw q.1 (λ start history p. part_unsent p _ c.in_err-send.ensures.part)
 
-pub returns-in_err-drain-clause-part : goal.returns-in_err-drain-clause-part
-returns-in_err-drain-clause-part g c =
+pub returns-in_err-drain-clause-kept : goal.returns-in_err-drain-clause-kept
+returns-in_err-drain-clause-kept g c =
     let q = err_from_is_err_and c.from_residual-in_err-drain.result c.from_residual-in_err-drain.ensures.1 in
-    rw q.1 (λ start history p. part_undrained c.args.self.now start history _ _ _ _ _ p c.rules.ensures
+    rw q.1 (λ start history p. part_undrained p _ _ _ c.rules.ensures
     c.in_ok-send.ensures.ok c.in_err-drain.ensures.part)
 
-pub returns-clause-represents : goal.returns-clause-represents
-returns-clause-represents g c = λ start history p.
-    let done = all_drained c.args.self.now start history _ c.drain.new.self c.send.new.self _ _ _ _ p c.rules.ensures
+pub returns-clause-kept : goal.returns-clause-kept
+returns-clause-kept g c = λ start history p.
+    let done = all_drained p _ c.drain.new.self c.send.new.self _ _ c.rules.ensures
     c.in_ok-send.ensures.ok c.in_ok-send.ensures.empty c.in_ok-drain.ensures.ok in done.0
 
 pub returns-clause-written : goal.returns-clause-written
 returns-clause-written g c = λ unready start history p.
-    let done = all_drained c.args.self.now start history _ c.drain.new.self c.send.new.self _ _ _ _ p c.rules.ensures
+    let done = all_drained p _ c.drain.new.self c.send.new.self _ _ c.rules.ensures
     c.in_ok-send.ensures.ok c.in_ok-send.ensures.empty c.in_ok-drain.ensures.ok in done.1

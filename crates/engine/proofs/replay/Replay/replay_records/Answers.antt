@@ -3,8 +3,8 @@ use Rattle.std.proofs.lemmas.Result.{err_from_is_err_and}
 use Rattle.std.proofs.lemmas.Bool.{false_from_ne_true}
 use Rattle.pcap_io.specs.declared.fault.CaptureError.TheVariants.{Refused}
 use Rattle.pcap_io.specs.CaptureStates.{CaptureState, is_ready}
-use Rattle.engine.proofs.Replays.{begun, cut, ended, fetched, halted, halted_at, interrupts_cut, interrupts_halted}
-use Rattle.engine.proofs.Replays.{interrupts_lacks, lacks, more, read_after, refused, torn_only}
+use Rattle.engine.proofs.Replays.{begun, cut, ended, fetched, halted, halted_at, lacks, more, read_after, refused}
+use Rattle.engine.proofs.Replays.{torn_only}
 use Rattle.engine.proofs.WritingOutputs.{broke_writing}
 use Rattle.engine.proofs.replay.Replay.replay_records.Goals as goal
 
@@ -43,7 +43,7 @@ each-preserved g c =
       carried = λ start p.
           let call = read_after c.each.self c.flush_before_read.new.self c.next.new.self start _ _ _ _ _ _ _ _
           c.flush_before_read.ensures.same.1 c.each.invariant.format c.each.invariant.drained (c.each.invariant.carried start p)
-          (λ history q. c.in_ok-flush_before_read.ensures.represents start history q) c.next.ensures.read
+          (λ history q. c.in_ok-flush_before_read.ensures.kept start history q) c.next.ensures.read
           c.next.ensures.drained c.next.ensures.room in
           more c.flush_before_read.new.self c.take.new.self c.next.new.self start _ _ _ _ _ _ _ call
           (rw c.in-Ok-true.field-0-test at (c.in-Ok-true.ensures.next_answers (search rules)))
@@ -53,15 +53,15 @@ each-preserved g c =
 pub returns-in_err-flush_before_read-clause-replayed : goal.returns-in_err-flush_before_read-clause-replayed
 returns-in_err-flush_before_read-clause-replayed g c = λ start p.
     let q = err_from_is_err_and c.from_residual.result c.from_residual.ensures.1 in
-    rw q.1 (rw q.2 (interrupts_halted start _ _ _ _ _ _ _ c.each.invariant.read_calm
-    (halted c.each.self start _ _ _ _ _ _ _ (c.each.invariant.carried start p) c.each.invariant.few (λ history s.
-    c.in_err-flush_before_read.ensures.part start history s))))
+    rw q.1 (rw q.2 (halted c.each.self start _ _ _ _ _ _ _ _ _ c.each.invariant.read_calm
+    (c.each.invariant.carried start p) c.each.invariant.few
+    (λ history s. c.in_err-flush_before_read.ensures.kept start history s)))
 
 pub returns-in-Ok-false-clause-replayed : goal.returns-in-Ok-false-clause-replayed
 returns-in-Ok-false-clause-replayed g c = λ start p.
     let call = read_after c.each.self c.flush_before_read.new.self c.next.new.self start _ _ _ _ _ _ _ _
     c.flush_before_read.ensures.same.1 c.each.invariant.format c.each.invariant.drained (c.each.invariant.carried start p)
-    (λ history q. c.in_ok-flush_before_read.ensures.represents start history q) c.next.ensures.read
+    (λ history q. c.in_ok-flush_before_read.ensures.kept start history q) c.next.ensures.read
     c.next.ensures.drained c.next.ensures.room in
     ended c.flush_before_read.new.self c.next.new.self start _ _ _ _ _ _ call
     (rw c.in-Ok-false.field-0-test at (c.in-Ok-false.ensures.next_answers (search rules)))
@@ -84,7 +84,7 @@ pub returns-in-Err-Refused-clause-replayed : goal.returns-in-Err-Refused-clause-
 returns-in-Err-Refused-clause-replayed g c = λ start p.
     let call = read_after c.each.self c.flush_before_read.new.self c.next.new.self start _ _ _ _ _ _ _ _
     c.flush_before_read.ensures.same.1 c.each.invariant.format c.each.invariant.drained (c.each.invariant.carried start p)
-    (λ history q. c.in_ok-flush_before_read.ensures.represents start history q) c.next.ensures.read
+    (λ history q. c.in_ok-flush_before_read.ensures.kept start history q) c.next.ensures.read
     c.next.ensures.drained c.next.ensures.room in
     refused c.flush_before_read.new.self c.next.new.self start _ c.in-Err-Refused.fault _ _ _ _ _
     (rw c.in-Err-Refused.field-0-is at (c.in-Err-Refused.ensures.kinds (search rules))) call
@@ -95,29 +95,27 @@ returns-in-Err-Device-clause-replayed g c = λ start p.
     let unready : is_ready c.each.self.records ≡ false =
     false_from_ne_true _ (λ ready. c.in-Err-Device.ensures.held (search rules)
     (ap is_ready c.flush_before_read.ensures.same.1 ∙ ready) (ap Err c.in-Err-Device.field-0-is)) in
-    interrupts_cut start _ _ _ _ _ c.args.capture.now.failures c.next.new.reader.failures (search rules)
-    (cut c.each.self c.flush_before_read.new.self c.next.new.self start _ _ _ _ _ _ _ _
-    (c.each.invariant.carried start p) c.flush_before_read.ensures.same.1
+    cut c.each.self c.flush_before_read.new.self c.next.new.self start _ _ _ _ _ _ _ _ c.args.capture.now.failures
+    c.next.new.reader.failures (search rules) (c.each.invariant.carried start p) c.flush_before_read.ensures.same.1
     (ap (λ (s : CaptureState). s.format) c.flush_before_read.ensures.same.1 ∙ c.each.invariant.format)
     (fetched c.each.self.records c.flush_before_read.new.self.records c.next.new.self _ _
     c.flush_before_read.ensures.same.1 c.each.invariant.drained c.next.ensures.read c.next.ensures.drained)
     c.next.ensures.room
     (rw c.in-Err-Device.field-0-is at (c.in-Err-Device.ensures.next_answers (search rules)))
     c.next.ensures.format (search rules)
-    (λ history s. c.in_ok-flush_before_read.ensures.written unready start history s))
+    (λ history s. c.in_ok-flush_before_read.ensures.written unready start history s)
 
 pub returns-in_err-is_taken-clause-replayed : goal.returns-in_err-is_taken-clause-replayed
 returns-in_err-is_taken-clause-replayed g c = λ start p.
     let q = err_from_is_err_and c.from_residual-in_err-is_taken.result c.from_residual-in_err-is_taken.ensures.1 in
     let call = read_after c.each.self c.flush_before_read.new.self c.next.new.self start _ _ _ _ _ _ _ _
     c.flush_before_read.ensures.same.1 c.each.invariant.format c.each.invariant.drained (c.each.invariant.carried start p)
-    (λ history q. c.in_ok-flush_before_read.ensures.represents start history q) c.next.ensures.read
+    (λ history q. c.in_ok-flush_before_read.ensures.kept start history q) c.next.ensures.read
     c.next.ensures.drained c.next.ensures.room in
-    rw q.1 (rw q.2 (interrupts_halted start _ _ _ _ _ c.args.capture.now.failures c.next.new.reader.failures
-    (search rules)
-    (halted_at c.flush_before_read.new.self c.next.new.self start _ _ _ _ _ _ _ _ call
+    rw q.1 (rw q.2 (halted_at c.flush_before_read.new.self c.next.new.self start _ _ _ _ _ _ _ _
+    c.args.capture.now.failures c.next.new.reader.failures (search rules) call
     (rw c.in-Ok-true.field-0-test at (c.in-Ok-true.ensures.next_answers (search rules)))
-    (λ history s. c.in_err-is_taken.ensures.broken (λ e. cc) start history _ s))))
+    (λ history s. c.in_err-is_taken.ensures.broken (λ e. cc) start history _ s)))
 
 pub returns-in_err-close-clause-replayed : goal.returns-in_err-close-clause-replayed
 returns-in_err-close-clause-replayed g c = λ start p.
@@ -125,23 +123,22 @@ returns-in_err-close-clause-replayed g c = λ start p.
     let stays = ap Ok c.if-not-is_taken.true in
     let call = read_after c.each.self c.flush_before_read.new.self c.next.new.self start _ _ _ _ _ _ _ _
     c.flush_before_read.ensures.same.1 c.each.invariant.format c.each.invariant.drained (c.each.invariant.carried start p)
-    (λ history q. c.in_ok-flush_before_read.ensures.represents start history q) c.next.ensures.read
+    (λ history q. c.in_ok-flush_before_read.ensures.kept start history q) c.next.ensures.read
     c.next.ensures.drained c.next.ensures.room in
-    rw q.1 (rw q.2 (interrupts_halted start _ _ _ _ _ c.args.capture.now.failures c.next.new.reader.failures
-    (search rules)
-    (halted_at c.flush_before_read.new.self c.next.new.self start _ _ _ _ _ _ _ _ call
+    rw q.1 (rw q.2 (halted_at c.flush_before_read.new.self c.next.new.self start _ _ _ _ _ _ _ _
+    c.args.capture.now.failures c.next.new.reader.failures (search rules) call
     (rw c.in-Ok-true.field-0-test at (c.in-Ok-true.ensures.next_answers (search rules)))
     (λ history s. broke_writing start history _ _ _ _ _ (c.in_ok-is_taken.ensures.broken (λ e. cc) start history _ s)
-    (c.in_err-close.ensures.written start history (c.in_ok-is_taken.ensures.kept stays start history _ s))))))
+    (c.in_err-close.ensures.written start history (c.in_ok-is_taken.ensures.kept stays start history _ s)))))
 
 pub returns-then-not-is_taken-clause-replayed : goal.returns-then-not-is_taken-clause-replayed
 returns-then-not-is_taken-clause-replayed g c = λ start p.
     let stays = ap Ok c.if-not-is_taken.true in
     let call = read_after c.each.self c.flush_before_read.new.self c.next.new.self start _ _ _ _ _ _ _ _
     c.flush_before_read.ensures.same.1 c.each.invariant.format c.each.invariant.drained (c.each.invariant.carried start p)
-    (λ history q. c.in_ok-flush_before_read.ensures.represents start history q) c.next.ensures.read
+    (λ history q. c.in_ok-flush_before_read.ensures.kept start history q) c.next.ensures.read
     c.next.ensures.drained c.next.ensures.room in
-    interrupts_lacks start _ _ _ _ _ c.args.capture.now.failures c.next.new.reader.failures (search rules)
-    (lacks c.flush_before_read.new.self c.next.new.self start _ _ _ _ _ _ _ _ call
+    lacks c.flush_before_read.new.self c.next.new.self start _ _ _ _ _ _ _ _ c.args.capture.now.failures
+    c.next.new.reader.failures (search rules) call
     (rw c.in-Ok-true.field-0-test at (c.in-Ok-true.ensures.next_answers (search rules)))
-    (λ history s. c.in_ok-close.ensures.written start history (c.in_ok-is_taken.ensures.kept stays start history _ s)))
+    (λ history s. c.in_ok-close.ensures.written start history (c.in_ok-is_taken.ensures.kept stays start history _ s))

@@ -1,10 +1,8 @@
 -- the records so far are processed, their output is written or pending, and no call failed
-use Rattle.std.proofs.Common.{◌≡◌, ◌≤◌, ◌-◌, true, None, IfSome, List, [], length}
+use Rattle.std.proofs.Common.{◌≡◌, ◌≤◌, ◌-◌, true, None, IfSome, [], length}
 use Rattle.std.specs.Io.KnownBytes.{IsAtEnd}
 use Rattle.pcap_io.specs.CaptureStates.{READ_AHEAD}
-use Rattle.history.specs.History.{Entry}
-use Rattle.stepping.specs.Representing.{Represents}
-use Rattle.engine.specs.steps.Replayed.{ReplayRepresents, ReplayStart, unread_input}
+use Rattle.engine.specs.steps.Replayed.{ReplayRepresents, ReplayStart, RepresentsSome, unread_input}
 use Rattle.engine.proofs.Replays.{Carried}
 use Rattle.engine.proofs.replay.Replay.replay_records.Given as goal
 
@@ -19,7 +17,7 @@ invariant-each g l = record {
   write_without_failure : l.report.failures ≡ l.fn.report.failures;
   few : length l.self.records.held ≤ READ_AHEAD;
   drained : l.self.records.ended ≡ true → IsAtEnd (g.R.Read.remaining l.capture.inner);
-  represents : (history : List Entry) × Represents l.self.engine history;
+  represents : RepresentsSome l.self.engine;
   carried : (start : ReplayStart) → ReplayRepresents l.fn.self start [] (g.W.Write.contents l.fn.sent.inner)
       (g.W2.Write.contents l.fn.report.inner)
       → IfSome (unread_input l.fn.self.records (g.R.Read.remaining l.fn.capture.inner)) (λ bytes.

@@ -1,6 +1,6 @@
 use Rattle.std.proofs.Common.{◌∷◌, true}
 use Rattle.stepping.specs.Representing.{recorded_of}
-use Rattle.engine.proofs.WritingOutputs.{at_record, broke_sending, broke_unread, readied, replay_of, roomier}
+use Rattle.engine.proofs.WritingOutputs.{at_record, broke_sending, broke_unread, readied, roomier}
 use Rattle.engine.proofs.WritingOutputs.{took_silently, took_sending}
 use Rattle.engine.proofs.replay.Replay.take.Goals as goal
 
@@ -13,40 +13,32 @@ unreachable-requires-in_default-entry g c =
 
 pub returns-in_default-clause-broken : goal.returns-in_default-clause-broken
 returns-in_default-clause-broken g c = λ is start history report p.
-    broke_unread c.args.self.now start history _ _ report p (λ taken.
-    c.one_entry.ensures.some _ history taken c.judged.ensures)
+    broke_unread p _ (λ taken. c.one_entry.ensures.some _ history taken c.judged.ensures)
 
 pub returns-in_default-reserve-clause-broken : goal.returns-in_default-reserve-clause-broken
 returns-in_default-reserve-clause-broken g c = λ is start history report p.
-    broke_unread c.args.self.now start history _ _ report p (λ taken.
-    c.one_entry.ensures.some _ history taken c.judged.ensures)
+    broke_unread p _ (λ taken. c.one_entry.ensures.some _ history taken c.judged.ensures)
 
 pub returns-in_err-put-clause-broken : goal.returns-in_err-put-clause-broken
 returns-in_err-put-clause-broken g c = λ is start history report p.
-    let roomy = replay_of c.reserve.new.self c.reserve-2.new.self c.args.self.now c.args.self.now.sink in
-    let q = roomier c.args.self.now c.reserve.new.self true c.reserve-2.new.self start history _ report
-    c.in-Ok.ensures.ok c.reserve-2.ensures.same p in
+    let q = roomier p c.reserve.new.self true c.reserve-2.new.self c.in-Ok.ensures.ok c.reserve-2.ensures.same in
     at_record _ (recorded_of c.in-Some.record) _ c.in-Some.ensures
-    (broke_sending roomy start history (recorded_of c.in-Some.record) _ _ _ _ _ _ q
+    (broke_sending q (recorded_of c.in-Some.record) _ _ _ _
     (c.in-Ok-step.ensures.represents history q.represents) c.in-Some-leaving.ensures.sends
     c.in_err-put.ensures.part)
 
 pub returns-in_ok-put-clause-taken : goal.returns-in_ok-put-clause-taken
 returns-in_ok-put-clause-taken g c = λ is start history report p.
-    let roomy = replay_of c.reserve.new.self c.reserve-2.new.self c.args.self.now c.args.self.now.sink in
-    let q = roomier c.args.self.now c.reserve.new.self true c.reserve-2.new.self start history _ report
-    c.in-Ok.ensures.ok c.reserve-2.ensures.same p in
+    let q = roomier p c.reserve.new.self true c.reserve-2.new.self c.in-Ok.ensures.ok c.reserve-2.ensures.same in
     at_record _ (recorded_of c.in-Some.record) _ c.in-Some.ensures
-    (took_sending roomy start history (recorded_of c.in-Some.record) _ _ _ c.in-Some-entry.entry _ _ _ _ _ q
+    (took_sending q (recorded_of c.in-Some.record) _ _ _ c.in-Some-entry.entry _ _ _
     c.step.ensures.setup (c.in-Ok-step.ensures.represents history q.represents) c.in-Some-entry.ensures.newest
     c.in-Ok-note.ensures.noted c.in-Some-leaving.ensures.sends c.in_ok-put.ensures.ok)
 
 pub returns-in_default-leaving-clause-taken : goal.returns-in_default-leaving-clause-taken
 returns-in_default-leaving-clause-taken g c = λ is start history report p.
-    let roomy = replay_of c.reserve.new.self c.reserve-2.new.self c.args.self.now c.args.self.now.sink in
-    let q = roomier c.args.self.now c.reserve.new.self true c.reserve-2.new.self start history _ report
-    c.in-Ok.ensures.ok c.reserve-2.ensures.same p in
+    let q = roomier p c.reserve.new.self true c.reserve-2.new.self c.in-Ok.ensures.ok c.reserve-2.ensures.same in
     at_record _ (recorded_of c.in-Some.record) _ c.in-Some.ensures
-    (took_silently roomy start history (recorded_of c.in-Some.record) _ _ _ c.in-Some-entry.entry _ _ q
+    (took_silently q (recorded_of c.in-Some.record) _ _ _ c.in-Some-entry.entry
     c.step.ensures.setup (c.in-Ok-step.ensures.represents history q.represents) c.in-Some-entry.ensures.newest
     c.in-Ok-note.ensures.noted c.in_default-leaving.ensures.sends)
