@@ -85,7 +85,8 @@ module _ (sources : SourceKey → Option MappedPort) (inbounds : InboundKey → 
       none None is e = refl
       none (Some h) is e =
           let m : Mapping = mapping_at (record { kind = kind; internal = internal; address = address }) h in
-          absurd (none_such (has_internal kind internal address) held m e (is_among m held (filed _ h is)) (and_from _ _ (kind_test.same kind) (and_from _ _ (endpoint_test.same internal)
+          absurd (none_such (has_internal kind internal address) held m e (is_among m held (filed _ h is))
+          (and_from _ _ (kind_test.same kind) (and_from _ _ (endpoint_test.same internal)
           (eq-eqb address address refl))))
 
       by : (f : Option Mapping) → find (has_internal kind internal address) held ≡ f

@@ -1,8 +1,8 @@
 -- What a search of the list finds is in it.
 use Rattle.std.proofs.Common.{◌≡◌, ℕ, ◌<◌, Bool, true, false, cond, List, [], ◌∷◌, Some, None, sym, ap, ◌∙◌, subst, inl, inr, arith}
 use Rattle.list_laws.specs.Decisions.{Contains-cases, Contains-none, Contains-there}
-use Rattle.nat_mapping.proofs.Names.{Contains, Contains-head, HoldsSame, Mapping, both_ways, cases_Bool, cond-false, cond-true, find, holders_cons, holders_none}
-use Rattle.nat_mapping.proofs.Names.{holders_of, none-some, same_Some, same_mapping}
+use Rattle.nat_mapping.proofs.Names.{Contains, Contains-head, HoldsSame, Mapping, both_ways, cases_Bool, cond-false, cond-true, find, holders_cons}
+use Rattle.nat_mapping.proofs.Names.{holders_none, holders_of, none-some, same_Some, same_mapping}
 use Rattle.nat_mapping.proofs.Equal.{mapping_same, mapping_exact}
 
 pub holders_here : (m : Mapping) (held : List Mapping) → 0 < holders_of m (m ∷ held)
