@@ -12,6 +12,39 @@ use Rattle.rule_check.specs.steps.FaultRanges.{HasNone, IsLeastFaultIn}
 use Rattle.rule_check.proofs.LeastFaults.{least, least_reported, none_yet, without}
 use Rattle.rule_check.proofs.Stages.{after_all, after_chains, after_cycles, after_maps, after_names, at_none, at_some, findings_of}
 use Rattle.rule_check.proofs.analysis.analyze.Goals as goal
+use Rattle.rule_check.proofs.analysis.analyze.Goals.{In-Some, In_default-fault_of_names, In-Some-2, In_default-fault_of_chains}
+
+-- ---- what is known after each test
+
+apart : (c : In-Some) → DuplicateName (tables_of c.args.tree.now) → ⊥
+apart c = IfSome_at c.in_ok-names.field-0 (λ names. DuplicateName (tables_of c.args.tree.now) → ⊥) _ c.in-Some.is c.in_ok-names.ensures.apart
+
+none4 : (c : In_default-fault_of_names) → (DuplicateName (tables_of c.args.tree.now) → ⊥)
+    → HasNone 1 4 (tables_of c.args.tree.now) c.args.plant.now
+none4 c apart =
+    let same : c.deref.result.now ≡ tables_of c.args.tree.now = search rules in
+    after_names (tables_of c.args.tree.now) c.args.plant.now c.deref.result.now c.fault_of_names.result apart same
+    c.in_default-fault_of_names.is (c.fault_of_names.ensures c.args.plant.now)
+
+none5 : (c : In-Some-2) → HasNone 1 4 (tables_of c.args.tree.now) c.args.plant.now
+    → HasNone 1 5 (tables_of c.args.tree.now) c.args.plant.now
+none5 c none4 =
+    let tables : List TableTree = tables_of c.args.tree.now in
+    let plant : PlantTree = c.args.plant.now in
+    let again : c.deref-2.result.now ≡ tables = search rules in
+    let known : AreFindings tables c.in-Some-2.found =
+    findings_of tables plant c.deref-2.result.now c.in-Some-2.found again
+    (at_some c.in_ok-found.field-0 (Cycles c.deref-2.result.now) (λ found. AreFindings c.deref-2.result.now found)
+    _ c.in-Some-2.is c.in_ok-found.ensures) in
+    after_cycles tables plant c.in-Some-2.found none4 known
+
+none12 : (c : In_default-fault_of_chains) → HasNone 1 5 (tables_of c.args.tree.now) c.args.plant.now
+    → HasNone 1 12 (tables_of c.args.tree.now) c.args.plant.now
+none12 c none5 =
+    after_chains (tables_of c.args.tree.now) c.args.plant.now c.fault_of_chains.result none5
+    c.in_default-fault_of_chains.is c.fault_of_chains.ensures
+
+-- ---- the answers
 
 pub returns-in_default-clause-refused : goal.returns-in_default-clause-refused
 returns-in_default-clause-refused c =
@@ -25,95 +58,54 @@ pub returns-in-Some-fault_of_names-clause-refused : goal.returns-in-Some-fault_o
 returns-in-Some-fault_of_names-clause-refused c =
     let tables : List TableTree = tables_of c.args.tree.now in
     let plant : PlantTree = c.args.plant.now in
-    let apart : DuplicateName tables → ⊥ = IfSome_at c.in_ok-names.field-0 (λ names. DuplicateName tables → ⊥) _ c.in-Some.is c.in_ok-names.ensures.apart in
     let same : c.deref.result.now ≡ tables = search rules in
     least_reported tables plant 2 4 c.in-Some-fault_of_names.fault c.fault_of_names.result
-    (without tables plant faults.DuplicateName apart) c.in-Some-fault_of_names.is
+    (without tables plant faults.DuplicateName (apart (goal.at.returns-in-Some-fault_of_names-clause-refused c).In-Some))
+    c.in-Some-fault_of_names.is
     (subst (λ (ts : List TableTree). IsLeastFaultIn 2 4 ts plant c.fault_of_names.result) same (c.fault_of_names.ensures plant))
 
 pub returns-in_default-2-clause-refused : goal.returns-in_default-2-clause-refused
 returns-in_default-2-clause-refused c =
+    let at = goal.at.returns-in_default-2-clause-refused c in
     let tables : List TableTree = tables_of c.args.tree.now in
-    let plant : PlantTree = c.args.plant.now in
-    let apart : DuplicateName tables → ⊥ = IfSome_at c.in_ok-names.field-0 (λ names. DuplicateName tables → ⊥) _ c.in-Some.is c.in_ok-names.ensures.apart in
-    let same : c.deref.result.now ≡ tables = search rules in
-    let none4 : HasNone 1 4 tables plant = after_names tables plant c.deref.result.now c.fault_of_names.result apart
-    same c.in_default-fault_of_names.is (c.fault_of_names.ensures plant) in
     let again : c.deref-2.result.now ≡ tables = search rules in
-    least tables plant faults.Cycle none4
+    least tables c.args.plant.now faults.Cycle (none4 at.In_default-fault_of_names (apart at.In-Some))
     (subst Cycles again (at_none c.in_ok-found.field-0 (Cycles c.deref-2.result.now)
     (λ found. AreFindings c.deref-2.result.now found) c.in_default-2.is c.in_ok-found.ensures))
 
 pub returns-in-Some-fault_of_chains-clause-refused : goal.returns-in-Some-fault_of_chains-clause-refused
 returns-in-Some-fault_of_chains-clause-refused c =
-    let tables : List TableTree = tables_of c.args.tree.now in
-    let plant : PlantTree = c.args.plant.now in
-    let apart : DuplicateName tables → ⊥ = IfSome_at c.in_ok-names.field-0 (λ names. DuplicateName tables → ⊥) _ c.in-Some.is c.in_ok-names.ensures.apart in
-    let same : c.deref.result.now ≡ tables = search rules in
-    let none4 : HasNone 1 4 tables plant = after_names tables plant c.deref.result.now c.fault_of_names.result apart
-    same c.in_default-fault_of_names.is (c.fault_of_names.ensures plant) in
-    let again : c.deref-2.result.now ≡ tables = search rules in
-    let known : AreFindings tables c.in-Some-2.found =
-    findings_of tables plant c.deref-2.result.now c.in-Some-2.found again
-    (at_some c.in_ok-found.field-0 (Cycles c.deref-2.result.now) (λ found. AreFindings c.deref-2.result.now found)
-    _ c.in-Some-2.is c.in_ok-found.ensures) in
-    let none5 : HasNone 1 5 tables plant = after_cycles tables plant c.in-Some-2.found none4 known in
-    least_reported tables plant 5 12 c.in-Some-fault_of_chains.fault c.fault_of_chains.result none5 c.in-Some-fault_of_chains.is c.fault_of_chains.ensures
+    let at = goal.at.returns-in-Some-fault_of_chains-clause-refused c in
+    least_reported (tables_of c.args.tree.now) c.args.plant.now 5 12 c.in-Some-fault_of_chains.fault
+    c.fault_of_chains.result (none5 at.In-Some-2 (none4 at.In_default-fault_of_names (apart at.In-Some)))
+    c.in-Some-fault_of_chains.is c.fault_of_chains.ensures
 
 pub returns-then-branch-clause-refused : goal.returns-then-branch-clause-refused
 returns-then-branch-clause-refused c =
-    let tables : List TableTree = tables_of c.args.tree.now in
-    let plant : PlantTree = c.args.plant.now in
-    let apart : DuplicateName tables → ⊥ = IfSome_at c.in_ok-names.field-0 (λ names. DuplicateName tables → ⊥) _ c.in-Some.is c.in_ok-names.ensures.apart in
-    let same : c.deref.result.now ≡ tables = search rules in
-    let none4 : HasNone 1 4 tables plant = after_names tables plant c.deref.result.now c.fault_of_names.result apart
-    same c.in_default-fault_of_names.is (c.fault_of_names.ensures plant) in
-    let again : c.deref-2.result.now ≡ tables = search rules in
-    let known : AreFindings tables c.in-Some-2.found =
-    findings_of tables plant c.deref-2.result.now c.in-Some-2.found again
-    (at_some c.in_ok-found.field-0 (Cycles c.deref-2.result.now) (λ found. AreFindings c.deref-2.result.now found)
-    _ c.in-Some-2.is c.in_ok-found.ensures) in
-    let none5 : HasNone 1 5 tables plant = after_cycles tables plant c.in-Some-2.found none4 known in
-    let none12 : HasNone 1 12 tables plant =
-    after_chains tables plant c.fault_of_chains.result none5 c.in_default-fault_of_chains.is c.fault_of_chains.ensures in
-    least tables plant faults.Contradiction none12 (sym c.in_ok-has_contradiction.ensures ∙ c.if-branch.true)
+    let at = goal.at.returns-then-branch-clause-refused c in
+    let none : HasNone 1 12 (tables_of c.args.tree.now) c.args.plant.now =
+    none12 at.In_default-fault_of_chains (none5 at.In-Some-2 (none4 at.In_default-fault_of_names (apart at.In-Some))) in
+    least (tables_of c.args.tree.now) c.args.plant.now faults.Contradiction none
+    (sym c.in_ok-has_contradiction.ensures ∙ c.if-branch.true)
 
 pub returns-in-Some-last_fault-clause-refused : goal.returns-in-Some-last_fault-clause-refused
 returns-in-Some-last_fault-clause-refused c =
+    let at = goal.at.returns-in-Some-last_fault-clause-refused c in
     let tables : List TableTree = tables_of c.args.tree.now in
     let plant : PlantTree = c.args.plant.now in
-    let apart : DuplicateName tables → ⊥ = IfSome_at c.in_ok-names.field-0 (λ names. DuplicateName tables → ⊥) _ c.in-Some.is c.in_ok-names.ensures.apart in
-    let same : c.deref.result.now ≡ tables = search rules in
-    let none4 : HasNone 1 4 tables plant = after_names tables plant c.deref.result.now c.fault_of_names.result apart
-    same c.in_default-fault_of_names.is (c.fault_of_names.ensures plant) in
-    let again : c.deref-2.result.now ≡ tables = search rules in
-    let known : AreFindings tables c.in-Some-2.found =
-    findings_of tables plant c.deref-2.result.now c.in-Some-2.found again
-    (at_some c.in_ok-found.field-0 (Cycles c.deref-2.result.now) (λ found. AreFindings c.deref-2.result.now found)
-    _ c.in-Some-2.is c.in_ok-found.ensures) in
-    let none5 : HasNone 1 5 tables plant = after_cycles tables plant c.in-Some-2.found none4 known in
-    let none12 : HasNone 1 12 tables plant =
-    after_chains tables plant c.fault_of_chains.result none5 c.in_default-fault_of_chains.is c.fault_of_chains.ensures in
+    let none : HasNone 1 12 tables plant =
+    none12 at.In_default-fault_of_chains (none5 at.In-Some-2 (none4 at.In_default-fault_of_names (apart at.In-Some))) in
     let agree : list_any (has_contradiction plant) tables ≡ false = sym c.in_ok-has_contradiction.ensures ∙ c.if-branch.false in
-    let none13 : HasNone 1 13 tables plant = after_maps tables plant none12 agree in
-    least_reported tables plant 13 16 c.in-Some-last_fault.fault c.last_fault.result none13 c.in-Some-last_fault.is c.last_fault.ensures
+    least_reported tables plant 13 16 c.in-Some-last_fault.fault c.last_fault.result (after_maps tables plant none agree)
+    c.in-Some-last_fault.is c.last_fault.ensures
 
 pub returns-clause-fine : goal.returns-clause-fine
 returns-clause-fine c =
+    let at = goal.at.returns-clause-fine c in
     let tables : List TableTree = tables_of c.args.tree.now in
     let plant : PlantTree = c.args.plant.now in
-    let apart : DuplicateName tables → ⊥ = IfSome_at c.in_ok-names.field-0 (λ names. DuplicateName tables → ⊥) _ c.in-Some.is c.in_ok-names.ensures.apart in
-    let same : c.deref.result.now ≡ tables = search rules in
-    let none4 : HasNone 1 4 tables plant = after_names tables plant c.deref.result.now c.fault_of_names.result apart
-    same c.in_default-fault_of_names.is (c.fault_of_names.ensures plant) in
-    let again : c.deref-2.result.now ≡ tables = search rules in
-    let known : AreFindings tables c.in-Some-2.found =
-    findings_of tables plant c.deref-2.result.now c.in-Some-2.found again
-    (at_some c.in_ok-found.field-0 (Cycles c.deref-2.result.now) (λ found. AreFindings c.deref-2.result.now found)
-    _ c.in-Some-2.is c.in_ok-found.ensures) in
-    let none5 : HasNone 1 5 tables plant = after_cycles tables plant c.in-Some-2.found none4 known in
-    let none12 : HasNone 1 12 tables plant =
-    after_chains tables plant c.fault_of_chains.result none5 c.in_default-fault_of_chains.is c.fault_of_chains.ensures in
+    let none : HasNone 1 12 tables plant =
+    none12 at.In_default-fault_of_chains (none5 at.In-Some-2 (none4 at.In_default-fault_of_names (apart at.In-Some))) in
     let agree : list_any (has_contradiction plant) tables ≡ false = sym c.in_ok-has_contradiction.ensures ∙ c.if-branch.false in
-    let none13 : HasNone 1 13 tables plant = after_maps tables plant none12 agree in
-    after_all tables plant c.last_fault.result none13 c.in_default-last_fault.is c.last_fault.ensures
+    after_all tables plant c.last_fault.result (after_maps tables plant none agree) c.in_default-last_fault.is
+    c.last_fault.ensures
