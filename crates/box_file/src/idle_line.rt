@@ -39,7 +39,7 @@ pub enum IdleKind {
 
 impl IdleKind {
     ghost use Rattle.std.specs.Prelude.{◌≡◌};
-    ghost use Rattle.box_file.specs.Idle.{minimum_for, number_of};
+    ghost use Rattle.box_file.specs.Idle.{minimum_for};
 
     /// The smallest timeout that a box file may set for it, in seconds.
     pub fn minimum(self) -> u32
@@ -50,19 +50,6 @@ impl IdleKind {
             IdleKind::Established => MIN_ESTABLISHED,
             IdleKind::Transitory => MIN_TRANSITORY,
             IdleKind::Echo | IdleKind::Other => MIN_OTHER,
-        }
-    }
-
-    /// A number for each kind.
-    pub fn number(self) -> u128
-        ensures { result ≡ number_of self }
-    {
-        match self {
-            IdleKind::Udp => 0,
-            IdleKind::Established => 1,
-            IdleKind::Transitory => 2,
-            IdleKind::Echo => 3,
-            IdleKind::Other => 4,
         }
     }
 }
