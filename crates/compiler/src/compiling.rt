@@ -41,8 +41,9 @@ fn ruleset_code(alloc: Global, checked: &Checked) -> Result<Code, AllocError>
 
 /// The code of a checked ruleset. Its starts are the base chains of each hook in the order in which
 /// they run. On every packet, the verdict and the events of a start are those of the base chain's
-/// rules and policy. There is one step for each statement of the rules that packets get to; rules
-/// behind one that always ends its chain have none. A start costs what `check` counts for its chain.
+/// rules and policy. There is one step for each statement of the rules that aren't dropped: those
+/// behind a rule that always ends its chain, and those of which an earlier merged rule takes each
+/// value. A start costs what `check` counts for its chain.
 ///
 /// # Errors
 ///
