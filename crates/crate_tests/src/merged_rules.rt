@@ -29,20 +29,41 @@ const TEN_ONE: u32 = 0x0a01_0203;
 
 const ELEVEN: u32 = 0x0b00_0001;
 
-/// Nested matches with verdicts; a rule that writes the mark that the next one matches; a rule after
-/// one that always gives a verdict; counters, logs and a jump end no chain, and what comes after
-/// `return` and `goto` is dropped in each chain; a match, a mark and a jump before the verdict don't
-/// end it either.
-static ROWS: [Row; 5] = [
+/// Nested matches with verdicts; a rule whose values two earlier ones list together, and one with a
+/// value more; a counter and another selector between rules of one selector; a rule that writes the
+/// mark that the next one matches; a rule after one that always gives a verdict; counters, logs and
+/// a jump end no chain, and what comes after `return` and `goto` is dropped in each chain; a match, a
+/// mark and a jump before the verdict don't end it either.
+static ROWS: [Row; 7] = [
     (
         b"table ip t { chain fwd { type filter hook forward priority 0;
 ip saddr 10.0.0.0/8 accept; ip saddr 10.1.0.0/16 drop; ip saddr 11.0.0.0/8 drop } }",
-        [7, 2, 1],
+        [5, 2, 1],
         &[
             (TEN_ONE, Some(1), false),
             (ELEVEN, Some(3), true),
             (0x0c00_0001, None, false),
         ],
+    ),
+    (
+        b"table ip t { chain fwd { type filter hook forward priority 0;
+ip saddr { 10.0.0.0/9, 11.0.0.0/8 } accept; ip saddr 10.128.0.0/9 drop
+ip saddr 10.0.0.0/8 drop; ip saddr 10.0.0.0-12.0.0.0 return } }",
+        [7, 3, 1],
+        &[
+            (TEN_ONE, Some(1), false),
+            (ELEVEN, Some(1), false),
+            (0x0ac0_0000, Some(2), true),
+            (0x0c00_0000, Some(4), false),
+            (0x0c00_0001, None, false),
+        ],
+    ),
+    (
+        b"table ip t { chain fwd { type filter hook forward priority 0;
+ip saddr 10.0.0.0/8 return; counter; ip saddr 10.1.0.0/16 drop
+ip daddr 0.0.0.1 continue; ip saddr 10.1.0.0/16 drop } }",
+        [10, 0, 0],
+        &[(TEN_ONE, Some(1), false)],
     ),
     (
         b"table ip t { chain fwd { type filter hook forward priority 0;
@@ -133,7 +154,8 @@ fn has_verdicts(alloc: Global, code: &Code, wanted: &[ExpectedVerdict]) -> bool 
     true
 }
 
-/// What the report has of the first three rows is in `golden_runs`.
+/// What the report has of the nested matches, the written mark and the rule after `accept` is in
+/// `golden_runs`.
 #[test]
 fn rules_are_merged_and_dropped(rt: HostRuntime) {
     for (row, &(rules, wanted, packets)) in ROWS.iter().enumerate() {
