@@ -11,6 +11,17 @@ pub struct Span {
     pub end: usize,
 }
 
+/// Adds a part if it lies within the text.
+pub(crate) fn add_within(parts: &mut Vec<Span>, text: &[u8], part: Span) -> Result<(), AllocError>
+    requires before { AllWithin (length text.now) parts.old.items }
+    ensures within { IfOk result (λ _. AllWithin (length text.now) parts.new.items) }
+{
+    if part.start <= part.end && part.end <= text.len() {
+        parts.push(part)?;
+    }
+    Ok(())
+}
+
 /// A level of nesting in a ruleset.
 #[derive(Clone, Copy, PartialEq)]
 pub enum Level {
@@ -213,11 +224,8 @@ pub fn spans(alloc: Global, text: &[u8], level: Level) -> Result<Vec<Span>, Allo
         let Some(part) = scan.step(level, *byte, offset) else {
             continue;
         };
-        if !is_wanted(text, level, declaration, part.start) {
-            continue;
-        }
-        if part.start <= part.end && part.end <= text.len() {
-            parts.push(part)?;
+        if is_wanted(text, level, declaration, part.start) {
+            add_within(&mut parts, text, part)?;
         }
     }
     Ok(parts)

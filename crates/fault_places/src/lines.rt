@@ -2,7 +2,7 @@
 ghost use Rattle.std.specs.Prelude.{◌≤◌, IfOk, length};
 ghost use Rattle.fault_places.specs.Within.{AllWithin};
 
-use crate::brace_parts::{Level, Span, has_at};
+use crate::brace_parts::{Level, Span, add_within, has_at};
 use std::alloc::{AllocError, Global};
 
 /// Whether a line is of a level: `interface` lines are declarations, the `default` line is a table,
@@ -31,16 +31,14 @@ pub fn box_lines(alloc: Global, text: &[u8], level: Level) -> Result<Vec<Span>, 
     for (offset, byte) in text.iter().enumerate() {
         if *byte == b'\n' {
             if is_wanted(text, level, start) {
-                parts.push(Span { start, end: offset })?;
+                add_within(&mut parts, text, Span { start, end: offset })?;
             }
             start = offset + 1;
         }
     }
     if start < text.len() && is_wanted(text, level, start) {
-        parts.push(Span {
-            start,
-            end: text.len(),
-        })?;
+        let end = text.len();
+        add_within(&mut parts, text, Span { start, end })?;
     }
     Ok(parts)
 }

@@ -2,7 +2,7 @@
 ghost use Rattle.std.specs.Prelude.{◌≤◌, IfOk, length};
 ghost use Rattle.fault_places.specs.Within.{AllWithin};
 
-use crate::brace_parts::{Quotes, Span};
+use crate::brace_parts::{Quotes, Span, add_within};
 use std::alloc::{AllocError, Global};
 
 /// What a list of elements is part of.
@@ -82,9 +82,7 @@ pub fn elements(
             continue;
         }
         if let Some(element) = scan.step(*byte, offset) {
-            if element.start <= element.end && element.end <= text.len() {
-                found.push(element)?;
-            }
+            add_within(&mut found, text, element)?;
         }
     }
     Ok(found)

@@ -2,7 +2,7 @@
 ghost use Rattle.std.specs.Prelude.{◌≤◌, IfOk, length};
 ghost use Rattle.fault_places.specs.Within.{AllWithin};
 
-use crate::brace_parts::Span;
+use crate::brace_parts::{Span, add_within};
 use std::alloc::{AllocError, Global};
 
 /// The kind of word that a byte begins.
@@ -63,18 +63,16 @@ pub fn words(alloc: Global, text: &[u8], part: Span) -> Result<Vec<Span>, AllocE
             last = *byte;
             continue;
         }
-        if is_word(open) && start <= offset {
-            found.push(Span { start, end: offset })?;
+        if is_word(open) {
+            add_within(&mut found, text, Span { start, end: offset })?;
         }
         open = kind_of(*byte);
         start = offset;
         last = *byte;
     }
-    if is_word(open) && start <= part.end && part.end <= text.len() {
-        found.push(Span {
-            start,
-            end: part.end,
-        })?;
+    if is_word(open) {
+        let end = part.end;
+        add_within(&mut found, text, Span { start, end })?;
     }
     Ok(found)
 }
