@@ -1,17 +1,12 @@
 //! Explains a fault: what its code means, where it is, and what to do.
-use crate::advice::Advice;
-use crate::around::Around;
-use crate::box_advice::box_advice;
-use crate::check_advice::check_advice;
-use crate::shape_advice::brace_advice;
-use crate::stop::Stop;
-use crate::token_advice::token_advice;
-use crate::word_advice::syntax_advice;
+use crate::place_advice::place_advice;
+use advice_sentences::Advice;
 use box_file::BoxFault;
-use fault_location::{Fault, Sources, Subject, TextPlace, text_place};
+use fault_location::{Fault, Sources, Subject, text_place};
 use fault_places::{enclosing_description, show};
 use nft_parser::TextFault;
 use rule_check::CheckFault;
+use rules_advice::{advice_on_box, advice_on_rules};
 use std::alloc::{AllocError, Global};
 
 /// The lines that explain a fault: what its code means, and, if it is one of the ruleset or of the
@@ -23,19 +18,46 @@ use std::alloc::{AllocError, Global};
 /// `AllocError` for want of memory.
 pub fn explained(alloc: Global, fault: Fault, sources: Sources<'_>) -> Result<String, AllocError> {
     let mut lines = String::new(alloc);
-    if let Some(found) = explanations::explain(fault.code(alloc)?.as_str()) {
-        writeln!(lines, "{}", found.sentence)?;
-    }
-    let advice = match fault {
-        Fault::Text(fault) => located_in_text(alloc, sources, fault, &mut lines)?,
-        Fault::Check(fault) => located_in_rules(alloc, sources, fault, &mut lines)?,
-        Fault::Box(fault) => located_in_box(alloc, sources, fault, &mut lines)?,
-        Fault::Capture(_) => None,
-    };
-    if let Some(advice) = advice {
-        writeln!(lines, "{}", advice.as_str())?;
-    }
+    put_meaning(alloc, fault, &mut lines)?;
+    put_place(alloc, fault, sources, &mut lines)?;
     Ok(lines)
+}
+
+/// Writes what a fault's code means.
+fn put_meaning(alloc: Global, fault: Fault, lines: &mut String) -> Result<(), AllocError> {
+    match explanations::explain(fault.code(alloc)?.as_str()) {
+        Some(found) => put_line(lines, found.sentence),
+        None => Ok(()),
+    }
+}
+
+/// Writes where a fault is, and what to do.
+fn put_place(
+    alloc: Global,
+    fault: Fault,
+    sources: Sources<'_>,
+    lines: &mut String,
+) -> Result<(), AllocError> {
+    match located(alloc, fault, sources, lines)? {
+        Some(advice) => put_line(lines, advice.as_str()),
+        None => Ok(()),
+    }
+}
+
+/// Writes a line.
+fn put_line(lines: &mut String, line: &str) -> Result<(), AllocError> {
+    lines.push_str(line)?;
+    lines.push('\n')
+}
+
+/// Writes where a fault is, and gives what to do.
+fn located(alloc: Global, fault: Fault, sources: Sources<'_>, lines: &mut String) -> Advice {
+    match fault {
+        Fault::Text(fault) => located_in_text(alloc, sources, fault, lines),
+        Fault::Check(fault) => located_in_rules(alloc, sources, fault, lines),
+        Fault::Box(fault) => located_in_box(alloc, sources, fault, lines),
+        Fault::Capture(_) => Ok(None),
+    }
 }
 
 /// Writes where a fault of a ruleset's text is, and gives what to do.
@@ -55,16 +77,7 @@ fn located_in_text(
         sources.rules,
         place.offset(),
     )?;
-    match (place, fault) {
-        (TextPlace::Token(offset), TextFault::Lexical(fault)) => {
-            token_advice(alloc, sources.rules, fault, offset)
-        }
-        (TextPlace::Brace(brace), _) => brace_advice(alloc, sources.rules, brace),
-        (TextPlace::Part { offset, unreadable }, _) => {
-            syntax_advice(&Stop::new(alloc, sources.rules, unreadable, offset)?)
-        }
-        _ => Ok(None),
-    }
+    place_advice(alloc, sources.rules, fault, place)
 }
 
 /// Writes where a fault of a ruleset as a whole is, and gives what to do.
@@ -89,10 +102,7 @@ fn located_in_rules(
         found.offset,
     )?;
     put_enclosing(alloc, sources.rules, found.offset, lines)?;
-    check_advice(
-        &Around::new(alloc, sources.rules, sources.plant, found.offset)?,
-        fault,
-    )
+    advice_on_rules(alloc, sources.rules, sources.plant, fault, found.offset)
 }
 
 /// Writes what is around an offset.
@@ -106,7 +116,7 @@ fn put_enclosing(
     if around.is_empty() {
         return Ok(());
     }
-    writeln!(lines, "{}", around.as_str())
+    put_line(lines, around.as_str())
 }
 
 /// Writes where a fault of a box file is, and gives what to do.
@@ -126,5 +136,5 @@ fn located_in_box(
         sources.plant,
         found.offset,
     )?;
-    box_advice(alloc, sources.plant, fault, found.part)
+    advice_on_box(alloc, sources.plant, fault, found.part)
 }

@@ -1,6 +1,6 @@
 //! What to do about words that aren't read, or don't go together.
-use crate::advice::{Advice, fixed, write_this};
 use crate::stop::Stop;
+use advice_sentences::{Advice, fixed, sentence, write_this};
 use fault_location::open_braces;
 use fault_places::{Level, OpenBrace, Span, Words, bytes_of, position_at, rest_from, shown, up_to};
 use nft_words::{Place, left_out};
@@ -76,22 +76,34 @@ pub fn shape_advice(stop: &Stop<'_>) -> Advice {
     if let Some(sentence) = misplaced(stop).or(unread_shape(stop)) {
         return fixed(stop.alloc, sentence);
     }
-    let (before, here) = (stop.before(1), stop.here());
-    if stop.is_in_rule() && is_value(before) && (here == "," || is_value(here)) {
+    if is_list(stop) {
         return list_advice(stop);
     }
-    if before == "/" && here.find('.').is_some() {
-        return length_advice(stop.alloc, here);
+    pair_advice(stop, stop.before(1), stop.here())
+}
+
+/// Whether values stand one behind the other in a rule.
+fn is_list(stop: &Stop<'_>) -> bool {
+    let here = stop.here();
+    stop.is_in_rule() && is_value(stop.before(1)) && (here == "," || is_value(here))
+}
+
+/// What to do about the word at the place behind the one before it.
+fn pair_advice(stop: &Stop<'_>, before: &str, here: &str) -> Advice {
+    match before {
+        "/" if here.find('.').is_some() => length_advice(stop.alloc, here),
+        "to" if stop.words.has_before(stop.at, "masquerade") => source_advice(stop.alloc, here),
+        "not" => write_this(stop.alloc, "!="),
+        "to" | "chain" => call_advice(stop, here),
+        _ => Ok(None),
     }
-    if before == "to" && stop.words.has_before(stop.at, "masquerade") {
-        return source_advice(stop.alloc, here);
-    }
-    if before == "not" {
-        return write_this(stop.alloc, "!=");
-    }
+}
+
+/// What to do about a word between `jump` or `goto` and the name of a chain.
+fn call_advice(stop: &Stop<'_>, chain: &str) -> Advice {
     let verdict = stop.before(2);
-    if ["jump", "goto"].contains(&verdict) && ["to", "chain"].contains(&before) {
-        return jump_advice(stop.alloc, verdict, here);
+    if ["jump", "goto"].contains(&verdict) {
+        return jump_advice(stop.alloc, verdict, chain);
     }
     Ok(None)
 }
@@ -104,13 +116,18 @@ fn length_advice(alloc: Global, mask: &str) -> Advice {
 
 /// An address of its own stands behind `snat`.
 fn source_advice(alloc: Global, address: &str) -> Advice {
-    Ok(Some(format!(in alloc;
-        "Write `snat to {address}`: `masquerade` takes the interface's address."
-    )?))
+    sentence(
+        alloc,
+        &[
+            "Write `snat to ",
+            address,
+            "`: `masquerade` takes the interface's address.",
+        ],
+    )
 }
 
 fn jump_advice(alloc: Global, verdict: &str, chain: &str) -> Advice {
-    Ok(Some(format!(in alloc; "Write `{verdict} {chain}`.")?))
+    sentence(alloc, &["Write `", verdict, " ", chain, "`."])
 }
 
 /// What to do about an address of IPv6, and about what stands in a chain or a table in a wrong place.
@@ -133,18 +150,30 @@ fn misplaced(stop: &Stop<'_>) -> Option<&'static str> {
 
 /// What to do about words of a rule, where that is a fixed sentence.
 fn unread_shape(stop: &Stop<'_>) -> Option<&'static str> {
-    match (stop.before(2), stop.before(1), stop.here()) {
-        ("dnat" | "snat", "to", ":") => {
+    unread_target(stop.before(2), stop.before(1), stop.here()).or(unread_order(stop))
+}
+
+/// What to do about a target of NAT: the word at the place, and two before it.
+fn unread_target(second: &str, before: &str, here: &str) -> Option<&'static str> {
+    match here {
+        ":" if before == "to" && ["dnat", "snat"].contains(&second) => {
             Some("Write the address before the `:`, or `redirect to :PORT` for this box.")
         }
-        ("to", _, "-") => Some("Write one address: NAT to a range isn't read."),
-        (":", _, "-") => Some("Write one port: `dnat` to a range of them isn't read."),
-        ("comment", _, _) if stop.is_in_rule() => Some("Write the comment at the end of its rule."),
-        (_, _, "vmap" | "map") if stop.words.has_before(stop.at, ".") => {
-            Some("A map has one selector as its key: compare the others before it.")
-        }
+        "-" if second == "to" => Some("Write one address: NAT to a range isn't read."),
+        "-" if second == ":" => Some("Write one port: `dnat` to a range of them isn't read."),
         _ => None,
     }
+}
+
+/// What to do about a comment before its rule's end, and about a map of several selectors.
+fn unread_order(stop: &Stop<'_>) -> Option<&'static str> {
+    if stop.is_in_rule() && stop.before(2) == "comment" {
+        return Some("Write the comment at the end of its rule.");
+    }
+    if ["vmap", "map"].contains(&stop.here()) && stop.words.has_before(stop.at, ".") {
+        return Some("A map has one selector as its key: compare the others before it.");
+    }
+    None
 }
 
 /// Whether the place is right behind a priority.
@@ -163,29 +192,39 @@ fn list_advice(stop: &Stop<'_>) -> Advice {
         return Ok(None);
     }
     let list = list_of_values(stop)?;
+    if stop.allows_behind(before_value(stop), list.as_str())? {
+        return write_this(stop.alloc, list.as_str());
+    }
+    Ok(None)
+}
+
+/// What stands before the value before the place.
+fn before_value(stop: &Stop<'_>) -> Span {
     let start = match stop.words.spans.get(stop.at.saturating_sub(1)) {
         Some(word) => word.start,
         None => 0,
     };
-    if !stop.allows_behind(up_to(stop.unreadable.part, start), list.as_str())? {
-        return Ok(None);
-    }
-    write_this(stop.alloc, list.as_str())
+    up_to(stop.unreadable.part, start)
 }
 
 /// The values from the one before the place on, as a list.
 fn list_of_values(stop: &Stop<'_>) -> Result<String, AllocError> {
-    let mut list = format!(in stop.alloc; "{{ {}", stop.before(1))?;
+    let joined = values_from(stop)?.join(stop.alloc, ", ")?;
+    ["{ ", joined.as_str(), " }"].concat(stop.alloc)
+}
+
+/// The values from the one before the place on, without the commas between them.
+fn values_from<'a>(stop: &Stop<'a>) -> Result<Vec<&'a str>, AllocError> {
+    let mut values = [stop.before(1)].to_vec(stop.alloc)?;
     for number in stop.at..stop.words.len() {
         let word = stop.words.get(number);
         if is_value(word) {
-            write!(list, ", {word}")?;
+            values.push(word)?;
         } else if word != "," {
             break;
         }
     }
-    list.push_str(" }")?;
-    Ok(list)
+    Ok(values)
 }
 
 /// Whether a word is a number, an address or a string.

@@ -33,11 +33,7 @@ impl<'a> Stop<'a> {
     ) -> Result<Stop<'a>, AllocError> {
         let words = Words::of(alloc, text, unreadable.part)?;
         let at = words.count_before(offset);
-        let chain = if unreadable.level == Level::Rules && at == 0 {
-            part_around(&spans(alloc, text, Level::Declarations)?, offset)
-        } else {
-            None
-        };
+        let chain = chain_around(alloc, text, unreadable.level, at, offset)?;
         let (wrapper, part) = (unreadable.wrapper, unreadable.part);
         let allowed = wrapper.longest_prefix(alloc, text, part, &words.spans)?;
         Ok(Stop {
@@ -94,11 +90,8 @@ impl<'a> Stop<'a> {
         if before.len() > MOST_BYTES {
             return Ok(false);
         }
-        let mut prefix = before.to_vec(self.alloc)?;
-        prefix.push(b' ')?;
-        prefix.extend_from_slice(added.as_bytes())?;
-        let open = open_in(self.alloc, &prefix)?;
-        wrapper.is_prefix(self.alloc, &prefix, open)
+        let prefix = with_word(self.alloc, before, added)?;
+        wrapper.is_prefix(self.alloc, &prefix, open_in(self.alloc, &prefix)?)
     }
 
     /// Those of some words that the grammar allows at the place.
@@ -123,6 +116,28 @@ impl<'a> Stop<'a> {
         without.extend_from_slice(bytes_of(self.text, behind))?;
         self.unreadable.wrapper.reads(self.alloc, &without)
     }
+}
+
+/// The chain around the first word of a rule.
+fn chain_around(
+    alloc: Global,
+    text: &[u8],
+    level: Level,
+    at: usize,
+    offset: usize,
+) -> Result<Option<Span>, AllocError> {
+    if level != Level::Rules || at != 0 {
+        return Ok(None);
+    }
+    Ok(part_around(&spans(alloc, text, Level::Declarations)?, offset))
+}
+
+/// A text with a word behind it.
+fn with_word(alloc: Global, before: &[u8], word: &str) -> Result<Vec<u8>, AllocError> {
+    let mut text = before.to_vec(alloc)?;
+    text.push(b' ')?;
+    text.extend_from_slice(word.as_bytes())?;
+    Ok(text)
 }
 
 /// How many braces a text leaves open.

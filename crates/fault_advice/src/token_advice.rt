@@ -1,5 +1,5 @@
 //! What to do about a word that is no token.
-use crate::advice::{Advice, fixed};
+use advice_sentences::{Advice, fixed, sentence};
 use fault_places::{Words, bytes_of, rest_from};
 use nft_lexer::LexFault;
 use std::alloc::Global;
@@ -44,14 +44,17 @@ fn letter_advice(rest: &[u8]) -> &'static str {
 /// What to do about a number or an address.
 fn number_advice(alloc: Global, text: &[u8], offset: usize) -> Advice {
     let rest = rest_from(text, offset);
-    let found = Words::of(alloc, text, rest)?;
-    let word = found.get(0);
     if is_hardware(bytes_of(text, rest)) {
         return fixed(
             alloc,
             "Link headers aren't read: take the match out, or the rule.",
         );
     }
+    numeral_advice(alloc, Words::of(alloc, text, rest)?.get(0))
+}
+
+/// What to do about a word that begins with a digit.
+fn numeral_advice(alloc: Global, word: &str) -> Advice {
     if word.find('.').is_some() {
         return fixed(
             alloc,
@@ -65,7 +68,10 @@ fn number_advice(alloc: Global, text: &[u8], offset: usize) -> Advice {
 }
 
 fn plain_number(alloc: Global, number: &str) -> Advice {
-    Ok(Some(format!(in alloc; "Write `{number}`: a number has no leading zeros.")?))
+    sentence(
+        alloc,
+        &["Write `", number, "`: a number has no leading zeros."],
+    )
 }
 
 /// Whether two digits and a colon stand here, as in a hardware address.

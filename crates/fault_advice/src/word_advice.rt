@@ -1,7 +1,7 @@
 //! What to do where the grammar doesn't allow a word: the word that may be meant, or is missing.
-use crate::advice::{Advice, did_you_mean, did_you_mean_one_of, one_of, write_this};
 use crate::shape_advice::{left_out_advice, shape_advice};
 use crate::stop::Stop;
+use advice_sentences::{Advice, did_you_mean, did_you_mean_one_of, one_of, sentence, write_this};
 use nft_words::{Kind, Near, kinds, near_words, other_words, words_of};
 use std::alloc::{AllocError, Global};
 
@@ -31,6 +31,11 @@ pub fn syntax_advice(stop: &Stop<'_>) -> Advice {
     if let Some(found) = other_word(stop)? {
         return Ok(Some(found));
     }
+    count_advice(stop)
+}
+
+/// A word that is missing, or one too many; or else the words that may stand at the place.
+fn count_advice(stop: &Stop<'_>) -> Advice {
     if let Some(found) = missing_advice(stop)? {
         return Ok(Some(found));
     }
@@ -75,7 +80,7 @@ fn misspelt_advice(stop: &Stop<'_>) -> Advice {
 
 /// The words near the one at the place, in whatever case that is written.
 fn words_near(stop: &Stop<'_>) -> Result<Vec<NearWord>, AllocError> {
-    let here = in_lower_case(stop.alloc, stop.here())?;
+    let here = stop.here().to_ascii_lowercase(stop.alloc)?;
     let mut found = Vec::new(stop.alloc);
     for kind in kinds() {
         add_near(stop.alloc, here.as_str(), kind, &mut found)?;
@@ -90,28 +95,25 @@ fn add_near(
     kind: &'static Kind,
     found: &mut Vec<NearWord>,
 ) -> Result<(), AllocError> {
-    for near in near_words(alloc, word, &kind.words(alloc)?)? {
-        found.push(NearWord { near, kind })?;
+    let words = kind.words(alloc)?;
+    for near in &near_words(alloc, word, &words)? {
+        found.push(NearWord { near: *near, kind })?;
     }
     Ok(())
 }
 
-/// A word without its capitals.
-fn in_lower_case(alloc: Global, word: &str) -> Result<String, AllocError> {
-    let mut lower = String::new(alloc);
-    for letter in word.chars() {
-        lower.push(letter.to_ascii_lowercase())?;
-    }
-    Ok(lower)
-}
-
 /// A word, and the others of its kind that may stand at the place.
 fn nearest_advice(stop: &Stop<'_>, nearest: NearWord) -> Advice {
-    let others = stop.allowed_of(&nearest.kind.words(stop.alloc)?)?;
+    let others = allowed_of_kind(stop, nearest.kind)?;
     if others.len() < 2 || others.len() > MOST_LISTED {
         return did_you_mean(stop.alloc, nearest.near.word);
     }
     did_you_mean_one_of(stop.alloc, nearest.near.word, &others)
+}
+
+/// Those words of a kind that may stand at the place.
+fn allowed_of_kind(stop: &Stop<'_>, kind: &Kind) -> Result<Vec<&'static str>, AllocError> {
+    stop.allowed_of(&kind.words(stop.alloc)?)
 }
 
 /// What is missing before the word at the place.
@@ -163,24 +165,46 @@ fn missing_word(stop: &Stop<'_>) -> Advice {
 fn missing_of(stop: &Stop<'_>, words: &[&'static str]) -> Result<Vec<&'static str>, AllocError> {
     let mut found = Vec::new(stop.alloc);
     for word in words {
-        let added = format!(in stop.alloc; "{word} {}", stop.here())?;
-        if stop.allows(added.as_str())? {
+        if is_missing(stop, word)? {
             found.push(*word)?;
         }
     }
     Ok(found)
 }
 
+/// Whether the word at the place may follow with this one before it.
+fn is_missing(stop: &Stop<'_>, word: &str) -> Result<bool, AllocError> {
+    let added = [word, " ", stop.here()].concat(stop.alloc)?;
+    stop.allows(added.as_str())
+}
+
 fn expected_before(stop: &Stop<'_>, wanted: &str) -> Advice {
-    Ok(Some(format!(in stop.alloc; "Expected {wanted} before `{}`.", stop.here())?))
+    sentence(
+        stop.alloc,
+        &["Expected ", wanted, " before `", stop.here(), "`."],
+    )
 }
 
 fn expected_word(stop: &Stop<'_>, wanted: &str) -> Advice {
-    Ok(Some(format!(in stop.alloc; "Expected `{wanted}` before `{}`.", stop.here())?))
+    sentence(
+        stop.alloc,
+        &["Expected `", wanted, "` before `", stop.here(), "`."],
+    )
 }
 
 fn expected_either(stop: &Stop<'_>, one: &str, other: &str) -> Advice {
-    Ok(Some(format!(in stop.alloc; "Expected `{one}` or `{other}` before `{}`.", stop.here())?))
+    sentence(
+        stop.alloc,
+        &[
+            "Expected `",
+            one,
+            "` or `",
+            other,
+            "` before `",
+            stop.here(),
+            "`.",
+        ],
+    )
 }
 
 fn value_before(stop: &Stop<'_>) -> Advice {
@@ -188,23 +212,26 @@ fn value_before(stop: &Stop<'_>) -> Advice {
 }
 
 fn missing_behind(stop: &Stop<'_>) -> Advice {
-    Ok(Some(format!(in stop.alloc; "Something is missing behind `{}`.", stop.before(1))?))
+    sentence(
+        stop.alloc,
+        &["Something is missing behind `", stop.before(1), "`."],
+    )
 }
 
 fn brace_behind(stop: &Stop<'_>) -> Advice {
-    Ok(Some(format!(in stop.alloc; "Expected `{{` behind `{}`.", stop.before(1))?))
+    sentence(stop.alloc, &["Expected `{` behind `", stop.before(1), "`."])
 }
 
 /// The name at the place is one of a set or a map.
 fn reference(stop: &Stop<'_>) -> Advice {
-    Ok(Some(format!(in stop.alloc; "Write `@{}`.", stop.here())?))
+    sentence(stop.alloc, &["Write `@", stop.here(), "`."])
 }
 
 /// The word at the place or the one before, where the part can be read without it.
 fn surplus_advice(stop: &Stop<'_>) -> Advice {
     for number in [stop.at, stop.at.saturating_sub(1)] {
         if is_surplus(stop, number)? {
-            return Ok(Some(format!(in stop.alloc; "Take `{}` out.", stop.words.get(number))?));
+            return sentence(stop.alloc, &["Take `", stop.words.get(number), "` out."]);
         }
     }
     Ok(None)
@@ -225,19 +252,23 @@ fn expected_advice(stop: &Stop<'_>) -> Advice {
         0 => Ok(None),
         1..=MOST_LISTED => one_of(stop.alloc, &words),
         _ if stop.here().is_empty() => missing_behind(stop),
-        _ if stop.is_in_rule() => Ok(Some(format!(in stop.alloc;
-            "No statement begins with `{}`.",
-            stop.here()
-        )?)),
+        _ if stop.is_in_rule() => no_statement(stop),
         _ => Ok(None),
     }
+}
+
+fn no_statement(stop: &Stop<'_>) -> Advice {
+    sentence(
+        stop.alloc,
+        &["No statement begins with `", stop.here(), "`."],
+    )
 }
 
 /// The words that may stand at the place.
 fn expected_words(stop: &Stop<'_>) -> Result<Vec<&'static str>, AllocError> {
     let mut words = Vec::new(stop.alloc);
     for kind in kinds() {
-        add_expected(stop, &kind.words(stop.alloc)?, &mut words)?;
+        add_expected(stop, kind, &mut words)?;
     }
     words.sort()?;
     words.dedup();
@@ -247,11 +278,12 @@ fn expected_words(stop: &Stop<'_>) -> Result<Vec<&'static str>, AllocError> {
 /// Adds those words of a kind that may stand at the place, if the first one may.
 fn add_expected(
     stop: &Stop<'_>,
-    kind: &[&'static str],
+    kind: &Kind,
     words: &mut Vec<&'static str>,
 ) -> Result<(), AllocError> {
-    if stop.allows(kind.first().copied().unwrap_or(""))? {
-        words.extend_from_slice(&stop.allowed_of(kind)?)?;
+    let known = kind.words(stop.alloc)?;
+    if stop.allows(known.first().copied().unwrap_or(""))? {
+        words.extend_from_slice(&stop.allowed_of(&known)?)?;
     }
     Ok(())
 }

@@ -1,6 +1,6 @@
 //! What is around a fault of a ruleset.
 use crate::names::{Declared, declared_in};
-use fault_places::{Level, Words, holds, part_around, rest_from, spans};
+use fault_places::{Level, Span, Words, holds, part_around, rest_from, spans};
 use std::alloc::{AllocError, Global};
 
 /// A fault at an offset of a ruleset, and what is around it.
@@ -32,13 +32,8 @@ impl<'a> Around<'a> {
     ) -> Result<Around<'a>, AllocError> {
         let declared = declared_at(alloc, text, offset)?;
         let inside = declared_around(&declared, offset);
-        let rule = part_around(&spans(alloc, text, Level::Rules)?, offset);
-        let part = match (rule, inside) {
-            (Some(rule), _) => rule,
-            (None, Some(item)) => item.part,
-            (None, None) => rest_from(text, 0),
-        };
-        let words = Words::of(alloc, text, part)?;
+        let rule = rule_at(alloc, text, offset)?;
+        let words = Words::of(alloc, text, part_of(text, rule, inside))?;
         let at = words.count_before(offset);
         Ok(Around {
             alloc,
@@ -71,6 +66,20 @@ impl<'a> Around<'a> {
             }
         }
         None
+    }
+}
+
+/// The rule around an offset.
+fn rule_at(alloc: Global, text: &[u8], offset: usize) -> Result<Option<Span>, AllocError> {
+    Ok(part_around(&spans(alloc, text, Level::Rules)?, offset))
+}
+
+/// The rule, or else the declaration, or else the text.
+fn part_of(text: &[u8], rule: Option<Span>, inside: Option<Declared<'_>>) -> Span {
+    match (rule, inside) {
+        (Some(rule), _) => rule,
+        (None, Some(item)) => item.part,
+        (None, None) => rest_from(text, 0),
     }
 }
 

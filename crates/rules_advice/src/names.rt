@@ -17,6 +17,11 @@ impl Declared<'_> {
     pub fn is_chain(self) -> bool {
         self.kind == "chain"
     }
+
+    /// Whether it is a chain that isn't a base chain, or else a set or a map.
+    fn is_listed(self, chains: bool) -> bool {
+        self.is_chain() == chains && !self.is_base
+    }
 }
 
 /// What a table declares, in the order of the text.
@@ -45,15 +50,16 @@ fn declaration<'a>(alloc: Global, text: &'a [u8], part: Span) -> Result<Declared
     })
 }
 
-/// The names of chains that aren't base chains, or else of sets and maps.
-pub fn names_of<'a>(
+/// The names of chains that aren't base chains, or else of sets and maps; but not this one.
+pub fn names_but<'a>(
     alloc: Global,
     declared: &[Declared<'a>],
     chains: bool,
+    own: &str,
 ) -> Result<Vec<&'a str>, AllocError> {
     let mut names = Vec::new(alloc);
     for item in declared {
-        if item.is_chain() == chains && !item.is_base {
+        if item.is_listed(chains) && item.name != own {
             names.push(item.name)?;
         }
     }

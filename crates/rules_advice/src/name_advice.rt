@@ -1,8 +1,8 @@
 //! What to do about a name that stands twice, or isn't declared.
-use crate::advice::{Advice, did_you_mean, fixed, names_are, nearest_of};
 use crate::around::Around;
-use crate::names::{Declared, interfaces, names_of};
-use fault_places::{Level, Span, Words, holds, position_at, spans};
+use crate::names::{Declared, declared_in, interfaces, names_but};
+use advice_sentences::{Advice, did_you_mean, fixed, names_are, nearest_of, sentence};
+use fault_places::{Level, Span, Words, part_around, position_at, rest_from, spans};
 use nft_words::nearest;
 use std::alloc::{AllocError, Global};
 
@@ -11,20 +11,25 @@ const MOST_NAMES: usize = 12;
 
 /// The line that has the same name before.
 pub fn duplicate_advice(around: &Around<'_>) -> Advice {
-    let first = match around.inside {
-        Some(item) => same_before(around, item),
-        None => table_before(around)?,
-    };
-    let Some(first) = first else {
-        return Ok(None);
-    };
-    if first.start > around.text.len() {
-        return Ok(None);
+    match first_of_name(around)? {
+        Some(first) if first.start <= around.text.len() => line_advice(
+            around.alloc,
+            position_at(around.text, first.start).line,
+        ),
+        _ => Ok(None),
     }
-    let line = position_at(around.text, first.start).line;
-    Ok(Some(format!(in around.alloc;
-        "Line {line} has that name: give this one a name of its own."
-    )?))
+}
+
+fn line_advice(alloc: Global, line: usize) -> Advice {
+    Ok(Some(format!(in alloc; "Line {line} has that name: give this one a name of its own.")?))
+}
+
+/// What has the same name before.
+fn first_of_name(around: &Around<'_>) -> Result<Option<Span>, AllocError> {
+    match around.inside {
+        Some(item) => Ok(same_before(around, item)),
+        None => table_before(around),
+    }
 }
 
 /// The declaration of the same name before one; a set and a map share their names.
@@ -41,29 +46,13 @@ fn same_before(around: &Around<'_>, second: Declared<'_>) -> Option<Span> {
 /// The table of the same family and name before the one at the place.
 fn table_before(around: &Around<'_>) -> Result<Option<Span>, AllocError> {
     let tables = spans(around.alloc, around.text, Level::Tables)?;
-    let Some(wanted) = name_around(around, &tables)? else {
+    let Some(own) = part_around(&tables, around.offset) else {
         return Ok(None);
     };
+    let wanted = table_name(around.alloc, around.text, own)?;
     for table in &tables {
-        if table_name(around.alloc, around.text, *table)? == wanted {
-            return Ok(if table.end <= around.offset {
-                Some(*table)
-            } else {
-                None
-            });
-        }
-    }
-    Ok(None)
-}
-
-/// The family and the name of the table at the place.
-fn name_around<'a>(
-    around: &Around<'a>,
-    tables: &[Span],
-) -> Result<Option<(&'a str, &'a str)>, AllocError> {
-    for table in tables {
-        if holds(*table, around.offset) {
-            return Ok(Some(table_name(around.alloc, around.text, *table)?));
+        if table.end <= around.offset && table_name(around.alloc, around.text, *table)? == wanted {
+            return Ok(Some(*table));
         }
     }
     Ok(None)
@@ -105,7 +94,14 @@ fn chain_of(around: &Around<'_>, names: &[&str]) -> Advice {
 }
 
 fn copy_chain(alloc: Global, name: &str) -> Advice {
-    Ok(Some(format!(in alloc; "`{name}` is a chain of another table: copy it into this one.")?))
+    sentence(
+        alloc,
+        &[
+            "`",
+            name,
+            "` is a chain of another table: copy it into this one.",
+        ],
+    )
 }
 
 /// The chains that can be called from the one at the place.
@@ -114,20 +110,14 @@ fn callable<'a>(around: &Around<'a>) -> Result<Vec<&'a str>, AllocError> {
         Some(chain) => chain.name,
         None => "",
     };
-    let mut names = Vec::new(around.alloc);
-    for name in names_of(around.alloc, &around.declared, true)? {
-        if name != own {
-            names.push(name)?;
-        }
-    }
-    Ok(names)
+    names_but(around.alloc, &around.declared, true, own)
 }
 
 /// Whether some table has a chain of this name.
 fn is_elsewhere(around: &Around<'_>, name: &str) -> Result<bool, AllocError> {
-    for part in &spans(around.alloc, around.text, Level::Declarations)? {
-        let words = Words::of(around.alloc, around.text, *part)?;
-        if words.get(0) == "chain" && words.get(1) == name {
+    let text = rest_from(around.text, 0);
+    for item in &declared_in(around.alloc, around.text, text)? {
+        if item.is_chain() && item.name == name {
             return Ok(true);
         }
     }
@@ -136,13 +126,16 @@ fn is_elsewhere(around: &Around<'_>, name: &str) -> Result<bool, AllocError> {
 
 /// The set or map that may be meant.
 pub fn set_advice(around: &Around<'_>) -> Advice {
-    set_of(around, &names_of(around.alloc, &around.declared, false)?)
+    set_of(
+        around,
+        &names_but(around.alloc, &around.declared, false, "")?,
+    )
 }
 
 /// The one of these sets and maps that may be meant.
 fn set_of(around: &Around<'_>, names: &[&str]) -> Advice {
     if let Some(near) = nearest(around.alloc, around.here(), names)? {
-        return Ok(Some(format!(in around.alloc; "Did you mean `@{near}`?")?));
+        return sentence(around.alloc, &["Did you mean `@", near, "`?"]);
     }
     if names.is_empty() {
         return fixed(
@@ -171,9 +164,16 @@ fn interface_of(around: &Around<'_>, names: &[&str]) -> Advice {
 }
 
 fn by_name(alloc: Global, selector: &str, name: &str) -> Advice {
-    Ok(Some(format!(in alloc;
-        "Write `{selector}name \"{name}\"`: it compares names, and asks for no interface on the box."
-    )?))
+    sentence(
+        alloc,
+        &[
+            "Write `",
+            selector,
+            "name \"",
+            name,
+            "\"`: it compares names, and asks for no interface on the box.",
+        ],
+    )
 }
 
 /// The names of a kind, up to some number.

@@ -1,6 +1,6 @@
 //! What to do about a fault of a box file.
-use crate::advice::{Advice, fixed, names_are, nearest_of};
 use crate::names::interfaces;
+use advice_sentences::{Advice, fixed, names_are, nearest_of};
 use box_file::BoxFault;
 use fault_places::{Span, shown};
 use std::alloc::Global;
@@ -9,7 +9,7 @@ use std::alloc::Global;
 static LINES: [&str; 4] = ["interface", "route", "default", "idle"];
 
 /// What to do about the fault of a line of a box file, if it is known.
-pub fn box_advice(alloc: Global, text: &[u8], fault: BoxFault, line: Span) -> Advice {
+pub fn advice_on_box(alloc: Global, text: &[u8], fault: BoxFault, line: Span) -> Advice {
     let line = shown(text, line);
     match fault {
         BoxFault::Form => form_advice(alloc, line.split_whitespace().next().unwrap_or("")),
@@ -36,17 +36,20 @@ fn form_advice(alloc: Global, first: &str) -> Advice {
             return Ok(Some(near));
         }
     }
-    fixed(
-        alloc,
-        match first {
-            "interface" => "Write it as `interface 2 lan 192.168.1.1/24`.",
-            "route" => "Write it as `route 10.0.0.0/8 lan`, its host bits zero.",
-            "default" => "Write it as `default lan`, on one line alone.",
-            "idle" =>
-                "Write it as `idle udp 120`: udp, established, transitory, ask or other, and seconds.",
-            _ => "A line begins with `interface`, `route`, `default` or `idle`.",
-        },
-    )
+    fixed(alloc, form_of(first))
+}
+
+/// The form of the lines that begin with a word.
+fn form_of(first: &str) -> &'static str {
+    match first {
+        "interface" => "Write it as `interface 2 lan 192.168.1.1/24`.",
+        "route" => "Write it as `route 10.0.0.0/8 lan`, its host bits zero.",
+        "default" => "Write it as `default lan`, on one line alone.",
+        "idle" => {
+            "Write it as `idle udp 120`: udp, established, transitory, ask or other, and seconds."
+        }
+        _ => "A line begins with `interface`, `route`, `default` or `idle`.",
+    }
 }
 
 /// The interface that may be meant by a line's last word, if it has two.

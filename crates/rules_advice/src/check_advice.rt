@@ -1,9 +1,9 @@
 //! What to do about a fault of a ruleset as a whole.
-use crate::advice::{Advice, fixed, greatest_is};
 use crate::around::Around;
 use crate::name_advice::{chain_advice, duplicate_advice, interface_advice, set_advice};
 use crate::type_advice::type_advice;
 use crate::value_advice::value_advice;
+use advice_sentences::{Advice, fixed, greatest_is, sentence};
 use rule_check::CheckFault;
 use std::alloc::Global;
 
@@ -27,8 +27,22 @@ static MATCHES: [&str; 11] = [
     "ip", "tcp", "udp", "th", "icmp", "meta", "ct", "iifname", "oifname", "iif", "oif",
 ];
 
+/// What to do about a fault at an offset of a ruleset that can be parsed, if it is known.
+///
+/// # Errors
+/// `AllocError` for want of memory.
+pub fn advice_on_rules(
+    alloc: Global,
+    text: &[u8],
+    plant: &[u8],
+    fault: CheckFault,
+    offset: usize,
+) -> Advice {
+    check_advice(&Around::new(alloc, text, plant, offset)?, fault)
+}
+
 /// What to do about a fault, if it is known.
-pub fn check_advice(around: &Around<'_>, fault: CheckFault) -> Advice {
+fn check_advice(around: &Around<'_>, fault: CheckFault) -> Advice {
     match fault {
         CheckFault::DuplicateName => duplicate_advice(around),
         CheckFault::NoSuchChain => chain_advice(around),
@@ -59,10 +73,14 @@ fn sentence_of(fault: CheckFault) -> &'static str {
 
 /// What to do about a base chain that is called.
 fn split(around: &Around<'_>) -> Advice {
-    Ok(Some(format!(in around.alloc;
-        "Put the rules of `{}` into a chain without a `type` line, and jump to that from both.",
-        around.here()
-    )?))
+    sentence(
+        around.alloc,
+        &[
+            "Put the rules of `",
+            around.here(),
+            "` into a chain without a `type` line, and jump to that from both.",
+        ],
+    )
 }
 
 /// The chain in which a NAT statement has its place.
@@ -74,9 +92,10 @@ fn nat(around: &Around<'_>) -> Advice {
             "dnat" | "redirect" => "type nat hook prerouting priority dstnat;",
             _ => continue,
         };
-        return Ok(Some(format!(in around.alloc;
-            "`{statement}` goes into a chain with `{head}`."
-        )?));
+        return sentence(
+            around.alloc,
+            &["`", statement, "` goes into a chain with `", head, "`."],
+        );
     }
     Ok(None)
 }
@@ -111,30 +130,42 @@ fn end_of_rule(around: &Around<'_>) -> Option<usize> {
 /// What to do about a word of this number behind the word that ends the rule.
 fn surplus_advice(around: &Around<'_>, end: &str, number: usize) -> Advice {
     let word = around.words.get(number);
-    let moved = match word {
-        "counter" | "log" | "notrack" => word,
-        "meta" | "ct" if around.words.has("set") => "mark set",
-        _ => "",
-    };
+    let moved = moved_before(around, word);
     if !moved.is_empty() {
         return move_before(around.alloc, moved, end);
     }
-    if MATCHES.contains(&word) {
-        return ends_rule(
-            around.alloc,
-            end,
-            "begin another one behind it, on a new line",
-        );
+    let instead = if MATCHES.contains(&word) {
+        "begin another one behind it, on a new line"
+    } else {
+        "take out what stands behind it"
+    };
+    ends_rule(around.alloc, end, instead)
+}
+
+/// The statement that a word begins, where it can stand before the end of its rule; else empty.
+fn moved_before<'a>(around: &Around<'a>, word: &'a str) -> &'a str {
+    match word {
+        "counter" | "log" | "notrack" => word,
+        "meta" | "ct" if around.words.has("set") => "mark set",
+        _ => "",
     }
-    ends_rule(around.alloc, end, "take out what stands behind it")
 }
 
 fn move_before(alloc: Global, word: &str, end: &str) -> Advice {
-    Ok(Some(format!(in alloc; "Write `{word}` before `{end}`, which ends the rule.")?))
+    sentence(
+        alloc,
+        &[
+            "Write `",
+            word,
+            "` before `",
+            end,
+            "`, which ends the rule.",
+        ],
+    )
 }
 
 fn ends_rule(alloc: Global, end: &str, instead: &str) -> Advice {
-    Ok(Some(format!(in alloc; "`{end}` ends the rule: {instead}.")?))
+    sentence(alloc, &["`", end, "` ends the rule: ", instead, "."])
 }
 
 fn too_large(around: &Around<'_>) -> Advice {

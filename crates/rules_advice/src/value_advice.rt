@@ -1,10 +1,10 @@
 //! What to do about a value that isn't of its type.
-use crate::advice::{
-    Advice, did_you_mean_one_of, fixed, greatest_is, no_value, one_of, write_this,
-};
 use crate::around::Around;
 use crate::name_advice::unquoted;
 use crate::types::{Type, compared_types, greatest, types_of_set};
+use advice_sentences::{
+    Advice, did_you_mean_one_of, fixed, greatest_is, no_value, one_of, sentence, write_this,
+};
 use nft_words::{nearest, other_words, words_of};
 use std::alloc::{AllocError, Global};
 
@@ -41,12 +41,14 @@ fn values_advice(around: &Around<'_>, types: &[Type], first: usize) -> Advice {
 /// What to do about a value of one type, if it isn't of it.
 fn part_advice(alloc: Global, of: Type, value: &[&str]) -> Advice {
     match value {
-        [first, "-", last] if is_reversed(first, last) => {
-            return range_advice(alloc, first, last);
-        }
-        [_, "/", length] => return prefix_advice(alloc, of, length),
-        _ => {}
+        [first, "-", last] if is_reversed(first, last) => range_advice(alloc, first, last),
+        [_, "/", length] => prefix_advice(alloc, of, length),
+        _ => words_advice(alloc, of, value),
     }
+}
+
+/// What to do about the first word of a value that is none of a type.
+fn words_advice(alloc: Global, of: Type, value: &[&str]) -> Advice {
     for word in value {
         if let Some(found) = word_advice(alloc, of, word)? {
             return Ok(Some(found));
@@ -56,7 +58,7 @@ fn part_advice(alloc: Global, of: Type, value: &[&str]) -> Advice {
 }
 
 fn range_advice(alloc: Global, first: &str, last: &str) -> Advice {
-    Ok(Some(format!(in alloc; "Write `{last}-{first}`.")?))
+    sentence(alloc, &["Write `", last, "-", first, "`."])
 }
 
 /// What to do about numbers and strings that aren't compared.
@@ -216,11 +218,15 @@ fn otherwise(
     word: &str,
     known: &[&str],
 ) -> Result<Option<&'static str>, AllocError> {
-    for other in other_words(alloc, word)? {
-        let is_port = of == "inet_service" && other.parse::<u16>().is_ok();
-        if is_port || known.contains(&other) {
-            return Ok(Some(other));
+    for other in &other_words(alloc, word)? {
+        if is_port(of, other) || known.contains(other) {
+            return Ok(Some(*other));
         }
     }
     Ok(None)
+}
+
+/// Whether a word is the number of a port, where the type is that of ports.
+fn is_port(of: Type, word: &str) -> bool {
+    of == "inet_service" && word.parse::<u16>().is_ok()
 }

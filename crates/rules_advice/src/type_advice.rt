@@ -1,8 +1,8 @@
 //! What to do about types that don't fit.
-use crate::advice::{Advice, fixed, nearest_of, no_value, one_of};
 use crate::around::Around;
 use crate::names::Declared;
-use crate::types::{SetTypes, Type, compared_types, joined, types_of_set};
+use crate::types::{SetTypes, Type, compared_types, types_of_set};
+use advice_sentences::{Advice, fixed, nearest_of, no_value, one_of, sentence};
 use nft_words::words_of;
 use std::alloc::Global;
 
@@ -34,15 +34,25 @@ fn advice_on_set(around: &Around<'_>, set: Declared<'_>) -> Advice {
 }
 
 fn set_for_map(alloc: Global, name: &str) -> Advice {
-    Ok(Some(format!(in alloc;
-        "`@{name}` is a set: name a map, or take out `vmap` or `map` before it."
-    )?))
+    sentence(
+        alloc,
+        &[
+            "`@",
+            name,
+            "` is a set: name a map, or take out `vmap` or `map` before it.",
+        ],
+    )
 }
 
 fn map_for_set(alloc: Global, name: &str) -> Advice {
-    Ok(Some(format!(in alloc;
-        "`@{name}` is a map: write `vmap` or `map` before it, or name a set."
-    )?))
+    sentence(
+        alloc,
+        &[
+            "`@",
+            name,
+            "` is a map: write `vmap` or `map` before it, or name a set.",
+        ],
+    )
 }
 
 /// What to do about the types of a set or a map of this name.
@@ -56,13 +66,20 @@ fn advice_on_types(around: &Around<'_>, name: &str, types: &SetTypes) -> Advice 
 
 /// What is compared is of other types than the keys of a set or a map.
 fn other_keys(alloc: Global, name: &str, compared: &[Type], keys: &[Type]) -> Advice {
-    let compared = joined(alloc, compared)?;
-    let keys = joined(alloc, keys)?;
-    Ok(Some(format!(in alloc;
-        "What is compared is {}, the keys of `@{name}` are {}.",
-        compared.as_str(),
-        keys.as_str()
-    )?))
+    let compared = compared.join(alloc, " . ")?;
+    let keys = keys.join(alloc, " . ")?;
+    sentence(
+        alloc,
+        &[
+            "What is compared is ",
+            compared.as_str(),
+            ", the keys of `@",
+            name,
+            "` are ",
+            keys.as_str(),
+            ".",
+        ],
+    )
 }
 
 /// What to do about the data of a map of this name.
@@ -70,14 +87,33 @@ fn advice_on_data(around: &Around<'_>, name: &str, types: &SetTypes) -> Advice {
     let Some(data) = types.data else {
         return Ok(None);
     };
-    let wanted = if around.before(2) == "vmap" {
+    other_data(around.alloc, name, data, data_wanted(around))
+}
+
+fn other_data(alloc: Global, name: &str, data: &str, wanted: &str) -> Advice {
+    sentence(
+        alloc,
+        &[
+            "The data of `@",
+            name,
+            "` are ",
+            data,
+            ": ",
+            wanted,
+            " is wanted.",
+        ],
+    )
+}
+
+/// The type of the data that a rule wants of a map.
+fn data_wanted(around: &Around<'_>) -> Type {
+    if around.before(2) == "vmap" {
         "verdict"
     } else if around.words.has_before(around.at, "to") {
         "ipv4_addr"
     } else {
         "mark"
-    };
-    Ok(Some(format!(in around.alloc; "The data of `@{name}` are {data}: {wanted} is wanted.")?))
+    }
 }
 
 /// What to do about an element of a set or a map.
@@ -148,15 +184,23 @@ fn advice_on_rule(around: &Around<'_>) -> Advice {
     }
     let types = compared_types(around.alloc, &around.words, around.at)?;
     match types.last() {
-        Some(of) if has_order(around) && is_ordered(*of) => fixed(
-            around.alloc,
-            "An order compares with one value: write `==` before a range or a prefix.",
-        ),
-        Some(of) => Ok(Some(format!(in around.alloc;
-            "{of} has no order: compare with `==`, `!=` or a set."
-        )?)),
+        Some(of) => order_advice(around, *of),
         None => Ok(None),
     }
+}
+
+/// What to do about a comparison with a value of a type.
+fn order_advice(around: &Around<'_>, of: Type) -> Advice {
+    if has_order(around) && is_ordered(of) {
+        return fixed(
+            around.alloc,
+            "An order compares with one value: write `==` before a range or a prefix.",
+        );
+    }
+    sentence(
+        around.alloc,
+        &[of, " has no order: compare with `==`, `!=` or a set."],
+    )
 }
 
 /// Whether a rule compares by an order up to the place.

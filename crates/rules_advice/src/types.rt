@@ -53,26 +53,53 @@ static ENDS: [&str; 7] = [
     "comment",
 ];
 
+/// The greatest numbers of the types whose values are numbers.
+static GREATEST: [(Type, u64); 11] = [
+    ("inet_service", 65_535),
+    (SHORT, 65_535),
+    ("inet_proto", 255),
+    ("tcp_flag", 255),
+    ("icmp_type", 255),
+    ("nf_proto", 255),
+    ("ct_dir", 255),
+    (BYTE, 255),
+    ("mark", 4_294_967_295),
+    ("iface_index", 4_294_967_295),
+    (LONG, 4_294_967_295),
+];
+
 /// The greatest number of a type; none where numbers aren't its values.
 pub fn greatest(of: Type) -> Option<u64> {
-    match of {
-        "inet_service" | SHORT => Some(65_535),
-        "inet_proto" | "tcp_flag" | "icmp_type" | "nf_proto" | "ct_dir" | BYTE => Some(255),
-        "mark" | "iface_index" | LONG => Some(4_294_967_295),
-        _ => None,
+    for (known, most) in &GREATEST {
+        if *known == of {
+            return Some(*most);
+        }
     }
+    None
 }
 
 /// The type of the selector that begins at a word.
 fn type_at(words: &Words<'_>, number: usize) -> Option<Type> {
-    let (word, next) = (words.get(number), words.get(number.saturating_add(1)));
+    let word = words.get(number);
     if words.before(number, 1) != "meta" {
-        match word {
-            "iifname" | "oifname" => return Some("ifname"),
-            "iif" | "oif" => return Some("iface_index"),
-            _ => {}
+        if let Some(of) = type_of_interface(word) {
+            return Some(of);
         }
     }
+    type_of_pair(word, words.get(number.saturating_add(1)))
+}
+
+/// The type of a selector of one word: an interface.
+fn type_of_interface(word: &str) -> Option<Type> {
+    match word {
+        "iifname" | "oifname" => Some("ifname"),
+        "iif" | "oif" => Some("iface_index"),
+        _ => None,
+    }
+}
+
+/// The type of a selector of two words.
+fn type_of_pair<'a>(word: &'a str, next: &'a str) -> Option<Type> {
     for (first, second, of) in &SELECTORS {
         if *first == word && *second == next {
             return Some(*of);
@@ -125,12 +152,7 @@ fn types_in(alloc: Global, words: &Words<'_>, names: &[Type]) -> Result<SetTypes
     for number in first..words.len() {
         let word = words.get(number);
         is_data = is_data || word == ":";
-        let found = if by_selectors && word != "verdict" {
-            type_at(words, number)
-        } else {
-            named(names, word)
-        };
-        match found {
+        match declared_type(words, number, by_selectors, names) {
             Some(data) if is_data => {
                 types.data = Some(data);
                 break;
@@ -141,6 +163,20 @@ fn types_in(alloc: Global, words: &Words<'_>, names: &[Type]) -> Result<SetTypes
         }
     }
     Ok(types)
+}
+
+/// The type that a word of a declaration says: by a selector, or by its name.
+fn declared_type(
+    words: &Words<'_>,
+    number: usize,
+    by_selectors: bool,
+    names: &[Type],
+) -> Option<Type> {
+    let word = words.get(number);
+    if by_selectors && word != "verdict" {
+        return type_at(words, number);
+    }
+    named(names, word)
 }
 
 /// The number of the first word of a set's types, and whether they go by selectors.
@@ -163,16 +199,4 @@ fn named(types: &[Type], name: &str) -> Option<Type> {
         }
     }
     None
-}
-
-/// Types for people: `ipv4_addr . inet_service`.
-pub fn joined(alloc: Global, types: &[Type]) -> Result<String, AllocError> {
-    let mut list = String::new(alloc);
-    for part in types {
-        if !list.is_empty() {
-            list.push_str(" . ")?;
-        }
-        list.push_str(part)?;
-    }
-    Ok(list)
 }
