@@ -131,7 +131,7 @@ fn overlay<V: Copy + Eq>(
     ensures first_values { IfOk result
         (λ pieces. SameFirstValues pieces.items (upper.now ++ lower.now)) }
 {
-    let mut pieces = Vec::new(alloc);
+    let mut pieces = Vec::with_capacity(alloc, upper.len() + lower.len())?;
     let mut left = upper;
     for &(range, value) in lower {
         left = append_under(&mut pieces, left, range, value)?;

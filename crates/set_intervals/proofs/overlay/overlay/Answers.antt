@@ -6,7 +6,7 @@ use Rattle.set_intervals.proofs.overlay.overlay.Goals as goal
 
 pub loop-range-init : goal.loop-range-init
 loop-range-init g c =
-    let none = c.new-pieces.ensures.items in
+    let none = c.in_ok-pieces.ensures.items in
     record {
       table = table_none _ none;
       follows = table_follows _ c.args.upper.now none c.requires.upper;
