@@ -1,5 +1,5 @@
 -- Values, elements of sets and maps, and references to both (nft(8), "Sets", "Maps", "Elements", "Verdict
--- statement"; the EBNF is (own), as in docs/LANGUAGE.md).
+-- statement"; the EBNF is (own), as in docs/SPEC.md).
 use Rattle.std.specs.Prelude.{◌≡◌, List, [], ◌∷◌, ◌++◌, ◌⊎◌, Option, codes, Bool, true, false, ◌||◌, not}
 use Rattle.std.specs.Str.{bytes_eq}
 use Rattle.nft_lexer.specs.declared.token.Punctuator.TheVariants.{OpenBrace, CloseBrace, Comma, Colon, Dot, Slash, Minus, At}

@@ -17,7 +17,7 @@ use nft_rulesets::{has_unsupported, ruleset};
 use nft_tree::Ruleset;
 use std::alloc::Global;
 
-/// Parses the text of a ruleset (nft(8), the profile of docs/LANGUAGE.md).
+/// Parses the text of a ruleset (nft(8), the profile of docs/SPEC.md).
 ///
 /// # Errors
 ///

@@ -1,5 +1,5 @@
 -- Matches (nft(8), "Expressions", "Payload expressions", "Meta expressions", "Conntrack expressions"; the
--- EBNF is (own), as in docs/LANGUAGE.md).
+-- EBNF is (own), as in docs/SPEC.md).
 use Rattle.std.specs.Prelude.{List, [], ◌∷◌, ◌++◌, Bool, true, false, cond, ◌&&◌, Option, Some, None, option_map}
 use Rattle.std.specs.List.{list_all}
 use Rattle.std.specs.Option.{unwrap_or}

@@ -1,4 +1,4 @@
--- Rules (nft(8), "Rules", "Statements"; the EBNF is (own), as in docs/LANGUAGE.md).
+-- Rules (nft(8), "Rules", "Statements"; the EBNF is (own), as in docs/SPEC.md).
 use Rattle.std.specs.Prelude.{ℕ, List, ◌∷◌, Option, Some, None, option_map, codes, IsTrue, [], false, cond}
 use Rattle.std.specs.Option.{unwrap_or}
 use Rattle.nft_lexer.specs.declared.token.Punctuator.TheVariants.{Colon, Minus}

@@ -1,4 +1,4 @@
--- Chains (nft(8), "Chains"; the EBNF is (own), as in docs/LANGUAGE.md).
+-- Chains (nft(8), "Chains"; the EBNF is (own), as in docs/SPEC.md).
 use Rattle.std.specs.Prelude.{ℕ, List, [], ◌∷◌, Option, Some, None, codes}
 use Rattle.std.specs.Option.{unwrap_or}
 use Rattle.nft_lexer.specs.declared.token.Punctuator.TheVariants as punctuators

@@ -1,4 +1,4 @@
--- Tables and rulesets (nft(8), "Ruleset", "Tables"; the EBNF is (own), as in docs/LANGUAGE.md).
+-- Tables and rulesets (nft(8), "Ruleset", "Tables"; the EBNF is (own), as in docs/SPEC.md).
 use Rattle.std.specs.Prelude.{List, [], ◌∷◌, ◌++◌, false, codes}
 use Rattle.std.specs.Option.{unwrap_or}
 use Rattle.nft_lexer.specs.declared.token.Punctuator.TheVariants as punctuators

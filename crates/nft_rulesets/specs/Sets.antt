@@ -1,4 +1,4 @@
--- Named sets and maps (nft(8), "Sets", "Maps"; the EBNF is (own), as in docs/LANGUAGE.md).
+-- Named sets and maps (nft(8), "Sets", "Maps"; the EBNF is (own), as in docs/SPEC.md).
 use Rattle.std.specs.Prelude.{ℕ, List, [], ◌∷◌, Option, Some, None, option_map, option_and_then, Bool, true, false}
 use Rattle.std.specs.Prelude.{cond, codes}
 use Rattle.std.specs.Str.{bytes_eq}

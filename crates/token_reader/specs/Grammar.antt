@@ -1,4 +1,4 @@
--- Grammars over tokens. A production defines by its EBNF what spells a part (docs/LANGUAGE.md; the notation
+-- Grammars over tokens. A production defines by its EBNF what spells a part (docs/SPEC.md; the notation
 -- is (own)). Its parser and its lookahead sets (`specs/steps/Parser.antt`) come with it; nobody has to
 -- believe them.
 use Rattle.std.specs.Prelude.{◌≡◌, ℕ, List, [], ◌∷◌, Bool, ◌⊎◌, Option, Some, None, IsTrue}
