@@ -1,9 +1,9 @@
 -- The lists of a set after a key left one or joined one, or none changed.
 use Rattle.std.proofs.Common.{◌≡◌, ◌≢◌, ℕ, ◌-◌, ◌<◌, ◌≤◌, List, [], ◌∷◌, ◌++◌, cond, Option, Some, None, refl, sym, ap, ◌∙◌, subst, inl, inr}
 use Rattle.std.specs.Prelude.{option_map}
-use Rattle.aged_tracker.proofs.Names.{IsRing, IsRing-kept, IsRings, Link, Pushes, SameExceptLinks, SameLists, Slab, Slot, Unlinks, Updates, cases_eq, cases_lt}
-use Rattle.aged_tracker.proofs.Names.{except_links, held_at, held_of, keys_of, le-ltb, link_at, link_by, lists_of, next_of, number, owner_by, owner_of, prev_of}
-use Rattle.aged_tracker.proofs.Names.{same_Some}
+use Rattle.aged_tracker.proofs.Names.{IsRing, IsRing-kept, IsRings, Link, Next, Previous, Pushes, SameExceptLinks, SameLists, Slab, Slot, Unlinks, Updates}
+use Rattle.aged_tracker.proofs.Names.{except_links, held_at, held_of, keys_of, le-ltb, link_at, link_by, lists_of, neighbour, owner_by, owner_of}
+use Rattle.aged_tracker.proofs.Names.{cases_eq, cases_lt, same_Some}
 use Rattle.std.proofs.lemmas.Bool.{lt-ltb}
 use Rattle.slab.specs.Slab.{get}
 use Rattle.futures.specs.LinkedLists.{without}
@@ -114,10 +114,9 @@ module _ (old new : Slab Slot) (heads : List Link)
 
   same_ring : (list : ℕ) (keys : List ℕ) → list < 5 → IsRing old heads list keys → IsRing new heads list keys
   same_ring list keys range ring =
-      IsRing-kept (next_of old heads) (prev_of old heads) (next_of new heads)
-      (prev_of new heads) 5 (owner_of old) (owner_of new) list keys ring
-      (λ p on. ap (λ (x : Link). number x.next) (same_link p))
-      (λ p on. ap (λ (x : Link). number x.prev) (same_link p))
+      IsRing-kept _ _ _ _ 5 _ _ list keys ring
+      (λ p on. ap (neighbour Next) (same_link p))
+      (λ p on. ap (neighbour Previous) (same_link p))
       (λ k is. owners k ∙ is)
       (λ k is. sym (owners k) ∙ is)
 

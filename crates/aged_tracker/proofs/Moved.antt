@@ -2,8 +2,8 @@
 use Rattle.std.proofs.Common.{◌≡◌, ◌≢◌, ℕ, ◌+◌, ◌<◌, List, [], ◌∷◌, ◌++◌, Option, Some, None, IsSome, refl, sym, ap, ◌∙◌, subst, inl, inr}
 use Rattle.std.specs.Prelude.{IfSome, option_map}
 use Rattle.aged_tracker.proofs.Names.{Inserts, IsIn, IsOn, IsRing, IsRing-kept, IsRing-push, IsRing-skip, Joins, Link, ListLinks, Relinks, SameExceptLinks}
-use Rattle.aged_tracker.proofs.Names.{Slab, Slot, Updates, cases_eq, except_links, free_not_on, link_at, next_of, next_on, none-some, number, owner_by}
-use Rattle.aged_tracker.proofs.Names.{owner_of, prev_end_on, prev_of, prev_on, rings_apart, same_Some, with_links}
+use Rattle.aged_tracker.proofs.Names.{Next, Previous, Slab, Slot, Updates, cases_eq, except_links, free_not_on, link_at, neighbour, next_of, next_on}
+use Rattle.aged_tracker.proofs.Names.{none-some, owner_by, owner_of, prev_end_on, prev_of, prev_on, rings_apart, same_Some, with_links}
 use Rattle.slab.specs.Slab.{get}
 use Rattle.futures.specs.LinkedLists.{without}
 use Rattle.aged_tracker.proofs.Links.{Relinks-slot, links_but, some_of}
@@ -29,10 +29,7 @@ module _ (old new : Slab Slot) (heads heads' : List Link) (key : ℕ) where
   pub ring_left : Skipped → (list : ℕ) (keys : List ℕ) → list < 5 → IsRing old heads list keys
       → owner_of old key ≡ Some list → IsRing new heads' list (without key keys)
   ring_left skipped list keys range ring owned =
-      IsRing-skip (next_of old heads) (prev_of old heads) (next_of new heads')
-      (prev_of new heads') 5 (owner_of old)
-      (owner_of new) list keys key range ring owned skipped.next skipped.prev skipped.left
-      skipped.others
+      IsRing-skip _ _ _ _ 5 _ _ list keys key range ring owned skipped.next skipped.prev skipped.left skipped.others
 
   pub ring_others : Skipped → OwnRing old heads key → (list : ℕ) (keys : List ℕ) → list < 5
       → IsRing old heads list keys → owner_of old key ≢ Some list
@@ -51,8 +48,7 @@ module _ (old new : Slab Slot) (heads heads' : List Link) (key : ℕ) where
       (subst (IsOn 5 list keys) e on') in
       let not_it : (k : ℕ) → owner_of old k ≡ Some list → k ≢ key =
       λ k is e. other (ap (owner_of old) (sym e) ∙ is) in
-      IsRing-kept (next_of old heads) (prev_of old heads) (next_of new heads')
-      (prev_of new heads') 5 (owner_of old) (owner_of new) list keys ring
+      IsRing-kept _ _ _ _ 5 _ _ list keys ring
       (λ p on. skipped.next.others p (off p (prev (5 + key)) before on))
       (λ p on. skipped.prev.others p (off p (next (5 + key)) after on))
       (λ k is. skipped.others k (not_it k is) ∙ is)
@@ -72,9 +68,7 @@ module _ (old new : Slab Slot) (heads heads' : List Link) (key : ℕ) where
   module _ (list : ℕ) (range : list < 5) (spliced : Spliced list) (free : owner_of old key ≡ None) where
     pub ring_pushed : (keys : List ℕ) → IsRing old heads list keys → IsRing new heads' list (keys ++ key ∷ [])
     ring_pushed keys ring =
-        IsRing-push (next_of old heads) (prev_of old heads) (next_of new heads')
-        (prev_of new heads') 5 (owner_of old)
-        (owner_of new) list keys key range ring free spliced.links spliced.joined spliced.others
+        IsRing-push _ _ _ _ 5 _ _ list keys key range ring free spliced.links spliced.joined spliced.others
 
     pub ring_beside : (own : List ℕ) → IsRing old heads list own → (other : ℕ) (keys : List ℕ) → other < 5
         → other ≢ list → IsRing old heads other keys → IsRing new heads' other keys
@@ -89,8 +83,7 @@ module _ (old new : Slab Slot) (heads heads' : List Link) (key : ℕ) where
         (subst (IsOn 5 other keys) e on') in
         let off' : (p : ℕ) → IsOn 5 other keys p → p ≢ 5 + key =
         λ p on e. free_not_on next prev 5 (owner_of old) other keys key range' ring free (subst (IsOn 5 other keys) e on) in
-        IsRing-kept (next_of old heads) (prev_of old heads) (next_of new heads')
-        (prev_of new heads') 5 (owner_of old) (owner_of new) other keys ring
+        IsRing-kept _ _ _ _ 5 _ _ other keys ring
         (λ p on. spliced.links.nexts p (off p (prev list) last on) (off' p on))
         (λ p on. spliced.links.prevs p (off p list head on) (off' p on))
         (λ k is. spliced.others k (λ e. none-some other (sym free ∙ ap (owner_of old) (sym e) ∙ is)) ∙ is)
@@ -122,10 +115,21 @@ placed old new key links some wrote =
       ];
     }
 
--- the same links written again
-pub unmoved : (old new : ℕ → Link) (node : ℕ) (link : Link) → Relinks old new node link → link ≡ old node → (p : ℕ) → new p ≡ old p
-unmoved old new node link relinks was p =
-    elim (cases_eq p node) [ inl e ↦ ap new e ∙ relinks.here ∙ was ∙ sym (ap old e) | inr d ↦ relinks.others p d ]
+-- a write of the links of one node keeps this part of all
+pub unmoved : (part : Link → ℕ) (old new : ℕ → Link) (node : ℕ) (link : Link) → Relinks old new node link
+    → part link ≡ part (old node) → (p : ℕ) → part (new p) ≡ part (old p)
+unmoved part old new node link relinks was p =
+    elim (cases_eq p node) [
+      | inl e ↦ ap (λ q. part (new q)) e ∙ ap part relinks.here ∙ was ∙ sym (ap (λ q. part (old q)) e)
+      | inr d ↦ ap part (relinks.others p d)
+    ]
+
+-- the links of one node are set between writes that keep this part of links
+pub joined : (part : Link → ℕ) (old new mid mid' : ℕ → Link) (at : ℕ) (link : Link) → Relinks mid mid' at link
+    → ((p : ℕ) → part (mid p) ≡ part (old p)) → ((p : ℕ) → part (new p) ≡ part (mid' p))
+    → Joins (λ p. part (old p)) (λ p. part (new p)) at (part link)
+joined part old new mid mid' at link set before after =
+    record { here = after at ∙ ap part set.here; others = λ p d. after p ∙ ap part (set.others p d) ∙ before p }
 
 -- a change at a key that is in no list, before or after, keeps each circular list
 pub ring_stays : (old new : Slab Slot) (key : ℕ) (slot : Option Slot) → Updates old new key slot
@@ -143,9 +147,8 @@ ring_stays old new key slot updates free free' heads list keys range ring =
       | inl e ↦ ap (owner_of new) e ∙ free' ∙ sym (ap (owner_of old) e ∙ free)
       | inr d ↦ ap owner_by (updates.others k d)
     ] in
-    IsRing-kept (next_of old heads) (prev_of old heads) (next_of new heads)
-    (prev_of new heads) 5 (owner_of old) (owner_of new) list keys ring
-    (λ p on. ap (λ (x : Link). number x.next) (same p (off p on)))
-    (λ p on. ap (λ (x : Link). number x.prev) (same p (off p on)))
+    IsRing-kept _ _ _ _ 5 _ _ list keys ring
+    (λ p on. ap (neighbour Next) (same p (off p on)))
+    (λ p on. ap (neighbour Previous) (same p (off p on)))
     (λ k is. owners k ∙ is)
     (λ k is. sym (owners k) ∙ is)

@@ -2,12 +2,11 @@
 //! they read or write.
 ghost use Rattle.std.specs.Prelude.{◌≡◌, ◌+◌, ◌<◌, ◌≤◌, ◌++◌, ◌∷◌, [], ℕ, List, Some, None, IfSome, slice_get};
 ghost use Rattle.slab.specs.Slab.{ContainsKey};
-ghost use Rattle.futures.specs.Links.{Joins};
-ghost use Rattle.aged_tracker.specs.steps.SlotLists.{MAX_KEYS, number, link_at, next_of, prev_of, owner_of, keys_of};
+ghost use Rattle.aged_tracker.specs.steps.SlotLists.{MAX_KEYS, number, link_at, owner_of, keys_of, with_neighbour, Relinks};
 ghost use Rattle.aged_tracker.specs.steps.SlotLists.{lists_of, IsOwned, IsNode, IsRings, Pushes, SameExceptLinks};
 ghost use Rattle.aged_tracker.specs.steps.SlotLists.{SameExceptNeighbours, SameSize, Slots as SlotsName, Unlinks};
 
-use crate::slot::{LISTS, Link, ListLinks, NodeIndex};
+use crate::slot::{LISTS, Link, ListLinks, Neighbour, NodeIndex};
 use crate::slots::Slots;
 use conntrack::Steps;
 
@@ -20,19 +19,19 @@ fn head_link(heads: &[Link; LISTS], list: usize) -> Link
     heads[list]
 }
 
-/// Sets the next node of a node.
-fn set_next(
+/// Sets a neighbour of a node.
+#[inline(always)]
+fn set_neighbour(
     slots: &mut Slots,
     heads: &mut [Link; LISTS],
     at: NodeIndex,
+    neighbour: Neighbour,
     to: NodeIndex,
     steps: &mut Steps,
 )
     requires { IsNode slots.old (number at) }
-    ensures next { Joins (next_of slots.old heads.old)
-        (next_of slots.new heads.new) (number at) (number to) }
-    ensures prev { (p : ℕ) → prev_of slots.new heads.new p
-        ≡ prev_of slots.old heads.old p }
+    ensures links { Relinks (link_at slots.old heads.old) (link_at slots.new heads.new)
+        (number at) (with_neighbour neighbour to (link_at slots.old heads.old (number at))) }
     ensures except_neighbours { SameExceptNeighbours slots.old slots.new }
     ensures size { SameSize slots.old slots.new }
     ensures rises { steps.old ≤ steps.new }
@@ -40,33 +39,8 @@ fn set_next(
     ensures head { number at < 5 → steps.new ≤ steps.old }
 {
     match at.key() {
-        Some(key) => slots.set_next(key, to, steps),
-        None => heads[at.number()].next = to,
-    }
-}
-
-/// Sets the previous node of a node.
-fn set_prev(
-    slots: &mut Slots,
-    heads: &mut [Link; LISTS],
-    at: NodeIndex,
-    to: NodeIndex,
-    steps: &mut Steps,
-)
-    requires { IsNode slots.old (number at) }
-    ensures prev { Joins (prev_of slots.old heads.old)
-        (prev_of slots.new heads.new) (number at) (number to) }
-    ensures next { (p : ℕ) → next_of slots.new heads.new p
-        ≡ next_of slots.old heads.old p }
-    ensures except_neighbours { SameExceptNeighbours slots.old slots.new }
-    ensures size { SameSize slots.old slots.new }
-    ensures rises { steps.old ≤ steps.new }
-    ensures steps { steps.new ≤ steps.old + 1 }
-    ensures head { number at < 5 → steps.new ≤ steps.old }
-{
-    match at.key() {
-        Some(key) => slots.set_prev(key, to, steps),
-        None => heads[at.number()].prev = to,
+        Some(key) => slots.set_neighbour(key, neighbour, to, steps),
+        None => heads[at.number()].set(neighbour, to),
     }
 }
 
@@ -86,8 +60,8 @@ pub fn unlink(slots: &mut Slots, heads: &mut [Link; LISTS], key: usize, steps: &
 {
     let links = slots.take_links(key, steps);
     let Link { prev, next } = links.link;
-    set_next(slots, heads, prev, next, steps);
-    set_prev(slots, heads, next, prev, steps);
+    set_neighbour(slots, heads, prev, Neighbour::Next, next, steps);
+    set_neighbour(slots, heads, next, Neighbour::Previous, prev, steps);
     match links.list {
         Some(list) => usize::from(list),
         None => unreachable!(),
@@ -126,8 +100,8 @@ pub fn push_back(
         },
     };
     slots.set_links(key, links, steps);
-    set_next(slots, heads, last, slot, steps);
-    set_prev(slots, heads, head, slot, steps);
+    set_neighbour(slots, heads, last, Neighbour::Next, slot, steps);
+    set_neighbour(slots, heads, head, Neighbour::Previous, slot, steps);
 }
 
 /// The first key of a list.

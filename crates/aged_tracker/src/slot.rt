@@ -5,7 +5,7 @@ ghost use Rattle.conntrack.specs.ConntrackEntry.{connection_ref, is_live};
 ghost use Rattle.aged_tracker.specs.steps.Keyed.{belonging_of};
 ghost use Rattle.aged_tracker.specs.steps.Packed.{tuple_of};
 ghost use Rattle.aged_tracker.specs.steps.Table.{idle_at, queue_by, queue_in, queue_number};
-ghost use Rattle.aged_tracker.specs.steps.SlotLists.{MAX_KEYS, held_of, key_at, touched_slot, number};
+ghost use Rattle.aged_tracker.specs.steps.SlotLists.{MAX_KEYS, held_of, key_at, touched_slot, number, with_neighbour};
 
 use crate::packed::{PackedTuple, is_same};
 use box_file::{IdleKind, Limits};
@@ -94,6 +94,13 @@ impl NodeIndex {
     }
 }
 
+/// A neighbour of a node in its list.
+#[derive(Clone, Copy)]
+pub enum Neighbour {
+    Previous,
+    Next,
+}
+
 /// The neighbours of a node in its list.
 #[derive(Clone, Copy)]
 pub struct Link {
@@ -114,6 +121,17 @@ impl Link {
         Link {
             prev: head,
             next: head,
+        }
+    }
+
+    /// Sets one of them.
+    #[inline(always)]
+    pub fn set(&mut self, neighbour: Neighbour, to: NodeIndex)
+        ensures { self.new ≡ with_neighbour neighbour to self.old }
+    {
+        match neighbour {
+            Neighbour::Previous => self.prev = to,
+            Neighbour::Next => self.next = to,
         }
     }
 }

@@ -4,11 +4,11 @@ ghost use Rattle.std.specs.Prelude.{◌≡◌, ◌+◌, ◌<◌, [], List, IsTru
 ghost use Rattle.slab.specs.Slab.{entries, get, slab_len, ContainsKey, Updates};
 ghost use Rattle.conntrack.specs.StepCounts.{Counts};
 ghost use Rattle.conntrack.specs.ConntrackEntry.{touched};
-ghost use Rattle.aged_tracker.specs.steps.SlotLists.{held_of, link_at, owner_of, updated, with_link, with_links, Fills, SameSize};
+ghost use Rattle.aged_tracker.specs.steps.SlotLists.{held_of, link_at, owner_of, updated, with_link, with_links, with_neighbour, Fills, SameSize};
 ghost use Rattle.aged_tracker.specs.steps.Table.{numbered_key, queue_of};
 ghost use Rattle.aged_tracker.specs.declared.slot.Link.{Link as Linked};
 
-use crate::slot::{Link, ListLinks, NodeIndex, Slot};
+use crate::slot::{Link, ListLinks, Neighbour, NodeIndex, Slot};
 use conntrack::{ConntrackEntry, Direction, Flags, Moment, Steps};
 use slab::Slab;
 use std::alloc::{AllocError, Global};
@@ -187,27 +187,22 @@ impl Slots {
         self.slab[key].links = links;
     }
 
-    /// Sets the next node of one.
-    pub fn set_next(&mut self, key: usize, to: NodeIndex, steps: &mut Steps)
+    /// Sets a neighbour of one.
+    #[inline(always)]
+    pub fn set_neighbour(
+        &mut self,
+        key: usize,
+        neighbour: Neighbour,
+        to: NodeIndex,
+        steps: &mut Steps,
+    )
         requires { ContainsKey self.old key }
         ensures slots { IfSome (get self.old key) (λ s. Updates self.old self.new key
-            (Some (with_link (record s.links.link { next = to }) s))) }
+            (Some (with_link (with_neighbour neighbour to s.links.link) s))) }
         ensures size { SameSize self.old self.new }
         ensures steps { Counts 1 steps.old steps.new }
     {
         steps.tick();
-        self.slab[key].links.link.next = to;
-    }
-
-    /// Sets the previous node of one.
-    pub fn set_prev(&mut self, key: usize, to: NodeIndex, steps: &mut Steps)
-        requires { ContainsKey self.old key }
-        ensures slots { IfSome (get self.old key) (λ s. Updates self.old self.new key
-            (Some (with_link (record s.links.link { prev = to }) s))) }
-        ensures size { SameSize self.old self.new }
-        ensures steps { Counts 1 steps.old steps.new }
-    {
-        steps.tick();
-        self.slab[key].links.link.prev = to;
+        self.slab[key].links.link.set(neighbour, to);
     }
 }

@@ -13,6 +13,8 @@ use Rattle.aged_tracker.specs.steps.Packed.{mapping_of, tuple_of}
 use Rattle.aged_tracker.specs.declared.slot.NodeIndex.{NodeIndex}
 use Rattle.aged_tracker.specs.declared.slot.ListLinks.{ListLinks}
 use Rattle.aged_tracker.specs.declared.slot.Link.{Link}
+use Rattle.aged_tracker.specs.declared.slot.Neighbour.{Neighbour}
+use Rattle.aged_tracker.specs.declared.slot.Neighbour.TheVariants.{Previous, Next}
 use Rattle.aged_tracker.specs.declared.slot.Slot.{Slot}
 
 -- ---- slots
@@ -86,6 +88,16 @@ number at = at.0
 abbrev pub no_link : Link
 no_link = record { prev = record { 0 = 0 }; next = record { 0 = 0 } }
 
+-- a neighbour by these links
+abbrev pub neighbour : Neighbour → Link → ℕ
+neighbour Previous link = number link.prev
+neighbour Next link = number link.next
+
+-- links with one neighbour set
+abbrev pub with_neighbour : Neighbour → NodeIndex → Link → Link
+with_neighbour Previous to link = record link { prev = to }
+with_neighbour Next to link = record link { next = to }
+
 abbrev pub link_by : Option Slot → Link
 link_by None = no_link
 link_by (Some slot) = slot.links.link
@@ -96,10 +108,10 @@ link_at slots heads node =
     if nat_lt node 5 then slice_index_or heads node no_link else link_by (get slots (node - 5))
 
 abbrev pub next_of : Slab Slot → List Link → ℕ → ℕ
-next_of slots heads node = number (link_at slots heads node).next
+next_of slots heads node = neighbour Next (link_at slots heads node)
 
 abbrev pub prev_of : Slab Slot → List Link → ℕ → ℕ
-prev_of slots heads node = number (link_at slots heads node).prev
+prev_of slots heads node = neighbour Previous (link_at slots heads node)
 
 abbrev pub owner_by : Option Slot → Option ℕ
 owner_by None = None

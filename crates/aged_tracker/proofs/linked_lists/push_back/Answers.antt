@@ -1,61 +1,61 @@
-use Rattle.std.proofs.Common.{◌≡◌, ◌≢◌, ℕ, ◌+◌, Some, ap, sym, ◌∙◌, arith}
-use Rattle.aged_tracker.proofs.Names.{Link, free_not_on, keys_of, next_of, number, owner_of, prev_end_on, prev_of}
+use Rattle.std.proofs.Common.{◌≡◌, ◌≢◌, ℕ, ◌+◌, Some, refl, ap, ◌∙◌, arith}
+use Rattle.aged_tracker.proofs.Names.{Next, Previous, free_not_on, keys_of, link_at, neighbour, next_of, number, owner_of, prev_end_on, prev_of}
 use Rattle.aged_tracker.proofs.Links.{bare_owner, on_place, aside_kept, aside_place}
-use Rattle.aged_tracker.proofs.Moved.{Spliced, Placed, placed}
+use Rattle.aged_tracker.proofs.Moved.{Spliced, Placed, joined, placed, unmoved}
 use Rattle.aged_tracker.proofs.Kept.{rings_pushed, lists_pushed}
 use Rattle.aged_tracker.proofs.linked_lists.push_back.Goals as goal
-use Rattle.aged_tracker.proofs.linked_lists.push_back.Goals.{After-set_links, After-set_prev}
+use Rattle.aged_tracker.proofs.linked_lists.push_back.Goals.{After-set_links, After-set_neighbour-2}
 
 -- its links are written
 own : (c : After-set_links) → Placed c.args.slots.now c.set_links.new.self c.args.key
     (record { list = Some c.args.list; link = record { prev = c.head_link.result.prev; next = c.head-head.result } })
-own c = placed c.args.slots.now c.set_links.new.self c.args.key
-    (record { list = Some c.args.list; link = record { prev = c.head_link.result.prev; next = c.head-head.result } })
-    c.requires.slot c.set_links.ensures.slots
+own c = placed _ _ c.args.key _ c.requires.slot c.set_links.ensures.slots
 
-pub set_next-requires : goal.set_next-requires
-set_next-requires c =
+pub set_neighbour-requires : goal.set_neighbour-requires
+set_neighbour-requires c =
     let keys = keys_of c.args.slots.now c.args.heads.now c.args.list in
     let ring = c.requires.rings c.args.list c.requires.range in
-    let b = ap (λ (l : Link). number l.prev) (c.head_link.ensures c.args.slots.now) in
-    aside_place c.args.slots.now c.set_links.new.self (own (goal.at.set_next-requires c).After-set_links).same
+    let b = ap (neighbour Previous) (c.head_link.ensures c.args.slots.now) in
+    aside_place c.args.slots.now c.set_links.new.self (own (goal.at.set_neighbour-requires c).After-set_links).same
     (number c.head_link.result.prev)
     (on_place c.args.slots.now c.args.heads.now c.args.list keys (number c.head_link.result.prev) c.requires.range ring
     (rw b (prev_end_on _ _ 5 c.args.list keys c.args.list ring.chained)))
 
-spliced : (c : After-set_prev) → Spliced c.args.slots.now c.set_prev.new.slots c.args.heads.now
-    c.set_prev.new.heads c.args.key c.args.list
+spliced : (c : After-set_neighbour-2) → Spliced c.args.slots.now c.set_neighbour-2.new.slots c.args.heads.now
+    c.set_neighbour-2.new.heads c.args.key c.args.list
 spliced c =
     let keys = keys_of c.args.slots.now c.args.heads.now c.args.list in
     let ring = c.requires.rings c.args.list c.requires.range in
-    let p = placed c.args.slots.now c.set_links.new.self c.args.key
-    (record { list = Some c.args.list; link = record { prev = c.head_link.result.prev; next = c.head-head.result } })
-    c.requires.slot c.set_links.ensures.slots in
+    let p = placed _ _ c.args.key _ c.requires.slot c.set_links.ensures.slots in
     let linked = p.link c.args.heads.now in
-    let b = ap (λ (l : Link). number l.prev) (c.head_link.ensures c.args.slots.now) in
+    let b = ap (neighbour Previous) (c.head_link.ensures c.args.slots.now) in
     let head : number c.head-head.result ≡ c.args.list = c.head-head.ensures in
     let here : number c.slot-slot.result ≡ 5 + c.args.key = c.slot-slot.ensures in
-    let next = rw here at c.set_next.ensures.next in
-    let prev = rw (here, head) at c.set_prev.ensures.prev in
+    let first = c.set_neighbour.ensures.links in
+    let second = c.set_neighbour-2.ensures.links in
+    let set = link_at c.set_links.new.self c.args.heads.now in
+    let new = link_at c.set_neighbour-2.new.slots c.set_neighbour-2.new.heads in
+    let next = rw (b, here) at (joined (neighbour Next) set new _ _ _ _ first (λ p. refl)
+    (unmoved (neighbour Next) _ _ _ _ second refl)) in
+    let prev = rw (here, head) at (joined (neighbour Previous) set new _ _ _ _ second
+    (unmoved (neighbour Previous) _ _ _ _ first refl) (λ p. refl)) in
     let apart : 5 + c.args.key ≢ prev_of c.args.slots.now c.args.heads.now c.args.list = λ e.
     free_not_on (next_of c.args.slots.now c.args.heads.now)
     (prev_of c.args.slots.now c.args.heads.now) 5 (owner_of c.args.slots.now)
     c.args.list keys c.args.key c.requires.range ring c.requires.free
     (rw e (prev_end_on _ _ 5 c.args.list keys c.args.list ring.chained)) in
     let not_head : 5 + c.args.key ≢ c.args.list = λ e. omega (arith, c.requires.range, e) in
-    let owners : (k : ℕ) → owner_of c.set_prev.new.slots k ≡ owner_of c.set_links.new.self k =
-    λ k. bare_owner c.set_next.new.slots c.set_prev.new.slots c.set_prev.ensures.except_neighbours k
-    ∙ bare_owner c.set_links.new.self c.set_next.new.slots c.set_next.ensures.except_neighbours k in
+    let owners : (k : ℕ) → owner_of c.set_neighbour-2.new.slots k ≡ owner_of c.set_links.new.self k =
+    bare_owner c.set_links.new.self c.set_neighbour-2.new.slots
+    (λ k. c.set_neighbour-2.ensures.except_neighbours k ∙ c.set_neighbour.ensures.except_neighbours k) in
     record {
       links = record {
-        into = c.set_prev.ensures.next _ ∙ ap (next_of c.set_next.new.slots c.set_next.new.heads) (sym b) ∙ next.here;
-        out = c.set_prev.ensures.next _ ∙ next.others (5 + c.args.key) (λ e. apart (e ∙ b))
-            ∙ ap (λ (x : Link). number x.next) linked.here ∙ head;
+        into = next.here;
+        out = next.others (5 + c.args.key) apart ∙ ap (neighbour Next) linked.here ∙ head;
         back_into = prev.here;
-        back_out = prev.others (5 + c.args.key) not_head ∙ c.set_next.ensures.prev (5 + c.args.key)
-            ∙ ap (λ (x : Link). number x.prev) linked.here ∙ b;
-        nexts = λ p d e. c.set_prev.ensures.next p ∙ next.others p (λ f. d (f ∙ b)) ∙ ap (λ (x : Link). number x.next) (linked.others p e);
-        prevs = λ p d e. prev.others p d ∙ c.set_next.ensures.prev p ∙ ap (λ (x : Link). number x.prev) (linked.others p e);
+        back_out = prev.others (5 + c.args.key) not_head ∙ ap (neighbour Previous) linked.here ∙ b;
+        nexts = λ p d e. next.others p d ∙ ap (neighbour Next) (linked.others p e);
+        prevs = λ p d e. prev.others p d ∙ ap (neighbour Previous) (linked.others p e);
       };
       joined = owners c.args.key ∙ p.owner;
       others = λ k d. owners k ∙ p.others k d;
@@ -64,15 +64,15 @@ spliced c =
 pub returns-clause-rings : goal.returns-clause-rings
 returns-clause-rings c =
     rings_pushed _ _ _ _ c.args.key c.args.list c.requires.rings c.requires.range c.requires.free
-    (spliced (goal.at.returns-clause-rings c).After-set_prev)
+    (spliced (goal.at.returns-clause-rings c).After-set_neighbour-2)
 
 pub returns-clause-lists : goal.returns-clause-lists
 returns-clause-lists c =
     lists_pushed _ _ _ _ c.args.key c.args.list c.requires.rings c.requires.range c.requires.free
-    (spliced (goal.at.returns-clause-lists c).After-set_prev)
+    (spliced (goal.at.returns-clause-lists c).After-set_neighbour-2)
 
 pub returns-clause-except_links : goal.returns-clause-except_links
 returns-clause-except_links c k =
-    aside_kept c.set_next.new.slots c.set_prev.new.slots c.set_prev.ensures.except_neighbours k
-    ∙ aside_kept c.set_links.new.self c.set_next.new.slots c.set_next.ensures.except_neighbours k
+    aside_kept c.set_links.new.self c.set_neighbour-2.new.slots
+    (λ j. c.set_neighbour-2.ensures.except_neighbours j ∙ c.set_neighbour.ensures.except_neighbours j) k
     ∙ (own (goal.at.returns-clause-except_links c).After-set_links).same k
