@@ -12,21 +12,14 @@ pub incoming-reply : (h : ConntrackEntry) → is_incoming h.reply h ≡ true
 incoming-reply h = or_right _ _ (same_tuple-refl h.reply)
 
 module _ (s : ℕ → Option ConntrackEntry) (at : Tuple → Option ℕ) (keyed : IsKeyed s at) where
-  pub owner_at : (key : ℕ) (h : ConntrackEntry) (tuple : Tuple) → s key ≡ Some h → is_incoming tuple h ≡ true → at tuple ≡ Some key
-  owner_at key h tuple is owned =
-      elim (or_cases (same_tuple h.original tuple) (same_tuple h.reply tuple) owned) [
-        | inl e ↦ ap at (sym (same_tuple-true h.original tuple e)) ∙ keyed.original key h is
-        | inr e ↦ ap at (sym (same_tuple-true h.reply tuple e)) ∙ keyed.reply key h is
-      ]
-
   pub one_owner : (key other : ℕ) (h x : ConntrackEntry) (tuple : Tuple) → s key ≡ Some h → s other ≡ Some x
       → is_incoming tuple h ≡ true → is_incoming tuple x ≡ true → key ≡ other
   one_owner key other h x tuple is is' owned owned' =
-      same_Some key other (sym (owner_at key h tuple is owned) ∙ owner_at other x tuple is' owned')
+      same_Some key other (sym (keyed.kept tuple key h is owned) ∙ keyed.kept tuple other x is' owned')
 
   pub no_owner : (tuple : Tuple) → at tuple ≡ None → (key : ℕ) (h : ConntrackEntry) → s key ≡ Some h → is_incoming tuple h ≡ false
   no_owner tuple none key h is =
-      false_from_ne_true (is_incoming tuple h) (λ t. none-some key (sym none ∙ owner_at key h tuple is t))
+      false_from_ne_true (is_incoming tuple h) (λ t. none-some key (sym none ∙ keyed.kept tuple key h is t))
 
   pub taken_none : (keys : List ℕ) (tuple : Tuple) → at tuple ≡ None → is_taken tuple (held_in s keys) ≡ false
   taken_none keys tuple none = any_none (is_incoming tuple) s keys (λ k x found is. no_owner tuple none k x is)
@@ -69,7 +62,7 @@ module _ (old new : ℕ → Option ConntrackEntry) (at at' : Tuple → Option �
     (now : (q : Tuple) → at' q ≡ cond (same_tuple h.reply q) (Some key) (cond (same_tuple h.original q) (Some key) (at q))) where
   not_it : (k : ℕ) (x : ConntrackEntry) (tuple : Tuple) → old k ≡ Some x → is_incoming tuple x ≡ true → at' tuple ≡ Some k
   not_it k x tuple is owned =
-      let was = owner_at old at keyed k x tuple is owned in
+      let was = keyed.kept tuple k x is owned in
       let differs : (q : Tuple) → at q ≡ None → same_tuple q tuple ≡ false =
       λ q none. elim (cases_Bool (same_tuple q tuple)) [
         | inl e ↦ absurd (none-some k (sym none ∙ ap at (same_tuple-true q tuple e) ∙ was))
@@ -110,10 +103,7 @@ module _ (old new : ℕ → Option ConntrackEntry) (at at' : Tuple → Option �
               ∙ cond-false (same_tuple h.original tuple) (Some key) (at tuple) parts.0) ∙ is) in
               (was.0, (updates.others k (λ e. none-some was.0 (sym free ∙ ap old (sym e) ∙ was.1.0)) ∙ was.1.0, was.1.1))
         ];
-        original = either_slot (λ k x. at' x.original ≡ Some k) (is_it h.original (incoming-original h))
-            (λ k x is. not_it k x x.original is (incoming-original x));
-        reply = either_slot (λ k x. at' x.reply ≡ Some k) (is_it h.reply (incoming-reply h))
-            (λ k x is. not_it k x x.reply is (incoming-reply x));
+        kept = λ tuple. either_slot (λ k x. is_incoming tuple x ≡ true → at' tuple ≡ Some k) (is_it tuple) (λ k x is. not_it k x tuple is);
       }
 
 -- an entry that is removed
@@ -133,7 +123,7 @@ module _ (old new : ℕ → Option ConntrackEntry) (at at' : Tuple → Option �
       let parts = or_parts (same_tuple h.original tuple) (same_tuple h.reply tuple) other in
       now tuple ∙ cond-false (same_tuple h.reply tuple) None _ parts.1
       ∙ cond-false (same_tuple h.original tuple) None (at tuple) parts.0
-      ∙ owner_at old at keyed k x tuple was.1 owned
+      ∙ keyed.kept tuple k x was.1 owned
 
   pub keyed_ended : IsKeyed new at'
   keyed_ended =
@@ -151,33 +141,13 @@ module _ (old new : ℕ → Option ConntrackEntry) (at at' : Tuple → Option �
                     (was.0, (updates.others k differs ∙ was.1.0, was.1.1))
               ]
             ];
-        original = λ k x is'. still_at k x x.original is' (incoming-original x);
-        reply = λ k x is'. still_at k x x.reply is' (incoming-reply x);
+        kept = λ tuple k x is'. still_at k x tuple is';
       }
 
 -- an entry that keeps its tuples
 module _ (old new : ℕ → Option ConntrackEntry) (at : Tuple → Option ℕ) (key : ℕ) (h h' : ConntrackEntry)
     (keyed : IsKeyed old at) (updates : Sets old new key (Some h')) (is : old key ≡ Some h)
     (o : h'.original ≡ h.original) (r : h'.reply ≡ h.reply) where
-  before : (k : ℕ) (x : ConntrackEntry) → new k ≡ Some x
-      → (y : ConntrackEntry) × ((old k ≡ Some y) × ((x.original ≡ y.original) × (x.reply ≡ y.reply)))
-  before k x is' =
-      elim (cases_eq k key) [
-        | inl e ↦
-            let same : h' ≡ x = same_Some h' x (sym updates.changed ∙ ap new (sym e) ∙ is') in (
-              h,
-              (
-                ap old e ∙ is,
-                (
-                  ap (λ (z : ConntrackEntry). z.original) (sym same)
-                      ∙ o,
-                  ap (λ (z : ConntrackEntry). z.reply) (sym same) ∙ r,
-                ),
-              ),
-            )
-        | inr d ↦ (x, (sym (updates.others k d) ∙ is', (refl, refl)))
-      ]
-
   pub keyed_touched : IsKeyed new at
   keyed_touched =
       record {
@@ -190,6 +160,11 @@ module _ (old new : ℕ → Option ConntrackEntry) (at : Tuple → Option ℕ) (
                   (h', (ap new e ∙ updates.changed, rw (o, r) owned))
               | inr d ↦ (was.0, (updates.others k d ∙ was.1.0, was.1.1))
             ];
-        original = λ k x is'. let b = before k x is' in ap at b.1.1.0 ∙ keyed.original k b.0 b.1.0;
-        reply = λ k x is'. let b = before k x is' in ap at b.1.1.1 ∙ keyed.reply k b.0 b.1.0;
+        kept = λ tuple k x is' owned. elim (cases_eq k key) [
+          | inl e ↦
+              let same : x ≡ h' = same_Some x h' (sym is' ∙ ap new e ∙ updates.changed) in
+              let its : is_incoming tuple h' ≡ true = ap (is_incoming tuple) (sym same) ∙ owned in
+              keyed.kept tuple k h (ap old e ∙ is) (rw (o, r) at its)
+          | inr d ↦ keyed.kept tuple k x (sym (updates.others k d) ∙ is') owned
+        ];
       }

@@ -109,8 +109,7 @@ aged_grown t new at at' live aged table held same now =
       table = table;
       keyed = record {
         found = λ tuple k is. let was = aged.keyed.found tuple k (sym (now tuple) ∙ is) in (was.0, (same k ∙ was.1.0, was.1.1));
-        original = λ k h is. now h.original ∙ aged.keyed.original k h (sym (same k) ∙ is);
-        reply = λ k h is. now h.reply ∙ aged.keyed.reply k h (sym (same k) ∙ is);
+        kept = λ tuple k h is owned. now tuple ∙ aged.keyed.kept tuple k h (sym (same k) ∙ is) owned;
       };
       count = aged.count ∙ sym (ap length held);
     }

@@ -16,8 +16,8 @@ use Rattle.aged_tracker.specs.steps.Table.{IsTable, held_by, slots_of}
 pub record IsKeyed (slots : ℕ → Option ConntrackEntry) (at : Tuple → Option ℕ) : Type 0 where
   pub found : (tuple : Tuple) (key : ℕ) → at tuple ≡ Some key
       → (h : ConntrackEntry) × ((slots key ≡ Some h) × (is_incoming tuple h ≡ true))
-  pub original : (key : ℕ) (h : ConntrackEntry) → slots key ≡ Some h → at h.original ≡ Some key
-  pub reply : (key : ℕ) (h : ConntrackEntry) → slots key ≡ Some h → at h.reply ≡ Some key
+  pub kept : (tuple : Tuple) (key : ℕ) (h : ConntrackEntry) → slots key ≡ Some h → is_incoming tuple h ≡ true
+      → at tuple ≡ Some key
 
 pub record IsConsistent (slots : AgedSlots) (at : Tuple → Option ℕ) (live : ℕ) : Type 0 where
   pub table : IsTable slots
