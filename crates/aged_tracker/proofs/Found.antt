@@ -3,7 +3,7 @@ use Rattle.std.proofs.Common.{◌≡◌, ℕ, ◌+◌, List, [], ◌∷◌, leng
 use Rattle.std.proofs.Common.{◌||◌, ◌&&◌, cond, eqb, refl, sym, ap, ◌∙◌, inl, inr, arith}
 use Rattle.aged_tracker.proofs.Names.{ConnId, ConntrackEntry, Flags, Found, IsAllLive, IsIn, IsKeyed, Limits, NotFound, Reply, Tuple, and_parts, belonging_by}
 use Rattle.aged_tracker.proofs.Names.{belonging_of, belongs_in, cases_Bool, connection_ref, cons_held, eqb-true, find, find-filter, has_distinct_ids, has_id}
-use Rattle.aged_tracker.proofs.Names.{held_in, is_incoming, is_live, list_any, live_at, nat_tests, not-true, of_original, of_reply, or_left, or_parts, or_right}
+use Rattle.aged_tracker.proofs.Names.{held_in, is_incoming, is_live, list_any, live_at, nat_tests, not-true, of_reply, or_left, or_parts, or_right}
 use Rattle.aged_tracker.proofs.Names.{same_Some, same_id, same_tuple}
 use Rattle.std.specs.Prelude.{filter, if◌then◌else◌}
 use Rattle.conntrack.specs.ConntrackEntry.{without}
@@ -28,18 +28,12 @@ module _ (s : ℕ → Option ConntrackEntry) (at : Tuple → Option ℕ) (keyed 
     (flags : Flags) where
   pub belongs_none : at tuple ≡ None → NotFound ≡ belongs_in (live_at limits now (held_in s keys)) tuple flags
   belongs_none none =
-      let o : of_original (live_at limits now (held_in s keys)) tuple ≡ None =
-      find-filter (λ (h : ConntrackEntry). same_tuple h.original tuple) (is_live limits now) (held_in s keys)
-      ∙ find_none (λ h. is_live limits now h && same_tuple h.original tuple) s keys
-      (λ k x is. and_no (is_live limits now x) (same_tuple x.original tuple)
-      (or_parts (same_tuple x.original tuple) (same_tuple x.reply tuple)
-      (no_owner s at keyed tuple none k x is)).0) in
-      let r : of_reply (live_at limits now (held_in s keys)) tuple ≡ None =
-      find-filter (λ (h : ConntrackEntry). same_tuple h.reply tuple) (is_live limits now) (held_in s keys)
-      ∙ find_none (λ h. is_live limits now h && same_tuple h.reply tuple) s keys
-      (λ k x is. and_no (is_live limits now x) (same_tuple x.reply tuple)
-      (or_parts (same_tuple x.original tuple) (same_tuple x.reply tuple)
-      (no_owner s at keyed tuple none k x is)).1) in
+      let no : (f : ConntrackEntry → Bool) → ((x : ConntrackEntry) → is_incoming tuple x ≡ false → f x ≡ false)
+      → find f (live_at limits now (held_in s keys)) ≡ None =
+      λ f off. find-filter f (is_live limits now) (held_in s keys) ∙ find_none (λ h. is_live limits now h && f h) s keys
+      (λ k x is. and_no (is_live limits now x) (f x) (off x (no_owner s at keyed tuple none k x is))) in
+      let o = no (λ h. same_tuple h.original tuple) (λ x e. (or_parts (same_tuple x.original tuple) (same_tuple x.reply tuple) e).0) in
+      let r = no (λ h. same_tuple h.reply tuple) (λ x e. (or_parts (same_tuple x.original tuple) (same_tuple x.reply tuple) e).1) in
       sym (ap (λ a. belonging_by flags a (of_reply (live_at limits now (held_in s keys)) tuple)) o ∙ ap (belonging_by flags None) r)
 
   module _ (key : ℕ) (h : ConntrackEntry) (at_key : at tuple ≡ Some key) (is : s key ≡ Some h) where
@@ -47,17 +41,18 @@ module _ (s : ℕ → Option ConntrackEntry) (at : Tuple → Option ℕ) (keyed 
     owned = let was = keyed.found tuple key at_key in ap (is_incoming tuple) (same_Some h was.0 (sym is ∙ was.1.0)) ∙ was.1.1
 
     find_case : (f : ConntrackEntry → Bool) → ((x : ConntrackEntry) → f x ≡ true → is_incoming tuple x ≡ true)
-        → find f (held_in s keys) ≡ cond (f h) (Some h) None
+        → find f (live_at limits now (held_in s keys)) ≡ cond (is_live limits now h && f h) (Some h) None
     find_case f owns_it =
-        let only : (k : ℕ) (x : ConntrackEntry) → s k ≡ Some x → f x ≡ true → k ≡ key =
-        λ k x is' t. one_owner s at keyed k key x h tuple is' is (owns_it x t) owned in
-        elim (cases_Bool (f h)) [
-          | inl t ↦ find_only f s keys key h (listed key h is) is t only ∙ sym (ap (λ b. cond b (Some h) None) t)
+        let g : ConntrackEntry → Bool = λ x. is_live limits now x && f x in
+        let only : (k : ℕ) (x : ConntrackEntry) → s k ≡ Some x → g x ≡ true → k ≡ key =
+        λ k x is' t. one_owner s at keyed k key x h tuple is' is (owns_it x (and_parts (is_live limits now x) (f x) t).1) owned in
+        find-filter f (is_live limits now) (held_in s keys) ∙ elim (cases_Bool (g h)) [
+          | inl t ↦ find_only g s keys key h (listed key h is) is t only ∙ sym (ap (λ b. cond b (Some h) None) t)
           | inr e ↦
-              find_none f s keys (λ k x is'. elim (cases_Bool (f x)) [
+              find_none g s keys (λ k x is'. elim (cases_Bool (g x)) [
                 | inl t ↦
                     let same : x ≡ h = same_Some x h (sym is' ∙ ap s (only k x is' t) ∙ is) in
-                    not_both (f h) (ap f (sym same) ∙ t) e
+                    not_both (g h) (ap g (sym same) ∙ t) e
                 | inr n ↦ n
               ])
               ∙ sym (ap (λ b. cond b (Some h) None) e)
@@ -66,16 +61,8 @@ module _ (s : ℕ → Option ConntrackEntry) (at : Tuple → Option ℕ) (keyed 
     pub belongs_some : belonging_of limits now tuple flags h ≡ belongs_in (live_at limits now (held_in s keys)) tuple flags
     belongs_some =
         let l = is_live limits now h in
-        let o : of_original (live_at limits now (held_in s keys)) tuple ≡ cond (l && same_tuple h.original tuple) (Some h) None =
-        find-filter (λ (x : ConntrackEntry). same_tuple x.original tuple) (is_live limits now) (held_in s keys)
-        ∙ find_case (λ x. is_live limits now x && same_tuple x.original tuple)
-        (λ x t. or_left (same_tuple x.original tuple) (same_tuple x.reply tuple)
-        (and_parts (is_live limits now x) (same_tuple x.original tuple) t).1) in
-        let r : of_reply (live_at limits now (held_in s keys)) tuple ≡ cond (l && same_tuple h.reply tuple) (Some h) None =
-        find-filter (λ (x : ConntrackEntry). same_tuple x.reply tuple) (is_live limits now) (held_in s keys)
-        ∙ find_case (λ x. is_live limits now x && same_tuple x.reply tuple)
-        (λ x t. or_right (same_tuple x.original tuple) (same_tuple x.reply tuple)
-        (and_parts (is_live limits now x) (same_tuple x.reply tuple) t).1) in
+        let o = find_case (λ x. same_tuple x.original tuple) (λ x t. or_left (same_tuple x.original tuple) (same_tuple x.reply tuple) t) in
+        let r = find_case (λ x. same_tuple x.reply tuple) (λ x t. or_right (same_tuple x.original tuple) (same_tuple x.reply tuple) t) in
         chosen flags h l (same_tuple h.original tuple) (same_tuple h.reply tuple) owned
         ∙ sym (ap (λ a. belonging_by flags a (of_reply (live_at limits now (held_in s keys)) tuple)) o
         ∙ ap (belonging_by flags (cond (l && same_tuple h.original tuple) (Some h) None)) r)
