@@ -45,14 +45,7 @@ impl BaseChain {
     }
 
     fn shares_hook(self, other: BaseChain) -> bool {
-        matches!(
-            (self.hook, other.hook),
-            (Hook::Prerouting, Hook::Prerouting)
-                | (Hook::Input, Hook::Input)
-                | (Hook::Forward, Hook::Forward)
-                | (Hook::Output, Hook::Output)
-                | (Hook::Postrouting, Hook::Postrouting)
-        )
+        self.hook as u8 == other.hook as u8
     }
 
     /// Whether both run in an order of their own on Linux.

@@ -6,8 +6,9 @@ use crate::rules::judge_rules;
 use crate::sets::judge_sets;
 use crate::tokens::Tokens;
 use crate::warning::Warning;
-use fault_places::position_at;
+use fault_places::{Position, position_at};
 use nft_parser::parse;
+use nft_tree::Ruleset;
 use std::alloc::{AllocError, Global};
 
 /// The most warnings that are written.
@@ -53,6 +54,20 @@ impl<'a> Findings<'a> {
         Ok(())
     }
 
+    /// Adds all warnings.
+    fn judge(
+        &mut self,
+        alloc: Global,
+        ruleset: &Ruleset,
+        tokens: &Tokens<'_>,
+        outline: &Outline,
+    ) -> Result<(), AllocError> {
+        judge_layout(tokens, outline, self)?;
+        judge_sets(alloc, ruleset, tokens, outline, self)?;
+        judge_chains(alloc, ruleset, tokens, outline, self)?;
+        judge_rules(alloc, ruleset, tokens, outline, self)
+    }
+
     /// One line for each warning, in the order of the text.
     fn lines(&mut self, alloc: Global, path: &str) -> Result<String, AllocError> {
         self.found.sort_by_key(|finding| finding.offset)?;
@@ -62,13 +77,22 @@ impl<'a> Findings<'a> {
                 continue;
             }
             let place = position_at(self.text, finding.offset);
-            let line = place.line;
-            let column = place.column;
-            let warning = finding.warning;
-            writeln!(lines, "{path}:{line}:{column}: warning: {warning}")?;
+            put_line(&mut lines, path, place, finding.warning)?;
         }
         Ok(lines)
     }
+}
+
+/// Writes the line of a warning.
+fn put_line(
+    lines: &mut String,
+    path: &str,
+    place: Position,
+    warning: Warning,
+) -> Result<(), AllocError> {
+    write!(lines, "{path}:{}:{}: warning: ", place.line, place.column)?;
+    lines.push_str(warning.sentence())?;
+    lines.push('\n')
 }
 
 /// One line for each thing in the text of an accepted ruleset that nft(8) 1.0.6 refuses, or that it
@@ -81,12 +105,14 @@ pub fn warnings(alloc: Global, path: &str, text: &[u8]) -> Result<String, AllocE
     let Ok(ruleset) = parse(alloc, text) else {
         return Ok(String::new(alloc));
     };
+    told(alloc, path, text, &ruleset)
+}
+
+/// The lines of a ruleset's warnings.
+fn told(alloc: Global, path: &str, text: &[u8], ruleset: &Ruleset) -> Result<String, AllocError> {
     let tokens = Tokens::read(alloc, text)?;
     let outline = Outline::read(alloc, &tokens)?;
     let mut findings = Findings::new(alloc, text);
-    judge_layout(&tokens, &outline, &mut findings)?;
-    judge_sets(alloc, &ruleset, &tokens, &outline, &mut findings)?;
-    judge_chains(alloc, &ruleset, &tokens, &outline, &mut findings)?;
-    judge_rules(alloc, &ruleset, &tokens, &outline, &mut findings)?;
+    findings.judge(alloc, ruleset, &tokens, &outline)?;
     findings.lines(alloc, path)
 }

@@ -140,28 +140,25 @@ fn begins_line(text: &[u8], offset: usize) -> bool {
 /// The token at an offset or behind the blanks there. A comment is a mark up to its line's end.
 fn token_at(text: &[u8], from: usize) -> Option<Token> {
     let start = end_of(text, from, is_blank);
-    let first = *text.get(start)?;
-    let next = start.saturating_add(1);
-    let (kind, end) = match first {
-        b'\n' => (TokenKind::Newline, next),
-        b'\\' => return token_behind(text, next),
-        b'#' => (TokenKind::Mark, end_of(text, next, |byte| byte != b'\n')),
-        b'"' => (TokenKind::String, end_of_string(text, next)),
-        b'0'..=b'9' => (TokenKind::Number, end_of_number(text, start)),
-        b'a'..=b'z' | b'A'..=b'Z' | b'_' => (TokenKind::Word, end_of(text, next, continues_word)),
-        _ => (TokenKind::Mark, next),
-    };
-    Some(Token { kind, start, end })
+    match *text.get(start)? {
+        b'\n' => Some(Token {
+            kind: TokenKind::Newline,
+            start,
+            end: start.saturating_add(1),
+        }),
+        b'\\' => token_behind(text, start.saturating_add(1)),
+        first => Some(token_of(text, start, first)),
+    }
 }
 
 /// The token behind a backslash and its newline.
 fn token_behind(text: &[u8], offset: usize) -> Option<Token> {
-    let start = end_of(
-        text,
-        offset,
-        |byte| is_blank(byte) || byte == b'\n' || byte == b'\\',
-    );
-    let first = *text.get(start)?;
+    let start = end_of(text, offset, is_skipped);
+    Some(token_of(text, start, *text.get(start)?))
+}
+
+/// The token that begins with this byte, which is neither a blank nor a newline.
+fn token_of(text: &[u8], start: usize, first: u8) -> Token {
     let next = start.saturating_add(1);
     let (kind, end) = match first {
         b'#' => (TokenKind::Mark, end_of(text, next, |byte| byte != b'\n')),
@@ -170,7 +167,12 @@ fn token_behind(text: &[u8], offset: usize) -> Option<Token> {
         b'a'..=b'z' | b'A'..=b'Z' | b'_' => (TokenKind::Word, end_of(text, next, continues_word)),
         _ => (TokenKind::Mark, next),
     };
-    Some(Token { kind, start, end })
+    Token { kind, start, end }
+}
+
+/// Whether a byte is skipped behind a backslash.
+fn is_skipped(byte: u8) -> bool {
+    is_blank(byte) || matches!(byte, b'\n' | b'\\')
 }
 
 fn is_blank(byte: u8) -> bool {
@@ -215,14 +217,18 @@ fn end_of_number(text: &[u8], start: usize) -> usize {
             |byte| byte.is_ascii_hexdigit(),
         );
     }
-    let first = end_of(text, start, |byte| byte.is_ascii_digit());
+    let first = end_of(text, start, is_digit);
     let mut end = first;
     for _ in 0..3 {
         let group = end.saturating_add(1);
-        if byte_at(text, end) != b'.' || !byte_at(text, group).is_ascii_digit() {
+        if byte_at(text, end) != b'.' || !is_digit(byte_at(text, group)) {
             return first;
         }
-        end = end_of(text, group, |byte| byte.is_ascii_digit());
+        end = end_of(text, group, is_digit);
     }
     end
+}
+
+fn is_digit(byte: u8) -> bool {
+    byte.is_ascii_digit()
 }

@@ -1,5 +1,4 @@
 //! Warnings.
-use std::fmt;
 
 /// What nft(8) 1.0.6 refuses of an accepted ruleset, or means otherwise.
 #[derive(Clone, Copy, PartialEq)]
@@ -46,15 +45,9 @@ pub(crate) enum Warning {
     SingleBit,
 }
 
-/// The sentence, without its end.
-impl fmt::Display for Warning {
-    fn fmt<W: fmt::Write>(&self, f: &mut fmt::Formatter<W>) -> fmt::Result {
-        f.write_str(self.sentence())
-    }
-}
-
 impl Warning {
-    fn sentence(self) -> &'static str {
+    /// The sentence, without its end.
+    pub(crate) fn sentence(self) -> &'static str {
         match self {
             Warning::CarriageReturn => "nft refuses a carriage return outside comments and strings",
             Warning::MissingEnd => "nft wants a newline or `;` here",
