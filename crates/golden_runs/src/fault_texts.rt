@@ -4,6 +4,7 @@
 //!
 //! Rulesets are judged on the box `box.txt`, box files with the ruleset `whole.nft`; of a capture
 //! the fault's position is printed.
+use crate::parts::Comparison;
 use anyhow::Result;
 use capture_remarks::capture_location;
 use engine::{Counts, RulesFault, RunFault, judge};
@@ -12,37 +13,27 @@ use fault_location::{Fault, SourcePaths, Sources, all_faults};
 use std::alloc::{AllocError, Global};
 use std::fs;
 
-/// The mark before the name of each text in the expected lines.
-const HEAD: &str = "\n== ";
-
 /// A ruleset of blanks that is too long; there is no file of it.
 const LONG: &str = "long.nft";
 
 /// One byte more than a ruleset may have.
 const LONG_BYTES: usize = 1_048_577;
 
-/// Prints each difference from the expected lines, and gives the number of texts.
-pub fn compare_all(rt: &HostRuntime, stored: &str) -> Result<u64> {
-    let mut number: u64 = 0;
-    let parts = stored.strip_suffix('\n').unwrap_or(stored);
-    for part in parts.split(HEAD).skip(1) {
-        compare(rt, part)?;
-        number = number.saturating_add(1);
-    }
-    Ok(number)
-}
+/// The texts of `data/faults`.
+pub struct FaultTexts;
 
-/// Compares the diagnostics of a text with the expected ones: its name, and the lines below.
-fn compare(rt: &HostRuntime, part: &str) -> Result<()> {
-    let (name, lines) = part.split_once('\n').unwrap_or((part, ""));
-    let actual = diagnostics(rt, name)?;
-    if actual.as_str() != lines {
-        println!(rt;
-            "{name}: the diagnostics are\n{}\ninstead of\n{lines}",
-            actual.as_str()
-        )?;
+impl Comparison for FaultTexts {
+    /// Compares the diagnostics of the text of this name with the expected lines.
+    fn compare(&self, rt: &HostRuntime, name: &str, lines: &str) -> Result<()> {
+        let actual = diagnostics(rt, name)?;
+        if actual.as_str() != lines {
+            println!(rt;
+                "{name}: the diagnostics are\n{}\ninstead of\n{lines}",
+                actual.as_str()
+            )?;
+        }
+        Ok(())
     }
-    Ok(())
 }
 
 /// The diagnostics of the text of this name.

@@ -39,19 +39,21 @@ mod list_runs;
 mod mistakes;
 mod notation;
 mod packets;
+mod parts;
 mod records;
 mod rows;
 mod warned;
 
 use anyhow::Result;
-use fault_texts::compare_all;
+use fault_texts::FaultTexts;
 use list_runs::run_listed;
-use mistakes::compare_mistakes;
+use mistakes::Mistakes;
+use parts::compare_parts;
 use rows::{Row, RunResult, run_over};
 use std::hash::RandomState;
 use std::process::ExitCode;
 use std::{fs, str};
-use warned::compare_warned;
+use warned::Warned;
 
 /// OUT of the program's run.
 const OUTPUT: &str = "longer.pcap";
@@ -86,9 +88,9 @@ fn main(rt: HostRuntime) -> Result<ExitCode> {
     for &file in &FILES {
         run_file(&rt, file)?;
     }
-    compare_texts(&rt)?;
-    compare_rulesets(&rt)?;
-    compare_warnings(&rt)?;
+    compare_parts(&rt, FAULT_LINES, "texts", &FaultTexts)?;
+    compare_parts(&rt, MISTAKES, "rulesets", &Mistakes::new(&rt)?)?;
+    compare_parts(&rt, WARNED, "rulesets", &Warned::new(&rt)?)?;
     Ok(ExitCode::from(status))
 }
 
@@ -105,30 +107,6 @@ fn run_file(rt: &HostRuntime, file: &str) -> Result<()> {
     let text = fs::read_to_string(rt, file)?;
     let Counts { runs, listed } = run_all(rt, text.as_str())?;
     println!(rt; "{file}: {runs} runs, {listed} with the list tracker too")?;
-    Ok(())
-}
-
-/// Compares the diagnostics of all texts.
-fn compare_texts(rt: &HostRuntime) -> Result<()> {
-    let stored = fs::read_to_string(rt, FAULT_LINES)?;
-    let texts = compare_all(rt, stored.as_str())?;
-    println!(rt; "{FAULT_LINES}: {texts} texts")?;
-    Ok(())
-}
-
-/// Compares what is told of each mistake.
-fn compare_rulesets(rt: &HostRuntime) -> Result<()> {
-    let stored = fs::read_to_string(rt, MISTAKES)?;
-    let rulesets = compare_mistakes(rt, stored.as_str())?;
-    println!(rt; "{MISTAKES}: {rulesets} rulesets")?;
-    Ok(())
-}
-
-/// Compares what is told of rulesets that nft refuses or means otherwise.
-fn compare_warnings(rt: &HostRuntime) -> Result<()> {
-    let stored = fs::read_to_string(rt, WARNED)?;
-    let rulesets = compare_warned(rt, stored.as_str())?;
-    println!(rt; "{WARNED}: {rulesets} rulesets")?;
     Ok(())
 }
 

@@ -2,14 +2,12 @@
 //! ruleset, below `-- told` what `--explain` prints for it, and below `-- mended` the ruleset that
 //! follows the advice, which has to be accepted. The box is `faults/box.txt`.
 use crate::fault_texts::explanation;
+use crate::parts::Comparison;
 use anyhow::Result;
 use engine::judge;
 use fault_location::{SourcePaths, Sources};
 use std::alloc::{AllocError, Global};
 use std::fs;
-
-/// The mark before the name of each ruleset.
-const HEAD: &str = "\n== ";
 
 const TOLD: &str = "\n-- told\n";
 
@@ -17,30 +15,33 @@ const MENDED: &str = "\n-- mended\n";
 
 const BOX: &str = "faults/box.txt";
 
-/// Prints each difference from what is stored, and gives the number of rulesets.
-pub fn compare_mistakes(rt: &HostRuntime, stored: &str) -> Result<u64> {
-    let plant = fs::read(rt, BOX)?;
-    let mut number: u64 = 0;
-    for part in stored.split(HEAD).skip(1) {
-        compare(rt, part, &plant)?;
-        number = number.saturating_add(1);
-    }
-    Ok(number)
+/// The mistakes, in rulesets for a box.
+#[derive(Drop)]
+pub struct Mistakes {
+    plant: Vec<u8>,
 }
 
-/// Compares what is told of a ruleset with what is stored, and judges the mended one.
-fn compare(rt: &HostRuntime, part: &str, plant: &[u8]) -> Result<()> {
-    let (name, rest) = part.split_once('\n').unwrap_or((part, ""));
-    let (rules, rest) = rest.split_once(TOLD).unwrap_or((rest, ""));
-    let (told, mended) = rest.split_once(MENDED).unwrap_or((rest, ""));
-    let actual = told_of(rt.alloc(), rules, plant)?;
-    if actual.as_str().strip_suffix('\n') != Some(told) {
-        println!(rt; "{name}: told is\n{}instead of\n{told}", actual.as_str())?;
+impl Mistakes {
+    pub fn new(rt: &HostRuntime) -> Result<Self> {
+        let plant = fs::read(rt, BOX)?;
+        Ok(Mistakes { plant })
     }
-    if let Err(fault) = judge(rt.alloc(), mended.as_bytes(), plant) {
-        println!(rt; "{name}: mended it is {fault}")?;
+}
+
+impl Comparison for Mistakes {
+    /// Compares what is told of a ruleset with what is stored, and judges the mended one.
+    fn compare(&self, rt: &HostRuntime, name: &str, part: &str) -> Result<()> {
+        let (rules, rest) = part.split_once(TOLD).unwrap_or((part, ""));
+        let (told, mended) = rest.split_once(MENDED).unwrap_or((rest, ""));
+        let actual = told_of(rt.alloc(), rules, &self.plant)?;
+        if actual.as_str().strip_suffix('\n') != Some(told) {
+            println!(rt; "{name}: told is\n{}instead of\n{told}", actual.as_str())?;
+        }
+        if let Err(fault) = judge(rt.alloc(), mended.as_bytes(), &self.plant) {
+            println!(rt; "{name}: mended it is {fault}")?;
+        }
+        Ok(())
     }
-    Ok(())
 }
 
 /// What `--explain` prints for a ruleset.
