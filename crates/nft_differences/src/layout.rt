@@ -14,6 +14,17 @@ const MOST_OF_NAME: usize = 255;
 /// The most hexadecimal digits on either side of a colon that nft takes together.
 const MOST_OF_CLASS: usize = 4;
 
+/// The words that begin a declaration.
+static DECLARATIONS: [&[u8]; 3] = [b"chain", b"set", b"map"];
+
+/// What ends all before a closing brace.
+static BEFORE_END: [&[u8]; 3] = [b"{", b"\n", b";"];
+
+/// What may stand before a newline in a list, and behind it.
+static BEFORE_NEWLINE: [&[u8]; 2] = [b"{", b","];
+
+static BEHIND_NEWLINE: [&[u8]; 2] = [b"}", b","];
+
 /// Adds the warnings about the layout.
 pub(crate) fn judge_layout(
     tokens: &Tokens<'_>,
@@ -58,6 +69,9 @@ fn judge_tokens(tokens: &Tokens<'_>, findings: &mut Findings<'_>) -> Result<(), 
     let mut declaration = 0;
     for index in 0..tokens.len() {
         judge_token(tokens, index, findings)?;
+        if nesting.depth == 1 && begins_declaration(tokens, index) {
+            declaration = index;
+        }
         match tokens.bytes(index) {
             b"{" => nesting = opened(tokens, nesting, declaration),
             b"}" => {
@@ -65,13 +79,15 @@ fn judge_tokens(tokens: &Tokens<'_>, findings: &mut Findings<'_>) -> Result<(), 
                 nesting.depth = nesting.depth.saturating_sub(1);
             }
             b"\n" => judge_newline(tokens, index, nesting, findings)?,
-            b"chain" | b"set" | b"map" if nesting.depth == 1 && !is_name(tokens, index) => {
-                declaration = index;
-            }
             _ => {}
         }
     }
     Ok(())
+}
+
+/// Whether a token begins a declaration, and isn't its name.
+fn begins_declaration(tokens: &Tokens<'_>, index: usize) -> bool {
+    DECLARATIONS.contains(&tokens.bytes(index)) && !is_name(tokens, index)
 }
 
 /// The nesting behind an opening brace; `declaration` is the last word that begins one.
@@ -143,12 +159,7 @@ fn judge_closing(
     if nesting.depth == 0 || nesting.depth > 2 {
         return Ok(());
     }
-    let before = tokens.bytes(index.saturating_sub(1));
-    let in_set = nesting.depth == 2 && nesting.declaration == Declaration::SetOrMap;
-    let is_ended = matches!(before, b"{" | b"\n" | b";")
-        || (nesting.depth == 1 && matches!(before, b"}"))
-        || (in_set && matches!(before, b"}" | b"auto-merge"));
-    if !is_ended {
+    if !is_ended(tokens, index.saturating_sub(1), nesting) {
         findings.add(tokens, index, Warning::MissingEnd)?;
     }
     let next = index.saturating_add(1);
@@ -158,6 +169,18 @@ fn judge_closing(
     Ok(())
 }
 
+/// Whether what stands before a closing brace is ended; `last` is the token before the brace.
+fn is_ended(tokens: &Tokens<'_>, last: usize, nesting: Nesting) -> bool {
+    if BEFORE_END.contains(&tokens.bytes(last)) {
+        return true;
+    }
+    let in_set = nesting.depth == 2 && nesting.declaration == Declaration::SetOrMap;
+    if tokens.is(last, b"}") {
+        return nesting.depth == 1 || in_set;
+    }
+    in_set && tokens.is(last, b"auto-merge")
+}
+
 /// Adds what is wrong with a newline in the braces of a list.
 fn judge_newline(
     tokens: &Tokens<'_>,
@@ -165,17 +188,22 @@ fn judge_newline(
     nesting: Nesting,
     findings: &mut Findings<'_>,
 ) -> Result<(), AllocError> {
-    let before = tokens.bytes(index.saturating_sub(1));
-    if nesting.depth < 3 || matches!(before, b"\n") {
+    let before = index.saturating_sub(1);
+    if nesting.depth < 3 || tokens.is(before, b"\n") {
         return Ok(());
     }
-    let next = tokens.bytes(index.saturating_add(1));
-    let is_allowed = !matches!(next, b"\n")
-        && (matches!(before, b"{" | b",") || matches!(next, b"}" | b","));
-    if !is_allowed {
+    if !is_allowed_between(tokens, before, index.saturating_add(1)) {
         findings.add(tokens, index, Warning::NewlineInList)?;
     }
     Ok(())
+}
+
+/// Whether a newline in a list may stand between two tokens.
+fn is_allowed_between(tokens: &Tokens<'_>, before: usize, next: usize) -> bool {
+    if tokens.is(next, b"\n") {
+        return false;
+    }
+    BEFORE_NEWLINE.contains(&tokens.bytes(before)) || BEHIND_NEWLINE.contains(&tokens.bytes(next))
 }
 
 /// Adds what is wrong with a token beside the next one.
@@ -185,28 +213,47 @@ fn judge_token(
     findings: &mut Findings<'_>,
 ) -> Result<(), AllocError> {
     let next = index.saturating_add(1);
-    let first = byte_at(tokens.text, tokens.offset(next));
-    match (tokens.bytes(index), tokens.kind(next)) {
-        (b".", _) if tokens.is_tight(next) && continues_word(first) => {
-            findings.add(tokens, index, Warning::TightDot)
-        }
-        (b":", TokenKind::Number) if is_class(tokens, index) => {
-            findings.add(tokens, index, Warning::TightColon)
-        }
-        (b"comment", TokenKind::String) if is_long(tokens.bytes(next)) => {
-            findings.add(tokens, next, Warning::LongComment)
-        }
-        (b"prefix", TokenKind::String) if tokens.bytes(next).contains(&b'$') => {
-            findings.add(tokens, next, Warning::PrefixVariable)
-        }
-        (number, TokenKind::Word) if is_decimal(number) && is_unit(first) => {
-            if tokens.is_tight(next) {
-                return findings.add(tokens, index, Warning::TightUnit);
-            }
-            Ok(())
-        }
-        _ => Ok(()),
+    if let Some(warning) = tightness(tokens, index, next) {
+        return findings.add(tokens, index, warning);
     }
+    if tokens.kind(next) != TokenKind::String {
+        return Ok(());
+    }
+    match string_behind(tokens, index, tokens.bytes(next)) {
+        Some(warning) => findings.add(tokens, next, warning),
+        None => Ok(()),
+    }
+}
+
+/// What is wrong with a token that has no blank before the next one.
+fn tightness(tokens: &Tokens<'_>, index: usize, next: usize) -> Option<Warning> {
+    if !tokens.is_tight(next) {
+        return None;
+    }
+    let first = byte_at(tokens.text, tokens.offset(next));
+    if tokens.is(index, b".") && continues_word(first) {
+        return Some(Warning::TightDot);
+    }
+    match tokens.kind(next) {
+        TokenKind::Number if tokens.is(index, b":") && is_class(tokens, index) => {
+            Some(Warning::TightColon)
+        }
+        TokenKind::Word if is_unit(first) && is_decimal(tokens.bytes(index)) => {
+            Some(Warning::TightUnit)
+        }
+        _ => None,
+    }
+}
+
+/// What is wrong with a string behind a token.
+fn string_behind(tokens: &Tokens<'_>, index: usize, string: &[u8]) -> Option<Warning> {
+    if tokens.is(index, b"comment") && is_long(string) {
+        return Some(Warning::LongComment);
+    }
+    if tokens.is(index, b"prefix") && string.contains(&b'$') {
+        return Some(Warning::PrefixVariable);
+    }
+    None
 }
 
 /// Whether a comment is too long; its quotes don't count.
