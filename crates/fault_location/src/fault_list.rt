@@ -3,7 +3,7 @@
 //!
 //! Both the locations and the list are heuristics: a part that is removed may have had another
 //! fault, and faults that only follow from a removal aren't listed.
-use crate::faults::{Fault, box_fault, check_fault, line_of};
+use crate::faults::{Fault, box_fault, check_fault, line_of, text_fault};
 use crate::rule_search::RuleSearch;
 use crate::subject::{FaultLocation, Subject};
 use crate::syntax_place::{invalid_token, syntax_place};
@@ -12,7 +12,7 @@ use fault_places::{
     Depth, Level, Span, Words, braces_match, bytes_of, elements, enclosing_description, holds,
     mask, part_around, position_at, rest_from, spans, words,
 };
-use nft_parser::{ParseError, TextFault, parse};
+use nft_parser::TextFault;
 use rule_check::CheckFault;
 use std::alloc::{AllocError, Global};
 
@@ -88,11 +88,33 @@ pub fn has_check(found: &[FoundFault], fault: CheckFault) -> bool {
 /// `AllocError` for want of memory.
 pub fn all_faults(alloc: Global, sources: Sources<'_>) -> Result<String, AllocError> {
     let mut plant = FaultList::of_box(alloc, sources.plant)?;
-    let mut rules = FaultList::of_rules(alloc, sources, plant.is_clean())?;
-    let mut lines = String::new(alloc);
-    rules.write_to(alloc, &mut lines, sources.paths.rules)?;
+    let mut lines = rules_faults(alloc, sources, plant.is_clean())?;
     plant.write_to(alloc, &mut lines, sources.paths.plant)?;
     Ok(lines)
+}
+
+/// The lines of the ruleset's faults.
+fn rules_faults(alloc: Global, sources: Sources<'_>, has_box: bool) -> Result<String, AllocError> {
+    let mut rules = FaultList::of_rules(alloc, sources, has_box)?;
+    let mut lines = String::new(alloc);
+    rules.write_to(alloc, &mut lines, sources.paths.rules)?;
+    Ok(lines)
+}
+
+/// Writes pieces of a line.
+fn put(lines: &mut String, pieces: &[&str]) -> Result<(), AllocError> {
+    for piece in pieces {
+        lines.push_str(piece)?;
+    }
+    Ok(())
+}
+
+/// Writes what a fault's code means, and ends its line.
+fn put_meaning(lines: &mut String, code: &str) -> Result<(), AllocError> {
+    match explanations::explain(code) {
+        Some(known) => put(lines, &[": ", known.sentence, "\n"]),
+        None => lines.push('\n'),
+    }
 }
 
 /// A text, what is left of it, and the faults of the parts that were removed.
@@ -162,11 +184,10 @@ impl<'a> FaultList<'a> {
     /// Removes what can't be parsed.
     fn read(&mut self, alloc: Global) -> Result<(), AllocError> {
         for _ in 0..MOST {
-            match parse(alloc, &self.remaining) {
-                Ok(_) => return Ok(()),
-                Err(ParseError::Refused(fault)) => self.remove_unreadable(alloc, fault)?,
-                Err(ParseError::Memory) => return Err(AllocError),
-            }
+            let Some(fault) = text_fault(alloc, &self.remaining)? else {
+                return Ok(());
+            };
+            self.remove_unreadable(alloc, fault)?;
             if !self.is_open() {
                 return Ok(());
             }
@@ -348,14 +369,20 @@ impl<'a> FaultList<'a> {
 
     /// Removes a declaration with all that is in it.
     fn remove_declaration(&mut self, alloc: Global, part: Span) -> Result<(), AllocError> {
-        let rules = spans(alloc, &self.remaining, Level::Rules)?;
-        let listed = elements(alloc, &self.remaining, part, Depth::Set)?;
-        if !listed.is_empty() || has_within(&rules, part) {
+        if self.has_parts(alloc, part)? {
             self.is_partial = true;
         }
         self.removed.push(part)?;
         mask(&mut self.remaining, &[part]);
         Ok(())
+    }
+
+    /// Whether a declaration has elements or rules.
+    fn has_parts(&self, alloc: Global, part: Span) -> Result<bool, AllocError> {
+        if !elements(alloc, &self.remaining, part, Depth::Set)?.is_empty() {
+            return Ok(true);
+        }
+        Ok(has_within(&spans(alloc, &self.remaining, Level::Rules)?, part))
     }
 
     /// Removes the lines of a box file that have a fault.
@@ -424,11 +451,7 @@ impl<'a> FaultList<'a> {
         } = location;
         self.add(offset, Fault::Check(fault))?;
         if part.start != outer.start {
-            mask(&mut self.remaining, &[part]);
-            return match parse(alloc, &self.remaining) {
-                Ok(_) => Ok(()),
-                Err(_) => self.remove_declaration(alloc, outer),
-            };
+            return self.remove_element(alloc, part, outer);
         }
         if offset > part.start {
             let head = self.all_but_rules(alloc, part)?;
@@ -436,6 +459,20 @@ impl<'a> FaultList<'a> {
             return Ok(());
         }
         self.remove_declaration(alloc, part)
+    }
+
+    /// Removes an element, and all that is around its list where that can't be parsed without it.
+    fn remove_element(
+        &mut self,
+        alloc: Global,
+        element: Span,
+        outer: Span,
+    ) -> Result<(), AllocError> {
+        mask(&mut self.remaining, &[element]);
+        if matches!(text_fault(alloc, &self.remaining), Ok(None)) {
+            return Ok(());
+        }
+        self.remove_declaration(alloc, outer)
     }
 
     /// Removes the rules that are refused.
@@ -451,11 +488,16 @@ impl<'a> FaultList<'a> {
     pub fn uses_missing(&self, alloc: Global, rule: Span) -> Result<bool, AllocError> {
         let used = Words::of(alloc, self.text, rule)?;
         for removed in &self.removed {
-            if used.has(Words::of(alloc, self.text, *removed)?.get(1)) {
+            if used.has(self.name_of(alloc, *removed)?) {
                 return Ok(true);
             }
         }
         Ok(false)
+    }
+
+    /// The name of a declaration.
+    fn name_of(&self, alloc: Global, declaration: Span) -> Result<&'a str, AllocError> {
+        Ok(Words::of(alloc, self.text, declaration)?.get(1))
     }
 
     /// Writes a line for each fault, in the order of the text.
@@ -469,9 +511,15 @@ impl<'a> FaultList<'a> {
         for found in &self.found {
             self.write_fault(alloc, lines, path, *found)?;
         }
+        self.write_end(lines, path)
+    }
+
+    /// Writes a last line where there may be more.
+    fn write_end(&self, lines: &mut String, path: &str) -> Result<(), AllocError> {
         if self.is_stuck || self.is_partial {
-            writeln!(lines, "{path}: not all of it could be judged")?;
-        } else if self.found.len() >= MOST {
+            return put(lines, &[path, ": not all of it could be judged\n"]);
+        }
+        if self.found.len() >= MOST {
             writeln!(lines, "{path}: there may be more faults than these {MOST}")?;
         }
         Ok(())
@@ -485,15 +533,24 @@ impl<'a> FaultList<'a> {
         found: FoundFault,
     ) -> Result<(), AllocError> {
         let code = found.fault.code(alloc)?;
-        if found.offset <= self.text.len() {
-            let at = position_at(self.text, found.offset);
-            write!(lines, "{path}:{}:{}: {}", at.line, at.column, code.as_str())?;
-        }
+        self.write_place(lines, path, found.offset, code.as_str())?;
         self.write_around(alloc, lines, found)?;
-        match explanations::explain(code.as_str()) {
-            Some(known) => writeln!(lines, ": {}", known.sentence),
-            None => writeln!(lines),
+        put_meaning(lines, code.as_str())
+    }
+
+    /// Writes where a fault is, and its code.
+    fn write_place(
+        &self,
+        lines: &mut String,
+        path: &str,
+        offset: usize,
+        code: &str,
+    ) -> Result<(), AllocError> {
+        if offset <= self.text.len() {
+            let at = position_at(self.text, offset);
+            write!(lines, "{path}:{}:{}: {code}", at.line, at.column)?;
         }
+        Ok(())
     }
 
     /// Writes what is around a fault of a ruleset.
@@ -510,6 +567,6 @@ impl<'a> FaultList<'a> {
         if around.is_empty() {
             return Ok(());
         }
-        write!(lines, " ({})", around.as_str())
+        put(lines, &[" (", around.as_str(), ")"])
     }
 }

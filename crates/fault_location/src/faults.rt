@@ -82,6 +82,18 @@ pub fn check_fault(
     }
 }
 
+/// The fault of a ruleset's text; none where it can be parsed.
+///
+/// # Errors
+/// `AllocError` for want of memory.
+pub fn text_fault(alloc: Global, text: &[u8]) -> Result<Option<TextFault>, AllocError> {
+    match parse(alloc, text) {
+        Ok(_) => Ok(None),
+        Err(ParseError::Refused(fault)) => Ok(Some(fault)),
+        Err(ParseError::Memory) => Err(AllocError),
+    }
+}
+
 /// A ruleset, where its text can be parsed.
 fn read_rules(alloc: Global, text: &[u8]) -> Result<Option<Ruleset>, AllocError> {
     match parse(alloc, text) {

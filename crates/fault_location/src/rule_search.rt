@@ -52,18 +52,24 @@ impl<'a> RuleSearch<'a> {
 
     /// The faults of the rules, and whether some rule wasn't judged.
     pub fn run(mut self) -> Result<(Vec<FoundFault>, bool), AllocError> {
+        self.search_all()?;
+        Ok((self.found, self.is_partial))
+    }
+
+    /// Takes the rules out that are refused, until the others are accepted.
+    fn search_all(&mut self) -> Result<(), AllocError> {
         for _ in 0..MOST {
             let all = self.rules.all();
             let before = self.rules.len();
             if !self.open(all)? {
-                break;
+                return Ok(());
             }
             self.search()?;
             if self.rules.len() == before || !self.has_room() {
-                break;
+                return Ok(());
             }
         }
-        Ok((self.found, self.is_partial))
+        Ok(())
     }
 
     /// Takes the rules out that are refused, from the last one, so that the indexes of those before

@@ -117,25 +117,30 @@ impl Subject<'_> {
         range: PartRange,
     ) -> Result<Option<usize>, AllocError> {
         let PartRange { start, end } = range;
-        if end <= start
-            || self.fails(alloc, &parted.with(alloc, PartRange { start, end: start })?)?
-        {
+        if end <= start || self.fails_with(alloc, parted, PartRange { start, end: start })? {
             return Ok(None);
         }
         let mut without = start;
         let mut with = end;
         while with - without > 1 {
             let middle = without + (with - without) / 2;
-            if self.fails(
-                alloc,
-                &parted.with(alloc, PartRange { start, end: middle })?,
-            )? {
+            if self.fails_with(alloc, parted, PartRange { start, end: middle })? {
                 with = middle;
             } else {
                 without = middle;
             }
         }
         Ok(Some(without))
+    }
+
+    /// Whether the text has the fault with no other parts than those of a range.
+    fn fails_with(
+        &self,
+        alloc: Global,
+        parted: &Parted<'_>,
+        range: PartRange,
+    ) -> Result<bool, AllocError> {
+        self.fails(alloc, &parted.with(alloc, range)?)
     }
 
     /// Locates the fault within a part, behind which there is none of its level.
@@ -227,7 +232,7 @@ impl Subject<'_> {
     ) -> Result<bool, AllocError> {
         match (index, parted.len()) {
             (0, 1) => Ok(depth == Depth::Set || self.is_of_elements()),
-            (0, end) => Ok(!self.fails(alloc, &parted.with(alloc, PartRange { start: 1, end })?)?),
+            (0, end) => Ok(!self.fails_with(alloc, parted, PartRange { start: 1, end })?),
             _ => Ok(true),
         }
     }
@@ -281,11 +286,22 @@ impl Subject<'_> {
             return Ok(false);
         };
         for &other in &DATA {
-            if !self.fails_so_early(alloc, &replaced(alloc, text, data, other)?)? {
+            if !self.fails_with_data(alloc, text, data, other)? {
                 return Ok(true);
             }
         }
         Ok(false)
+    }
+
+    /// Whether the text has the fault, or one before it, with other data in the place of some.
+    fn fails_with_data(
+        &self,
+        alloc: Global,
+        text: &[u8],
+        data: Span,
+        other: &str,
+    ) -> Result<bool, AllocError> {
+        self.fails_so_early(alloc, &replaced(alloc, text, data, other)?)
     }
 
     /// The last word of the shortest list of these first words with which the text has the fault,
@@ -298,7 +314,7 @@ impl Subject<'_> {
     ) -> Result<Option<usize>, AllocError> {
         let parted = Parted::new(alloc, text, found)?;
         for end in 1..parted.len() {
-            if self.fails(alloc, &parted.with(alloc, PartRange { start: 0, end })?)? {
+            if self.fails_with(alloc, &parted, PartRange { start: 0, end })? {
                 return Ok(parted.start_of(end - 1));
             }
         }

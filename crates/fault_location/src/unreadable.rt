@@ -1,7 +1,8 @@
 //! Finds the parts of a ruleset that can't be parsed by themselves.
+use crate::faults::text_fault;
 use crate::wrapper::Wrapper;
 use fault_places::{Depth, Level, Span, Words, bytes_of, elements, rest_from, spans, words};
-use nft_parser::{ParseError, TextFault, parse};
+use nft_parser::TextFault;
 use std::alloc::{AllocError, Global};
 
 /// A part that can't be parsed by itself, and the text that has to be around it.
@@ -53,10 +54,7 @@ impl UnreadablePart {
 
 /// Whether a word is one of nft(8) that isn't supported.
 fn is_unsupported(alloc: Global, word: &[u8]) -> bool {
-    matches!(
-        parse(alloc, word),
-        Err(ParseError::Refused(TextFault::Unsupported))
-    )
+    matches!(text_fault(alloc, word), Ok(Some(TextFault::Unsupported)))
 }
 
 /// What is parsed of the parts of a level.

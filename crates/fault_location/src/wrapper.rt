@@ -2,8 +2,8 @@
 //!
 //! Whether the grammar allows a prefix is guessed by parsing it with some endings, so the grammar
 //! isn't written down twice.
+use crate::faults::text_fault;
 use fault_places::{Span, Words, bytes_of, up_to};
-use nft_parser::parse;
 use std::alloc::{AllocError, Global};
 
 /// What a part of a ruleset is, and so the text that has to be around it where it is parsed by itself.
@@ -137,7 +137,7 @@ impl Wrapper {
         text.extend_from_slice(ending.as_bytes())?;
         text.extend_from_slice(closing.as_bytes())?;
         text.extend_from_slice(self.after().as_bytes())?;
-        Ok(parse(alloc, &text).is_ok())
+        Ok(matches!(text_fault(alloc, &text), Ok(None)))
     }
 
     /// How many words of a part the longest prefix has that some ending completes.
