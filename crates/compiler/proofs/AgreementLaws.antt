@@ -13,7 +13,7 @@ use Rattle.rule_meaning.specs.Runs.{table_program}
 use Rattle.rule_meaning.specs.Hooks.{BaseChain, base_chain_of, base_chains_from, base_chains_of_tables, base_chains_of, HookResult, RunsBaseChain}
 use Rattle.filter_vm.specs.declared.code.Code.{Code}
 use Rattle.filter_vm.specs.declared.code.Start.{Start}
-use Rattle.filter_vm.specs.declared.code.TableCode.{TableCode}
+use Rattle.rule_code.specs.declared.code.TableCode.{TableCode}
 use Rattle.filter_vm.specs.Machine.{starts_of}
 use Rattle.compiler.specs.Compiled.{AgreesWithRules}
 use Rattle.compiler.specs.CodeLayout.{IsTableCode}

@@ -10,7 +10,7 @@ use Rattle.rule_meaning.specs.Runs.{Program, table_program, at_rule, RunResult, 
 use Rattle.rule_meaning.specs.Hooks.{BaseChain, policy_of, HookResult, with_policy, RunsBaseChain}
 use Rattle.filter_vm.specs.declared.code.Code.{Code}
 use Rattle.filter_vm.specs.declared.code.Start.{Start}
-use Rattle.filter_vm.specs.declared.code.TableCode.{TableCode}
+use Rattle.rule_code.specs.declared.code.TableCode.{TableCode}
 use Rattle.filter_vm.specs.Machine.{Stop, exec, enter_chain, run_table, base_chain_stop, base_chain_result}
 use Rattle.compiler.specs.Compiled.{start_head, base_chain_head}
 use Rattle.compiler.specs.CodeLayout.{IsCode, RulesAt, IsTableCode, left_program}

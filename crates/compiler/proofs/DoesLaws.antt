@@ -5,10 +5,12 @@ use Rattle.std.proofs.lemmas.Bool.Decides.{nat_tests}
 use Rattle.rule_meaning.specs.declared.facts.Facts.{Facts}
 use Rattle.rule_meaning.specs.declared.event.Event.{Event}
 use Rattle.rule_meaning.specs.Runs.{RunResult, at_end, over, IsTerminal}
-use Rattle.filter_vm.specs.declared.code.Instruction.{Instruction}
-use Rattle.filter_vm.specs.declared.code.TableCode.{TableCode}
-use Rattle.filter_vm.specs.Machine.{Continuation, Stop, stop, invalid_code, statement_at, fetch, fetch_or, fetched_at, return_from, enter_chain, call}
-use Rattle.filter_vm.specs.Machine.{at_limit, one_more, apply_effect, action_effect, exec}
+use Rattle.rule_code.specs.declared.code.Instruction.{Instruction}
+use Rattle.rule_code.specs.declared.code.TableCode.{TableCode}
+use Rattle.filter_vm.specs.Machine.{Continuation, Stop, stop, invalid_code, fetch, fetch_or, fetched_at, return_from, enter_chain, call}
+use Rattle.rule_code.specs.Actions.{statement_at}
+use Rattle.filter_vm.specs.Machine.{at_limit, one_more, apply_effect, exec}
+use Rattle.rule_code.specs.Actions.{action_effect}
 
 -- what follows: after the end of a chain execution returns
 abbrev pub finish : Continuation → List ℕ → RunResult → ℕ → Stop

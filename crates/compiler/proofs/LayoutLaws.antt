@@ -5,9 +5,10 @@ use Rattle.rule_meaning.specs.declared.facts.Facts.{Facts}
 use Rattle.rule_meaning.specs.declared.event.Event.{Event}
 use Rattle.rule_meaning.specs.Statements.{StatementEffect}
 use Rattle.rule_meaning.specs.Runs.{Program, Remainder, at_rule, in_rule, RunResult, rule_no, statement_position}
-use Rattle.filter_vm.specs.declared.code.TableCode.{TableCode}
-use Rattle.filter_vm.specs.declared.code.Instruction.{Instruction}
-use Rattle.filter_vm.specs.Machine.{statement_at, action_effect, apply_effect}
+use Rattle.rule_code.specs.declared.code.TableCode.{TableCode}
+use Rattle.rule_code.specs.declared.code.Instruction.{Instruction}
+use Rattle.rule_code.specs.Actions.{statement_at, action_effect}
+use Rattle.filter_vm.specs.Machine.{apply_effect}
 use Rattle.compiler.specs.CodeLayout.{Implements, StatementsAt, RulesAt}
 use Rattle.rule_laws.specs.Ranking.{IsStatementOf}
 use Rattle.compiler.proofs.DoesLaws.{Does, does-same, does-step}

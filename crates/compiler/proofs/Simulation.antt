@@ -9,7 +9,7 @@ use Rattle.rule_meaning.specs.Statements.{StatementEffect, give}
 use Rattle.rule_meaning.specs.Runs.{Program, Remainder, at_rule, in_rule, RunResult, rule_no, statement_position, with_verdict, Runs, chain_ends}
 use Rattle.rule_meaning.specs.Runs.{next_rule, rule_ends, passes, fails, notes, accepts, drops, translates, continues, returns, jumps, jumps_away}
 use Rattle.rule_meaning.specs.Runs.{goes}
-use Rattle.filter_vm.specs.declared.code.TableCode.{TableCode}
+use Rattle.rule_code.specs.declared.code.TableCode.{TableCode}
 use Rattle.filter_vm.specs.Machine.{Continuation, Stop, apply_effect}
 use Rattle.compiler.specs.CodeLayout.{RulesAt, IsCode}
 use Rattle.rule_laws.specs.Ranking.{IsStatementOf, IsRanking}

@@ -16,7 +16,7 @@ use Rattle.box_file.specs.Box.{PlantTree}
 use Rattle.rule_types.specs.Types.{rule_mismatches, item_mismatches, table_mismatches}
 use Rattle.rule_values.specs.Faults.{if_some, item_out_of_range, priority_out_of_range}
 use Rattle.rule_meaning.specs.Runs.{table_program}
-use Rattle.filter_vm.specs.declared.code.TableCode.{TableCode}
+use Rattle.rule_code.specs.declared.code.TableCode.{TableCode}
 use Rattle.lowering.specs.Lowered.{Extends}
 use Rattle.compiler.specs.DroppedRules.{AreLeft}
 use Rattle.compiler.specs.CodeLayout.{StatementsAt, RulesAt, IsTableCode, AreTableCodes, rules_in, left_statements, left_program, chain_steps, dropped_rules}

@@ -8,8 +8,9 @@ ghost use Rattle.compiler.specs.CodeLayout.{AreTableCodes, IsTableCode};
 
 use crate::rules::{add_chain, to_u32};
 use box_file::Plant;
-use filter_vm::{IndexedTable, StepList, TableCode};
 use lowering::declared;
+use rule_code::{StepList, TableCode};
+use rule_index::IndexedTable;
 use rule_meaning::ChainNo;
 use rule_names::TableNames;
 use std::alloc::{AllocError, Global};

@@ -2,10 +2,11 @@
 use crate::support::{check_row, repeated};
 use box_file::Plant;
 use compiler::compile;
-use filter_vm::{Action, Code, Step};
+use filter_vm::Code;
 use nft_parser::parse;
 use nft_tree::{Hook, Operator, Selector};
 use rule_check::check;
+use rule_code::{Action, Step};
 use std::alloc::Global;
 
 /// Two interfaces and a default route.

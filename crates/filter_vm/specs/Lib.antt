@@ -1,4 +1,2 @@
-pub mod StepItems
-pub mod Actions
 pub mod Machine
 pub mod steps

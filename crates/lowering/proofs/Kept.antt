@@ -17,8 +17,8 @@ use Rattle.rule_types.specs.Types.{same_type, same_compared_type, same_data, map
 use Rattle.rule_meaning.specs.Sets.{elements_have, declared_has, declared_gives, set_has, data_verdict, data_number}
 use Rattle.rule_meaning.specs.Statements.{rule_verdict_of}
 use Rattle.rule_meaning.specs.declared.event.RuleVerdict.{RuleVerdict}
-use Rattle.filter_vm.specs.declared.code.Lookups.{Lookups}
-use Rattle.filter_vm.specs.Machine.{lookup_in}
+use Rattle.rule_code.specs.declared.code.Lookups.{Lookups}
+use Rattle.rule_code.specs.Actions.{lookup_in}
 use Rattle.lowering.specs.Lowered.{HasDeclared, HasMap, HasTable, same}
 use Rattle.lowering.specs.steps.Tables.{AllPairs, Table, IsNumberType, IsSetTable, IsVerdictTable, IsNumberTable, IsDeclaredSet, IsMapVerdicts, IsMapNumbers}
 use Rattle.lowering.specs.steps.Actions.{HasSet, HasVerdicts, HasNumbers, scope_of}

@@ -11,8 +11,8 @@ ghost use Rattle.lowering.specs.steps.Tables.{AllPairs, IsMapNumbers, IsMapVerdi
 use crate::keys::key_compared_types;
 use crate::tables::{number_table, set_table, verdict_table};
 use box_file::Plant;
-use filter_vm::Lookups;
 use nft_tree::{ComparedType, MapDecl, Pair, SetDecl, ValueType};
+use rule_code::Lookups;
 use rule_meaning::RuleVerdict;
 use rule_names::TableNames;
 use set_intervals::Intervals;

@@ -13,8 +13,8 @@ ghost use Rattle.lowering.specs.steps.Actions.{HasNumbers, HasSet, HasVerdicts, 
 use crate::keys::selector_kinds;
 use crate::tables::{number_table, set_table, verdict_table};
 use box_file::Plant;
-use filter_vm::Lookups;
 use nft_tree::{Element, MapRef, Pair, Selector, SetRef, ValueType};
+use rule_code::Lookups;
 use rule_names::TableNames;
 use set_intervals::Intervals;
 use std::alloc::{AllocError, Global};

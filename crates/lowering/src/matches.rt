@@ -13,9 +13,9 @@ ghost use Rattle.lowering.specs.steps.Actions.{AlwaysHasEffect, HasEffect, scope
 
 use crate::lookup_tables::set_index;
 use box_file::Plant;
-use filter_vm::{Action, Lookups};
 use nft_tree::{BitField, BitTest, Flag, Match, Operator, Selector, ValueRange, ValueType};
 use nft_values::numbers_of;
+use rule_code::{Action, Lookups};
 use rule_names::TableNames;
 use set_intervals::Range as Interval;
 use std::alloc::{AllocError, Global};

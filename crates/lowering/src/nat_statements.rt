@@ -11,8 +11,8 @@ ghost use Rattle.lowering.specs.steps.Actions.{HasEffect, nat_by_map, scope_of};
 
 use crate::lookup_tables::number_map_index;
 use box_file::Plant;
-use filter_vm::{Action, Lookups};
 use nft_tree::{DestinationTarget, MapLookup, Nat, PortRange, SourceTarget, ValueType};
+use rule_code::{Action, Lookups};
 use rule_meaning::{NatAction, PortInterval, RuleVerdict};
 use rule_names::TableNames;
 use std::alloc::{AllocError, Global};

@@ -5,7 +5,7 @@ ghost use Rattle.nft_tree.specs.Tree.{operand_tree, statement};
 ghost use Rattle.rule_types.specs.Types.{statement_mismatches};
 ghost use Rattle.rule_values.specs.Faults.{statement_out_of_range};
 ghost use Rattle.rule_meaning.specs.Statements.{operand_number};
-ghost use Rattle.filter_vm.specs.declared.code.Lookups.{Lookups};
+ghost use Rattle.rule_code.specs.declared.code.Lookups.{Lookups};
 ghost use Rattle.lowering.specs.Lowered.{HasDeclared, Extends, HasEffectOf};
 ghost use Rattle.lowering.specs.steps.Actions.{ReadsAs, scope_of};
 
@@ -14,8 +14,8 @@ use crate::matches::lower_match;
 use crate::nat_statements::lower_nat;
 use crate::tables::rule_verdict;
 use box_file::Plant;
-use filter_vm::{Action, Lookups, Operand as Source};
 use nft_tree::{MarkField, Operand, Stmt, ValueType};
+use rule_code::{Action, Lookups, Operand as Source};
 use rule_meaning::StatementPosition;
 use rule_names::TableNames;
 use std::alloc::{AllocError, Global};

@@ -2,10 +2,10 @@
 ghost use Rattle.std.specs.Prelude.{◌<◌, ◌≤◌};
 
 use crate::random_numbers::RandomNumbers;
-use filter_vm::{
-    Action, Code, IndexedTable, Instruction, Lookups, Operand, Start, Step, StepList, TableCode,
-};
+use filter_vm::{Code, Start};
 use nft_tree::{MarkField, Operator, Policy, RuleNo, Selector};
+use rule_code::{Action, Instruction, Lookups, Operand, Step, StepList, TableCode};
+use rule_index::IndexedTable;
 use rule_meaning::{ChainNo, RuleVerdict, StatementPosition};
 use set_intervals::{Intervals, Range};
 use std::alloc::{AllocError, Global};

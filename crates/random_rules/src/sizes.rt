@@ -1,10 +1,9 @@
 //! How many rules are merged and how many are dropped, in code as it is compiled.
-use filter_vm::{
-    Action, Code, Events, IndexedTable, Instruction, Lookups, Operand, Start, Step, StepList,
-    TableCode, run,
-};
+use filter_vm::{Code, Events, Start, run};
 use ip_headers::Transport;
 use nft_tree::{MarkField, Operator, Policy, RuleNo, Selector};
+use rule_code::{Action, Instruction, Lookups, Operand, Step, StepList, TableCode};
+use rule_index::IndexedTable;
 use rule_meaning::{
     ChainNo, CtFacts, Event, Facts, HookVerdict, Interface, Packet, RuleVerdict, StatementPosition,
 };

@@ -3,7 +3,7 @@ use Rattle.std.specs.List.{list_any}
 use Rattle.list_laws.specs.Lists.{head_and_rest}
 use Rattle.nft_tree.specs.declared.chain.Chain.{Chain}
 use Rattle.nft_tree.specs.Tree.{ChainTree, chain_tree}
-use Rattle.filter_vm.specs.declared.code.TableCode.{TableCode}
+use Rattle.rule_code.specs.declared.code.TableCode.{TableCode}
 use Rattle.compiler.specs.steps.Adding.{AddsChain}
 use Rattle.compiler.proofs.AddLaws.{declared_kept, nothing_left, none_later}
 use Rattle.compiler.proofs.TableLaws.{chain_misfits, chain_rules_wrong, types_free, bounds_free, chains_none, chains_more, chains_all}

@@ -1,7 +1,7 @@
 use Rattle.std.proofs.Common.{sym, subst}
 use Rattle.nft_tree.specs.Tree.{map_ref_tree, statement}
 use Rattle.rule_meaning.specs.Statements.{statement_effect}
-use Rattle.filter_vm.specs.declared.code.Action.TheVariants.{LookUpVerdict}
+use Rattle.rule_code.specs.declared.code.Action.TheVariants.{LookUpVerdict}
 use Rattle.lowering.specs.steps.Actions.{HasEffect, scope_of}
 use Rattle.lowering.proofs.Chosen.{chosen}
 use Rattle.lowering.proofs.statements.action.Goals as goal

@@ -1,0 +1,3 @@
+pub mod ConcatenationLaws
+pub mod Tables
+pub mod Guarded
