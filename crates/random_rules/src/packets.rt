@@ -46,7 +46,7 @@ fn random_transport(random: &mut RandomNumbers) -> Transport {
 fn random_interface(random: &mut RandomNumbers) -> Interface {
     Interface {
         index: random.number(),
-        name: u128::from(random.number()),
+        name: random.name(),
     }
 }
 

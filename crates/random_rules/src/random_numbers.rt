@@ -61,6 +61,30 @@ impl RandomNumbers {
         }
     }
 
+    /// A number of up to 128 bits, likewise.
+    pub fn name(&mut self) -> u128 {
+        let number = u128::from(self.number());
+        if self.chance(50) {
+            number
+        } else {
+            number << 96
+        }
+    }
+
+    /// An interval of names, as those that begin alike.
+    pub fn name_range(&mut self) -> Range {
+        let low = self.name();
+        let more = if self.chance(30) {
+            u128::from(self.below(3)) << 96
+        } else {
+            u128::from(self.below(3))
+        };
+        match Range::new(low, low.saturating_add(more)) {
+            Some(range) => range,
+            None => unreachable!(),
+        }
+    }
+
     /// A short interval, sometimes one that is not bounded above.
     pub fn range(&mut self) -> Range {
         let low = u128::from(self.number());

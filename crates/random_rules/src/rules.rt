@@ -12,9 +12,13 @@ use std::alloc::{AllocError, Global};
 
 const CHAINS: u32 = 4;
 
+/// The sets that any rule may ask for; behind them is one for each wide match of a part.
 const SETS: u32 = 8;
 
-/// All selectors: an index has the values of each but interfaces' names.
+/// The most consecutive rules of a part of a chain.
+const MOST_RULES: u32 = 60;
+
+/// All selectors: an index has their values, and the ranks of interfaces' names.
 static SELECTORS: [Selector; 25] = [
     Selector::IpSource,
     Selector::IpDestination,
@@ -64,6 +68,32 @@ fn random_operator(random: &mut RandomNumbers) -> Operator {
     }
 }
 
+/// A selector and an interval, of names for an interface's name.
+fn random_compare(random: &mut RandomNumbers, selector: Selector, operator: Operator) -> Action {
+    let range = match selector {
+        Selector::InputName | Selector::OutputName => random.name_range(),
+        _ => random.range(),
+    };
+    Action::Compare(selector, operator, range)
+}
+
+/// A match on more than 32 bits: an interface's name, or a concatenation in a set that no other rule
+/// asks for.
+fn random_wide_match(
+    alloc: Global,
+    random: &mut RandomNumbers,
+    selector: Selector,
+    set: u32,
+) -> Result<Action, AllocError> {
+    Ok(match random.below(10) {
+        0..=3 => random_compare(random, Selector::InputName, Operator::Equal),
+        4 => random_compare(random, Selector::OutputName, Operator::Equal),
+        5 => Action::InSet(vec![in alloc; Selector::InputName]?, set as usize),
+        6..=8 => Action::InSet(vec![in alloc; selector, Selector::MetaMark]?, set as usize),
+        _ => Action::NotInSet(vec![in alloc; selector, Selector::MetaMark]?, set as usize),
+    })
+}
+
 /// The first match of a rule: mostly one of its own values, with overlapping ranges, and else one
 /// that other rules share.
 fn random_match(
@@ -72,15 +102,18 @@ fn random_match(
     selector: Selector,
 ) -> Result<Action, AllocError> {
     Ok(match random.below(100) {
-        0..=54 => Action::Compare(selector, Operator::Equal, random.range()),
-        55..=62 => Action::Compare(selector, random_operator(random), random.range()),
+        0..=54 => random_compare(random, selector, Operator::Equal),
+        55..=62 => {
+            let operator = random_operator(random);
+            random_compare(random, selector, operator)
+        }
         63..=84 => Action::InSet(vec![in alloc; selector]?, random.below(SETS + 1) as usize),
         85..=90 => Action::InSet(
             vec![in alloc; selector, Selector::MetaMark]?,
             random.below(SETS) as usize,
         ),
         91..=92 => Action::NotInSet(vec![in alloc; selector]?, random.below(SETS) as usize),
-        93..=94 => Action::Compare(selector, Operator::Unequal, random.range()),
+        93..=94 => random_compare(random, selector, Operator::Unequal),
         95..=97 => Action::BitsEqual(selector, 3, u128::from(random.below(4))),
         _ => Action::BitsUnequal(selector, 3, u128::from(random.below(4))),
     })
@@ -160,11 +193,10 @@ fn add_rule(
     alloc: Global,
     random: &mut RandomNumbers,
     rule: RuleNo,
-    selector: Selector,
+    first: Action,
     is_plain: bool,
     steps: &mut StepList,
 ) -> Result<(), AllocError> {
-    let first = random_match(alloc, random, selector)?;
     let rest = random_rest(alloc, random, rule, is_plain)?;
     let mut skip = u32::try_from(rest.len()).unwrap_or(u32::MAX);
     steps.push(Step::Statement(Instruction {
@@ -179,32 +211,54 @@ fn add_rule(
     Ok(())
 }
 
-/// Consecutive rules, most of which match on one selector or on up to eight in any order, and some
-/// on others.
-fn add_rules(
+/// Consecutive rules of a chain.
+#[derive(Clone, Copy)]
+struct Part {
+    chain: u32,
+    /// The number of the first rule.
+    first: u32,
+    /// Most rules match on more than 32 bits.
+    is_wide: bool,
+}
+
+/// The selectors of a part: one alone, or up to eight in any order.
+fn random_selectors(
     alloc: Global,
     random: &mut RandomNumbers,
-    chain: u32,
-    first: u32,
-    steps: &mut StepList,
-) -> Result<(), AllocError>
-    requires { first < 1000 }
-{
-    let selectors = [
-        random_selector(random),
-        random_selector(random),
-        random_selector(random),
-        random_selector(random),
-        random_selector(random),
-        random_selector(random),
-        random_selector(random),
-        random_selector(random),
-    ];
+) -> Result<Vec<Selector>, AllocError> {
     let many = if random.chance(30) {
         1
     } else {
         2 + random.below(7)
     };
+    let mut selectors = Vec::new(alloc);
+    for _ in 0..many {
+        selectors.push(random_selector(random))?;
+    }
+    Ok(selectors)
+}
+
+/// One of the selectors, and sometimes another.
+fn one_of(random: &mut RandomNumbers, selectors: &[Selector]) -> Selector {
+    if random.chance(1) {
+        return random_selector(random);
+    }
+    match selectors.get(random.below(8) as usize % selectors.len().max(1)) {
+        Some(selector) => *selector,
+        None => Selector::MetaMark,
+    }
+}
+
+/// Adds the rules of a part.
+fn add_rules(
+    alloc: Global,
+    random: &mut RandomNumbers,
+    part: Part,
+    steps: &mut StepList,
+) -> Result<(), AllocError>
+    requires { part.first < 1000 }
+{
+    let selectors = random_selectors(alloc, random)?;
     // The percentage of rules of one match and a verdict, which are merged where they are
     // consecutive.
     let plain = match random.below(3) {
@@ -212,19 +266,20 @@ fn add_rules(
         1 => 60,
         _ => 99,
     };
-    for number in 0..random.below(60) {
+    for number in 0..random.below(MOST_RULES) {
         let is_plain = random.chance(plain);
-        let selector = if random.chance(1) {
-            random_selector(random)
-        } else {
-            selectors[random.below(many) as usize]
-        };
+        let selector = one_of(random, &selectors);
         let rule = RuleNo {
             table: 0,
-            chain,
-            rule: first + number,
+            chain: part.chain,
+            rule: part.first + number,
         };
-        add_rule(alloc, random, rule, selector, is_plain, steps)?;
+        let first = if part.is_wide && random.chance(98) {
+            random_wide_match(alloc, random, selector, SETS + number)?
+        } else {
+            random_match(alloc, random, selector)?
+        };
+        add_rule(alloc, random, rule, first, is_plain, steps)?;
     }
     Ok(())
 }
@@ -244,7 +299,7 @@ fn random_set(alloc: Global, random: &mut RandomNumbers) -> Result<Intervals<()>
 
 fn random_lookups(alloc: Global, random: &mut RandomNumbers) -> Result<Lookups, AllocError> {
     let mut sets = Vec::new(alloc);
-    for _ in 0..SETS {
+    for _ in 0..SETS + MOST_RULES {
         sets.push(random_set(alloc, random)?)?;
     }
     Ok(Lookups {
@@ -254,15 +309,22 @@ fn random_lookups(alloc: Global, random: &mut RandomNumbers) -> Result<Lookups, 
     })
 }
 
-/// A table whose chains jump to later ones only.
+/// A table whose chains jump to later ones only. In most the first rules match on more than 32
+/// bits.
 fn random_table(alloc: Global, random: &mut RandomNumbers) -> Result<TableCode, AllocError> {
     let lookups = random_lookups(alloc, random)?;
     let mut steps = StepList::new(alloc);
     let mut chain_offsets = Vec::new(alloc);
+    let is_wide = random.chance(60);
     for chain in 0..CHAINS {
         chain_offsets.push(steps.list().len())?;
-        for part in 0..3 {
-            add_rules(alloc, random, chain, part * 100, &mut steps)?;
+        for number in 0..3 {
+            let part = Part {
+                chain,
+                first: number * 100,
+                is_wide: chain == 0 && number == 0 && is_wide,
+            };
+            add_rules(alloc, random, part, &mut steps)?;
         }
         steps.push(Step::EndOfChain)?;
     }
