@@ -1,4 +1,4 @@
-//! How many rules are merged and how many are dropped, in code as it is compiled.
+//! How many indexes code has, and how many rules are merged.
 use filter_vm::{Code, Events, Start, run};
 use ip_headers::Transport;
 use nft_tree::{MarkField, Operator, Policy, RuleNo, Selector};
@@ -44,15 +44,16 @@ const JUMP: Statement = Statement::GiveVerdict(RuleVerdict::Jump(1));
 /// A source address, the rule whose verdict a packet from there has, and whether it is dropped.
 type ExpectedVerdict = (u32, Option<u32>, bool);
 
-/// The rules of a chain; its steps, indexes, merged and dropped rules; and the verdicts of packets.
+/// The rules of a chain; its steps, indexes and merged rules; and the verdicts of packets.
 type Row = (
     &'static [&'static [Statement]],
-    [usize; 4],
+    [usize; 3],
     &'static [ExpectedVerdict],
 );
 
-/// Nested matches with verdicts; a rule that writes the mark that the next one matches; another
-/// match, a counter and a jump between merged rules; an empty set.
+/// Nested matches with verdicts, of which the second is merged with the first and never found, so
+/// that two count; a rule that writes the mark that the next one matches; another match, a counter
+/// and a jump between merged rules; an empty set, whose rule is never found either.
 static ROWS: [Row; 4] = [
     (
         &[
@@ -60,7 +61,7 @@ static ROWS: [Row; 4] = [
             &[Statement::Ten(1), DROP],
             &[ELEVEN, DROP],
         ],
-        [7, 1, 2, 1],
+        [7, 1, 2],
         &[
             (0x0a01_0203, Some(0), false),
             (0x0b00_0001, Some(2), true),
@@ -72,7 +73,7 @@ static ROWS: [Row; 4] = [
             &[Statement::Ten(0), Statement::Mark],
             &[Statement::Marked, DROP],
         ],
-        [5, 0, 0, 0],
+        [5, 0, 0],
         &[(0x0a00_0001, None, true), (0x0a01_0001, None, false)],
     ),
     (
@@ -85,7 +86,7 @@ static ROWS: [Row; 4] = [
             &[Statement::Ten(4), JUMP],
             &[Statement::Ten(5), DROP],
         ],
-        [16, 0, 0, 0],
+        [16, 0, 0],
         &[(0x0a02_0000, Some(2), true)],
     ),
     (
@@ -94,7 +95,7 @@ static ROWS: [Row; 4] = [
             &[Statement::NoSource, ACCEPT],
             &[Statement::Ten(1), DROP],
         ],
-        [7, 1, 2, 1],
+        [7, 1, 2],
         &[(0x0a01_0000, Some(2), true)],
     ),
 ];
@@ -184,9 +185,10 @@ fn table(alloc: Global, rules: &[&[Statement]]) -> Result<IndexedTable, AllocErr
     IndexedTable::new(alloc, code)
 }
 
-fn chain(alloc: Global, rules: &[&[Statement]]) -> Result<Code, AllocError> {
+/// The code of a table alone.
+fn code_of(alloc: Global, table: IndexedTable) -> Result<Code, AllocError> {
     Ok(Code {
-        tables: vec![in alloc; table(alloc, rules)?]?,
+        tables: vec![in alloc; table]?,
         prerouting: Vec::new(alloc),
         input: Vec::new(alloc),
         forward: Vec::new(alloc),
@@ -254,11 +256,11 @@ fn has_verdicts(
 }
 
 #[test]
-fn rules_are_merged_and_dropped(rt: HostRuntime) -> Result<(), Fail> {
+fn rules_are_merged(rt: HostRuntime) -> Result<(), Fail> {
     for (number, (rules, wanted, packets)) in ROWS.iter().enumerate() {
-        let code = chain(rt.alloc(), rules)?;
+        let code = code_of(rt.alloc(), table(rt.alloc(), rules)?)?;
         let size = code.size();
-        let counted = [size.steps, size.tables, size.merged, size.dropped];
+        let counted = [size.steps, size.tables, size.merged];
         assert!(&rt; counted == *wanted, "row {number}");
         assert!(&rt;
             has_verdicts(rt.alloc(), &code, packets)?,
@@ -329,14 +331,56 @@ fn many_selectors(alloc: Global) -> Result<IndexedTable, AllocError> {
 #[test]
 fn a_run_has_an_index_for_each_selector(rt: HostRuntime) -> Result<(), Fail> {
     let alloc = rt.alloc();
-    let code = Code {
-        tables: vec![in alloc; many_selectors(alloc)?]?,
-        prerouting: Vec::new(alloc),
-        input: Vec::new(alloc),
-        forward: Vec::new(alloc),
-        output: Vec::new(alloc),
-        postrouting: Vec::new(alloc),
-    };
+    let code = code_of(alloc, many_selectors(alloc)?)?;
     assert!(&rt; code.size().tables == 9, "indexes");
+    Ok(())
+}
+
+fn one_number(number: u128) -> Range {
+    match Range::new(number, number) {
+        Some(range) => range,
+        None => unreachable!(),
+    }
+}
+
+/// A chain of rules in turn of an interface's name and of a concatenation, each with a value of its
+/// own.
+fn wide_rules(alloc: Global) -> Result<IndexedTable, AllocError> {
+    let mut steps = StepList::new(alloc);
+    let mut sets = Vec::new(alloc);
+    for number in 0..RULES {
+        let name = one_number(u128::from(number + 1) << 100);
+        let named = Action::Compare(Selector::InputName, Operator::Equal, name);
+        add_match(named, 2 * number, &mut steps)?;
+        // The source address `number` and the mark 0.
+        let pairs = [(one_number(u128::from(number) << 32), ())];
+        sets.push(Intervals::first_wins(alloc, &pairs)?)?;
+        let selectors = vec![in alloc; Selector::IpSource, Selector::MetaMark]?;
+        let joined = Action::InSet(selectors, number as usize);
+        add_match(joined, 2 * number + 1, &mut steps)?;
+    }
+    IndexedTable::new(
+        alloc,
+        TableCode {
+            steps,
+            chain_offsets: vec![in alloc; 0]?,
+            lookups: Lookups {
+                sets,
+                verdicts: Vec::new(alloc),
+                numbers: Vec::new(alloc),
+            },
+            dropped: 0,
+        },
+    )
+}
+
+/// One index for all names, and one for all concatenations of two selectors.
+#[test]
+fn names_and_concatenations_are_indexed(rt: HostRuntime) -> Result<(), Fail> {
+    let alloc = rt.alloc();
+    let code = code_of(alloc, wide_rules(alloc)?)?;
+    assert!(&rt; code.size().tables == 2, "indexes");
+    let verdicts = [(5, Some(11), true), (RULES, None, false)];
+    assert!(&rt; has_verdicts(alloc, &code, &verdicts)?, "packets");
     Ok(())
 }
