@@ -76,6 +76,12 @@ pub front_in : (keys : List ℕ) (key : ℕ) → slice_get keys 0 ≡ Some key �
 front_in [] key is = absurd (none-some key is)
 front_in (first ∷ rest) key is = inl (same_Some first key is)
 
+-- a front other than the last key was there before that joined
+pub front_push : (key front : ℕ) (keys : List ℕ) → front ≢ key → slice_get (keys ++ key ∷ []) 0 ≡ Some front
+    → slice_get keys 0 ≡ Some front
+front_push key front [] differs is = absurd (differs (sym (same_Some key front is)))
+front_push key front (first ∷ rest) differs is = is
+
 module _ (R : ℕ → ℕ → Type 0) where
   pub IsSorted-without : (key : ℕ) (keys : List ℕ) → IsSorted R keys → IsSorted R (without key keys)
   IsSorted-without key [] sorted = tt

@@ -1,13 +1,16 @@
 -- The invariant of slots and lists when an entry is touched, created or removed.
-use Rattle.std.proofs.Common.{◌≡◌, ◌≢◌, ℕ, ◌<◌, ◌≤◌, List, length, get_or, set, slice_get, Option}
+use Rattle.std.proofs.Common.{◌≡◌, ◌≢◌, ℕ, ◌<◌, ◌≤◌, List, [], ◌∷◌, ◌++◌, cond, eqb, length, get_or, set, slice_get, Option}
 use Rattle.std.proofs.Common.{Some, None, IsSome, refl, sym, ap, ◌∙◌, subst, inl, inr, arith}
 use Rattle.std.specs.Prelude.{option_map}
 use Rattle.aged_tracker.proofs.Names.{ConnId, ConntrackEntry, IsFiled, IsIn, IsLinked, IsNoneLater, IsOldest, IsRising, Lists, Pushes, Sets, Unlinks, cases_eq}
 use Rattle.aged_tracker.proofs.Names.{get_or-set_other, get_or-set_same, held_in, keys_in, last_at, last_by, none-some, owner_in, queue_list, queue_of}
-use Rattle.aged_tracker.proofs.Names.{same_Some}
-use Rattle.aged_tracker.proofs.Keys.{IsSorted-without, IsSorted-push, IsSorted-to, front_in}
+use Rattle.aged_tracker.proofs.Names.{AreOldest, AreOldestBut, IsLast, IsRings, Link, Moves, Slab, Slot, cond-false, cond-true, eq-eqb, held_at}
+use Rattle.aged_tracker.proofs.Names.{keys_of, lists_of, ne_eqb, owner_of, same_Some}
+use Rattle.aged_tracker.proofs.Keys.{IsSorted-without, IsSorted-push, IsSorted-to, front_in, front_push, IsIn-push_last}
 use Rattle.aged_tracker.proofs.Filed.{IsFiled-unlink, IsFiled-push}
 use Rattle.aged_tracker.proofs.Tables.{none_later-at}
+use Rattle.aged_tracker.proofs.Kept.{items_at}
+use Rattle.futures.specs.LinkedLists.{without}
 
 -- none of the slots has a moment after this one
 pub last_least : (s : ℕ → Option ConntrackEntry) (keys : List ℕ) (now : ℕ) → ((key : ℕ) → IsSome (s key) → IsIn key keys)
@@ -129,14 +132,88 @@ module _ (old new : ℕ → Option ConntrackEntry) (kinds kinds' : Lists) (key :
       linked_pushed old new kinds kinds' (queue_list old) key h updates linked.queues
       (λ k d. ap (λ o. option_map queue_of o) (updates.others k d)) unlisted push id linked.named linked.rising least
 
-  pub oldest_begun : (all : List ℕ) (moment : ℕ) → length all ≡ 5 → queue_of h < 5
-      → ((q : ℕ) → q < 5 → IsOldest old kinds q (get_or all q 0)) → IsOldest new kinds' (queue_of h) moment → (q : ℕ)
-      → q < 5 → IsOldest new kinds' q (get_or (set all (queue_of h) moment) q 0)
-  oldest_begun all moment long range oldest front =
-      oldest_set new kinds' all (queue_of h) moment (omega arith)
-      (λ q r d. oldest_off old new key (Some h) updates kinds kinds' q (get_or all q 0) (push.others q d)
-      (λ found. none-some q (sym unlisted ∙ linked.queues.placed key q found)) (oldest q r))
-      front
+-- a front other than the key that joined a queue
+pub front_pushed : (kinds kinds' : Lists) (key list : ℕ) → Pushes kinds kinds' key list → (q front : ℕ) → front ≢ key
+    → slice_get (keys_in kinds' q) 0 ≡ Some front → slice_get (keys_in kinds q) 0 ≡ Some front
+front_pushed kinds kinds' key list push q front d is =
+    elim (cases_eq q list) [
+      | inl e ↦ front_push key front (keys_in kinds q) d
+          (ap (λ ks. slice_get ks 0) (sym (subst (λ l. keys_in kinds' l ≡ keys_in kinds l ++ key ∷ []) (sym e) push.last)) ∙ is)
+      | inr n ↦ ap (λ ks. slice_get ks 0) (sym (push.others q n)) ∙ is
+    ]
+
+-- the last key of its list is at the end of it already
+module _ (lists : Lists) (key list : ℕ) where
+  abbrev without_last : Lists
+  without_last = record {
+    items = λ l. cond (eqb l list) (without key (lists.items l)) (lists.items l);
+    list_of = λ k. cond (eqb k key) None (lists.list_of k);
+  }
+
+  unlinked : Unlinks lists without_last key list
+  unlinked = record {
+    moved = cond-true _ _ _ (eq-eqb key key refl);
+    rest = λ other d. cond-false _ _ _ (ne_eqb other key d);
+    left = cond-true _ _ _ (eq-eqb list list refl);
+    others = λ other d. cond-false _ _ _ (ne_eqb other list d);
+  }
+
+  moves_last : lists.list_of key ≡ Some list → IsLast key (lists.items list) → Moves lists lists key list
+  moves_last owned last = record {
+    from = list;
+    was = owned;
+    left = without_last;
+    unlinks = unlinked;
+    pushes = record {
+      moved = owned;
+      rest = λ other d. sym (unlinked.rest other d);
+      last = sym last ∙ ap (λ ks. ks ++ key ∷ []) (sym unlinked.left);
+      others = λ other d. sym (unlinked.others other d);
+    };
+  }
+
+pub moves_nowhere : (slots : Slab Slot) (heads : List Link) (key list : ℕ) → list < 5 → IsRings slots heads
+    → IsLast key (keys_of slots heads list) → Moves (lists_of slots heads) (lists_of slots heads) key list
+moves_nowhere slots heads key list range rings last =
+    moves_last (lists_of slots heads) key list
+    ((rings list range).owned key (subst (IsIn key) last (IsIn-push_last key (without key (keys_of slots heads list)))))
+    (subst (IsLast key) (sym (items_at slots heads list range)) last)
+
+-- the moments of the fronts of queues, as a key goes to the end of one
+pub oldest_moved : (old new : Slab Slot) (heads heads' : List Link) (key list : ℕ) (moments : List ℕ) (moment : ℕ)
+    → (moves : Moves (lists_of old heads) (lists_of new heads') key list) → ((k : ℕ) → held_at new k ≡ held_at old k)
+    → moves.from < length moments → IsOldest (held_at new) (lists_of new heads') moves.from moment
+    → AreOldestBut key old heads moments → AreOldestBut key new heads' (set moments moves.from moment)
+oldest_moved old new heads heads' key list moments moment moves same within front oldest q range k d is =
+    elim (cases_eq q moves.from) [
+      | inl e ↦ ap (λ j. get_or (set moments moves.from moment) j 0) e ∙ get_or-set_same moments moves.from moment 0 within
+          ∙ front k (ap (λ j. slice_get (keys_in (lists_of new heads') j) 0) (sym e) ∙ is)
+      | inr n ↦ get_or-set_other moments moves.from q moment 0 n
+          ∙ oldest q range k d (ap (λ ks. slice_get ks 0) (sym (moves.unlinks.others q n))
+          ∙ front_pushed moves.left (lists_of new heads') key list moves.pushes q k d is)
+          ∙ ap last_by (sym (same k))
+    ]
+
+-- the moment of a key is noted, if it is in front of its queue
+module _ (slots : Slab Slot) (heads : List Link) (key list : ℕ) (moments : List ℕ) (moment : ℕ) (range : list < 5)
+    (rings : IsRings slots heads) (owner : owner_of slots key ≡ Some list) (last : last_at (held_at slots) key ≡ moment)
+    (oldest : AreOldestBut key slots heads moments) where
+  its_queue : (q : ℕ) → q < 5 → slice_get (keys_in (lists_of slots heads) q) 0 ≡ Some key → q ≡ list
+  its_queue q r is = same_Some q list (sym ((rings q r).owned key
+      (front_in (keys_of slots heads q) key (ap (λ ks. slice_get ks 0) (sym (items_at slots heads q r)) ∙ is))) ∙ owner)
+
+  pub oldest_noted : list < length moments → slice_get (keys_of slots heads list) 0 ≡ Some key
+      → AreOldest slots heads (set moments list moment)
+  oldest_noted within first q r k is =
+      let at : slice_get (keys_in (lists_of slots heads) list) 0 ≡ Some key = ap (λ ks. slice_get ks 0) (items_at slots heads list range) ∙ first in
+      elim (cases_eq q list) [
+        | inl e ↦
+            let same : k ≡ key = same_Some k key (sym is ∙ ap (λ j. slice_get (keys_in (lists_of slots heads) j) 0) e ∙ at) in
+            ap (λ j. get_or (set moments list moment) j 0) e ∙ get_or-set_same moments list moment 0 within
+            ∙ sym last ∙ ap (last_at (held_at slots)) (sym same)
+        | inr n ↦ get_or-set_other moments list q moment 0 n
+            ∙ oldest q r k (λ e. n (its_queue q r (is ∙ ap Some e))) is
+      ]
 
 -- a removed entry: its key leaves its queue
 module _ (old new : ℕ → Option ConntrackEntry) (kinds kinds' : Lists) (id : ConnId) (h : ConntrackEntry)

@@ -5,10 +5,10 @@ pub use Rattle.aged_tracker.specs.declared.slot.ListLinks.{ListLinks}
 pub use Rattle.aged_tracker.specs.declared.slot.Neighbour.TheVariants.{Next, Previous}
 pub use Rattle.aged_tracker.specs.declared.slot.Slot.{Slot}
 pub use Rattle.aged_tracker.specs.steps.Keyed.{IsConsistent, IsKeyed, belonging_of}
-pub use Rattle.aged_tracker.specs.steps.SlotLists.{IsNode, IsRing, IsRings, Lists, MAX_KEYS, Pushes, Relinks, SameExceptLinks, SameExceptNeighbours, SameLists}
+pub use Rattle.aged_tracker.specs.steps.SlotLists.{IsLast, IsNode, IsOwned, IsRing, IsRings, Lists, MAX_KEYS, Moves, Pushes, Relinks, SameExceptLinks, SameExceptNeighbours, SameLists}
 pub use Rattle.aged_tracker.specs.steps.SlotLists.{Unlinks, cons_held, except_links, except_neighbours, held_at, held_in, held_of, key_at, keys_of, link_at}
 pub use Rattle.aged_tracker.specs.steps.SlotLists.{link_by, lists_of, neighbour, next_of, no_link, number, owner_by, owner_of, prev_of, updated, walk}
-pub use Rattle.aged_tracker.specs.steps.Table.{IsAllLive, IsFiled, IsLinked, IsLiveQueue, IsOldest, IsOrder, IsRising, IsSorted, IsTable, MAX_SERIAL, Sets}
+pub use Rattle.aged_tracker.specs.steps.Table.{AreOldest, AreOldestBut, IsAllLive, IsFiled, IsLinked, IsLiveQueue, IsOldest, IsOrder, IsRising, IsSorted, IsTable, MAX_SERIAL, Sets}
 pub use Rattle.aged_tracker.specs.steps.Table.{held_by, idle_at, in_order, insert_key, insert_used, keys_by, keys_in, last_at, last_by, limit_at, numbered_key}
 pub use Rattle.aged_tracker.specs.steps.Table.{order_in, order_of, owner_in, queue_by, queue_list, queue_number, queue_of, queues_of, serial_at, serial_by}
 pub use Rattle.aged_tracker.specs.steps.SlotLists.{with_links}

@@ -1,10 +1,10 @@
 -- The effect of the calls on slots and lists on the table.
-use Rattle.std.proofs.Common.{◌≡◌, ◌≢◌, ℕ, ◌+◌, ◌<◌, List, [], ◌∷◌, ◌++◌, length, get_or, set, Option, Some, None, IsSome, refl, sym, ap, ◌∙◌, subst, inl, inr}
-use Rattle.std.proofs.Common.{arith, length-set}
+use Rattle.std.proofs.Common.{◌≡◌, ◌≢◌, ℕ, ◌+◌, ◌<◌, List, [], ◌∷◌, ◌++◌, length, get_or, set, slice_get, Option, Some, None, IsSome, refl, sym, ap, ◌∙◌, subst, inl, inr}
+use Rattle.std.proofs.Common.{arith}
 use Rattle.std.specs.Prelude.{IfSome, option_map}
-use Rattle.aged_tracker.proofs.Names.{AgedSlots, ConnId, ConntrackEntry, ContainsKey-within, Direction, Flags, IsIn-without, IsNoneLater, IsOldest, IsOrder}
-use Rattle.aged_tracker.proofs.Names.{IsRings, IsTable, Link, Lists, MAX_KEYS, Pushes, SameExceptLinks, SameLists, Sets, Slab, Slot, Unlinks, Updates, cases_eq}
-use Rattle.aged_tracker.proofs.Names.{except_links, get_or-set_other, get_or-set_same, held_at, held_by, held_in, held_of, link_by, lists_of, order_in}
+use Rattle.aged_tracker.proofs.Names.{AgedSlots, AreOldest, AreOldestBut, ConnId, ConntrackEntry, ContainsKey-within, Direction, Flags, IsIn-without, IsNoneLater, IsOldest, IsOrder}
+use Rattle.aged_tracker.proofs.Names.{IsOwned, IsRings, IsTable, Link, Lists, MAX_KEYS, Moves, Pushes, SameExceptLinks, SameLists, Sets, Slab, Slot, Unlinks, Updates, cases_eq}
+use Rattle.aged_tracker.proofs.Names.{except_links, held_at, held_by, held_in, held_of, keys_in, last_at, last_by, link_by, lists_of, order_in}
 use Rattle.aged_tracker.proofs.Names.{order_of, owner_by, owner_of, queue_of, queues_of, same_Some, serial_at, serial_by, slots_of, touched, touched_at}
 use Rattle.aged_tracker.proofs.Names.{updated}
 use Rattle.slab.specs.Slab.{get}
@@ -15,7 +15,8 @@ use Rattle.aged_tracker.proofs.Kept.{same_rings, same_lists, held_aside, rings_o
 use Rattle.aged_tracker.proofs.Tables.{held_touched, held_without}
 use Rattle.aged_tracker.proofs.Ordered.{not_none, in_order-is, order_kept, order_begun, order_ended}
 use Rattle.aged_tracker.proofs.Links.{kept_by, some_of}
-use Rattle.aged_tracker.proofs.Linked.{last_least, oldest_off, off_others, linked_touched, oldest_set, linked_begun, oldest_begun, linked_ended, oldest_ended}
+use Rattle.aged_tracker.proofs.Linked.{last_least, front_pushed, linked_touched, linked_begun, linked_ended, oldest_ended}
+use Rattle.aged_tracker.proofs.Expired.{queue_of-range}
 
 -- ---- unchanged lists, and slots that are set
 
@@ -85,119 +86,103 @@ grown_table t slots capacity table same =
 
 -- ---- one more packet
 
-module _ (t : AgedSlots) (s1 s2 s3 : Slab Slot) (q1 q3 : List Link) (id : ConnId) (direction : Direction)
-    (flags : Flags) (mark now list list' : ℕ) (table : IsTable t) (some : IsSome (slots_of t id.0))
-    (rings1 : IsRings s1 q1) (un : Unlinks (queues_of t) (lists_of s1 q1) id.0 list)
-    (owner : owner_of t.slots id.0 ≡ Some list) (aside1 : SameExceptLinks t.slots s1)
-    (wrote : IfSome (get s1 id.0) (λ s. Updates s1 s2 id.0
+module _ (t : AgedSlots) (s1 : Slab Slot) (id : ConnId) (direction : Direction) (flags : Flags) (mark now list : ℕ)
+    (table : IsTable t) (some : IsSome (slots_of t id.0))
+    (wrote : IfSome (get t.slots id.0) (λ s. Updates t.slots s1 id.0
     (Some (updated (touched direction flags mark now (held_of id.0 s)) s))))
-    (queue : IfSome (get s1 id.0) (λ s. list' ≡ queue_of (touched direction flags mark now (held_of id.0 s)))) where
-  abbrev pub slot1 : (s : Slot) × (get s1 id.0 ≡ Some s)
-  slot1 = some_of (get s1 id.0) (slot_by s1 id.0 (subst IsSome (sym (held_aside t.slots s1 aside1 id.0)) some))
+    (queue : IfSome (get t.slots id.0) (λ s. list ≡ queue_of (touched direction flags mark now (held_of id.0 s)))) where
+  abbrev slot : (s : Slot) × (get t.slots id.0 ≡ Some s)
+  slot = some_of (get t.slots id.0) (slot_by t.slots id.0 some)
 
-  abbrev pub h : ConntrackEntry
-  h = held_of id.0 slot1.0
+  abbrev h : ConntrackEntry
+  h = held_of id.0 slot.0
 
-  abbrev pub h' : ConntrackEntry
+  abbrev h' : ConntrackEntry
   h' = touched direction flags mark now h
 
-  updates : Updates s1 s2 id.0 (Some (updated h' slot1.0))
-  updates = rw slot1.1 at wrote
+  updates : Updates t.slots s1 id.0 (Some (updated h' slot.0))
+  updates = rw slot.1 at wrote
 
   is_h : slots_of t id.0 ≡ Some h
-  is_h = sym (held_aside t.slots s1 aside1 id.0) ∙ ap (option_map (held_of id.0)) slot1.1
+  is_h = ap (option_map (held_of id.0)) slot.1
 
   -- what the write keeps of a slot
-  kept : {X : Type 0} (f : Option Slot → X) → f (Some (updated h' slot1.0)) ≡ f (Some slot1.0) → (k : ℕ) → f (get s2 k) ≡ f (get s1 k)
+  kept : {X : Type 0} (f : Option Slot → X) → f (Some (updated h' slot.0)) ≡ f (Some slot.0) → (k : ℕ) → f (get s1 k) ≡ f (get t.slots k)
   kept f same k =
       elim (cases_eq k id.0) [
-        | inl e ↦ ap (λ j. f (get s2 j)) e ∙ ap f updates.changed ∙ same ∙ sym (ap (λ j. f (get s1 j)) e ∙ ap f slot1.1)
+        | inl e ↦ ap (λ j. f (get s1 j)) e ∙ ap f updates.changed ∙ same ∙ sym (ap (λ j. f (get t.slots j)) e ∙ ap f slot.1)
         | inr d ↦ ap f (updates.others k d)
       ]
 
-  pub touch_free : owner_of s2 id.0 ≡ None
-  touch_free = kept owner_by refl id.0 ∙ un.moved
+  pub touch_rings : IsRings s1 t.queues
+  touch_rings = same_rings t.slots s1 t.queues (kept link_by refl) (kept owner_by refl) table.rings
 
-  pub touch_rings : IsRings s2 q1
-  touch_rings = same_rings s1 s2 q1 (kept link_by refl) (kept owner_by refl) rings1
+  same_queues : lists_of s1 t.queues ≡ queues_of t
+  same_queues = one_lists (queues_of t) (lists_of s1 t.queues)
+      (same_lists t.slots s1 t.queues (kept link_by refl) (kept owner_by refl) table.rings)
 
-  module _ (push : Pushes (lists_of s2 q1) (lists_of s3 q3) id.0 list') (aside3 : SameExceptLinks s2 s3) where
-    sets : Sets (slots_of t) (held_at s3) id.0 (Some h')
-    sets =
-        sets_through (slots_of t) (held_at s1) (held_at s2) (held_at s3) id.0 (Some h') (held_aside t.slots s1 aside1)
-        (sets_of s1 s2 id.0 (Some (updated h' slot1.0)) updates) (held_aside s2 s3 aside3)
+  owner : owner_of s1 id.0 ≡ Some (queue_of h)
+  owner = kept owner_by refl id.0 ∙ table.linked.queues.owner id.0 ∙ ap (option_map queue_of) is_h
 
-    serials : (k : ℕ) → serial_at s3 k ≡ serial_at t.slots k
-    serials k = serial_aside s2 s3 aside3 k ∙ kept serial_by refl k ∙ serial_aside t.slots s1 aside1 k
+  pub touch_owned : IsOwned s1 id.0
+  touch_owned = (queue_of h, (queue_of-range h, owner))
 
-    order : IsOrder (held_at s3) (serial_at s3) (order_of t)
-    order = order_kept (slots_of t) (held_at s3) (serial_at t.slots) (serial_at s3) id.0 (Some h') sets
+  pub touch_oldest : AreOldestBut id.0 s1 t.queues t.oldest
+  touch_oldest q range k d is =
+      table.oldest q range k (ap (λ l. slice_get (keys_in l q) 0) (sym same_queues) ∙ is)
+      ∙ ap (λ o. last_by (option_map (held_of k) o)) (sym (updates.others k d))
+
+  module _ (s2 : Slab Slot) (q2 : List Link) (moves : Moves (lists_of s1 t.queues) (lists_of s2 q2) id.0 list)
+      (aside : SameExceptLinks s1 s2) where
+    sets : Sets (slots_of t) (held_at s2) id.0 (Some h')
+    sets = sets_through (slots_of t) (slots_of t) (held_at s1) (held_at s2) id.0 (Some h') (λ k. refl)
+        (sets_of t.slots s1 id.0 (Some (updated h' slot.0)) updates) (held_aside s1 s2 aside)
+
+    serials : (k : ℕ) → serial_at s2 k ≡ serial_at t.slots k
+    serials k = serial_aside s1 s2 aside k ∙ kept serial_by refl k
+
+    order : IsOrder (held_at s2) (serial_at s2) (order_of t)
+    order = order_kept (slots_of t) (held_at s2) (serial_at t.slots) (serial_at s2) id.0 (Some h') sets
         (λ k d. serials k) some refl (serials id.0) (order_of t) table.order
 
-    to : list' ≡ queue_of h'
-    to = rw slot1.1 at queue
+    pub touched_last : last_at (held_at s2) id.0 ≡ now
+    touched_last = ap last_by sets.changed
 
-    from : list ≡ queue_of h
-    from = same_Some list (queue_of h) (sym owner ∙ table.linked.queues.owner id.0 ∙ ap (λ o. option_map queue_of o) is_h)
-
-    abbrev pub left : Lists
-    left = lists_of s1 q1
-
-    abbrev pub kinds' : Lists
-    kinds' = lists_of s3 q3
-
-    push' : Pushes left kinds' id.0 (queue_of h')
-    push' =
-        subst (Pushes left kinds' id.0) to
-        (subst (λ l. Pushes l kinds' id.0 list')
-        (one_lists left (lists_of s2 q1) (same_lists s1 s2 q1 (kept link_by refl) (kept owner_by refl) rings1)) push)
-
-    un' : Unlinks (queues_of t) left id.0 (queue_of h)
-    un' = subst (Unlinks (queues_of t) left id.0) from un
-
-    pub touched_held : held_in (held_at s3) (order_in s3) ≡ touched_at id direction flags mark now (held_by t)
+    pub touched_held : held_in (held_at s2) (order_in s2) ≡ touched_at id direction flags mark now (held_by t)
     touched_held =
-        ap (held_in (held_at s3)) (order_found s3 (order_of t) order)
-        ∙ held_touched id direction flags mark now (slots_of t) (held_at s3) h table.linked.named is_h sets (order_of t)
+        ap (held_in (held_at s2)) (order_found s2 (order_of t) order)
+        ∙ held_touched id direction flags mark now (slots_of t) (held_at s2) h table.linked.named is_h sets (order_of t)
 
-    pub touched_slots : IfSome (slots_of t id.0) (λ h. Sets (slots_of t) (held_at s3) id.0 (Some (touched direction flags mark now h)))
-    touched_slots = subst (λ o. IfSome o (λ h. Sets (slots_of t) (held_at s3) id.0
+    pub touched_slots : IfSome (slots_of t id.0) (λ h. Sets (slots_of t) (held_at s2) id.0 (Some (touched direction flags mark now h)))
+    touched_slots = subst (λ o. IfSome o (λ h. Sets (slots_of t) (held_at s2) id.0
         (Some (touched direction flags mark now h)))) (sym is_h) sets
 
-    module _ (moment moment' : ℕ) (none : IsNoneLater now (held_by t)) (rings3 : IsRings s3 q3)
-        (front : IsOldest (held_at s3) kinds' list moment) (front' : IsOldest (held_at s3) kinds' list' moment')
-        (long : length t.oldest ≡ 5) (range : list < 5) (range' : list' < 5) where
-      oldest : (q : ℕ) → q < 5 → IsOldest (held_at s3) kinds' q (get_or (set (set t.oldest list moment) list' moment') q 0)
-      oldest =
-          oldest_set (held_at s3) kinds' (set t.oldest list moment) list' moment' (omega (arith, length-set t.oldest list moment))
-          (λ q r d'. elim (cases_eq q list) [
-            | inl e ↦ subst (λ q. IsOldest (held_at s3) kinds' q (get_or (set t.oldest list moment) q 0)) (sym e)
-                (subst (IsOldest (held_at s3) kinds' list)
-                (sym (get_or-set_same t.oldest list moment 0 (omega arith))) front)
-            | inr d ↦ subst (IsOldest (held_at s3) kinds' q) (sym (get_or-set_other t.oldest list q moment 0 d))
-                (oldest_off (slots_of t) (held_at s3) id.0 (Some h') sets (queues_of t) kinds' q (get_or t.oldest q 0)
-                (push'.others q (λ e. d' (e ∙ sym to)) ∙ un.others q d)
-                (off_others (slots_of t) (queues_of t) left id.0 h is_h table.linked.queues un' q (λ e. d (e ∙ sym from)))
-                (table.oldest q r))
-          ])
-          front'
+    abbrev left : Lists
+    left = moves.left
 
-      pub touched_table : IsTable (record {
-        slots = s3;
-        queues = q3;
-        oldest = set (set t.oldest list moment) list' moment';
-        next_serial = t.next_serial;
-      })
-      touched_table =
-          record {
-            rings = rings3;
-            linked = linked_touched (slots_of t) (held_at s3) (queues_of t) left kinds' id.0 h h' table.linked is_h sets un' push'
-                (table.linked.named id.0 h is_h) (last_least (slots_of t) (order_of t) now table.order.listed none);
-            order = order_there s3 (order_of t) order;
-            below = λ k is. omega (arith, serials k, table.below k (table.order.used k (order.listed k is)));
-            oldest = oldest;
-            few = few_kept MAX_KEYS (slots_of t) (held_at s3) id.0 (Some h') sets (table.few id.0 some) table.few;
-          }
+    from : moves.from ≡ queue_of h
+    from = same_Some moves.from (queue_of h) (sym moves.was ∙ owner)
+
+    unlinks : Unlinks (queues_of t) left id.0 (queue_of h)
+    unlinks = subst (λ l. Unlinks l left id.0 (queue_of h)) same_queues
+        (subst (Unlinks (lists_of s1 t.queues) left id.0) from moves.unlinks)
+
+    to : list ≡ queue_of h'
+    to = rw slot.1 at queue
+
+    pub touched_table : IsNoneLater now (held_by t) → IsRings s2 q2 → (oldest : List ℕ) → AreOldest s2 q2 oldest
+        → IsTable (record { slots = s2; queues = q2; oldest = oldest; next_serial = t.next_serial })
+    touched_table none rings oldest fronts =
+        record {
+          rings = rings;
+          linked = linked_touched (slots_of t) (held_at s2) (queues_of t) left (lists_of s2 q2) id.0 h h' table.linked is_h sets
+              unlinks (subst (Pushes left (lists_of s2 q2) id.0) to moves.pushes)
+              (table.linked.named id.0 h is_h) (last_least (slots_of t) (order_of t) now table.order.listed none);
+          order = order_there s2 (order_of t) order;
+          below = λ k is. omega (arith, serials k, table.below k (table.order.used k (order.listed k is)));
+          oldest = fronts;
+          few = few_kept MAX_KEYS (slots_of t) (held_at s2) id.0 (Some h') sets (table.few id.0 some) table.few;
+        }
 
 -- ---- a new entry
 
@@ -247,11 +232,15 @@ module _ (t : AgedSlots) (s1 : Slab Slot) (key : ℕ) (slot : Slot) (table : IsT
         ∙ ap (λ hs. hs ++ held_of key slot ∷ []) (held_same (slots_of t) (held_at s2) (order_of t)
         (λ k found. begun_sets.others k (λ e. not_none (slots_of t k) (ap (slots_of t) e ∙ vacant) (table.order.used k found))))
 
-    pub begun_table : (now moment : ℕ) → IsNoneLater now (held_by t) → slot.last ≡ now → IsRings s2 q2
-        → IsOldest (held_at s2) kinds2 list moment → length t.oldest ≡ 5 → list < 5 → key < MAX_KEYS → (next : ℕ)
-        → next ≡ t.next_serial + 1
-        → IsTable (record { slots = s2; queues = q2; oldest = set t.oldest list moment; next_serial = next })
-    begun_table now moment none last rings2 front long range few next more =
+    pub begun_oldest : AreOldestBut key s2 q2 t.oldest
+    begun_oldest q range k d is =
+        table.oldest q range k (front_pushed (queues_of t) kinds2 key (queue_of (held_of key slot)) pushed q k d is)
+        ∙ ap last_by (sym (begun_sets.others k d))
+
+    pub begun_table : (now : ℕ) → IsNoneLater now (held_by t) → slot.last ≡ now → IsRings s2 q2 → (oldest : List ℕ)
+        → AreOldest s2 q2 oldest → key < MAX_KEYS → (next : ℕ) → next ≡ t.next_serial + 1
+        → IsTable (record { slots = s2; queues = q2; oldest = oldest; next_serial = next })
+    begun_table now none last rings2 oldest fronts few next more =
         record {
           rings = rings2;
           linked = linked_begun (slots_of t) (held_at s2) (queues_of t) kinds2 key
@@ -262,11 +251,7 @@ module _ (t : AgedSlots) (s1 : Slab Slot) (key : ℕ) (slot : Slot) (table : IsT
             | inl e ↦ omega (arith, more, last_serial, ap (serial_at s2) e)
             | inr d ↦ omega (arith, more, serials2 k d, table.below k (subst IsSome (begun_sets.others k d) is))
           ];
-          oldest = subst (λ l. (q : ℕ) → q < 5 → IsOldest (held_at s2) kinds2 q (get_or (set t.oldest l moment) q 0)) (sym to)
-              (oldest_begun (slots_of t) (held_at s2) (queues_of t) kinds2 key
-              (held_of key slot) table.linked vacant begun_sets pushed t.oldest moment long
-              (omega (arith, to, range)) table.oldest
-              (subst (λ l. IsOldest (held_at s2) kinds2 l moment) to front));
+          oldest = fronts;
           few = few_kept MAX_KEYS (slots_of t) (held_at s2) key (Some (held_of key slot)) begun_sets few table.few;
         }
 

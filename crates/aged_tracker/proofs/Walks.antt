@@ -1,13 +1,13 @@
 -- The keys along a circular list.
-use Rattle.std.proofs.Common.{◌≡◌, ◌≢◌, ◌⊎◌, ℕ, zero, suc, ◌+◌, ◌-◌, ◌<◌, ◌≤◌, cond, List, [], ◌∷◌, length, slice_get}
+use Rattle.std.proofs.Common.{◌≡◌, ◌≢◌, ◌⊎◌, ℕ, zero, suc, ◌+◌, ◌-◌, ◌<◌, ◌≤◌, cond, List, [], ◌∷◌, ◌++◌, length, slice_get}
 use Rattle.std.proofs.Common.{Some, None, refl, sym, ap, ◌∙◌, subst, inl, inr, arith}
-use Rattle.aged_tracker.proofs.Names.{ContainsKey-within, IsApart, IsIn, IsIn-without, IsRing, Link, Slab, Slot, cases_eq, key_at, keys_of, le-ltb}
-use Rattle.aged_tracker.proofs.Names.{length-without, next_of, prev_of, walk}
+use Rattle.aged_tracker.proofs.Names.{ContainsKey-within, IsApart, IsIn, IsIn-without, IsLast, IsRing, Link, Slab, Slot, cases_eq, key_at, keys_of, le-ltb}
+use Rattle.aged_tracker.proofs.Names.{length-without, next_of, none-some, prev_of, same_Some, walk, without_head}
 use Rattle.std.proofs.lemmas.Bool.{lt-ltb}
 use Rattle.slab.specs.Slab.{get}
 use Rattle.futures.specs.LinkedLists.{without}
 use Rattle.futures.specs.Links as ring
-use Rattle.aged_tracker.proofs.Keys.{IsApart-without}
+use Rattle.aged_tracker.proofs.Keys.{IsApart-without, IsIn-push_last, without_past}
 use Rattle.aged_tracker.proofs.Links.{owned_some}
 
 key_at-head : (p : ℕ) → p < 5 → key_at p ≡ None
@@ -38,6 +38,40 @@ module _ (next prev : ℕ → ℕ) where
       ∙ ap (λ k. k ∷ walk next more (next from)) key
       ∙ ap (λ p. first ∷ walk next more p) chain.0
       ∙ ap (λ ks. first ∷ ks) (chain_walk more (5 + first) list rest head chain.2 (omega (arith, enough)))
+
+-- the end of a chain leads back to its last key, and to no other
+module _ (next prev : ℕ → ℕ) (list key : ℕ) where
+  chain_end : (from : ℕ) (keys : List ℕ) → ring.IsChain next prev 5 from (keys ++ key ∷ []) list → prev list ≡ 5 + key
+  chain_end from [] chain = chain.2.1
+  chain_end from (first ∷ rest) chain = chain_end (5 + first) rest chain.2
+
+  chain_last : (from first : ℕ) (rest : List ℕ) → ring.IsChain next prev 5 from (first ∷ rest) list
+      → IsApart (first ∷ rest) → prev list ≡ 5 + key → IsLast key (first ∷ rest)
+  chain_last from first [] chain apart end =
+      let same : first ≡ key = omega (arith, chain.2.1, end) in
+      ap (λ ks. ks ++ key ∷ []) (without_head key first [] same) ∙ ap (λ k. k ∷ []) (sym same)
+  chain_last from first (second ∷ rest) chain apart end =
+      let rec = chain_last (5 + first) second rest chain.2 apart.1 end in
+      let there = subst (IsIn key) rec (IsIn-push_last key (without key (second ∷ rest))) in
+      ap (λ ks. ks ++ key ∷ []) (without_past key first (second ∷ rest)
+      (λ e. apart.0 (subst (λ k. IsIn k (second ∷ rest)) (sym e) there))) ∙ ap (λ ks. first ∷ ks) rec
+
+  pub first_by_next : (keys : List ℕ) → list < 5 → ring.IsChain next prev 5 list keys list → next list ≡ 5 + key
+      → slice_get keys 0 ≡ Some key
+  first_by_next keys range chain at = sym (chain_first next prev list list keys range chain) ∙ key_at-key (next list) key at
+
+  pub next_by_first : (keys : List ℕ) → ring.IsChain next prev 5 list keys list → slice_get keys 0 ≡ Some key → next list ≡ 5 + key
+  next_by_first [] chain first = absurd (none-some key first)
+  next_by_first (head ∷ rest) chain first = chain.0 ∙ ap (λ k. 5 + k) (same_Some head key first)
+
+  pub last_by_prev : (keys : List ℕ) → list < 5 → ring.IsChain next prev 5 list keys list → IsApart keys
+      → prev list ≡ 5 + key → IsLast key keys
+  last_by_prev [] range chain apart end = absurd (omega (arith, range, chain.1, end))
+  last_by_prev (first ∷ rest) range chain apart end = chain_last list first rest chain apart end
+
+  pub prev_by_last : (keys : List ℕ) → ring.IsChain next prev 5 list keys list → IsLast key keys → prev list ≡ 5 + key
+  prev_by_last keys chain last =
+      chain_end list (without key keys) (subst (λ ks. ring.IsChain next prev 5 list ks list) (sym last) chain)
 
 in_or_not : (key : ℕ) (keys : List ℕ) → IsIn key keys ⊎ (¬ IsIn key keys)
 in_or_not key [] = inr (λ f. f)

@@ -3,12 +3,13 @@ ghost use Rattle.std.specs.Prelude.{◌≡◌, ◌+◌, ◌<◌, ◌≤◌, ◌+
 ghost use Rattle.slab.specs.Slab.{get, slab_len, ContainsKey, Updates};
 ghost use Rattle.futures.specs.LinkedLists.{IsIn};
 ghost use Rattle.conntrack.specs.ConntrackEntry.{begun_with, connection_of, is_live, touched, touched_at, without, IsNoneLater};
-ghost use Rattle.aged_tracker.specs.steps.SlotLists.{MAX_KEYS, lists_of, held_at, held_in, held_of, updated, Fills, IsRings, SameSize};
-ghost use Rattle.aged_tracker.specs.steps.Table.{MAX_SERIAL, has_room, held_by, keys_by, limit_at, queue_by};
-ghost use Rattle.aged_tracker.specs.steps.Table.{queue_of, slots_of, IsAllLive, IsLiveQueue, IsOldest, IsTable, Sets};
+ghost use Rattle.aged_tracker.specs.steps.SlotLists.{MAX_KEYS, keys_of, lists_of, owner_of, held_at, held_in, held_of, updated};
+ghost use Rattle.aged_tracker.specs.steps.SlotLists.{Fills, IsLast, IsOwned, IsRings, Moves, SameExceptLinks, SameSize, Slots as SlotsName};
+ghost use Rattle.aged_tracker.specs.steps.Table.{MAX_SERIAL, has_room, held_by, keys_by, last_at, limit_at, queue_by};
+ghost use Rattle.aged_tracker.specs.steps.Table.{queue_of, slots_of, AreOldest, AreOldestBut, IsAllLive, IsLiveQueue, IsOldest, IsTable, Sets};
 ghost use Rattle.aged_tracker.specs.steps.Keyed.{belonging_of};
 
-use crate::linked_lists::{empty_heads, front, push_back, unlink};
+use crate::linked_lists::{empty_heads, front, is_first, is_last, push_back, unlink};
 use crate::slot::{LISTS, Link, MAX_KEYS, idle_at, queue_by};
 use crate::slots::Slots;
 use box_file::Limits;
@@ -53,6 +54,57 @@ fn oldest_of(slots: &Slots, queues: &[Link; LISTS], queue: usize, steps: &mut St
             None => 0,
             Some(slot) => slot.last,
         },
+    }
+}
+
+/// Moves a slot to the end of a queue, unless it is the last there already. `oldest` may then lack
+/// the moment of a queue with that slot in front.
+fn requeue(
+    slots: &mut Slots,
+    queues: &mut [Link; LISTS],
+    oldest: &mut [Moment; LISTS],
+    queue: usize,
+    key: usize,
+    steps: &mut Steps,
+)
+    requires range { queue < 5 }
+    requires few { key < MAX_KEYS }
+    requires owned { IsOwned slots.old key }
+    requires rings { IsRings slots.old queues.old }
+    requires oldest { AreOldestBut key slots.old queues.old oldest.old }
+    ensures rings { IsRings slots.new queues.new }
+    ensures moves { Moves (lists_of slots.old queues.old) (lists_of slots.new queues.new) key queue }
+    ensures oldest { AreOldestBut key slots.new queues.new oldest.new }
+    ensures except_links { SameExceptLinks slots.old slots.new }
+    ensures size { SameSize slots.old slots.new }
+    ensures rises { steps.old ≤ steps.new }
+    ensures steps { steps.new ≤ steps.old + 6 }
+    ensures stays { IsLast key (keys_of slots.old queues.old queue) → steps.new ≡ steps.old }
+{
+    if is_last(queues, queue, key) {
+        return;
+    }
+    let left = unlink(slots, queues, key, steps);
+    push_back(slots, queues, queue, key, steps);
+    oldest[left] = oldest_of(slots, queues, left, steps);
+}
+
+/// Notes the moment of a slot's last packet, if the slot is the front of its queue.
+fn note_front(
+    queues: &[Link; LISTS],
+    oldest: &mut [Moment; LISTS],
+    queue: usize,
+    key: usize,
+    moment: Moment,
+)
+    requires range { queue < 5 }
+    requires few { key < MAX_KEYS }
+    ensures { (slots : SlotsName) → IsRings slots queues.now
+        → owner_of slots key ≡ Some queue → last_at (held_at slots) key ≡ moment
+        → AreOldestBut key slots queues.now oldest.old → AreOldest slots queues.now oldest.new }
+{
+    if is_first(queues, queue, key) {
+        oldest[queue] = moment;
     }
 }
 
@@ -115,14 +167,19 @@ impl AgedSlots {
             (Some (touched direction flags mark now h))) }
         ensures room { IsTrue (has_room self.old) → IsTrue (has_room self.new) }
         ensures rises { steps.old ≤ steps.new }
-        ensures steps { steps.new ≤ steps.old + 8 }
+        ensures steps { steps.new ≤ steps.old + 7 }
     {
         let key = id.0;
-        let left = unlink(&mut self.slots, &mut self.queues, key, steps);
         let queue = self.slots.touch(key, direction, flags, mark, now, steps);
-        push_back(&mut self.slots, &mut self.queues, queue, key, steps);
-        self.oldest[left] = oldest_of(&self.slots, &self.queues, left, steps);
-        self.oldest[queue] = oldest_of(&self.slots, &self.queues, queue, steps);
+        requeue(
+            &mut self.slots,
+            &mut self.queues,
+            &mut self.oldest,
+            queue,
+            key,
+            steps,
+        );
+        note_front(&self.queues, &mut self.oldest, queue, key, now);
     }
 
     /// Creates an entry, at the end of its queue.
@@ -138,14 +195,14 @@ impl AgedSlots {
         ensures slots { Sets (slots_of self.old) (slots_of self.new) result.0
             (Some (begun_with result connection flags)) }
         ensures rises { steps.old ≤ steps.new }
-        ensures steps { steps.new ≤ steps.old + 4 }
+        ensures steps { steps.new ≤ steps.old + 3 }
     {
         let held = connection.begun(ConnId(self.slots.vacant_key()), flags);
         let queue = queue_by(held.original.kind, held.phase());
         let key = self.slots.fill(&held, self.next_serial, steps);
         self.next_serial += 1;
         push_back(&mut self.slots, &mut self.queues, queue, key, steps);
-        self.oldest[queue] = oldest_of(&self.slots, &self.queues, queue, steps);
+        note_front(&self.queues, &mut self.oldest, queue, key, connection.last);
         ConnId(key)
     }
 

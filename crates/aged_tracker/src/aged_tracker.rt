@@ -20,7 +20,7 @@ use std::marker::Model;
 use word_hash::WordState;
 
 /// Keeps entries in slots that are found by an index of their incoming tuples and expire by queues.
-/// A call counts at most 8 visited slots, however many entries there are.
+/// A call counts at most 7 visited slots, however many entries there are.
 #[derive(Drop)]
 pub struct AgedTracker {
     slots: AgedSlots,
@@ -77,7 +77,7 @@ impl Tracker for AgedTracker {
 
     ghost has_room = { λ t. t.room };
 
-    ghost max_slots = { Some 8 };
+    ghost max_slots = { Some 7 };
 
     fn new(alloc: Global, hasher: RandomState, idle: Limits) -> Self {
         AgedTracker {

@@ -1,9 +1,9 @@
 //! Circular doubly linked lists of slots, each with a head. In `steps` calls count the slots that
 //! they read or write.
-ghost use Rattle.std.specs.Prelude.{◌≡◌, ◌+◌, ◌<◌, ◌≤◌, ◌++◌, ◌∷◌, [], ℕ, List, Some, None, IfSome, slice_get};
+ghost use Rattle.std.specs.Prelude.{◌≡◌, ◌+◌, ◌<◌, ◌≤◌, ◌↔◌, ◌++◌, ◌∷◌, [], ℕ, List, Some, None, IfSome, IsTrue, slice_get};
 ghost use Rattle.slab.specs.Slab.{ContainsKey};
 ghost use Rattle.aged_tracker.specs.steps.SlotLists.{MAX_KEYS, number, link_at, owner_of, keys_of, with_neighbour, Relinks};
-ghost use Rattle.aged_tracker.specs.steps.SlotLists.{lists_of, IsOwned, IsNode, IsRings, Pushes, SameExceptLinks};
+ghost use Rattle.aged_tracker.specs.steps.SlotLists.{lists_of, IsLast, IsOwned, IsNode, IsRings, Pushes, SameExceptLinks};
 ghost use Rattle.aged_tracker.specs.steps.SlotLists.{SameExceptNeighbours, SameSize, Slots as SlotsName, Unlinks};
 
 use crate::slot::{LISTS, Link, ListLinks, Neighbour, NodeIndex};
@@ -111,6 +111,26 @@ pub fn front(heads: &[Link; LISTS], list: usize) -> Option<usize>
         → result ≡ slice_get (keys_of slots heads.now list) 0 }
 {
     head_link(heads, list).next.key()
+}
+
+/// Whether a slot is the first of a list.
+pub fn is_first(heads: &[Link; LISTS], list: usize, key: usize) -> bool
+    requires range { list < 5 }
+    requires few { key < MAX_KEYS }
+    ensures { (slots : SlotsName) → IsRings slots heads.now
+        → (IsTrue result ↔ (slice_get (keys_of slots heads.now list) 0 ≡ Some key)) }
+{
+    head_link(heads, list).next.number() == LISTS + key
+}
+
+/// Whether a slot is the last of a list.
+pub fn is_last(heads: &[Link; LISTS], list: usize, key: usize) -> bool
+    requires range { list < 5 }
+    requires few { key < MAX_KEYS }
+    ensures { (slots : SlotsName) → IsRings slots heads.now
+        → (IsTrue result ↔ IsLast key (keys_of slots heads.now list)) }
+{
+    head_link(heads, list).prev.number() == LISTS + key
 }
 
 /// The heads of empty lists.

@@ -201,6 +201,18 @@ pub record Pushes (old new : Lists) (key list : ℕ) : Type 0 where
   pub last : new.items list ≡ old.items list ++ key ∷ []
   pub others : (other : ℕ) → other ≢ list → new.items other ≡ old.items other
 
+-- the key is the last of these
+abbrev pub IsLast : ℕ → List ℕ → Type 0
+IsLast key keys = without key keys ++ key ∷ [] ≡ keys
+
+-- the key went from its list to the end of one, and nothing else changed
+pub record Moves (old new : Lists) (key to : ℕ) : Type 0 where
+  pub from : ℕ
+  pub was : old.list_of key ≡ Some from
+  pub left : Lists
+  pub unlinks : Unlinks old left key from
+  pub pushes : Pushes left new key to
+
 -- no list changed
 pub record SameLists (old new : Lists) : Type 0 where
   pub items : (list : ℕ) → new.items list ≡ old.items list

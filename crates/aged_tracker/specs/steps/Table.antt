@@ -12,6 +12,7 @@ use Rattle.box_file.specs.declared.limits.Limits.{Limits}
 use Rattle.conntrack.specs.Phases.{idle_kind, limit_in, phase_by, phase_of}
 use Rattle.conntrack.specs.ConntrackEntry.{is_live}
 use Rattle.aged_tracker.specs.declared.aged_slots.AgedSlots.{AgedSlots}
+use Rattle.aged_tracker.specs.declared.slot.Link.{Link}
 use Rattle.aged_tracker.specs.declared.slot.Slot.{Slot}
 use Rattle.aged_tracker.specs.steps.SlotLists.{MAX_KEYS, Lists, held_at, held_in, lists_of, IsRings}
 
@@ -95,6 +96,17 @@ abbrev pub IsOldest : (ℕ → Option ConntrackEntry) → Lists → ℕ → ℕ 
 IsOldest slots queues q moment =
     (key : ℕ) → slice_get (keys_in queues q) 0 ≡ Some key → moment ≡ last_at slots key
 
+-- each queue's moment is its front entry's
+abbrev pub AreOldest : Slab Slot → List Link → List ℕ → Type 0
+AreOldest slots heads moments =
+    (q : ℕ) → q < 5 → IsOldest (held_at slots) (lists_of slots heads) q (slice_index_or moments q 0)
+
+-- it is so where the queue doesn't have this key in front
+abbrev pub AreOldestBut : ℕ → Slab Slot → List Link → List ℕ → Type 0
+AreOldestBut key slots heads moments =
+    (q : ℕ) → q < 5 → (other : ℕ) → other ≢ key → slice_get (keys_in (lists_of slots heads) q) 0 ≡ Some other
+    → slice_index_or moments q 0 ≡ last_at (held_at slots) other
+
 -- ---- the order of creation
 
 abbrev pub serial_by : Option Slot → ℕ
@@ -159,7 +171,7 @@ pub record IsTable (t : AgedSlots) : Type 0 where
   pub linked : IsLinked (slots_of t) (queues_of t)
   pub order : IsOrder (slots_of t) (serial_at t.slots) (order_of t)
   pub below : (key : ℕ) → IsSome (slots_of t key) → serial_at t.slots key < t.next_serial
-  pub oldest : (q : ℕ) → q < 5 → IsOldest (slots_of t) (queues_of t) q (slice_index_or t.oldest q 0)
+  pub oldest : AreOldest t.slots t.queues t.oldest
   pub few : (key : ℕ) → IsSome (slots_of t key) → key < MAX_KEYS
 
 -- the greatest number
