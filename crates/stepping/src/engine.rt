@@ -12,6 +12,7 @@ ghost use Rattle.stepping.specs.Representing.{Represents, sent_packets, packet_o
 use crate::packet_buffer::PacketBuffer;
 use crate::process::{RecordResult, output_interface, process_record};
 use crate::setup::Setup;
+use crate::state::PacketState;
 use connection_table::ConnectionTable;
 use conntrack::laws::{independent_of_ids, none_later, one_more_entry};
 use conntrack::{Connection, Tracker};
@@ -32,6 +33,8 @@ pub struct Engine<T: Tracker> {
     records: u64,
     /// The time of the last record in nanoseconds; 0 before the first.
     latest: u64,
+    /// The last packet on its path.
+    state: PacketState,
     /// The events of the last record.
     events: Events,
     /// The result of the last record; none before the first.
@@ -50,6 +53,7 @@ impl<T: Tracker> Drop for Engine<T> {
             connections: _,
             records: _,
             latest: _,
+            state: _,
             events: _,
             ended: _,
             packet: _,
@@ -97,6 +101,7 @@ impl<T: Tracker> Engine<T> {
             connections: ConnectionTable::new(alloc, hasher, idle),
             records: 0,
             latest: 0,
+            state: PacketState::vacant(),
             events,
             ended: None,
             packet,
@@ -175,6 +180,7 @@ impl<T: Tracker> Engine<T> {
             record,
             now,
             &mut self.connections,
+            &mut self.state,
             &mut self.events,
             &mut self.packet,
         );

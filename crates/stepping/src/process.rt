@@ -37,13 +37,15 @@ pub struct RecordResult {
     pub begun: bool,
 }
 
-/// Processes one record. All connections held are live at `now`. `events` gets the events of the
-/// rules' evaluation, and `packet` the bytes of the packet, if it is forwarded.
+/// Processes one record. All connections held are live at `now`. `state` is the place of its packet;
+/// `events` gets the events of the rules' evaluation, and `packet` the bytes of the packet, if it is
+/// forwarded.
 pub fn process_record<T: Tracker>(
     setup: &Setup,
     record: &Record,
     now: Moment,
     connections: &mut ConnectionTable<T>,
+    state: &mut PacketState,
     events: &mut Events,
     packet: &mut PacketBuffer,
 ) -> RecordResult
@@ -65,10 +67,10 @@ pub fn process_record<T: Tracker>(
         Err(cause) => return dropped(cause, 0),
     };
     let length = view.total_length();
-    let mut state = PacketState::received(&view, *input);
-    match process_packet(setup, &view, now, connections, &mut state, events) {
+    state.receive(&view, input);
+    match process_packet(setup, &view, now, connections, state, events) {
         Ok(begun) => {
-            send(&view, &state, packet);
+            send(&view, state, packet);
             RecordResult {
                 outcome: outcome_by(state.facts.output),
                 length,

@@ -6,11 +6,11 @@ ghost use Rattle.stepping.specs.Next.{with_info};
 ghost use Rattle.stepping.specs.Paths.{on_arrival};
 ghost use Rattle.stepping.specs.steps.Steps.{path_state};
 
-use ip_headers::View;
+use ip_headers::{Transport, View};
 use rule_meaning::{CtFacts, Facts, Interface, Packet};
 use translation::CtInfo;
 
-/// A packet on its path. Each step updates it in place.
+/// A packet on its path. Each step updates it in place, and the next packet takes its place.
 #[derive(Clone, Copy)]
 pub struct PacketState {
     /// What rules read of it.
@@ -20,22 +20,39 @@ pub struct PacketState {
 }
 
 impl PacketState {
-    /// A received packet: not routed, not looked up, mark 0.
-    #[inline(always)]
-    pub fn received(view: &View, input: Interface) -> PacketState
-        ensures facts { result.facts ≡ (on_arrival view.now.packet.now input).facts }
-        ensures info { result.info ≡ (on_arrival view.now.packet.now input).info }
-    {
+    /// The place for packets, with none in it: all numbers are 0.
+    pub fn vacant() -> PacketState {
         PacketState {
             facts: Facts {
-                packet: packet_facts(view),
-                input,
+                packet: Packet {
+                    source: 0,
+                    destination: 0,
+                    protocol: 0,
+                    ttl: 0,
+                    length: 0,
+                    transport: Transport::Other,
+                },
+                input: Interface { index: 0, name: 0 },
                 output: None,
                 mark: 0,
                 ct: CtFacts::NotLookedUp,
             },
             info: CtInfo::Untracked,
         }
+    }
+
+    /// Takes a received packet: not routed, not looked up, mark 0.
+    #[inline(always)]
+    pub fn receive(&mut self, view: &View, input: &Interface)
+        ensures facts { self.new.facts ≡ (on_arrival view.now.packet.now input.now).facts }
+        ensures info { self.new.info ≡ (on_arrival view.now.packet.now input.now).info }
+    {
+        self.facts.packet = packet_facts(view);
+        self.facts.input = *input;
+        self.facts.output = None;
+        self.facts.mark = 0;
+        self.facts.ct = CtFacts::NotLookedUp;
+        self.info = CtInfo::Untracked;
     }
 
     /// Sets its state by the look-up, which rules read from then on.
