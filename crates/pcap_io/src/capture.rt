@@ -116,6 +116,8 @@ pub struct Capture {
     fault: Option<CaptureError>,
     /// The captured length of the last record; its bytes are the last ones taken from the buffer.
     last: Option<usize>,
+    /// The header of the next record, where the buffer has the whole of it behind the last one.
+    upcoming: Option<RecordHeader>,
 }
 
 impl Model for Capture {
@@ -126,7 +128,7 @@ impl Model for Capture {
 
     ghost view = { λ c. capture_state_of c.format c.buffer c.count c.latest c.fault c.last };
 
-    ghost invariant = { λ c. IsConsistent c.buffer c.count c.latest c.last };
+    ghost invariant = { λ c. IsConsistent c.format c.buffer c.count c.latest c.fault c.last c.upcoming };
 }
 
 impl Capture {
@@ -188,6 +190,7 @@ impl Capture {
             latest: 0,
             fault: None,
             last: None,
+            upcoming: None,
         })
     }
 
@@ -197,11 +200,13 @@ impl Capture {
     pub fn is_ready(&self) -> bool
         ensures { result ≡ is_ready self.now }
     {
+        if self.upcoming.is_some() {
+            return true;
+        }
         self.fault.is_some() || self.buffer.is_ended() || self.decides_next()
     }
 
     /// Whether the buffered bytes decide the next result, whatever follows them.
-    #[inline(always)]
     fn decides_next(&self) -> bool
         ensures { result ≡ decides_next self.now.format self.now.count self.now.held }
     {
@@ -267,16 +272,17 @@ impl Capture {
         ensures some { result ≡ Ok true → self.new.last ≢ None }
         ensures kinds { IsNone self.old.fault → IfErr result IsOfRecords }
     {
-        if let Some(fault) = self.fault {
-            return Err(fault);
-        }
-        // Most records are buffered whole: their headers are decoded once.
-        if let Some(header) = self.buffered_record() {
+        // Most records are buffered whole, and their headers decoded with the record before.
+        if let Some(header) = self.upcoming {
             self.advance(header);
             return Ok(true);
         }
+        if let Some(fault) = self.fault {
+            return Err(fault);
+        }
         self.last = None;
         while !self.is_ready() {
+            self.upcoming = None;
             let Ok(()) = self.buffer.fill(reader) else {
                 self.fault = Some(CaptureError::Device);
                 return Err(CaptureError::Device);
@@ -286,7 +292,6 @@ impl Capture {
     }
 
     /// Decodes the next record from the buffer, without a read.
-    #[inline(always)]
     fn step(&mut self) -> Result<bool, CaptureError>
         requires going { self.old.fault ≡ None }
         requires ready { is_ready self.old ≡ true }
@@ -340,10 +345,12 @@ impl Capture {
         RecordHeader::read(self.format, self.buffer.held()).ok()
     }
 
-    /// Takes the next record from the buffer, which has all of it.
+    /// Takes the next record from the buffer, which has all of it. Decodes the header behind it, if
+    /// the buffer has that record whole too.
     #[inline(always)]
     fn advance(&mut self, header: RecordHeader)
-        requires { IsBuffered self.old.format self.old.count self.old.held header }
+        requires going { self.old.fault ≡ None }
+        requires buffered { IsBuffered self.old.format self.old.count self.old.held header }
         ensures reads { (more : List ℕ) → ReadsRecord (self.old.held ++ more)
             (Some (self.new.held ++ more)) self.old self.new }
         ensures same { (self.new.format ≡ self.old.format) × (self.new.ended ≡ self.old.ended)
@@ -363,6 +370,9 @@ impl Capture {
         self.buffer
             .take(RECORD_HEADER_BYTES + header.captured as usize);
         self.last = Some(header.captured as usize);
+        // The decoded header was this record's.
+        self.upcoming = None;
+        self.upcoming = self.buffered_record();
     }
 
     /// Makes this the error of this call and of all later ones.
@@ -372,6 +382,7 @@ impl Capture {
     {
         let error = CaptureError::Refused(fault);
         self.fault = Some(error);
+        self.upcoming = None;
         Err(error)
     }
 

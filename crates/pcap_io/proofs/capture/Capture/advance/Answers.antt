@@ -11,7 +11,7 @@ returns-clause-reads c more =
     let format = inside.format in
     let header = c.args.header in
     let whole : IsBuffered format inside.count inside.buffer.held header =
-    subst (λ (s : CaptureState). IsBuffered s.format s.count s.held header) (sym c.self.view_is) c.requires in
+    subst (λ (s : CaptureState). IsBuffered s.format s.count s.held header) (sym c.self.view_is) c.requires.buffered in
     let moment : c.max-self-inside.result
     ≡ max inside.latest (header.seconds * 1000000000 + header.fraction * nanoseconds format.resolution) =
     c.max-self-inside.ensures ∙ ap (max inside.latest) c.moment-moment.ensures.value in

@@ -88,8 +88,8 @@ returns-clause-next_answers g c none =
     rw (b.joined, after) (next_from (mid.held ++ b.more) (Some (new.held ++ b.more)) mid old new c.step.result
     kept.format kept.count kept.latest (c.step.ensures.next_answers b.more b.none))))
 
-pub returns-in-Some-buffered_record-clause-next_answers : goal.returns-in-Some-buffered_record-clause-next_answers
-returns-in-Some-buffered_record-clause-next_answers g c none =
+pub returns-in-Some-clause-next_answers : goal.returns-in-Some-clause-next_answers
+returns-in-Some-clause-next_answers g c none =
     let old = c.args.self.now in
     let new = c.advance.new.self in
     let left = g.R.Read.remaining c.args.reader.now.inner in
