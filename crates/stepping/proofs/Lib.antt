@@ -6,3 +6,4 @@ mod Extending
 mod FoundInterfaces
 mod OldConnections
 mod PacketFronts
+mod StepsTaken

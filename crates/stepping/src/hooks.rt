@@ -1,12 +1,8 @@
 //! The hooks after the look-up, with routing between them.
-ghost use Rattle.std.specs.Prelude.{◌≡◌, List};
-ghost use Rattle.ip_headers.specs.declared.tuple.Mapping.{Mapping};
-ghost use Rattle.nat_mapping.specs.Mappings.{HoldsSame};
+ghost use Rattle.std.specs.Prelude.{◌≡◌};
 ghost use Rattle.filter_vm.specs.Machine.{EventsAndTicks};
-ghost use Rattle.translation.specs.Fitting.{Fits};
-ghost use Rattle.translation.specs.CtInfos.{untranslated};
 ghost use Rattle.stepping.specs.Paths.{AfterRouting, ForwardAndPostrouting, Hooks, Prerouting, Routing};
-ghost use Rattle.stepping.specs.steps.Steps.{HasRoom, Spends, after_routing_cost, hooks_cost, path_state, prerouting_cost, setup_in, step_result};
+ghost use Rattle.stepping.specs.steps.Steps.{HasRoom, TakesStep, after_routing_cost, hooks_cost, path_state, prerouting_cost, setup_in, step_result};
 
 use crate::nat::{translate_destination, translate_source};
 use crate::setup::Setup;
@@ -27,13 +23,8 @@ pub fn run_hooks(
     events: &mut Events,
 ) -> Result<(), Cause>
     requires room { HasRoom events.old (hooks_cost setup.now.hooks.costs) }
-    ensures steps { (held : List Mapping) → HoldsSame held mappings.now.held
-        → Hooks (setup_in setup.now.hooks) held (path_state state.old events.old)
-        (step_result result (path_state state.new events.new)) }
-    ensures fits { (held : List Mapping) → HoldsSame held mappings.now.held → Fits state.old.info held
-        → Fits state.new.info held }
-    ensures same { untranslated state.new.info ≡ untranslated state.old.info }
-    ensures spent { Spends events.old events.new (hooks_cost setup.now.hooks.costs) }
+    ensures took { TakesStep (Hooks (setup_in setup.now.hooks)) mappings.now.held
+        (hooks_cost setup.now.hooks.costs) state.old events.old state.new events.new result }
 {
     prerouting(setup, mappings, state, events)?;
     route(setup, state)?;
@@ -49,13 +40,8 @@ fn prerouting(
     events: &mut Events,
 ) -> Result<(), Cause>
     requires room { HasRoom events.old (prerouting_cost setup.now.hooks.costs) }
-    ensures steps { (held : List Mapping) → HoldsSame held mappings.now.held
-        → Prerouting (setup_in setup.now.hooks) held (path_state state.old events.old)
-        (step_result result (path_state state.new events.new)) }
-    ensures fits { (held : List Mapping) → HoldsSame held mappings.now.held → Fits state.old.info held
-        → Fits state.new.info held }
-    ensures same { untranslated state.new.info ≡ untranslated state.old.info }
-    ensures spent { Spends events.old events.new (prerouting_cost setup.now.hooks.costs) }
+    ensures took { TakesStep (Prerouting (setup_in setup.now.hooks)) mappings.now.held
+        (prerouting_cost setup.now.hooks.costs) state.old events.old state.new events.new result }
 {
     setup.run(HookStage::PreroutingBeforeNat, state, events)?;
     translate_destination(setup, mappings, state, events)?;
@@ -99,13 +85,9 @@ fn after_routing(
     events: &mut Events,
 ) -> Result<(), Cause>
     requires room { HasRoom events.old (after_routing_cost setup.now.hooks.costs) }
-    ensures steps { (held : List Mapping) → HoldsSame held mappings.now.held
-        → AfterRouting (setup_in setup.now.hooks) held (path_state state.old events.old)
-        (step_result result (path_state state.new events.new)) }
-    ensures fits { (held : List Mapping) → HoldsSame held mappings.now.held → Fits state.old.info held
-        → Fits state.new.info held }
-    ensures same { untranslated state.new.info ≡ untranslated state.old.info }
-    ensures spent { Spends events.old events.new (after_routing_cost setup.now.hooks.costs) }
+    ensures took { TakesStep (AfterRouting (setup_in setup.now.hooks)) mappings.now.held
+        (after_routing_cost setup.now.hooks.costs) state.old events.old state.new events.new
+        result }
 {
     match state.facts.output {
         None => setup.run(HookStage::Input, state, events),
@@ -122,13 +104,9 @@ fn forward_and_postrouting(
     events: &mut Events,
 ) -> Result<(), Cause>
     requires room { HasRoom events.old (after_routing_cost setup.now.hooks.costs) }
-    ensures steps { (held : List Mapping) → HoldsSame held mappings.now.held
-        → ForwardAndPostrouting (setup_in setup.now.hooks) held (path_state state.old events.old)
-        (step_result result (path_state state.new events.new)) }
-    ensures fits { (held : List Mapping) → HoldsSame held mappings.now.held → Fits state.old.info held
-        → Fits state.new.info held }
-    ensures same { untranslated state.new.info ≡ untranslated state.old.info }
-    ensures spent { Spends events.old events.new (after_routing_cost setup.now.hooks.costs) }
+    ensures took { TakesStep (ForwardAndPostrouting (setup_in setup.now.hooks)) mappings.now.held
+        (after_routing_cost setup.now.hooks.costs) state.old events.old state.new events.new
+        result }
 {
     setup.run(HookStage::Forward, state, events)?;
     setup.run(HookStage::PostroutingBeforeNat, state, events)?;

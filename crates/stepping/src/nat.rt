@@ -1,12 +1,8 @@
 //! Destination NAT and source NAT with their nat chains.
-ghost use Rattle.std.specs.Prelude.{◌≡◌, List};
-ghost use Rattle.ip_headers.specs.declared.tuple.Mapping.{Mapping};
-ghost use Rattle.nat_mapping.specs.Mappings.{HoldsSame};
+ghost use Rattle.std.specs.Prelude.{◌≡◌};
 ghost use Rattle.hook_runs.specs.Stages.{stage_cost};
-ghost use Rattle.translation.specs.Fitting.{Fits};
-ghost use Rattle.translation.specs.CtInfos.{untranslated};
 ghost use Rattle.stepping.specs.Paths.{DestinationNat, NatChains, SourceNat};
-ghost use Rattle.stepping.specs.steps.Steps.{HasRoom, Spends, path_state, setup_in, step_result};
+ghost use Rattle.stepping.specs.steps.Steps.{HasRoom, Spends, TakesStep, setup_in};
 
 use crate::setup::Setup;
 use crate::state::PacketState;
@@ -30,13 +26,8 @@ pub fn translate_destination(
     events: &mut Events,
 ) -> Result<(), Cause>
     requires room { HasRoom events.old setup.now.hooks.costs.prerouting_nat }
-    ensures step { (held : List Mapping) → HoldsSame held mappings.now.held
-        → DestinationNat (setup_in setup.now.hooks) held (path_state state.old events.old)
-        (step_result result (path_state state.new events.new)) }
-    ensures fits { (held : List Mapping) → HoldsSame held mappings.now.held → Fits state.old.info held
-        → Fits state.new.info held }
-    ensures same { untranslated state.new.info ≡ untranslated state.old.info }
-    ensures spent { Spends events.old events.new setup.now.hooks.costs.prerouting_nat }
+    ensures took { TakesStep (DestinationNat (setup_in setup.now.hooks)) mappings.now.held
+        setup.now.hooks.costs.prerouting_nat state.old events.old state.new events.new result }
 {
     if let CtInfo::New(_) = state.info {
         return translate_new_destination(setup, mappings, state, events);
@@ -56,13 +47,8 @@ fn translate_new_destination(
     events: &mut Events,
 ) -> Result<(), Cause>
     requires room { HasRoom events.old setup.now.hooks.costs.prerouting_nat }
-    ensures step { (held : List Mapping) → HoldsSame held mappings.now.held
-        → DestinationNat (setup_in setup.now.hooks) held (path_state state.old events.old)
-        (step_result result (path_state state.new events.new)) }
-    ensures fits { (held : List Mapping) → HoldsSame held mappings.now.held → Fits state.old.info held
-        → Fits state.new.info held }
-    ensures same { untranslated state.new.info ≡ untranslated state.old.info }
-    ensures spent { Spends events.old events.new setup.now.hooks.costs.prerouting_nat }
+    ensures took { TakesStep (DestinationNat (setup_in setup.now.hooks)) mappings.now.held
+        setup.now.hooks.costs.prerouting_nat state.old events.old state.new events.new result }
 {
     let verdict = run_nat_chains(setup, HookStage::PreroutingNat, state, events);
     if let HookVerdict::Dropped = verdict {
@@ -91,13 +77,8 @@ pub fn translate_source(
     events: &mut Events,
 ) -> Result<(), Cause>
     requires room { HasRoom events.old setup.now.hooks.costs.postrouting_nat }
-    ensures step { (held : List Mapping) → HoldsSame held mappings.now.held
-        → SourceNat (setup_in setup.now.hooks) held (path_state state.old events.old)
-        (step_result result (path_state state.new events.new)) }
-    ensures fits { (held : List Mapping) → HoldsSame held mappings.now.held → Fits state.old.info held
-        → Fits state.new.info held }
-    ensures same { untranslated state.new.info ≡ untranslated state.old.info }
-    ensures spent { Spends events.old events.new setup.now.hooks.costs.postrouting_nat }
+    ensures took { TakesStep (SourceNat (setup_in setup.now.hooks)) mappings.now.held
+        setup.now.hooks.costs.postrouting_nat state.old events.old state.new events.new result }
 {
     if let CtInfo::New(_) = state.info {
         return translate_new_source(setup, mappings, state, events);
@@ -117,13 +98,8 @@ fn translate_new_source(
     events: &mut Events,
 ) -> Result<(), Cause>
     requires room { HasRoom events.old setup.now.hooks.costs.postrouting_nat }
-    ensures step { (held : List Mapping) → HoldsSame held mappings.now.held
-        → SourceNat (setup_in setup.now.hooks) held (path_state state.old events.old)
-        (step_result result (path_state state.new events.new)) }
-    ensures fits { (held : List Mapping) → HoldsSame held mappings.now.held → Fits state.old.info held
-        → Fits state.new.info held }
-    ensures same { untranslated state.new.info ≡ untranslated state.old.info }
-    ensures spent { Spends events.old events.new setup.now.hooks.costs.postrouting_nat }
+    ensures took { TakesStep (SourceNat (setup_in setup.now.hooks)) mappings.now.held
+        setup.now.hooks.costs.postrouting_nat state.old events.old state.new events.new result }
 {
     let verdict = run_nat_chains(setup, HookStage::PostroutingNat, state, events);
     if let HookVerdict::Dropped = verdict {

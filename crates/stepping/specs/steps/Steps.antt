@@ -1,11 +1,15 @@
 -- Steps in the code's terms, and what they cost.
-use Rattle.std.specs.Prelude.{ℕ, ◌+◌, ◌≤◌, length, Result, Ok, Err}
+use Rattle.std.specs.Prelude.{◌≡◌, ℕ, ◌+◌, ◌≤◌, List, length, Result, Ok, Err}
+use Rattle.ip_headers.specs.declared.tuple.Mapping.{Mapping}
+use Rattle.nat_mapping.specs.Mappings.{HoldsSame}
 use Rattle.filter_vm.specs.Machine.{EventsAndTicks}
 use Rattle.hook_runs.specs.Stages.{CostedTree, StageCosts}
 use Rattle.history.specs.declared.outcome.Cause.{Cause}
 use Rattle.history.specs.Setup.{Setup}
+use Rattle.translation.specs.CtInfos.{untranslated}
+use Rattle.translation.specs.Fitting.{Fits}
 use Rattle.stepping.specs.declared.state.PacketState.{PacketState}
-use Rattle.stepping.specs.Paths.{PathState, StepResult, Continue, Drop}
+use Rattle.stepping.specs.Paths.{PathState, StepResult, Continue, Drop, Step}
 
 -- the configuration of compiled chains
 abbrev pub setup_in : CostedTree → Setup
@@ -31,6 +35,21 @@ pub record Spends (before after : EventsAndTicks) (cost : ℕ) : Type 0 where
   pub events : length after.events ≤ length before.events + cost
   pub no_fewer : before.ticks ≤ after.ticks
   pub ticks : after.ticks ≤ before.ticks + cost
+
+-- ---- steps with NAT
+
+-- a packet took a step, whichever list it is that represents the mappings held: its state fits the list then
+-- if it did before, it is of the same connection, and at most so many events and statements came
+pub record TakesStep (taken : List Mapping → Step) (mappings : List Mapping) (cost : ℕ)
+    (old : PacketState) (before : EventsAndTicks) (new : PacketState) (after : EventsAndTicks)
+    (answer : Result (Unit {0}) Cause) : Type 0 where
+  pub step : (held : List Mapping) → HoldsSame held mappings
+      → taken held (path_state old before) (step_result answer (path_state new after))
+  pub fits : (held : List Mapping) → HoldsSame held mappings → Fits old.info held → Fits new.info held
+  pub same : untranslated new.info ≡ untranslated old.info
+  pub spent : Spends before after cost
+
+-- ---- costs of the hooks
 
 abbrev pub prerouting_cost : StageCosts → ℕ
 prerouting_cost costs = costs.prerouting_before_nat + (costs.prerouting_nat + costs.prerouting_after_nat)

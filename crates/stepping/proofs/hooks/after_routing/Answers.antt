@@ -1,18 +1,10 @@
-use Rattle.std.proofs.Common.{Option, sym, subst}
-use Rattle.rule_meaning.specs.declared.facts.Interface.{Interface}
-use Rattle.stepping.specs.Paths.{InputOrForward}
-use Rattle.stepping.specs.steps.Steps.{path_state, setup_in, step_result}
+use Rattle.stepping.proofs.StepsTaken.{at_output, of_chains, spare}
 use Rattle.stepping.proofs.hooks.after_routing.Goals as goal
 
-pub returns-in-None-clause-steps : goal.returns-in-None-clause-steps
-returns-in-None-clause-steps c = λ held same.
-    subst (λ (output : Option Interface). InputOrForward (setup_in c.args.setup.now.hooks) held output
-    (path_state c.args.state.now c.args.events.now)
-    (step_result c.run.result (path_state c.run.new.state c.run.new.events))) (sym c.in-None.is) c.run.ensures.step
+pub returns-in-None : goal.returns-in-None
+returns-in-None c =
+    let run = c.run.ensures in
+    record { took = at_output _ c.in-None.is (spare _ (of_chains run.step run.info run.spent)) }
 
-pub returns-in-Some-clause-steps : goal.returns-in-Some-clause-steps
-returns-in-Some-clause-steps c = λ held same.
-    let on = c.forward_and_postrouting in
-    subst (λ (output : Option Interface). InputOrForward (setup_in c.args.setup.now.hooks) held output
-    (path_state c.args.state.now c.args.events.now) (step_result on.result (path_state on.new.state on.new.events)))
-    (sym c.in-Some.is) (on.ensures.steps held same)
+pub returns-in-Some : goal.returns-in-Some
+returns-in-Some c = record { took = at_output _ c.in-Some.is c.forward_and_postrouting.ensures.took }

@@ -1,24 +1,42 @@
 use Rattle.std.proofs.lemmas.Result.{err_from_is_err_and}
-use Rattle.stepping.specs.Paths.{stops, goes_on}
+use Rattle.stepping.proofs.StepsTaken.{beside, of_chains, stopped, went_on}
 use Rattle.stepping.proofs.hooks.forward_and_postrouting.Goals as goal
 
-pub returns-in_err-run-clause-steps : goal.returns-in_err-run-clause-steps
-returns-in_err-run-clause-steps c = λ held same.
+pub returns-in_err-run : goal.returns-in_err-run
+returns-in_err-run c =
     let q = err_from_is_err_and c.from_residual.result c.from_residual.ensures.1 in
-    rw (q.1, q.2) (stops _ _ c.in_err-run.ensures.step)
+    let run = c.in_err-run.ensures in
+    rw (q.1, q.2) (record { took = beside _ (stopped _ (of_chains run.step run.info run.spent)) })
 
-pub returns-in_err-run-2-clause-steps : goal.returns-in_err-run-2-clause-steps
-returns-in_err-run-2-clause-steps c = λ held same.
+pub returns-in_err-run-2 : goal.returns-in_err-run-2
+returns-in_err-run-2 c =
     let q = err_from_is_err_and c.from_residual-in_err-run-2.result c.from_residual-in_err-run-2.ensures.1 in
-    rw (q.1, q.2) (goes_on _ _ c.in_ok-run.ensures.step (stops _ _ c.in_err-run-2.ensures.step))
+    let run = c.in_ok-run.ensures in
+    let second = c.in_err-run-2.ensures in
+    rw (q.1, q.2) (record {
+      took = beside _ (went_on (of_chains run.step run.info run.spent)
+          (stopped _ (of_chains second.step second.info second.spent)));
+    })
 
-pub returns-in_err-translate_source-clause-steps : goal.returns-in_err-translate_source-clause-steps
-returns-in_err-translate_source-clause-steps c = λ held same.
+pub returns-in_err-translate_source : goal.returns-in_err-translate_source
+returns-in_err-translate_source c =
     let q = err_from_is_err_and c.from_residual-in_err-translate_source.result
     c.from_residual-in_err-translate_source.ensures.1 in
-    rw (q.1, q.2) (goes_on _ _ c.in_ok-run.ensures.step (goes_on _ _ c.in_ok-run-2.ensures.step
-    (stops _ _ (c.in_err-translate_source.ensures.step held same))))
+    let run = c.in_ok-run.ensures in
+    let second = c.in_ok-run-2.ensures in
+    rw (q.1, q.2) (record {
+      took = beside _ (went_on (of_chains run.step run.info run.spent)
+          (went_on (of_chains second.step second.info second.spent)
+          (stopped _ c.in_err-translate_source.ensures.took)));
+    })
 
-pub returns-clause-steps : goal.returns-clause-steps
-returns-clause-steps c = λ held same. goes_on _ _ c.in_ok-run.ensures.step (goes_on _ _ c.in_ok-run-2.ensures.step
-    (goes_on _ _ (c.in_ok-translate_source.ensures.step held same) c.run-3.ensures.step))
+pub returns : goal.returns
+returns c =
+    let run = c.in_ok-run.ensures in
+    let second = c.in_ok-run-2.ensures in
+    let last = c.run-3.ensures in
+    record {
+      took = beside _ (went_on (of_chains run.step run.info run.spent)
+          (went_on (of_chains second.step second.info second.spent)
+          (went_on c.in_ok-translate_source.ensures.took (of_chains last.step last.info last.spent))));
+    }

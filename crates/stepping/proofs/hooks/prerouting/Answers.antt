@@ -1,19 +1,28 @@
 use Rattle.std.proofs.lemmas.Result.{err_from_is_err_and}
-use Rattle.stepping.specs.Paths.{stops, goes_on}
+use Rattle.stepping.proofs.StepsTaken.{of_chains, stopped, went_on}
 use Rattle.stepping.proofs.hooks.prerouting.Goals as goal
 
-pub returns-in_err-run-clause-steps : goal.returns-in_err-run-clause-steps
-returns-in_err-run-clause-steps c = λ held same.
+pub returns-in_err-run : goal.returns-in_err-run
+returns-in_err-run c =
     let q = err_from_is_err_and c.from_residual.result c.from_residual.ensures.1 in
-    rw (q.1, q.2) (stops _ _ c.in_err-run.ensures.step)
+    let run = c.in_err-run.ensures in
+    rw (q.1, q.2) (record { took = stopped _ (of_chains run.step run.info run.spent) })
 
-pub returns-in_err-translate_destination-clause-steps : goal.returns-in_err-translate_destination-clause-steps
-returns-in_err-translate_destination-clause-steps c = λ held same.
+pub returns-in_err-translate_destination : goal.returns-in_err-translate_destination
+returns-in_err-translate_destination c =
     let q = err_from_is_err_and c.from_residual-in_err-translate_destination.result
     c.from_residual-in_err-translate_destination.ensures.1 in
-    rw (q.1, q.2) (goes_on _ _ c.in_ok-run.ensures.step
-    (stops _ _ (c.in_err-translate_destination.ensures.step held same)))
+    let run = c.in_ok-run.ensures in
+    rw (q.1, q.2) (record {
+      took = went_on (of_chains run.step run.info run.spent)
+          (stopped _ c.in_err-translate_destination.ensures.took);
+    })
 
-pub returns-clause-steps : goal.returns-clause-steps
-returns-clause-steps c = λ held same. goes_on _ _ c.in_ok-run.ensures.step
-    (goes_on _ _ (c.in_ok-translate_destination.ensures.step held same) c.run-2.ensures.step)
+pub returns : goal.returns
+returns c =
+    let run = c.in_ok-run.ensures in
+    let last = c.run-2.ensures in
+    record {
+      took = went_on (of_chains run.step run.info run.spent)
+          (went_on c.in_ok-translate_destination.ensures.took (of_chains last.step last.info last.spent));
+    }

@@ -1,18 +1,26 @@
 use Rattle.std.proofs.lemmas.Result.{err_from_is_err_and}
-use Rattle.stepping.specs.Paths.{stops, goes_on}
+use Rattle.stepping.proofs.StepsTaken.{routed, stopped, unrouted, went_on}
+use Rattle.stepping.specs.steps.Steps.{setup_in}
 use Rattle.stepping.proofs.hooks.run_hooks.Goals as goal
 
-pub returns-in_err-prerouting-clause-steps : goal.returns-in_err-prerouting-clause-steps
-returns-in_err-prerouting-clause-steps c = λ held same.
+pub returns-in_err-prerouting : goal.returns-in_err-prerouting
+returns-in_err-prerouting c =
     let q = err_from_is_err_and c.from_residual.result c.from_residual.ensures.1 in
-    rw (q.1, q.2) (stops _ _ (c.in_err-prerouting.ensures.steps held same))
+    rw (q.1, q.2) (record { took = stopped _ c.in_err-prerouting.ensures.took })
 
-pub returns-in_err-route-clause-steps : goal.returns-in_err-route-clause-steps
-returns-in_err-route-clause-steps c = λ held same.
+pub returns-in_err-route : goal.returns-in_err-route
+returns-in_err-route c =
     let q = err_from_is_err_and c.from_residual-in_err-route.result c.from_residual-in_err-route.ensures.1 in
-    rw (q.1, q.2) (goes_on _ _ (c.in_ok-prerouting.ensures.steps held same)
-    (stops _ _ (c.in_err-route.ensures.step c.prerouting.new.events)))
+    let route = c.in_err-route.ensures in
+    rw (q.1, q.2) (record {
+      took = went_on c.in_ok-prerouting.ensures.took
+          (unrouted (setup_in c.args.setup.now.hooks) (route.step c.prerouting.new.events) route.info);
+    })
 
-pub returns-clause-steps : goal.returns-clause-steps
-returns-clause-steps c = λ held same. goes_on _ _ (c.in_ok-prerouting.ensures.steps held same)
-    (goes_on _ _ (c.in_ok-route.ensures.step c.prerouting.new.events) (c.after_routing.ensures.steps held same))
+pub returns : goal.returns
+returns c =
+    let route = c.in_ok-route.ensures in
+    record {
+      took = went_on c.in_ok-prerouting.ensures.took (routed (setup_in c.args.setup.now.hooks)
+          (route.step c.prerouting.new.events) route.info c.after_routing.ensures.took);
+    }

@@ -5,9 +5,11 @@ use Rattle.stepping.proofs.nat.translate_source.Goals as goal
 
 pub returns : goal.returns
 returns c = record {
-  step = λ held same. rw c.update_source.ensures (source_kept (setup_in c.args.setup.now.hooks) held
-      c.args.state.now.facts c.args.events.now.events c.args.state.now.info c.in_default.not-New);
-  fits = λ held same fits. fits;
-  same = refl;
-  spent = record { events = omega arith; no_fewer = omega arith; ticks = omega arith };
+  took = record {
+    step = λ held same. rw c.update_source.ensures (source_kept (setup_in c.args.setup.now.hooks) held
+        c.args.state.now.facts c.args.events.now.events c.args.state.now.info c.in_default.not-New);
+    fits = λ held same fits. fits;
+    same = refl;
+    spent = record { events = omega arith; no_fewer = omega arith; ticks = omega arith };
+  };
 }

@@ -23,7 +23,7 @@ pub returns-in_err-run_hooks-clause-path : goal.returns-in_err-run_hooks-clause-
 returns-in_err-run_hooks-clause-path g c =
     let q = err_from_is_err_and c.from_residual-in_err-run_hooks.result c.from_residual-in_err-run_hooks.ensures.1 in
     let look = c.look_up-belonging in
-    let hooks = rw look.ensures.held at (c.in_err-run_hooks.ensures.steps _ c.mappings.ensures) in
+    let hooks = rw look.ensures.held at (c.in_err-run_hooks.ensures.took.step _ c.mappings.ensures) in
     rw (q.1, q.2) (goes_on _ _ c.in_ok-run.ensures.step (goes_on (path_state look.new.state c.run.new.events) _
     (ap Continue (look.ensures.step c.run.new.events)) (stops _ _ hooks)))
 
@@ -37,13 +37,13 @@ returns-in_err-run_hooks-clause-follows g c =
     let info : look.new.state.info ≡ looked_up_info ct old p =
     ap (λ (s : PathState). s.info) (look.ensures.step c.run.new.events) in
     rw (q.1, q.2) (dropped_later p old c.args.now ct _ _ (path_state c.run_hooks.new.state c.run_hooks.new.events)
-    (c.in_err-run_hooks.ensures.same ∙ ap untranslated info)
+    (c.in_err-run_hooks.ensures.took.same ∙ ap untranslated info)
     (look.ensures.held ∙ ap (λ (i : CtInfo). others_beside i old p) info))
 
 pub returns-clause-path : goal.returns-clause-path
 returns-clause-path g c =
     let look = c.look_up-belonging in
-    let hooks = rw look.ensures.held at (c.in_ok-run_hooks.ensures.steps _ c.mappings.ensures) in
+    let hooks = rw look.ensures.held at (c.in_ok-run_hooks.ensures.took.step _ c.mappings.ensures) in
     let confirms = rw look.ensures.held at c.confirm.ensures.confirms in
     goes_on _ _ c.in_ok-run.ensures.step (goes_on (path_state look.new.state c.run.new.events) _
     (ap Continue (look.ensures.step c.run.new.events)) (goes_on _ _ hooks (confirms.step _)))
@@ -58,5 +58,5 @@ returns-clause-follows g c =
     ap (λ (s : PathState). s.info) (look.ensures.step c.run.new.events) in
     let flags = c.flags_in-flags.ensures ∙ ap flags_in c.requires.transport in
     confirmed_follows p old c.args.now ct _ c.confirm.result (path_state c.run_hooks.new.state c.run_hooks.new.events)
-    (c.in_ok-run_hooks.ensures.same ∙ ap untranslated info)
+    (c.in_ok-run_hooks.ensures.took.same ∙ ap untranslated info)
     (rw (flags, look.ensures.belonging, look.ensures.held, info) at c.confirm.ensures.confirms)
