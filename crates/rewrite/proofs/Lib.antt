@@ -1,17 +1,5 @@
-pub mod Sums
-pub mod Places
-pub mod Writes
-pub mod Parts
-pub mod Corrected
-pub mod Exchange
-pub mod Covered
-pub mod Whole
-pub mod Lengths
-pub mod Sent
-pub mod Kept
-pub mod Passed
-pub mod Between
-pub mod TransportSums
-pub mod Exchanged
-pub mod InnerDatagram
-mod OwnEndpoints
+pub mod Words
+pub mod Checksums
+pub mod Packets
+pub mod Rewritten
+pub mod Datagrams

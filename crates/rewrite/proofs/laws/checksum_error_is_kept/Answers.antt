@@ -1,8 +1,8 @@
 use Rattle.std.proofs.Common.{◌%◌, ap, ◌∙◌, arith}
 use Rattle.ip_headers.specs.Sum.{words_sum}
 use Rattle.rewrite.specs.Rewritten.{pseudo_header_and_payload}
-use Rattle.rewrite.proofs.TransportSums.{tcp_sum_kept, udp_sum_kept}
-use Rattle.rewrite.proofs.InnerDatagram.{icmp_sum_kept_with_inner, rewritten_other}
+use Rattle.rewrite.proofs.Packets.{tcp_sum_kept, udp_sum_kept}
+use Rattle.rewrite.proofs.Rewritten.{icmp_sum_kept_with_inner, rewritten_other}
 use Rattle.rewrite.proofs.laws.checksum_error_is_kept.Goals as goal
 
 pub returns-clause-tcp : goal.returns-clause-tcp

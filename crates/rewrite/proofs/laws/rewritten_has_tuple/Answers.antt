@@ -1,5 +1,5 @@
 use Rattle.rewrite.specs.Rewritten.{rewritten}
-use Rattle.rewrite.proofs.Between.{rewritten_has_tuple}
+use Rattle.rewrite.proofs.Rewritten.{rewritten_has_tuple}
 use Rattle.rewrite.proofs.laws.rewritten_has_tuple.Goals as goal
 
 pub returns : goal.returns

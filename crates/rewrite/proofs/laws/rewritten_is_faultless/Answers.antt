@@ -1,4 +1,4 @@
-use Rattle.rewrite.proofs.InnerDatagram.{rewritten_passes}
+use Rattle.rewrite.proofs.Rewritten.{rewritten_passes}
 use Rattle.rewrite.proofs.laws.rewritten_is_faultless.Goals as goal
 
 pub returns : goal.returns

@@ -3,7 +3,7 @@ use Rattle.std.proofs.lemmas.Grind.{common_steps}
 use Rattle.std.proofs.lemmas.List.{take_at}
 use borrow.Rule.Slice.PartMut.{post_of}
 use Rattle.rewrite.specs.Rewritten.{rewritten}
-use Rattle.rewrite.proofs.InnerDatagram.{length-rewritten}
+use Rattle.rewrite.proofs.Rewritten.{length-rewritten}
 use Rattle.rewrite.proofs.sending.emit.Goals as goal
 
 patched : (old packet d new items : List ℕ) (n s k : ℕ) → d ≡ old ++ packet → s ≡ length old

@@ -1,8 +1,6 @@
 use Rattle.std.proofs.Common.{ap, sym, ◌∙◌, arith}
 use Rattle.rewrite.specs.steps.Fields.{changed_fields, keeps_endpoints, with_fields, with_ttl_field}
-use Rattle.rewrite.proofs.Covered.{IsDatagram}
-use Rattle.rewrite.proofs.OwnEndpoints.{own_endpoints}
-use Rattle.rewrite.proofs.Whole.{whole_is}
+use Rattle.rewrite.proofs.Datagrams.{IsDatagram, own_endpoints, whole_is}
 use Rattle.rewrite.proofs.sending.rewrite.Goals as goal
 
 pub returns-then-keeps_endpoints : goal.returns-then-keeps_endpoints

@@ -5,12 +5,10 @@ use Rattle.rewrite.specs.declared.fields.Fields.{Fields}
 use Rattle.rewrite.specs.Endpoints.{between}
 use Rattle.rewrite.specs.Rewritten.{inner_start, with_endpoints}
 use Rattle.rewrite.specs.steps.Fields.{changed_fields, fields_at, fields_change, with_fields}
-use Rattle.rewrite.proofs.Places.{word_read}
-use Rattle.rewrite.proofs.Covered.{IsDatagram}
-use Rattle.rewrite.proofs.Whole.{whole_is}
-use Rattle.rewrite.proofs.TransportSums.{payload_same}
-use Rattle.rewrite.proofs.Exchanged.{fields_before}
-use Rattle.rewrite.proofs.InnerDatagram.{quote_rewritten_is}
+use Rattle.rewrite.proofs.Words.{word_read}
+use Rattle.rewrite.proofs.Datagrams.{IsDatagram, whole_is, fields_before}
+use Rattle.rewrite.proofs.Packets.{payload_same}
+use Rattle.rewrite.proofs.Rewritten.{quote_rewritten_is}
 use Rattle.rewrite.proofs.sending.rewrite_inner.Goals as goal
 
 word_same : (a b : List ℕ) (i j v w : ℕ) → a ≡ b → i ≡ j → v ≡ w → with_u16 a i v ≡ with_u16 b j w

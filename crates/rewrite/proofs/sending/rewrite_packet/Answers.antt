@@ -5,9 +5,9 @@ use Rattle.ip_headers.specs.Tuple.{inner_tuple_of}
 use Rattle.ip_headers.specs.declared.tuple.Tuple.{Tuple}
 use Rattle.rewrite.specs.Rewritten.{replaced, update_checksums}
 use Rattle.rewrite.specs.steps.Fields.{HasFields}
-use Rattle.rewrite.proofs.Lengths.{has_fields}
-use Rattle.rewrite.proofs.InnerDatagram.{inner_fields, inner_rewritten, inner_rewritten_none, inner_rewritten_passes}
-use Rattle.rewrite.proofs.InnerDatagram.{inner_rewritten_some, read_some, rewritten_is}
+use Rattle.rewrite.proofs.Packets.{has_fields}
+use Rattle.rewrite.proofs.Rewritten.{inner_fields, inner_rewritten, inner_rewritten_none}
+use Rattle.rewrite.proofs.Rewritten.{inner_rewritten_passes, inner_rewritten_some, read_some, rewritten_is}
 use Rattle.rewrite.proofs.sending.rewrite_packet.Goals as goal
 use Rattle.rewrite.proofs.sending.rewrite_packet.Goals.{Joined-quoted_endpoints, in-Some, in_default}
 

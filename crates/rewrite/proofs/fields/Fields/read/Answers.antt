@@ -7,7 +7,7 @@ use Rattle.ip_headers.specs.Bytes.{u32_at}
 use Rattle.rewrite.specs.declared.fields.Fields.{Fields}
 use Rattle.rewrite.specs.declared.fields.TransportFields.{TransportFields}
 use Rattle.rewrite.specs.steps.Fields.{transport_fields_of}
-use Rattle.rewrite.proofs.Places.{word_read}
+use Rattle.rewrite.proofs.Words.{word_read}
 use Rattle.rewrite.proofs.fields.Fields.read.Goals as goal
 
 number_read : (bytes : List ℕ) (i number : ℕ) → i + 4 ≤ length bytes

@@ -1,17 +1,134 @@
--- Words exchanged one after another under a checksum, among the bytes from an offset on.
-use Rattle.std.proofs.Common.{◌≡◌, ℕ, zero, suc, ◌+◌, ◌*◌, ◌/◌, ◌%◌, ◌<◌, ◌≤◌, List, length, length-drop, get_or, set, drop}
-use Rattle.std.proofs.Common.{true, false, refl, sym, ap, ◌∙◌, arith}
-use Rattle.std.proofs.lemmas.Bool.{eqb-true, eq-eqb, and_parts, and_from}
-use Rattle.std.proofs.lemmas.List.{drop-set-add, get_or-drop, get_or-set_same, set-get_or}
+-- Updates of checksums.
+use Rattle.std.proofs.Common.{◌≡◌, ℕ, ◌+◌, List, [], ◌∷◌, Bool, true, false, refl, sym, ap, arith, ◌≢◌, ◌%◌}
+use Rattle.std.proofs.Common.{◌<◌, length, zero, suc, ◌*◌, ◌/◌, ◌≤◌, length-drop, get_or, set, drop, ◌∙◌}
+use Rattle.std.specs.Prelude.{◌==◌, ◌||◌, if◌then◌else◌}
+use Rattle.std.proofs.lemmas.Bool.{eqb-true, eq-eqb, and_parts, cond_both, ne_eqb, and_from}
+use Rattle.list_laws.specs.Tests.{same-tests}
 use Rattle.ip_headers.specs.Sum.{words_sum}
-use Rattle.ip_headers.specs.Bytes.{u16_at, u32_at, with_u16, with_u32}
-use Rattle.ip_headers.specs.Header.{header_len}
+use Rattle.ip_headers.specs.Bytes.{u16_at, with_u16, u32_at, with_u32}
 use Rattle.rewrite.specs.declared.checksum.ChecksumDelta.{ChecksumDelta}
-use Rattle.rewrite.specs.steps.Fields.{combined, u32_change, u16_change}
-use Rattle.rewrite.proofs.Sums.{high_at, words_sum-set, words_sum-word}
-use Rattle.rewrite.proofs.Places.{Bytes4, number_kept, number_written, rest_in, word_kept, word_of_rest, word_written}
-use Rattle.rewrite.proofs.Parts.{IsEven, words_sum-number}
-use Rattle.rewrite.proofs.Corrected.{Covers}
+use Rattle.rewrite.specs.Rewritten.{corrected, or_all_ones, update_checksum, update_udp_checksum, same_bytes}
+use Rattle.rewrite.specs.steps.Fields.{updated_checksum, updated_udp_checksum, combined, u32_change}
+use Rattle.rewrite.specs.steps.Fields.{u16_change}
+use Rattle.rewrite.proofs.Words.{words_sum-word, IsEven, high_at, words_sum-set, Bytes4, number_kept}
+use Rattle.rewrite.proofs.Words.{number_same, number_written, rest_in, word_kept, word_of_rest, word_written}
+use Rattle.rewrite.proofs.Words.{words_sum-number}
+use Rattle.std.proofs.lemmas.List.{drop-set-add, get_or-drop, get_or-set_same, set-get_or}
+use Rattle.ip_headers.specs.Header.{header_len}
+
+-- ==== An update for the changed words alone is an update for all bytes under the checksum.
+
+-- ---- equal bytes
+
+same_bytes-itself : (xs : List ℕ) → same_bytes xs xs ≡ true
+same_bytes-itself [] = refl
+same_bytes-itself (x ∷ xs) = rw (eq-eqb x x refl, same_bytes-itself xs) refl
+
+pub same_bytes-true : (xs ys : List ℕ) → same_bytes xs ys ≡ true → xs ≡ ys
+same_bytes-true [] [] h = refl
+same_bytes-true [] (y ∷ ys) h = cc
+same_bytes-true (x ∷ xs) [] h = cc
+same_bytes-true (x ∷ xs) (y ∷ ys) h =
+    let parts = and_parts _ _ h in
+    let first : x ≡ y = eqb-true x y parts.0 in
+    let others : xs ≡ ys = same_bytes-true xs ys parts.1 in
+    rw (first, others) refl
+
+same_bytes-from : (xs ys : List ℕ) → xs ≡ ys → same_bytes xs ys ≡ true
+same_bytes-from xs ys e = rw e (same_bytes-itself ys)
+
+-- ---- the incremental update
+
+corrected-by : (checksum before after old new : ℕ) → after + old ≡ before + new
+    → corrected checksum before after ≡ corrected checksum old new
+corrected-by checksum before after old new e = omega (arith, e)
+
+-- the relation between the changed words and the bytes that the checksum covers
+pub record Covers (words : ChecksumDelta) (before after : List ℕ) : Type 0 where
+  pub same : words.is_same ≡ true → before ≡ after
+  pub other : before ≡ after → words.is_same ≡ true
+  pub sum : words_sum after + words.old ≡ words_sum before + words.new
+
+same_is : (words : ChecksumDelta) (before after : List ℕ) → Covers words before after → same_bytes before after ≡ words.is_same
+same_is words before after c = same-tests (same_bytes before after) words.is_same
+    (λ h. c.other (same_bytes-true before after h)) (λ h. same_bytes-from before after (c.same h))
+
+chosen : (b : Bool) (bytes : List ℕ) (offset checksum x y : ℕ) → with_u16 bytes offset checksum ≡ bytes → x ≡ y
+    → (if b then bytes else with_u16 bytes offset x) ≡ with_u16 bytes offset (if b then checksum else y)
+chosen true bytes offset checksum x y kept e = sym kept
+chosen false bytes offset checksum x y kept e = ap (λ w. with_u16 bytes offset w) e
+
+pub update_checksum-is : (over : List ℕ → List ℕ) (offset : ℕ) (old now : List ℕ) (words : ChecksumDelta)
+    → Covers words (over old) (over now) → with_u16 now offset (u16_at old offset) ≡ now
+    → update_checksum over offset old now ≡ with_u16 now offset (updated_checksum words (u16_at old offset))
+update_checksum-is over offset old now words c kept =
+    rw (same_is words (over old) (over now) c)
+    (chosen words.is_same now offset (u16_at old offset) _ _ kept
+    (corrected-by (u16_at old offset) (words_sum (over old)) (words_sum (over now)) words.old words.new c.sum))
+
+-- it stays where none of the covered bytes changed
+pub update_checksum-kept : (over : List ℕ → List ℕ) (offset : ℕ) (old now : List ℕ) → over old ≡ over now
+    → update_checksum over offset old now ≡ now
+update_checksum-kept over offset old now e = rw (same_bytes-from (over old) (over now) e) refl
+
+pub update_udp_checksum-is : (over : List ℕ → List ℕ) (offset : ℕ) (old now : List ℕ) (words : ChecksumDelta)
+    → Covers words (over old) (over now) → with_u16 now offset (u16_at old offset) ≡ now
+    → update_udp_checksum over offset old now ≡ with_u16 now offset (updated_udp_checksum words (u16_at old offset))
+update_udp_checksum-is over offset old now words c kept =
+    rw (same_is words (over old) (over now) c)
+    (chosen (words.is_same || u16_at old offset == 0) now offset (u16_at old offset) _ _ kept
+    (ap or_all_ones (corrected-by (u16_at old offset) (words_sum (over old))
+    (words_sum (over now)) words.old words.new c.sum)))
+
+-- ==== A checksum update keeps the sum of what it covers, modulo 65535.
+
+corrected-keeps : (before after checksum now : ℕ) → now + checksum ≡ after + corrected checksum before after → now % 65535 ≡ before % 65535
+corrected-keeps before after checksum now e = omega (arith, e)
+
+all_ones-keeps : (before after checksum now : ℕ)
+    → now + checksum ≡ after + or_all_ones (corrected checksum before after) → now % 65535 ≡ before % 65535
+all_ones-keeps before after checksum now e = grind (arith, e)
+
+-- the position of the checksum in what it covers
+pub record IsChecksumWord (over : List ℕ → List ℕ) (offset i : ℕ) (old now : List ℕ) : Type 0 where
+  pub written : (w : ℕ) → over (with_u16 now offset w) ≡ with_u16 (over now) i w
+  pub word : u16_at (over now) i ≡ u16_at old offset
+  pub room : i + 1 < length (over now)
+  pub even : IsEven i
+
+written_sum : (over : List ℕ → List ℕ) (offset i : ℕ) (old now : List ℕ) (w : ℕ) → IsChecksumWord over offset i old now
+    → words_sum (over (with_u16 now offset w)) + u16_at old offset ≡ words_sum (over now) + w
+written_sum over offset i old now w s = rw (s.written w, sym s.word) (words_sum-word (over now) i w s.room s.even.0 s.even.1)
+
+by_same : (over : List ℕ → List ℕ) (old now later : List ℕ)
+    → words_sum (over later) % 65535 ≡ words_sum (over old) % 65535
+    → words_sum (over (if same_bytes (over old) (over now) then now else later)) % 65535
+    ≡ words_sum (over old) % 65535
+by_same over old now later keeps =
+    cond_both (same_bytes (over old) (over now)) now later (λ l. words_sum (over l) % 65535 ≡ words_sum (over old) % 65535)
+    (λ e. ap (λ l. words_sum l % 65535) (sym (same_bytes-true (over old) (over now) e))) (λ _. keeps)
+
+pub update_keeps_sum : (over : List ℕ → List ℕ) (offset i : ℕ) (old now : List ℕ) → IsChecksumWord over offset i old now
+    → words_sum (over (update_checksum over offset old now)) % 65535 ≡ words_sum (over old) % 65535
+update_keeps_sum over offset i old now s =
+    let w = corrected (u16_at old offset) (words_sum (over old)) (words_sum (over now)) in
+    by_same over old now (with_u16 now offset w)
+    (corrected-keeps (words_sum (over old)) (words_sum (over now)) (u16_at old offset) _ (written_sum over offset i old now w s))
+
+or-false : (b c : Bool) → c ≡ false → (b || c) ≡ b
+or-false true c e = refl
+or-false false c e = e
+
+pub udp_update_keeps_sum : (over : List ℕ → List ℕ) (offset i : ℕ) (old now : List ℕ) → u16_at old offset ≢ 0
+    → IsChecksumWord over offset i old now → words_sum (over (update_udp_checksum over offset old now)) % 65535
+    ≡ words_sum (over old) % 65535
+udp_update_keeps_sum over offset i old now made s =
+    let w = or_all_ones (corrected (u16_at old offset) (words_sum (over old)) (words_sum (over now))) in
+    rw (or-false (same_bytes (over old) (over now)) (u16_at old offset == 0) (ne_eqb _ _ made))
+    (by_same over old now (with_u16 now offset w)
+    (all_ones-keeps (words_sum (over old)) (words_sum (over now)) (u16_at old offset) _ (written_sum over offset i old now w s)))
+
+-- ==== Words exchanged one after another under a checksum, among the bytes from an offset on.
 
 -- ---- even offsets
 
@@ -139,21 +256,8 @@ word_more a i j n w p q is even room high low small c =
 
 pub bytes4_rest : (p q : List ℕ) (a i j : ℕ) → j ≡ a + i → ((k : ℕ) → j ≤ k → k < j + 4 → Stays p q k)
     → ((k : ℕ) → get_or p k 0 < 256) → Bytes4 (drop a q) i
-bytes4_rest p q a i j is stays small = record {
-  first = small_rest p q a i j is (stays j (omega arith) (omega arith)) (small j);
-  second = small_rest p q a (i + 1) (j + 1) (omega (arith, is)) (stays (j + 1) (omega arith) (omega arith)) (small (j + 1));
-  third = small_rest p q a (i + 2) (j + 2) (omega (arith, is)) (stays (j + 2) (omega arith) (omega arith)) (small (j + 2));
-  fourth = small_rest p q a (i + 3) (j + 3) (omega (arith, is)) (stays (j + 3) (omega arith) (omega arith)) (small (j + 3));
-}
-
-number_stays : (p q : List ℕ) (j : ℕ) → ((k : ℕ) → j ≤ k → k < j + 4 → Stays p q k) → u32_at q j ≡ u32_at p j
-number_stays p q j stays =
-    rw (
-      stays j (omega arith) (omega arith),
-      stays (j + 1) (omega arith) (omega arith),
-      stays (j + 2) (omega arith) (omega arith),
-      stays (j + 2 + 1) (omega arith) (omega arith),
-    ) refl
+bytes4_rest p q a i j is stays small = λ k le lt.
+    small_rest p q a k (a + k) refl (stays (a + k) (omega (arith, is, le)) (omega (arith, is, lt))) (small (a + k))
 
 pub number_first : (a i j n : ℕ) (p : List ℕ) → j ≡ a + i → i % 2 ≡ 0 → j + 3 < length p → ((k : ℕ) → get_or p k 0 < 256)
     → Covers (u32_change (u32_at p j) n) (drop a p) (drop a (with_u32 p j n))
@@ -168,7 +272,7 @@ pub number_more : (a i j n : ℕ) (w : ChecksumDelta) (p q : List ℕ) → j ≡
     → Covers w (drop a p) (drop a q) → Covers (combined w (u32_change (u32_at p j) n)) (drop a p) (drop a (with_u32 q j n))
 number_more a i j n w p q is even room stays small c =
     let ys = drop a q in
-    let old : u32_at p j ≡ u32_at ys i = sym (number_of_rest q a i j is ∙ number_stays p q j stays) in
+    let old : u32_at p j ≡ u32_at ys i = sym (number_of_rest q a i j is ∙ number_same q p j stays) in
     let long : i + 3 < length ys = omega (arith, room, is, length-drop a q) in
     let four = bytes4_rest p q a i j is stays small in
     covers_to _ (drop a p) (with_u32 ys i n) _ (number_rest_in q a i j n is)

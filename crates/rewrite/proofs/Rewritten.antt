@@ -1,0 +1,435 @@
+-- The laws of rewritten packets: with a rewritten quoted datagram, and the tuple of one that was given endpoints.
+use Rattle.std.proofs.Common.{◌≡◌, ◌≢◌, ℕ, suc, ◌+◌, ◌*◌, ◌%◌, ◌<◌, ◌≤◌, inl, Option, Some, None, List}
+use Rattle.std.proofs.Common.{length, get_or, take, drop, length-take, length-drop, Bool, true, false, refl}
+use Rattle.std.proofs.Common.{sym, ap, ◌∙◌, arith, inr, ⊎_elim, subst}
+use Rattle.std.specs.Prelude.{◌==◌, is_some, if◌then◌else◌, ◌||◌}
+use Rattle.std.specs.Option.{option_and, option_map}
+use Rattle.std.proofs.lemmas.Bool.{cond_both, eqb-true, and_parts, leb-true, ne_eqb, cases_eq}
+use Rattle.std.proofs.lemmas.List.{ext_get_or, get_or-take, get_or-drop, get_or-set_other}
+use Rattle.ip_headers.specs.declared.tuple.Tuple.{Tuple}
+use Rattle.ip_headers.specs.Sum.{ones_sum_of, words_sum}
+use Rattle.ip_headers.specs.Bytes.{u16_at, with_u16, byte_at, with_u32}
+use Rattle.ip_headers.specs.Header.{header_len, payload_at, payload_of, protocol, total_len, protocol_at}
+use Rattle.ip_headers.specs.Header.{source, destination}
+use Rattle.ip_headers.specs.Passing.{Passes}
+use Rattle.ip_headers.specs.Transport.{icmp_type, transport_is_malformed}
+use Rattle.ip_headers.specs.Tuple.{inner_of, inner_tuple, inner_tuple_of, is_error, is_error_type}
+use Rattle.ip_headers.specs.Tuple.{is_readable, tuple_in, kind_of, port_from, port_to, tuple_of, tuple_with}
+use Rattle.rewrite.specs.declared.change.Change.{Change}
+use Rattle.rewrite.specs.Endpoints.{between, PortsMatchKind, ports_or_identifier}
+use Rattle.rewrite.specs.Rewritten.{payload_in, write_if_some, inner_start, update_checksum, rewritten}
+use Rattle.rewrite.specs.Rewritten.{with_endpoints, with_inner, has_identifier, replaced, with_numbers}
+use Rattle.rewrite.specs.Rewritten.{with_ports, with_ttl}
+use Rattle.rewrite.specs.steps.Fields.{HasFields, changed_fields, fields_at, fields_change, len_of}
+use Rattle.rewrite.specs.steps.Fields.{updated_checksum, with_fields}
+use Rattle.rewrite.proofs.Words.{word_same, word_stays, AsLong, SameAt, as_long, either_by, ends_by, named_by}
+use Rattle.rewrite.proofs.Words.{same_at, update_by, length-word, length-number, number_apart, number_same}
+use Rattle.rewrite.proofs.Words.{number_written, word_apart, word_written, timed_by}
+use Rattle.rewrite.proofs.Checksums.{update_checksum-is, byte_of_rest, covers_to, update_keeps_sum}
+use Rattle.rewrite.proofs.Datagrams.{IsDatagram, carried_at, whole_is, fields_exchanged, fields_room, is_icmp}
+use Rattle.rewrite.proofs.Packets.{update_byte, sent, head_by, length-sent, passes_by, payload_byte}
+use Rattle.rewrite.proofs.Packets.{sent_passes, within, icmp_long, payload_checksum_word, icmp_sum_kept}
+use Rattle.rewrite.proofs.Packets.{payload_same, tcp_long, udp_long, named_byte, sent_header, sent_icmp}
+use Rattle.rewrite.proofs.Packets.{sent_icmp_byte, sent_tcp, sent_udp, timed, timed_byte, timed_payload}
+use Rattle.rewrite.proofs.Packets.{timed_protocol, SameHead, same_head, tcp_room}
+use Rattle.ip_headers.specs.declared.tuple.Kind.{Kind}
+use Rattle.ip_headers.specs.declared.tuple.Kind.TheVariants.{Tcp, Udp, EchoRequest, EchoReply, Other}
+use Rattle.rewrite.specs.declared.change.PortsOrIdentifier.TheVariants.{Ports, Identifier}
+
+-- ==== An ICMP error with a rewritten quoted datagram: the tests that it passes, and the sum under its checksum.
+
+-- ---- the bytes before the quoted datagram stay
+
+ends_byte : (start : ℕ) (p : List ℕ) (t : Tuple) (k : ℕ) → k < start → get_or (with_endpoints start p t) k 0 ≡ get_or p k 0
+ends_byte start p t k lt = ends_by (SameAt k p) (suc k) (same_at k p) start p t (omega (arith, lt)) refl
+
+length-ends : (start : ℕ) (p : List ℕ) (t : Tuple) → length (with_endpoints start p t) ≡ length p
+length-ends start p t = ends_by (AsLong p) 0 (as_long p) start p t (omega arith) refl
+
+-- ---- packets that quote a datagram, and others
+
+abbrev pub inner_rewritten : List ℕ → Change → List ℕ
+inner_rewritten p change = write_if_some with_inner p change.inner
+
+-- the error with the rewritten quoted datagram
+abbrev pub quote_rewritten : List ℕ → Tuple → List ℕ
+quote_rewritten p t = update_checksum (payload_in 0) (payload_at 0 p + 2) p (with_endpoints (inner_start p) p t)
+
+some_by : (b : Bool) (o : Option Tuple) → is_some (if b then o else None) ≡ true → (b ≡ true) × (is_some o ≡ true)
+some_by true o h = (refl, h)
+some_by false o h = cc
+
+error_is_icmp : (p : List ℕ) → is_some (inner_tuple_of p) ≡ true → protocol p ≡ 1
+error_is_icmp p h = eqb-true (protocol p) 1 (and_parts (protocol p == 1) (is_error_type (icmp_type (payload_of p)))
+    (some_by (is_error p) (inner_tuple (inner_of p)) h).0).0
+
+-- ---- the tests that it passes
+
+quote_rewritten_byte : (p : List ℕ) (t : Tuple) (k : ℕ) → k < payload_at 0 p + 2 → get_or (quote_rewritten p t) k 0 ≡ get_or p k 0
+quote_rewritten_byte p t k lt = update_byte (payload_in 0) (payload_at 0 p + 2) p (with_endpoints (inner_start p) p t) k (inl lt)
+    ∙ ends_byte (inner_start p) p t k (omega (arith, lt))
+
+length-quote_rewritten : (p : List ℕ) (t : Tuple) → length (quote_rewritten p t) ≡ length p
+length-quote_rewritten p t = update_by (AsLong p) 0 (as_long p) (payload_in 0) (payload_at 0 p + 2) p _ (omega arith)
+    (length-ends (inner_start p) p t)
+
+same_part : (n : ℕ) (xs ys : List ℕ) → length xs ≡ length ys → ((k : ℕ) → k < n → get_or xs k 0 ≡ get_or ys k 0) → take n xs ≡ take n ys
+same_part n xs ys len same =
+    ext_get_or 0 (take n xs) (take n ys) (omega (arith, len, length-take n xs, length-take n ys)) (λ i lt.
+    let below : i < n = omega (arith, lt, length-take n xs) in
+    get_or-take n xs i 0 below ∙ same i below ∙ sym (get_or-take n ys i 0 below))
+
+icmp_right : (payload : List ℕ) → 8 ≤ length payload → transport_is_malformed 1 payload ≡ false
+icmp_right payload long = grind (arith, long)
+
+quote_rewritten_passes : (p : List ℕ) (t : Tuple) → Passes p → protocol p ≡ 1 → Passes (quote_rewritten p t)
+quote_rewritten_passes p t ok one =
+    let q = quote_rewritten p t in
+    let h = header_len p in
+    let n = total_len p in
+    let same : (k : ℕ) → k < h → get_or q k 0 ≡ get_or p k 0 = λ k lt. quote_rewritten_byte p t k (omega (arith, lt)) in
+    let head = head_by p q (λ k lt. same k (omega (arith, ok.head.long, lt))) (same 9 (omega (arith, ok.head.long))) in
+    let len : length q ≡ length p = length-quote_rewritten p t in
+    let enough : 8 ≤ length (payload_of p) = icmp_long (payload_of p) (rw one at ok.transport) in
+    let room : 8 ≤ length (drop h (take n q)) =
+    omega (
+      arith,
+      enough,
+      len,
+      length-drop h (take n q),
+      length-take n q,
+      length-drop h (take n p),
+      length-take n p,
+    ) in
+    passes_by p q ok head len (ap ones_sum_of (ap (λ k. take k q) head.header ∙ same_part h q p len same) ∙ ok.head.sum)
+    (rw one (icmp_right (drop h (take n q)) room))
+
+inner_passes : (p : List ℕ) (t : Tuple) → Passes p → Passes (with_inner p t)
+inner_passes p t ok = cond_both (is_some (inner_tuple_of p)) (quote_rewritten p t) p Passes
+    (λ h. quote_rewritten_passes p t ok (error_is_icmp p h)) (λ _. ok)
+
+pub inner_rewritten_passes : (p : List ℕ) (change : Change) → Passes p → Passes (inner_rewritten p change)
+inner_rewritten_passes p change ok = named_by Passes with_inner p change.inner (λ t. inner_passes p t ok) ok
+
+pub rewritten_passes : (p : List ℕ) (change : Change) → Passes p → Passes (rewritten p change)
+unfolding rewritten
+rewritten_passes p change ok = sent_passes (inner_rewritten p change) change (inner_rewritten_passes p change ok)
+
+-- ---- its length
+
+length-inner_rewritten : (p : List ℕ) (change : Change) → length (inner_rewritten p change) ≡ length p
+length-inner_rewritten p change = named_by (AsLong p) with_inner p change.inner
+    (λ t. either_by (AsLong p) (is_some (inner_tuple_of p)) (quote_rewritten p t) p (length-quote_rewritten p t) refl) refl
+
+pub length-rewritten : (p : List ℕ) (change : Change) → length (rewritten p change) ≡ length p
+unfolding rewritten
+length-rewritten p change = length-sent (inner_rewritten p change) change ∙ length-inner_rewritten p change
+
+-- ---- the sum under its checksum
+
+-- only ICMP messages quote a datagram
+abbrev SameBut : ℕ → List ℕ → List ℕ → Type 0
+SameBut number p q = (protocol q ≡ number) × (words_sum (payload_in 0 q) % 65535 ≡ words_sum (payload_in 0 p) % 65535)
+
+inner_sum_kept : (p : List ℕ) (t : Tuple) → Passes p → protocol p ≡ 1 → SameBut 1 p (quote_rewritten p t)
+inner_sum_kept p t ok one =
+    let now = with_endpoints (inner_start p) p t in
+    let offset = payload_at 0 p in
+    let long : 20 ≤ offset = omega (arith, ok.head.long) in
+    let enough = icmp_long (payload_of p) (rw one at ok.transport) in
+    let same : (k : ℕ) → k < offset + 8 → get_or now k 0 ≡ get_or p k 0 = λ k lt. ends_byte (inner_start p) p t k lt in (
+      quote_rewritten_byte p t 9 (omega (arith, long)) ∙ one,
+      update_keeps_sum (payload_in 0) (offset + 2) 2 p now
+          (payload_checksum_word p now 2
+          (omega (arith, enough, within p ok, ok.head.whole, length-ends (inner_start p) p t)) long
+          (payload_same now p (same 0 (omega (arith, long)))) (refl, refl)
+          (word_same now p (offset + 2) (λ k _ lt. same k (omega (arith, lt))))),
+    )
+
+inner_rewritten_sum_kept : (p : List ℕ) (change : Change) → Passes p → protocol p ≡ 1 → SameBut 1 p (inner_rewritten p change)
+inner_rewritten_sum_kept p change ok one =
+    named_by (SameBut 1 p) with_inner p change.inner
+    (λ t. cond_both (is_some (inner_tuple_of p)) (quote_rewritten p t) p (SameBut 1 p)
+    (λ h. inner_sum_kept p t ok one) (λ _. (one, refl))) (one, refl)
+
+pub icmp_sum_kept_with_inner : (p : List ℕ) (change : Change) → Passes p → protocol p ≡ 1
+    → words_sum (payload_in 0 (rewritten p change)) % 65535 ≡ words_sum (payload_in 0 p) % 65535
+unfolding rewritten
+icmp_sum_kept_with_inner p change ok one =
+    let w = inner_rewritten_sum_kept p change ok one in
+    icmp_sum_kept (inner_rewritten p change) change (inner_rewritten_passes p change ok) w.0 ∙ w.1
+
+-- a packet of another protocol stays
+inner_rewritten_other : (p : List ℕ) (change : Change) → protocol p ≢ 1 → inner_rewritten p change ≡ p
+inner_rewritten_other p change other = named_by (λ q. q ≡ p) with_inner p change.inner
+    (λ t. cond_both (is_some (inner_tuple_of p)) (quote_rewritten p t) p (λ q. q ≡ p)
+    (λ h. absurd (other (error_is_icmp p h))) (λ _. refl)) refl
+
+pub rewritten_other : (p : List ℕ) (change : Change) → protocol p ≢ 1 → rewritten p change ≡ sent p change
+unfolding rewritten
+rewritten_other p change other = ap (λ q. sent q change) (inner_rewritten_other p change other)
+
+-- ---- the quoted datagram's fields are there, and only its words change under the error's checksum
+
+-- facts about a quoted datagram that can be translated
+record IsReadable (inner : List ℕ) : Type 0 where
+  long : 20 ≤ header_len inner
+  whole : header_len inner + 8 ≤ length inner
+
+readable : (inner : List ℕ) → is_readable inner ≡ true → IsReadable inner
+readable inner h =
+    let one = and_parts _ _ h in
+    let two = and_parts _ _ one.0 in
+    let three = and_parts _ _ two.0 in
+    record { long = leb-true _ _ three.1; whole = leb-true _ _ one.1 }
+
+pub inner_fields : (p : List ℕ) → Passes p → is_some (inner_tuple_of p) ≡ true → HasFields (inner_start p) p
+inner_fields p ok h =
+    let inner = inner_of p in
+    let quote_rewritten_one = (some_by (is_error p) (inner_tuple inner) h).1 in
+    let is = readable inner (some_by (is_readable inner) (tuple_in inner (drop (header_len inner) inner)) quote_rewritten_one).0 in
+    let n = total_len p in
+    let head = header_len p in
+    let room : length inner + (head + 8) ≤ n =
+    omega (arith, is.whole, length-drop 8 (payload_of p), length-drop head (take n p), length-take n p) in
+    let first : get_or inner 0 0 ≡ get_or (drop (inner_start p) p) 0 0 = get_or-drop 8 (payload_of p) 0 0
+    ∙ payload_byte p head n 8 (omega (arith, is.whole, room))
+    ∙ sym (byte_of_rest p (inner_start p) 0 (head + 8) (omega arith)) in
+    let same : header_len inner ≡ header_len (drop (inner_start p) p) = ap (λ b. b % 16 * 4) first in
+    record {
+      long = omega (arith, same, is.long);
+      whole = fields_room (inner_start p) p (omega (arith, same, is.whole, room, ok.head.whole));
+    }
+
+pub quote_rewritten_is : (p : List ℕ) (t : Tuple) → 20 ≤ payload_at 0 p → IsDatagram (inner_start p) p
+    → payload_at (inner_start p) p + len_of (carried_at (inner_start p) p) ≤ length p
+    → with_u16 (with_endpoints (inner_start p) p t) (payload_at 0 p + 2)
+    (updated_checksum (fields_change (fields_at (inner_start p) p)
+    (changed_fields (between t None) (fields_at (inner_start p) p))) (u16_at p (payload_at 0 p + 2)))
+    ≡ quote_rewritten p t
+quote_rewritten_is p t long d room =
+    let start = inner_start p in
+    let offset = payload_at 0 p in
+    let new = changed_fields (between t None) (fields_at start p) in
+    let words = fields_change (fields_at start p) new in
+    let now = with_endpoints start p t in
+    let is : with_fields start p new ≡ now = whole_is start p (between t None) d room in
+    let same : (k : ℕ) → k < start → get_or now k 0 ≡ get_or p k 0 = λ k lt. ends_byte start p t k lt in
+    let covers = covers_to words (payload_in 0 p) (drop offset (with_fields start p new)) (payload_in 0 now)
+    (ap (λ k. drop k now) (payload_same now p (same 0 (omega (arith, long)))) ∙ ap (λ l. drop offset l) (sym is))
+    (fields_exchanged offset start p (between t None) refl d room) in
+    sym (update_checksum-is (payload_in 0) (offset + 2) p now words covers
+    (word_stays now p (offset + 2) d.small (λ k _ lt. same k (omega (arith, lt)))))
+
+-- ---- the packet after the first step
+
+and_some : (o r : Option Tuple) (t : Tuple) → option_and o r ≡ Some t → (is_some o ≡ true) × (r ≡ Some t)
+and_some None r t e = cc
+and_some (Some x) r t e = (refl, e)
+
+none_named : (o r : Option Tuple) (p : List ℕ) → o ≡ inner_tuple_of p → option_and o r ≡ None → write_if_some with_inner p r ≡ p
+none_named o None p is e = refl
+none_named None (Some t) p is e = ap (λ o. if is_some o then quote_rewritten p t else p) (sym is)
+none_named (Some x) (Some t) p is e = cc
+
+pub read_some : (p : List ℕ) (o : Option Tuple) (t : Tuple) → option_and (inner_tuple_of p) o ≡ Some t → is_some (inner_tuple_of p) ≡ true
+read_some p o t e = (and_some (inner_tuple_of p) o t e).0
+
+pub inner_rewritten_some : (p : List ℕ) (change : Change) (t : Tuple) → option_and (inner_tuple_of p) change.inner ≡ Some t
+    → inner_rewritten p change ≡ quote_rewritten p t
+inner_rewritten_some p change t e =
+    let combined = and_some (inner_tuple_of p) change.inner t e in
+    ap (λ o. write_if_some with_inner p o) combined.1 ∙ ap (λ b. if b then quote_rewritten p t else p) combined.0
+
+pub inner_rewritten_none : (p : List ℕ) (change : Change) → option_and (inner_tuple_of p) change.inner ≡ None → inner_rewritten p change ≡ p
+inner_rewritten_none p change e = none_named (inner_tuple_of p) change.inner p refl e
+
+pub rewritten_is : (p : List ℕ) (change : Change) → rewritten p change ≡ sent (inner_rewritten p change) change
+unfolding rewritten
+rewritten_is p change = refl
+
+-- ==== A packet rewritten to the endpoints of a tuple has that tuple.
+
+-- ---- fields of the payload
+
+word_of_payload : (xs : List ℕ) (h n i j : ℕ) → j ≡ h + i → j + 1 < n → u16_at (drop h (take n xs)) i ≡ u16_at xs j
+word_of_payload xs h n i j is lt =
+    let next : j + 1 ≡ h + (i + 1) = omega (arith, is) in
+    let high : get_or (drop h (take n xs)) i 0 ≡ get_or xs j 0 = rw is (payload_byte xs h n i (omega (arith, is, lt))) in
+    let low : get_or (drop h (take n xs)) (i + 1) 0 ≡ get_or xs (j + 1) 0 = rw next (payload_byte xs h n (i + 1) (omega (arith, is, lt))) in
+    rw (high, low) refl
+
+first_of_payload : (xs : List ℕ) (h n j : ℕ) → j ≡ h + 0 → j < n → get_or (drop h (take n xs)) 0 0 ≡ get_or xs j 0
+first_of_payload xs h n j is lt = rw is (payload_byte xs h n 0 (omega (arith, is, lt)))
+
+-- ---- addresses
+
+named_to : (p : List ℕ) (change : Change) (from to k : ℕ) → change.source ≡ Some from → change.destination ≡ Some to
+    → 8 < k → get_or (timed p change) k 0 ≡ get_or (with_u32 (with_u32 p 12 from) 16 to) k 0
+named_to p change from to k a b past =
+    rw (a, b) (named_byte (with_ttl 0) (with_u32 (with_u32 p 12 from) 16 to) change.ttl k
+    (λ n. get_or-set_other (with_u32 (with_u32 p 12 from) 16 to) 8 k n 0 (omega (arith, past))))
+
+sent_to : (p : List ℕ) (change : Change) (from to k : ℕ) → Passes p → change.source ≡ Some from
+    → change.destination ≡ Some to → 11 < k → k < 20
+    → get_or (sent p change) k 0 ≡ get_or (with_u32 (with_u32 p 12 from) 16 to) k 0
+sent_to p change from to k ok a b past lt = sent_header p change k (omega (arith, ok.head.long, lt)) (inr past)
+    ∙ named_to p change from to k a b (omega (arith, past))
+
+addressed : (p : List ℕ) (change : Change) (from to : ℕ) → Passes p → change.source ≡ Some from
+    → change.destination ≡ Some to → (source (sent p change) ≡ from) × (destination (sent p change) ≡ to)
+addressed p change from to ok a b =
+    let q = sent p change in
+    let one = with_u32 p 12 from in
+    let two = with_u32 one 16 to in
+    let room : 20 ≤ length p = omega (arith, ok.head.long, ok.head.head, ok.head.whole) in
+    let same : (k : ℕ) → 11 < k → k < 20 → get_or q k 0 ≡ get_or two k 0 = λ k past lt. sent_to p change from to k ok a b past lt in (
+      number_same q two 12 (λ k le lt. same k le (omega (arith, lt)))
+          ∙ number_apart one 16 to 12 (inl (omega arith)) ∙ number_written p 12 from (omega (arith, room)),
+      number_same q two 16 (λ k le lt. same k (omega (arith, le)) lt)
+          ∙ number_written one 16 to (omega (arith, room, length-number p 12 from)),
+    )
+
+-- ---- ports and identifiers
+
+ports_there : (t : List ℕ) (number offset from to : ℕ) → protocol_at 0 t ≡ number → payload_at 0 t ≡ offset
+    → (number == 6 || number == 17) ≡ true → with_numbers 0 t (Ports from to) ≡ with_ports offset t from to
+ports_there t number offset from to is here some = rw (is, some, here) refl
+
+identifier_there : (t : List ℕ) (number offset id : ℕ) → protocol_at 0 t ≡ number → payload_at 0 t ≡ offset
+    → has_identifier number (byte_at t offset) ≡ true → with_numbers 0 t (Identifier id) ≡ with_u16 t (offset + 4) id
+identifier_there t number offset id is here some = rw (is, here, some) refl
+
+length-timed : (p : List ℕ) (change : Change) → length (timed p change) ≡ length p
+length-timed p change = timed_by (AsLong p) 0 (as_long p) 0 p change (omega arith) refl
+
+-- the words at the front of the payload
+abbrev Fronts : List ℕ → List ℕ → ℕ → ℕ → Type 0
+Fronts p q from to = (u16_at q (payload_at 0 p) ≡ from) × (u16_at q (payload_at 0 p + 2) ≡ to)
+
+ported : (p t r q : List ℕ) (from to : ℕ) → r ≡ with_ports (payload_at 0 p) t from to → payload_at 0 p + 4 ≤ length t
+    → ((k : ℕ) → payload_at 0 p ≤ k → k < payload_at 0 p + 4 → get_or q k 0 ≡ get_or r k 0) → Fronts p q from to
+ported p t r q from to is room same =
+    let offset = payload_at 0 p in
+    let one = with_u16 t offset from in (
+      word_same q r offset (λ k le lt. same k le (omega (arith, lt)))
+          ∙ ap (λ l. u16_at l offset) is ∙ word_apart one (offset + 2) to offset (inl (omega arith))
+          ∙ word_written t offset from (omega (arith, room)),
+      word_same q r (offset + 2) (λ k le lt. same k (omega (arith, le)) (omega (arith, lt))) ∙ ap (λ l. u16_at l (offset + 2)) is
+          ∙ word_written one (offset + 2) to (omega (arith, room, length-word t offset from)),
+    )
+
+-- as read from the payload
+shown : (p q : List ℕ) (from to : ℕ) → SameHead p q → payload_at 0 p + 4 ≤ total_len p → Fronts p q from to
+    → (u16_at (payload_of q) 0 ≡ from) × (u16_at (payload_of q) 2 ≡ to)
+shown p q from to same room fronts = (
+  rw (same.header, same.total) (word_of_payload q (header_len p) (total_len p) 0 (payload_at 0 p) (omega arith)
+      (omega (arith, room)) ∙ fronts.0),
+  rw (same.header, same.total) (word_of_payload q (header_len p) (total_len p) 2 (payload_at 0 p + 2) (omega arith)
+      (omega (arith, room)) ∙ fronts.1),
+)
+
+ports_shown : (p : List ℕ) (change : Change) (number from to : ℕ) → Passes p → protocol p ≡ number
+    → (number == 6 || number == 17) ≡ true → change.numbers ≡ Some (Ports from to) → payload_at 0 p + 4 ≤ total_len p
+    → ((k : ℕ) → payload_at 0 p ≤ k → k < payload_at 0 p + 4 → get_or (sent p change) k 0 ≡ get_or (replaced 0 p change) k 0)
+    → (u16_at (payload_of (sent p change)) 0 ≡ from) × (u16_at (payload_of (sent p change)) 2 ≡ to)
+ports_shown p change number from to ok is some e room same =
+    let t = timed p change in
+    let r : replaced 0 p change ≡ with_ports (payload_at 0 p) t from to = ap (λ o. write_if_some (with_numbers 0) t o) e
+    ∙ ports_there t number (payload_at 0 p) from to (timed_protocol p change ∙ is) (timed_payload p change) some in
+    shown p (sent p change) from to (same_head p change ok) room
+    (ported p t (replaced 0 p change) (sent p change) from to r (omega (arith, length-timed p change, room, ok.head.whole)) same)
+
+icmp_identifier : (p : List ℕ) (change : Change) (id : ℕ) → Passes p
+    → has_identifier (protocol p) (icmp_type (payload_of p)) ≡ true
+    → change.numbers ≡ Some (Identifier id) → u16_at (payload_of (sent p change)) 4 ≡ id
+icmp_identifier p change id ok there e =
+    let t = timed p change in
+    let q = sent p change in
+    let offset = payload_at 0 p in
+    let same = same_head p change ok in
+    let one = is_icmp (protocol p) (icmp_type (payload_of p)) there in
+    let enough = icmp_long (payload_of p) (rw one at ok.transport) in
+    let long : 12 ≤ offset = omega (arith, ok.head.long) in
+    let first : byte_at t offset ≡ icmp_type (payload_of p) =
+    timed_byte p change offset (omega (arith, ok.head.long)) (inr (omega (arith, ok.head.long)))
+    ∙ sym (first_of_payload p (header_len p) (total_len p) offset (omega arith) (omega (arith, enough, within p ok))) in
+    let echo : has_identifier 1 (byte_at t offset) ≡ true =
+    subst (λ (m : ℕ). has_identifier 1 m ≡ true) (sym first)
+    (subst (λ (n : ℕ). has_identifier n (icmp_type (payload_of p)) ≡ true) one there) in
+    let r : replaced 0 p change ≡ with_u16 t (offset + 4) id = ap (λ o. write_if_some (with_numbers 0) t o) e
+    ∙ identifier_there t 1 offset id (timed_protocol p change ∙ one) (timed_payload p change) echo in
+    rw (same.header, same.total)
+    (word_of_payload q (header_len p) (total_len p) 4 (offset + 4) (omega arith) (omega (arith, enough, within p ok))
+    ∙ word_same q (replaced 0 p change) (offset + 4)
+    (λ k le _. sent_icmp p change k long one (omega (arith, le)) (inr (omega (arith, le))))
+    ∙ ap (λ l. u16_at l (offset + 4)) r
+    ∙ word_written t (offset + 4) id (omega (arith, length-timed p change, enough, within p ok, ok.head.whole)))
+
+-- ---- kinds
+
+tcp_kind : (number : ℕ) (payload : List ℕ) → kind_of number payload ≡ Some Tcp → number ≡ 6
+tcp_kind number payload e = grind (arith, e)
+
+udp_kind : (number : ℕ) (payload : List ℕ) → kind_of number payload ≡ Some Udp → number ≡ 17
+udp_kind number payload e = grind (arith, e)
+
+request_kind : (number : ℕ) (payload : List ℕ) → kind_of number payload ≡ Some EchoRequest
+    → has_identifier number (icmp_type payload) ≡ true
+request_kind number payload e = grind (arith, e)
+
+reply_kind : (number : ℕ) (payload : List ℕ) → kind_of number payload ≡ Some EchoReply
+    → has_identifier number (icmp_type payload) ≡ true
+reply_kind number payload e = grind (arith, e)
+
+kind_same : (number : ℕ) (x y : List ℕ) → (number ≡ 1 → get_or x 0 0 ≡ get_or y 0 0) → kind_of number x ≡ kind_of number y
+kind_same number x y same =
+    ⊎_elim
+    (λ one. rw (one, same one) refl)
+    (λ other. rw (ne_eqb number 1 other) refl)
+    (cases_eq number 1)
+
+suits : (kind : Kind) (p : List ℕ) (change : Change) (from to : ℕ) → Passes p
+    → kind_of (protocol p) (payload_of p) ≡ Some kind → change.numbers ≡ ports_or_identifier kind from to
+    → PortsMatchKind kind from to
+    → (port_from kind (payload_of (sent p change)) ≡ from) × (port_to kind (payload_of (sent p change)) ≡ to)
+suits Tcp p change from to ok is e h =
+    let six = tcp_kind (protocol p) (payload_of p) is in
+    ports_shown p change 6 from to ok six refl e
+    (omega (arith, tcp_long (payload_of p) (rw six at ok.transport), within p ok))
+    (λ k past lt. sent_tcp p change k (omega (arith, ok.head.long)) six (tcp_room p ok six) past (inl (omega (arith, lt))))
+suits Udp p change from to ok is e h =
+    let seventeen = udp_kind (protocol p) (payload_of p) is in
+    ports_shown p change 17 from to ok seventeen refl e
+    (omega (arith, udp_long (payload_of p) (rw seventeen at ok.transport), within p ok))
+    (λ k past lt. sent_udp p change k (omega (arith, ok.head.long)) seventeen past (inl (omega (arith, lt))))
+suits EchoRequest p change from to ok is e h =
+    (icmp_identifier p change from ok (request_kind (protocol p) (payload_of p) is) e, sym h)
+suits EchoReply p change from to ok is e h =
+    (sym h, icmp_identifier p change to ok (reply_kind (protocol p) (payload_of p) is) e)
+suits (Other number) p change from to ok is e h = (sym h.0, sym h.1)
+
+sent_kind : (p : List ℕ) (change : Change) → Passes p
+    → kind_of (protocol (sent p change)) (payload_of (sent p change)) ≡ kind_of (protocol p) (payload_of p)
+sent_kind p change ok =
+    let q = sent p change in
+    let h = header_len p in
+    let n = total_len p in
+    let same = same_head p change ok in
+    rw (same.protocol, same.header, same.total)
+    (kind_same (protocol p) (drop h (take n q)) (drop h (take n p)) (λ one.
+    let enough = icmp_long (payload_of p) (rw one at ok.transport) in
+    payload_byte q h n 0 (omega (arith, enough, within p ok))
+    ∙ sent_icmp_byte p change (h + 0) (omega (arith, ok.head.long)) one (omega arith) (omega arith)
+    ∙ sym (payload_byte p h n 0 (omega (arith, enough, within p ok)))))
+
+pub rewritten_has_tuple : (p : List ℕ) (t : Tuple) (ttl : Option ℕ) → Passes p
+    → kind_of (protocol p) (payload_of p) ≡ Some t.kind → PortsMatchKind t.kind t.source.port t.destination.port
+    → tuple_of (sent p (between t ttl)) ≡ Some t
+rewritten_has_tuple p t ttl ok is suit =
+    let change = between t ttl in
+    let q = sent p change in
+    let ends = addressed p change t.source.address t.destination.address ok refl refl in
+    let ports = suits t.kind p change t.source.port t.destination.port ok is refl suit in
+    ap (λ o. option_map (λ one. tuple_with one q (payload_of q)) o) (sent_kind p change ok ∙ is)
+    ∙ rw (ends.0, ends.1, ports.0, ports.1) refl
