@@ -1,24 +1,26 @@
 -- Decidability of cycles, depth, cost and misplaced NAT statements.
-use Rattle.std.proofs.Common.{◌≡◌, ◌⊎◌, ℕ, suc, ◌+◌, ◌<◌, Bool, true, false, cond, List, [], ◌∷◌, ◌++◌, map, length}
-use Rattle.std.proofs.Common.{sum_by, find, Option, Some, None, refl, sym, ap, ap₂, subst, ◌∙◌, inl, inr, Contains}
-use Rattle.std.proofs.Common.{bytes_eq}
+use Rattle.std.proofs.Common.{◌≡◌, ◌⊎◌, ℕ, suc, ◌+◌, ◌<◌, Bool, true, false, List, [], ◌∷◌, ◌++◌, map, length}
+use Rattle.std.proofs.Common.{sum_by, Option, Some, None, refl, sym, ap, ap₂, subst, ◌∙◌, inl, inr, ⊎_elim}
+use Rattle.std.proofs.Common.{Contains}
 use Rattle.std.proofs.lemmas.List.Elements.{Contains-append_left, Contains-append_right}
 use Rattle.std.proofs.lemmas.List.Sums.{sum_by-cons}
-use Rattle.std.proofs.lemmas.Slice.Eq.{bytes_eq-Decides}
 use Rattle.list_laws.specs.Lists.{Contains-head}
 use Rattle.nft_tree.specs.declared.chain.ChainKind.{ChainKind}
 use Rattle.nft_tree.specs.declared.chain.Hook.{Hook}
 use Rattle.nft_tree.specs.Tree.{Text, HeadTree, ChainTree, MapTree, Statement, TableTree}
 use Rattle.nft_tree.specs.TableItems.{chains_of, maps_of}
-use Rattle.chain_graph.specs.Graph.{Call, calls_in, HasCycle, HasPathOver, Reaches}
-use Rattle.list_laws.specs.Decisions.{Decided, Contains-none, Contains-there, Contains-cases, some_decided}
+use Rattle.chain_graph.specs.Graph.{Call, HasCycle, HasPathOver, Reaches}
+use Rattle.list_laws.specs.Decisions.{Decided, Contains-there, some_decided}
 use Rattle.list_laws.specs.Decisions.{decided_as, either_decided, less_decided, texts_decided}
-use Rattle.rule_names.specs.Names.{chain_named, map_named, chain_names, map_names}
-use Rattle.rule_paths.specs.Paths.{Caller, a_chain, a_map, chain_node, map_node, node_of, CallsOf, Cycles, MAX_JUMPS}
+use Rattle.rule_names.specs.Names.{chain_names, map_names}
+use Rattle.rule_paths.specs.Paths.{Caller, a_chain, a_map, node_of, CallsOf, Cycles, MAX_JUMPS}
 use Rattle.rule_paths.specs.Paths.{HasDeepPath, TooDeep, AreCosts, base_cost, table_cost, ruleset_cost, MAX_COST}
 use Rattle.rule_paths.specs.Paths.{TooCostly, translates_source, translates_destination, caller_has}
 use Rattle.rule_paths.specs.Paths.{may_translate_source, may_translate_destination, Misplaces, MisplacedNat}
 use Rattle.rule_paths.specs.Paths.{misplaced_source, misplaced_destination}
+use Rattle.list_laws.specs.Elements.{Contains-map}
+use Rattle.rule_paths.proofs.IndexLaws.{in-names, look-chain, look-map, none-chain, none-map}
+use Rattle.rule_paths.proofs.NumberLaws.{none-empty}
 use Rattle.rule_paths.proofs.DecidableGraphs.{Bounded, cost, costs_are, one_cost, reach_decided, all_bounded, cycle_decided, path_decided}
 
 -- ---- the callers of a table
@@ -29,48 +31,21 @@ callers_decided (a_chain m) (a_map n) = inr (λ e. absurd cc)
 callers_decided (a_map m) (a_chain n) = inr (λ e. absurd cc)
 callers_decided (a_map m) (a_map n) = decided_as (ap a_map) (λ e. cc) (texts_decided m n)
 
-callers : TableTree → List Caller
+pub callers : TableTree → List Caller
 callers t = map a_chain (chain_names t) ++ map a_map (map_names t)
-
-Contains-map : {A B : Type 0} (f : A → B) (x : A) (xs : List A) → Contains xs x → Contains (map f xs) (f x)
-Contains-map f x [] at = absurd (Contains-none x at)
-Contains-map f x (y ∷ ys) at =
-    elim (Contains-cases y x ys at) [
-      | inl e ↦ subst (Contains (f y ∷ map f ys)) (ap f e)
-          (Contains-head (f y) (map f ys))
-      | inr later ↦ Contains-there (f y) (f x) (map f ys) (Contains-map f x ys later)
-    ]
-
-found_named : {A : Type 0} (name_of : A → Text) (name : Text) (xs : List A) (x : A)
-    → find (λ y. bytes_eq (name_of y) name) xs ≡ Some x → Contains (map name_of xs) name
-found_named name_of name [] x found = absurd cc
-found_named {A} name_of name (y ∷ ys) x found = step (bytes_eq (name_of y) name) refl found (found_named name_of name ys x)
-  where
-    step : (b : Bool) → bytes_eq (name_of y) name ≡ b → cond b (Some y) (find (λ z. bytes_eq (name_of z) name) ys)
-        ≡ Some x → (find (λ z. bytes_eq (name_of z) name) ys ≡ Some x → Contains (map name_of ys) name)
-        → Contains (name_of y ∷ map name_of ys) name
-    step true e here later = subst (Contains (name_of y ∷ map name_of ys)) ((bytes_eq-Decides (name_of y) name).0 e)
-        (Contains-head (name_of y) (map name_of ys))
-    step false e there later = Contains-there (name_of y) name (map name_of ys) (later there)
-
-is_chain : (t : TableTree) (name : Text) (e : Call Caller) (o : Option ChainTree) → chain_named t name ≡ o
-    → Contains (calls_in (chain_node o)) e → Contains (chain_names t) name
-is_chain t name e None found at = absurd (Contains-none e at)
-is_chain t name e (Some c) found at = found_named (λ d. d.name) name (chains_of t) c found
-
-is_map : (t : TableTree) (name : Text) (e : Call Caller) (o : Option MapTree) → map_named t name ≡ o
-    → Contains (calls_in (map_node o)) e → Contains (map_names t) name
-is_map t name e None found at = absurd (Contains-none e at)
-is_map t name e (Some m) found at = found_named (λ d. d.name) name (maps_of t) m found
 
 is_caller : (t : TableTree) (a : Caller) (e : Call Caller) → CallsOf t a e → Contains (callers t) a
 unfolding callers
-is_caller t (a_chain name) e at =
-    let named : Contains (chain_names t) name = is_chain t name e (chain_named t name) refl at in
-    Contains-append_left (map a_chain (chain_names t)) (map a_map (map_names t)) (a_chain name) (Contains-map a_chain name (chain_names t) named)
-is_caller t (a_map name) e at =
-    let named : Contains (map_names t) name = is_map t name e (map_named t name) refl at in
-    Contains-append_right (map a_chain (chain_names t)) (map a_map (map_names t)) (a_map name) (Contains-map a_map name (map_names t) named)
+is_caller t (a_chain name) e at = ⊎_elim
+    (λ r. Contains-append_left (map a_chain (chain_names t)) (map a_map (map_names t)) (a_chain name)
+    (Contains-map a_chain (chain_names t) name (in-names (λ (c : ChainTree). c.name) (chains_of t) name r)))
+    (λ r. absurd (none-empty (node_of t (a_chain name)) e (none-chain t name r) at))
+    (look-chain t name)
+is_caller t (a_map name) e at = ⊎_elim
+    (λ r. Contains-append_right (map a_chain (chain_names t)) (map a_map (map_names t)) (a_map name)
+    (Contains-map a_map (map_names t) name (in-names (λ (m : MapTree). m.name) (maps_of t) name r)))
+    (λ r. absurd (none-empty (node_of t (a_map name)) e (none-map t name r) at))
+    (look-map t name)
 
 -- ---- cycles
 
@@ -80,13 +55,13 @@ cycles tables =
     (some_decided (λ t. HasCycle (CallsOf t)) tables
     (λ t at. cycle_decided (node_of t) callers_decided (callers t) (is_caller t)))
 
-acyclic_table : (tables : List TableTree) → (Cycles tables → ⊥) → (t : TableTree) → Contains tables t → HasCycle (CallsOf t) → ⊥
+pub acyclic_table : (tables : List TableTree) → (Cycles tables → ⊥) → (t : TableTree) → Contains tables t → HasCycle (CallsOf t) → ⊥
 acyclic_table tables acyclic t at c = acyclic (record { table = t; member = at; cycle = c })
 
-abbrev bound : TableTree → ℕ
+abbrev pub bound : TableTree → ℕ
 bound t = suc (length (callers t))
 
-bounds : (t : TableTree) → (HasCycle (CallsOf t) → ⊥) → (a : Caller) → Bounded (node_of t) (bound t) a
+pub bounds : (t : TableTree) → (HasCycle (CallsOf t) → ⊥) → (a : Caller) → Bounded (node_of t) (bound t) a
 bounds t acyclic = all_bounded (node_of t) callers_decided (callers t) (is_caller t) acyclic
 
 -- ---- depth
@@ -118,10 +93,10 @@ table_cost_same : (f g : Caller → ℕ) → ((a : Caller) → f a ≡ g a) → 
 table_cost_same f g same t = sum_by_same (λ c. base_cost f c.name c.head) (λ c. base_cost g c.name c.head)
     (chains_of t) (λ c at. base_cost_same f g same c.name c.head)
 
-cost_of : TableTree → Caller → ℕ
+pub cost_of : TableTree → Caller → ℕ
 cost_of t = cost (node_of t) (bound t)
 
-costs_of : (t : TableTree) → (HasCycle (CallsOf t) → ⊥) → AreCosts t (cost_of t)
+pub costs_of : (t : TableTree) → (HasCycle (CallsOf t) → ⊥) → AreCosts t (cost_of t)
 unfolding cost_of
 costs_of t acyclic = costs_are (node_of t) (bound t) (bounds t acyclic)
 

@@ -1,14 +1,15 @@
 -- Names, their indices, and the call graph of a table by index.
-use Rattle.std.proofs.Common.{◌≡◌, ◌⊎◌, ℕ, zero, suc, ◌+◌, ◌-◌, ◌<◌, List, [], ◌∷◌, ◌++◌, Some, None, Bool, true}
+use Rattle.std.proofs.Common.{◌≡◌, ◌⊎◌, ℕ, zero, suc, ◌+◌, ◌-◌, ◌<◌, ◌≤◌, List, [], ◌∷◌, ◌++◌, Some, None, Bool, true}
 use Rattle.std.proofs.Common.{false, cond, length, get_or, map, sym, refl, ap, subst, ◌∙◌, inl, inr, ⊎_elim, arith}
-use Rattle.std.specs.Prelude.{find}
+use Rattle.std.specs.Prelude.{find, nat_lt, if◌then◌else◌, Contains}
 use Rattle.std.specs.Option.{option_map}
 use Rattle.std.specs.Str.{bytes_eq}
 use Rattle.std.specs.Cmp.Lexicographic.{same_text}
-use Rattle.std.proofs.lemmas.Bool.{cases_lt}
+use Rattle.std.proofs.lemmas.Bool.{cases_lt, lt-ltb, le-ltb}
 use Rattle.std.proofs.lemmas.List.{length-map, length-append, get_or_append_left, get_or-append-add, get_or_default}
 use Rattle.std.proofs.Math.ListN.{get_or-map}
 use Rattle.list_laws.specs.Lists.{text-refl}
+use Rattle.list_laws.specs.Elements.{Contains-at}
 use Rattle.nft_tree.specs.declared.selector.ValueType.TheVariants as value_types
 use Rattle.nft_tree.specs.declared.set.TypeOrVerdict.TheVariants as data_types
 use Rattle.nft_tree.specs.declared.set.MapType.TheVariants as map_types
@@ -80,6 +81,10 @@ module _ {A : Type 0} (name_of : A → Text) where
   pub name-at : (xs : List A) (i : ℕ) (x : A) → i < length xs → get_or xs i x ≡ x → get_or (map name_of xs) i [] ≡ name_of x
   name-at xs i x h e = get_or_default (map name_of xs) i [] (name_of x) (let n = length-map xs name_of in omega arith)
       ∙ get_or-map name_of xs i x ∙ ap name_of e
+
+  pub in-names : (xs : List A) (name : Text) → Found xs name → Contains (map name_of xs) name
+  in-names xs name r = Contains-at (map name_of xs) r.index [] name (omega (arith, r.within, length-map xs name_of))
+      (name-at xs r.index r.item r.within r.is ∙ r.named)
 
   -- a name in the list is found
   pub not-missing-at : (y : A) (xs : List A) (name : Text) (i : ℕ) (x : A) → i < length (y ∷ xs) → get_or (y ∷ xs) i x
@@ -209,55 +214,54 @@ module _ (t : TableTree) where
       (λ r. ap (node_at (index_graph t)) (map-missing name r.at ∙ omega arith) ∙ graph-none 1 ∙ ap (λ o. numbered (index_of t) (map_node o)) (sym r.finds))
       (look-map name)
 
-  pub inside : (a : Caller) → index_of t a < length (index_graph t)
-  inside (a_chain name) = ⊎_elim
-      (λ r. let e = chain-found name r in let l = r.within in let n = graph-long in omega arith)
-      (λ r. let e = chain-missing name r.at in let n = graph-long in omega arith)
-      (look-chain name)
-  inside (a_map name) = ⊎_elim
-      (λ r. let e = map-found name r in let l = r.within in let n = graph-long in omega arith)
-      (λ r. let e = map-missing name r.at in let n = graph-long in omega arith)
-      (look-map name)
-
   pub none-chain : (name : Text) → Missing (λ (c : ChainTree). c.name) (chains_of t) name → IsEmptyNode (node_of t (a_chain name))
   none-chain name r = subst (λ o. IsEmptyNode (chain_node o)) (sym r.finds) refl
 
   pub none-map : (name : Text) → Missing (λ (m : MapTree). m.name) (maps_of t) name → IsEmptyNode (node_of t (a_map name))
   none-map name r = subst (λ o. IsEmptyNode (map_node o)) (sym r.finds) refl
 
-  pub same-name : {A : Type 0} (name_of : A → Text) (xs : List A) (x y : Text) (r : Found name_of xs x) (q : Found name_of xs y) → r.index ≡ q.index → x ≡ y
-  same-name name_of xs x y r q e = sym r.named ∙ sym (name-at name_of xs r.index r.item r.within r.is)
-      ∙ ap (λ k. get_or (map name_of xs) k []) e ∙ name-at name_of xs q.index q.item q.within q.is ∙ q.named
+  -- what has an index, and the index of what has no node
+  abbrev caller_at : ℕ → Caller
+  caller_at i = if nat_lt i (chain_count t) then a_chain (get_or (chain_names t) i [])
+      else a_map (get_or (map_names t) (i - chain_count t) [])
+
+  abbrev IsKnown : Caller → Type 0
+  IsKnown a = (a ≡ caller_at (index_of t a)) × (index_of t a < chain_count t + map_count t)
+
+  abbrev IsUnknown : Caller → Type 0
+  IsUnknown a = IsEmptyNode (node_of t a) × (chain_count t + map_count t ≤ index_of t a)
+      × (index_of t a ≤ chain_count t + map_count t + 1)
+
+  known : (a : Caller) → IsKnown a ⊎ IsUnknown a
+  known (a_chain name) = elim (look-chain name) [
+    | inl r ↦
+        let named : get_or (chain_names t) r.index [] ≡ name =
+        name-at (λ (c : ChainTree). c.name) (chains_of t) r.index r.item r.within r.is ∙ r.named in
+        let below : nat_lt r.index (chain_count t) ≡ true = lt-ltb _ _ r.within in
+        inl (rw (chain-found name r, below) (ap a_chain (sym named)), omega (arith, chain-found name r, r.within))
+    | inr r ↦ inr
+        (none-chain name r, omega (arith, chain-missing name r.at), omega (arith, chain-missing name r.at))
+  ]
+  known (a_map name) = elim (look-map name) [
+    | inl r ↦
+        let named : get_or (map_names t) r.index [] ≡ name =
+        name-at (λ (m : MapTree). m.name) (maps_of t) r.index r.item r.within r.is ∙ r.named in
+        let past : nat_lt (chain_count t + r.index) (chain_count t) ≡ false = le-ltb _ _ (omega arith) in
+        let back : chain_count t + r.index - chain_count t ≡ r.index = omega arith in
+        inl (rw (map-found name r, past, back) (ap a_map (sym named)), omega (arith, map-found name r, r.within))
+    | inr r ↦ inr (none-map name r, omega (arith, map-missing name r.at), omega (arith, map-missing name r.at))
+  ]
+
+  pub inside : (a : Caller) → index_of t a < length (index_graph t)
+  inside a = elim (known a) [ inl k ↦ omega (arith, k.1, graph-long) | inr u ↦ omega (arith, u.2, graph-long) ]
 
   pub apart : (a b : Caller) → index_of t a ≡ index_of t b → (a ≡ b) ⊎ IsEmptyNode (node_of t a)
-  apart (a_chain x) (a_chain y) e = ⊎_elim
-      (λ r. ⊎_elim
-      (λ q. inl (ap a_chain (same-name (λ (c : ChainTree). c.name) (chains_of t) x y r q (sym (chain-found x r) ∙ e ∙ chain-found y q))))
-      (λ q. let p = chain-found x r in let l = r.within in let k = chain-missing y q.at in absurd (omega (arith, e)))
-      (look-chain y))
-      (λ r. inr (none-chain x r))
-      (look-chain x)
-  apart (a_chain x) (a_map y) e = ⊎_elim
-      (λ r. ⊎_elim
-      (λ q. let p = chain-found x r in let l = r.within in let k = map-found y q in absurd (omega (arith, e)))
-      (λ q. let p = chain-found x r in let l = r.within in let k = map-missing y q.at in absurd (omega (arith, e)))
-      (look-map y))
-      (λ r. inr (none-chain x r))
-      (look-chain x)
-  apart (a_map x) (a_chain y) e = ⊎_elim
-      (λ r. ⊎_elim
-      (λ q. let p = map-found x r in let l = q.within in let k = chain-found y q in absurd (omega (arith, e)))
-      (λ q. let p = map-found x r in let l = r.within in let k = chain-missing y q.at in absurd (omega (arith, e)))
-      (look-chain y))
-      (λ r. inr (none-map x r))
-      (look-map x)
-  apart (a_map x) (a_map y) e = ⊎_elim
-      (λ r. ⊎_elim
-      (λ q. let p = map-found x r in let k = map-found y q in inl (ap a_map (same-name (λ (m : MapTree). m.name) (maps_of t) x y r q (omega (arith, e)))))
-      (λ q. let p = map-found x r in let l = r.within in let k = map-missing y q.at in absurd (omega (arith, e)))
-      (look-map y))
-      (λ r. inr (none-map x r))
-      (look-map x)
+  apart a b e = by_known (known a) (known b)
+    where
+      by_known : IsKnown a ⊎ IsUnknown a → IsKnown b ⊎ IsUnknown b → (a ≡ b) ⊎ IsEmptyNode (node_of t a)
+      by_known (inl k) (inl l) = inl (k.0 ∙ ap caller_at e ∙ sym l.0)
+      by_known (inl k) (inr u) = absurd (omega (arith, e, k.1, u.1))
+      by_known (inr u) _ = inr u.0
 
   module _ (chains_apart : HasDuplicate (chain_names t) → ⊥) (maps_apart : HasDuplicate (map_names t) → ⊥) where
     -- the index of a chain in the table is that in the graph

@@ -1,6 +1,6 @@
 -- Paths, costs and marks in a graph by index and by the nodes' keys.
-use Rattle.std.proofs.Common.{◌≡◌, ◌⊎◌, ℕ, ◌+◌, ◌≤◌, max, List, [], ◌∷◌, ◌++◌, Bool, true, false, length, get_or, map}
-use Rattle.std.proofs.Common.{sym, refl, ap, ap₂, subst, ◌∙◌, inl, inr, ⊎_elim, arith}
+use Rattle.std.proofs.Common.{◌≡◌, ℕ, ◌+◌, ◌≤◌, max, List, [], ◌∷◌, ◌++◌, Bool, true, false, length, get_or, map}
+use Rattle.std.proofs.Common.{sym, refl, ap, ap₂, subst, ◌∙◌, ⊎_elim, arith}
 use Rattle.std.specs.Prelude.{Contains, flat_map}
 use Rattle.std.proofs.lemmas.List.{map-append}
 use Rattle.chain_graph.specs.Graph.{Call, NodeTree, chain, verdict_map, identity, calls_in, IsPath, jumps, HasCycle, greatest, chain_cost, node_cost, Reaches}
@@ -19,35 +19,13 @@ pub empty-calls : {K : Type 0} (n : NodeTree K) → IsEmptyNode n → calls_in n
 empty-calls (chain ss) e = ap (flat_map identity) e
 empty-calls (verdict_map es) e = e
 
-pub empty-cost : {K : Type 0} (f : K → ℕ) (n : NodeTree K) → IsEmptyNode n → node_cost f n ≡ 0
-empty-cost f (chain ss) e = ap (chain_cost f) e
-empty-cost f (verdict_map es) e = ap (greatest f) e
-
 pub none-empty : {K : Type 0} (n : NodeTree K) (e : Call K) → IsEmptyNode n → Contains (calls_in n) e → ⊥
 none-empty n e empty h = let none : Contains [] e = subst (λ es. Contains es e) (empty-calls n empty) h in let l = none.1 in absurd (omega arith)
-
-pub greatest-same : {K : Type 0} (f h : K → ℕ) (es : List (Call K)) → ((a : K) → f a ≡ h a) → greatest f es ≡ greatest h es
-greatest-same f h [] p = refl
-greatest-same f h (e ∷ es) p = ap₂ max (p e.to) (greatest-same f h es p)
-
-pub chain-same : {K : Type 0} (f h : K → ℕ) (ss : List (List (Call K))) → ((a : K) → f a ≡ h a) → chain_cost f ss ≡ chain_cost h ss
-chain-same f h [] p = refl
-chain-same f h (es ∷ ss) p = ap₂ (λ x y. 1 + x + y) (greatest-same f h es p) (chain-same f h ss p)
-
-pub cost-same : {K : Type 0} (f h : K → ℕ) (n : NodeTree K) → ((a : K) → f a ≡ h a) → node_cost f n ≡ node_cost h n
-cost-same f h (chain ss) p = chain-same f h ss p
-cost-same f h (verdict_map es) p = greatest-same f h es p
 
 module _ {K : Type 0} (number : K → ℕ) where
   pub calls-numbered : (n : NodeTree K) → calls_in (numbered number n) ≡ map (numbered_call number) (calls_in n)
   calls-numbered (chain ss) = sym (map-flat (numbered_call number) ss)
   calls-numbered (verdict_map es) = refl
-
-  pub empty-named : (n : NodeTree K) → IsEmptyNode (numbered number n) → IsEmptyNode n
-  empty-named (chain []) e = refl
-  empty-named (chain (s ∷ ss)) e = cc
-  empty-named (verdict_map []) e = refl
-  empty-named (verdict_map (c ∷ es)) e = cc
 
   pub greatest-numbered : (f : ℕ → ℕ) (es : List (Call K)) → greatest f (map (numbered_call number) es) ≡ greatest (λ a. f (number a)) es
   greatest-numbered f [] = refl
@@ -150,53 +128,6 @@ module _ {K : Type 0} (nodes : K → NodeTree K) (number : K → ℕ) (g : Graph
 
   pub costs-up : (cost : ℕ → ℕ) → IsCost g cost → AreCostsOf (λ a. cost (number a))
   costs-up cost is a = is (number a) (s.inside a) ∙ ap (node_cost cost) (s.node a) ∙ cost-numbered number cost (nodes a)
-
-  abbrev pub cost_if : (K → ℕ) → (i : ℕ) → ((a : K) × (number a ≡ i)) ⊎ IsEmptyNode (node_at g i) → ℕ
-  cost_if f i back = ⊎_elim (λ p. f p.0) (λ e. 0) back
-
-  -- the cost of an index, where keys cost f
-  pub cost_by : (K → ℕ) → ℕ → ℕ
-  cost_by f i = cost_if f i (s.back i)
-
-  pub cost-shared : (f : K → ℕ) → AreCostsOf f → (a b : K) → number a ≡ number b → f a ≡ f b
-  cost-shared f are a b e = ⊎_elim
-      (λ same. ap f same)
-      (λ empty. ⊎_elim (λ same. sym (ap f same))
-      (λ empty'. are a ∙ empty-cost f (nodes a) empty ∙ sym (are b ∙ empty-cost f (nodes b) empty')) (s.apart b a (sym e)))
-      (s.apart a b e)
-
-  pub cost-none : (f : K → ℕ) → AreCostsOf f → (a : K) → IsEmptyNode (node_at g (number a)) → f a ≡ 0
-  cost-none f are a empty = are a ∙ empty-cost f (nodes a) (empty-named number (nodes a) (subst IsEmptyNode (s.node a) empty))
-
-  pub cost-if-named : (f : K → ℕ) → AreCostsOf f
-      → (a : K) (back : ((b : K) × (number b ≡ number a)) ⊎ IsEmptyNode (node_at g (number a)))
-      → cost_if f (number a) back ≡ f a
-  cost-if-named f are a (inl p) = cost-shared f are p.0 a p.1
-  cost-if-named f are a (inr e) = sym (cost-none f are a e)
-
-  pub cost-if-empty : (f : K → ℕ) → AreCostsOf f → (i : ℕ) → IsEmptyNode (node_at g i)
-      → (back : ((b : K) × (number b ≡ i)) ⊎ IsEmptyNode (node_at g i)) → cost_if f i back ≡ 0
-  cost-if-empty f are i empty (inl p) = cost-none f are p.0 (subst (λ k. IsEmptyNode (node_at g k)) (sym p.1) empty)
-  cost-if-empty f are i empty (inr e) = refl
-
-  pub cost-named : (f : K → ℕ) → AreCostsOf f → (a : K) → cost_by f (number a) ≡ f a
-  unfolding cost_by
-  cost-named f are a = cost-if-named f are a (s.back (number a))
-
-  pub cost-empty : (f : K → ℕ) → AreCostsOf f → (i : ℕ) → IsEmptyNode (node_at g i) → cost_by f i ≡ 0
-  unfolding cost_by
-  cost-empty f are i empty = cost-if-empty f are i empty (s.back i)
-
-  pub cost-numbered-at : (f : K → ℕ) → AreCostsOf f → (a : K) → cost_by f (number a) ≡ node_cost (cost_by f) (node_at g (number a))
-  cost-numbered-at f are a =
-      cost-named f are a ∙ are a ∙ cost-same f (λ b. cost_by f (number b)) (nodes a) (λ b. sym (cost-named f are b))
-      ∙ sym (cost-numbered number (cost_by f) (nodes a)) ∙ ap (node_cost (cost_by f)) (sym (s.node a))
-
-  pub costs-down : (f : K → ℕ) → AreCostsOf f → IsCost g (cost_by f)
-  costs-down f are i h = ⊎_elim
-      (λ p. subst (λ k. cost_by f k ≡ node_cost (cost_by f) (node_at g k)) p.1 (cost-numbered-at f are p.0))
-      (λ e. cost-empty f are i e ∙ sym (empty-cost (cost_by f) (node_at g i) e))
-      (s.back i)
 
   -- ---- marks
 

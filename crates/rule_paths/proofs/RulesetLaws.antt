@@ -1,121 +1,24 @@
 -- From the findings about each table to those about all.
-use Rattle.std.proofs.Common.{◌≡◌, ◌⊎◌, ℕ, ◌+◌, ◌<◌, List, [], ◌∷◌, ◌++◌, Bool, true, false, ◌||◌, length, get_or}
-use Rattle.std.proofs.Common.{map, take, sym, refl, ap, ap₂, subst, ◌∙◌, inl, inr, ⊎_elim, arith, Vec, Global}
+use Rattle.std.proofs.Common.{◌≡◌, ◌⊎◌, ℕ, ◌+◌, ◌<◌, List, [], ◌∷◌, ◌++◌, Bool, false, ◌||◌, length, get_or}
+use Rattle.std.proofs.Common.{map, take, sym, refl, ap, subst, ◌∙◌, inl, inr, ⊎_elim, arith, Vec, Global}
 use Rattle.std.proofs.Common.{ltb-true, lt-ltb}
-use Rattle.std.specs.Prelude.{Contains, IsTrue, ◌↔◌, ◌&&◌, if◌then◌else◌, nat_eq, nat_lt}
-use Rattle.std.specs.Bool.{Decides}
-use Rattle.std.specs.Cmp.{unsigned_Decides}
-use Rattle.std.specs.Cmp.Lexicographic.{pointwise}
-use Rattle.std.proofs.lemmas.Bool.{cases_lt, and_from, or_left, or_right, or_cases}
-use Rattle.std.proofs.lemmas.Slice.Eq.{slice_eq-Decides}
+use Rattle.std.specs.Prelude.{Contains, IsTrue, ◌↔◌, nat_lt}
+use Rattle.std.proofs.lemmas.Bool.{cases_lt, or_left, or_right, or_cases}
 use Rattle.std.proofs.lemmas.List.{take_more, length-map, length_push, get_or_append_left, get_or_push, map-append}
 use Rattle.std.proofs.lemmas.List.Elements.{Contains-push_cases, Contains-push, Contains-append_left}
 use Rattle.std.proofs.lemmas.List.Sums.{sum_by_push}
 use Rattle.nft_tree.specs.Tree.{TableTree}
-use Rattle.chain_graph.specs.Graph.{Call, NodeTree, chain, verdict_map, HasCycle}
-use Rattle.chain_graph.specs.Nodes.{Graph}
-use Rattle.chain_graph.specs.Measures.{saturated, IsCost}
-use Rattle.rule_paths.specs.Paths.{Caller, CallsOf, AreCosts, AreAllCosts, MAX_COST, table_cost, ruleset_cost}
-use Rattle.rule_paths.specs.Paths.{node_of, Cycles, HasDeepPath, TooDeep, TooCostly, MisplacedNat, misplaced_source}
+use Rattle.chain_graph.specs.Graph.{HasCycle}
+use Rattle.chain_graph.specs.Measures.{saturated}
+use Rattle.rule_paths.specs.Paths.{Caller, CallsOf, AreAllCosts, MAX_COST, table_cost, ruleset_cost}
+use Rattle.rule_paths.specs.Paths.{Cycles, HasDeepPath, TooDeep, TooCostly, MisplacedNat, misplaced_source}
 use Rattle.rule_paths.specs.Paths.{misplaced_destination}
 use Rattle.rule_paths.specs.Findings.{AreChainCosts, AreChainDepths, numbers_at, AreFindings}
 use Rattle.rule_paths.specs.declared.analysis.Findings.{Findings}
 use Rattle.rule_paths.specs.declared.marks.NatKind.TheVariants.{Source, Destination}
 use Rattle.rule_paths.specs.declared.table.TableFindings.{TableFindings}
-use Rattle.rule_paths.specs.steps.Numbers.{RepresentsNodes}
-use Rattle.rule_paths.specs.steps.Index.{index_of, index_graph}
-use Rattle.rule_paths.specs.steps.Tables.{MisplacesAs, MisplacesIn, AreTableFindings, HaveCosts, AreFindingsSoFar}
-use Rattle.rule_paths.proofs.NumberLaws.{costs-up}
-use Rattle.rule_paths.proofs.IndexLaws.{bool-cases}
-
--- ---- equality of graphs is decidable, so that equal graphs get the same costs
-
-pub and-first : (a b : Bool) → a && b ≡ true → a ≡ true
-and-first true b h = refl
-and-first false b h = cc
-
-pub and-second : (a b : Bool) → a && b ≡ true → b ≡ true
-and-second true b h = h
-and-second false b h = cc
-
-abbrev pub bool_eq : Bool → Bool → Bool
-bool_eq true b = b
-bool_eq false true = false
-bool_eq false false = true
-
-pub bool-decides : (a b : Bool) → Decides (bool_eq a b) (a ≡ b)
-bool-decides true true = (λ h. refl, λ e. refl)
-bool-decides true false = (λ h. cc, λ e. cc)
-bool-decides false true = (λ h. cc, λ e. cc)
-bool-decides false false = (λ h. refl, λ e. refl)
-
-abbrev pub call_eq : Call ℕ → Call ℕ → Bool
-call_eq a b = nat_eq a.to b.to && bool_eq a.is_jump b.is_jump
-
-pub call-decides : (a b : Call ℕ) → Decides (call_eq a b) (a ≡ b)
-call-decides a b = (
-  λ h. ap₂ (λ (to : ℕ) (is_jump : Bool). let call : Call ℕ = record { to = to; is_jump = is_jump } in call)
-      ((unsigned_Decides a.to b.to).0 (and-first (nat_eq a.to b.to) (bool_eq a.is_jump b.is_jump) h))
-      ((bool-decides a.is_jump b.is_jump).0 (and-second (nat_eq a.to b.to) (bool_eq a.is_jump b.is_jump) h)),
-  λ e. and_from (nat_eq a.to b.to) (bool_eq a.is_jump b.is_jump) ((unsigned_Decides a.to b.to).1 (ap (λ c. c.to) e))
-      ((bool-decides a.is_jump b.is_jump).1 (ap (λ c. c.is_jump) e)),
-)
-
-abbrev pub calls_eq : List (Call ℕ) → List (Call ℕ) → Bool
-calls_eq xs ys = pointwise call_eq xs ys
-
-pub calls-decide : (xs ys : List (Call ℕ)) → Decides (calls_eq xs ys) (xs ≡ ys)
-calls-decide xs ys = slice_eq-Decides call-decides xs ys (calls_eq xs ys) refl
-
-pub statements-decide : (xs ys : List (List (Call ℕ))) → Decides (pointwise calls_eq xs ys) (xs ≡ ys)
-statements-decide xs ys = slice_eq-Decides calls-decide xs ys (pointwise calls_eq xs ys) refl
-
-abbrev pub node_eq : NodeTree ℕ → NodeTree ℕ → Bool
-node_eq (chain xs) (chain ys) = pointwise calls_eq xs ys
-node_eq (verdict_map xs) (verdict_map ys) = calls_eq xs ys
-node_eq (chain xs) (verdict_map ys) = false
-node_eq (verdict_map xs) (chain ys) = false
-
-pub node-decides : (a b : NodeTree ℕ) → Decides (node_eq a b) (a ≡ b)
-node-decides (chain xs) (chain ys) = (λ h. ap chain ((statements-decide xs ys).0 h), λ e. (statements-decide xs ys).1 (cc))
-node-decides (verdict_map xs) (verdict_map ys) = (λ h. ap verdict_map ((calls-decide xs ys).0 h), λ e. (calls-decide xs ys).1 (cc))
-node-decides (chain xs) (verdict_map ys) = (λ h. cc, λ e. cc)
-node-decides (verdict_map xs) (chain ys) = (λ h. cc, λ e. cc)
-
-abbrev pub graph_eq : Graph → Graph → Bool
-graph_eq g h = pointwise node_eq g h
-
-pub graph-decides : (g h : Graph) → Decides (graph_eq g h) (g ≡ h)
-graph-decides g h = slice_eq-Decides node-decides g h (graph_eq g h) refl
-
--- ---- costs of all tables
-
-pub no-costs : HaveCosts []
-no-costs = record { costs = λ g i. 0; are = λ t h. let l = h.1 in absurd (omega arith); represent = λ t h. let l = h.1 in absurd (omega arith) }
-
-abbrev pub with_graph : (Graph → ℕ → ℕ) → Graph → (ℕ → ℕ) → Graph → ℕ → ℕ
-with_graph costs g cost h = if graph_eq h g then cost else costs h
-
-pub costs-more : (ts : List TableTree) (t : TableTree) → HaveCosts ts
-    → RepresentsNodes (node_of t) (index_of t) (index_graph t) → (cost : ℕ → ℕ) → IsCost (index_graph t) cost
-    → HaveCosts (ts ++ t ∷ [])
-costs-more ts t have represents cost is = record {
-  costs = with_graph have.costs (index_graph t) cost;
-  are = λ u h. ⊎_elim
-      (λ same. subst (IsCost (index_graph u)) (sym (ap (λ b. if b then cost else have.costs (index_graph u)) same))
-      (subst (λ g. IsCost g cost) (sym ((graph-decides (index_graph u) (index_graph t)).0 same)) is))
-      (λ other. subst (IsCost (index_graph u)) (sym (ap (λ b. if b then cost else have.costs (index_graph u)) other)) (⊎_elim
-      (λ k. have.are u k)
-      (λ e. let q : true ≡ false = sym ((graph-decides (index_graph u) (index_graph t)).1 (ap index_graph (sym e))) ∙ other in cc)
-      (Contains-push_cases ts t u h)))
-      (bool-cases (graph_eq (index_graph u) (index_graph t)));
-  represent = λ u h. ⊎_elim (λ k. have.represent u k)
-      (λ e. subst (λ v. RepresentsNodes (node_of v) (index_of v) (index_graph v)) e represents) (Contains-push_cases ts t u h);
-}
-
--- the cost of a table by names
-pub are-costs : (ts : List TableTree) (have : HaveCosts ts) (t : TableTree) → Contains ts t → AreCosts t (λ a. have.costs (index_graph t) (index_of t a))
-are-costs ts have t h = costs-up (node_of t) (index_of t) (index_graph t) (have.represent t h) (have.costs (index_graph t)) (have.are t h)
+use Rattle.rule_paths.specs.steps.Tables.{MisplacesAs, MisplacesIn, AreTableFindings, AreFindingsSoFar}
+use Rattle.rule_paths.proofs.DecidablePaths.{acyclic_table, cost_of, costs_of}
 
 -- ---- one more table
 
@@ -191,7 +94,6 @@ none-so-far = record {
   acyclic = λ k. let l = k.member.1 in absurd (omega arith);
   deep = (λ h. cc, λ d. let l = d.member.1 in absurd (omega arith));
   nat = (λ h. cc, λ m. absurd (no-nat m));
-  have_costs = no-costs;
   sum = λ cost_of are. omega arith;
   costs_long = refl;
   chain_costs = λ i t h e. absurd (omega (arith, h));
@@ -215,7 +117,6 @@ module _ (ts : List TableTree) (t : TableTree) (deep misplaced : Bool) (cost : �
     acyclic = acyclic-more ts t s.acyclic f.acyclic;
     deep = deep-more ts t deep found.is_too_deep s.deep f.deep;
     nat = nat-more ts t misplaced found.misplaces_nat s.nat f.nat;
-    have_costs = (let has = f.has_costs in costs-more ts t s.have_costs f.represents has.0 has.1);
     sum = sum-more;
     costs_long = length_push costs found.costs ∙ ap (λ n. n + 1) s.costs_long ∙ sym (length_push ts t);
     chain_costs = rows-more ts t AreChainCosts costs found.costs s.costs_long s.chain_costs f.costs;
@@ -225,15 +126,16 @@ module _ (ts : List TableTree) (t : TableTree) (deep misplaced : Bool) (cost : �
 
 -- ---- the sum of costs
 
-module _ (ts : List TableTree) (have : HaveCosts ts) (cost : ℕ)
+module _ (ts : List TableTree) (acyclic : Cycles ts → ⊥) (cost : ℕ)
     (sum : (cost_of : TableTree → Caller → ℕ) → AreAllCosts ts cost_of → cost ≡ saturated (ruleset_cost cost_of ts)) where
+  pub has-costs : AreAllCosts ts cost_of
+  has-costs t h = costs_of t (acyclic_table ts acyclic t h)
+
   pub too-costly : MAX_COST < cost → TooCostly ts
-  too-costly over =
-      let is = sum (λ t a. have.costs (index_graph t) (index_of t a)) (are-costs ts have) in
-      record { cost = λ t a. have.costs (index_graph t) (index_of t a); are = are-costs ts have; over = omega arith }
+  too-costly over = let is = sum cost_of has-costs in record { cost = cost_of; are = has-costs; over = omega arith }
 
   pub is-costly : TooCostly ts → MAX_COST < cost
-  is-costly k = let is = sum k.cost k.are in let over = k.over in omega arith
+  is-costly k = omega (arith, sum k.cost k.are, k.over)
 
 -- ---- all tables
 
@@ -247,11 +149,11 @@ all-found tables cost found s e = record {
   acyclic = s.acyclic;
   deep = s.deep;
   costly = (
-    λ h. too-costly tables s.have_costs cost s.sum (ltb-true MAX_COST cost (sym e ∙ h)),
-    λ k. e ∙ lt-ltb MAX_COST cost (is-costly tables s.have_costs cost s.sum k),
+    λ h. too-costly tables s.acyclic cost s.sum (ltb-true MAX_COST cost (sym e ∙ h)),
+    λ k. e ∙ lt-ltb MAX_COST cost (is-costly tables s.acyclic cost s.sum k),
   );
   nat = s.nat;
-  has_costs = (λ t a. s.have_costs.costs (index_graph t) (index_of t a), are-costs tables s.have_costs);
+  has_costs = (cost_of, has-costs tables s.acyclic cost s.sum);
   costs_long = s.costs_long;
   costs = s.chain_costs;
   depths_long = s.depths_long;
@@ -259,8 +161,7 @@ all-found tables cost found s e = record {
 }
 
 pub none-at : (costs depths : List (Vec ℕ Global)) → costs ≡ [] → depths ≡ [] → AreFindingsSoFar [] false false 0 costs depths
-none-at costs depths e h = subst (λ ds. AreFindingsSoFar [] false false 0 costs ds) (sym h)
-    (subst (λ cs. AreFindingsSoFar [] false false 0 cs []) (sym e) none-so-far)
+none-at costs depths e h = rw (e, h) none-so-far
 
 pub more-at : (tables : List TableTree) (i : ℕ) (t : TableTree) (deep misplaced : Bool) (cost cost' : ℕ)
     (costs costs' depths depths' : List (Vec ℕ Global)) (found : TableFindings) → i < length tables → t ≡ get_or tables i t
@@ -268,11 +169,4 @@ pub more-at : (tables : List TableTree) (i : ℕ) (t : TableTree) (deep misplace
     → cost' ≡ saturated (cost + found.base_cost) → costs' ≡ costs ++ found.costs ∷ [] → depths' ≡ depths ++ found.depths ∷ []
     → AreFindingsSoFar (take (i + 1) tables) (deep || found.is_too_deep) (misplaced || found.misplaces_nat) cost' costs' depths'
 more-at tables i t deep misplaced cost cost' costs costs' depths depths' found h e s f p q r =
-    subst (λ ts. AreFindingsSoFar ts (deep || found.is_too_deep) (misplaced || found.misplaces_nat) cost' costs'
-    depths') (sym (take_more tables i t h ∙ ap (λ x. take i tables ++ x ∷ []) (sym e)))
-    (subst (λ n. AreFindingsSoFar (take i tables ++ t ∷ []) (deep || found.is_too_deep) (misplaced || found.misplaces_nat) n costs' depths') (sym p)
-    (subst (λ cs. AreFindingsSoFar (take i tables ++ t ∷ []) (deep || found.is_too_deep)
-    (misplaced || found.misplaces_nat) (saturated (cost + found.base_cost)) cs depths') (sym q)
-    (subst (λ ds. AreFindingsSoFar (take i tables ++ t ∷ []) (deep || found.is_too_deep)
-    (misplaced || found.misplaces_nat) (saturated (cost + found.base_cost)) (costs ++ found.costs ∷ []) ds) (sym r)
-    (more-so-far (take i tables) t deep misplaced cost costs depths found s f))))
+    rw (p, q, r, take_more tables i t h, ← e) (more-so-far (take i tables) t deep misplaced cost costs depths found s f)

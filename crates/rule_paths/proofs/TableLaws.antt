@@ -26,7 +26,9 @@ use Rattle.rule_paths.specs.steps.Index.{chain_count, index_of, index_graph, IsT
 use Rattle.rule_paths.specs.steps.Index.{marks_of, may_not_translate, ReachesMisplaced}
 use Rattle.rule_paths.specs.steps.Tables.{MisplacesAs, MisplacesIn, AreTableFindings}
 use Rattle.rule_paths.specs.declared.table.TableFindings.{TableFindings}
-use Rattle.rule_paths.proofs.NumberLaws.{cycle-down, costs-up, costs-down, cost_by, cost-named, most-up, deep-path, reaching-up, reaching-down}
+use Rattle.rule_paths.proofs.NumberLaws.{cycle-down, costs-up, most-up, deep-path, reaching-up, reaching-down}
+use Rattle.rule_paths.proofs.DecidableGraphs.{one_cost}
+use Rattle.rule_paths.proofs.DecidablePaths.{bound, bounds}
 use Rattle.rule_paths.proofs.IndexLaws.{represents, chain-number, graph-long, name-at, no-chain, look-chain, look-map}
 use Rattle.rule_paths.proofs.IndexLaws.{chain-found, chain-missing, map-found, map-missing}
 
@@ -115,8 +117,9 @@ module _ (t : TableTree) (g : Graph) (s : IsTableGraph t g) where
 
   pub chain-costs : (costs : List ℕ) → length costs ≡ length g
       → ((cost : ℕ → ℕ) → IsCost g cost → (c : ℕ) → c < length g → get_or costs c 0 ≡ saturated (cost c))
-      → (cost : ℕ → ℕ) → IsCost g cost → AreChainCosts t (take (chain_count t) costs)
-  chain-costs costs long known cost is =
+      → (cost : ℕ → ℕ) → IsCost g cost → (HasCycle (CallsOf t) → ⊥) → AreChainCosts t (take (chain_count t) costs)
+  chain-costs costs long known cost is acyclic =
+      let up = costs-up (node_of t) (index_of t) g s.represents cost is in
       let n : length (take (chain_count t) costs) ≡ chain_count t = length-take-le (chain_count t) costs (let l = s.long in omega arith) in
       record {
         are = λ f are. ext_get_or 0 (take (chain_count t) costs) (map (λ c. saturated (f (a_chain c.name))) (chains_of t))
@@ -124,14 +127,12 @@ module _ (t : TableTree) (g : Graph) (s : IsTableGraph t g) where
             (λ i h.
             let l : i < chain_count t = omega arith in
             let m = s.long in
-            let by : ℕ → ℕ = cost_by (node_of t) (index_of t) g s.represents f in
-            let name : Text = get_or (chain_names t) i [] in
+            let a : Caller = a_chain (get_or (chain_names t) i []) in
             get_or-take (chain_count t) costs i 0 l
-            ∙ known by (costs-down (node_of t) (index_of t) g s.represents f are) i (omega arith)
-            ∙ ap (λ k. saturated (by k)) (sym (s.chains_first i l))
-            ∙ ap saturated (cost-named (node_of t) (index_of t) g s.represents f are (a_chain name))
+            ∙ known cost is i (omega arith) ∙ ap (λ k. saturated (cost k)) (sym (s.chains_first i l))
+            ∙ ap saturated (one_cost (node_of t) (λ b. cost (index_of t b)) f up are (bound t) a (bounds t acyclic a))
             ∙ sym (named-number (λ x. saturated (f (a_chain x))) (chains_of t) i l));
-        has_costs = (λ a. cost (index_of t a), costs-up (node_of t) (index_of t) g s.represents cost is);
+        has_costs = (λ a. cost (index_of t a), up);
       }
 
 -- ---- NAT
@@ -229,7 +230,8 @@ table-cycle t g s none k = none (cycle-down (node_of t) (index_of t) g s.represe
 
 module _ (t : TableTree) (g : Graph) (s : IsTableGraph t g) (analysis : GraphAnalysis) (j : IsAnalysisOf g analysis) where
   pub analysis-costs : (costs : List ℕ) → costs ≡ take (chain_count t) analysis.costs.items → AreChainCosts t costs
-  analysis-costs costs e = let cost = j.has_costs in subst (AreChainCosts t) (sym e) (chain-costs t g s analysis.costs.items j.costs_long j.costs cost.0 cost.1)
+  analysis-costs costs e = let cost = j.has_costs in subst (AreChainCosts t) (sym e) (chain-costs t g s analysis.costs.items j.costs_long j.costs cost.0 cost.1
+      (table-cycle t g s j.acyclic))
 
   pub analysis-depths : (depths : List ℕ) → depths ≡ take (chain_count t) analysis.depths.items → AreChainDepths t depths
   analysis-depths depths e = subst (AreChainDepths t) (sym e) (chain-depths t g s analysis.depths.items j.depths_long j.depths)
@@ -242,8 +244,6 @@ module _ (t : TableTree) (g : Graph) (s : IsTableGraph t g) (analysis : GraphAna
       → found.depths.items ≡ take (chain_count t) analysis.depths.items
       → AreTableFindings t found
   table-findings found deep nat base costs depths = record {
-    represents = subst (RepresentsNodes (node_of t) (index_of t)) s.is s.represents;
-    has_costs = subst (λ h. (cost : ℕ → ℕ) × IsCost h cost) s.is j.has_costs;
     acyclic = table-cycle t g s j.acyclic;
     deep = too-deep t found.depths.items (analysis-depths found.depths.items depths) found.is_too_deep deep;
     nat = nat;

@@ -1,18 +1,16 @@
 -- The findings about one table.
-use Rattle.std.specs.Prelude.{◌≡◌, ◌↔◌, ◌⊎◌, ℕ, ◌<◌, IsTrue, Bool, List, length, get_or, Contains, Vec}
+use Rattle.std.specs.Prelude.{◌≡◌, ◌↔◌, ◌⊎◌, ℕ, ◌<◌, IsTrue, Bool, List, length, get_or, Vec}
 use Rattle.std.specs.declared.alloc.Global.{Global}
 use Rattle.nft_tree.specs.Tree.{TableTree}
 use Rattle.chain_graph.specs.Graph.{HasCycle}
-use Rattle.chain_graph.specs.Nodes.{Graph}
-use Rattle.chain_graph.specs.Measures.{saturated, IsCost}
-use Rattle.rule_paths.specs.Paths.{Caller, CallsOf, node_of, Cycles, HasDeepPath, TooDeep, MisplacedNat, AreCosts}
+use Rattle.chain_graph.specs.Measures.{saturated}
+use Rattle.rule_paths.specs.Paths.{Caller, CallsOf, Cycles, HasDeepPath, TooDeep, MisplacedNat, AreCosts}
 use Rattle.rule_paths.specs.Paths.{AreAllCosts, table_cost, ruleset_cost, Misplaces}
 use Rattle.rule_paths.specs.Findings.{AreChainCosts, AreChainDepths, numbers_at}
 use Rattle.rule_paths.specs.declared.marks.NatKind.{NatKind}
 use Rattle.rule_paths.specs.declared.marks.NatKind.TheVariants.{Source, Destination}
 use Rattle.rule_paths.specs.declared.table.TableFindings.{TableFindings}
-use Rattle.rule_paths.specs.steps.Numbers.{RepresentsNodes}
-use Rattle.rule_paths.specs.steps.Index.{translates, may_translate, index_of, index_graph}
+use Rattle.rule_paths.specs.steps.Index.{translates, may_translate}
 
 abbrev pub MisplacesAs : NatKind → TableTree → Type 0
 MisplacesAs kind t = Misplaces (translates kind) (may_translate kind) t
@@ -21,8 +19,6 @@ abbrev pub MisplacesIn : TableTree → Type 0
 MisplacesIn t = MisplacesAs Source t ⊎ MisplacesAs Destination t
 
 pub record AreTableFindings (t : TableTree) (found : TableFindings) : Type 0 where
-  pub represents : RepresentsNodes (node_of t) (index_of t) (index_graph t)
-  pub has_costs : (cost : ℕ → ℕ) × IsCost (index_graph t) cost
   pub acyclic : HasCycle (CallsOf t) → ⊥
   pub deep : IsTrue found.is_too_deep ↔ HasDeepPath t
   pub nat : IsTrue found.misplaces_nat ↔ MisplacesIn t
@@ -30,20 +26,12 @@ pub record AreTableFindings (t : TableTree) (found : TableFindings) : Type 0 whe
   pub costs : AreChainCosts t found.costs.items
   pub depths : AreChainDepths t found.depths.items
 
--- solutions of the cost equations of these tables, each by the table's graph
-pub record HaveCosts (tables : List TableTree) : Type 0 where
-  pub costs : Graph → ℕ → ℕ
-  pub are : (t : TableTree) → Contains tables t → IsCost (index_graph t) (costs (index_graph t))
-  pub represent : (t : TableTree) → Contains tables t
-      → RepresentsNodes (node_of t) (index_of t) (index_graph t)
-
 -- the findings about the tables so far
 pub record AreFindingsSoFar (tables : List TableTree) (is_too_deep misplaces_nat : Bool) (cost : ℕ)
     (costs depths : List (Vec ℕ Global)) : Type 0 where
   pub acyclic : Cycles tables → ⊥
   pub deep : IsTrue is_too_deep ↔ TooDeep tables
   pub nat : IsTrue misplaces_nat ↔ MisplacedNat tables
-  pub have_costs : HaveCosts tables
   pub sum : (cost_of : TableTree → Caller → ℕ) → AreAllCosts tables cost_of
       → cost ≡ saturated (ruleset_cost cost_of tables)
   pub costs_long : length costs ≡ length tables
