@@ -1,10 +1,3 @@
-pub mod BitLaws
-pub mod CountLaws
-pub mod BitmapLaws
-pub mod WordLaws
-pub mod FindLaws
-pub mod MaskLaws
-pub mod SpanLaws
-pub mod ChoiceLaws
-pub mod PreferenceLaws
-pub mod UnusedLaws
+pub mod Bitmaps
+pub mod Spans
+pub mod CandidateLaws

@@ -1,6 +1,6 @@
 use Rattle.std.proofs.Common.{◌+◌, ◌*◌, ◌/◌, ◌≡◌, subst, arith}
 use Rattle.port_pool.specs.steps.First.{NoneWithin, is_open}
-use Rattle.port_pool.proofs.WordLaws.{missed, met, shows_first, shows_later, first_word, later_word}
+use Rattle.port_pool.proofs.Bitmaps.{missed, met, shows_first, shows_later, first_word, later_word}
 use Rattle.port_pool.proofs.bitmap.first_free.Goals as goal
 
 pub returns-then-word-ne0 : goal.returns-then-word-ne0

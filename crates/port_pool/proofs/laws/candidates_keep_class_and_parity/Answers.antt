@@ -1,4 +1,4 @@
-use Rattle.port_pool.proofs.PreferenceLaws.{candidates_alike, all_alike_taken}
+use Rattle.port_pool.proofs.CandidateLaws.{candidates_alike, all_alike_taken}
 use Rattle.port_pool.proofs.laws.candidates_keep_class_and_parity.Goals as goal
 
 pub returns : goal.returns

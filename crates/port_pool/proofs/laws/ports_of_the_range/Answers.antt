@@ -1,4 +1,5 @@
-use Rattle.port_pool.proofs.PreferenceLaws.{candidates_within, candidates_all, candidates_alone, candidates_parity}
+use Rattle.port_pool.proofs.CandidateLaws.{candidates_within, candidates_all, candidates_alone}
+use Rattle.port_pool.proofs.CandidateLaws.{candidates_parity}
 use Rattle.port_pool.proofs.laws.ports_of_the_range.Goals as goal
 
 pub returns : goal.returns

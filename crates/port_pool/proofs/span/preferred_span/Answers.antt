@@ -1,5 +1,5 @@
 use Rattle.port_pool.specs.declared.span.Parity.TheVariants.{All}
-use Rattle.port_pool.proofs.SpanLaws.{preferred_same, preferred_parity, preferred_all}
+use Rattle.port_pool.proofs.Spans.{preferred_same, preferred_parity, preferred_all}
 use Rattle.port_pool.proofs.span.preferred_span.Goals as goal
 
 pub returns-then-has_parity : goal.returns-then-has_parity

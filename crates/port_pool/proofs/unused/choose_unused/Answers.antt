@@ -1,8 +1,8 @@
 use Rattle.std.proofs.Common.{true, refl, sym, ◌∙◌, arith}
 use Rattle.port_pool.specs.Candidates.{candidates, preferred, ports_of}
 use Rattle.port_pool.specs.steps.Spans.{members}
-use Rattle.port_pool.proofs.SpanLaws.{starting_at-same}
-use Rattle.port_pool.proofs.ChoiceLaws.{identifier_itself}
+use Rattle.port_pool.proofs.Spans.{starting_at-same}
+use Rattle.port_pool.proofs.CandidateLaws.{identifier_itself}
 use Rattle.port_pool.proofs.unused.choose_unused.Goals as goal
 
 pub returns-in-Ports : goal.returns-in-Ports

@@ -1,5 +1,5 @@
 use Rattle.std.proofs.Common.{arith}
-use Rattle.port_pool.proofs.BitmapLaws.{clear_counts, clear_gives}
+use Rattle.port_pool.proofs.Bitmaps.{clear_counts, clear_gives}
 use Rattle.port_pool.proofs.bitmap.Bitmap.clear.Goals as goal
 
 pub overflow_sub-self : goal.overflow_sub-self

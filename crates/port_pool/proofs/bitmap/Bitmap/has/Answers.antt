@@ -1,5 +1,5 @@
 use Rattle.std.proofs.Common.{arith}
-use Rattle.port_pool.proofs.BitmapLaws.{has_gives}
+use Rattle.port_pool.proofs.Bitmaps.{has_gives}
 use Rattle.port_pool.proofs.bitmap.Bitmap.has.Goals as goal
 
 pub returns : goal.returns

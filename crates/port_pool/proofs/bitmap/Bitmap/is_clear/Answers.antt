@@ -1,4 +1,4 @@
-use Rattle.port_pool.proofs.BitmapLaws.{clear_at, set_at}
+use Rattle.port_pool.proofs.Bitmaps.{clear_at, set_at}
 use Rattle.port_pool.proofs.bitmap.Bitmap.is_clear.Goals as goal
 
 pub returns-clause-clear : goal.returns-clause-clear

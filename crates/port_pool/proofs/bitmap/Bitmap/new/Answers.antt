@@ -1,7 +1,6 @@
 use Rattle.std.proofs.Common.{ℕ}
 use Rattle.std.proofs.lemmas.List.{length-replicate}
-use Rattle.port_pool.proofs.BitLaws.{bit-zeros}
-use Rattle.port_pool.proofs.BitmapLaws.{counted_none}
+use Rattle.port_pool.proofs.Bitmaps.{bit-zeros, counted_none}
 use Rattle.port_pool.proofs.bitmap.Bitmap.new.Goals as goal
 
 pub invariant_of-result : goal.invariant_of-result

@@ -1,7 +1,6 @@
 use Rattle.std.proofs.Common.{arith}
 use Rattle.port_pool.specs.steps.Bits.{bit}
-use Rattle.port_pool.proofs.CountLaws.{count_below-le}
-use Rattle.port_pool.proofs.BitmapLaws.{set_counts, set_gives}
+use Rattle.port_pool.proofs.Bitmaps.{count_below-le, set_counts, set_gives}
 use Rattle.port_pool.proofs.bitmap.Bitmap.set.Goals as goal
 
 pub overflow_add-self : goal.overflow_add-self

@@ -2,7 +2,7 @@ use Rattle.std.proofs.Common.{not, ◌∙◌, arith}
 use Rattle.std.proofs.lemmas.Bool.{not_from_false}
 use Rattle.port_pool.specs.Taken.{is_taken, order_of}
 use Rattle.port_pool.specs.Candidates.{candidates}
-use Rattle.port_pool.proofs.ChoiceLaws.{found_free, none_free, port_itself, identifier_itself, zero_alone}
+use Rattle.port_pool.proofs.CandidateLaws.{found_free, none_free, port_itself, identifier_itself, zero_alone}
 use Rattle.port_pool.proofs.pool.Pool.choose.Goals as goal
 
 pub returns-clause-free : goal.returns-clause-free

@@ -8,7 +8,7 @@ use Rattle.port_pool.specs.steps.Bits.{bit}
 use Rattle.port_pool.specs.steps.Spans.{members}
 use Rattle.port_pool.specs.Taken.{is_taken, order_of, order_in, taken_in}
 use Rattle.port_pool.specs.Candidates.{candidates, numbers, preferred, ports_of}
-use Rattle.port_pool.proofs.SpanLaws.{starting_at-same, all_match_parity}
+use Rattle.port_pool.proofs.Spans.{starting_at-same, all_match_parity}
 use Rattle.port_pool.proofs.pool.Pool.first_candidate.Goals as goal
 
 -- the first free number, by the kind of the pool

@@ -1,6 +1,6 @@
 use Rattle.std.proofs.Common.{refl, ◌%◌}
 use Rattle.std.specs.Prelude.{◌==◌, if◌then◌else◌}
-use Rattle.port_pool.proofs.MaskLaws.{bits_of}
+use Rattle.port_pool.proofs.Bitmaps.{bits_of}
 use Rattle.port_pool.proofs.span.Parity.mask.Goals as goal
 
 pub returns-in-All : goal.returns-in-All
