@@ -1,5 +1,4 @@
-use Rattle.translation_laws.proofs.Always.{history_obeys}
-use Rattle.translation_laws.proofs.Entries.{entries_follow, no_records}
+use Rattle.translation_laws.proofs.HistoryObeys.{history_obeys, entries_follow, no_records}
 use Rattle.translation_laws.proofs.translation_laws.Goals as goal
 
 pub returns-clause-begins : goal.returns-clause-begins

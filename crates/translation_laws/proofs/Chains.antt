@@ -1,16 +1,12 @@
--- Rules keep the interfaces and the earlier events; a NAT statement and a `notrack` that take effect are among their
--- events.
-use Rattle.std.proofs.Common.{◌≡◌, ℕ, Bool, true, false, IsTrue, List, [], ◌∷◌, ◌++◌, Option, Some, None, refl, sym}
-use Rattle.std.proofs.Common.{◌||◌, ap, append_assoc, append-nil, subst, ◌∙◌}
+-- Rules keep the interfaces and the earlier events; a NAT statement and a `notrack` that take effect are among their events.
+use Rattle.std.proofs.Common.{◌≡◌, ℕ, Bool, true, false, IsTrue, List, [], ◌∷◌, ◌++◌, Option, Some, None}
+use Rattle.std.proofs.Common.{refl, sym, ◌||◌, ap, append_assoc, append-nil, subst, ◌∙◌}
 use Rattle.std.specs.List.{list_any}
 use Rattle.std.proofs.Math.Bool.{or-false}
 use Rattle.std.proofs.lemmas.Bool.{or_left, or_parts, or_right}
 use Rattle.std.proofs.lemmas.List.Folds.{list_any-append}
 use Rattle.nft_tree.specs.declared.chain.Policy.{Policy}
-use Rattle.nft_tree.specs.declared.chain.Policy.TheVariants as policies
 use Rattle.nft_tree.specs.declared.statement.MarkField.{MarkField}
-use Rattle.nft_tree.specs.declared.statement.MarkField.TheVariants as marks
-use Rattle.nft_tree.specs.Tree as tree
 use Rattle.nft_tree.specs.Tree.{Statement, TableTree, VerdictTree}
 use Rattle.box_file.specs.Box.{PlantTree}
 use Rattle.rule_meaning.specs.declared.facts.Facts.{Facts}
@@ -22,19 +18,25 @@ use Rattle.rule_meaning.specs.declared.event.RuleVerdict.TheVariants.{Translate}
 use Rattle.rule_meaning.specs.declared.event.HookVerdict.{HookVerdict}
 use Rattle.rule_meaning.specs.declared.event.HookVerdict.TheVariants.{Translated}
 use Rattle.rule_meaning.specs.declared.event.Event.{Event}
-use Rattle.rule_meaning.specs.declared.event.Event.TheVariants.{Counted, Logged, Marked, TookPolicy, Untracked}
+use Rattle.rule_meaning.specs.declared.event.Event.TheVariants.{Counted, Logged, Marked, TookPolicy}
+use Rattle.rule_meaning.specs.declared.event.Event.TheVariants.{Untracked}
 use Rattle.rule_meaning.specs.declared.event.StatementPosition.{StatementPosition}
 use Rattle.rule_meaning.specs.declared.event.NatAction.{NatAction}
 use Rattle.rule_meaning.specs.Sets.{Scope, looked_up, data_verdict}
 use Rattle.rule_meaning.specs.Statements.{StatementEffect, note, give, passes_if, with_value, writes}
 use Rattle.rule_meaning.specs.Statements.{writes_connection, statement_effect, sets_notrack, rule_verdict_of}
 use Rattle.rule_meaning.specs.Statements.{operand_number, nat_action_of}
-use Rattle.rule_meaning.specs.Runs as runs
 use Rattle.rule_meaning.specs.Runs.{Program, Remainder, RunResult, at_end, over, Runs, table_program}
-use Rattle.rule_meaning.specs.Hooks as hooks
-use Rattle.rule_meaning.specs.Hooks.{BaseChain, HookResult, Traversal, RunsBaseChain, NoChain, Then, InTurn, Chains}
-use Rattle.rule_meaning.specs.Hooks.{with_policy, policy_of, policy_verdict}
+use Rattle.rule_meaning.specs.Hooks.{BaseChain, HookResult, Traversal, RunsBaseChain, NoChain, Then, InTurn}
+use Rattle.rule_meaning.specs.Hooks.{Chains, with_policy, policy_of, policy_verdict}
 use Rattle.translation_laws.specs.Laws.{did_translate, did_untrack}
+use Rattle.nft_tree.specs.declared.chain.Policy.TheVariants as policies
+use Rattle.nft_tree.specs.declared.statement.MarkField.TheVariants as marks
+use Rattle.nft_tree.specs.Tree as tree
+use Rattle.rule_meaning.specs.Runs as runs
+use Rattle.rule_meaning.specs.Hooks as hooks
+
+-- ==== Rules keep the interfaces and the earlier events; a NAT statement and a `notrack` that take effect are among their events.
 
 -- ---- events
 

@@ -1,0 +1,550 @@
+-- Facts of connections, of mappings and of what a packet belongs to.
+use Rattle.std.proofs.Common.{◌≡◌, ℕ, Bool, true, false, cond, not, List, [], ◌∷◌, Option, Some, None}
+use Rattle.std.proofs.Common.{◌⊎◌, inl, inr, sym, ap, subst, arith, is_some, refl, ◌∙◌, ◌&&◌, ◌||◌, IsTrue}
+use Rattle.std.specs.List.{All, Contains, find}
+use Rattle.std.proofs.lemmas.List.Elements.{All-contains, All-contains_itself, All-filter, All-map, All-push}
+use Rattle.std.proofs.lemmas.List.Elements.{All-weaker, Contains-append_cases, Contains-append_left}
+use Rattle.std.proofs.lemmas.List.Elements.{Contains-append_right}
+use Rattle.list_laws.specs.Lists.{Contains-head}
+use Rattle.list_laws.specs.Elements.{Contains-cases, Contains-tail}
+use Rattle.ip_headers.specs.declared.tuple.Mapping.{Mapping}
+use Rattle.ip_headers.specs.declared.tuple.Tuple.{Tuple}
+use Rattle.conntrack.specs.declared.belonging.Belonging.{Belonging}
+use Rattle.conntrack.specs.declared.belonging.Belonging.TheVariants.{Ends, Found, NotFound}
+use Rattle.conntrack.specs.declared.connection.ConnId.{ConnId}
+use Rattle.conntrack.specs.declared.connection.Direction.{Direction}
+use Rattle.conntrack.specs.declared.connection.Flags.{Flags}
+use Rattle.conntrack.specs.declared.connection.ConntrackEntry.{ConntrackEntry}
+use Rattle.conntrack.specs.ConntrackEntry.{begun_with, same_id, touched, touched_at, have_disjoint_tuples}
+use Rattle.conntrack.specs.ConntrackEntry.{belonging_by, belongs_in, is_incoming, is_taken, of_original}
+use Rattle.conntrack.specs.ConntrackEntry.{of_reply, connection_ref}
+use Rattle.conntrack.specs.Updates.{Arrival, Confirmation, Unconfirmed, Confirmed, after_end, after_packet}
+use Rattle.translation.specs.LiveMappings.{listed, mappings_in, mappings_of}
+use Rattle.std.proofs.lemmas.Option.{none-some, same_Some}
+use Rattle.list_laws.specs.Options.{some_of_map, none_not_some}
+use Rattle.box_file.specs.Box.{PlantTree}
+use Rattle.ip_headers.specs.declared.tuple.Endpoint.{Endpoint}
+use Rattle.ip_headers.specs.declared.tuple.Kind.{Kind}
+use Rattle.ip_headers.specs.declared.tuple.Kind.TheVariants.{Tcp, Udp}
+use Rattle.rewrite.specs.Endpoints.{PortsMatchKind}
+use Rattle.nat_mapping.specs.Mappings.{inbound_of, source_of, has_internal, has_external, port_of}
+use Rattle.nat_mapping.specs.Mappings.{same_mapping}
+use Rattle.rule_meaning.specs.declared.facts.Facts.{Facts}
+use Rattle.rule_meaning.specs.declared.event.HookVerdict.{HookVerdict}
+use Rattle.rule_meaning.specs.declared.event.HookVerdict.TheVariants.{Accepted, Dropped, Translated}
+use Rattle.rule_meaning.specs.declared.event.NatAction.{NatAction}
+use Rattle.translation.specs.declared.external.ExternalSource.{ExternalSource}
+use Rattle.translation.specs.declared.ct_info.NewConnection.{NewConnection}
+use Rattle.translation.specs.CtInfos.{new_connection_of}
+use Rattle.translation.specs.Nat.{statement_destination, internal_endpoint, with_source_nat}
+use Rattle.translation.specs.Nat.{with_destination_nat, has_ports, to_internal, with_source_mapping}
+use Rattle.translation.specs.Nat.{port_named, range_of}
+use Rattle.translation_laws.proofs.HistorySteps.{IsNewConnection}
+use Rattle.std.specs.Option.{option_map}
+use Rattle.std.proofs.lemmas.Bool.{and_parts, and_from, cases_Bool, cond-true, cond-false, both_ways, eq-eqb}
+use Rattle.std.proofs.lemmas.Bool.{eqb-true, or_left, or_right, not-true, or_cases, and_left, and_right}
+use Rattle.std.proofs.lemmas.Bool.{false_from_ne_true}
+use Rattle.ip_headers.specs.steps.Equal.{same_kind-refl, same_kind-true, same_endpoint-refl}
+use Rattle.ip_headers.specs.steps.Equal.{same_endpoint-true, same_tuple-true}
+use Rattle.ip_headers.specs.Same.{same_tuple}
+use Rattle.conntrack.specs.declared.connection.Direction.TheVariants.{Original, Reply}
+use Rattle.conntrack.specs.Phases.{is_closing, is_lone_syn}
+use Rattle.translation_laws.specs.Laws.{given_to, does_end, touch_of}
+use Rattle.conntrack.specs.declared.belonging.ConnectionRef.{ConnectionRef}
+use Rattle.conntrack.specs.Histories.{Touches}
+use Rattle.rule_meaning.specs.declared.event.NatAction.TheVariants as translations
+
+-- ==== Facts of each connection held, and of each mapping.
+
+-- ---- connections
+
+-- the connection that a packet begins
+abbrev pub begun_by : ConnId → Arrival → ℕ → Tuple → Option Mapping → Option Mapping → ConntrackEntry
+begun_by id p mark reply source dest =
+    begun_with id (record {
+      original = p.tuple;
+      reply = reply;
+      mark = mark;
+      last = p.moment;
+      source = source;
+      dest = dest;
+    }) p.flags
+
+module _ (P : ConntrackEntry → Type 0) where
+  -- so is one that a packet begins
+  abbrev pub IsBegunSo : Belonging → ConnId → Arrival → Confirmation → Type 0
+  IsBegunSo (Found place) id p confirmation = Unit {0}
+  IsBegunSo b id p Unconfirmed = Unit {0}
+  IsBegunSo b id p (Confirmed mark reply source dest) = P (begun_by id p mark reply source dest)
+
+  -- a touch keeps it
+  abbrev pub IsTouchedSo : Type 0
+  IsTouchedSo = (direction : Direction) (flags : Flags) (mark now : ℕ) (h : ConntrackEntry) → P h
+      → P (touched direction flags mark now h)
+
+  module _ (keeps : IsTouchedSo) where
+    each_touched : (id : ConnId) (direction : Direction) (flags : Flags) (mark now : ℕ) (held : List ConntrackEntry)
+        → All P held
+        → All P (touched_at id direction flags mark now held)
+    each_touched id direction flags mark now held all =
+        All-map P (λ h. cond (same_id id h) (touched direction flags mark now h) h) held
+        (All-weaker P _ (λ h one. by_test (same_id id h) h one) held all)
+      where
+        by_test : (b : Bool) (h : ConntrackEntry) → P h → P (cond b (touched direction flags mark now h) h)
+        by_test true h one = keeps direction flags mark now h one
+        by_test false h one = one
+
+    pub each_after_packet : (b : Belonging) (id : ConnId) (p : Arrival) (confirmation : Confirmation) (held : List
+        ConntrackEntry)
+        → All P (after_end b held) → IsBegunSo b id p confirmation → All P (after_packet b id p confirmation held)
+    each_after_packet (Found place) id p Unconfirmed held all begun = all
+    each_after_packet (Found place) id p (Confirmed mark reply source dest) held all begun =
+        each_touched place.id place.direction p.flags mark p.moment held all
+    each_after_packet b id p Unconfirmed held all begun = all
+    each_after_packet b id p (Confirmed mark reply source dest) held all begun =
+        All-push P (after_end b held) _ all begun
+
+  pub each_after_end : (b : Belonging) (held : List ConntrackEntry) → All P held → All P (after_end b held)
+  each_after_end (Ends e) held all = All-filter (λ h. not (same_id e h)) P held all
+  each_after_end _ held all = all
+
+-- ---- mappings
+
+abbrev pub HasMapping : ConntrackEntry → Mapping → Type 0
+HasMapping h m = (h.source ≡ Some m) ⊎ (h.dest ≡ Some m)
+
+pub listed_is : (o : Option Mapping) (m : Mapping) → Contains (listed o) m → o ≡ Some m
+listed_is None m among = absurd (omega (arith, among.1))
+listed_is (Some n) m among =
+    elim (Contains-cases n [] m among) [ inl e ↦ ap Some e | inr none ↦ absurd (omega (arith, none.1)) ]
+
+is_listed : (o : Option Mapping) (m : Mapping) → o ≡ Some m → Contains (listed o) m
+is_listed o m e = subst (λ (x : Option Mapping). Contains (listed x) m) (sym e) (Contains-head m [])
+
+held_as : (h : ConntrackEntry) (m : Mapping) → Contains (mappings_of h) m → HasMapping h m
+held_as h m among = elim (Contains-append_cases (listed h.source) (listed h.dest) m among) [
+  | inl a ↦ inl (listed_is h.source m a)
+  | inr b ↦ inr (listed_is h.dest m b)
+]
+
+among_its : (h : ConntrackEntry) (m : Mapping) → HasMapping h m → Contains (mappings_of h) m
+among_its h m (inl e) = Contains-append_left (listed h.source) (listed h.dest) m (is_listed h.source m e)
+among_its h m (inr e) = Contains-append_right (listed h.source) (listed h.dest) m (is_listed h.dest m e)
+
+-- a mapping is live where a connection holds it
+pub holder_of : (held : List ConntrackEntry) (m : Mapping) → Contains (mappings_in held) m → (h : ConntrackEntry)
+    × Contains held h × HasMapping h m
+holder_of [] m among = absurd (omega (arith, among.1))
+holder_of (x ∷ held) m among = elim (Contains-append_cases (mappings_of x) (mappings_in held) m among) [
+  | inl first ↦ (x, Contains-head x held, held_as x m first)
+  | inr later ↦ let r = holder_of held m later in (r.0, Contains-tail x held r.0 r.1, r.2)
+]
+
+pub mapping_of_holder : (held : List ConntrackEntry) (h : ConntrackEntry) (m : Mapping) → Contains held h
+    → HasMapping h m → Contains (mappings_in held) m
+mapping_of_holder [] h m among has = absurd (omega (arith, among.1))
+mapping_of_holder (x ∷ held) h m among has = elim (Contains-cases x held h among) [
+  | inl e ↦ Contains-append_left (mappings_of x) (mappings_in held) m
+      (among_its x m (subst (λ (y : ConntrackEntry). HasMapping y m) (sym e) has))
+  | inr later ↦ Contains-append_right (mappings_of x) (mappings_in held) m (mapping_of_holder held h m later has)
+]
+
+-- what is true of the mappings of each connection is true of all that are live
+abbrev pub MappingsAre : (Mapping → Type 0) → ConntrackEntry → Type 0
+MappingsAre Q h = (m : Mapping) → HasMapping h m → Q m
+
+pub each_mapping : (Q : Mapping → Type 0) (held : List ConntrackEntry) → All (MappingsAre Q) held → (m : Mapping)
+    → Contains (mappings_in held) m → Q m
+each_mapping Q held all m among =
+    let r = holder_of held m among in All-contains (MappingsAre Q) held r.0 all r.1 m r.2
+
+pub each_holder : (Q : Mapping → Type 0) (held : List ConntrackEntry)
+    → ((m : Mapping) → Contains (mappings_in held) m → Q m) → All (MappingsAre Q) held
+each_holder Q held all = All-weaker (Contains held) (MappingsAre Q)
+    (λ h among m has. all m (mapping_of_holder held h m among has)) held (All-contains_itself held)
+
+-- ==== Destination NAT and source NAT of a new connection.
+
+abbrev pub mapping_at : Kind → Endpoint → Endpoint → Mapping
+mapping_at kind internal external = record { kind = kind; internal = internal; external = external }
+
+abbrev pub end_at : ℕ → ℕ → Endpoint
+end_at address port = record { address = address; port = port }
+
+-- ---- behind destination NAT
+
+-- its destination was found by the mapping that it goes to
+abbrev pub DestSo : List Mapping → Tuple → NewConnection → Type 0
+DestSo mappings t d =
+    (m : Mapping) → d.dest ≡ Some m
+    → (m ≡ mapping_at t.kind d.tuple.destination t.destination)
+    × (inbound_of t.kind t.destination mappings ≡ Some d.tuple.destination)
+
+pub record IsTurned (mappings : List Mapping) (t : Tuple) (d : NewConnection) : Type 0 where
+  pub kind : d.tuple.kind ≡ t.kind
+  pub source : d.tuple.source ≡ t.source
+  pub none : d.source ≡ None
+  pub dest : DestSo mappings t d
+  pub shape : PortsMatchKind t.kind t.source.port t.destination.port
+      → PortsMatchKind t.kind t.source.port d.tuple.destination.port
+
+pub ported_suits : (kind : Kind) (from to : ℕ) → has_ports kind ≡ true → PortsMatchKind kind from to
+ported_suits Tcp from to h = tt
+ported_suits Udp from to h = tt
+ported_suits _ from to h = cc
+
+named_suits : (kind : Kind) (port : Option ℕ) (from old : ℕ) → PortsMatchKind kind from old
+    → PortsMatchKind kind from (port_named kind port old)
+named_suits kind None from old h = h
+named_suits Tcp (Some port) from old h = tt
+named_suits _ (Some port) from old h = h
+
+module _ (plant : PlantTree) (mappings : List Mapping) (f : Facts) (t : Tuple) where
+  aimed_suits : (how : NatAction) → PortsMatchKind t.kind t.source.port t.destination.port
+      → PortsMatchKind t.kind t.source.port (statement_destination plant f (new_connection_of t) how).port
+  aimed_suits (translations.Destination address port) h = named_suits t.kind port t.source.port t.destination.port h
+  aimed_suits (translations.Redirect port) h = named_suits t.kind port t.source.port t.destination.port h
+  aimed_suits _ h = h
+
+  -- what is behind an endpoint of a kind that has ports
+  behind_parts : (b : Bool) (o : Option Endpoint) (i : Endpoint) → cond b o None ≡ Some i → (b ≡ true) × (o ≡ Some i)
+  behind_parts true o i e = (refl, e)
+  behind_parts false o i e = cc
+
+  pub turned_so : (verdict : HookVerdict) → IsTurned mappings t (with_destination_nat plant mappings f (new_connection_of t)
+      verdict)
+  turned_so (Translated how) =
+      record { kind = refl; source = refl; none = refl; dest = λ m e. absurd (none-some m e); shape = aimed_suits how }
+  turned_so Dropped =
+      record { kind = refl; source = refl; none = refl; dest = λ m e. absurd (none-some m e); shape = λ h. h }
+  turned_so Accepted = by_found (internal_endpoint mappings (new_connection_of t)) refl
+    where
+      by_found : (o : Option Endpoint) → internal_endpoint mappings (new_connection_of t) ≡ o
+          → IsTurned mappings t (to_internal (new_connection_of t) o)
+      by_found None e =
+          record { kind = refl; source = refl; none = refl; dest = λ m k. absurd (none-some m k); shape = λ h. h }
+      by_found (Some i) e =
+          let parts = behind_parts (has_ports t.kind) (inbound_of t.kind t.destination mappings) i e in
+          record {
+            kind = refl;
+            source = refl;
+            none = refl;
+            dest = λ m k. (sym (same_Some (mapping_at t.kind i t.destination) m k), parts.1);
+            shape = λ h. ported_suits t.kind t.source.port i.port parts.0;
+          }
+
+-- ---- behind source NAT
+
+-- its source stayed, or was mapped to the port that it has there or got there
+pub data SourceSo (mappings : List Mapping) (t : Tuple) (d : NewConnection) : Type 0 where
+  stayed : d.source ≡ None → d.tuple.source ≡ t.source → SourceSo mappings t d
+  went : (x : ExternalSource) (port : ℕ) → source_of t.kind t.source x.address (range_of x.ports) mappings ≡ Some port
+      → d.source ≡ Some (mapping_at t.kind t.source (end_at x.address port)) → d.tuple.source ≡ end_at x.address port
+      → d.has_port_range ≡ is_some x.ports → SourceSo mappings t d
+
+pub record NewConnectionSo (mappings : List Mapping) (t : Tuple) (d : NewConnection) : Type 0 where
+  pub kind : d.tuple.kind ≡ t.kind
+  pub source : SourceSo mappings t d
+  pub dest : DestSo mappings t d
+  pub shape : PortsMatchKind t.kind t.source.port t.destination.port
+      → PortsMatchKind t.kind t.source.port d.tuple.destination.port
+
+module _ (mappings : List Mapping) (t : Tuple) (d : NewConnection) (turned : IsTurned mappings t d) where
+  its_port : (x : ExternalSource) (port : ℕ)
+      → source_of d.tuple.kind d.tuple.source x.address (range_of x.ports) mappings ≡ Some port
+      → source_of t.kind t.source x.address (range_of x.ports) mappings ≡ Some port
+  its_port x port e =
+      subst (λ (k : Kind). source_of k t.source x.address (range_of x.ports) mappings ≡ Some port) turned.kind
+      (subst (λ (s : Endpoint). source_of d.tuple.kind s x.address (range_of x.ports) mappings ≡ Some port)
+      turned.source e)
+
+  its_mapping : (external : Endpoint) → mapping_at d.tuple.kind d.tuple.source external
+      ≡ mapping_at t.kind t.source external
+  its_mapping external =
+      ap (λ (k : Kind). mapping_at k d.tuple.source external) turned.kind
+      ∙ ap (λ (s : Endpoint). mapping_at t.kind s external) turned.source
+
+  left_so : (x : Option ExternalSource) (after : NewConnection) → with_source_nat mappings d x ≡ Some after
+      → NewConnectionSo mappings t after
+  left_so None after e =
+      subst (NewConnectionSo mappings t) (same_Some d after e)
+      (record {
+        kind = turned.kind;
+        source = stayed turned.none turned.source;
+        dest = turned.dest;
+        shape = turned.shape;
+      })
+  left_so (Some x) after e =
+      let r = some_of_map (with_source_mapping d x)
+      (source_of d.tuple.kind d.tuple.source x.address (range_of x.ports) mappings) after e in
+      subst (NewConnectionSo mappings t) r.2
+      (record {
+        kind = turned.kind;
+        source = went x r.0 (its_port x r.0 r.1) (ap Some (its_mapping (end_at x.address r.0))) refl refl;
+        dest = turned.dest;
+        shape = turned.shape;
+      })
+
+pub with_nat_status_so : (mappings : List Mapping) (t : Tuple) (d : NewConnection) → IsNewConnection mappings t d
+    → NewConnectionSo mappings t d
+with_nat_status_so mappings t d x =
+    left_so mappings t (with_destination_nat x.plant mappings x.facts (new_connection_of t) x.verdict)
+    (turned_so x.plant mappings x.facts t x.verdict) x.external_source d x.drafted
+
+-- ==== What a search finds, and what the searches for mappings find.
+
+module _ {X : Type 0} (p : X → Bool) where
+  -- what is found is there and passes
+  pub found_so : (xs : List X) (x : X) → find p xs ≡ Some x → Contains xs x × (p x ≡ true)
+  found_so [] x e = absurd (none-some x e)
+  found_so (y ∷ xs) x e =
+      elim (cases_Bool (p y)) [
+        | inl t ↦
+            let same : y ≡ x = same_Some y x (sym (cond-true (p y) (Some y) (find p xs) t) ∙ e) in
+            (subst (λ (z : X). Contains (y ∷ xs) z) same (Contains-head y xs), subst (λ (z : X). p z ≡ true) same t)
+        | inr f ↦
+            let r = found_so xs x (sym (cond-false (p y) (Some y) (find p xs) f) ∙ e) in
+            (Contains-tail y xs x r.0, r.1)
+      ]
+
+  -- where one passes one is found
+  pub one_found : (xs : List X) (x : X) → Contains xs x → p x ≡ true → (y : X) × (find p xs ≡ Some y)
+  one_found [] x among passes = absurd (omega (arith, among.1))
+  one_found (z ∷ xs) x among passes =
+      elim (cases_Bool (p z)) [
+        | inl t ↦ (z, cond-true (p z) (Some z) (find p xs) t)
+        | inr f ↦
+            let later : Contains xs x = elim (Contains-cases z xs x among) [
+              | inl e ↦ absurd (both_ways (p z) f (subst (λ (w : X). p w ≡ true) (sym e) passes))
+              | inr k ↦ k
+            ] in
+            let r = one_found xs x later passes in
+            (r.0, cond-false (p z) (Some z) (find p xs) f ∙ r.1)
+      ]
+
+-- ---- equal mappings
+
+pub mapping_same : (m : Mapping) → same_mapping m m ≡ true
+mapping_same m = and_from _ _ (same_kind-refl m.kind) (and_from _ _ (same_endpoint-refl m.internal)
+    (same_endpoint-refl m.external))
+
+pub parts_same : (m : Mapping) (kind : Kind) (internal external : Endpoint) → m.kind ≡ kind → m.internal ≡ internal
+    → m.external ≡ external
+    → m ≡ mapping_at kind internal external
+parts_same m kind internal external k i e =
+    ap (λ (x : Kind). mapping_at x m.internal m.external) k ∙ ap (λ (x : Endpoint). mapping_at kind x m.external) i
+    ∙ ap (λ (x : Endpoint). mapping_at kind internal x) e
+
+pub mapping_exact : (m n : Mapping) → same_mapping m n ≡ true → m ≡ n
+mapping_exact m n h =
+    let kinds = and_parts _ _ h in
+    let ends = and_parts _ _ kinds.1 in
+    parts_same m n.kind n.internal n.external (same_kind-true _ _ kinds.0) (same_endpoint-true _ _ ends.0)
+    (same_endpoint-true _ _ ends.1)
+
+-- ---- those that are live
+
+-- the port that an internal endpoint has is one of a live mapping
+pub port_held : (kind : Kind) (internal : Endpoint) (address port : ℕ) (mappings : List Mapping)
+    → port_of kind internal address mappings ≡ Some port
+    → Contains mappings (mapping_at kind internal (end_at address port))
+unfolding port_of
+port_held kind internal address port mappings e =
+    let r = some_of_map (λ (m : Mapping). m.external.port) (find (has_internal kind internal address) mappings) port e
+    in
+    let n = r.0 in
+    let so = found_so (has_internal kind internal address) mappings r.0 r.1 in
+    let kinds = and_parts _ _ so.1 in
+    let ends = and_parts _ _ kinds.1 in
+    let at : r.0.external.address ≡ address = eqb-true _ _ ends.1 in
+    let external : r.0.external ≡ end_at address port =
+    ap (λ (a : ℕ). end_at a r.0.external.port) at ∙ ap (λ (q : ℕ). end_at address q) r.2 in
+    subst (Contains mappings)
+    (parts_same r.0 kind internal (end_at address port) (same_kind-true _ _ kinds.0) (same_endpoint-true _ _ ends.0)
+    external) so.0
+
+-- behind the external endpoint of a live mapping an internal one is found
+pub inbound_found : (m : Mapping) (mappings : List Mapping) → Contains mappings m
+    → (internal : Endpoint) × (inbound_of m.kind m.external mappings ≡ Some internal)
+unfolding inbound_of
+inbound_found m mappings among =
+    let r = one_found (has_external m.kind m.external) mappings m among
+    (and_from _ _ (same_kind-refl m.kind) (same_endpoint-refl m.external)) in
+    (r.0.internal, ap (λ (o : Option Mapping). option_map (λ (n : Mapping). n.internal) o) r.1)
+
+-- the internal endpoint of a live mapping has a port at its external address
+pub port_found : (m : Mapping) (mappings : List Mapping) → Contains mappings m
+    → (port : ℕ) × (port_of m.kind m.internal m.external.address mappings ≡ Some port)
+unfolding port_of
+port_found m mappings among =
+    let r = one_found (has_internal m.kind m.internal m.external.address) mappings m among
+    (and_from _ _ (same_kind-refl m.kind) (and_from _ _ (same_endpoint-refl m.internal)
+    (eq-eqb m.external.address m.external.address refl))) in
+    (r.0.external.port, ap (λ (o : Option Mapping). option_map (λ (n : Mapping). n.external.port) o) r.1)
+
+-- ==== A packet belongs to the one connection that has its tuple.
+
+pub taken_by : (t : Tuple) (held : List ConntrackEntry) (h : ConntrackEntry) → Contains held h → is_incoming t h ≡ true
+    → is_taken t held ≡ true
+taken_by t [] h among incoming = absurd (omega (arith, among.1))
+taken_by t (x ∷ held) h among incoming = elim (Contains-cases x held h among) [
+  | inl e ↦ or_left (is_incoming t x) (is_taken t held)
+      (subst (λ (y : ConntrackEntry). is_incoming t y ≡ true) (sym e) incoming)
+  | inr later ↦ or_right (is_incoming t x) (is_taken t held) (taken_by t held h later incoming)
+]
+
+abbrev pub Parts : ConntrackEntry → List ConntrackEntry → Type 0
+Parts x held = (is_taken x.original held ≡ false) × (is_taken x.reply held ≡ false) × (have_disjoint_tuples held ≡ true)
+
+pub parts : (x : ConntrackEntry) (held : List ConntrackEntry) → have_disjoint_tuples (x ∷ held) ≡ true → Parts x held
+parts x held apart =
+    let two = and_parts (not (is_taken x.original held || is_taken x.reply held)) (have_disjoint_tuples held) apart in
+    let neither = not-true (is_taken x.original held || is_taken x.reply held) two.0 in
+    (grind (arith, neither), grind (arith, neither), two.1)
+
+-- no tuple of the first is one of those behind it
+pub not_behind : (x : ConntrackEntry) (held : List ConntrackEntry) (t : Tuple)
+    → have_disjoint_tuples (x ∷ held) ≡ true → is_incoming t x ≡ true → is_taken t held ≡ false
+not_behind x held t apart incoming = by_tuple (or_cases (same_tuple x.original t) (same_tuple x.reply t) incoming)
+  where
+    free : (u : Tuple) → is_taken u held ≡ false → same_tuple u t ≡ true → is_taken t held ≡ false
+    free u none same = subst (λ (v : Tuple). is_taken v held ≡ false) (same_tuple-true u t same) none
+
+    by_tuple : (same_tuple x.original t ≡ true) ⊎ (same_tuple x.reply t ≡ true) → is_taken t held ≡ false
+    by_tuple (inl e) = free x.original (parts x held apart).0 e
+    by_tuple (inr e) = free x.reply (parts x held apart).1 e
+
+module _ (t : Tuple) where
+  -- only one connection has a tuple
+  only_one : (held : List ConntrackEntry) (g h : ConntrackEntry) → have_disjoint_tuples held ≡ true
+      → Contains held g → Contains held h → is_incoming t g ≡ true → is_incoming t h ≡ true → g ≡ h
+  only_one [] g h apart one other mine its = absurd (omega (arith, one.1))
+  only_one (x ∷ held) g h apart one other mine its =
+      by_place (λ j k. only_one held g h (parts x held apart).2 j k mine its) (Contains-cases x held g one)
+      (Contains-cases x held h other)
+    where
+      behind : (y : ConntrackEntry) → Contains held y → is_incoming t y ≡ true → is_incoming t x ≡ true → ⊥
+      behind y k incoming first =
+          both_ways (is_taken t held) (not_behind x held t apart first) (taken_by t held y k incoming)
+
+      by_place : (Contains held g → Contains held h → g ≡ h) → (x ≡ g) ⊎ Contains held g → (x ≡ h) ⊎ Contains held h
+          → g ≡ h
+      by_place rest (inl e) (inl f) = sym e ∙ f
+      by_place rest (inl e) (inr k) =
+          absurd (behind h k its (subst (λ (y : ConntrackEntry). is_incoming t y ≡ true) (sym e) mine))
+      by_place rest (inr k) (inl f) =
+          absurd (behind g k mine (subst (λ (y : ConntrackEntry). is_incoming t y ≡ true) (sym f) its))
+      by_place rest (inr j) (inr k) = rest j k
+
+  -- a search for one of its tuples finds it
+  found_alone : (p : ConntrackEntry → Bool) → ((y : ConntrackEntry) → p y ≡ true → is_incoming t y ≡ true)
+      → (held : List ConntrackEntry) (h : ConntrackEntry) → have_disjoint_tuples held ≡ true → Contains held h
+      → p h ≡ true → find p held ≡ Some h
+  found_alone p incoming held h apart among passes =
+      let r = one_found p held h among passes in
+      let so = found_so p held r.0 r.1 in
+      r.1 ∙ ap Some (only_one held r.0 h apart so.0 among (incoming r.0 so.1) (incoming h passes))
+
+  pub given_one : (held : List ConntrackEntry) (h : ConntrackEntry) (flags : Flags) → have_disjoint_tuples held ≡ true
+      → Contains held h → is_incoming t h ≡ true → belongs_in held t flags ≡ given_to h t flags
+  given_one held h flags apart among incoming = by_test (cases_Bool (same_tuple h.original t))
+    where
+      told : (b : Bool) → same_tuple h.original t ≡ b
+          → given_to h t flags ≡ cond (b && (is_lone_syn flags && is_closing h)) (Ends h.id) (cond b
+          (Found (connection_ref h Original)) (Found (connection_ref h Reply)))
+      told b e = ap (λ (b : Bool). cond (b && (is_lone_syn flags && is_closing h)) (Ends h.id)
+          (cond b (Found (connection_ref h Original)) (Found (connection_ref h Reply)))) e
+
+      -- by an original tuple it finds no other
+      none_original : same_tuple h.original t ≡ false → (o : Option ConntrackEntry) → of_original held t ≡ o → o ≡ None
+      none_original other None e = refl
+      none_original other (Some y) e =
+          let so = found_so (λ (x : ConntrackEntry). same_tuple x.original t) held y e in
+          let same = only_one held y h apart so.0 among (or_left (same_tuple y.original t) (same_tuple y.reply t) so.1)
+          incoming in
+          absurd (both_ways (same_tuple h.original t) other
+          (subst (λ (x : ConntrackEntry). same_tuple x.original t ≡ true) same so.1))
+
+      by_test : (same_tuple h.original t ≡ true) ⊎ (same_tuple h.original t ≡ false)
+          → belongs_in held t flags ≡ given_to h t flags
+      by_test (inl e) =
+          ap (λ o. belonging_by flags o (of_reply held t))
+          (found_alone (λ (x : ConntrackEntry). same_tuple x.original t)
+          (λ y. or_left (same_tuple y.original t) (same_tuple y.reply t)) held h apart among e) ∙ sym (told true e)
+      by_test (inr e) =
+          let reply : same_tuple h.reply t ≡ true = grind (arith, e, incoming) in
+          ap (λ o. belonging_by flags o (of_reply held t)) (none_original e (of_original held t) refl)
+          ∙ ap (λ o. belonging_by flags None o) (found_alone (λ (x : ConntrackEntry). same_tuple x.reply t)
+          (λ y. or_right (same_tuple y.original t) (same_tuple y.reply t)) held h apart among reply)
+          ∙ sym (told false e)
+
+-- ==== The connection that a packet belongs to.
+
+ends_nowhere : (id : ConnId) (place : ConnectionRef) → Ends id ≡ Found place → ⊥
+ends_nowhere id place e = cc
+
+found_nowhere : (place : ConnectionRef) → NotFound ≡ Found place → ⊥
+found_nowhere place e = cc
+
+same_place : (x y : ConnectionRef) → Found x ≡ Found y → x ≡ y
+same_place x y e = cc
+
+module _ (t : Tuple) (flags : Flags) (held : List ConntrackEntry) (place : ConnectionRef) where
+  -- one that has its tuple, and that it doesn't remove
+  pub record FoundOne : Type 0 where
+    pub h : ConntrackEntry
+    pub among : Contains held h
+    pub incoming : IsTrue (is_incoming t h)
+    pub unended : does_end h t flags ≡ false
+    pub named : h.id ≡ place.id
+    pub touched : touch_of h t ≡ Touches place.id.0 place.direction
+
+  -- by its original tuple
+  found_original : (h : ConntrackEntry) → of_original held t ≡ Some h → (b : Bool)
+      → (is_lone_syn flags && is_closing h) ≡ b
+      → cond b (Ends h.id) (Found (connection_ref h Original)) ≡ Found place → FoundOne
+  found_original h o true ends e = absurd (ends_nowhere h.id place e)
+  found_original h o false ends e =
+      let so = found_so (λ (x : ConntrackEntry). same_tuple x.original t) held h o in
+      let same = same_place (connection_ref h Original) place e in
+      record {
+        h = h;
+        among = so.0;
+        incoming = or_left (same_tuple h.original t) (same_tuple h.reply t) so.1;
+        unended = and_right (same_tuple h.original t) (is_lone_syn flags && is_closing h) ends;
+        named = ap (λ (x : ConnectionRef). x.id) same;
+        touched = cond-true (same_tuple h.original t) (Touches h.id.0 Original) (Touches h.id.0 Reply) so.1
+            ∙ ap (λ (x : ConnectionRef). Touches x.id.0 x.direction) same;
+      }
+
+  -- by its reply tuple
+  found_reply : (h : ConntrackEntry) → of_original held t ≡ None → of_reply held t ≡ Some h
+      → Found (connection_ref h Reply) ≡ Found place → FoundOne
+  found_reply h none o e =
+      let so = found_so (λ (x : ConntrackEntry). same_tuple x.reply t) held h o in
+      let same = same_place (connection_ref h Reply) place e in
+      record {
+        h = h;
+        among = so.0;
+        incoming = or_right (same_tuple h.original t) (same_tuple h.reply t) so.1;
+        unended = and_left (same_tuple h.original t) (is_lone_syn flags && is_closing h) (other so.0);
+        named = ap (λ (x : ConnectionRef). x.id) same;
+        touched = cond-false (same_tuple h.original t) (Touches h.id.0 Original) (Touches h.id.0 Reply) (other so.0)
+            ∙ ap (λ (x : ConnectionRef). Touches x.id.0 x.direction) same;
+      }
+    where
+      other : Contains held h → same_tuple h.original t ≡ false
+      other among =
+          false_from_ne_true (same_tuple h.original t)
+          (λ is.
+          let r = one_found (λ (x : ConntrackEntry). same_tuple x.original t) held h among is in
+          none_not_some (of_original held t) r.0 none r.1)
+
+  pub found_one : belongs_in held t flags ≡ Found place → FoundOne
+  found_one e = by_searches (of_original held t) (of_reply held t) refl refl e
+    where
+      by_searches : (x y : Option ConntrackEntry) → of_original held t ≡ x → of_reply held t ≡ y
+          → belonging_by flags x y ≡ Found place → FoundOne
+      by_searches (Some h) y o r e = found_original h o (is_lone_syn flags && is_closing h) refl e
+      by_searches None (Some h) o r e = found_reply h o r e
+      by_searches None None o r e = absurd (found_nowhere place e)
