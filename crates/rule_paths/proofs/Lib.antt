@@ -1,7 +1,4 @@
-pub mod NumberLaws
-pub mod IndexLaws
-pub mod TableLaws
 pub mod ReadLaws
-pub mod RulesetLaws
-pub mod DecidableGraphs
-pub mod DecidablePaths
+pub mod PathFindings
+pub mod Graphs
+pub mod Callers

@@ -4,7 +4,7 @@ use Rattle.std.proofs.lemmas.Option.{MatchOption-at_none, MatchOption-at_some}
 use Rattle.chain_graph.specs.Graph.{HasCycle}
 use Rattle.rule_paths.specs.Paths.{CallsOf}
 use Rattle.rule_paths.specs.steps.Tables.{AreTableFindings, AreFindingsSoFar}
-use Rattle.rule_paths.proofs.RulesetLaws.{none-at, more-at, all-found, cycle-found}
+use Rattle.rule_paths.proofs.PathFindings.{none-at, more-at, all-found, cycle-found}
 use Rattle.rule_paths.proofs.analysis.analyze.Goals as goal
 
 pub loop-table-init : goal.loop-table-init

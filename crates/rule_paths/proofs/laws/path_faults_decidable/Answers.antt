@@ -1,4 +1,4 @@
-use Rattle.rule_paths.proofs.DecidablePaths.{cycles, deep, costly, nat}
+use Rattle.rule_paths.proofs.Callers.{cycles, deep, costly, nat}
 use Rattle.rule_paths.proofs.laws.path_faults_decidable.Goals as goal
 
 pub returns : goal.returns

@@ -4,8 +4,8 @@ use Rattle.chain_graph.specs.Nodes.{graph_of, node_of as node_tree}
 use Rattle.chain_graph.specs.Measures.{ReachesMarked}
 use Rattle.rule_paths.specs.Paths.{node_of}
 use Rattle.rule_paths.specs.steps.Index.{index_of, ReachesMisplaced, marks_of, translates}
-use Rattle.rule_paths.proofs.NumberLaws.{in-range}
-use Rattle.rule_paths.proofs.TableLaws.{misplaced}
+use Rattle.rule_paths.proofs.Graphs.{in-range}
+use Rattle.rule_paths.proofs.PathFindings.{misplaced}
 use Rattle.rule_paths.proofs.misplaced.misplaces.Goals as goal
 
 pub reaches_marked-requires-clause-range : goal.reaches_marked-requires-clause-range

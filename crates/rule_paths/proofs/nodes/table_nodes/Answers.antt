@@ -5,7 +5,7 @@ use Rattle.chain_graph.specs.declared.node.Node.TheVariants.{Chain, Map}
 use Rattle.chain_graph.specs.Graph.{NodeTree, chain, verdict_map}
 use Rattle.chain_graph.specs.Nodes.{Graph, node_of, graph_of, statements_of, call_of}
 use Rattle.rule_paths.specs.steps.Index.{index_graph, chain_at, map_at}
-use Rattle.rule_paths.proofs.TableLaws.{table-graph}
+use Rattle.rule_paths.proofs.PathFindings.{table-graph}
 use Rattle.rule_paths.proofs.ReadLaws.{two-more}
 use Rattle.rule_paths.proofs.nodes.table_nodes.Goals as goal
 

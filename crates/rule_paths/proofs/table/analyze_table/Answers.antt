@@ -6,7 +6,7 @@ use Rattle.chain_graph.specs.Nodes.{graph_of, Calls, node_of as node_tree}
 use Rattle.chain_graph.specs.Measures.{IsAnalysisOf}
 use Rattle.rule_paths.specs.Paths.{node_of}
 use Rattle.rule_paths.specs.steps.Index.{index_of, IsTableGraph}
-use Rattle.rule_paths.proofs.NumberLaws.{in-range, cycle-up}
+use Rattle.rule_paths.proofs.Graphs.{in-range, cycle-up}
 use Rattle.rule_paths.proofs.table.analyze_table.Goals as goal
 
 pub analyze-requires : goal.analyze-requires

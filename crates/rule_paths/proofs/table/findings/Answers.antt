@@ -2,7 +2,7 @@ use Rattle.std.proofs.Common.{◌∙◌, ap}
 use Rattle.std.specs.Prelude.{nat_lt}
 use Rattle.std.specs.List.{list_any}
 use Rattle.chain_graph.specs.Nodes.{graph_of}
-use Rattle.rule_paths.proofs.TableLaws.{analysis-costs, table-findings, either-misplaced}
+use Rattle.rule_paths.proofs.PathFindings.{analysis-costs, table-findings, either-misplaced}
 use Rattle.rule_paths.proofs.table.findings.Goals as goal
 
 pub base_cost-base_cost-requires : goal.base_cost-base_cost-requires
