@@ -1,6 +1,6 @@
 -- The laws of NAT in each history, put together. To be read before it: Chains, Paths, HistorySteps, Connections, Preserved,
 -- EntryLaws.
-use Rattle.std.proofs.Common.{◌≡◌, List, [], ◌∷◌, ◌++◌, ◌⊎◌, inl, inr, refl, sym, ap, subst, ℕ, ◌<◌, Bool}
+use Rattle.std.proofs.Common.{◌≡◌, List, [], ◌∷◌, ◌++◌, ◌⊎◌, inl, inr, refl, sym, ap, subst, ℕ, Bool}
 use Rattle.std.proofs.Common.{true, not, arith, drop, Option, Some, None, Result, Ok, Err, ◌≤◌}
 use Rattle.std.proofs.Common.{◌≢◌, IsTrue, ◌∙◌}
 use Rattle.pcap_io.specs.Pcap.{Recorded}
@@ -8,11 +8,10 @@ use Rattle.history.specs.Setup.{Setup, limits_of}
 use Rattle.history.specs.History.{Entry, tracked_of, moment_of}
 use Rattle.stepping.specs.Next.{IsHistoryOf, Next, EntryOf, live_at_record, moment_after}
 use Rattle.translation_laws.specs.Histories.{EntriesFollow, IsHistory, alive_at, latest_choice, listed_at}
-use Rattle.std.specs.Prelude.{filter, map, nat_lt, max}
+use Rattle.std.specs.Prelude.{filter, map, max}
 use Rattle.std.specs.List.{Contains, All}
-use Rattle.std.proofs.lemmas.Bool.{cond_both, and_parts, and_from, both_ways, not_from_false}
+use Rattle.std.proofs.lemmas.Bool.{cond_both, lt-ltb, ltb-true, and_parts, and_from, both_ways, not_from_false}
 use Rattle.std.proofs.lemmas.Bool.{or_left, or_right}
-use Rattle.std.proofs.lemmas.Bool.Decides.{nat_tests}
 use Rattle.std.proofs.lemmas.List.Elements.{All-contains, filter_passes}
 use Rattle.list_laws.specs.Lists.{Contains-head}
 use Rattle.list_laws.specs.Elements.{Contains-cases, Contains-tail, Contains-unmap}
@@ -131,18 +130,12 @@ has_filter p (d ∷ cs) c among passes =
       | inr k ↦ has_filter p cs c k passes
     ])
 
-below_so : (m n : ℕ) → nat_lt m n ≡ true → m < n
-below_so m n e = grind (arith, nat_tests)
-
-so_below : (m n : ℕ) → m < n → nat_lt m n ≡ true
-so_below m n lt = grind (arith, nat_tests)
-
 -- a connection that wasn't ended is listed exactly while its last packet is less than its limit ago
 pub lives_always : (setup : Setup) (history : List Entry) (now : ℕ) → LivesOn setup history now
 lives_always setup history now c among unended =
     let alive : ℕ → Bool = λ k. is_alive (limits_of setup) k (tracked_of history) now in
     let same = their_names (tracked_of history) (filter alive (begun_in (tracked_of history))) in (
-      λ listed. below_so _ _ (and_parts (not (is_ended c (tracked_of history)))
+      λ listed. ltb-true _ _ (and_parts (not (is_ended c (tracked_of history)))
           (is_live (limits_of setup) now (connection_in c (tracked_of history)))
           (All-contains (λ (k : ℕ). alive k ≡ true) (filter alive (begun_in (tracked_of history))) c
           (filter_passes alive (begun_in (tracked_of history)))
@@ -150,7 +143,7 @@ lives_always setup history now c among unended =
       λ lt. subst (λ (l : List ℕ). Contains l c) (sym same) (has_filter alive (begun_in (tracked_of history)) c among
           (and_from (not (is_ended c (tracked_of history)))
           (is_live (limits_of setup) now (connection_in c (tracked_of history)))
-          (not_from_false (is_ended c (tracked_of history)) unended) (so_below _ _ lt))),
+          (not_from_false (is_ended c (tracked_of history)) unended) (lt-ltb _ _ lt))),
     )
 
 -- ==== What is true of connections is true of them as they are listed.
