@@ -2,10 +2,10 @@
 ghost use Rattle.std.specs.Prelude.{◌≤◌, length};
 
 use crate::support::{bytes, check_row, repeated};
+use hex::FromHexError;
 use pcap_io::{Calls, Capture, CaptureError, CaptureFault, Counted, Failing, Leaving, Sink, Slow};
-use std::alloc::{AllocError, Global};
+use std::alloc::Global;
 use std::io::{Read, Write};
-use std::process::Abort;
 
 /// Magic a1b2c3d4 (microseconds), version 2.4, LINKTYPE_RAW.
 const HEADER: &str = "d4c3b2a1020004000000000000000000ffff000065000000";
@@ -32,22 +32,29 @@ fn count_until_fault<I: Read>(
     Ok(9)
 }
 
-/// The same after opening the capture; `None` if a fault isn't reported again, or leaves a record.
-fn count_records<I: Read>(
-    alloc: Global,
+/// The same; `None` if a fault isn't reported again, or leaves a record.
+fn count_repeatedly<I: Read>(
+    capture: &mut Capture,
     reader: &mut Counted<I>,
 ) -> Option<Result<u64, CaptureError>> {
-    let mut capture = match Capture::open(alloc, reader) {
-        Ok(capture) => capture,
-        Err(error) => return Some(Err(error)),
-    };
-    let answer = count_until_fault(&mut capture, reader);
+    let answer = count_until_fault(capture, reader);
     if let Err(error) = answer {
         if capture.next(reader) != Err(error) || capture.record().is_some() {
             return None;
         }
     }
     Some(answer)
+}
+
+/// The same after opening the capture.
+fn count_records<I: Read>(
+    alloc: Global,
+    reader: &mut Counted<I>,
+) -> Option<Result<u64, CaptureError>> {
+    match Capture::open(alloc, reader) {
+        Ok(mut capture) => count_repeatedly(&mut capture, reader),
+        Err(error) => Some(Err(error)),
+    }
 }
 
 const MAGIC: Result<u64, CaptureError> = Err(CaptureError::Refused(CaptureFault::Magic));
@@ -108,25 +115,35 @@ static ROWS: [Row; 23] = [
     (24, LATER, 40, MALFORMED),
 ];
 
-/// The capture with the row's change.
-fn changed(alloc: Global, whole: &[u8], row: &Row) -> Result<Vec<u8>, AllocError> {
-    let (offset, replacement, length, _) = row;
-    let mut capture = whole.to_vec(alloc)?;
-    for (old, new) in capture.iter_mut().skip(*offset).zip(*replacement) {
+/// Puts these bytes in the place of those at an offset.
+fn put(capture: &mut [u8], offset: usize, replacement: &[u8]) {
+    for (old, new) in capture.iter_mut().skip(offset).zip(replacement) {
         *old = *new;
     }
-    capture.resize(*length, b'x')?;
+}
+
+/// The capture with the row's change.
+fn changed(alloc: Global, row: &Row) -> Result<Vec<u8>, FromHexError> {
+    let mut capture = bytes(alloc, &[HEADER, AT_1_5, PLAIN, EARLIER])?;
+    put(&mut capture, row.0, row.1);
+    capture.resize(row.2, b'x')?;
     Ok(capture)
+}
+
+/// Whether the changed capture has as many records as the row says, or its fault.
+fn is_counted(alloc: Global, row: &Row) -> bool {
+    match changed(alloc, row) {
+        Ok(capture) => {
+            count_records(alloc, &mut Counted::new(capture.as_slice())) == Some(row.3)
+        }
+        Err(_) => false,
+    }
 }
 
 #[test]
 fn records_are_counted_or_refused(rt: HostRuntime) {
-    let parts = [HEADER, AT_1_5, PLAIN, EARLIER];
-    let whole = bytes(rt.alloc(), &parts).expect(&rt, "a capture");
     for (number, row) in ROWS.iter().enumerate() {
-        let capture = changed(rt.alloc(), &whole, row).expect(&rt, "memory");
-        let answer = count_records(rt.alloc(), &mut Counted::new(capture.as_slice()));
-        check_row(&rt, number, answer == Some(row.3));
+        check_row(&rt, number, is_counted(rt.alloc(), row));
     }
 }
 
@@ -142,22 +159,26 @@ fn read_slowly(
     (answer, reader.into_inner().calls())
 }
 
+/// Whether the answer is that of the read of this number, which fails. 112 bytes take 13 reads, and
+/// one more sees the end.
+fn is_reported(alloc: Global, fails: u8) -> bool {
+    let wanted = if fails < 14 {
+        (Some(Err(CaptureError::Device)), u64::from(fails) + 1)
+    } else {
+        (Some(Ok(2)), 14)
+    };
+    match bytes(alloc, &[HEADER, AT_1_5, PLAIN, AT_1_5, PLAIN]) {
+        Ok(capture) => read_slowly(alloc, &capture, usize::from(fails)) == wanted,
+        Err(_) => false,
+    }
+}
+
 /// If a read fails, that is the answer, and the answer from then on; nothing is read again.
 #[test]
 fn a_failed_read_is_reported_again(rt: HostRuntime) {
-    let parts = [HEADER, AT_1_5, PLAIN, AT_1_5, PLAIN];
-    let capture = bytes(rt.alloc(), &parts).expect(&rt, "a capture");
-    // 112 bytes take 13 reads, and one more sees the end.
-    for fails in 0..14u8 {
-        let row = usize::from(fails);
-        let wanted = (Some(Err(CaptureError::Device)), u64::from(fails) + 1);
-        check_row(&rt, row, read_slowly(rt.alloc(), &capture, row) == wanted);
+    for fails in 0..15u8 {
+        check_row(&rt, usize::from(fails), is_reported(rt.alloc(), fails));
     }
-    check_row(
-        &rt,
-        14,
-        read_slowly(rt.alloc(), &capture, 14) == (Some(Ok(2)), 14),
-    );
 }
 
 /// The number of packets that the buffer holds.
@@ -176,8 +197,8 @@ static RECORD: [u8; 64] = [
     0x00,
 ];
 
-/// What is written of the buffered packets if the first write after the header fails.
-fn written_after_failed_put<R: Abort + AllocGlobal>(rt: &R, packet: &[u8]) -> Vec<u8>
+/// Buffers packets until no further one has room; whether all but that one were taken.
+fn fills(sink: &mut Sink, writer: &mut Counted<Failing<Vec<u8>>>, packet: &[u8]) -> bool
     requires { length packet.now ≤ 65535 }
 {
     let leaving = Leaving {
@@ -185,28 +206,46 @@ fn written_after_failed_put<R: Abort + AllocGlobal>(rt: &R, packet: &[u8]) -> Ve
         interface: 3,
         packet,
     };
-    let mut writer = Counted::new(Failing::new(Vec::new(rt.alloc()), 1));
-    let mut sink = Sink::open(rt.alloc(), &mut writer).expect(rt, "a sink");
     for _ in 0..WAITING {
-        sink.put(&mut writer, &leaving).expect(rt, "room");
+        if sink.put(writer, &leaving).is_err() {
+            return false;
+        }
     }
-    assert!(rt; sink.put(&mut writer, &leaving).is_err() && writer.failures() == 1);
-    // The call fails once; all buffered packets are still there.
-    sink.finish(&mut writer).expect(rt, "a write");
-    writer.into_inner().into_inner()
+    sink.put(writer, &leaving).is_err()
+}
+
+/// Whether the write for the packet without room fails, once, and all others are written after it.
+fn keeps_packets(writer: &mut Counted<Failing<Vec<u8>>>, packet: &[u8], alloc: Global) -> bool
+    requires { length packet.now ≤ 65535 }
+{
+    match Sink::open(alloc, writer) {
+        Ok(mut sink) => {
+            fills(&mut sink, writer, packet)
+                && writer.failures() == 1
+                && sink.finish(writer).is_ok()
+        }
+        Err(_) => false,
+    }
+}
+
+/// Whether that is so, and these bytes are written.
+fn survives(alloc: Global, packet: &[u8], wanted: &[u8]) -> bool
+    requires { length packet.now ≤ 65535 }
+{
+    let mut writer = Counted::new(Failing::new(Vec::new(alloc), 1));
+    let is_kept = keeps_packets(&mut writer, packet, alloc);
+    is_kept && writer.into_inner().into_inner().as_slice() == wanted
 }
 
 /// A failed flush of the buffer loses no packet.
 #[test]
 fn buffered_packets_survive_a_failed_put(rt: HostRuntime) {
     let wanted = repeated(rt.alloc(), &OUT_HEADER, &RECORD, WAITING, b"").expect(&rt, "memory");
-    let written = written_after_failed_put(&rt, &RECORD[36..]);
-    assert!(rt; written.as_slice() == wanted.as_slice());
+    check_row(&rt, 0, survives(rt.alloc(), &RECORD[36..], &wanted));
 }
 
-/// Whether the call of this number fails alone, of six calls of a writer, and is counted.
-fn counts_writes(alloc: Global, fails: usize) -> bool {
-    let mut writer = Counted::new(Calls::new(Failing::new(Vec::new(alloc), fails)));
+/// Whether the call of this number fails alone, of six writes and flushes in turn.
+fn fails_once<W: Write>(writer: &mut W, fails: usize) -> bool {
     let mut is_right = true;
     for call in 0..6usize {
         let has_failed = if call % 2 == 0 {
@@ -216,6 +255,13 @@ fn counts_writes(alloc: Global, fails: usize) -> bool {
         };
         is_right &= has_failed == (call == fails);
     }
+    is_right
+}
+
+/// Whether the call of this number fails alone, of six calls of a writer, and is counted.
+fn counts_writes(alloc: Global, fails: usize) -> bool {
+    let mut writer = Counted::new(Calls::new(Failing::new(Vec::new(alloc), fails)));
+    let is_right = fails_once(&mut writer, fails);
     is_right && writer.failures() == 1 && writer.into_inner().calls() == 6
 }
 

@@ -1,11 +1,7 @@
 //! Rulesets as code: what a base chain costs, and the numbers of elements and names.
-use crate::support::{check_row, repeated};
-use box_file::Plant;
-use compiler::compile;
+use crate::support::{check_row, code_of, repeated};
 use filter_vm::Code;
-use nft_parser::parse;
 use nft_tree::{Hook, Operator, Selector};
-use rule_check::check;
 use rule_code::{Action, Step};
 use std::alloc::Global;
 
@@ -26,15 +22,14 @@ struct CodeFacts {
 
 /// What is asked of the ruleset's code on this box; `None` if it is refused.
 fn facts_of(alloc: Global, rules: &[u8]) -> Option<CodeFacts> {
-    let tree = parse(alloc, rules).ok()?;
-    let plant = Plant::read(alloc, BOX).ok()?;
-    let checked = check(alloc, tree, plant).ok()?;
-    let code = compile(alloc, &checked).ok()?;
-    Some(CodeFacts {
-        forward_cost: forward_cost(&code),
-        element: only_element(&code),
-        names: names_compared(&code),
-    })
+    match code_of(alloc, rules, BOX) {
+        Some(code) => Some(CodeFacts {
+            forward_cost: forward_cost(&code),
+            element: only_element(&code),
+            names: names_compared(&code),
+        }),
+        None => None,
+    }
 }
 
 /// The cost of the base chain on forward, if there is one of them.
@@ -73,15 +68,20 @@ fn names_compared(code: &Code) -> Option<(u128, u128)> {
     }
 }
 
-/// A base chain of one rule: as many statements as a ruleset may have, and one more.
+/// The cost of a base chain of one rule with this many statements; `None` if it is refused.
+fn cost_of(alloc: Global, statements: usize) -> Option<u32> {
+    let head = b"table ip t { chain fwd { type filter hook forward priority 0; ";
+    match repeated(alloc, head, b"counter ", statements, b"} }") {
+        Ok(rules) => facts_of(alloc, &rules)?.forward_cost,
+        Err(_) => None,
+    }
+}
+
+/// As many statements as a ruleset may have, and one more.
 #[test]
 fn a_chain_costs_one_more_than_its_statements(rt: HostRuntime) {
-    let head = b"table ip t { chain fwd { type filter hook forward priority 0; ";
-    let most = repeated(rt.alloc(), head, b"counter ", 65_535, b"} }").expect(&rt, "a text");
-    let facts = facts_of(rt.alloc(), &most).expect(&rt, "code");
-    assert!(rt; facts.forward_cost == Some(65_536));
-    let more = repeated(rt.alloc(), head, b"counter ", 65_536, b"} }").expect(&rt, "a text");
-    assert!(rt; facts_of(rt.alloc(), &more).is_none());
+    check_row(&rt, 0, cost_of(rt.alloc(), 65_535) == Some(65_536));
+    check_row(&rt, 1, cost_of(rt.alloc(), 65_536).is_none());
 }
 
 /// A concatenation's number has its parts' bits, the first part highest: here an address and a port.
@@ -90,7 +90,7 @@ fn an_element_of_two_parts_is_one_number(rt: HostRuntime) {
     let rules = b"table ip t { chain fwd { type filter hook forward priority 0;
 ip daddr . udp dport { 198.51.100.7 . 53 } accept } }";
     let facts = facts_of(rt.alloc(), rules).expect(&rt, "code");
-    assert!(rt; facts.element == Some(0xc633_6407_0035));
+    check_row(&rt, 0, facts.element == Some(0xc633_6407_0035));
 }
 
 /// A name, and the numbers that it stands for: its bytes, filled up to 16.

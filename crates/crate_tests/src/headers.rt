@@ -1,5 +1,7 @@
 //! IPv4 packets and their headers.
-use crate::support::{PACKET, bytes, check_row};
+ghost use Rattle.std.specs.Prelude.{◌<◌};
+
+use crate::support::{PACKET, bytes, check_length, check_row};
 use hex::FromHexError;
 use ip_headers::{Endpoint, HeaderFault, Kind, Transport, Tuple, View, ones_sum};
 use std::alloc::{AllocError, Global};
@@ -34,11 +36,13 @@ fn plain_sum(bytes: &[u8]) -> u16 {
 /// Every length up to 200: blocks of the fast path, and their remainders.
 #[test]
 fn sums_of_each_length(rt: HostRuntime) {
-    let mut bytes = Vec::new(rt.alloc());
-    for number in 0..201u8 {
-        check_row(&rt, bytes.len(), ones_sum(&bytes) == plain_sum(&bytes));
-        let byte = number.wrapping_mul(151) ^ 0xa5;
-        bytes.push(byte).expect(&rt, "memory");
+    let mut bytes = [0u8; 200];
+    for number in 0..200u8 {
+        bytes[usize::from(number)] = number.wrapping_mul(151) ^ 0xa5;
+    }
+    for length in 0..201 {
+        let beginning = &bytes[..length];
+        check_row(&rt, length, ones_sum(beginning) == plain_sum(beginning));
     }
 }
 
@@ -55,14 +59,27 @@ static BACK: Tuple = Tuple {
     },
 };
 
+/// Whether the view has the fields of `PACKET`.
+fn has_fields(view: &View) -> bool {
+    view.source() == 0xc0a8_010a
+        && view.destination() == 0xc633_6407
+        && view.ttl() == 64
+        && view.total_length() == 28
+}
+
+/// Whether the view has the payload and the reply tuple of `PACKET`.
+fn has_payload(view: &View) -> bool {
+    match view.tuple() {
+        Some(tuple) => view.payload == &PACKET[20..] && tuple.inverse() == BACK,
+        None => false,
+    }
+}
+
 #[test]
 fn reads_in_place(rt: HostRuntime) {
     let view = View::read(&PACKET).expect(&rt, "a packet");
-    let addresses = (view.source(), view.destination());
-    assert!(rt; addresses == (0xc0a8_010a, 0xc633_6407));
-    assert!(rt; (view.ttl(), view.total_length()) == (64, 28));
-    assert!(rt; view.payload == &PACKET[20..]);
-    assert!(rt; view.tuple().map(Tuple::inverse) == Some(BACK));
+    check_row(&rt, 0, has_fields(&view));
+    check_row(&rt, 1, has_payload(&view));
 }
 
 /// The first fault of a packet in hexadecimal digits.
@@ -220,8 +237,15 @@ fn header(protocol: u8, length: u8) -> [u8; 20] {
     header
 }
 
-/// A packet whose payload has this beginning and then zeros; after its end there are nine bytes of
-/// padding.
+/// Fills the payload with zeros, and puts nine bytes of padding after it.
+fn pad(payload: &mut Vec<u8>, length: usize) -> Result<(), AllocError>
+    requires { length < 1000 }
+{
+    payload.resize(length, 0)?;
+    payload.resize(length + 9, 0xff)
+}
+
+/// A packet whose payload has this beginning and then zeros; after its end there is padding.
 fn packet(
     alloc: Global,
     protocol: u8,
@@ -229,8 +253,7 @@ fn packet(
     length: u8,
 ) -> Result<Vec<u8>, FromHexError> {
     let mut payload = bytes(alloc, beginning)?;
-    payload.resize(usize::from(length), 0)?;
-    payload.resize(usize::from(length) + 9, 0xff)?;
+    pad(&mut payload, usize::from(length))?;
     Ok([&header(protocol, length), payload.as_slice()].concat(alloc)?)
 }
 
@@ -338,21 +361,14 @@ static PAYLOADS: [Payload; 11] = [
 /// A packet's protocol, its transport header, and the kind and ports of its tuple.
 type Found = (u8, Transport, Option<(Kind, u16, u16)>);
 
-/// What is read of a packet with a payload of this length, or its fault.
-fn read(
-    alloc: Global,
-    payload: &Payload,
-    length: u8,
-) -> Result<Result<Found, HeaderFault>, FromHexError> {
-    let packet = packet(alloc, payload.protocol, &[payload.beginning], length)?;
-    Ok(match View::read(&packet) {
-        Ok(view) => Ok((
-            view.protocol(),
-            view.transport(),
-            kind_and_ports(view.tuple()),
-        )),
-        Err(fault) => Err(fault),
-    })
+/// What is read of a packet, or its fault.
+fn found(packet: &[u8]) -> Result<Found, HeaderFault> {
+    let view = View::read(packet)?;
+    Ok((
+        view.protocol(),
+        view.transport(),
+        kind_and_ports(view.tuple()),
+    ))
 }
 
 /// The expected answer.
@@ -368,12 +384,19 @@ fn wanted(payload: &Payload, length: u8) -> Result<Found, HeaderFault> {
 }
 
 /// Each payload at each length: valid, or with a fault.
+/// Whether a packet with a payload of this length is read as expected.
+fn fits(alloc: Global, payload: &Payload, length: u8) -> bool {
+    match packet(alloc, payload.protocol, &[payload.beginning], length) {
+        Ok(packet) => found(&packet) == wanted(payload, length),
+        Err(_) => false,
+    }
+}
+
 #[test]
 fn payloads_fit_their_protocol(rt: HostRuntime) {
     for (row, payload) in PAYLOADS.iter().enumerate() {
         for length in 0..64u8 {
-            let is_right = read(rt.alloc(), payload, length) == Ok(wanted(payload, length));
-            assert!(rt; is_right, "row {row} of {length} bytes");
+            check_length(&rt, row, length, fits(rt.alloc(), payload, length));
         }
     }
 }
@@ -446,35 +469,51 @@ fn reads_inner_tuple(
     Ok(kind_and_ports(view.inner_tuple()) == wanted && (view.is_error() || !is_error))
 }
 
-/// Whether this many bytes of the datagram are read as expected. Its total length, TTL and checksum
-/// are wrong.
-fn reads_inner_tuple_at(alloc: Global, row: &Message, length: u8) -> Result<bool, FromHexError> {
-    let (message, [first, flags, protocol, rest], wanted) = row;
+/// The message with this many bytes of the datagram, whose total length, TTL and checksum are wrong.
+fn message(alloc: Global, row: &Message, length: u8) -> Result<Vec<u8>, FromHexError> {
+    let [first, flags, protocol, rest] = row.1;
     let payload = [
-        *message,
+        row.0,
         "00000000000000",
-        *first,
+        first,
         "00ffff0001",
-        *flags,
+        flags,
         "00",
-        *protocol,
+        protocol,
         "0000c6336407c0a8010a",
-        *rest,
+        rest,
     ];
-    let expected = match wanted {
-        Some((least, kind, from, to)) if *least <= length => Some((*kind, *from, *to)),
+    packet(alloc, 1, &payload, 8u8.saturating_add(length))
+}
+
+/// The kind and ports of a datagram of which this many bytes are embedded, if they are enough.
+fn wanted_of(row: &Message, length: u8) -> Option<(Kind, u16, u16)> {
+    match row.2 {
+        Some((least, kind, from, to)) if least <= length => Some((kind, from, to)),
         _ => None,
-    };
-    let packet = packet(alloc, 1, &payload, 8u8.saturating_add(length))?;
-    Ok(reads_inner_tuple(&packet, wanted.is_some(), expected) == Ok(true))
+    }
+}
+
+/// Whether this many bytes of the datagram are read as expected.
+fn reads_inner_tuple_at(alloc: Global, row: &Message, length: u8) -> bool {
+    match message(alloc, row, length) {
+        Ok(packet) => {
+            reads_inner_tuple(&packet, row.2.is_some(), wanted_of(row, length)) == Ok(true)
+        }
+        Err(_) => false,
+    }
 }
 
 #[test]
 fn icmp_errors_have_inner_tuples(rt: HostRuntime) {
     for (number, row) in MESSAGES.iter().enumerate() {
         for length in 0..40u8 {
-            let is_right = reads_inner_tuple_at(rt.alloc(), row, length) == Ok(true);
-            assert!(rt; is_right, "row {number} of {length} bytes");
+            check_length(
+                &rt,
+                number,
+                length,
+                reads_inner_tuple_at(rt.alloc(), row, length),
+            );
         }
     }
 }

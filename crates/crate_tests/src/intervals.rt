@@ -2,7 +2,6 @@
 use crate::support::check_row;
 use set_intervals::{Intervals, Range, SetError};
 use std::alloc::{AllocError, Global};
-use std::process::Abort;
 
 const MOST: u128 = u128::MAX;
 
@@ -93,14 +92,34 @@ static ROWS: [Row; 7] = [
     },
 ];
 
+/// Whether the table that is built of the ranges has what the row says.
+fn is_built(alloc: Global, pairs: &[(Range, u32)], row: &Row) -> bool {
+    match Intervals::build(alloc, pairs) {
+        Ok(table) => shows(&table, row),
+        Err(_) => false,
+    }
+}
+
+/// Whether the table in which the first range with a number wins has what the row says.
+fn is_first(alloc: Global, pairs: &[(Range, u32)], row: &Row) -> bool {
+    match Intervals::first_wins(alloc, pairs) {
+        Ok(table) => shows(&table, row),
+        Err(_) => false,
+    }
+}
+
+/// Whether both have.
+fn are_both(alloc: Global, row: &Row) -> bool {
+    match pairs(alloc, row.ranges) {
+        Ok(pairs) => is_built(alloc, &pairs, row) && is_first(alloc, &pairs, row),
+        Err(_) => false,
+    }
+}
+
 #[test]
 fn tables_have_what_their_ranges_say(rt: HostRuntime) {
     for (number, row) in ROWS.iter().enumerate() {
-        let pairs = pairs(rt.alloc(), row.ranges).expect(&rt, "ranges");
-        let built = Intervals::build(rt.alloc(), &pairs).expect(&rt, "a table");
-        check_row(&rt, number, shows(&built, row));
-        let first = Intervals::first_wins(rt.alloc(), &pairs).expect(&rt, "a table");
-        check_row(&rt, number, shows(&first, row));
+        check_row(&rt, number, are_both(rt.alloc(), row));
     }
 }
 
@@ -122,13 +141,16 @@ static LAYERS: Row = Row {
     ],
 };
 
+/// Whether the ranges clash.
+fn is_clash(alloc: Global, pairs: &[(Range, u32)]) -> bool {
+    matches!(Intervals::build(alloc, pairs), Err(SetError::Clash))
+}
+
 #[test]
 fn the_first_range_with_a_number_wins(rt: HostRuntime) {
     let pairs = pairs(rt.alloc(), LAYERS.ranges).expect(&rt, "ranges");
-    let table = Intervals::first_wins(rt.alloc(), &pairs).expect(&rt, "a table");
-    assert!(rt; shows(&table, &LAYERS));
-    let clash = Intervals::build(rt.alloc(), &pairs);
-    assert!(rt; matches!(clash, Err(SetError::Clash)));
+    check_row(&rt, 0, is_first(rt.alloc(), &pairs, &LAYERS));
+    check_row(&rt, 1, is_clash(rt.alloc(), &pairs));
 }
 
 /// 60,000 ranges sixteen apart, unsorted.
@@ -143,11 +165,16 @@ fn many_pairs(alloc: Global) -> Result<Vec<(Range, u32)>, AllocError> {
     Ok(pairs)
 }
 
+/// What both tables have of them. The range from 16 on is that of number 37,679.
+static MANY: Row = Row {
+    ranges: &[],
+    count: 60_000,
+    values: &[(16, Some(5)), (20, None)],
+};
+
 #[test]
 fn many_ranges_make_a_table(rt: HostRuntime) {
     let pairs = many_pairs(rt.alloc()).expect(&rt, "ranges");
-    let built = Intervals::build(rt.alloc(), &pairs).expect(&rt, "a table");
-    assert!(rt; built.count() == 60_000 && built.find(16).is_some() && built.find(20).is_none());
-    let first = Intervals::first_wins(rt.alloc(), &pairs).expect(&rt, "a table");
-    assert!(rt; first.count() == 60_000);
+    check_row(&rt, 0, is_built(rt.alloc(), &pairs, &MANY));
+    check_row(&rt, 1, is_first(rt.alloc(), &pairs, &MANY));
 }

@@ -91,25 +91,28 @@ fn is_expected(token: &Token, wanted: &ExpectedToken) -> bool {
         }
 }
 
-/// Whether the text has exactly these tokens.
-fn lexes_to(alloc: Global, text: &[u8], wanted: &[ExpectedToken]) -> Result<bool, LexError> {
-    let tokens = lex(alloc, text)?;
+/// Whether these are exactly the expected tokens.
+fn are_expected(tokens: &[Token], wanted: &[ExpectedToken]) -> bool {
     for (token, expected) in tokens.iter().zip(wanted) {
         if !is_expected(token, expected) {
-            return Ok(false);
+            return false;
         }
     }
-    Ok(tokens.len() == wanted.len())
+    tokens.len() == wanted.len()
+}
+
+/// Whether the text has exactly these tokens.
+fn lexes_to(alloc: Global, text: &[u8], wanted: &[ExpectedToken]) -> bool {
+    match lex(alloc, text) {
+        Ok(tokens) => are_expected(&tokens, wanted),
+        Err(_) => false,
+    }
 }
 
 #[test]
 fn texts_are_lexed(rt: HostRuntime) {
     for (row, (text, wanted)) in LEXED.iter().enumerate() {
-        check_row(
-            &rt,
-            row,
-            lexes_to(rt.alloc(), text, wanted).ok() == Some(true),
-        );
+        check_row(&rt, row, lexes_to(rt.alloc(), text, wanted));
     }
 }
 
@@ -137,32 +140,35 @@ static PUNCTUATORS: [(&[u8], Punctuator); 21] = [
     (b">", Punctuator::Above),
 ];
 
-/// Whether the text is this punctuator alone.
-fn is_punctuator(alloc: Global, text: &[u8], mark: Punctuator) -> Result<bool, LexError> {
-    let tokens = lex(alloc, text)?;
-    Ok(match tokens.as_slice() {
+/// Whether the only token is this punctuator.
+fn is_only(tokens: &[Token], mark: Punctuator) -> bool {
+    match tokens {
         [token] => matches!(token.kind, TokenKind::Punctuator(found) if found == mark),
         _ => false,
-    })
+    }
+}
+
+/// Whether the text is this punctuator alone.
+fn is_punctuator(alloc: Global, text: &[u8], mark: Punctuator) -> bool {
+    match lex(alloc, text) {
+        Ok(tokens) => is_only(&tokens, mark),
+        Err(_) => false,
+    }
 }
 
 #[test]
 fn punctuators_are_told_apart(rt: HostRuntime) {
     for (row, &(text, mark)) in PUNCTUATORS.iter().enumerate() {
-        check_row(
-            &rt,
-            row,
-            is_punctuator(rt.alloc(), text, mark).ok() == Some(true),
-        );
+        check_row(&rt, row, is_punctuator(rt.alloc(), text, mark));
     }
 }
 
-/// The number of the text's tokens, or its fault.
-fn count(alloc: Global, text: &[u8]) -> Result<Result<usize, LexFault>, LexError> {
+/// The number of the text's tokens, or its fault; `None` if there was no memory.
+fn count(alloc: Global, text: &[u8]) -> Option<Result<usize, LexFault>> {
     match lex(alloc, text) {
-        Ok(tokens) => Ok(Ok(tokens.len())),
-        Err(LexError::Refused(fault)) => Ok(Err(fault)),
-        Err(error) => Err(error),
+        Ok(tokens) => Some(Ok(tokens.len())),
+        Err(LexError::Refused(fault)) => Some(Err(fault)),
+        Err(LexError::Memory) => None,
     }
 }
 
@@ -197,7 +203,7 @@ static FAULTS: [(&[u8], Result<usize, LexFault>); 13] = [
 #[test]
 fn first_faults_are_reported(rt: HostRuntime) {
     for (row, (text, wanted)) in FAULTS.iter().enumerate() {
-        check_row(&rt, row, count(rt.alloc(), text).ok() == Some(*wanted));
+        check_row(&rt, row, count(rt.alloc(), text) == Some(*wanted));
     }
 }
 
@@ -224,10 +230,18 @@ static LONG: [Long; 4] = [
     ),
 ];
 
+/// Whether the text has as many tokens as the row says, or its fault.
+fn is_counted(alloc: Global, row: &Long) -> bool {
+    let (beginning, piece, times, end, wanted) = *row;
+    match repeated(alloc, beginning, piece, times, end) {
+        Ok(text) => count(alloc, &text) == Some(wanted),
+        Err(_) => false,
+    }
+}
+
 #[test]
 fn long_texts_are_lexed(rt: HostRuntime) {
-    for (row, (beginning, expected, times, end, wanted)) in LONG.iter().enumerate() {
-        let text = repeated(rt.alloc(), beginning, expected, *times, end).expect(&rt, "a text");
-        check_row(&rt, row, count(rt.alloc(), &text).ok() == Some(*wanted));
+    for (number, row) in LONG.iter().enumerate() {
+        check_row(&rt, number, is_counted(rt.alloc(), row));
     }
 }

@@ -215,22 +215,38 @@ fn connection<R: Abort>(rt: &R, table: &mut Mappings, address: u32, number: usiz
     check_row(rt, number, holds_two(table, address, number));
 }
 
+/// Five connections are held.
+fn connections<R: Abort>(rt: &R, table: &mut Mappings)
+    requires few { (m : Mapped) → holders_of m table.old.held ≤ 1 }
+    ensures few { (m : Mapped) → holders_of m table.new.held ≤ 11 }
+{
+    connection(rt, table, 1, 1);
+    connection(rt, table, 3, 3);
+    connection(rt, table, 5, 5);
+    connection(rt, table, 7, 7);
+    connection(rt, table, 9, 9);
+}
+
+/// The last one is released, and held again.
+fn connection_again<R: Abort>(rt: &R, table: &mut Mappings)
+    requires few { (m : Mapped) → holders_of m table.old.held ≤ 11 }
+{
+    check_row(rt, 10, released(table, Kind::Tcp, end(10, 80), 11));
+    check_row(rt, 9, released(table, Kind::EchoRequest, end(9, 80), 11));
+    connection(rt, table, 9, 11);
+    check_row(rt, table.pools(), table.pools() <= 13);
+}
+
 /// With each allocation refused in turn.
 #[test]
 fn only_reserving_wants_memory(rt: HostRuntime) {
     let hasher = RandomState::new(&rt).expect(&rt, "a hasher");
     let mut table = empty(rt.alloc(), hasher);
-    if held(&mut table, Kind::Udp, end(A, 5000), E, 0).is_err() {
-        assert!(rt; table.inbound(Kind::Udp, end(E, 5000)) == None);
-        return;
+    if held(&mut table, Kind::Udp, end(A, 5000), E, 0).is_ok() {
+        connections(&rt, &mut table);
+        connection_again(&rt, &mut table);
+    } else {
+        let found = table.inbound(Kind::Udp, end(E, 5000));
+        check_row(&rt, 0, found == None);
     }
-    connection(&rt, &mut table, 1, 1);
-    connection(&rt, &mut table, 3, 3);
-    connection(&rt, &mut table, 5, 5);
-    connection(&rt, &mut table, 7, 7);
-    connection(&rt, &mut table, 9, 9);
-    assert!(rt; released(&mut table, Kind::Tcp, end(10, 80), 11));
-    assert!(rt; released(&mut table, Kind::EchoRequest, end(9, 80), 11));
-    connection(&rt, &mut table, 9, 11);
-    assert!(rt; table.pools() <= 13);
 }

@@ -1,13 +1,11 @@
 //! Rulesets as code: how many steps are left of their rules, how many rules are merged and dropped,
 //! and whose verdict a packet has.
-use crate::support::check_row;
-use box_file::Plant;
-use compiler::compile;
-use filter_vm::{Code, Events, run};
+ghost use Rattle.std.specs.Prelude.{◌+◌, ◌≤◌, IfSome, length};
+
+use crate::support::{check_row, code_of};
+use filter_vm::{Code, Events, Start, run};
 use ip_headers::Transport;
-use nft_parser::parse;
 use nft_tree::Hook;
-use rule_check::check;
 use rule_meaning::{CtFacts, Event, Facts, HookVerdict, Interface, Packet};
 use std::alloc::Global;
 
@@ -94,14 +92,6 @@ ip saddr 10.0.0.0/8 drop; meta mark set 1 drop; jump end; accept; drop } }",
     ),
 ];
 
-/// The code of a ruleset; `None` if it is refused.
-fn code_of(alloc: Global, rules: &[u8]) -> Option<Code> {
-    let tree = parse(alloc, rules).ok()?;
-    let plant = Plant::read(alloc, BOX).ok()?;
-    let checked = check(alloc, tree, plant).ok()?;
-    compile(alloc, &checked).ok()
-}
-
 /// A packet from the address, as the base chains on forward see it.
 fn from(source: u32) -> Facts {
     let interface = Interface { index: 2, name: 2 };
@@ -124,44 +114,84 @@ fn from(source: u32) -> Facts {
     }
 }
 
-/// The first rule whose verdict a packet from the address takes on forward, and whether the packet is
-/// dropped; `None` if there isn't one base chain there.
-fn verdict_on_forward(alloc: Global, code: &Code, source: u32) -> Option<(Option<u32>, bool)> {
-    let [start] = code.starts(Hook::Forward) else {
-        return None;
-    };
-    let mut events = Events::new(alloc).ok()?;
-    if start.cost > 1000 {
-        return None;
-    }
-    let end = run(code, *start, &from(source), &mut events);
-    let mut rule = None;
-    for event in events.list() {
+/// The first rule whose verdict a packet took.
+fn first_rule(events: &[Event]) -> Option<u32> {
+    for event in events {
         if let Event::TookVerdict(number, _) = event {
-            rule = rule.or(Some(number.rule));
+            return Some(number.rule);
         }
     }
-    Some((rule, matches!(end.verdict, HookVerdict::Dropped)))
+    None
+}
+
+/// The only base chain on forward, if it is a short one.
+fn forward(code: &Code) -> Option<Start>
+    ensures { IfSome result (λ start. start.cost ≤ 1000) }
+{
+    match code.starts(Hook::Forward) {
+        [start] if start.cost <= 1000 => Some(*start),
+        _ => None,
+    }
+}
+
+/// Whether a packet from the address takes this rule's verdict first, and is dropped or not.
+fn takes_verdict(code: &Code, start: Start, wanted: &ExpectedVerdict, events: &mut Events) -> bool
+    requires { length events.old.events + start.cost ≤ 65536 }
+{
+    let (source, rule, is_dropped) = *wanted;
+    let end = run(code, start, &from(source), events);
+    first_rule(events.list()) == rule && matches!(end.verdict, HookVerdict::Dropped) == is_dropped
+}
+
+/// Whether a packet has the verdict.
+fn has_verdict(alloc: Global, code: &Code, start: Start, wanted: &ExpectedVerdict) -> bool
+    requires { start.cost ≤ 1000 }
+{
+    match Events::new(alloc) {
+        Ok(mut events) => takes_verdict(code, start, wanted, &mut events),
+        Err(_) => false,
+    }
 }
 
 /// Whether a packet from each address has the verdict.
-fn has_verdicts(alloc: Global, code: &Code, wanted: &[ExpectedVerdict]) -> bool {
-    for &(source, rule, is_dropped) in wanted {
-        if verdict_on_forward(alloc, code, source) != Some((rule, is_dropped)) {
+fn has_verdicts(alloc: Global, code: &Code, start: Start, wanted: &[ExpectedVerdict]) -> bool
+    requires { start.cost ≤ 1000 }
+{
+    for verdict in wanted {
+        if !has_verdict(alloc, code, start, verdict) {
             return false;
         }
     }
     true
 }
 
+/// Whether the code has these steps, merged and dropped rules.
+fn has_size(code: &Code, wanted: [usize; 3]) -> bool {
+    let size = code.size();
+    [size.steps, size.merged, size.dropped] == wanted
+}
+
+/// Whether the code and the packets' verdicts are as the row says.
+fn is_right(alloc: Global, code: &Code, row: &Row) -> bool {
+    match forward(code) {
+        Some(start) => has_size(code, row.1) && has_verdicts(alloc, code, start, row.2),
+        None => false,
+    }
+}
+
+/// Whether the ruleset's code is.
+fn is_compiled(alloc: Global, row: &Row) -> bool {
+    match code_of(alloc, row.0, BOX) {
+        Some(code) => is_right(alloc, &code, row),
+        None => false,
+    }
+}
+
 /// What the report has of the nested matches, the written mark and the rule after `accept` is in
 /// `golden_runs`.
 #[test]
 fn rules_are_merged_and_dropped(rt: HostRuntime) {
-    for (row, &(rules, wanted, packets)) in ROWS.iter().enumerate() {
-        let code = code_of(rt.alloc(), rules).expect(&rt, "code");
-        let size = code.size();
-        check_row(&rt, row, [size.steps, size.merged, size.dropped] == wanted);
-        check_row(&rt, row, has_verdicts(rt.alloc(), &code, packets));
+    for (number, row) in ROWS.iter().enumerate() {
+        check_row(&rt, number, is_compiled(rt.alloc(), row));
     }
 }

@@ -89,22 +89,30 @@ fn answers_all<R: Abort>(rt: &R, pool: &mut Pool, calls: &[Call]) {
     }
 }
 
+/// Makes the calls on a new pool.
+fn answers_anew<R: Abort + AllocGlobal>(rt: &R, order: Order, calls: &[Call]) {
+    let mut pool = Pool::new(rt.alloc(), order).expect(rt, "memory");
+    answers_all(rt, &mut pool, calls);
+}
+
 #[test]
 fn numbers_are_chosen_taken_and_given(rt: HostRuntime) {
-    let mut ports = Pool::new(rt.alloc(), Order::Ports).expect(&rt, "memory");
-    answers_all(&rt, &mut ports, &OF_PORTS);
-    let mut identifiers = Pool::new(rt.alloc(), Order::Identifiers).expect(&rt, "memory");
-    answers_all(&rt, &mut identifiers, &OF_IDENTIFIERS);
-    let mut zero = Pool::new(rt.alloc(), Order::Zero).expect(&rt, "memory");
-    answers_all(&rt, &mut zero, &OF_ZERO);
+    answers_anew(&rt, Order::Ports, &OF_PORTS);
+    answers_anew(&rt, Order::Identifiers, &OF_IDENTIFIERS);
+    answers_anew(&rt, Order::Zero, &OF_ZERO);
+}
+
+/// Takes all even ports from 1024 on.
+fn takes_even_ports<R: Abort>(rt: &R, pool: &mut Pool) {
+    for half in 512..32_768u16 {
+        let port = half * 2;
+        check_row(rt, usize::from(port), takes(pool, 1024, port));
+    }
 }
 
 #[test]
 fn all_ports_of_a_parity_are_taken(rt: HostRuntime) {
     let mut pool = Pool::new(rt.alloc(), Order::Ports).expect(&rt, "memory");
-    for half in 512..32_768u16 {
-        let port = half * 2;
-        check_row(&rt, usize::from(port), takes(&mut pool, 1024, port));
-    }
+    takes_even_ports(&rt, &mut pool);
     answers_all(&rt, &mut pool, &OF_A_PARITY);
 }

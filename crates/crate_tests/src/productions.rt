@@ -2,45 +2,55 @@
 use crate::support::check_row;
 use nft_lexer::{Token, lex};
 use nft_rules::{anysel, elems, pairs, rule};
-use nft_tree::{Memory, Selector};
+use nft_tree::Selector;
 use std::alloc::Global;
+use std::process::Abort;
 
 /// The position after a rule, the number of its statements, and whether it has a comment.
 type RuleAt = Option<(usize, usize, bool)>;
 
-fn rule_at(alloc: Global, tokens: &[Token], at: usize) -> Result<RuleAt, Memory> {
-    match rule(alloc, tokens, at)? {
-        Some((rule, end)) => Ok(Some((end, rule.statements.len(), rule.comment.is_some()))),
-        None => Ok(None),
+fn rule_at(alloc: Global, tokens: &[Token], at: usize) -> Option<RuleAt> {
+    match rule(alloc, tokens, at) {
+        Ok(Some((rule, end))) => {
+            Some(Some((end, rule.statements.len(), rule.comment.is_some())))
+        }
+        Ok(None) => Some(None),
+        Err(_) => None,
     }
 }
 
 static RULES: [(usize, RuleAt); 4] = [(1, None), (2, Some((11, 3, true))), (12, None), (40, None)];
 
+/// Checks all rows on the tokens.
+fn reads_rules<R: Abort + AllocGlobal>(rt: &R, tokens: &[Token]) {
+    for &(at, wanted) in &RULES {
+        check_row(rt, at, rule_at(rt.alloc(), tokens, at) == Some(wanted));
+    }
+}
+
 #[test]
 fn a_rule_is_read_up_to_its_end(rt: HostRuntime) {
     let text = b"accept; tcp dport 22 log prefix \"in\" drop comment \"no\" } drop";
     let tokens = lex(rt.alloc(), text).expect(&rt, "tokens");
-    for &(at, wanted) in &RULES {
-        let found = rule_at(rt.alloc(), &tokens, at);
-        check_row(&rt, at, found.ok() == Some(wanted));
-    }
+    reads_rules(&rt, &tokens);
 }
 
 /// The position of a list's closing brace, and the list's length.
 type ListAt = Option<(usize, usize)>;
 
-fn list_at(alloc: Global, tokens: &[Token], at: usize) -> Result<ListAt, Memory> {
-    match elems(alloc, tokens, at)? {
-        Some((found, brace)) => Ok(Some((brace, found.len()))),
-        None => Ok(None),
+fn list_at(alloc: Global, tokens: &[Token], at: usize) -> Option<ListAt> {
+    match elems(alloc, tokens, at) {
+        Ok(Some((found, brace))) => Some(Some((brace, found.len()))),
+        Ok(None) => Some(None),
+        Err(_) => None,
     }
 }
 
-fn pairs_at(alloc: Global, tokens: &[Token], at: usize) -> Result<ListAt, Memory> {
-    match pairs(alloc, tokens, at)? {
-        Some((found, brace)) => Ok(Some((brace, found.len()))),
-        None => Ok(None),
+fn pairs_at(alloc: Global, tokens: &[Token], at: usize) -> Option<ListAt> {
+    match pairs(alloc, tokens, at) {
+        Ok(Some((found, brace))) => Some(Some((brace, found.len()))),
+        Ok(None) => Some(None),
+        Err(_) => None,
     }
 }
 
@@ -52,28 +62,36 @@ static LISTS: [(usize, usize, ListAt); 4] = [
     (10, 1, None),
 ];
 
+/// Checks all rows on the tokens.
+fn reads_lists<R: Abort + AllocGlobal>(rt: &R, tokens: &[Token]) {
+    for (row, &(count, at, wanted)) in LISTS.iter().enumerate() {
+        let there = tokens.get(..count).unwrap_or(&[]);
+        check_row(rt, row, list_at(rt.alloc(), there, at) == Some(wanted));
+    }
+}
+
 #[test]
 fn a_list_is_read_up_to_its_brace(rt: HostRuntime) {
     let text = b"{ 22,\n10.0.0.0/8 comment \"ten\", }";
     let tokens = lex(rt.alloc(), text).expect(&rt, "tokens");
-    assert!(rt; tokens.len() == 11);
-    for (row, &(count, at, wanted)) in LISTS.iter().enumerate() {
-        let there = tokens.get(..count).unwrap_or(&[]);
-        let found = list_at(rt.alloc(), there, at);
-        check_row(&rt, row, found.ok() == Some(wanted));
-    }
+    check_row(&rt, LISTS.len(), tokens.len() == 11);
+    reads_lists(&rt, &tokens);
 }
 
 static PAIRS: [(usize, ListAt); 3] = [(0, Some((9, 2))), (6, Some((9, 1))), (8, None)];
+
+/// Checks all rows on the tokens.
+fn reads_pairs<R: Abort + AllocGlobal>(rt: &R, tokens: &[Token]) {
+    for &(at, wanted) in &PAIRS {
+        check_row(rt, at, pairs_at(rt.alloc(), tokens, at) == Some(wanted));
+    }
+}
 
 #[test]
 fn pairs_are_read_up_to_their_brace(rt: HostRuntime) {
     let text = b"1-9 : 10.0.0.1, 10 : drop }";
     let tokens = lex(rt.alloc(), text).expect(&rt, "tokens");
-    for &(at, wanted) in &PAIRS {
-        let found = pairs_at(rt.alloc(), &tokens, at);
-        check_row(&rt, at, found.ok() == Some(wanted));
-    }
+    reads_pairs(&rt, &tokens);
 }
 
 /// Whether `anysel` answers as expected at a position of `meta iifname ct state , iif`.

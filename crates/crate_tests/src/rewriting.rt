@@ -1,5 +1,5 @@
 //! A rewritten packet, appended to a buffer.
-use crate::support::PACKET;
+use crate::support::{PACKET, check_row};
 use ip_headers::View;
 use rewrite::{Change, PortsOrIdentifier, emit};
 use std::alloc::{AllocError, Global};
@@ -19,16 +19,20 @@ static SENT: [u8; 29] = [
     0x01, 0xc6, 0x33, 0x64, 0x07, 0x13, 0x8a, 0x00, 0x35, 0x00, 0x08, 0x00, 0x00,
 ];
 
-fn sent(alloc: Global, view: &View) -> Result<Vec<u8>, AllocError> {
-    let mut out = Vec::new(alloc);
+/// Appends a byte and the rewritten packet.
+fn put(view: &View, out: &mut Vec<u8>) -> Result<(), AllocError> {
     out.push(0xaa)?;
-    emit(view, &CHANGE, &mut out)?;
-    Ok(out)
+    emit(view, &CHANGE, out)
+}
+
+/// Whether that is what a buffer has then.
+fn is_sent(alloc: Global, view: &View) -> bool {
+    let mut out = Vec::new(alloc);
+    put(view, &mut out).is_ok() && out.as_slice() == SENT.as_slice()
 }
 
 #[test]
 fn appends_what_is_sent_on(rt: HostRuntime) {
     let view = View::read(&PACKET).expect(&rt, "a packet");
-    let out = sent(rt.alloc(), &view).expect(&rt, "a buffer");
-    assert_eq!(rt; out.as_slice(), SENT.as_slice());
+    check_row(&rt, 0, is_sent(rt.alloc(), &view));
 }

@@ -6,12 +6,11 @@ use nft_parser::{ParseError, TextFault, parse};
 use nft_tree::{Family, Ruleset};
 use std::alloc::Global;
 
-/// The fault of the text.
-fn fault(alloc: Global, text: &[u8]) -> Result<Option<TextFault>, ParseError> {
+/// The fault of the text; `None` if it has none, or there was no memory.
+fn fault(alloc: Global, text: &[u8]) -> Option<TextFault> {
     match parse(alloc, text) {
-        Ok(_) => Ok(None),
-        Err(ParseError::Refused(fault)) => Ok(Some(fault)),
-        Err(error) => Err(error),
+        Err(ParseError::Refused(fault)) => Some(fault),
+        _ => None,
     }
 }
 
@@ -38,11 +37,7 @@ static FAULTS: [(&[u8], LexFault); 4] = [
 fn faults_have_lines(rt: HostRuntime) {
     for (row, (text, wanted)) in FAULTS.iter().enumerate() {
         let answer = fault(rt.alloc(), text);
-        check_row(
-            &rt,
-            row,
-            answer.ok() == Some(Some(TextFault::Lexical(*wanted))),
-        );
+        check_row(&rt, row, answer == Some(TextFault::Lexical(*wanted)));
     }
 }
 
@@ -108,25 +103,35 @@ fn has(ruleset: &Ruleset, shape: &Shape<'_>) -> bool {
         && count == rules
 }
 
-/// Whether the text is parsed as a ruleset of this shape, and so is its copy.
-fn is_read(alloc: Global, text: &[u8], shape: &Shape<'_>) -> Result<bool, ParseError> {
-    let ruleset = parse(alloc, text)?;
-    let copy = ruleset.try_clone()?;
-    Ok(has(&ruleset, shape) && has(&copy, shape))
+/// Whether the copy of a ruleset has this shape.
+fn is_copied(ruleset: &Ruleset, shape: &Shape<'_>) -> bool {
+    match ruleset.try_clone() {
+        Ok(copy) => has(&copy, shape),
+        Err(_) => false,
+    }
 }
 
-/// Listings, other forms, and thousands of rules.
+/// Whether the text is parsed as a ruleset of this shape, and so is its copy.
+fn is_read(alloc: Global, text: &[u8], shape: &Shape<'_>) -> bool {
+    match parse(alloc, text) {
+        Ok(ruleset) => has(&ruleset, shape) && is_copied(&ruleset, shape),
+        Err(_) => false,
+    }
+}
+
+/// Listings and other forms.
 #[test]
 fn texts_are_read_and_copied(rt: HostRuntime) {
     for (row, (text, shape)) in SHAPES.iter().enumerate() {
-        check_row(
-            &rt,
-            row,
-            is_read(rt.alloc(), text, shape).ok() == Some(true),
-        );
+        check_row(&rt, row, is_read(rt.alloc(), text, shape));
     }
+}
+
+/// Thousands of rules.
+#[test]
+fn a_long_text_is_read_and_copied(rt: HostRuntime) {
     let rule = b"ip saddr 10.0.0.0/8 tcp dport { 22, 80-443 } counter accept\n";
     let long = repeated(rt.alloc(), b"table t { chain a {\n", rule, 5_000, b"} }");
     let text = long.expect(&rt, "a text");
-    assert!(rt; is_read(rt.alloc(), &text, &LONG).ok() == Some(true));
+    check_row(&rt, 0, is_read(rt.alloc(), &text, &LONG));
 }

@@ -73,23 +73,36 @@ fn table_of(alloc: Global, most: usize) -> Result<Option<SeekTable>, AllocError>
     SeekTable::build(alloc, &pairs_of(alloc, &RULES)?, most)
 }
 
+/// Checks all rows on the table.
+fn finds_next<R: Abort>(rt: &R, table: &SeekTable) {
+    for (row, &(key, from, wanted)) in NEXT.iter().enumerate() {
+        check_row(rt, row, table.next(key, from) == wanted);
+    }
+}
+
+/// Whether the table would have more than two entries.
+fn is_too_large(alloc: Global) -> bool {
+    matches!(table_of(alloc, 2), Ok(None))
+}
+
 #[test]
 fn the_next_rule_is_found(rt: HostRuntime) {
-    let built = table_of(rt.alloc(), 64).expect(&rt, "memory");
-    let table = built.expect(&rt, "a table");
-    for (row, &(key, from, wanted)) in NEXT.iter().enumerate() {
-        check_row(&rt, row, table.next(key, from) == wanted);
+    check_row(&rt, NEXT.len(), is_too_large(rt.alloc()));
+    let table = table_of(rt.alloc(), 64).unwrap_or(None);
+    finds_next(&rt, &table.expect(&rt, "a table"));
+}
+
+/// Checks all rows on the table.
+fn finds_first<R: Abort>(rt: &R, table: &FirstTable, rows: &[First]) {
+    for (row, &(key, wanted)) in rows.iter().enumerate() {
+        check_row(rt, row, table.first(key) == wanted);
     }
-    let none = table_of(rt.alloc(), 2).expect(&rt, "memory");
-    assert!(rt; none.is_none());
 }
 
 /// Checks all rows on the table of the pairs.
 fn finds<R: Abort + AllocGlobal>(rt: &R, pairs: &[(KeyRange, u32)], rows: &[First]) {
     let table = FirstTable::build(rt.alloc(), pairs).expect(rt, "a table");
-    for (row, &(key, wanted)) in rows.iter().enumerate() {
-        check_row(rt, row, table.first(key) == wanted);
-    }
+    finds_first(rt, &table, rows);
 }
 
 /// The rules that are the first of some key.
@@ -97,14 +110,21 @@ fn first_rules(alloc: Global, pairs: &[(KeyRange, u32)]) -> Result<Vec<u32>, All
     FirstTable::build(alloc, pairs)?.rules(alloc)
 }
 
+/// Whether these are the rules that are the first of some key.
+fn are_first(alloc: Global, pairs: &[(KeyRange, u32)], wanted: &[u32]) -> bool {
+    match first_rules(alloc, pairs) {
+        Ok(rules) => rules.as_slice() == wanted,
+        Err(_) => false,
+    }
+}
+
 #[test]
 fn the_first_rule_is_found(rt: HostRuntime) {
+    finds(&rt, &[], &FIRST_OF_NONE);
     let mut pairs = pairs_of(rt.alloc(), &APART).expect(&rt, "memory");
     pairs.reverse();
     finds(&rt, &pairs, &FIRST_APART);
-    finds(&rt, &[], &FIRST_OF_NONE);
-    let rules = first_rules(rt.alloc(), &pairs).expect(&rt, "memory");
-    assert!(rt; rules.as_slice() == [1, 2, 5].as_slice());
+    check_row(&rt, 0, are_first(rt.alloc(), &pairs, &[1, 2, 5]));
 }
 
 fn nested_pairs(alloc: Global) -> Result<Vec<(KeyRange, u32)>, AllocError> {

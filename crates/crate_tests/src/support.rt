@@ -1,5 +1,10 @@
-//! Shared by the tests: a packet, bytes, repeated texts, and checks of rows.
+//! Shared by the tests: a packet, bytes, repeated texts, code, and checks of rows.
+use box_file::Plant;
+use compiler::compile;
+use filter_vm::Code;
 use hex::FromHexError;
+use nft_parser::parse;
+use rule_check::{Checked, check};
 use std::alloc::{AllocError, Global};
 use std::process::Abort;
 
@@ -24,6 +29,27 @@ pub fn repeated(
 ) -> Result<Vec<u8>, AllocError> {
     let pieces = piece.repeat(alloc, count)?;
     [beginning, &pieces, end].concat(alloc)
+}
+
+/// Fails with the row's number and a length if it isn't right.
+pub fn check_length<R: Abort>(rt: &R, row: usize, length: u8, is_right: bool) {
+    assert!(rt; is_right, "row {row} of {length} bytes");
+}
+
+/// The code of a ruleset on a box; `None` if one of the two is refused.
+pub fn code_of(alloc: Global, rules: &[u8], plant: &[u8]) -> Option<Code> {
+    match checked(alloc, rules, plant) {
+        Some(checked) => compile(alloc, &checked).ok(),
+        None => None,
+    }
+}
+
+fn checked(alloc: Global, rules: &[u8], plant: &[u8]) -> Option<Checked> {
+    let plant = Plant::read(alloc, plant).ok()?;
+    match parse(alloc, rules) {
+        Ok(tree) => check(alloc, tree, plant).ok(),
+        Err(_) => None,
+    }
 }
 
 /// Fails with the row's number if it isn't right.
