@@ -16,7 +16,7 @@ use Rattle.filter_vm.specs.declared.code.Start.{Start}
 use Rattle.rule_code.specs.declared.code.TableCode.{TableCode}
 use Rattle.filter_vm.specs.Machine.{starts_of}
 use Rattle.compiler.specs.Compiled.{AgreesWithRules}
-use Rattle.compiler.specs.CodeLayout.{IsTableCode}
+use Rattle.code_layout.specs.CodeLayout.{IsTableCode}
 use Rattle.rule_laws.specs.Ranking.{IsRanking}
 use Rattle.compiler.proofs.BaseLaws.{agrees}
 

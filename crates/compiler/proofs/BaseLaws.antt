@@ -13,7 +13,7 @@ use Rattle.filter_vm.specs.declared.code.Start.{Start}
 use Rattle.rule_code.specs.declared.code.TableCode.{TableCode}
 use Rattle.filter_vm.specs.Machine.{Stop, exec, enter_chain, run_table, base_chain_stop, base_chain_result}
 use Rattle.compiler.specs.Compiled.{start_head, base_chain_head}
-use Rattle.compiler.specs.CodeLayout.{IsCode, RulesAt, IsTableCode, left_program}
+use Rattle.code_layout.specs.CodeLayout.{IsCode, RulesAt, IsTableCode, left_program}
 use Rattle.rule_laws.specs.Ranking.{IsRanking}
 use Rattle.compiler.proofs.DoesLaws.{Does, finish-last}
 use Rattle.compiler.proofs.LayoutLaws.{rules-in}

@@ -9,7 +9,7 @@ use Rattle.rule_code.specs.declared.code.TableCode.{TableCode}
 use Rattle.rule_code.specs.declared.code.Instruction.{Instruction}
 use Rattle.rule_code.specs.Actions.{statement_at, action_effect}
 use Rattle.filter_vm.specs.Machine.{apply_effect}
-use Rattle.compiler.specs.CodeLayout.{Implements, StatementsAt, RulesAt}
+use Rattle.code_layout.specs.CodeLayout.{Implements, StatementsAt, RulesAt}
 use Rattle.rule_laws.specs.Ranking.{IsStatementOf}
 use Rattle.compiler.proofs.DoesLaws.{Does, does-same, does-step}
 

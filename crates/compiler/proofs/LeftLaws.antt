@@ -25,9 +25,9 @@ use Rattle.rule_meaning.specs.Statements.{passes_if}
 use Rattle.rule_meaning.specs.Runs.{table_program}
 use Rattle.lowering.specs.Asked.{asked_selector, asks_for}
 use Rattle.compiler.specs.steps.Dropping.{goes_on, any_facts, LeadsTo, behind, NeverMatches, LeavesOut, LeavesOutOf}
-use Rattle.compiler.specs.DroppedRules.{ends_chain, always_ends, merged_selector, lists, rule_at, AreMerged, IsDropped, IsLeft, AreLeft}
-use Rattle.compiler.specs.CodeLayout.{rules_in, left_statements, left_program}
-use Rattle.compiler.proofs.ShadowLaws.{merged-goes-on}
+use Rattle.code_layout.specs.DroppedRules.{ends_chain, always_ends, merged_selector, lists, rule_at, AreMerged, IsDropped, IsLeft, AreLeft}
+use Rattle.code_layout.specs.CodeLayout.{rules_in, left_statements, left_program}
+use Rattle.code_layout.proofs.ShadowLaws.{merged-goes-on}
 
 -- ---- what a rule lists, and whether it matches
 

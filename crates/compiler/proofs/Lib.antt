@@ -1,11 +1,6 @@
-pub mod AddLaws
-pub mod FirstLaws
-pub mod MarkLaws
-pub mod ShadowLaws
-pub mod FlagLaws
+pub mod TableLaws
 pub mod DroppingLaws
 pub mod LeftLaws
-pub mod TableLaws
 pub mod StartLaws
 pub mod OrderLaws
 pub mod TotalLaws

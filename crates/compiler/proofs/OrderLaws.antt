@@ -16,7 +16,7 @@ use Rattle.filter_vm.specs.declared.code.Start.{Start}
 use Rattle.compiler.specs.declared.compiled_chain.CompiledChain.{CompiledChain}
 use Rattle.compiler.specs.Compiled.{HasStarts, start_cost}
 use Rattle.compiler.specs.steps.Bases.{base, runs_on_hook, Ordered}
-use Rattle.compiler.proofs.AddLaws.{none_first, none_later}
+use Rattle.code_layout.proofs.AddLaws.{none_first, none_later}
 use Rattle.compiler.proofs.StartLaws.{filter_alike}
 
 -- ---- a list and what it shows

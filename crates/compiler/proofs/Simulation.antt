@@ -11,7 +11,7 @@ use Rattle.rule_meaning.specs.Runs.{next_rule, rule_ends, passes, fails, notes, 
 use Rattle.rule_meaning.specs.Runs.{goes}
 use Rattle.rule_code.specs.declared.code.TableCode.{TableCode}
 use Rattle.filter_vm.specs.Machine.{Continuation, Stop, apply_effect}
-use Rattle.compiler.specs.CodeLayout.{RulesAt, IsCode}
+use Rattle.code_layout.specs.CodeLayout.{RulesAt, IsCode}
 use Rattle.rule_laws.specs.Ranking.{IsStatementOf, IsRanking}
 use Rattle.compiler.proofs.DoesLaws.{Does, does-more, does-same, does-now, does-over, does-then, does-end, goes_to, calls, finish}
 use Rattle.compiler.proofs.LayoutLaws.{weighs, LeftIn, LeftAt, rules-in, does-statement}

@@ -27,7 +27,7 @@ use Rattle.filter_vm.specs.declared.code.Start.{Start}
 use Rattle.compiler.specs.Compiled.{start_head, base_chain_head}
 use Rattle.compiler.specs.declared.compiled_chain.CompiledChain.{CompiledChain}
 use Rattle.compiler.specs.steps.Bases.{base, runs_on_hook, AddsBases, CostsIn, Ordered}
-use Rattle.compiler.proofs.AddLaws.{none_first, none_later}
+use Rattle.code_layout.proofs.AddLaws.{none_first, none_later}
 use Rattle.compiler.proofs.TableLaws.{chains_free}
 
 -- ---- an element of a list

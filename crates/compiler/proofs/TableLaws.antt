@@ -18,10 +18,10 @@ use Rattle.rule_values.specs.Faults.{if_some, item_out_of_range, priority_out_of
 use Rattle.rule_meaning.specs.Runs.{table_program}
 use Rattle.rule_code.specs.declared.code.TableCode.{TableCode}
 use Rattle.lowering.specs.Lowered.{Extends}
-use Rattle.compiler.specs.DroppedRules.{AreLeft}
-use Rattle.compiler.specs.CodeLayout.{StatementsAt, RulesAt, IsTableCode, AreTableCodes, rules_in, left_statements, left_program, chain_steps, dropped_rules}
-use Rattle.compiler.specs.steps.Adding.{ExtendsCode, AddsChain, rule_out_of_range}
-use Rattle.compiler.proofs.AddLaws.{keeps_push, slice_get-push, extends_itself, extends_code_itself, extends_code_on, none_first, none_later}
+use Rattle.code_layout.specs.DroppedRules.{AreLeft}
+use Rattle.code_layout.specs.CodeLayout.{StatementsAt, RulesAt, IsTableCode, AreTableCodes, rules_in, left_statements, left_program, chain_steps, dropped_rules}
+use Rattle.code_layout.specs.Adding.{ExtendsCode, AddsChain, rule_out_of_range}
+use Rattle.code_layout.proofs.AddLaws.{keeps_push, slice_get-push, extends_itself, extends_code_itself, extends_code_on, none_first, none_later}
 
 -- ---- what is wrong with no item is wrong with no chain
 

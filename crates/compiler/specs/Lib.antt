@@ -1,4 +1,2 @@
 pub mod Compiled
-pub mod DroppedRules
-pub mod CodeLayout
 pub mod steps

@@ -1,5 +1,3 @@
-pub mod Adding
 pub mod Bases
 pub mod RulesetCode
 pub mod Dropping
-pub mod Finding

@@ -6,7 +6,7 @@ ghost use Rattle.rule_paths.specs.Paths.{AreAllCosts, Caller, ruleset_cost};
 ghost use Rattle.rule_check.specs.WellFormed.{WellFormed};
 ghost use Rattle.filter_vm.specs.Machine.{starts_of};
 ghost use Rattle.compiler.specs.Compiled.{HasStarts, AgreesWithRules, total_cost};
-ghost use Rattle.compiler.specs.CodeLayout.{AreTableCodes};
+ghost use Rattle.code_layout.specs.CodeLayout.{AreTableCodes};
 ghost use Rattle.compiler.specs.steps.RulesetCode.{IsRulesetCode};
 
 use crate::starts::{base_chains, starts_on_hook};

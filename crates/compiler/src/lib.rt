@@ -3,10 +3,6 @@
 
 mod compiled_chain;
 mod compiling;
-mod dropped;
-mod firsts;
-mod reached;
-mod rules;
 mod starts;
 mod tables;
 

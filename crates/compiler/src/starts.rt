@@ -11,7 +11,7 @@ ghost use Rattle.compiler.specs.Compiled.{start_head, base_chain_head};
 ghost use Rattle.compiler.specs.steps.Bases.{AddsBases, CostsIn, Ordered, base, runs_on_hook};
 
 use crate::compiled_chain::CompiledChain;
-use crate::rules::to_u32;
+use code_layout::to_u32;
 use filter_vm::Start;
 use nft_tree::{Chain, Hook};
 use rule_check::Checked;

@@ -4,10 +4,10 @@ ghost use Rattle.std.specs.List.{list_any};
 ghost use Rattle.nft_tree.specs.Tree.{chain_tree};
 ghost use Rattle.rule_types.specs.Types.{table_mismatches};
 ghost use Rattle.rule_values.specs.Faults.{has_wrong_value, item_out_of_range};
-ghost use Rattle.compiler.specs.CodeLayout.{AreTableCodes, IsTableCode};
+ghost use Rattle.code_layout.specs.CodeLayout.{AreTableCodes, IsTableCode};
 
-use crate::rules::{add_chain, to_u32};
 use box_file::Plant;
+use code_layout::{add_chain, to_u32};
 use lowering::declared;
 use rule_code::{StepList, TableCode};
 use rule_index::IndexedTable;

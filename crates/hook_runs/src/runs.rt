@@ -4,7 +4,7 @@ ghost use Rattle.nft_tree.specs.Tree.{TableTree};
 ghost use Rattle.rule_paths.specs.Paths.{AreAllCosts, Caller, ruleset_cost};
 ghost use Rattle.rule_meaning.specs.Hooks.{Chains, base_chains_of};
 ghost use Rattle.compiler.specs.Compiled.{start_cost};
-ghost use Rattle.compiler.specs.CodeLayout.{AreTableCodes};
+ghost use Rattle.code_layout.specs.CodeLayout.{AreTableCodes};
 ghost use Rattle.hook_runs.specs.declared.stages.HookStage.{HookStage};
 ghost use Rattle.hook_runs.specs.Stages.{total_stage_cost, chains_in_stage, stage_cost, stage_starts};
 ghost use Rattle.hook_runs.specs.StageCode.{AreStarts, stage_started};

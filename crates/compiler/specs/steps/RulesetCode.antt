@@ -6,7 +6,7 @@ use Rattle.rule_meaning.specs.Hooks.{base_chains_of}
 use Rattle.filter_vm.specs.declared.code.Code.{Code}
 use Rattle.filter_vm.specs.Machine.{starts_of}
 use Rattle.compiler.specs.declared.compiled_chain.CompiledChain.{CompiledChain}
-use Rattle.compiler.specs.CodeLayout.{AreTableCodes}
+use Rattle.code_layout.specs.CodeLayout.{AreTableCodes}
 use Rattle.compiler.specs.steps.Bases.{base, CostsIn, Ordered}
 
 -- the code of each table, and the starts of each hook

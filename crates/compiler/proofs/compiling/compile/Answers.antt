@@ -5,7 +5,7 @@ use Rattle.rule_paths.specs.Paths.{Caller, AreAllCosts, ruleset_cost}
 use Rattle.filter_vm.specs.declared.code.Code.{Code}
 use Rattle.filter_vm.specs.Machine.{starts_of}
 use Rattle.compiler.specs.Compiled.{HasStarts, AgreesWithRules, total_cost}
-use Rattle.compiler.specs.CodeLayout.{AreTableCodes}
+use Rattle.code_layout.specs.CodeLayout.{AreTableCodes}
 use Rattle.compiler.specs.steps.RulesetCode.{IsRulesetCode}
 use Rattle.compiler.proofs.AgreementLaws.{all_agree}
 use Rattle.compiler.proofs.CodedLaws.{coded}

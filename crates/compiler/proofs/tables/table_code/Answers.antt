@@ -4,8 +4,8 @@ use Rattle.list_laws.specs.Lists.{head_and_rest}
 use Rattle.nft_tree.specs.declared.chain.Chain.{Chain}
 use Rattle.nft_tree.specs.Tree.{ChainTree, chain_tree}
 use Rattle.rule_code.specs.declared.code.TableCode.{TableCode}
-use Rattle.compiler.specs.steps.Adding.{AddsChain}
-use Rattle.compiler.proofs.AddLaws.{declared_kept, nothing_left, none_later}
+use Rattle.code_layout.specs.Adding.{AddsChain}
+use Rattle.code_layout.proofs.AddLaws.{declared_kept, nothing_left, none_later}
 use Rattle.compiler.proofs.TableLaws.{chain_misfits, chain_rules_wrong, types_free, bounds_free, chains_none, chains_more, chains_all}
 use Rattle.compiler.proofs.tables.table_code.Goals as goal
 

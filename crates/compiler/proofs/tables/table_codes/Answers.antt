@@ -4,8 +4,8 @@ use Rattle.list_laws.specs.Lists.{head_and_rest}
 use Rattle.nft_tree.specs.Tree.{TableTree}
 use Rattle.rule_types.specs.Types.{table_mismatches}
 use Rattle.rule_values.specs.Faults.{has_wrong_value}
-use Rattle.compiler.specs.CodeLayout.{IsTableCode}
-use Rattle.compiler.proofs.AddLaws.{nothing_left, none_later}
+use Rattle.code_layout.specs.CodeLayout.{IsTableCode}
+use Rattle.code_layout.proofs.AddLaws.{nothing_left, none_later}
 use Rattle.compiler.proofs.TableLaws.{tables_more, tables_all}
 use Rattle.compiler.proofs.tables.table_codes.Goals as goal
 

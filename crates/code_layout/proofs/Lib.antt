@@ -1,0 +1,6 @@
+pub mod AddLaws
+pub mod FirstLaws
+pub mod MarkLaws
+pub mod ShadowLaws
+pub mod FlagLaws
+pub mod KeptLaws

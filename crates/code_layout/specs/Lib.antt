@@ -1,0 +1,4 @@
+pub mod DroppedRules
+pub mod CodeLayout
+pub mod Adding
+pub mod steps
