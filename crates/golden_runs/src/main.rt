@@ -83,7 +83,7 @@ const MISTAKES: &str = "mistakes.txt";
 const WARNED: &str = "warned.txt";
 
 fn main(rt: HostRuntime) -> Result<ExitCode> {
-    let status = program::start(&rt, &rt.stdout(), &rt.stderr());
+    let status = system_host::start(&rt, &rt.stdout(), &rt.stderr());
     print_sent(&rt)?;
     for &file in &FILES {
         run_file(&rt, file)?;

@@ -6,5 +6,5 @@
 use std::process::ExitCode;
 
 fn main(rt: HostRuntime) -> ExitCode {
-    ExitCode::from(program::start(&rt, &rt.stdout(), &rt.stderr()))
+    ExitCode::from(system_host::start(&rt, &rt.stdout(), &rt.stderr()))
 }

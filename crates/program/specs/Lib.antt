@@ -4,4 +4,5 @@ pub mod Calls
 pub mod Replaying
 pub mod Examining
 pub mod Performing
+pub mod Outputs
 pub mod steps

@@ -1,4 +1,3 @@
 -- What contracts of private functions cite; public ones cite none of it.
 pub mod AnswerStatus
-pub mod Promised
 pub mod Finishing

@@ -20,21 +20,21 @@ const PAUSE_SECONDS: u64 = 1;
 #[derive(Drop)]
 pub(crate) struct ProgressReader<'a, 'b, R, T> {
     input: &'a mut Counted<T>,
-    progress: Option<Progress<'b, R>>,
+    display: Option<ProgressDisplay<'b, R>>,
 }
 
 impl<'a, 'b, R: Clock + Eprint, T: Read> ProgressReader<'a, 'b, R, T> {
-    /// Without `progress` nothing is shown.
-    pub(crate) fn new(input: &'a mut Counted<T>, progress: Option<Progress<'b, R>>) -> Self
+    /// Without `display` nothing is shown.
+    pub(crate) fn new(input: &'a mut Counted<T>, display: Option<ProgressDisplay<'b, R>>) -> Self
         ensures input { result.input.now ≡ input.old }
     {
-        ProgressReader { input, progress }
+        ProgressReader { input, display }
     }
 
     /// Ends the line of progress, so that what is printed next begins on a new one.
     pub(crate) fn end(self) {
-        if let Some(progress) = self.progress {
-            progress.end();
+        if let Some(display) = self.display {
+            display.end();
         }
     }
 }
@@ -50,29 +50,35 @@ impl<R: Clock + Eprint, T: Read> Read for ProgressReader<'_, '_, R, T> {
         ensures fails { CountsRead self.old.input.now.failures self.new.input.now.failures result }
     {
         let answer = self.input.read(buf);
-        if let (Ok(count), Some(progress)) = (&answer, &mut self.progress) {
-            progress.add(*count as u64);
+        if let (Ok(count), Some(display)) = (&answer, &mut self.display) {
+            display.add(*count as u64);
         }
         answer
     }
 }
 
+/// How progress is shown.
+#[derive(Clone, Copy)]
+pub struct Progress {
+    pub line: ProgressLine,
+    /// The size of the capture in bytes, where it is known.
+    pub size: Option<u64>,
+}
+
 /// How lines of progress are printed.
 #[derive(Clone, Copy, PartialEq)]
-pub(crate) enum ProgressLine {
+pub enum ProgressLine {
     /// Each overwrites the one before: the terminal shows nothing else.
     Overwritten,
     /// Each is a line of its own: the terminal shows the report too.
     Appended,
 }
 
-/// The progress of reading a capture.
+/// The lines that show how much of a capture is read.
 #[derive(Drop)]
-pub(crate) struct Progress<'b, R> {
+pub(crate) struct ProgressDisplay<'b, R> {
     rt: &'b R,
-    line: ProgressLine,
-    /// The size of the capture in bytes, where it is known.
-    size: Option<u64>,
+    progress: Progress,
     /// How many bytes were read.
     count: u64,
     /// When the last line was printed, or before that when the run began.
@@ -81,14 +87,13 @@ pub(crate) struct Progress<'b, R> {
     is_open: bool,
 }
 
-impl<'b, R: Clock + Eprint> Progress<'b, R> {
+impl<'b, R: Clock + Eprint> ProgressDisplay<'b, R> {
     /// None where there is no clock.
-    pub(crate) fn new(rt: &'b R, line: ProgressLine, size: Option<u64>) -> Option<Self> {
+    pub(crate) fn new(rt: &'b R, progress: Progress) -> Option<Self> {
         let latest = Instant::now(rt).ok()?;
-        Some(Progress {
+        Some(ProgressDisplay {
             rt,
-            line,
-            size,
+            progress,
             count: 0,
             latest,
             is_open: false,
@@ -116,13 +121,13 @@ impl<'b, R: Clock + Eprint> Progress<'b, R> {
         let rt = self.rt;
         let text = ProgressText {
             count: self.count,
-            size: self.size,
+            size: self.progress.size,
         };
-        let _ = match self.line {
+        let _ = match self.progress.line {
             ProgressLine::Overwritten => eprint!(rt; "\r{text}"),
             ProgressLine::Appended => eprintln!(rt; "{text}"),
         };
-        self.is_open = self.line == ProgressLine::Overwritten;
+        self.is_open = self.progress.line == ProgressLine::Overwritten;
     }
 
     fn end(self) {
@@ -130,7 +135,7 @@ impl<'b, R: Clock + Eprint> Progress<'b, R> {
             let rt = self.rt;
             let text = ProgressText {
                 count: self.count,
-                size: self.size,
+                size: self.progress.size,
             };
             let _ = eprintln!(rt; "\r{text}");
         }

@@ -1,22 +1,18 @@
 //! The host that makes the system calls: files, outputs, and the engine over them.
-ghost use Rattle.program.specs.steps.Promised.{IsGuaranteed, Writes};
+ghost use Rattle.system_host.specs.steps.Promised.{IsGuaranteed};
 
 use crate::closed_pipe::{PipeWriter, is_closed_pipe};
 use crate::diagnosis::{explain_status, list_faults, remark_on_capture, warn_of_nft};
-use crate::host::Host;
-use crate::identity::FileIdentity;
-use crate::performing::perform;
-use crate::progress_reader::{Progress, ProgressLine, ProgressReader};
-use crate::status::Status;
 use clap::Error;
 use command_line::{CheckPaths, ReplayPaths, Task};
 use engine::{Counts, RunFault};
 use explanations::Explanation;
 use pcap_io::Counted;
+use program::{FileIdentity, Host, Progress, ProgressLine, Status, perform, run_with_progress};
 use std::env::{self, Env};
 use std::fs::OpenFile;
 use std::hash::RandomState;
-use std::io::{IsTerminal, Write};
+use std::io::IsTerminal;
 use std::os::unix::fs::MetadataExt;
 use std::random::RandomSource;
 use std::rt::{Clock, Files};
@@ -86,22 +82,22 @@ impl<R: AllocGlobal> System<'_, R> {
     }
 }
 
-impl<'a, R: Clock + Eprint> System<'a, R> {
-    /// How progress is shown beside the report, if that goes to standard output.
-    fn progress_line(&self, to_output: bool) -> ProgressLine {
-        if to_output && self.terminals.output {
-            ProgressLine::Appended
-        } else {
-            ProgressLine::Overwritten
-        }
-    }
-
-    /// The progress display of a run; none where standard error is no terminal.
-    fn progress(&self, line: ProgressLine) -> Option<Progress<'a, R>> {
+impl<R> System<'_, R> {
+    /// How progress is shown beside the report, which goes to standard output or to a file; not at
+    /// all where standard error is no terminal.
+    fn progress(&self, to_output: bool) -> Option<Progress> {
         if !self.terminals.errors {
             return None;
         }
-        Progress::new(self.rt, line, self.size)
+        let line = if to_output && self.terminals.output {
+            ProgressLine::Appended
+        } else {
+            ProgressLine::Overwritten
+        };
+        Some(Progress {
+            line,
+            size: self.size,
+        })
     }
 }
 
@@ -119,52 +115,17 @@ impl<R: Eprint + AllocGlobal> System<'_, R> {
     /// Prints which call failed.
     fn print_failure(&self, task: &Task<'_>) -> io::Result<()> {
         let rt = self.rt;
-        match (&self.failed, task) {
-            (Some(Failed::Call(message)), _) => eprintln!(rt; "{}", message.as_str()),
-            (Some(Failed::Read), Task::Run(run)) => {
-                eprintln!(rt; "{}: a read failed", run.paths.input)
-            }
-            (Some(Failed::Write), Task::Run(run)) => {
-                eprintln!(rt; "{}: a write failed", run.paths.output)
-            }
+        let (path, call) = match (&self.failed, task) {
+            (Some(Failed::Call(message)), _) => return eprintln!(rt; "{}", message.as_str()),
+            (Some(Failed::Read), Task::Run(run)) => (run.paths.input, "read"),
+            (Some(Failed::Write), Task::Run(run)) => (run.paths.output, "write"),
             (Some(Failed::Report), Task::Run(run)) => {
-                let path = run.report.unwrap_or("standard output");
-                eprintln!(rt; "{path}: a write failed")
+                (run.report.unwrap_or("standard output"), "write")
             }
-            _ => Ok(()),
-        }
+            _ => return Ok(()),
+        };
+        eprintln!(rt; "{path}: a {call} failed")
     }
-}
-
-/// A run with its report to any writer.
-fn run_into<R: Clock + Files + Eprint + AllocGlobal, W: Write>(
-    rt: &R,
-    hasher: RandomState,
-    rules: &[u8],
-    plant: &[u8],
-    input: &mut Counted<R::File>,
-    output: &mut Counted<R::File>,
-    report: &mut Counted<W>,
-    trace: bool,
-    progress: Option<Progress<'_, R>>,
-) -> Result<bool, RunFault>
-    ensures { Writes rules.now plant.now trace (R.File.remaining input.old.inner)
-        (R.File.contents output.old.inner) (R.File.contents output.new.inner)
-        (W.contents report.old.inner) (W.contents report.new.inner) result }
-{
-    let mut reader = Counted::new(ProgressReader::new(input, progress));
-    let outcome = engine::run(
-        rt.alloc(),
-        hasher,
-        rules,
-        plant,
-        &mut reader,
-        output,
-        report,
-        trace,
-    );
-    reader.into_inner().end();
-    Ok(outcome?.torn)
 }
 
 impl<R: Clock + Env + Files + Print + Eprint + RandomSource + AllocGlobal> Host for System<'_, R> {
@@ -231,15 +192,15 @@ impl<R: Clock + Env + Files + Print + Eprint + RandomSource + AllocGlobal> Host 
         trace: bool,
     ) -> Result<bool, RunFault> {
         let rt = self.rt;
-        let progress = self.progress(self.progress_line(report.is_none()));
+        let progress = self.progress(report.is_none());
         let mut is_closed = false;
         let outcome = match report {
-            Some(file) => run_into(
+            Some(file) => run_with_progress(
                 rt, hasher, rules, plant, input, output, file, trace, progress,
             ),
             None => {
                 let mut writer = Counted::new(PipeWriter::new(io::writer(rt)));
-                let outcome = run_into(
+                let outcome = run_with_progress(
                     rt,
                     hasher,
                     rules,

@@ -1,11 +1,11 @@
 //! Explains a status and locates its fault.
-use crate::status::Status;
 use box_file::Plant;
 use capture_remarks::{capture_location, remarks};
 use command_line::{ReplayPaths, Task};
 use engine::RulesFault;
 use fault_advice::explained;
 use fault_location::{Fault, SourcePaths, Sources, all_faults};
+use program::Status;
 use std::rt::Files;
 use std::{fs, io};
 
@@ -15,7 +15,7 @@ use std::{fs, io};
 /// again for it; a pipe has been read already.
 pub fn explain_status<R: Files + Eprint + AllocGlobal>(rt: &R, status: Status, task: &Task<'_>) {
     if let (Some(fault), Some(paths)) = (fault_of(status), source_paths(task)) {
-        let _ = print_location(rt, fault, paths);
+        let _ = print_faults(rt, Some(fault), paths);
     }
     if let Task::Run(run) = task {
         let _ = print_capture_location(rt, status, run.paths.input);
@@ -51,12 +51,14 @@ fn fault_of(status: Status) -> Option<Fault> {
 /// Prints all faults of a check's ruleset and box to standard error, as far as they can be located.
 pub fn list_faults<R: Files + Eprint + AllocGlobal>(rt: &R, task: &Task<'_>) {
     if let Some(paths) = source_paths(task) {
-        let _ = print_all_faults(rt, paths);
+        let _ = print_faults(rt, None, paths);
     }
 }
 
-fn print_all_faults<R: Files + Eprint + AllocGlobal>(
+/// Prints what explains a fault of the texts at these paths, or else all their faults.
+fn print_faults<R: Files + Eprint + AllocGlobal>(
     rt: &R,
+    fault: Option<Fault>,
     paths: SourcePaths<'_>,
 ) -> io::Result<()> {
     let rules = read_again(rt, paths.rules);
@@ -66,23 +68,10 @@ fn print_all_faults<R: Files + Eprint + AllocGlobal>(
         rules: &rules,
         plant: &plant,
     };
-    let lines = all_faults(rt.alloc(), sources)?;
-    eprint!(rt; "{}", lines.as_str())
-}
-
-fn print_location<R: Files + Eprint + AllocGlobal>(
-    rt: &R,
-    fault: Fault,
-    paths: SourcePaths<'_>,
-) -> io::Result<()> {
-    let rules = read_again(rt, paths.rules);
-    let plant = read_again(rt, paths.plant);
-    let sources = Sources {
-        paths,
-        rules: &rules,
-        plant: &plant,
+    let lines = match fault {
+        Some(fault) => explained(rt.alloc(), fault, sources)?,
+        None => all_faults(rt.alloc(), sources)?,
     };
-    let lines = explained(rt.alloc(), fault, sources)?;
     eprint!(rt; "{}", lines.as_str())
 }
 

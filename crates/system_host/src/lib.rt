@@ -1,0 +1,8 @@
+//! The program on the operating system: its files, its clock, standard output and standard error.
+#![tactic(auto)]
+
+mod closed_pipe;
+mod diagnosis;
+mod system;
+
+pub use system::start;
