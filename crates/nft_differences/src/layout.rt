@@ -174,7 +174,7 @@ fn is_ended(tokens: &Tokens<'_>, last: usize, nesting: Nesting) -> bool {
     if BEFORE_END.contains(&tokens.bytes(last)) {
         return true;
     }
-    let in_set = nesting.depth == 2 && nesting.declaration == Declaration::SetOrMap;
+    let in_set = nesting.depth == 2 && matches!(nesting.declaration, Declaration::SetOrMap);
     if tokens.is(last, b"}") {
         return nesting.depth == 1 || in_set;
     }
@@ -216,7 +216,7 @@ fn judge_token(
     if let Some(warning) = tightness(tokens, index, next) {
         return findings.add(tokens, index, warning);
     }
-    if tokens.kind(next) != TokenKind::String {
+    if !matches!(tokens.kind(next), TokenKind::String) {
         return Ok(());
     }
     match string_behind(tokens, index, tokens.bytes(next)) {

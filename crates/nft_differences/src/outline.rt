@@ -25,7 +25,7 @@ pub(crate) struct Outline {
 }
 
 /// What a declaration in a table is.
-#[derive(Clone, Copy, PartialEq)]
+#[derive(Clone, Copy)]
 pub(crate) enum Declaration {
     Chain,
     SetOrMap,
@@ -47,7 +47,7 @@ impl Nesting {
 
     /// Whether a newline or `;` there ends a rule or a part of a chain's head.
     fn ends_statement(self) -> bool {
-        self.depth == 2 && self.declaration == Declaration::Chain
+        self.depth == 2 && matches!(self.declaration, Declaration::Chain)
     }
 }
 
@@ -209,7 +209,7 @@ impl Range {
     /// The first token of a part from an index on that is this word, outside strings.
     pub(crate) fn find(self, tokens: &Tokens<'_>, from: usize, word: &[u8]) -> Option<usize> {
         for index in from..self.end {
-            if tokens.kind(index) != TokenKind::String && tokens.is(index, word) {
+            if !matches!(tokens.kind(index), TokenKind::String) && tokens.is(index, word) {
                 return Some(index);
             }
         }

@@ -18,7 +18,7 @@ const NFPROTO_IPV4: u32 = 2;
 const NFPROTO_IPV6: u32 = 10;
 
 /// The family of a rule's packets.
-#[derive(Clone, Copy, PartialEq)]
+#[derive(Clone, Copy)]
 enum Network {
     /// None was named: both of a table of family inet.
     Any,
@@ -66,7 +66,7 @@ impl Protocols {
             }
             Selector::UdpSource | Selector::UdpDestination => self.read_transport(UDP),
             Selector::IcmpType => {
-                if self.network == Network::Any && !self.has_transport() {
+                if matches!(self.network, Network::Any) && !self.has_transport() {
                     self.network = Network::Ipv4;
                 }
                 self.read_transport(ICMP)

@@ -1,7 +1,7 @@
 //! The tokens of a ruleset's text with their places, newlines among them, as nft(8) reads it.
 use std::alloc::{AllocError, Global};
 
-#[derive(Clone, Copy, PartialEq)]
+#[derive(Clone, Copy)]
 pub(crate) enum TokenKind {
     Newline,
     Word,
@@ -37,7 +37,8 @@ impl<'a> Tokens<'a> {
             let Some(token) = token_at(text, at) else {
                 break;
             };
-            let is_comment = token.kind == TokenKind::Mark && byte_at(text, token.start) == b'#';
+            let is_mark = matches!(token.kind, TokenKind::Mark);
+            let is_comment = is_mark && byte_at(text, token.start) == b'#';
             if is_comment && begins_line(text, token.start) {
                 at = token.end.saturating_add(1);
                 continue;
@@ -79,13 +80,13 @@ impl<'a> Tokens<'a> {
     }
 
     pub(crate) fn is_newline(&self, index: usize) -> bool {
-        self.kind(index) == TokenKind::Newline
+        matches!(self.kind(index), TokenKind::Newline)
     }
 
     /// The first string from a token on; the last token, where there is none before that.
     pub(crate) fn find_string(&self, from: usize, last: usize) -> usize {
         for index in from..last {
-            if self.kind(index) == TokenKind::String {
+            if matches!(self.kind(index), TokenKind::String) {
                 return index;
             }
         }

@@ -1,7 +1,7 @@
 //! Warnings.
 
 /// What nft(8) 1.0.6 refuses of an accepted ruleset, or means otherwise.
-#[derive(Clone, Copy, PartialEq)]
+#[derive(Clone, Copy)]
 pub(crate) enum Warning {
     // Texts
     CarriageReturn,
