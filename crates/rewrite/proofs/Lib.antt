@@ -1,5 +1,5 @@
 pub mod Words
 pub mod Checksums
+pub mod Datagrams
 pub mod Packets
 pub mod Rewritten
-pub mod Datagrams

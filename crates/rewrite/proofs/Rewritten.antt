@@ -1,4 +1,5 @@
 -- The laws of rewritten packets: with a rewritten quoted datagram, and the tuple of one that was given endpoints.
+-- To be read before it: Words, Checksums, Datagrams, Packets.
 use Rattle.std.proofs.Common.{◌≡◌, ◌≢◌, ℕ, suc, ◌+◌, ◌*◌, ◌%◌, ◌<◌, ◌≤◌, inl, Option, Some, None, List}
 use Rattle.std.proofs.Common.{length, get_or, take, drop, length-take, length-drop, Bool, true, false, refl}
 use Rattle.std.proofs.Common.{sym, ap, ◌∙◌, arith, inr, ⊎_elim, subst}
