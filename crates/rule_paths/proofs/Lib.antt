@@ -1,4 +1,4 @@
 pub mod ReadLaws
-pub mod PathFindings
 pub mod Graphs
 pub mod Callers
+pub mod PathFindings
