@@ -94,6 +94,18 @@ fn random_wide_match(
     })
 }
 
+/// `selector & mask == number`, by one of few masks, the last of which has more than 32 bits.
+fn random_bits(random: &mut RandomNumbers, selector: Selector) -> Action {
+    let mask: u128 = match random.below(5) {
+        0 => 3,
+        1 => 0x0f,
+        2 => 0x30,
+        3 => 0xffff_ffff,
+        _ => u128::MAX,
+    };
+    Action::BitsEqual(selector, mask, u128::from(random.number()) & mask)
+}
+
 /// The first match of a rule: mostly one of its own values, with overlapping ranges, and else one
 /// that other rules share.
 fn random_match(
@@ -114,7 +126,7 @@ fn random_match(
         ),
         91..=92 => Action::NotInSet(vec![in alloc; selector]?, random.below(SETS) as usize),
         93..=94 => random_compare(random, selector, Operator::Unequal),
-        95..=97 => Action::BitsEqual(selector, 3, u128::from(random.below(4))),
+        95..=97 => random_bits(random, selector),
         _ => Action::BitsUnequal(selector, 3, u128::from(random.below(4))),
     })
 }
@@ -266,6 +278,8 @@ fn add_rules(
         1 => 60,
         _ => 99,
     };
+    // The percentage of rules that match on bits under a mask.
+    let masked = if random.chance(15) { 90 } else { 0 };
     for number in 0..random.below(MOST_RULES) {
         let is_plain = random.chance(plain);
         let selector = one_of(random, &selectors);
@@ -276,6 +290,8 @@ fn add_rules(
         };
         let first = if part.is_wide && random.chance(98) {
             random_wide_match(alloc, random, selector, SETS + number)?
+        } else if random.chance(masked) {
+            random_bits(random, selector)
         } else {
             random_match(alloc, random, selector)?
         };

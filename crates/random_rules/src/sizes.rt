@@ -312,6 +312,21 @@ fn many_selectors(alloc: Global) -> Result<IndexedTable, AllocError> {
         let set = Action::InSet(vec![in alloc; Selector::InputName]?, 0);
         add_match(set, number, &mut steps)?;
     }
+    indexed(alloc, steps)
+}
+
+/// A chain of 40 rules `tcp flags & 0x3f == N drop`.
+fn masked_flags(alloc: Global) -> Result<IndexedTable, AllocError> {
+    let mut steps = StepList::new(alloc);
+    for number in 0..40 {
+        let flags = Action::BitsEqual(Selector::TcpFlags, 0x3f, u128::from(number));
+        add_match(flags, number, &mut steps)?;
+    }
+    indexed(alloc, steps)
+}
+
+/// The steps of a chain, alone in its table, with indexes.
+fn indexed(alloc: Global, steps: StepList) -> Result<IndexedTable, AllocError> {
     IndexedTable::new(
         alloc,
         TableCode {
@@ -333,6 +348,15 @@ fn a_run_has_an_index_for_each_selector(rt: HostRuntime) -> Result<(), Fail> {
     let alloc = rt.alloc();
     let code = code_of(alloc, many_selectors(alloc)?)?;
     assert!(&rt; code.size().tables == 9, "indexes");
+    Ok(())
+}
+
+/// One index for all rules that ask for bits under one mask.
+#[test]
+fn masked_flags_are_indexed(rt: HostRuntime) -> Result<(), Fail> {
+    let alloc = rt.alloc();
+    let code = code_of(alloc, masked_flags(alloc)?)?;
+    assert!(&rt; code.size().tables == 1, "indexes");
     Ok(())
 }
 
