@@ -96,7 +96,10 @@ fn judge_heads(
     chains: &mut Vec<BaseChain>,
     findings: &mut Findings<'_>,
 ) -> Result<(), AllocError> {
-    for chain in table.items.iter().filter_map(|item| item.chain()) {
+    for item in &table.items {
+        let Some(chain) = item.chain() else {
+            continue;
+        };
         if let Some(head) = &chain.head {
             let part = part_at(&outline.heads, chains.len());
             judge_head(chain, head, tokens, part, findings)?;

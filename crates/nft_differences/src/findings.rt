@@ -55,7 +55,22 @@ impl<'a> Findings<'a> {
     }
 
     /// Adds all warnings.
-    fn judge(
+    fn judge(&mut self, alloc: Global, ruleset: &Ruleset) -> Result<(), AllocError> {
+        let tokens = Tokens::read(alloc, self.text)?;
+        self.judge_tokens(alloc, ruleset, &tokens)
+    }
+
+    fn judge_tokens(
+        &mut self,
+        alloc: Global,
+        ruleset: &Ruleset,
+        tokens: &Tokens<'_>,
+    ) -> Result<(), AllocError> {
+        let outline = Outline::read(alloc, tokens)?;
+        self.judge_parts(alloc, ruleset, tokens, &outline)
+    }
+
+    fn judge_parts(
         &mut self,
         alloc: Global,
         ruleset: &Ruleset,
@@ -110,9 +125,7 @@ pub fn warnings(alloc: Global, path: &str, text: &[u8]) -> Result<String, AllocE
 
 /// The lines of a ruleset's warnings.
 fn told(alloc: Global, path: &str, text: &[u8], ruleset: &Ruleset) -> Result<String, AllocError> {
-    let tokens = Tokens::read(alloc, text)?;
-    let outline = Outline::read(alloc, &tokens)?;
     let mut findings = Findings::new(alloc, text);
-    findings.judge(alloc, ruleset, &tokens, &outline)?;
+    findings.judge(alloc, ruleset)?;
     findings.lines(alloc, path)
 }

@@ -64,9 +64,11 @@ fn judge_table(
     findings: &mut Findings<'_>,
 ) -> Result<usize, AllocError> {
     let mut number = first;
-    for chain in table.items.iter().filter_map(|item| item.chain()) {
-        judge_chain(alloc, table, chain, tokens, outline, number, findings)?;
-        number = number.saturating_add(chain.rules.len());
+    for item in &table.items {
+        if let Some(chain) = item.chain() {
+            judge_chain(alloc, table, chain, tokens, outline, number, findings)?;
+            number = number.saturating_add(chain.rules.len());
+        }
     }
     Ok(number)
 }
@@ -399,31 +401,49 @@ fn reads_connection(selector: Selector) -> bool {
 
 /// The words that a selector is written with; the second is empty where there is one word.
 fn words_of(selector: Selector) -> (&'static [u8], &'static [u8]) {
+    (first_word_of(selector), second_word_of(selector))
+}
+
+fn first_word_of(selector: Selector) -> &'static [u8] {
     match selector {
-        Selector::IpSource => (b"ip", b"saddr"),
-        Selector::IpDestination => (b"ip", b"daddr"),
-        Selector::IpProtocol => (b"ip", b"protocol"),
-        Selector::MetaProtocol => (b"meta", b"l4proto"),
-        Selector::IpTtl => (b"ip", b"ttl"),
-        Selector::IpLength => (b"ip", b"length"),
-        Selector::MetaLength => (b"meta", b"length"),
-        Selector::TcpSource => (b"tcp", b"sport"),
-        Selector::TcpDestination => (b"tcp", b"dport"),
-        Selector::UdpSource => (b"udp", b"sport"),
-        Selector::UdpDestination => (b"udp", b"dport"),
-        Selector::TransportSource => (b"th", b"sport"),
-        Selector::TransportDestination => (b"th", b"dport"),
-        Selector::TcpFlags => (b"tcp", b"flags"),
-        Selector::IcmpType => (b"icmp", b"type"),
-        Selector::InputName => (b"iifname", b""),
-        Selector::OutputName => (b"oifname", b""),
-        Selector::InputIndex => (b"iif", b""),
-        Selector::OutputIndex => (b"oif", b""),
-        Selector::MetaMark => (b"meta", b"mark"),
-        Selector::CtMark => (b"ct", b"mark"),
-        Selector::MetaFamily => (b"meta", b"nfproto"),
-        Selector::CtState => (b"ct", b"state"),
-        Selector::CtDirection => (b"ct", b"direction"),
-        Selector::CtStatus => (b"ct", b"status"),
+        Selector::IpSource
+        | Selector::IpDestination
+        | Selector::IpProtocol
+        | Selector::IpTtl
+        | Selector::IpLength => b"ip",
+        Selector::MetaProtocol | Selector::MetaLength | Selector::MetaMark | Selector::MetaFamily =>
+            b"meta",
+        Selector::TcpSource | Selector::TcpDestination | Selector::TcpFlags => b"tcp",
+        Selector::UdpSource | Selector::UdpDestination => b"udp",
+        Selector::TransportSource | Selector::TransportDestination => b"th",
+        Selector::IcmpType => b"icmp",
+        Selector::InputName => b"iifname",
+        Selector::OutputName => b"oifname",
+        Selector::InputIndex => b"iif",
+        Selector::OutputIndex => b"oif",
+        Selector::CtMark | Selector::CtState | Selector::CtDirection | Selector::CtStatus => b"ct",
+    }
+}
+
+fn second_word_of(selector: Selector) -> &'static [u8] {
+    match selector {
+        Selector::IpSource => b"saddr",
+        Selector::IpDestination => b"daddr",
+        Selector::IpProtocol => b"protocol",
+        Selector::MetaProtocol => b"l4proto",
+        Selector::IpTtl => b"ttl",
+        Selector::IpLength | Selector::MetaLength => b"length",
+        Selector::TcpSource | Selector::UdpSource | Selector::TransportSource => b"sport",
+        Selector::TcpDestination | Selector::UdpDestination | Selector::TransportDestination =>
+            b"dport",
+        Selector::TcpFlags => b"flags",
+        Selector::IcmpType => b"type",
+        Selector::MetaMark | Selector::CtMark => b"mark",
+        Selector::MetaFamily => b"nfproto",
+        Selector::CtState => b"state",
+        Selector::CtDirection => b"direction",
+        Selector::CtStatus => b"status",
+        Selector::InputName | Selector::OutputName | Selector::InputIndex | Selector::OutputIndex =>
+            b"",
     }
 }

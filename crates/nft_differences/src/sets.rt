@@ -157,10 +157,12 @@ fn has_flag(flags: &Option<Vec<SetFlag>>, wanted: SetFlag) -> bool {
     let Some(flags) = flags else {
         return false;
     };
-    flags.iter().any(|flag| matches!(
-        (flag, wanted),
-        (SetFlag::Interval, SetFlag::Interval) | (SetFlag::Constant, SetFlag::Constant)
-    ))
+    for flag in flags {
+        if *flag as u8 == wanted as u8 {
+            return true;
+        }
+    }
+    false
 }
 
 fn judge_set(
@@ -170,8 +172,7 @@ fn judge_set(
     part: Range,
     findings: &mut Findings<'_>,
 ) -> Result<(), AllocError> {
-    let has_interval = has_flag(&set.flags, SetFlag::Interval);
-    if set.auto_merge && !has_interval {
+    if set.auto_merge && !has_flag(&set.flags, SetFlag::Interval) {
         let place = part
             .find(tokens, part.start, b"auto-merge")
             .unwrap_or(part.start);
@@ -181,29 +182,7 @@ fn judge_set(
         return Ok(());
     };
     let list = List::read(alloc, tokens, part, elements_at(tokens, part))?;
-    if !has_interval {
-        list.judge_without_interval(
-            elements
-                .iter()
-                .position(|element| is_interval_key(&element.key)),
-            findings,
-        )?;
-    }
-    let value_type = set.key.kind(0).unwrap_or(ComparedType::Unnamed(0));
-    list.judge_elements(elements, value_type, findings)?;
-    let Some(covered) = elements_coverage(alloc, elements, value_type)? else {
-        return Ok(());
-    };
-    if has_interval && !set.auto_merge {
-        list.judge_overlap(covered, findings)?;
-    }
-    let count = if set.auto_merge {
-        covered.joined
-    } else {
-        covered.count
-    };
-    let is_constant = has_flag(&set.flags, SetFlag::Constant);
-    judge_size(set.size, is_constant, count, tokens, part, findings)
+    list.judge_set(alloc, set, elements, findings)
 }
 
 fn judge_map(
@@ -213,7 +192,6 @@ fn judge_map(
     part: Range,
     findings: &mut Findings<'_>,
 ) -> Result<(), AllocError> {
-    let has_interval = has_flag(&map.flags, SetFlag::Interval);
     if map.auto_merge {
         let place = part
             .find(tokens, part.start, b"auto-merge")
@@ -224,20 +202,7 @@ fn judge_map(
         return Ok(());
     };
     let list = List::read(alloc, tokens, part, elements_at(tokens, part))?;
-    if !has_interval {
-        list.judge_without_interval(
-            pairs.iter().position(|pair| is_interval(&pair.key)),
-            findings,
-        )?;
-    }
-    let Some(covered) = list.judge_pairs(alloc, pairs, map.types.key(), findings)? else {
-        return Ok(());
-    };
-    if has_interval {
-        list.judge_overlap(covered, findings)?;
-    }
-    let is_constant = has_flag(&map.flags, SetFlag::Constant);
-    judge_size(map.size, is_constant, covered.count, tokens, part, findings)
+    list.judge_map(alloc, map, pairs, findings)
 }
 
 /// The token `elements` of a set or a map.
@@ -246,22 +211,24 @@ fn elements_at(tokens: &Tokens<'_>, part: Range) -> usize {
         .unwrap_or(part.start)
 }
 
-fn judge_size(
-    size: Option<u64>,
-    is_constant: bool,
-    count: usize,
-    tokens: &Tokens<'_>,
-    part: Range,
-    findings: &mut Findings<'_>,
-) -> Result<(), AllocError> {
-    let Some(size) = size else {
-        return Ok(());
-    };
-    if size == 0 || is_constant || count as u64 <= size {
-        return Ok(());
+/// The first element of a set that nft takes for an interval.
+fn first_interval(elements: &[Element]) -> Option<usize> {
+    for (number, element) in elements.iter().enumerate() {
+        if is_interval_key(&element.key) {
+            return Some(number);
+        }
     }
-    let place = part.find(tokens, part.start, b"size").unwrap_or(part.start);
-    findings.add(tokens, place, Warning::TooManyElements)
+    None
+}
+
+/// The first element of a map whose key nft takes for an interval.
+fn first_interval_of_map(pairs: &[Pair]) -> Option<usize> {
+    for (number, pair) in pairs.iter().enumerate() {
+        if is_interval(&pair.key) {
+            return Some(number);
+        }
+    }
+    None
 }
 
 /// How the elements of a set cover numbers; none where that isn't known, as of concatenations.
@@ -283,6 +250,22 @@ fn elements_coverage(
     Ok(Some(cover(&mut intervals)?))
 }
 
+/// How the keys of a map cover numbers; none where that isn't known.
+fn pairs_coverage(
+    alloc: Global,
+    pairs: &[Pair],
+    key: ComparedType,
+) -> Result<Option<Coverage>, AllocError> {
+    let mut intervals = Vec::new(alloc);
+    for (number, pair) in pairs.iter().enumerate() {
+        let Some(interval) = interval_of(&pair.key, key, number) else {
+            return Ok(None);
+        };
+        intervals.push(interval)?;
+    }
+    Ok(Some(cover(&mut intervals)?))
+}
+
 /// The coverage of so many concatenations.
 fn distinct(count: usize) -> Coverage {
     Coverage {
@@ -293,6 +276,77 @@ fn distinct(count: usize) -> Coverage {
 }
 
 impl List<'_, '_> {
+    /// Adds what nft refuses of the elements of a declared set.
+    fn judge_set(
+        &self,
+        alloc: Global,
+        set: &SetDecl,
+        elements: &[Element],
+        findings: &mut Findings<'_>,
+    ) -> Result<(), AllocError> {
+        let has_interval = has_flag(&set.flags, SetFlag::Interval);
+        if !has_interval {
+            self.judge_without_interval(first_interval(elements), findings)?;
+        }
+        let value_type = set.key.kind(0).unwrap_or(ComparedType::Unnamed(0));
+        self.judge_elements(elements, value_type, findings)?;
+        let Some(covered) = elements_coverage(alloc, elements, value_type)? else {
+            return Ok(());
+        };
+        if has_interval && !set.auto_merge {
+            self.judge_overlap(covered, findings)?;
+        }
+        let count = if set.auto_merge {
+            covered.joined
+        } else {
+            covered.count
+        };
+        let is_constant = has_flag(&set.flags, SetFlag::Constant);
+        self.judge_size(set.size, is_constant, count, findings)
+    }
+
+    /// Adds what nft refuses of the elements of a declared map.
+    fn judge_map(
+        &self,
+        alloc: Global,
+        map: &MapDecl,
+        pairs: &[Pair],
+        findings: &mut Findings<'_>,
+    ) -> Result<(), AllocError> {
+        let has_interval = has_flag(&map.flags, SetFlag::Interval);
+        if !has_interval {
+            self.judge_without_interval(first_interval_of_map(pairs), findings)?;
+        }
+        let key = map.types.key();
+        self.judge_keys(pairs, key, findings)?;
+        let Some(covered) = pairs_coverage(alloc, pairs, key)? else {
+            return Ok(());
+        };
+        if has_interval {
+            self.judge_overlap(covered, findings)?;
+        }
+        let is_constant = has_flag(&map.flags, SetFlag::Constant);
+        self.judge_size(map.size, is_constant, covered.count, findings)
+    }
+
+    fn judge_size(
+        &self,
+        size: Option<u64>,
+        is_constant: bool,
+        count: usize,
+        findings: &mut Findings<'_>,
+    ) -> Result<(), AllocError> {
+        let Some(size) = size else {
+            return Ok(());
+        };
+        if size == 0 || is_constant || count as u64 <= size {
+            return Ok(());
+        }
+        let start = self.part.start;
+        let place = self.part.find(self.tokens, start, b"size").unwrap_or(start);
+        findings.add(self.tokens, place, Warning::TooManyElements)
+    }
+
     fn judge_without_interval(
         &self,
         element: Option<usize>,
@@ -333,31 +387,22 @@ impl List<'_, '_> {
         Ok(())
     }
 
-    /// Adds what nft refuses of the keys of a map, and returns how they cover numbers.
-    fn judge_pairs(
+    /// Adds what nft refuses of the keys of a map.
+    fn judge_keys(
         &self,
-        alloc: Global,
         pairs: &[Pair],
         key: ComparedType,
         findings: &mut Findings<'_>,
-    ) -> Result<Option<Coverage>, AllocError> {
-        let mut intervals = Vec::new(alloc);
-        let mut is_known = true;
+    ) -> Result<(), AllocError> {
+        if !is_interface(key) {
+            return Ok(());
+        }
         for (number, pair) in pairs.iter().enumerate() {
             if let ValueRange::One(value) = &pair.key {
-                if is_interface(key) {
-                    self.judge_value(value, number, findings)?;
-                }
-            }
-            match interval_of(&pair.key, key, number) {
-                Some(interval) => intervals.push(interval)?,
-                None => is_known = false,
+                self.judge_value(value, number, findings)?;
             }
         }
-        if !is_known {
-            return Ok(None);
-        }
-        Ok(Some(cover(&mut intervals)?))
+        Ok(())
     }
 
     /// Adds what nft refuses of an anonymous map.
@@ -368,7 +413,8 @@ impl List<'_, '_> {
         key: ComparedType,
         findings: &mut Findings<'_>,
     ) -> Result<(), AllocError> {
-        match self.judge_pairs(alloc, pairs, key, findings)? {
+        self.judge_keys(pairs, key, findings)?;
+        match pairs_coverage(alloc, pairs, key)? {
             Some(covered) => self.judge_overlap(covered, findings),
             None => Ok(()),
         }
