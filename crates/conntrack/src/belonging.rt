@@ -10,14 +10,14 @@ use ip_headers::{Kind, Tuple};
 pub struct ConnectionRef {
     /// The entry's id.
     pub id: ConnId,
-    /// The packet's direction.
-    pub direction: Direction,
     /// The tuple of incoming packets in direction original.
     pub original: Tuple,
     /// The tuple of incoming packets in direction reply.
     pub reply: Tuple,
     /// Its mark (`ct mark`).
     pub mark: u32,
+    /// The packet's direction.
+    pub direction: Direction,
     /// Whether a reply has been seen.
     pub replied: bool,
 }
@@ -51,10 +51,10 @@ impl ConnectionRef {
     {
         ConnectionRef {
             id: held.id,
-            direction,
             original: held.original,
             reply: held.reply,
             mark: held.mark,
+            direction,
             replied: held.replied,
         }
     }

@@ -51,9 +51,8 @@ pub left_buffered : (a : Option (List ℕ)) (old mid : List ℕ) → mid ≡ old
 left_buffered a old mid is = ([], append-nil old ∙ sym is, Appends-nil a)
 
 -- more is buffered behind
-pub buffers_more : (a b : Option (List ℕ)) (old mid head tail waits bytes : List ℕ) → AppendsBuffered old a b mid []
-    → waits ≡ (mid ++ head) ++ tail → head ++ tail ≡ bytes → AppendsBuffered old a b waits bytes
-buffers_more a b old mid head tail waits bytes (part, e, w) is whole =
+pub buffers_more : (a b : Option (List ℕ)) (old mid waits bytes : List ℕ) → AppendsBuffered old a b mid []
+    → waits ≡ mid ++ bytes → AppendsBuffered old a b waits bytes
+buffers_more a b old mid waits bytes (part, e, w) is =
     let front : old ≡ part ++ mid = sym (append-nil old) ∙ e in
-    let back : mid ++ bytes ≡ waits = ap (λ ys. mid ++ ys) (sym whole) ∙ sym (append_assoc mid head tail) ∙ sym is in
-    (part, ap (λ ys. ys ++ bytes) front ∙ append_assoc part mid bytes ∙ ap (λ ys. part ++ ys) back, w)
+    (part, ap (λ ys. ys ++ bytes) front ∙ append_assoc part mid bytes ∙ ap (λ ys. part ++ ys) (sym is), w)

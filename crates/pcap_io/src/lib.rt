@@ -9,6 +9,7 @@ mod format;
 mod laws;
 mod link;
 mod read_buffer;
+mod record_headers;
 mod sink;
 mod slow;
 mod whole;

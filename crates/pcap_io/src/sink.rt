@@ -5,12 +5,11 @@ ghost use Rattle.pcap_io.specs.Counting.{one_more, AppendsPrefix};
 ghost use Rattle.pcap_io.specs.Buffering.{AppendsBuffered};
 ghost use Rattle.pcap_io.specs.Buffering as buffer;
 ghost use Rattle.pcap_io.specs.Sll2.{sll2_header, sll2_record, sent, IsSent};
-ghost use Rattle.pcap_io.specs.Sll2 as Sll2;
 
 use crate::counted::Counted;
+use crate::record_headers::HEADERS_BYTES;
 use crate::whole::{DeviceFailed, write_whole};
 use crate::write_buffer::WriteBuffer;
-use byteorder::{ByteOrder, LittleEndian};
 use std::alloc::{AllocError, Global};
 use std::io::Write;
 use std::marker::Model;
@@ -21,14 +20,6 @@ use thiserror::Error;
 const HEADER: [u8; 24] = [
     0x4d, 0x3c, 0xb2, 0xa1, 2, 0, 4, 0, 0, 0, 0, 0, 0, 0, 0, 0, 0, 0, 4, 0, 0x14, 1, 0, 0,
 ];
-
-const NANOSECONDS_IN_SECOND: u64 = 1_000_000_000;
-
-/// The length of a record's header, in bytes.
-const RECORD_HEADER_BYTES: usize = 16;
-
-/// The length of an SLL2 header, in bytes.
-const LINK_HEADER_BYTES: usize = 20;
 
 /// A packet that leaves the box.
 #[derive(Clone, Copy)]
@@ -136,13 +127,11 @@ impl Sink {
         ensures writes { writer.new.writes ≤ writer.old.writes + length self.old.buffered }
         ensures flushes { writer.new.flushes ≡ writer.old.flushes }
     {
-        let length = RECORD_HEADER_BYTES + LINK_HEADER_BYTES + leaving.packet.len();
-        if self.buffered.room() < length {
+        if self.buffered.room() < HEADERS_BYTES + leaving.packet.len() {
             write_whole(writer, self.buffered.as_slice())?;
             self.buffered.clear();
         }
-        self.buffered.append(&headers(leaving));
-        self.buffered.append(leaving.packet);
+        self.buffered.append_record(leaving);
         Ok(())
     }
 
@@ -196,30 +185,4 @@ impl Sink {
         self.buffered.clear();
         Ok(())
     }
-}
-
-/// The record's header and the link header, which precede the packet.
-fn headers(leaving: &Leaving) -> [u8; RECORD_HEADER_BYTES + LINK_HEADER_BYTES]
-    requires { IsSent (sent leaving.now) }
-    ensures bytes { result ++ leaving.now.packet.now ≡ sll2_record (sent leaving.now) }
-{
-    let length = (LINK_HEADER_BYTES + leaving.packet.len()) as u32;
-    let mut bytes = [0u8; RECORD_HEADER_BYTES + LINK_HEADER_BYTES];
-    LittleEndian::write_u32(&mut bytes, (leaving.moment / NANOSECONDS_IN_SECOND) as u32);
-    LittleEndian::write_u32(
-        &mut bytes[4..],
-        (leaving.moment % NANOSECONDS_IN_SECOND) as u32,
-    );
-    LittleEndian::write_u32(&mut bytes[8..], length);
-    LittleEndian::write_u32(&mut bytes[12..], length);
-    bytes[RECORD_HEADER_BYTES..].copy_from_slice(&link_header(leaving.interface));
-    bytes
-}
-
-/// The SLL2 header: protocol IPv4, ARPHRD_ETHER, a packet sent by this host, no link-layer address.
-fn link_header(interface: u32) -> [u8; LINK_HEADER_BYTES]
-    ensures { result ≡ Sll2.link_header interface }
-{
-    let [a, b, c, d] = interface.to_be_bytes();
-    [8, 0, 0, 0, a, b, c, d, 0, 1, 4, 0, 0, 0, 0, 0, 0, 0, 0, 0]
 }

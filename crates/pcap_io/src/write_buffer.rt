@@ -1,8 +1,11 @@
 //! A write buffer of constant size.
 ghost use Rattle.std.specs.Prelude.{◌≡◌, ◌≤◌, ◌+◌, ◌++◌, [], length, IfOk};
 ghost use Rattle.pcap_io.specs.Buffering as buffer;
+ghost use Rattle.pcap_io.specs.Sll2.{IsSent, sent, sll2_record};
 
 use crate::read_buffer::zeros;
+use crate::record_headers::{HEADERS_BYTES, put_headers};
+use crate::sink::Leaving;
 use std::alloc::{AllocError, Global};
 use std::marker::Model;
 
@@ -65,6 +68,19 @@ impl WriteBuffer {
         let end = self.waiting + bytes.len();
         self.bytes[self.waiting..end].copy_from_slice(bytes);
         self.waiting = end;
+    }
+
+    /// Appends a record for which there is room: its headers and its packet.
+    #[inline(always)]
+    pub fn append_record(&mut self, leaving: &Leaving)
+        requires sent { IsSent (sent leaving.now) }
+        requires room { length self.old + length (sll2_record (sent leaving.now))
+            ≤ buffer.BUFFER_BYTES }
+        ensures { self.new ≡ self.old ++ sll2_record (sent leaving.now) }
+    {
+        put_headers(&mut self.bytes, self.waiting, leaving);
+        self.waiting += HEADERS_BYTES;
+        self.append(leaving.packet);
     }
 
     /// Lets all bytes go.

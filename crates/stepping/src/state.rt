@@ -62,8 +62,8 @@ impl PacketState {
             → path_state self.new events ≡ with_info info (path_state self.old events) }
         ensures info { self.new.info ≡ info }
     {
-        self.facts.ct = info.ct();
         self.info = info;
+        self.facts.ct = self.info.ct();
     }
 }
 

@@ -28,13 +28,13 @@ pub struct NewConnection {
 /// A packet's connection: a live one, without its id.
 #[derive(Clone, Copy)]
 pub struct TrackedConnection {
-    pub direction: Direction,
     /// The tuple of packets received in direction original.
     pub original: Tuple,
     /// The tuple of packets received in direction reply.
     pub reply: Tuple,
     /// The connection's mark (`ct mark`).
     pub mark: u32,
+    pub direction: Direction,
     /// A packet in direction reply was seen before.
     pub replied: bool,
 }
@@ -87,13 +87,14 @@ impl CtInfo {
     pub fn of(tuple: Tuple, belonging: Belonging) -> CtInfo
         ensures { result ≡ ct_info_by tuple belonging }
     {
-        match (belonging, tuple.kind) {
-            (Belonging::Found(found), _) => CtInfo::Tracked(tracked_connection(&found)),
-            (Belonging::NotFound | Belonging::Ends(_), Kind::EchoReply) => CtInfo::Invalid,
-            (
-                Belonging::NotFound | Belonging::Ends(_),
-                Kind::Tcp | Kind::Udp | Kind::EchoRequest | Kind::Other(_),
-            ) => CtInfo::New(NewConnection::of(tuple)),
+        match belonging {
+            Belonging::Found(found) => CtInfo::Tracked(tracked_connection(&found)),
+            Belonging::NotFound | Belonging::Ends(_) => match tuple.kind {
+                Kind::EchoReply => CtInfo::Invalid,
+                Kind::Tcp | Kind::Udp | Kind::EchoRequest | Kind::Other(_) => {
+                    CtInfo::New(NewConnection::of(tuple))
+                }
+            },
         }
     }
 
@@ -131,10 +132,10 @@ fn tracked_connection(found: &ConnectionRef) -> TrackedConnection
     ensures { result ≡ tracked_connection found.now }
 {
     TrackedConnection {
-        direction: found.direction,
         original: found.original,
         reply: found.reply,
         mark: found.mark,
+        direction: found.direction,
         replied: found.replied,
     }
 }

@@ -1,4 +1,4 @@
-use Rattle.std.proofs.Common.{◌≡◌, [], ◌++◌, ap, subst, ◌∙◌}
+use Rattle.std.proofs.Common.{[], ap, subst, ◌∙◌}
 use Rattle.std.proofs.lemmas.Result.{err_from_is_err_and}
 use Rattle.pcap_io.specs.steps.Written.{part_first}
 use Rattle.pcap_io.specs.Counting.{AppendsPrefix}
@@ -6,7 +6,7 @@ use Rattle.pcap_io.specs.Sll2.{sll2_record, sent}
 use Rattle.pcap_io.specs.Buffering.{AppendsBuffered}
 use Rattle.pcap_io.proofs.Parts.{drained, left_buffered, buffers_more}
 use Rattle.pcap_io.proofs.sink.Sink.put.Goals as goal
-use Rattle.pcap_io.proofs.sink.Sink.put.Goals.{then-room-length+in_ok-write_whole, else-room-length}
+use Rattle.pcap_io.proofs.sink.Sink.put.Goals.{then-room-leaving+in_ok-write_whole, else-room-leaving}
 
 pub returns-in_err-write_whole-clause-part : goal.returns-in_err-write_whole-clause-part
 returns-in_err-write_whole-clause-part g c =
@@ -18,15 +18,14 @@ returns-in_err-write_whole-clause-part g c =
 pub returns-clause-ok : goal.returns-clause-ok
 returns-clause-ok g c =
     let a = g.W.Write.contents c.args.writer.now.inner in
-    let b = g.W.Write.contents c.if-room-length.writer.inner in
+    let b = g.W.Write.contents c.if-room-leaving.writer.inner in
     let old = c.args.self.now.buffered in
-    let mid = c.if-room-length.self-inside.buffered in
-    let so_far : AppendsBuffered old a b mid [] = elim c.if-room-length.branch [
-      | then-room-length+in_ok-write_whole w ↦ rw (w.writer-is, w.self-inside-is) (drained _ _ old w.as_slice.result.now _
+    let mid = c.if-room-leaving.self-inside.buffered in
+    let so_far : AppendsBuffered old a b mid [] = elim c.if-room-leaving.branch [
+      | then-room-leaving+in_ok-write_whole w ↦ rw (w.writer-is, w.self-inside-is) (drained _ _ old w.as_slice.result.now _
           w.in_ok-write_whole.ensures.ok (w.as_slice.ensures ∙ ap (λ v. v.buffered) c.self.view_is) w.clear.ensures)
-      | else-room-length w ↦ rw (w.writer-is, w.self-inside-is) (left_buffered _ old _ (ap (λ v. v.buffered)
+      | else-room-leaving w ↦ rw (w.writer-is, w.self-inside-is) (left_buffered _ old _ (ap (λ v. v.buffered)
           c.self.view_is))
     ] in
-    let all : c.append-2.new.self ≡ (mid ++ c.headers.result) ++ c.args.leaving.now.packet.now = cc in
-    buffers_more a b old mid c.headers.result c.args.leaving.now.packet.now c.append-2.new.self
-    (sll2_record (sent c.args.leaving.now)) so_far all c.headers.ensures.bytes
+    buffers_more a b old mid c.append_record.new.self (sll2_record (sent c.args.leaving.now)) so_far
+    c.append_record.ensures
