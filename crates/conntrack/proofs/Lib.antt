@@ -3,7 +3,7 @@ pub mod Lists
 pub mod Equal
 pub mod Ids
 pub mod Same
-pub mod Searches
+pub mod Histories
 pub mod Changes
 pub mod Lookups
 pub mod Packets

@@ -1,7 +1,7 @@
 -- Lemmas on lists: searches in filtered lists.
-use Rattle.std.proofs.Common.{◌≡◌, List, [], ◌∷◌, Option, None, Some, Bool, true, false, not, ◌||◌, cond, refl, ap, arith}
+use Rattle.std.proofs.Common.{◌≡◌, List, [], ◌∷◌, Option, None, Some, map, Bool, true, false, not, ◌&&◌, ◌||◌, cond, refl, ap, arith}
 use Rattle.std.specs.Prelude.{filter}
-use Rattle.conntrack.proofs.Names.{find, find-filter, list_any}
+use Rattle.conntrack.proofs.Names.{AllByRecursion, find, find-filter, list_any}
 
 pub ruleset find_filter_rules = (find-filter)
 
@@ -39,3 +39,32 @@ list_any_found p q (y ∷ xs) x h = grind (arith, list_any_found p q xs x)
 pub none_passes : {X : Type 0} (p : X → Bool) (xs : List X) → find p xs ≡ None → list_any p xs ≡ false
 none_passes p [] h = refl
 none_passes p (x ∷ xs) h = grind (arith, none_passes p xs)
+
+-- a filter and a map that change along
+pub map-filter-change : {A B : Type 0} (f g : A → B) (p q : A → Bool) (r : B → Bool) (u : B → B) (cs : List A)
+    → AllByRecursion (λ c. (p c ≡ (q c && r (f c))) × (g c ≡ u (f c))) cs
+    → map g (filter p cs) ≡ map u (filter r (map f (filter q cs)))
+map-filter-change f g p q r u [] h = refl
+map-filter-change f g p q r u (c ∷ cs) h = grind (arith, h.0.0, h.0.1, map-filter-change f g p q r u cs h.1)
+
+pub map-filter-later : {A B : Type 0} (f : A → B) (q : A → Bool) (p : B → Bool) (xs : List A)
+    → map f (filter (λ x. q x && p (f x)) xs) ≡ filter p (map f (filter q xs))
+map-filter-later f q p [] = refl
+map-filter-later f q p (x ∷ xs) = grind (arith, map-filter-later f q p xs)
+
+pub filter-map : {A B : Type 0} (f : A → B) (p : B → Bool) (xs : List A) → filter p (map f xs) ≡ map f (filter (λ x. p (f x)) xs)
+filter-map f p [] = refl
+filter-map f p (x ∷ xs) = grind (arith, filter-map f p xs)
+
+pub filter-true : {X : Type 0} (xs : List X) → filter (λ x. true) xs ≡ xs
+filter-true [] = refl
+filter-true (x ∷ xs) = ap (λ ys. x ∷ ys) (filter-true xs)
+
+pub filter-swap : {X : Type 0} (p q : X → Bool) (xs : List X) → filter p (filter q xs) ≡ filter q (filter p xs)
+filter-swap p q [] = refl
+filter-swap p q (x ∷ xs) = grind (arith, filter-swap p q xs)
+
+-- a filter after a weaker one
+pub filter_again : {X : Type 0} (p q : X → Bool) (xs : List X) → ((x : X) → p x ≡ true → q x ≡ true) → filter p (filter q xs) ≡ filter p xs
+filter_again p q [] h = refl
+filter_again p q (x ∷ xs) h = grind (arith, h x, filter_again p q xs h)

@@ -20,7 +20,6 @@ pub use Rattle.conntrack.specs.declared.connection.ConntrackEntry.{ConntrackEntr
 pub use Rattle.conntrack.specs.declared.connection.Direction.{Direction}
 pub use Rattle.conntrack.specs.declared.connection.Direction.TheVariants.{Original, Reply}
 pub use Rattle.conntrack.specs.declared.connection.Flags.{Flags}
-pub use Rattle.conntrack.specs.steps.Changes.{begun_by, changed_by, connection_begun, ended_by, touched_if, unended}
 pub use Rattle.conntrack.specs.steps.Ids.{has_ids_below}
 pub use Rattle.ip_headers.specs.Same.{same_endpoint, same_kind, same_tuple}
 pub use Rattle.ip_headers.specs.declared.tuple.Endpoint.{Endpoint}

@@ -1,16 +1,17 @@
 -- The effect of one packet on a table's entries and on a history's connections.
-use Rattle.std.proofs.Common.{◌≡◌, ℕ, ◌≤◌, List, [], ◌∷◌, ◌++◌, map, length, Option, Bool, true, false, not, cond, refl, sym, ◌∙◌, ap, arith}
+use Rattle.std.proofs.Common.{◌≡◌, ℕ, ◌≤◌, List, [], ◌∷◌, ◌++◌, map, length, Option, Bool, true, false, not, cond, refl, sym, subst, ◌∙◌, ap, arith}
 use Rattle.std.specs.Prelude.{filter}
 use Rattle.conntrack.proofs.Names.{Arrival, Belonging, Confirmation, Confirmed, ConnId, Connection, ConnectionRef, ConntrackEntry, Direction, DoesNotClash}
 use Rattle.conntrack.proofs.Names.{Ends, Flags, Found, IsNoneLater, Kind, Limits, Mapping, NotFound, RepresentsAt, TrackedPacket, Tuple, Unconfirmed, after_end}
-use Rattle.conntrack.proofs.Names.{after_packet, append-nil, begun_with, belonging_without_id, belongs, belongs_in, change_of_packet, changed_by, connection_of}
-use Rattle.conntrack.proofs.Names.{ended_by_packet, entry_at, entry_of, filter-append, has_distinct_ids, has_id, have_disjoint_tuples, is_live, is_taken}
-use Rattle.conntrack.proofs.Names.{is_that, length-map, live_at, live_list, map-append, no_flags, same_id, state_of, touched, touched_at, with_begun, without}
+use Rattle.conntrack.proofs.Names.{after_packet, begun_with, belonging_without_id, belongs, belongs_in, connection_of}
+use Rattle.conntrack.proofs.Names.{entry_at, entry_of, filter-append, has_distinct_ids, has_id, have_disjoint_tuples, is_live, is_taken}
+use Rattle.conntrack.proofs.Names.{length-map, live_at, live_list, map-append, no_flags, same_id, state_of, touched, touched_at, with_begun, without}
 use Rattle.conntrack.proofs.Names.{without_id}
 use Rattle.conntrack.proofs.Ids.{apart-filter, apart-push, apart-touched_at, distinct-filter}
-use Rattle.conntrack.proofs.Searches.{live_list-unended}
-use Rattle.conntrack.proofs.Changes.{IsTouchHeld, filter-swap, filter-true, live_at-later, live_at-touched_at, live_at_last, live_list-cons, live_list-distinct}
-use Rattle.conntrack.proofs.Changes.{map-same}
+use Rattle.conntrack.specs.steps.Changes.{unended}
+use Rattle.conntrack.proofs.Histories.{live_list-unended, unended-distinct, unended_after}
+use Rattle.conntrack.proofs.Lists.{filter-map, filter-swap}
+use Rattle.conntrack.proofs.Changes.{live_at-later, live_at-touched_at, live_at_last}
 use Rattle.conntrack.proofs.Lookups.{ended_is_free, found_is_held, marks, nowhere_is_free, marked, same_place, touched_alike, without_alike}
 
 -- the entry that a lookup found is in the list
@@ -92,32 +93,16 @@ module _ (held others : List ConntrackEntry) (e : map without_id held ≡ map wi
 
 -- ---- records
 
-touch_held : (b : Belonging) (p : Arrival) (confirmation : Confirmation) (live : List ConntrackEntry) → IsFoundIn b live
-    → IsTouchHeld (change_of_packet b p confirmation) (filter (λ h. not (is_that h.id.0 (ended_by_packet b))) live)
-touch_held (Found found) p Unconfirmed live h = tt
-touch_held (Found found) p (Confirmed mark reply source dest) live h = rw (filter-true live) (h found refl)
-touch_held NotFound p Unconfirmed live h = tt
-touch_held NotFound p (Confirmed mark reply source dest) live h = tt
-touch_held (Ends id) p Unconfirmed live h = tt
-touch_held (Ends id) p (Confirmed mark reply source dest) live h = tt
-
-changed_is_after : (b : Belonging) (p : Arrival) (confirmation : Confirmation) (n : ℕ) (live : List ConntrackEntry)
-    → changed_by (entry_of b p confirmation) n live ≡ after_packet b (record { 0 = n }) p confirmation live
-changed_is_after (Found found) p Unconfirmed n live = rw (append-nil, map-same, filter-true live) refl
-changed_is_after (Found found) p (Confirmed mark reply source dest) n live = rw (append-nil, filter-true live) refl
-changed_is_after NotFound p Unconfirmed n live = rw (append-nil, map-same, filter-true live) refl
-changed_is_after NotFound p (Confirmed mark reply source dest) n live = rw (map-same, filter-true live) refl
-changed_is_after (Ends id) p Unconfirmed n live = rw (append-nil, map-same) refl
-changed_is_after (Ends id) p (Confirmed mark reply source dest) n live = rw map-same refl
-
 pub recorded_by : (limits : Limits) (b : Belonging) (p : Arrival) (confirmation : Confirmation)
     (history : List TrackedPacket) → IsFoundIn b (live_list limits history p.moment) →
     live_list limits (entry_of b p confirmation ∷ history) p.moment
     ≡ after_packet b (record { 0 = length history }) p confirmation (live_list limits history p.moment)
 recorded_by limits b p confirmation history h =
-    live_list-cons limits (entry_of b p confirmation) history
-    (touch_held b p confirmation (live_list limits history p.moment) h)
-    ∙ changed_is_after b p confirmation (length history) (live_list limits history p.moment)
+    let now = live_list-unended limits history p.moment in
+    live_list-unended limits (entry_of b p confirmation ∷ history) p.moment
+    ∙ ap (live_at limits p.moment) (unended_after b p confirmation history)
+    ∙ live_after limits b _ p confirmation (unended history) (unended-distinct history) (subst (IsFoundIn b) now h)
+    ∙ ap (after_packet b (record { 0 = length history }) p confirmation) (sym now)
 
 pub recorded : (limits : Limits) (p : Arrival) (confirmation : Confirmation) (history : List TrackedPacket) →
     live_list limits (entry_of (belongs limits history p.moment p.tuple p.flags) p confirmation ∷ history) p.moment
@@ -137,6 +122,17 @@ pub live_list-later : (limits : Limits) (history : List TrackedPacket) (now late
 live_list-later limits history now later le = live_list-unended limits history later
     ∙ sym (live_at-later limits now later _ le) ∙ ap (live_at limits later) (sym (live_list-unended limits history now))
 
+pub live_alike : (limits : Limits) (held others : List ConntrackEntry) (now : ℕ)
+    → map without_id held ≡ map without_id others
+    → map without_id (live_at limits now held) ≡ map without_id (live_at limits now others)
+live_alike limits held others now e =
+    let by = filter-map without_id (is_live limits now) in
+    sym (by held) ∙ ap (live_at limits now) e ∙ by others
+
+pub live_list-distinct : (limits : Limits) (history : List TrackedPacket) (now : ℕ) → has_distinct_ids (live_list limits history now) ≡ true
+live_list-distinct limits history now = rw (live_list-unended limits history now)
+    (distinct-filter (is_live limits now) (unended history) (unended-distinct history))
+
 -- ---- representing a history
 
 pub represents_later : (limits : Limits) (held : List ConntrackEntry) (history : List TrackedPacket) (now later : ℕ)
@@ -145,28 +141,9 @@ represents_later limits held history now later le s = record {
   reached = omega (arith, s.reached);
   live =
       ap (map without_id) (sym (live_at-later limits now later held le))
-      ∙ alike_later (live_at limits now held) (live_list limits history now) s.live
+      ∙ live_alike limits (live_at limits now held) (live_list limits history now) later s.live
       ∙ ap (map without_id) (sym (live_list-later limits history now later le));
 }
-  where
-    one_later : (b : Bool) (x y : ConntrackEntry) (xs ys : List ConntrackEntry) → without_id x ≡ without_id y
-        → map without_id xs ≡ map without_id ys
-        → map without_id (cond b (x ∷ xs) xs) ≡ map without_id (cond b (y ∷ ys) ys)
-    one_later true x y xs ys n e = cc
-    one_later false x y xs ys n e = e
-
-    alike_later : (xs ys : List ConntrackEntry) → map without_id xs ≡ map without_id ys
-        → map without_id (live_at limits later xs) ≡ map without_id (live_at limits later ys)
-    alike_later [] [] e = refl
-    alike_later [] (y ∷ ys) e = cc
-    alike_later (x ∷ xs) [] e = cc
-    alike_later (x ∷ xs) (y ∷ ys) e =
-        let heads : without_id x ≡ without_id y = cc in
-        let tails : map without_id xs ≡ map without_id ys = cc in
-        let same : is_live limits later x ≡ is_live limits later y = ap (is_live limits later) heads in
-        one_later (is_live limits later x) x y (live_at limits later xs) (live_at limits later ys) heads
-        (alike_later xs ys tails) ∙ ap (λ b. map without_id
-        (cond b (y ∷ live_at limits later ys) (live_at limits later ys))) same
 
 pub represents_after : (limits : Limits) (held : List ConntrackEntry) (history : List TrackedPacket) (id : ConnId)
     (p : Arrival) (confirmation : Confirmation) → has_distinct_ids held ≡ true
@@ -280,22 +257,6 @@ listed_alike held others e = listed_without_id held ∙ ap (map connection_of) e
 
 pub length_alike : (held others : List ConntrackEntry) → map without_id held ≡ map without_id others → length held ≡ length others
 length_alike held others e = sym (length-map held without_id) ∙ ap length e ∙ length-map others without_id
-
-live_without_id : (limits : Limits) (now : ℕ) (held : List ConntrackEntry)
-    → map without_id (live_at limits now held) ≡ live_at limits now (map without_id held)
-live_without_id limits now [] = refl
-live_without_id limits now (x ∷ held) = one_live (is_live limits now x) (live_without_id limits now held)
-  where
-    one_live : (b : Bool) → map without_id (live_at limits now held) ≡ live_at limits now (map without_id held)
-        → map without_id (cond b (x ∷ live_at limits now held) (live_at limits now held))
-        ≡ cond b (without_id x ∷ live_at limits now (map without_id held)) (live_at limits now (map without_id held))
-    one_live true e = ap (λ hs. without_id x ∷ hs) e
-    one_live false e = e
-
-pub live_alike : (limits : Limits) (held others : List ConntrackEntry) (now : ℕ)
-    → map without_id held ≡ map without_id others
-    → map without_id (live_at limits now held) ≡ map without_id (live_at limits now others)
-live_alike limits held others now e = live_without_id limits now held ∙ ap (live_at limits now) e ∙ sym (live_without_id limits now others)
 
 state_without_id : (kind : Kind) (b : Belonging) → state_of kind b ≡ state_of kind (belonging_without_id b)
 state_without_id kind NotFound = refl

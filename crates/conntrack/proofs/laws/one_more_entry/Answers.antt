@@ -1,6 +1,5 @@
 use Rattle.conntrack.specs.Tuples.{no_tuple}
-use Rattle.conntrack.proofs.Changes.{live_list-distinct}
-use Rattle.conntrack.proofs.Packets.{live_list-later, recorded, recorded_nothing}
+use Rattle.conntrack.proofs.Packets.{live_list-distinct, live_list-later, recorded, recorded_nothing}
 use Rattle.conntrack.proofs.laws.one_more_entry.Goals as goal
 
 pub returns-clause-packet : goal.returns-clause-packet

@@ -1,0 +1,140 @@
+-- The connections of a history that no record removed, and what one more record does to them.
+use Rattle.std.proofs.Common.{◌≡◌, ℕ, suc, ◌<◌, List, [], ◌∷◌, ◌++◌, map, length, Option, None, Some, Bool, true, false, not, ◌&&◌, ◌||◌, cond, eqb, refl, ◌∙◌, ap, arith}
+use Rattle.std.specs.Prelude.{filter}
+use Rattle.std.proofs.lemmas.List.{map-id}
+use Rattle.conntrack.proofs.Names.{AllByRecursion, Arrival, Begins, Belonging, Confirmation, Confirmed, ConnectionChange, ConntrackEntry, Creation, Ends, Found, Limits}
+use Rattle.conntrack.proofs.Names.{Mapping, NoChange, NotFound, Touches, TrackedPacket, Tuple, Unconfirmed, after_packet, append-nil, begun_in, connection_in}
+use Rattle.conntrack.proofs.Names.{change_of_packet, creation_of, ended_by_packet, entries_of, entry_of, eq-eqb, filter-append, has_distinct_ids, has_id, is_ended}
+use Rattle.conntrack.proofs.Names.{is_live, is_that, is_touch_of, live_at, live_list, map-append, nat_tests, ne_eqb, number_if_begins, or-false, replayed, same_id}
+use Rattle.conntrack.proofs.Names.{touched, with_begun}
+use Rattle.conntrack.specs.steps.Changes.{unended}
+use Rattle.conntrack.proofs.Lists.{filter-map, filter-true, map-filter-change, map-filter-later}
+use Rattle.conntrack.proofs.Ids.{distinct-filter, distinct-push}
+
+All-append_below : (n : ℕ) (xs ys : List ℕ) → AllByRecursion (λ c. c < n) xs → AllByRecursion (λ c. c < n) ys
+    → AllByRecursion (λ c. c < n) (xs ++ ys)
+All-append_below n [] ys h k = k
+All-append_below n (x ∷ xs) ys h k = (h.0, All-append_below n xs ys h.1 k)
+
+All_more : (n : ℕ) (xs : List ℕ) → AllByRecursion (λ c. c < n) xs → AllByRecursion (λ c. c < suc n) xs
+All_more n [] h = tt
+All_more n (x ∷ xs) h = (omega (arith, h.0), All_more n xs h.1)
+
+number_below : (n : ℕ) (w : ConnectionChange) → AllByRecursion (λ c. c < suc n) (number_if_begins n w)
+number_below n NoChange = tt
+number_below n (Begins b) = (omega arith, tt)
+number_below n (Touches k direction) = tt
+
+-- the numbers of a history's connections are below its length
+pub begun_in-below : (history : List TrackedPacket) → AllByRecursion (λ c. c < length history) (begun_in history)
+begun_in-below [] = tt
+begun_in-below (e ∷ history) = All-append_below _ (begun_in history) (number_if_begins (length history) e.change)
+    (All_more _ (begun_in history) (begun_in-below history)) (number_below (length history) e.change)
+
+not-or : (a b : Bool) → not (a || b) ≡ (not b && not a)
+not-or true true = refl
+not-or true false = refl
+not-or false true = refl
+not-or false false = refl
+
+-- what a packet does to an earlier connection that it does not remove
+abbrev touched_by : Belonging → Arrival → Confirmation → ConntrackEntry → ConntrackEntry
+touched_by b p Unconfirmed h = h
+touched_by (Found found) p (Confirmed mark reply source dest) h =
+    cond (same_id found.id h) (touched found.direction p.flags mark p.moment h) h
+touched_by b p confirmation h = h
+
+replayed-cons : (b : Belonging) (p : Arrival) (confirmation : Confirmation) (c : ℕ) (begun : Creation)
+    (entries : List TrackedPacket)
+    → replayed c begun (cond (is_touch_of c (change_of_packet b p confirmation)) (entry_of b p confirmation ∷ entries) entries)
+    ≡ touched_by b p confirmation (replayed c begun entries)
+replayed-cons (Found found) p (Confirmed mark reply source dest) c begun entries = touch_or_not (eqb c found.id.0)
+  where
+    touch_or_not : (b : Bool)
+        → replayed c begun (cond b (entry_of (Found found) p (Confirmed mark reply source dest) ∷ entries) entries)
+        ≡ cond b (touched found.direction p.flags mark p.moment (replayed c begun entries)) (replayed c begun entries)
+    touch_or_not true = refl
+    touch_or_not false = refl
+replayed-cons b p Unconfirmed c begun entries = refl
+replayed-cons b p (Confirmed mark reply source dest) c begun entries = refl
+
+module _ (b : Belonging) (p : Arrival) (confirmation : Confirmation) (history : List TrackedPacket) where
+  earlier : (cs : List ℕ) → AllByRecursion (λ c. c < length history) cs →
+      AllByRecursion (λ c. (not (is_ended c (entry_of b p confirmation ∷ history))
+      ≡ (not (is_ended c history) && not (is_that c (ended_by_packet b))))
+      × (connection_in c (entry_of b p confirmation ∷ history) ≡ touched_by b p confirmation (connection_in c history))) cs
+  earlier [] h = tt
+  earlier (c ∷ cs) h =
+      let other : eqb (length history) c ≡ false = ne_eqb _ _ (λ same. omega (arith, h.0)) in
+      ((rw other (not-or (is_that c (ended_by_packet b)) (is_ended c history)),
+      rw other (replayed-cons b p confirmation c (creation_of c history) (entries_of c history))), earlier cs h.1)
+
+-- the connection that a packet creates
+created : (p : Arrival) (mark : ℕ) (reply : Tuple) (source dest : Option Mapping) (ended : Option ℕ)
+    (history : List TrackedPacket) →
+    let creation : Creation = record { original = p.tuple; reply = reply; source = source; dest = dest } in
+    let e : TrackedPacket =
+    record { moment = p.moment; flags = p.flags; mark = mark; change = Begins creation; ended = ended } in
+    map (λ c. connection_in c (e ∷ history)) (filter (λ c. not (is_ended c (e ∷ history))) (length history ∷ []))
+    ≡ with_begun (record { 0 = length history }) p (Confirmed mark reply source dest) []
+created p mark reply source dest ended history =
+    let here : eqb (length history) (length history) ≡ true = eq-eqb _ _ refl in
+    simp (here, or-false)
+
+-- a packet's record does to them what the packet does to entries
+pub unended_after : (b : Belonging) (p : Arrival) (confirmation : Confirmation) (history : List TrackedPacket)
+    → unended (entry_of b p confirmation ∷ history)
+    ≡ after_packet b (record { 0 = length history }) p confirmation (unended history)
+unended_after b p confirmation history =
+    rw (
+      filter-append,
+      map-append,
+      map-filter-change (λ c. connection_in c history) (λ c. connection_in c (entry_of b p confirmation ∷ history))
+          (λ c. not (is_ended c (entry_of b p confirmation ∷ history))) (λ c. not (is_ended c history))
+          (λ h. not (is_that h.id.0 (ended_by_packet b))) (touched_by b p confirmation) (begun_in history)
+          (earlier b p confirmation history (begun_in history) (begun_in-below history)),
+    ) (by_result b confirmation)
+  where
+    by_result : (b : Belonging) (confirmation : Confirmation) →
+        map (touched_by b p confirmation) (filter (λ h. not (is_that h.id.0 (ended_by_packet b))) (unended history))
+        ++ map (λ c. connection_in c (entry_of b p confirmation ∷ history))
+        (filter (λ c. not (is_ended c (entry_of b p confirmation ∷ history)))
+        (number_if_begins (length history) (change_of_packet b p confirmation)))
+        ≡ after_packet b (record { 0 = length history }) p confirmation (unended history)
+    by_result (Found found) Unconfirmed = rw (append-nil, map-id, filter-true) refl
+    by_result (Found found) (Confirmed mark reply source dest) = rw (append-nil, filter-true) refl
+    by_result NotFound Unconfirmed = rw (append-nil, map-id, filter-true) refl
+    by_result NotFound (Confirmed mark reply source dest) =
+        rw (map-id, filter-true, created p mark reply source dest None history) refl
+    by_result (Ends id) Unconfirmed = rw (append-nil, map-id) refl
+    by_result (Ends id) (Confirmed mark reply source dest) = rw (map-id, created p mark reply source dest (Some id.0) history) refl
+
+-- no two connections have the same number
+module _ (f : ℕ → ConntrackEntry) (named : (c : ℕ) → (f c).id.0 ≡ c) where
+  none_numbered : (n : ℕ) (cs : List ℕ) → AllByRecursion (λ c. c < n) cs → has_id (record { 0 = n }) (map f cs) ≡ false
+  none_numbered n [] h = refl
+  none_numbered n (c ∷ cs) h = grind (arith, nat_tests, h.0, named c, none_numbered n cs h.1)
+
+  numbered-push : (n : ℕ) (w : ConnectionChange) (cs : List ℕ) → AllByRecursion (λ c. c < n) cs
+      → has_distinct_ids (map f cs) ≡ true → has_distinct_ids (map f (cs ++ number_if_begins n w)) ≡ true
+  numbered-push n (Begins b) cs below d = rw map-append (distinct-push (map f cs) (f n) d
+      (ap (λ k. has_id (record { 0 = k }) (map f cs)) (named n) ∙ none_numbered n cs below))
+  numbered-push n w cs below d = rw append-nil d
+
+  numbered : (history : List TrackedPacket) → has_distinct_ids (map f (begun_in history)) ≡ true
+  numbered [] = refl
+  numbered (e ∷ history) =
+      numbered-push (length history) e.change (begun_in history) (begun_in-below history) (numbered history)
+
+pub unended-distinct : (history : List TrackedPacket) → has_distinct_ids (unended history) ≡ true
+unended-distinct history =
+    let connections = map (λ c. connection_in c history) (begun_in history) in
+    rw (← filter-map (λ c. connection_in c history) (λ h. not (is_ended h.id.0 history)) (begun_in history))
+    (distinct-filter (λ h. not (is_ended h.id.0 history)) connections
+    (numbered (λ c. connection_in c history) (λ c. refl) history))
+
+-- the connections alive are the live ones of those that no record removed
+pub live_list-unended : (limits : Limits) (history : List TrackedPacket) (now : ℕ)
+    → live_list limits history now ≡ live_at limits now (unended history)
+live_list-unended limits history now = map-filter-later (λ c. connection_in c history) (λ c. not (is_ended c history))
+    (is_live limits now) (begun_in history)
