@@ -4,10 +4,10 @@ use Rattle.std.specs.Prelude.{nat_lt}
 use Rattle.conntrack.proofs.Names.{ConnId, ConntrackEntry, Direction, Echo, Established, Flags, IdleKind, Limits}
 use Rattle.conntrack.proofs.Names.{Transitory, and_parts, eqb-true}
 use Rattle.conntrack.proofs.Names.{has_distinct_ids, has_id, idle_kind, is_live, limit_in, limit_of, live_at}
-use Rattle.conntrack.proofs.Names.{lt-ltb, ltb-true, not-true, or_parts, phase_of, same_id, touched, touched_at, true≢false}
+use Rattle.conntrack.proofs.Names.{lt-ltb, ltb-true, not-true, phase_of, same_id, touched, touched_at, true≢false}
 use Rattle.box_file.specs.declared.idle_line.IdleKind.TheVariants.{Udp, Other}
 use Rattle.conntrack.proofs.Lists.{filter_again}
-use Rattle.conntrack.proofs.Ids.{has_id-filter}
+use Rattle.conntrack.proofs.Ids.{has_id-filter, touched_at_none}
 
 later_live : (now later last limit : ℕ) → now ≤ later → nat_lt (later - last) limit ≡ true → nat_lt (now - last) limit ≡ true
 later_live now later last limit le h = lt-ltb _ _ (omega (arith, ltb-true (later - last) limit h))
@@ -40,12 +40,6 @@ live_at_last limits now h e = lt-ltb _ _ (omega (arith, limit_positive limits (i
 
 -- a touch of a live entry, at that moment
 module _ (limits : Limits) (id : ConnId) (direction : Direction) (flags : Flags) (mark now : ℕ) where
-  touched_at_none : (held : List ConntrackEntry) → has_id id held ≡ false → touched_at id direction flags mark now held ≡ held
-  touched_at_none [] h = refl
-  touched_at_none (x ∷ held) h =
-      let parts = or_parts (same_id id x) (has_id id held) h in
-      rw (parts.0, touched_at_none held parts.1)
-
   touch_step : (s l : Bool) (x : ConntrackEntry) (held : List ConntrackEntry) → same_id id x ≡ s
       → is_live limits now x ≡ l → has_id x.id held ≡ false → has_id id (live_at limits now (x ∷ held)) ≡ true
       → (has_id id (live_at limits now held) ≡ true
@@ -56,8 +50,8 @@ module _ (limits : Limits) (id : ConnId) (direction : Direction) (flags : Flags)
   touch_step true true x held es el d t k =
       let same : id.0 ≡ x.id.0 = sym (eqb-true _ _ es) in
       let none : has_id id held ≡ false = rw same d in
-      let left = touched_at_none held none in
-      let right = touched_at_none (live_at limits now held) (has_id-filter (is_live limits now) id held none) in
+      let left = touched_at_none id direction flags mark now held none in
+      let right = touched_at_none id direction flags mark now (live_at limits now held) (has_id-filter (is_live limits now) id held none) in
       rw (es, el, live_at_last limits now (touched direction flags mark now x) refl, es, left, right)
   touch_step true false x held es el d t k =
       let same : id.0 ≡ x.id.0 = sym (eqb-true _ _ es) in

@@ -44,6 +44,12 @@ module _ (id : ConnId) (direction : Direction) (flags : Flags) (mark now : ℕ) 
   below-touched_at n [] = refl
   below-touched_at n (x ∷ held) = rw (touched_id (same_id id x) x, below-touched_at n held)
 
+  pub touched_at_none : (held : List ConntrackEntry) → has_id id held ≡ false → touched_at id direction flags mark now held ≡ held
+  touched_at_none [] h = refl
+  touched_at_none (x ∷ held) h =
+      let parts = or_parts (same_id id x) (has_id id held) h in
+      rw (parts.0, touched_at_none held parts.1)
+
 -- an id above all others is new
 pub has_id-below : (n : ℕ) (held : List ConntrackEntry) → has_ids_below n held ≡ true → has_id (record { 0 = n }) held ≡ false
 has_id-below n [] h = refl

@@ -5,14 +5,15 @@ use Rattle.conntrack.proofs.Names.{Arrival, Belonging, Confirmation, Confirmed, 
 use Rattle.conntrack.proofs.Names.{Ends, Flags, Found, IsNoneLater, Kind, Limits, Mapping, NotFound, RepresentsAt, TrackedPacket, Tuple, Unconfirmed, after_end}
 use Rattle.conntrack.proofs.Names.{after_packet, begun_with, belonging_without_id, belongs, belongs_in, connection_of}
 use Rattle.conntrack.proofs.Names.{entry_at, entry_of, filter-append, has_distinct_ids, has_id, have_disjoint_tuples, is_live, is_taken}
-use Rattle.conntrack.proofs.Names.{length-map, live_at, live_list, map-append, no_flags, same_id, state_of, touched, touched_at, with_begun, without}
+use Rattle.conntrack.proofs.Names.{length-map, live_at, live_list, map-append, no_flags, same_id, same_tuple, state_of, touched, touched_at, with_begun, without}
 use Rattle.conntrack.proofs.Names.{without_id}
 use Rattle.conntrack.proofs.Ids.{apart-filter, apart-push, apart-touched_at, distinct-filter}
 use Rattle.conntrack.specs.steps.Changes.{unended}
 use Rattle.conntrack.proofs.Histories.{live_list-unended, unended-distinct, unended_after}
 use Rattle.conntrack.proofs.Lists.{filter-map, filter-swap}
 use Rattle.conntrack.proofs.Changes.{live_at-later, live_at-touched_at, live_at_last}
-use Rattle.conntrack.proofs.Lookups.{ended_is_free, found_is_held, marks, nowhere_is_free, marked, same_place, touched_alike, without_alike}
+use Rattle.conntrack.proofs.Lookups.{EndsThere, FoundThere, IsAt, Nowhere, Place, changed_alike, ended_is_free, found_is_held, has_tuple, is_at, nowhere_is_free}
+use Rattle.conntrack.proofs.Lookups.{place_in, touched_change, without_change}
 
 -- the entry that a lookup found is in the list
 abbrev pub IsFoundIn : Belonging → List ConntrackEntry → Type 0
@@ -55,41 +56,44 @@ begun_alike i j p (Confirmed mark reply source dest) held others e =
     ∙ ap (λ hs. hs ++ without_id (begun_with i connection p.flags) ∷ []) e
     ∙ sym (map-append without_id others (begun_with j connection p.flags ∷ []))
 
-end_alike : (b c : Belonging) (held others : List ConntrackEntry) → map without_id held ≡ map without_id others
-    → marked held b ≡ marked others c → map without_id (after_end b held) ≡ map without_id (after_end c others)
-end_alike NotFound NotFound held others e at = e
-end_alike (Found found) (Found other) held others e at = e
-end_alike (Ends i) (Ends j) held others e at = let m : marks i held ≡ marks j others = cc in without_alike i j held others e m
-end_alike b c held others e at = cc
-
-after_alike : (b c : Belonging) (i j : ConnId) (p : Arrival) (confirmation : Confirmation)
-    (held others : List ConntrackEntry) → map without_id held ≡ map without_id others → marked held b ≡ marked others c
-    →
-    map without_id (after_packet b i p confirmation held) ≡ map without_id (after_packet c j p confirmation others)
-after_alike NotFound NotFound i j p confirmation held others e at = begun_alike i j p confirmation held others e
-after_alike (Ends k) (Ends l) i j p confirmation held others e at =
-    let m : marks k held ≡ marks l others = cc in
-    begun_alike i j p confirmation (without k held) (without l others) (without_alike k l held others e m)
-after_alike (Found found) (Found other) i j p Unconfirmed held others e at = e
-after_alike (Found found) (Found other) i j p (Confirmed mark reply source dest) held others e at =
-    let m : marks found.id held ≡ marks other.id others = cc in
-    let same_direction : found.direction ≡ other.direction = cc in
-    touched_alike found.id other.id found.direction p.flags mark p.moment held others e m
-    ∙ ap (λ d. map without_id (touched_at other.id d p.flags mark p.moment others)) same_direction
-after_alike b c i j p confirmation held others e at = cc
-
 module _ (held others : List ConntrackEntry) (e : map without_id held ≡ map without_id others)
-    (d : has_distinct_ids held ≡ true) (d' : has_distinct_ids others ≡ true) where
-  -- lists that are equal except for ids stay so
-  pub packet_alike : (i j : ConnId) (p : Arrival) (confirmation : Confirmation) →
-      map without_id (after_packet (belongs_in held p.tuple p.flags) i p confirmation held)
-      ≡ map without_id (after_packet (belongs_in others p.tuple p.flags) j p confirmation others)
-  packet_alike i j p confirmation = after_alike _ _ i j p confirmation held others e (same_place held others p.tuple p.flags e d d')
+    (d : has_distinct_ids held ≡ true) (d' : has_distinct_ids others ≡ true) (tuple : Tuple) where
+  end_alike : (b c : Belonging) (pl : Place) → IsAt tuple held b pl → IsAt tuple others c pl
+      → map without_id (after_end b held) ≡ map without_id (after_end c others)
+  end_alike b c Nowhere at at' = rw (at.0, at'.0) e
+  end_alike b c EndsThere at at' = rw (at.2, at'.2) (changed_alike without (λ x. []) without_change
+      (λ n. same_tuple n.original tuple) held others at.0 at'.0 e d d' at.1 at'.1)
+  end_alike b c (FoundThere direction) at at' = rw (at.2, at'.2) e
 
-  pub ended_alike : (tuple : Tuple) (flags : Flags)
+  after_alike : (i j : ConnId) (p : Arrival) (confirmation : Confirmation) (b c : Belonging) (pl : Place)
+      → IsAt tuple held b pl → IsAt tuple others c pl
+      → map without_id (after_packet b i p confirmation held) ≡ map without_id (after_packet c j p confirmation others)
+  after_alike i j p confirmation b c Nowhere at at' = rw (at.0, at'.0) (begun_alike i j p confirmation held others e)
+  after_alike i j p confirmation b c EndsThere at at' =
+      let ended = end_alike b c EndsThere at at' in
+      rw (at.2, at'.2) (begun_alike i j p confirmation (without at.0.id held) (without at'.0.id others) (rw (at.2, at'.2) at ended))
+  after_alike i j p Unconfirmed b c (FoundThere direction) at at' = rw (at.2, at'.2) e
+  after_alike i j p (Confirmed mark reply source dest) b c (FoundThere direction) at at' = rw (at.2, at'.2)
+      (changed_alike _ _ (touched_change direction p.flags mark p.moment) (has_tuple tuple direction)
+      held others at.0 at'.0 e d d' at.1 at'.1)
+
+  -- the lookups in both lists find the same place
+  same_place : (flags : Flags) → IsAt tuple others (belongs_in others tuple flags) (place_in held tuple flags (map without_id held))
+  same_place flags = subst (λ ns. IsAt tuple others (belongs_in others tuple flags) (place_in held tuple flags ns)) (sym e)
+      (is_at others tuple flags)
+
+  pub ended_alike : (flags : Flags)
       → map without_id (after_end (belongs_in held tuple flags) held)
       ≡ map without_id (after_end (belongs_in others tuple flags) others)
-  ended_alike tuple flags = end_alike _ _ held others e (same_place held others tuple flags e d d')
+  ended_alike flags = end_alike _ _ _ (is_at held tuple flags) (same_place flags)
+
+-- lists that are equal except for ids stay so
+pub packet_alike : (held others : List ConntrackEntry) → map without_id held ≡ map without_id others
+    → has_distinct_ids held ≡ true → has_distinct_ids others ≡ true → (i j : ConnId) (p : Arrival) (confirmation : Confirmation) →
+    map without_id (after_packet (belongs_in held p.tuple p.flags) i p confirmation held)
+    ≡ map without_id (after_packet (belongs_in others p.tuple p.flags) j p confirmation others)
+packet_alike held others e d d' i j p confirmation = after_alike held others e d d' p.tuple i j p confirmation _ _ _
+    (is_at held p.tuple p.flags) (same_place held others e d d' p.tuple p.flags)
 
 -- ---- records
 
