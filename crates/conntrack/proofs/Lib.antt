@@ -1,6 +1,5 @@
 pub mod Names
 pub mod Lists
-pub mod Equal
 pub mod Ids
 pub mod Same
 pub mod Histories

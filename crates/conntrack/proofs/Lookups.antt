@@ -1,8 +1,8 @@
 -- Two lists that are equal except for ids: lookups find the same entry, and changes agree.
-use Rattle.std.proofs.Common.{◌≡◌, ℕ, List, [], ◌∷◌, ◌++◌, map, Option, None, Some, Bool, true, false, not, ◌&&◌, ◌||◌, cond, refl, sym, ◌∙◌, ap, subst}
-use Rattle.conntrack.proofs.Names.{Belonging, ConnId, ConnectionRef, ConntrackEntry, Direction, Ends, Flags, Found, NotFound, Original, Reply, Tuple, and_parts}
-use Rattle.conntrack.proofs.Names.{belonging_by, belongs_in, connection_ref, eq-eqb, find, has_distinct_ids, has_id, have_disjoint_tuples, is_closing}
-use Rattle.conntrack.proofs.Names.{is_lone_syn, is_taken, map-append, not-true, of_original, of_reply, option_map, or_parts, same_id, same_tuple, same_tuple-true, touched}
+use Rattle.std.proofs.Common.{◌≡◌, ℕ, List, [], ◌∷◌, ◌++◌, map, Option, None, Some, Bool, true, false, not, ◌&&◌, ◌||◌, cond, refl, sym, ◌∙◌, ap, subst, arith}
+use Rattle.conntrack.proofs.Names.{Belonging, ConnId, ConnectionRef, ConntrackEntry, Direction, Ends, Flags, Found, Limits, NotFound, Original, Reply, Tuple, and_parts}
+use Rattle.conntrack.proofs.Names.{belonging_by, belongs_in, connection_ref, eq-eqb, find, has_distinct_ids, has_id, have_disjoint_tuples, is_closing, is_live, live_at}
+use Rattle.conntrack.proofs.Names.{is_lone_syn, is_taken, map-append, nat_tests, not-true, of_original, of_reply, option_map, or_parts, same_id, same_tuple, same_tuple-true, touched}
 use Rattle.conntrack.proofs.Names.{touched_at, true≢false, without, without_id}
 use Rattle.conntrack.specs.ConntrackEntry.{is_original}
 use Rattle.conntrack.proofs.Lists.{list_any_either, list_any_found}
@@ -28,29 +28,21 @@ module _ (change : ConnId → List ConntrackEntry → List ConntrackEntry) (g : 
   changed_first : (held : List ConntrackEntry) (h : ConntrackEntry) → has_distinct_ids held ≡ true
       → find (λ n. t (without_id n)) held ≡ Some h → change h.id held ≡ at_first (λ n. t (without_id n)) g held
   changed_first [] h d e = cc
-  changed_first (x ∷ held) h d e =
-      let parts = and_parts (not (has_id x.id held)) (has_distinct_ids held) d in
-      by (t (without_id x)) (not-true _ parts.0) e (changed_first held h parts.1)
-    where
-      by : (b : Bool) → has_id x.id held ≡ false → cond b (Some x) (find (λ n. t (without_id n)) held) ≡ Some h
-          → (find (λ n. t (without_id n)) held ≡ Some h → change h.id held ≡ at_first (λ n. t (without_id n)) g held)
-          → change h.id (x ∷ held) ≡ cond b (g x ++ held) (x ∷ at_first (λ n. t (without_id n)) g held)
-      by true n e k = let s : x ≡ h = cc in
-          subst (λ (y : ConntrackEntry). change y.id (x ∷ held) ≡ g x ++ held) s
-          (c.here x held ∙ ap (λ hs. g x ++ hs) (c.none x.id held n))
-      by false n e k =
-          c.there h.id x held (other_id x held h n (has_id-found (λ n. t (without_id n)) held h e)) ∙ ap (λ hs. x ∷ hs) (k e)
+  changed_first (x ∷ held) h d e = grind (
+    arith,
+    nat_tests,
+    c.here x held,
+    c.none x.id held,
+    c.there h.id x held,
+    other_id x held h,
+    has_id-found (λ n. t (without_id n)) held h,
+    changed_first held h,
+  )
 
   at_first-blind : (held : List ConntrackEntry)
       → map without_id (at_first (λ n. t (without_id n)) g held) ≡ at_first t g (map without_id held)
   at_first-blind [] = refl
-  at_first-blind (x ∷ held) = by (t (without_id x)) (at_first-blind held)
-    where
-      by : (b : Bool) → map without_id (at_first (λ n. t (without_id n)) g held) ≡ at_first t g (map without_id held)
-          → map without_id (cond b (g x ++ held) (x ∷ at_first (λ n. t (without_id n)) g held))
-          ≡ cond b (g (without_id x) ++ map without_id held) (without_id x ∷ at_first t g (map without_id held))
-      by true e = map-append without_id (g x) held ∙ ap (λ hs. hs ++ map without_id held) (c.blind x)
-      by false e = ap (λ hs. without_id x ∷ hs) e
+  at_first-blind (x ∷ held) = grind (arith, map-append without_id (g x) held, c.blind x, at_first-blind held)
 
   -- in lists that are equal except for ids a change of the entry found leaves such lists
   pub changed_alike : (held others : List ConntrackEntry) (h k : ConntrackEntry) → map without_id held ≡ map without_id others
@@ -67,6 +59,19 @@ without_change = record {
   there = λ id x held e. rw e refl;
   blind = λ x. refl;
 }
+
+-- removing the first expired entry keeps the live ones
+live_at-at_first : (limits : Limits) (now : ℕ) (held : List ConntrackEntry)
+    → live_at limits now (at_first (λ n. not (is_live limits now n)) (λ x. []) held) ≡ live_at limits now held
+live_at-at_first limits now [] = refl
+live_at-at_first limits now (x ∷ held) = grind (arith, live_at-at_first limits now held)
+
+pub live_at-without_expired : (limits : Limits) (now : ℕ) (held : List ConntrackEntry) (h : ConntrackEntry)
+    → has_distinct_ids held ≡ true → find (λ x. not (is_live limits now x)) held ≡ Some h
+    → live_at limits now (without h.id held) ≡ live_at limits now held
+live_at-without_expired limits now held h d e =
+    ap (live_at limits now) (changed_first without (λ x. []) without_change (λ n. not (is_live limits now n)) held h d e)
+    ∙ live_at-at_first limits now held
 
 pub touched_change : (direction : Direction) (flags : Flags) (mark now : ℕ)
     → IsChange (λ id held. touched_at id direction flags mark now held) (λ x. touched direction flags mark now x ∷ [])

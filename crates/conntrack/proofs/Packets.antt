@@ -1,11 +1,11 @@
 -- The effect of one packet on a table's entries and on a history's connections.
-use Rattle.std.proofs.Common.{◌≡◌, ℕ, ◌≤◌, List, [], ◌∷◌, ◌++◌, map, length, Option, Bool, true, false, not, cond, refl, sym, subst, ◌∙◌, ap, arith}
+use Rattle.std.proofs.Common.{◌≡◌, ℕ, ◌≤◌, List, [], ◌∷◌, ◌++◌, map, length, Bool, true, not, refl, sym, subst, ◌∙◌, ap, arith}
 use Rattle.std.specs.Prelude.{filter}
 use Rattle.conntrack.proofs.Names.{Arrival, Belonging, Confirmation, Confirmed, ConnId, Connection, ConnectionRef, ConntrackEntry, Direction, DoesNotClash}
-use Rattle.conntrack.proofs.Names.{Ends, Flags, Found, IsNoneLater, Kind, Limits, Mapping, NotFound, RepresentsAt, TrackedPacket, Tuple, Unconfirmed, after_end}
+use Rattle.conntrack.proofs.Names.{Ends, Flags, Found, IsNoneLater, Kind, Limits, NotFound, RepresentsAt, TrackedPacket, Tuple, Unconfirmed, after_end}
 use Rattle.conntrack.proofs.Names.{after_packet, begun_with, belonging_without_id, belongs, belongs_in, connection_of}
-use Rattle.conntrack.proofs.Names.{entry_at, entry_of, filter-append, has_distinct_ids, has_id, have_disjoint_tuples, is_live, is_taken}
-use Rattle.conntrack.proofs.Names.{length-map, live_at, live_list, map-append, no_flags, same_id, same_tuple, state_of, touched, touched_at, with_begun, without}
+use Rattle.conntrack.proofs.Names.{entry_at, entry_of, filter-append, has_distinct_ids, has_id, have_disjoint_tuples, is_live}
+use Rattle.conntrack.proofs.Names.{length-map, live_at, live_list, map-append, no_flags, same_id, same_tuple, state_of, touched_at, with_begun, without}
 use Rattle.conntrack.proofs.Names.{without_id}
 use Rattle.conntrack.proofs.Ids.{apart-filter, apart-push, apart-touched_at, distinct-filter}
 use Rattle.conntrack.specs.steps.Changes.{unended}
@@ -18,9 +18,6 @@ use Rattle.conntrack.proofs.Lookups.{place_in, touched_change, without_change}
 -- the entry that a lookup found is in the list
 abbrev pub IsFoundIn : Belonging → List ConntrackEntry → Type 0
 IsFoundIn b held = (found : ConnectionRef) → b ≡ Found found → has_id found.id held ≡ true
-
-pub found_in : (held : List ConntrackEntry) (tuple : Tuple) (flags : Flags) → IsFoundIn (belongs_in held tuple flags) held
-found_in held tuple flags = found_is_held held tuple flags
 
 -- ---- its live entries
 
@@ -113,7 +110,7 @@ pub recorded : (limits : Limits) (p : Arrival) (confirmation : Confirmation) (hi
     ≡ after_packet (belongs limits history p.moment p.tuple p.flags) (record { 0 = length history }) p confirmation
     (live_list limits history p.moment)
 recorded limits p confirmation history =
-    recorded_by limits _ p confirmation history (found_in (live_list limits history p.moment) p.tuple p.flags)
+    recorded_by limits _ p confirmation history (found_is_held (live_list limits history p.moment) p.tuple p.flags)
 
 pub recorded_nothing : (limits : Limits) (history : List TrackedPacket) (now : ℕ) (tuple : Tuple)
     → live_list limits (entry_at now ∷ history) now ≡ live_list limits history now
@@ -160,7 +157,7 @@ represents_after limits held history id p confirmation d s =
     record {
       reached = omega arith;
       live =
-          ap (map without_id) (live_after limits (belongs_in live p.tuple p.flags) id p confirmation held d (found_in live p.tuple p.flags))
+          ap (map without_id) (live_after limits (belongs_in live p.tuple p.flags) id p confirmation held d (found_is_held live p.tuple p.flags))
           ∙ packet_alike live replayed s.live (distinct-filter (is_live limits p.moment) held d)
           (live_list-distinct limits history p.moment) id (record { 0 = length history }) p confirmation
           ∙ ap (map without_id) (sym (recorded limits p confirmation history));
@@ -168,16 +165,7 @@ represents_after limits held history id p confirmation d s =
 
 -- ---- tuples stay disjoint
 
-apart_begun : (id : ConnId) (p : Arrival) (mark : ℕ) (reply : Tuple) (source dest : Option Mapping)
-    (held : List ConntrackEntry) → have_disjoint_tuples held ≡ true → is_taken p.tuple held ≡ false
-    → is_taken reply held ≡ false →
-    have_disjoint_tuples (with_begun id p (Confirmed mark reply source dest) held) ≡ true
-apart_begun id p mark reply source dest held a f r =
-    let connection : Connection =
-    record { original = p.tuple; reply = reply; mark = mark; last = p.moment; source = source; dest = dest } in
-    apart-push held (begun_with id connection p.flags) a f r
-
-apart_by : (b : Belonging) (id : ConnId) (p : Arrival) (confirmation : Confirmation) (held : List ConntrackEntry)
+pub apart_by : (b : Belonging) (id : ConnId) (p : Arrival) (confirmation : Confirmation) (held : List ConntrackEntry)
     → has_distinct_ids held ≡ true → have_disjoint_tuples held ≡ true → belongs_in held p.tuple p.flags ≡ b
     → DoesNotClash b confirmation held → have_disjoint_tuples (after_packet b id p confirmation held) ≡ true
 apart_by (Found found) id p Unconfirmed held d a e n = a
@@ -185,17 +173,10 @@ apart_by (Found found) id p (Confirmed mark reply source dest) held d a e n =
     apart-touched_at found.id found.direction p.flags mark p.moment held ∙ a
 apart_by NotFound id p Unconfirmed held d a e n = a
 apart_by NotFound id p (Confirmed mark reply source dest) held d a e n =
-    apart_begun id p mark reply source dest held a (nowhere_is_free held p.tuple p.flags e) n
+    apart-push held _ a (nowhere_is_free held p.tuple p.flags e) n
 apart_by (Ends k) id p Unconfirmed held d a e n = apart-filter (λ h. not (same_id k h)) held a
 apart_by (Ends k) id p (Confirmed mark reply source dest) held d a e n =
-    apart_begun id p mark reply source dest (without k held) (apart-filter (λ h. not (same_id k h)) held a)
-    (ended_is_free held p.tuple p.flags k d a e) n
-
-pub apart_after : (id : ConnId) (p : Arrival) (confirmation : Confirmation) (held : List ConntrackEntry)
-    → has_distinct_ids held ≡ true → have_disjoint_tuples held ≡ true
-    → DoesNotClash (belongs_in held p.tuple p.flags) confirmation held →
-    have_disjoint_tuples (after_packet (belongs_in held p.tuple p.flags) id p confirmation held) ≡ true
-apart_after id p confirmation held d a n = apart_by (belongs_in held p.tuple p.flags) id p confirmation held d a refl n
+    apart-push (without k held) _ (apart-filter (λ h. not (same_id k h)) held a) (ended_is_free held p.tuple p.flags k d a e) n
 
 -- ---- moments
 
@@ -203,28 +184,19 @@ pub none_later_than : (now later : ℕ) (held : List ConntrackEntry) → now ≤
 none_later_than now later [] le h = tt
 none_later_than now later (x ∷ held) le h = (omega (arith, h.0), none_later_than now later held le h.1)
 
-one_less : (b : Bool) (now : ℕ) (x : ConntrackEntry) (held : List ConntrackEntry) → x.last ≤ now → IsNoneLater now held
-    → IsNoneLater now (cond b (x ∷ held) held)
-one_less true now x held h k = (h, k)
-one_less false now x held h k = k
-
 none_later-filter : (test : ConntrackEntry → Bool) (now : ℕ) (held : List ConntrackEntry) → IsNoneLater now held
     → IsNoneLater now (filter test held)
 none_later-filter test now [] h = tt
-none_later-filter test now (x ∷ held) h = one_less (test x) now x (filter test held) h.0 (none_later-filter test now held h.1)
+none_later-filter test now (x ∷ held) h = grind (arith, h.0, none_later-filter test now held h.1)
 
 pub none_later-without : (id : ConnId) (now : ℕ) (held : List ConntrackEntry) → IsNoneLater now held → IsNoneLater now (without id held)
 none_later-without id now held h = none_later-filter (λ h. not (same_id id h)) now held h
 
 module _ (id : ConnId) (direction : Direction) (flags : Flags) (mark now : ℕ) where
-  touched_last : (b : Bool) (h : ConntrackEntry) → h.last ≤ now → (cond b (touched direction flags mark now h) h).last ≤ now
-  touched_last true h e = omega arith
-  touched_last false h e = e
-
   none_later-touched_at : (held : List ConntrackEntry) → IsNoneLater now held
       → IsNoneLater now (touched_at id direction flags mark now held)
   none_later-touched_at [] h = tt
-  none_later-touched_at (x ∷ held) h = (touched_last (same_id id x) x h.0, none_later-touched_at held h.1)
+  none_later-touched_at (x ∷ held) h = grind (arith, h.0, none_later-touched_at held h.1)
 
 none_later-push : (now : ℕ) (held : List ConntrackEntry) (new : ConntrackEntry) → IsNoneLater now held → new.last ≤ now
     → IsNoneLater now (held ++ new ∷ [])

@@ -1,21 +1,13 @@
 -- Lists that are equal except for ids have the same lookups.
-use Rattle.std.proofs.Common.{◌≡◌, ℕ, List, [], ◌∷◌, map, Option, None, Some, Bool, true, false, ◌&&◌, cond, refl, sym, ◌∙◌, ap}
+use Rattle.std.proofs.Common.{◌≡◌, ℕ, List, [], ◌∷◌, map, Option, None, Some, Bool, true, false, ◌&&◌, cond, refl, sym, ◌∙◌, ap, arith}
 use Rattle.conntrack.proofs.Names.{ConnId, ConntrackEntry, Ends, Flags, Found, Limits, Original, RepresentsAt, TrackedPacket, Tuple, belonging_by}
-use Rattle.conntrack.proofs.Names.{belonging_without_id, belongs, belongs_in, connection_ref, find, is_closing, is_incoming, is_lone_syn, is_taken, list_any}
+use Rattle.conntrack.proofs.Names.{belonging_without_id, belongs, belongs_in, connection_ref, find, is_closing, is_incoming, is_lone_syn, is_taken}
 use Rattle.conntrack.proofs.Names.{live_at, live_list, of_original, of_reply, option_map, ref_without_id, same_tuple, without_id}
+use Rattle.list_laws.specs.Lists.{any_of_map}
 
 pub option_map-find : {A B : Type 0} (f : A → B) (p : B → Bool) (xs : List A) → option_map f (find (λ x. p (f x)) xs) ≡ find p (map f xs)
 option_map-find f p [] = refl
-option_map-find f p (x ∷ xs) = found (p (f x)) x (option_map-find f p xs)
-  where
-    found : (b : Bool) (y : _) → option_map f (find (λ x. p (f x)) xs) ≡ find p (map f xs)
-        → option_map f (cond b (Some y) (find (λ x. p (f x)) xs)) ≡ cond b (Some (f y)) (find p (map f xs))
-    found true y e = refl
-    found false y e = e
-
-pub list_any-map : {A B : Type 0} (f : A → B) (p : B → Bool) (xs : List A) → list_any (λ x. p (f x)) xs ≡ list_any p (map f xs)
-list_any-map f p [] = refl
-list_any-map f p (x ∷ xs) = rw (list_any-map f p xs)
+option_map-find f p (x ∷ xs) = grind (arith, option_map-find f p xs)
 
 ends_or_found : (b : Bool) (id : ConnId) (found : _)
     → belonging_without_id (cond b (Ends id) (Found found))
@@ -49,7 +41,7 @@ same_belonging held others tuple flags e =
 pub same_taken : (held others : List ConntrackEntry) (tuple : Tuple) → map without_id held ≡ map without_id others
     → is_taken tuple held ≡ is_taken tuple others
 same_taken held others tuple e =
-    let by = list_any-map without_id (is_incoming tuple) in
+    let by = any_of_map (is_incoming tuple) without_id in
     by held ∙ ap (λ ns. is_taken tuple ns) e ∙ sym (by others)
 
 -- lookups in a table agree with those in the history

@@ -1,10 +1,11 @@
+use Rattle.std.proofs.Common.{refl}
 use Rattle.conntrack.specs.ConntrackEntry.{is_live}
 use Rattle.conntrack.proofs.Ids.{apart-filter}
-use Rattle.conntrack.proofs.Packets.{apart_after}
+use Rattle.conntrack.proofs.Packets.{apart_by}
 use Rattle.conntrack.proofs.laws.tuples_stay_disjoint.Goals as goal
 
 pub returns-clause-packet : goal.returns-clause-packet
-returns-clause-packet c = λ held id p confirmation d a n. apart_after id p confirmation held d a n
+returns-clause-packet c = λ held id p confirmation d a n. apart_by _ id p confirmation held d a refl n
 
 pub returns-clause-live : goal.returns-clause-live
 returns-clause-live c = λ limits held now a. apart-filter (is_live limits now) held a
