@@ -65,9 +65,13 @@ module _ (b : Belonging) (p : Arrival) (confirmation : Confirmation) (history : 
       × (connection_in c (entry_of b p confirmation ∷ history) ≡ touched_by b p confirmation (connection_in c history))) cs
   earlier [] h = tt
   earlier (c ∷ cs) h =
-      let other : eqb (length history) c ≡ false = ne_eqb _ _ (λ same. omega (arith, h.0)) in
-      ((rw other (not-or (is_that c (ended_by_packet b)) (is_ended c history)),
-      rw other (replayed-cons b p confirmation c (creation_of c history) (entries_of c history))), earlier cs h.1)
+      let other : eqb (length history) c ≡ false = ne_eqb _ _ (λ same. omega (arith, h.0)) in (
+        (
+          rw other (not-or (is_that c (ended_by_packet b)) (is_ended c history)),
+          rw other (replayed-cons b p confirmation c (creation_of c history) (entries_of c history)),
+        ),
+        earlier cs h.1,
+      )
 
 -- the connection that a packet creates
 created : (p : Arrival) (mark : ℕ) (reply : Tuple) (source dest : Option Mapping) (ended : Option ℕ)

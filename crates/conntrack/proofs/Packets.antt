@@ -2,10 +2,10 @@
 use Rattle.std.proofs.Common.{◌≡◌, ℕ, ◌≤◌, List, [], ◌∷◌, ◌++◌, map, length, Bool, true, not, refl, sym, subst, ◌∙◌, ap, arith}
 use Rattle.std.specs.Prelude.{filter}
 use Rattle.conntrack.proofs.Names.{Arrival, Belonging, Confirmation, Confirmed, ConnId, Connection, ConnectionRef, ConntrackEntry, Direction, DoesNotClash}
-use Rattle.conntrack.proofs.Names.{Ends, Flags, Found, IsNoneLater, Kind, Limits, NotFound, RepresentsAt, TrackedPacket, Tuple, Unconfirmed, after_end}
-use Rattle.conntrack.proofs.Names.{after_packet, begun_with, belonging_without_id, belongs, belongs_in, connection_of}
+use Rattle.conntrack.proofs.Names.{Ends, Flags, Found, IsNoneLater, Limits, NotFound, TrackedPacket, Tuple, Unconfirmed, after_end}
+use Rattle.conntrack.proofs.Names.{after_packet, begun_with, belongs, belongs_in}
 use Rattle.conntrack.proofs.Names.{entry_at, entry_of, filter-append, has_distinct_ids, has_id, have_disjoint_tuples, is_live}
-use Rattle.conntrack.proofs.Names.{length-map, live_at, live_list, map-append, no_flags, same_id, same_tuple, state_of, touched_at, with_begun, without}
+use Rattle.conntrack.proofs.Names.{live_at, live_list, map-append, no_flags, same_id, same_tuple, touched_at, with_begun, without}
 use Rattle.conntrack.proofs.Names.{without_id}
 use Rattle.conntrack.proofs.Ids.{apart-filter, apart-push, apart-touched_at, distinct-filter}
 use Rattle.conntrack.specs.steps.Changes.{unended}
@@ -134,35 +134,6 @@ pub live_list-distinct : (limits : Limits) (history : List TrackedPacket) (now :
 live_list-distinct limits history now = rw (live_list-unended limits history now)
     (distinct-filter (is_live limits now) (unended history) (unended-distinct history))
 
--- ---- representing a history
-
-pub represents_later : (limits : Limits) (held : List ConntrackEntry) (history : List TrackedPacket) (now later : ℕ)
-    → now ≤ later → RepresentsAt limits held history now → RepresentsAt limits held history later
-represents_later limits held history now later le s = record {
-  reached = omega (arith, s.reached);
-  live =
-      ap (map without_id) (sym (live_at-later limits now later held le))
-      ∙ live_alike limits (live_at limits now held) (live_list limits history now) later s.live
-      ∙ ap (map without_id) (sym (live_list-later limits history now later le));
-}
-
-pub represents_after : (limits : Limits) (held : List ConntrackEntry) (history : List TrackedPacket) (id : ConnId)
-    (p : Arrival) (confirmation : Confirmation) → has_distinct_ids held ≡ true
-    → RepresentsAt limits held history p.moment →
-    RepresentsAt limits (after_packet (belongs_in (live_at limits p.moment held) p.tuple p.flags) id p confirmation
-    held) (entry_of (belongs limits history p.moment p.tuple p.flags) p confirmation ∷ history) p.moment
-represents_after limits held history id p confirmation d s =
-    let live = live_at limits p.moment held in
-    let replayed = live_list limits history p.moment in
-    record {
-      reached = omega arith;
-      live =
-          ap (map without_id) (live_after limits (belongs_in live p.tuple p.flags) id p confirmation held d (found_is_held live p.tuple p.flags))
-          ∙ packet_alike live replayed s.live (distinct-filter (is_live limits p.moment) held d)
-          (live_list-distinct limits history p.moment) id (record { 0 = length history }) p confirmation
-          ∙ ap (map without_id) (sym (recorded limits p confirmation history));
-    }
-
 -- ---- tuples stay disjoint
 
 pub apart_by : (b : Belonging) (id : ConnId) (p : Arrival) (confirmation : Confirmation) (held : List ConntrackEntry)
@@ -220,24 +191,3 @@ none_later_after (Found found) id p (Confirmed mark reply source dest) held h =
 none_later_after NotFound id p confirmation held h = none_later_begun id p confirmation held h
 none_later_after (Ends k) id p confirmation held h =
     none_later_begun id p confirmation (without k held) (none_later-without k p.moment held h)
-
--- ---- properties of connections
-
-listed_without_id : (held : List ConntrackEntry) → map connection_of held ≡ map connection_of (map without_id held)
-listed_without_id [] = refl
-listed_without_id (x ∷ held) = ap (λ cs. connection_of x ∷ cs) (listed_without_id held)
-
-pub listed_alike : (held others : List ConntrackEntry) → map without_id held ≡ map without_id others
-    → map connection_of held ≡ map connection_of others
-listed_alike held others e = listed_without_id held ∙ ap (map connection_of) e ∙ sym (listed_without_id others)
-
-pub length_alike : (held others : List ConntrackEntry) → map without_id held ≡ map without_id others → length held ≡ length others
-length_alike held others e = sym (length-map held without_id) ∙ ap length e ∙ length-map others without_id
-
-state_without_id : (kind : Kind) (b : Belonging) → state_of kind b ≡ state_of kind (belonging_without_id b)
-state_without_id kind NotFound = refl
-state_without_id kind (Ends id) = refl
-state_without_id kind (Found found) = refl
-
-pub state_alike : (b c : Belonging) (kind : Kind) → belonging_without_id b ≡ belonging_without_id c → state_of kind b ≡ state_of kind c
-state_alike b c kind e = state_without_id kind b ∙ ap (state_of kind) e ∙ sym (state_without_id kind c)

@@ -1,5 +1,7 @@
+use Rattle.std.proofs.Common.{◌≡◌, List, [], ◌∷◌, map, length, refl, sym, ◌∙◌, ap}
+use Rattle.conntrack.proofs.Names.{Belonging, ConntrackEntry, Ends, Found, Kind, NotFound, belonging_without_id, connection_of, length-map, state_of, without_id}
 use Rattle.conntrack.proofs.Same.{same_belonging, same_taken}
-use Rattle.conntrack.proofs.Packets.{ended_alike, length_alike, listed_alike, live_alike, packet_alike, state_alike}
+use Rattle.conntrack.proofs.Packets.{ended_alike, live_alike, packet_alike}
 use Rattle.conntrack.proofs.laws.independent_of_ids.Goals as goal
 
 pub returns-clause-packet : goal.returns-clause-packet
@@ -9,19 +11,30 @@ pub returns-clause-ended : goal.returns-clause-ended
 returns-clause-ended c = λ held others tuple flags e d d'. ended_alike held others e d d' tuple flags
 
 pub returns-clause-belonging : goal.returns-clause-belonging
-returns-clause-belonging c = λ held others tuple flags e. same_belonging held others tuple flags e
+returns-clause-belonging c = same_belonging
+
+state_without_id : (kind : Kind) (b : Belonging) → state_of kind b ≡ state_of kind (belonging_without_id b)
+state_without_id kind NotFound = refl
+state_without_id kind (Ends id) = refl
+state_without_id kind (Found found) = refl
 
 pub returns-clause-state : goal.returns-clause-state
-returns-clause-state c = λ one other kind e. state_alike one other kind e
+returns-clause-state c = λ one other kind e.
+    state_without_id kind one ∙ ap (state_of kind) e ∙ sym (state_without_id kind other)
 
 pub returns-clause-taken : goal.returns-clause-taken
-returns-clause-taken c = λ held others tuple e. same_taken held others tuple e
+returns-clause-taken c = same_taken
 
 pub returns-clause-number : goal.returns-clause-number
-returns-clause-number c = λ held others e. length_alike held others e
+returns-clause-number c = λ held others e. sym (length-map held without_id) ∙ ap length e ∙ length-map others without_id
 
 pub returns-clause-live : goal.returns-clause-live
-returns-clause-live c = λ limits held others now e. live_alike limits held others now e
+returns-clause-live c = live_alike
+
+listed_without_id : (held : List ConntrackEntry) → map connection_of held ≡ map connection_of (map without_id held)
+listed_without_id [] = refl
+listed_without_id (x ∷ held) = ap (λ cs. connection_of x ∷ cs) (listed_without_id held)
 
 pub returns-clause-listed : goal.returns-clause-listed
-returns-clause-listed c = λ held others e. listed_alike held others e
+returns-clause-listed c = λ held others e.
+    listed_without_id held ∙ ap (map connection_of) e ∙ sym (listed_without_id others)

@@ -2,13 +2,13 @@ use Rattle.conntrack.proofs.Lookups.{ended_is_free, ends_is_held, found_is_held,
 use Rattle.conntrack.proofs.laws.looked_up.Goals as goal
 
 pub returns-clause-found : goal.returns-clause-found
-returns-clause-found c = λ held tuple flags found e. found_is_held held tuple flags found e
+returns-clause-found c = found_is_held
 
 pub returns-clause-ended : goal.returns-clause-ended
-returns-clause-ended c = λ held tuple flags id e. ends_is_held held tuple flags id e
+returns-clause-ended c = ends_is_held
 
 pub returns-clause-free : goal.returns-clause-free
-returns-clause-free c = λ held tuple flags e. nowhere_is_free held tuple flags e
+returns-clause-free c = nowhere_is_free
 
 pub returns-clause-freed : goal.returns-clause-freed
-returns-clause-freed c = λ held tuple flags id d a e. ended_is_free held tuple flags id d a e
+returns-clause-freed c = ended_is_free

@@ -1,10 +1,17 @@
-use Rattle.std.proofs.Common.{sym, ◌∙◌, ap, map}
-use Rattle.conntrack.specs.ConntrackEntry.{without_id}
-use Rattle.conntrack.proofs.Packets.{represents_later}
+use Rattle.std.proofs.Common.{sym, ◌∙◌, ap, map, arith}
+use Rattle.conntrack.proofs.Names.{live_at, live_list, without_id}
+use Rattle.conntrack.proofs.Changes.{live_at-later}
+use Rattle.conntrack.proofs.Packets.{live_alike, live_list-later}
 use Rattle.conntrack.proofs.laws.still_represents.Goals as goal
 
 pub returns-clause-later : goal.returns-clause-later
-returns-clause-later c = λ limits held history now later le s. represents_later limits held history now later le s
+returns-clause-later c = λ limits held history now later le s. record {
+  reached = omega (arith, s.reached);
+  live =
+      ap (map without_id) (sym (live_at-later limits now later held le))
+      ∙ live_alike limits (live_at limits now held) (live_list limits history now) later s.live
+      ∙ ap (map without_id) (sym (live_list-later limits history now later le));
+}
 
 pub returns-clause-live : goal.returns-clause-live
 returns-clause-live c = λ limits held others history now same s.
