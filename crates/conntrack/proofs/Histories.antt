@@ -1,11 +1,15 @@
 -- The connections of a history that no record removed, and what one more record does to them.
-use Rattle.std.proofs.Common.{◌≡◌, ℕ, suc, ◌<◌, List, [], ◌∷◌, ◌++◌, map, length, Option, None, Some, Bool, true, false, not, ◌&&◌, ◌||◌, cond, eqb, refl, ◌∙◌, ap, arith}
+use Rattle.std.proofs.Common.{◌≡◌, ℕ, suc, ◌<◌, List, [], ◌∷◌, ◌++◌, map, length, Option, None, Some, Bool, true, false, not, ◌&&◌, ◌||◌, cond, eqb, refl}
+use Rattle.std.proofs.Common.{◌∙◌, ap, arith}
 use Rattle.std.specs.Prelude.{filter}
 use Rattle.std.proofs.lemmas.List.{map-id}
-use Rattle.conntrack.proofs.Names.{AllByRecursion, Arrival, Begins, Belonging, Confirmation, Confirmed, ConnectionChange, ConntrackEntry, Creation, Ends, Found, Limits}
+use Rattle.conntrack.proofs.Names.{AllByRecursion, Arrival, Begins, Belonging, Confirmation, Confirmed, ConnectionChange, ConntrackEntry, Creation, Ends}
+use Rattle.conntrack.proofs.Names.{Found, Limits}
 use Rattle.conntrack.proofs.Names.{Mapping, NoChange, NotFound, Touches, TrackedPacket, Tuple, Unconfirmed, after_packet, append-nil, begun_in, connection_in}
-use Rattle.conntrack.proofs.Names.{change_of_packet, creation_of, ended_by_packet, entries_of, entry_of, eq-eqb, filter-append, has_distinct_ids, has_id, is_ended}
-use Rattle.conntrack.proofs.Names.{is_live, is_that, is_touch_of, live_at, live_list, map-append, nat_tests, ne_eqb, number_if_begins, or-false, replayed, same_id}
+use Rattle.conntrack.proofs.Names.{change_of_packet, creation_of, ended_by_packet, entries_of, entry_of, eq-eqb, filter-append, has_distinct_ids, has_id}
+use Rattle.conntrack.proofs.Names.{is_ended}
+use Rattle.conntrack.proofs.Names.{is_live, is_that, is_touch_of, live_at, live_list, map-append, nat_tests, ne_eqb, number_if_begins, or-false, replayed}
+use Rattle.conntrack.proofs.Names.{same_id}
 use Rattle.conntrack.proofs.Names.{touched, with_begun}
 use Rattle.conntrack.specs.steps.Changes.{unended}
 use Rattle.conntrack.proofs.Lists.{filter-map, filter-true, map-filter-change, map-filter-later}

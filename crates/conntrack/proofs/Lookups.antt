@@ -1,8 +1,12 @@
 -- Two lists that are equal except for ids: lookups find the same entry, and changes agree.
-use Rattle.std.proofs.Common.{◌≡◌, ℕ, List, [], ◌∷◌, ◌++◌, map, Option, None, Some, Bool, true, false, not, ◌&&◌, ◌||◌, cond, refl, sym, ◌∙◌, ap, subst, arith}
-use Rattle.conntrack.proofs.Names.{Belonging, ConnId, ConnectionRef, ConntrackEntry, Direction, Ends, Flags, Found, Limits, NotFound, Original, Reply, Tuple, and_parts}
-use Rattle.conntrack.proofs.Names.{belonging_by, belongs_in, connection_ref, eq-eqb, find, has_distinct_ids, has_id, have_disjoint_tuples, is_closing, is_live, live_at}
-use Rattle.conntrack.proofs.Names.{is_lone_syn, is_taken, map-append, nat_tests, not-true, of_original, of_reply, option_map, or_parts, same_id, same_tuple, same_tuple-true, touched}
+use Rattle.std.proofs.Common.{◌≡◌, ℕ, List, [], ◌∷◌, ◌++◌, map, Option, None, Some, Bool, true, false, not, ◌&&◌, ◌||◌, cond, refl, sym, ◌∙◌, ap, subst}
+use Rattle.std.proofs.Common.{arith}
+use Rattle.conntrack.proofs.Names.{Belonging, ConnId, ConnectionRef, ConntrackEntry, Direction, Ends, Flags, Found, Limits, NotFound, Original, Reply}
+use Rattle.conntrack.proofs.Names.{Tuple, and_parts}
+use Rattle.conntrack.proofs.Names.{belonging_by, belongs_in, connection_ref, eq-eqb, find, has_distinct_ids, has_id, have_disjoint_tuples, is_closing}
+use Rattle.conntrack.proofs.Names.{is_live, live_at}
+use Rattle.conntrack.proofs.Names.{is_lone_syn, is_taken, map-append, nat_tests, not-true, of_original, of_reply, option_map, or_parts, same_id, same_tuple}
+use Rattle.conntrack.proofs.Names.{same_tuple-true, touched}
 use Rattle.conntrack.proofs.Names.{touched_at, true≢false, without, without_id}
 use Rattle.conntrack.specs.ConntrackEntry.{is_original}
 use Rattle.conntrack.proofs.Lists.{list_any_either, list_any_found}

@@ -12,7 +12,8 @@ use Rattle.conntrack.specs.steps.Changes.{unended}
 use Rattle.conntrack.proofs.Histories.{live_list-unended, unended-distinct, unended_after}
 use Rattle.conntrack.proofs.Lists.{filter-map, filter-swap}
 use Rattle.conntrack.proofs.Changes.{live_at-later, live_at-touched_at, live_at_last}
-use Rattle.conntrack.proofs.Lookups.{EndsThere, FoundThere, IsAt, Nowhere, Place, changed_alike, ended_is_free, found_is_held, has_tuple, is_at, nowhere_is_free}
+use Rattle.conntrack.proofs.Lookups.{EndsThere, FoundThere, IsAt, Nowhere, Place, changed_alike, ended_is_free, found_is_held, has_tuple, is_at}
+use Rattle.conntrack.proofs.Lookups.{nowhere_is_free}
 use Rattle.conntrack.proofs.Lookups.{place_in, touched_change, without_change}
 
 -- the entry that a lookup found is in the list

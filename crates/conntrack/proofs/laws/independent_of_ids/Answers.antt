@@ -1,5 +1,6 @@
 use Rattle.std.proofs.Common.{◌≡◌, List, [], ◌∷◌, map, length, refl, sym, ◌∙◌, ap}
-use Rattle.conntrack.proofs.Names.{Belonging, ConntrackEntry, Ends, Found, Kind, NotFound, belonging_without_id, connection_of, length-map, state_of, without_id}
+use Rattle.conntrack.proofs.Names.{Belonging, ConntrackEntry, Ends, Found, Kind, NotFound, belonging_without_id, connection_of, length-map, state_of}
+use Rattle.conntrack.proofs.Names.{without_id}
 use Rattle.conntrack.proofs.Same.{same_belonging, same_taken}
 use Rattle.conntrack.proofs.Packets.{ended_alike, live_alike, packet_alike}
 use Rattle.conntrack.proofs.laws.independent_of_ids.Goals as goal
