@@ -1,10 +1,10 @@
 -- The list of mappings that entries represent.
 use Rattle.std.specs.Prelude.{◌==◌, ◌&&◌, replicate}
 use Rattle.std.proofs.Common.{◌≡◌, ℕ, ◌+◌, ◌*◌, Bool, true, false, cond, List, [], ◌∷◌, ◌++◌, refl, sym, ◌∙◌, ap, subst, inl, inr, arith}
-use Rattle.nat_mapping.proofs.Names.{CountsHolders, HoldsSame, IsDistinct, IsDistinct-tail, IsUnique, MappedPort, Mapping, SourceKey, Sources, cases_Bool, get}
+use Rattle.nat_mapping.proofs.Names.{CountsHolders, IsDistinct, IsDistinct-tail, IsUnique, MappedPort, Mapping, SourceKey, Sources, cases_Bool, get}
 use Rattle.nat_mapping.proofs.Names.{held_by, holders_at, holders_of, keys_of, lookup, lookup-none, lookup_head, lookup_tail, mapping_at, none_past_head}
 use Rattle.nat_mapping.proofs.Names.{same_endpoint, same_kind, same_mapping, same_source, source_key_of, sum_by, sum_by-append, sum_by-replicate}
-use Rattle.nat_mapping.proofs.Equal.{source_test, equivalence}
+use Rattle.nat_mapping.proofs.Equal.{source_parts, source_test, equivalence}
 
 regroup : (a b c d : Bool) → (a && (b && (c && d))) ≡ ((a && (b && c)) && d)
 regroup true true true d = refl
@@ -12,10 +12,11 @@ regroup true true false d = refl
 regroup true false c d = refl
 regroup false b c d = refl
 
-same_by : (m : Mapping) (key : SourceKey) (h : MappedPort)
+pub same_by : (m : Mapping) (key : SourceKey) (h : MappedPort)
     → same_mapping m (mapping_at key h) ≡ (same_source (source_key_of m) key && m.external.port == h.port)
 same_by m key h = regroup (same_kind m.kind key.kind) (same_endpoint m.internal key.internal)
     (m.external.address == key.address) (m.external.port == h.port)
+    ∙ ap (λ b. b && m.external.port == h.port) (sym (source_parts (source_key_of m) key))
 
 times : (b : Bool) (n : ℕ) → n * cond b 1 0 ≡ cond b n 0
 times true n = omega arith
@@ -61,11 +62,6 @@ count_entries (e ∷ es) distinct m =
 -- the list that a table represents has each mapping as often as the table says
 pub counts_of : (sources : Sources) → IsUnique same_source sources → CountsHolders (get same_source sources) (held_by sources.entries)
 counts_of sources unique m = count_entries sources.entries unique m
-
--- so does each list with the same elements
-pub counts_same : (sources : Sources) → IsUnique same_source sources → (held now : List Mapping)
-    → held_by sources.entries ≡ now → HoldsSame held now → CountsHolders (get same_source sources) held
-counts_same sources unique held now is same m = same m ∙ ap (holders_of m) (sym is) ∙ counts_of sources unique m
 
 pub distinct_none : (es : List (SourceKey × MappedPort)) → es ≡ [] → IsDistinct same_source (keys_of es)
 unfolding IsDistinct

@@ -1,35 +1,36 @@
--- Equal keys.
-use Rattle.std.proofs.Common.{◌≡◌, ℕ, ◌&&◌, Bool, true, false, eqb, refl, sym, ◌∙◌, ap, subst, ◌⊎◌, inl, inr}
-use Rattle.nat_mapping.proofs.Names.{Endpoint, IsEquivalence, Mapping, and_from, and_parts, both_ways, cases_Bool, eq-eqb, eqb-true, false_from_ne_true}
-use Rattle.nat_mapping.proofs.Names.{same_endpoint, same_endpoint-refl, same_endpoint-true, same_inbound, same_kind, same_kind-refl, same_kind-true}
-use Rattle.nat_mapping.proofs.Names.{same_mapping, same_pool, same_source}
+-- Equal keys and mappings.
+use Rattle.std.proofs.Common.{◌≡◌, ℕ, ◌&&◌, Bool, true, false, eqb, refl, sym, ◌∙◌, ap, subst, ◌⊎◌, inl, inr, rules}
+use Rattle.list_laws.specs.Tests.{same-tests}
+use Rattle.nat_mapping.proofs.Names.{Endpoint, InboundKey, IsEquivalence, PoolKey, SourceKey, and_from, and_parts, both_ways, cases_Bool, eq-eqb}
+use Rattle.nat_mapping.proofs.Names.{eqb-true, false_from_ne_true, nat_tests, same_endpoint, same_endpoint-refl, same_endpoint-true, same_inbound, same_kind}
+use Rattle.nat_mapping.proofs.Names.{same_kind-refl, same_kind-true, same_mapping, same_pool, same_source}
 
 -- a test passes where the two are equal, and only there
 pub record IsTest {K : Type 0} (e : K → K → Bool) : Type 0 where
   pub same : (x : K) → e x x ≡ true
   pub exact : (x y : K) → e x y ≡ true → x ≡ y
 
-pub equivalence : {K : Type 0} (e : K → K → Bool) → IsTest e → IsEquivalence e
-equivalence {K} e test = record {
-  refl = test.same;
-  symm = λ x y. elim (cases_Bool (e x y)) [
-    | inl t ↦ t ∙ sym (let P : K → Type 0 = λ w. e w x ≡ true in subst P (test.exact x y t) (test.same x))
-    | inr f ↦ f ∙ sym (false_from_ne_true (e y x)
-        (λ t. both_ways (e x y) f (let P : K → Type 0 = λ w. e w y ≡ true in subst P (test.exact y x t) (test.same y))))
-  ];
-  congr = λ x y z t. ap (λ w. e w z) (test.exact x y t);
-}
-
--- the two are equal or they are not
-pub decide : {K : Type 0} (e : K → K → Bool) → IsTest e → (x y : K) → (x ≡ y) ⊎ (¬ (x ≡ y))
-decide {K} e test x y =
-    elim (cases_Bool (e x y)) [
-      | inl t ↦ inl (test.exact x y t)
-      | inr f ↦ inr (λ s. both_ways (e x y) f (let P : K → Type 0 = λ w. e x w ≡ true in subst P s (test.same x)))
-    ]
+pub here_true : {K : Type 0} (e : K → K → Bool) → IsTest e → (x y : K) → x ≡ y → e x y ≡ true
+here_true e test x y same = ap (e x) (sym same) ∙ test.same x
 
 pub apart_false : {K : Type 0} (e : K → K → Bool) → IsTest e → (x y : K) → ¬ (x ≡ y) → e x y ≡ false
 apart_false e test x y apart = false_from_ne_true (e x y) (λ t. apart (test.exact x y t))
+
+-- the two are equal or they are not
+pub decide : {K : Type 0} (e : K → K → Bool) → IsTest e → (x y : K) → (x ≡ y) ⊎ (¬ (x ≡ y))
+decide e test x y =
+    elim (cases_Bool (e x y)) [
+      | inl t ↦ inl (test.exact x y t)
+      | inr f ↦ inr (λ same. both_ways (e x y) f (here_true e test x y same))
+    ]
+
+pub equivalence : {K : Type 0} (e : K → K → Bool) → IsTest e → IsEquivalence e
+equivalence e test = record {
+  refl = test.same;
+  symm = λ x y. same-tests (e x y) (e y x) (λ t. here_true e test y x (sym (test.exact x y t)))
+      (λ t. here_true e test x y (sym (test.exact y x t)));
+  congr = λ x y z t. ap (λ w. e w z) (test.exact x y t);
+}
 
 pub kind_test : IsTest same_kind
 kind_test = record { same = same_kind-refl; exact = same_kind-true }
@@ -50,28 +51,35 @@ pair_test p q f g make whole one other = record {
       sym (whole x) ∙ ap (λ a. make a (g x)) (one.exact _ _ parts.0) ∙ ap (make (f y)) (other.exact _ _ parts.1) ∙ whole y;
 }
 
+-- ---- the tests that the keys' types derive
+
+pub source_parts : (a b : SourceKey) → same_source a b ≡ (same_kind a.kind b.kind && (same_endpoint a.internal b.internal && eqb a.address b.address))
+source_parts a b = search (rules, nat_tests)
+
+pub inbound_parts : (a b : InboundKey) → same_inbound a b ≡ (same_kind a.kind b.kind && same_endpoint a.external b.external)
+inbound_parts a b = search (rules, nat_tests)
+
+pub pool_parts : (a b : PoolKey) → same_pool a b ≡ (same_kind a.kind b.kind && eqb a.address b.address)
+pool_parts a b = search (rules, nat_tests)
+
 pub source_test : IsTest same_source
-source_test =
-    pair_test {B = Endpoint × ℕ} same_kind (λ x y. same_endpoint x.0 y.0 && eqb x.1 y.1) (λ k. k.kind) (λ k. (k.internal, k.address))
+source_test = subst IsTest (λ i. λ a b. sym (source_parts a b) i)
+    (pair_test {B = Endpoint × ℕ} same_kind (λ x y. same_endpoint x.0 y.0 && eqb x.1 y.1) (λ k. k.kind) (λ k. (k.internal, k.address))
     (λ kind rest. record { kind = kind; internal = rest.0; address = rest.1 }) (λ k. refl) kind_test
-    (pair_test {K = Endpoint × ℕ} same_endpoint eqb (λ x. x.0) (λ x. x.1) (λ a b. (a, b)) (λ x. refl) endpoint_test number_test)
+    (pair_test {K = Endpoint × ℕ} same_endpoint eqb (λ x. x.0) (λ x. x.1) (λ a b. (a, b)) (λ x. refl) endpoint_test number_test))
 
 pub inbound_test : IsTest same_inbound
-inbound_test = pair_test same_kind same_endpoint (λ k. k.kind) (λ k. k.external)
-    (λ kind external. record { kind = kind; external = external }) (λ k. refl) kind_test endpoint_test
+inbound_test = subst IsTest (λ i. λ a b. sym (inbound_parts a b) i)
+    (pair_test same_kind same_endpoint (λ k. k.kind) (λ k. k.external) (λ kind external. record { kind = kind; external = external }) (λ k. refl)
+    kind_test endpoint_test)
 
 pub pool_test : IsTest same_pool
-pool_test = pair_test same_kind eqb (λ k. k.kind) (λ k. k.address) (λ kind address. record { kind = kind; address = address }) (λ k. refl)
-    kind_test number_test
+pool_test = subst IsTest (λ i. λ a b. sym (pool_parts a b) i)
+    (pair_test same_kind eqb (λ k. k.kind) (λ k. k.address) (λ kind address. record { kind = kind; address = address }) (λ k. refl)
+    kind_test number_test)
 
-mapping_test : IsTest same_mapping
+pub mapping_test : IsTest same_mapping
 mapping_test =
     pair_test {B = Endpoint × Endpoint} same_kind (λ x y. same_endpoint x.0 y.0 && same_endpoint x.1 y.1) (λ m. m.kind) (λ m. (m.internal, m.external))
     (λ kind rest. record { kind = kind; internal = rest.0; external = rest.1 }) (λ m. refl) kind_test
     (pair_test {K = Endpoint × Endpoint} same_endpoint same_endpoint (λ x. x.0) (λ x. x.1) (λ a b. (a, b)) (λ x. refl) endpoint_test endpoint_test)
-
-pub mapping_same : (m : Mapping) → same_mapping m m ≡ true
-mapping_same = mapping_test.same
-
-pub mapping_exact : (a b : Mapping) → same_mapping a b ≡ true → a ≡ b
-mapping_exact = mapping_test.exact

@@ -1,14 +1,11 @@
 pub mod Names
 pub mod Equal
-pub mod Same
 pub mod Sets
 pub mod WhichKinds
 pub mod Bits
 pub mod Lists
+pub mod Lookups
 pub mod OneMore
-pub mod Alike
-pub mod Answers
-pub mod Changes
 pub mod Entries
-pub mod Whole
+pub mod Represented
 pub mod PoolCounts

@@ -1,22 +1,9 @@
 -- What a search of the list finds is in it.
-use Rattle.std.proofs.Common.{◌≡◌, ℕ, ◌<◌, Bool, true, false, cond, List, [], ◌∷◌, Some, None, sym, ap, ◌∙◌, subst, inl, inr, arith}
+use Rattle.std.proofs.Common.{◌≡◌, ℕ, ◌<◌, Bool, true, cond, List, [], ◌∷◌, Some, None, sym, ap, ◌∙◌, subst, inl, inr, arith}
 use Rattle.list_laws.specs.Decisions.{Contains-cases, Contains-none, Contains-there}
 use Rattle.nat_mapping.proofs.Names.{Contains, Contains-head, HoldsSame, Mapping, both_ways, cases_Bool, cond-false, cond-true, find, holders_cons}
 use Rattle.nat_mapping.proofs.Names.{holders_none, holders_of, none-some, same_Some, same_mapping}
-use Rattle.nat_mapping.proofs.Equal.{mapping_same, mapping_exact}
-
-pub holders_here : (m : Mapping) (held : List Mapping) → 0 < holders_of m (m ∷ held)
-holders_here m held =
-    let one : ◌≡◌ {A = ℕ} (cond (same_mapping m m) 1 0) 1 =
-    cond-true (same_mapping m m) 1 0 (mapping_same m) in omega (arith, one, holders_cons m m held)
-
-pub holders_more : (m x : Mapping) (held : List Mapping) → 0 < holders_of m held → 0 < holders_of m (x ∷ held)
-holders_more m x held some = omega (arith, holders_cons m x held)
-
-pub holders_past : (m x : Mapping) (held : List Mapping) → same_mapping m x ≡ false → holders_of m (x ∷ held) ≡ holders_of m held
-holders_past m x held other =
-    let none : ◌≡◌ {A = ℕ} (cond (same_mapping m x) 1 0) 0 =
-    cond-false (same_mapping m x) 1 0 other in omega (arith, none, holders_cons m x held)
+use Rattle.nat_mapping.proofs.Equal.{apart_false, decide, here_true, mapping_test}
 
 -- what a search finds is in the list and passes
 pub found_among : {X : Type 0} (p : X → Bool) (xs : List X) (x : X) → find p xs ≡ Some x → Contains xs x × (p x ≡ true)
@@ -49,19 +36,40 @@ pub has_holder : (m : Mapping) (held : List Mapping) → Contains held m → 0 <
 has_holder m [] among = absurd (Contains-none m among)
 has_holder m (x ∷ held) among =
     elim (Contains-cases x m held among) [
-      | inl e ↦ let P : Mapping → Type 0 = λ y. 0 < holders_of y (x ∷ held) in subst P e (holders_here x held)
-      | inr behind ↦ holders_more m x held (has_holder m held behind)
+      | inl same ↦
+          let one : ◌≡◌ {A = ℕ} (cond (same_mapping m x) 1 0) 1 =
+          cond-true (same_mapping m x) 1 0 (here_true same_mapping mapping_test m x (sym same)) in omega (arith, one, holders_cons m x held)
+      | inr behind ↦ omega (arith, has_holder m held behind, holders_cons m x held)
     ]
 
 pub is_among : (m : Mapping) (held : List Mapping) → 0 < holders_of m held → Contains held m
 is_among m [] some = absurd (omega (arith, some, holders_none m))
 is_among m (x ∷ held) some =
-    elim (cases_Bool (same_mapping m x)) [
-      | inl t ↦ subst (Contains (x ∷ held)) (sym (mapping_exact m x t)) (Contains-head x held)
-      | inr f ↦ Contains-there x m held (is_among m held (omega (arith, some, holders_past m x held f)))
+    elim (decide same_mapping mapping_test m x) [
+      | inl same ↦ subst (Contains (x ∷ held)) (sym same) (Contains-head x held)
+      | inr apart ↦
+          let none : ◌≡◌ {A = ℕ} (cond (same_mapping m x) 1 0) 0 =
+          cond-false (same_mapping m x) 1 0 (apart_false same_mapping mapping_test m x apart) in
+          Contains-there x m held (is_among m held (omega (arith, some, none, holders_cons m x held)))
     ]
 
--- ---- one more holder in both
+-- ---- lists with the same mappings
 
+-- one more holder in both
 pub more_alike : (one other : List Mapping) (m : Mapping) → HoldsSame one other → HoldsSame (m ∷ one) (m ∷ other)
 more_alike one other m same q = omega (arith, holders_cons q m one, holders_cons q m other, same q)
+
+-- one holder more of a mapping that is there, too
+pub record SameMembers (one other : List Mapping) : Type 0 where
+  pub there : (m : Mapping) → Contains one m → Contains other m
+  pub back : (m : Mapping) → Contains other m → Contains one m
+
+pub contains_alike : (one other : List Mapping) → HoldsSame one other → (m : Mapping) → Contains one m → Contains other m
+contains_alike one other same m among = is_among m other (omega (arith, same m, has_holder m one among))
+
+pub members_alike : (one other : List Mapping) → HoldsSame one other → SameMembers one other
+members_alike one other same =
+    record { there = contains_alike one other same; back = contains_alike other one (λ m. sym (same m)) }
+
+pub members_flip : (one other : List Mapping) → SameMembers one other → SameMembers other one
+members_flip one other same = record { there = same.back; back = same.there }

@@ -19,11 +19,12 @@ pub use Rattle.nat_mapping.specs.declared.keys.SourceKey.{SourceKey}
 pub use Rattle.nat_mapping.specs.declared.mappings.MapError.{MapError}
 pub use Rattle.nat_mapping.specs.declared.mappings.MapError.TheVariants.{NoPort}
 pub use Rattle.nat_mapping.specs.declared.pools.Pools.{Pools}
-pub use Rattle.nat_mapping.specs.steps.Consistent.{ArePorts, CountsHolders, Inbounds, IsConsistent, IsSound, Sources, holders_at}
+pub use Rattle.nat_mapping.specs.steps.Consistent.{ArePorts, CountsHolders, Inbounds, IsConsistent, IsTable, Sources, holders_at}
 unfoldable pub use Rattle.nat_mapping.specs.steps.Consistent.{held_by}
 pub use Rattle.nat_mapping.specs.steps.Holders.{holders_cons, holders_none}
-pub use Rattle.nat_mapping.specs.steps.Keys.{inbound_at, inbound_key_of, mapping_at, one_fewer, pool_key_of, same_inbound, same_pool, same_source, source_at}
-pub use Rattle.nat_mapping.specs.steps.Keys.{source_key_of}
+pub use Rattle.nat_mapping.specs.steps.Keys.{inbound_at, inbound_key_of, mapping_at, one_fewer, pool_key_of}
+pub use Rattle.nat_mapping.specs.steps.Keys.{one_more, source_key_of}
+pub use Rattle.nat_mapping.specs.steps.KeyTests.{same_inbound, same_pool, same_source}
 pub use Rattle.nat_mapping.specs.steps.Pooled.{AreUsed, IsPooled, orders_in, taken_in}
 pub use Rattle.nat_mapping.specs.steps.Ports.{IsSpare, is_taken_by, order_by}
 unfoldable pub use Rattle.port_pool.specs.Candidates.{candidates}

@@ -1,5 +1,6 @@
 -- Definitions for private functions: no public contract cites them.
 pub mod Keys
+pub mod KeyTests
 pub mod Ports
 pub mod Pooled
 pub mod Consistent

@@ -5,7 +5,8 @@ ghost use Rattle.std.specs.HashMap.{get};
 ghost use Rattle.ip_headers.specs.declared.tuple.Mapping.{Mapping as Mapped};
 ghost use Rattle.port_pool.specs.Candidates.{candidates};
 ghost use Rattle.nat_mapping.specs.Mappings.{HoldsSame, IsOneToOne, holders_of, inbound_of, order_of, pool_count_of, source_of};
-ghost use Rattle.nat_mapping.specs.steps.Keys.{inbound_at, same_inbound};
+ghost use Rattle.nat_mapping.specs.steps.Keys.{inbound_at};
+ghost use Rattle.nat_mapping.specs.steps.KeyTests.{same_inbound};
 ghost use Rattle.nat_mapping.specs.steps.Consistent.{ArePorts};
 ghost use Rattle.nat_mapping.specs.steps.Pooled.{taken_in, IsPooled};
 

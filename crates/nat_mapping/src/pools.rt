@@ -7,7 +7,7 @@ ghost use Rattle.std.specs.HashMap.{get, spare, IsUnique};
 ghost use Rattle.port_pool.specs.Candidates.{candidates};
 ghost use Rattle.nat_mapping.specs.declared.keys.PoolKey.{PoolKey as Key};
 ghost use Rattle.nat_mapping.specs.Mappings.{order_of, has_pool};
-ghost use Rattle.nat_mapping.specs.steps.Keys.{same_pool};
+ghost use Rattle.nat_mapping.specs.steps.KeyTests.{same_pool};
 ghost use Rattle.nat_mapping.specs.steps.Ports.{is_taken_by, order_by, IsSpare};
 
 use crate::keys::{PoolKey, has_pool, order};
@@ -201,7 +201,6 @@ fn start_pool(pool: Pool, order: Order, port: u16) -> Pool
 }
 
 /// Adds a pool.
-#[tactic(auto, using(crate::proofs::Same::pool_fun))]
 fn insert_pool(pools: &mut HashMap<PoolKey, Pool, WordState>, key: PoolKey, pool: Pool)
     requires { 0 < spare pools.old }
     ensures pools { (q : Key) → get same_pool pools.new q
@@ -216,7 +215,6 @@ fn insert_pool(pools: &mut HashMap<PoolKey, Pool, WordState>, key: PoolKey, pool
 }
 
 /// Removes a pool.
-#[tactic(auto, using(crate::proofs::Same::pool_fun))]
 fn remove_pool(pools: &mut HashMap<PoolKey, Pool, WordState>, key: PoolKey) -> Option<Pool>
     ensures value { result ≡ get same_pool pools.old key }
     ensures pools { (q : Key) → get same_pool pools.new q

@@ -3,7 +3,8 @@ ghost use Rattle.std.specs.Prelude.{◌≡◌, ◌+◌, ◌<◌, ◌≤◌, IfSo
 ghost use Rattle.std.specs.HashMap.{get, spare, IsUnique};
 ghost use Rattle.nat_mapping.specs.declared.keys.SourceKey.{SourceKey as ByInternal};
 ghost use Rattle.nat_mapping.specs.declared.keys.InboundKey.{InboundKey as ByExternal};
-ghost use Rattle.nat_mapping.specs.steps.Keys.{one_fewer, one_more, same_inbound, same_source};
+ghost use Rattle.nat_mapping.specs.steps.Keys.{one_fewer, one_more};
+ghost use Rattle.nat_mapping.specs.steps.KeyTests.{same_inbound, same_source};
 
 use crate::keys::{InboundKey, MappedPort, SourceKey};
 use ip_headers::Endpoint;
@@ -13,7 +14,6 @@ use std::hash::Hash;
 use word_hash::WordState;
 
 /// A mapping's port and holders.
-#[tactic(auto, using(crate::proofs::Same::source_fun))]
 pub(crate) fn find_source(
     sources: &HashMap<SourceKey, MappedPort, WordState>,
     key: SourceKey,
@@ -24,7 +24,6 @@ pub(crate) fn find_source(
 }
 
 /// The internal endpoint behind an external one.
-#[tactic(auto, using(crate::proofs::Same::inbound_fun))]
 pub(crate) fn find_inbound(
     inbounds: &HashMap<InboundKey, Endpoint, WordState>,
     key: InboundKey,

@@ -4,15 +4,16 @@ use Rattle.std.specs.Prelude.{None, is_some, if◌then◌else◌, replicate}
 use Rattle.std.specs.HashMap.{HashMap, get, IsUnique}
 use Rattle.word_hash.specs.declared.WordState.{WordState}
 use Rattle.ip_headers.specs.declared.tuple.Endpoint.{Endpoint}
+use Rattle.ip_headers.specs.declared.tuple.Kind.{Kind}
 use Rattle.ip_headers.specs.declared.tuple.Mapping.{Mapping}
 use Rattle.nat_mapping.specs.declared.keys.SourceKey.{SourceKey}
 use Rattle.nat_mapping.specs.declared.keys.InboundKey.{InboundKey}
 use Rattle.nat_mapping.specs.declared.keys.PoolKey.{PoolKey}
 use Rattle.nat_mapping.specs.declared.keys.MappedPort.{MappedPort}
 use Rattle.nat_mapping.specs.declared.pools.Pools.{Pools}
-use Rattle.nat_mapping.specs.Mappings.{holders_of, has_pool}
-use Rattle.nat_mapping.specs.steps.Keys.{inbound_at, inbound_key_of, mapping_at, same_inbound}
-use Rattle.nat_mapping.specs.steps.Keys.{same_source, source_at, source_key_of}
+use Rattle.nat_mapping.specs.Mappings.{IsOneToOne, holders_of, has_pool, inbound_of}
+use Rattle.nat_mapping.specs.steps.KeyTests.{same_inbound, same_source}
+use Rattle.nat_mapping.specs.steps.Keys.{inbound_at, mapping_at, source_key_of}
 use Rattle.nat_mapping.specs.steps.Pooled.{taken_in, IsPooled}
 
 abbrev pub Sources : Type 0
@@ -40,17 +41,16 @@ abbrev pub ArePorts : (InboundKey → Option Endpoint) → (PoolKey → ℕ → 
 ArePorts inbounds taken = (key : PoolKey) (port : ℕ) → has_pool key.kind ≡ true
     → taken key port ≡ is_some (inbounds (inbound_at key port))
 
--- the two tables and the pools agree
-pub record IsSound (sources : SourceKey → Option MappedPort) (inbounds : InboundKey → Option Endpoint)
-    (taken : PoolKey → ℕ → Bool) : Type 0 where
-  pub held : (key : SourceKey) (h : MappedPort) → sources key ≡ Some h → 0 < h.holders
-  pub out : (key : SourceKey) (h : MappedPort) → sources key ≡ Some h
-      → inbounds (inbound_key_of (mapping_at key h)) ≡ Some key.internal
-  pub back : (key : InboundKey) (internal : Endpoint) → inbounds key ≡ Some internal
-      → (h : MappedPort) × ((sources (source_at key internal) ≡ Some h) × (h.port ≡ key.external.port))
-  pub ports : ArePorts inbounds taken
-
-pub record IsConsistent (sources : Sources) (inbounds : Inbounds) (pools : Pools) : Type 0 where
+-- each entry is of the mappings held
+pub record IsTable (sources : Sources) : Type 0 where
   pub unique : IsUnique same_source sources
-  pub sound : IsSound (get same_source sources) (get same_inbound inbounds) (taken_in pools)
+  pub live : (key : SourceKey) (h : MappedPort) → get same_source sources key ≡ Some h → 0 < h.holders
+
+-- the mappings held are one to one, and the other table and the pools agree
+pub record IsConsistent (sources : Sources) (inbounds : Inbounds) (pools : Pools) : Type 0 where
+  pub table : IsTable sources
+  pub one_to_one : IsOneToOne (held_by sources.entries)
+  pub inbound : (kind : Kind) (external : Endpoint)
+      → get same_inbound inbounds (record { kind = kind; external = external }) ≡ inbound_of kind external (held_by sources.entries)
+  pub ports : ArePorts (get same_inbound inbounds) (taken_in pools)
   pub pooled : IsPooled pools

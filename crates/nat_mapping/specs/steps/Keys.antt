@@ -1,10 +1,8 @@
 -- The keys of mappings.
-use Rattle.std.specs.Prelude.{ℕ, ◌+◌, ◌-◌, Bool, ◌==◌, ◌&&◌, List, ◌++◌, Option, Some, None}
+use Rattle.std.specs.Prelude.{ℕ, ◌+◌, ◌-◌, List, ◌++◌, Option, Some, None}
 use Rattle.std.specs.Hash as fed
-use Rattle.ip_headers.specs.declared.tuple.Endpoint.{Endpoint}
 use Rattle.ip_headers.specs.declared.tuple.Mapping.{Mapping}
 use Rattle.ip_headers.specs.HashWords.{hash_word}
-use Rattle.ip_headers.specs.Same.{same_kind, same_endpoint}
 use Rattle.nat_mapping.specs.declared.keys.SourceKey.{SourceKey}
 use Rattle.nat_mapping.specs.declared.keys.InboundKey.{InboundKey}
 use Rattle.nat_mapping.specs.declared.keys.PoolKey.{PoolKey}
@@ -18,15 +16,6 @@ inbound_key_of m = record { kind = m.kind; external = m.external }
 
 abbrev pub pool_key_of : Mapping → PoolKey
 pool_key_of m = record { kind = m.kind; address = m.external.address }
-
-abbrev pub same_source : SourceKey → SourceKey → Bool
-same_source a b = same_kind a.kind b.kind && (same_endpoint a.internal b.internal && a.address == b.address)
-
-abbrev pub same_inbound : InboundKey → InboundKey → Bool
-same_inbound a b = same_kind a.kind b.kind && same_endpoint a.external b.external
-
-abbrev pub same_pool : PoolKey → PoolKey → Bool
-same_pool a b = same_kind a.kind b.kind && a.address == b.address
 
 -- the mapping under a key
 abbrev pub mapping_at : SourceKey → MappedPort → Mapping
@@ -48,10 +37,6 @@ one_fewer mapped = record { port = mapped.port; holders = mapped.holders - 1 }
 -- the key of a port of a pool
 abbrev pub inbound_at : PoolKey → ℕ → InboundKey
 inbound_at key port = record { kind = key.kind; external = record { address = key.address; port = port } }
-
--- the key of the mapping between an external endpoint and an internal one
-abbrev pub source_at : InboundKey → Endpoint → SourceKey
-source_at key internal = record { kind = key.kind; internal = internal; address = key.external.address }
 
 -- ---- the writes of a key's hash
 

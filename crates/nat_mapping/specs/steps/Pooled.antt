@@ -5,7 +5,7 @@ use Rattle.port_pool.specs.declared.order.Order.{Order}
 use Rattle.nat_mapping.specs.declared.keys.PoolKey.{PoolKey}
 use Rattle.nat_mapping.specs.declared.pools.Pools.{Pools}
 use Rattle.nat_mapping.specs.Mappings.{order_of, has_pool}
-use Rattle.nat_mapping.specs.steps.Keys.{same_pool}
+use Rattle.nat_mapping.specs.steps.KeyTests.{same_pool}
 use Rattle.nat_mapping.specs.steps.Ports.{is_taken_by, order_by, IsSpare}
 
 abbrev pub taken_in : Pools → PoolKey → ℕ → Bool

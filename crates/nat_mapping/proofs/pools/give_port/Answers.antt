@@ -1,6 +1,5 @@
-use Rattle.std.proofs.Common.{◌≡◌, ℕ, Option, subst, Some, cond, Bool, true, false, sym, ap, is_some, ◌∙◌}
-use Rattle.nat_mapping.proofs.Names.{OnFalse, OnTrue, Pool, PoolKey, get, is_taken_by, same_pool}
-use Rattle.nat_mapping.proofs.Same.{pool_fun}
+use Rattle.std.proofs.Common.{◌≡◌, ℕ, Option, subst, Some, true, false, sym, ap, is_some, ◌∙◌}
+use Rattle.nat_mapping.proofs.Names.{OnFalse, OnTrue, Pool, get, is_taken_by, same_pool}
 use Rattle.nat_mapping.proofs.Equal.{pool_test}
 use Rattle.nat_mapping.proofs.Sets.{Sets, sets_by}
 use Rattle.nat_mapping.proofs.Bits.{set_one, set_orders}
@@ -9,17 +8,12 @@ use Rattle.nat_mapping.proofs.pools.give_port.Goals.{In-Some, After-give}
 
 -- its pool, before and after
 was : (c : In-Some) → get same_pool c.args.pools.now c.args.key ≡ Some c.in-Some.pool.now
-was c =
-    let Q : (PoolKey → PoolKey → Bool) → Type 0 = λ eq. Some c.in-Some.pool.now ≡ get eq c.args.pools.now c.args.key in
-    sym (subst Q pool_fun c.in-Some.ensures.value)
+was c = sym c.in-Some.ensures.value
 
 sets : (c : After-give) → Sets (get same_pool c.args.pools.now) (get same_pool (c.get_mut.follows.lender c.give.new.self))
     c.args.key (Some c.give.new.self)
-sets c =
-    let P : (PoolKey → PoolKey → Bool) → Type 0 = λ eq. (q : PoolKey) → get eq (c.get_mut.follows.lender c.give.new.self) q
-    ≡ cond (eq c.args.key q) (Some c.give.new.self) (get eq c.args.pools.now q) in
-    sets_by same_pool pool_test _ _ c.args.key (Some c.give.new.self)
-    (subst P pool_fun ((c.get_mut.follows.holds c.give.new.self).3 (ap is_some (sym c.in-Some.ensures.value))).0)
+sets c = sets_by same_pool pool_test _ _ c.args.key (Some c.give.new.self)
+    ((c.get_mut.follows.holds c.give.new.self).3 (ap is_some (sym c.in-Some.ensures.value))).0
 
 pub give-requires : goal.give-requires
 give-requires c = ap (λ o. is_taken_by o c.args.port) (sym (was (goal.at.give-requires c).In-Some)) ∙ c.requires

@@ -1,5 +1,5 @@
 use Rattle.std.proofs.Common.{sym, ◌∙◌, arith}
-use Rattle.nat_mapping.proofs.Alike.{one_to_one_alike}
+use Rattle.nat_mapping.proofs.OneMore.{one_to_one_alike}
 use Rattle.nat_mapping.proofs.Lists.{more_alike}
 use Rattle.nat_mapping.proofs.mappings.Mappings.hold.Goals as goal
 

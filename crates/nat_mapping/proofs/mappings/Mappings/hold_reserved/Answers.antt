@@ -1,78 +1,69 @@
-use Rattle.std.proofs.Common.{◌≡◌, ◌<◌, subst, sym, ◌∙◌, ap, refl, arith, Option, Some, IfSome, Bool, true}
-use Rattle.nat_mapping.proofs.Names.{InboundKey, IsUnique, MappedPort, PoolKey, SourceKey, get, has_pool, same_source, source_key_of, taken_in}
-use Rattle.nat_mapping.specs.steps.Keys.{one_more}
-use Rattle.nat_mapping.proofs.Changes.{PortSet}
-use Rattle.nat_mapping.proofs.Same.{source_fun}
-use Rattle.nat_mapping.proofs.Whole.{SourceSet, InboundSet, source_set, source_found, source_unique, own_port, few_holders, port_free, changed}
-use Rattle.nat_mapping.proofs.Whole.{one_held_more, begun, begun_held}
+use Rattle.std.proofs.Common.{◌≡◌, ◌<◌, ◌∷◌, sym, ◌∙◌, ap, subst, refl, Some, IfSome}
+use Rattle.nat_mapping.proofs.Names.{IsOneToOne, IsTable, MappedPort, PoolKey, SourceKey, get, has_pool, held_by, one_more, same_Some, same_source}
+use Rattle.nat_mapping.proofs.Names.{source_key_of, taken_in}
+use Rattle.nat_mapping.proofs.Equal.{source_test}
+use Rattle.nat_mapping.proofs.Lists.{members_flip}
+use Rattle.nat_mapping.proofs.Sets.{Sets, all_set, sets_by}
+use Rattle.nat_mapping.proofs.Represented.{HasMore, begun, entry_held, few_holders, grown, held_more, members_more, more_live, own_port, port_free}
 use Rattle.nat_mapping.proofs.mappings.Mappings.hold_reserved.Goals as goal
 use Rattle.nat_mapping.proofs.mappings.Mappings.hold_reserved.Goals.{After-add_holder}
 
+stays : (c : After-add_holder) → IsOneToOne (c.args.m ∷ held_by c.self.inside.sources.entries)
+stays c = rw (← c.self.view_is) at c.requires.one_to_one
+
 -- what the table said of the mapping, and what it says now
 before : (c : After-add_holder) → get same_source c.self.inside.sources (source_key_of c.args.m) ≡ c.add_holder.result
-before c = source_found c.self.inside.sources c.source_key.result _ c.add_holder.result c.source_key.ensures (sym c.add_holder.ensures.before)
+before c = sym (rw c.source_key.ensures at c.add_holder.ensures.before)
 
-set : (c : After-add_holder) → SourceSet c.self.inside.sources c.add_holder.new.sources (source_key_of c.args.m)
-    (Some (one_more c.args.m.external.port c.add_holder.result))
-set c = source_set c.self.inside.sources c.add_holder.new.sources c.source_key.result _ _ c.source_key.ensures c.add_holder.ensures.values
+has : (c : After-add_holder) → HasMore c.args.m c.self.inside.sources c.add_holder.new.sources
+has c = record {
+  fits = own_port _ _ _ c.self.invariant c.args.m (stays c);
+  sets = subst (λ o. Sets (get same_source c.self.inside.sources) (get same_source c.add_holder.new.sources) (source_key_of c.args.m)
+      (Some (one_more c.args.m.external.port o))) (sym (before c))
+      (sets_by same_source source_test _ _ _ _ (rw c.source_key.ensures at c.add_holder.ensures.values));
+}
 
-unique : (c : After-add_holder) → IsUnique same_source c.add_holder.new.sources
-unique c = source_unique c.add_holder.new.sources c.add_holder.ensures.unique
+table : (c : After-add_holder) → IsTable c.add_holder.new.sources
+table c = record {
+  unique = c.add_holder.ensures.unique;
+  live = all_set same_source source_test (λ q h. 0 < h.holders) _ _ _ _ (has c).sets c.self.invariant.table.live
+      (λ h is. subst (λ (x : MappedPort). 0 < x.holders) (same_Some _ _ is) (more_live _ _));
+}
 
 pub add_holder-requires-clause-few : goal.add_holder-requires-clause-few
 add_holder-requires-clause-few c =
-    let P : (SourceKey → SourceKey → Bool) → SourceKey → Type 0 =
-    λ eq k. IfSome (get eq c.self.inside.sources k) (λ (h : MappedPort). h.holders < 18446744073709551615) in
-    subst (λ eq. P eq c.source_key.result) (sym source_fun) (subst (P same_source) (sym c.source_key.ensures)
-    (few_holders c.self.inside.sources c.self.inside.inbounds c.self.inside.pools c.self.invariant c.args.m
-    (rw (← c.self.view_is) at c.requires.one_to_one) _ (rw (← c.self.view_is) at c.requires.few) _ refl))
+    subst (λ (k : SourceKey). IfSome (get same_source c.self.inside.sources k) (λ (h : MappedPort). h.holders < 18446744073709551615))
+    (sym c.source_key.ensures) (few_holders _ _ _ c.self.invariant c.args.m (rw (← c.self.view_is) at c.requires.one_to_one) _
+    (rw (← c.self.view_is) at c.requires.few) _ refl)
 
 pub invariant_of-self : goal.invariant_of-self
 invariant_of-self c =
     let p = (goal.at.invariant_of-self c).After-add_holder in
-    let was = before p ∙ c.in-Some.is in
-    let S : Option MappedPort → Type 0 =
-    λ o. SourceSet c.self.inside.sources c.add_holder.new.sources (source_key_of c.args.m) (Some (one_more c.args.m.external.port o)) in
-    changed c.self.inside.sources c.self.inside.inbounds c.self.inside.pools c.self.invariant c.args.m c.add_holder.new.sources _ _ was
-    (own_port c.self.inside.sources c.self.inside.inbounds c.self.inside.pools c.self.invariant c.args.m
-    (rw (← c.self.view_is) at c.requires.one_to_one) _ was) refl (unique p) (subst S c.in-Some.is (set p)) (omega arith)
+    let is = before p ∙ c.in-Some.is in
+    let among = entry_held _ c.self.invariant.table c.args.m _ is ((has p).fits _ is) in
+    grown _ _ _ c.self.invariant _ _ _ (table p) (members_flip _ _ (members_more _ _ _ (has p) c.self.invariant.table (table p) among))
+    (λ q. refl) (λ q p. refl) c.self.invariant.pooled
 
 pub returns-in-Some-clause-held : goal.returns-in-Some-clause-held
 returns-in-Some-clause-held c =
     let p = (goal.at.returns-in-Some-clause-held c).After-add_holder in
-    let was = before p ∙ c.in-Some.is in
-    let S : Option MappedPort → Type 0 =
-    λ o. SourceSet c.self.inside.sources c.add_holder.new.sources (source_key_of c.args.m) (Some (one_more c.args.m.external.port o)) in
-    rw (← c.self.view_is)
-    (one_held_more c.self.inside.sources c.self.inside.inbounds c.self.inside.pools c.self.invariant c.args.m c.add_holder.new.sources _ _ was
-    (own_port c.self.inside.sources c.self.inside.inbounds c.self.inside.pools c.self.invariant c.args.m
-    (rw (← c.self.view_is) at c.requires.one_to_one) _ was) refl (unique p) (subst S c.in-Some.is (set p)) refl)
+    rw (← c.self.view_is) (held_more _ _ _ (has p) c.self.invariant.table (table p))
 
 pub invariant_of-self-in-None : goal.invariant_of-self-in-None
 invariant_of-self-in-None c =
     let p = (goal.at.invariant_of-self-in-None c).After-add_holder in
-    let S : Option MappedPort → Type 0 =
-    λ o. SourceSet c.self.inside.sources c.add_holder.new.sources (source_key_of c.args.m) (Some (one_more c.args.m.external.port o)) in
-    let O : InboundKey → Type 0 = λ k. InboundSet c.self.inside.inbounds c.insert_inbound.new.inbounds k (Some c.args.m.internal) in
-    let P : PoolKey → Type 0 = λ k. PortSet (taken_in c.self.inside.pools) (taken_in c.take.new.self) k c.args.m.external.port true in
-    begun c.self.inside.sources c.self.inside.inbounds c.self.inside.pools c.self.invariant c.args.m
-    c.add_holder.new.sources c.insert_inbound.new.inbounds c.take.new.self (unique p) c.take.ensures.pooled _ refl (omega arith)
-    (rw (← c.self.view_is) at c.requires.one_to_one) (before p ∙ c.in-None.is) (subst S c.in-None.is (set p))
-    (subst O c.inbound_key.ensures c.insert_inbound.ensures.values) (subst P c.pool_key.ensures c.take.ensures.taken)
+    begun _ _ _ c.self.invariant c.args.m _ _ _ (table p) c.take.ensures.pooled
+    (held_more _ _ _ (has p) c.self.invariant.table (table p)) (stays p)
+    (rw c.inbound_key.ensures at c.insert_inbound.ensures.values) (rw c.pool_key.ensures at c.take.ensures.taken)
 
 pub returns-in-None-clause-held : goal.returns-in-None-clause-held
 returns-in-None-clause-held c =
     let p = (goal.at.returns-in-None-clause-held c).After-add_holder in
-    let S : Option MappedPort → Type 0 =
-    λ o. SourceSet c.self.inside.sources c.add_holder.new.sources (source_key_of c.args.m) (Some (one_more c.args.m.external.port o)) in
-    rw (← c.self.view_is) (begun_held c.self.inside.sources c.self.inside.inbounds c.self.inside.pools c.self.invariant c.args.m
-    c.add_holder.new.sources c.insert_inbound.new.inbounds c.take.new.self (unique p) c.take.ensures.pooled _ refl refl
-    (before p ∙ c.in-None.is) (subst S c.in-None.is (set p)))
+    rw (← c.self.view_is) (held_more _ _ _ (has p) c.self.invariant.table (table p))
 
 pub take-requires-clause-free : goal.take-requires-clause-free
 take-requires-clause-free c bitmap =
     let p = (goal.at.take-requires-clause-free c).After-add_holder in
     ap (λ k. taken_in c.self.inside.pools k c.args.m.external.port) c.pool_key.ensures
-    ∙ port_free c.self.inside.sources c.self.inside.inbounds c.self.inside.pools c.self.invariant c.args.m
-    (rw (← c.self.view_is) at c.requires.one_to_one) (before p ∙ c.in-None.is)
+    ∙ port_free _ _ _ c.self.invariant c.args.m (stays p) (before p ∙ c.in-None.is)
     (ap (λ (k : PoolKey). has_pool k.kind) (sym c.pool_key.ensures) ∙ bitmap)

@@ -1,11 +1,10 @@
-use Rattle.std.proofs.Common.{sym, ◌∙◌, ap}
-use Rattle.nat_mapping.proofs.Answers.{inbound_is}
-use Rattle.nat_mapping.proofs.Entries.{counts_same}
+use Rattle.std.proofs.Common.{sym, ◌∙◌}
+use Rattle.nat_mapping.proofs.Lists.{members_alike}
+use Rattle.nat_mapping.proofs.Lookups.{inbound_alike}
 use Rattle.nat_mapping.proofs.mappings.Mappings.inbound.Goals as goal
 
 pub returns : goal.returns
 returns c = λ held same.
-    c.find_inbound.ensures
-    ∙ sym (inbound_is _ _ _ c.self.invariant.sound held
-    (counts_same c.self.inside.sources c.self.invariant.unique held c.args.self.now.held
-    (ap (λ v. v.held) c.self.view_is) same) c.args.kind c.args.external)
+    c.find_inbound.ensures ∙ c.self.invariant.inbound c.args.kind c.args.external
+    ∙ sym (inbound_alike held _ (members_alike held _ (rw (← c.self.view_is) at same)) c.self.invariant.one_to_one
+    c.args.kind c.args.external)

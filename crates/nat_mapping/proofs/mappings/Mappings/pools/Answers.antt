@@ -1,6 +1,6 @@
-use Rattle.std.proofs.Common.{◌≡◌, List, ap, arith}
+use Rattle.std.proofs.Common.{◌≡◌, List, arith}
 use Rattle.nat_mapping.proofs.Names.{HoldsSame, Mapping, hash_map_len, pool_count_of}
-use Rattle.nat_mapping.proofs.Entries.{counts_same}
+use Rattle.nat_mapping.proofs.Lists.{members_alike}
 use Rattle.nat_mapping.proofs.PoolCounts.{pools_counted}
 use Rattle.nat_mapping.proofs.mappings.Mappings.pools.Goals as goal
 use Rattle.nat_mapping.proofs.mappings.Mappings.pools.Goals.{After-count}
@@ -8,8 +8,7 @@ use Rattle.nat_mapping.proofs.mappings.Mappings.pools.Goals.{After-count}
 counted : (c : After-count) (held : List Mapping) → HoldsSame held c.args.self.now.held
     → hash_map_len c.self.inside.pools.pools ≡ pool_count_of held
 counted c held same =
-    pools_counted c.self.inside.sources c.self.inside.inbounds c.self.inside.pools c.self.invariant held
-    (counts_same c.self.inside.sources c.self.invariant.unique held c.args.self.now.held (ap (λ v. v.held) c.self.view_is) same)
+    pools_counted _ _ _ c.self.invariant held (members_alike held _ (rw (← c.self.view_is) at same))
 
 pub returns-clause-needed : goal.returns-clause-needed
 returns-clause-needed c held same =

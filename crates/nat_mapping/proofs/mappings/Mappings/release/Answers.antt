@@ -1,78 +1,100 @@
-use Rattle.std.proofs.Common.{◌≡◌, ◌<◌, ◌≤◌, subst, sym, ◌∙◌, ap, refl, arith, Some, None, IsSome, Bool, false}
-use Rattle.nat_mapping.proofs.Names.{InboundKey, IsUnique, PoolKey, SourceKey, get, has_pool, one_fewer, same_source, source_key_of, taken_in}
-use Rattle.nat_mapping.proofs.Changes.{PortSet}
-use Rattle.nat_mapping.proofs.Same.{source_fun}
-use Rattle.nat_mapping.proofs.Whole.{SourceSet, InboundSet, source_set, source_found, source_unique, held_found, held_port, port_taken, changed}
-use Rattle.nat_mapping.proofs.Whole.{one_held_fewer, ended, ended_held}
+use Rattle.std.proofs.Common.{◌≡◌, ◌<◌, ◌≤◌, ◌+◌, ◌-◌, subst, sym, ◌∙◌, ap, refl, arith, Some, None, IsSome}
+use Rattle.nat_mapping.proofs.Names.{Contains, IsTable, MappedPort, PoolKey, SourceKey, get, has_pool, held_by, none-some, one_fewer, same_Some, same_source}
+use Rattle.nat_mapping.proofs.Names.{source_key_of, taken_in}
+use Rattle.nat_mapping.proofs.Equal.{source_test}
+use Rattle.nat_mapping.proofs.Sets.{Sets, all_set, sets_by}
+use Rattle.nat_mapping.proofs.Represented.{HasMore, ended, entry_held, grown, has_fewer, held_found, held_more, held_port, members_more, port_taken}
 use Rattle.nat_mapping.proofs.mappings.Mappings.release.Goals as goal
 use Rattle.nat_mapping.proofs.mappings.Mappings.release.Goals.{After-remove_holder-before}
 
--- what the table said of the mapping, and what it says now
+there : (c : After-remove_holder-before) → Contains (held_by c.self.inside.sources.entries) c.args.m
+there c = rw (← c.self.view_is) at c.requires
+
+-- what the table said of the mapping
 was : (c : After-remove_holder-before) → get same_source c.self.inside.sources (source_key_of c.args.m) ≡ Some c.remove_holder-before.result
-was c = source_found c.self.inside.sources c.source_key.result _ _ c.source_key.ensures c.remove_holder-before.ensures.before
+was c = rw c.source_key.ensures at c.remove_holder-before.ensures.before
 
 port : (c : After-remove_holder-before) → c.remove_holder-before.result.port ≡ c.args.m.external.port
-port c = held_port c.self.inside.sources c.self.inside.inbounds c.self.inside.pools c.self.invariant c.args.m
-    (rw (← c.self.view_is) at c.requires) c.remove_holder-before.result (was c)
+port c = held_port _ _ _ c.self.invariant c.args.m (there c) c.remove_holder-before.result (was c)
 
-fewer : (c : After-remove_holder-before) → 1 < c.remove_holder-before.result.holders
-    → SourceSet c.self.inside.sources c.remove_holder-before.new.sources (source_key_of c.args.m) (Some (one_fewer c.remove_holder-before.result))
-fewer c more = source_set c.self.inside.sources c.remove_holder-before.new.sources c.source_key.result _ _ c.source_key.ensures
-    (c.remove_holder-before.ensures.fewer more)
+-- ---- with another holder
 
-none : (c : After-remove_holder-before) → c.remove_holder-before.result.holders ≤ 1
-    → SourceSet c.self.inside.sources c.remove_holder-before.new.sources (source_key_of c.args.m) None
-none c last = source_set c.self.inside.sources c.remove_holder-before.new.sources c.source_key.result _ _ c.source_key.ensures
-    (c.remove_holder-before.ensures.last last)
+module _ (c : After-remove_holder-before) (more : 1 < c.remove_holder-before.result.holders) where
+  left : Sets (get same_source c.self.inside.sources) (get same_source c.remove_holder-before.new.sources) (source_key_of c.args.m)
+      (Some (one_fewer c.remove_holder-before.result))
+  left = sets_by same_source source_test _ _ _ _ (rw c.source_key.ensures at (c.remove_holder-before.ensures.fewer more))
 
-unique : (c : After-remove_holder-before) → IsUnique same_source c.remove_holder-before.new.sources
-unique c = source_unique c.remove_holder-before.new.sources c.remove_holder-before.ensures.unique
+  has : HasMore c.args.m c.remove_holder-before.new.sources c.self.inside.sources
+  has =
+      let one : ◌≡◌ (c.remove_holder-before.result.holders - 1 + 1) c.remove_holder-before.result.holders = omega (arith, more) in
+      has_fewer c.args.m _ _ c.remove_holder-before.result _ left (was c)
+      (λ i. record { port = c.remove_holder-before.result.port; holders = one i })
+      (λ h is. ap (λ (x : MappedPort). x.port) (sym (same_Some _ _ is)) ∙ port c)
+
+  table : IsTable c.remove_holder-before.new.sources
+  table = record {
+    unique = c.remove_holder-before.ensures.unique;
+    live = all_set same_source source_test (λ q h. 0 < h.holders) _ _ _ _ left c.self.invariant.table.live
+        (λ h is. subst (λ (x : MappedPort). 0 < x.holders) (same_Some _ _ is) (omega (arith, more)));
+  }
+
+-- ---- with the last one
+
+module _ (c : After-remove_holder-before) (last : c.remove_holder-before.result.holders ≤ 1) where
+  gone : Sets (get same_source c.self.inside.sources) (get same_source c.remove_holder-before.new.sources) (source_key_of c.args.m) None
+  gone = sets_by same_source source_test _ _ _ _ (rw c.source_key.ensures at (c.remove_holder-before.ensures.last last))
+
+  had : HasMore c.args.m c.remove_holder-before.new.sources c.self.inside.sources
+  had =
+      let one : ◌≡◌ 1 c.remove_holder-before.result.holders =
+      omega (arith, last, c.self.invariant.table.live (source_key_of c.args.m) c.remove_holder-before.result (was c)) in
+      has_fewer c.args.m _ _ c.remove_holder-before.result _ gone (was c)
+      (λ i. record { port = sym (port c) i; holders = one i }) (λ h is. absurd (none-some h is))
+
+  rest : IsTable c.remove_holder-before.new.sources
+  rest = record {
+    unique = c.remove_holder-before.ensures.unique;
+    live = all_set same_source source_test (λ q h. 0 < h.holders) _ _ _ _ gone c.self.invariant.table.live (λ h is. absurd (none-some h is));
+  }
+
+  absent : Contains (held_by c.remove_holder-before.new.sources.entries) c.args.m → ⊥
+  absent among = let found = held_found _ rest c.args.m among in none-some found.0 (sym gone.at ∙ found.1.0)
 
 pub remove_holder-before-requires : goal.remove_holder-before-requires
 remove_holder-before-requires c =
-    let there = held_found c.self.inside.sources c.self.inside.inbounds c.self.inside.pools c.self.invariant c.args.m
-    (rw (← c.self.view_is) at c.requires) in
-    let P : (SourceKey → SourceKey → Bool) → SourceKey → Type 0 = λ eq k. IsSome (get eq c.self.inside.sources k) in
-    subst (λ eq. P eq c.source_key.result) (sym source_fun) (subst (P same_source) (sym c.source_key.ensures) (subst IsSome (sym there.1.0) refl))
+    let found = held_found _ c.self.invariant.table c.args.m (rw (← c.self.view_is) at c.requires) in
+    subst (λ (k : SourceKey). IsSome (get same_source c.self.inside.sources k)) (sym c.source_key.ensures) (subst IsSome (sym found.1.0) refl)
 
 pub invariant_of-self : goal.invariant_of-self
 invariant_of-self c =
     let p = (goal.at.invariant_of-self c).After-remove_holder-before in
-    changed c.self.inside.sources c.self.inside.inbounds c.self.inside.pools c.self.invariant c.args.m c.remove_holder-before.new.sources
-    c.remove_holder-before.result (one_fewer c.remove_holder-before.result) (was p) (port p) refl (unique p)
-    (fewer p (omega (arith, c.if-before-gt1.true))) (omega (arith, c.if-before-gt1.true))
+    let more : 1 < c.remove_holder-before.result.holders = omega (arith, c.if-before-gt1.true) in
+    let among = entry_held _ (table p more) c.args.m _ (left p more).at (port p) in
+    grown _ _ _ c.self.invariant _ _ _ (table p more) (members_more _ _ _ (has p more) (table p more) c.self.invariant.table among)
+    (λ q. refl) (λ q p. refl) c.self.invariant.pooled
 
 pub returns-then-before-gt1-clause-held : goal.returns-then-before-gt1-clause-held
 returns-then-before-gt1-clause-held c =
     let p = (goal.at.returns-then-before-gt1-clause-held c).After-remove_holder-before in
-    rw (← c.self.view_is)
-    (one_held_fewer c.self.inside.sources c.self.inside.inbounds c.self.inside.pools c.self.invariant c.args.m c.remove_holder-before.new.sources
-    c.remove_holder-before.result (one_fewer c.remove_holder-before.result) (was p) (port p) refl (unique p)
-    (fewer p (omega (arith, c.if-before-gt1.true))) (omega (arith, c.if-before-gt1.true)))
+    let more : 1 < c.remove_holder-before.result.holders = omega (arith, c.if-before-gt1.true) in
+    rw (← c.self.view_is) (λ q. sym (held_more _ _ _ (has p more) (table p more) c.self.invariant.table q))
 
 pub invariant_of-self-2 : goal.invariant_of-self-2
 invariant_of-self-2 c =
     let p = (goal.at.invariant_of-self-2 c).After-remove_holder-before in
-    let O : InboundKey → Type 0 = λ k. InboundSet c.self.inside.inbounds c.remove_inbound.new.inbounds k None in
-    let P : PoolKey → Type 0 = λ k. PortSet (taken_in c.self.inside.pools) (taken_in c.give.new.self) k c.args.m.external.port false in
-    ended c.self.inside.sources c.self.inside.inbounds c.self.inside.pools c.self.invariant c.args.m
-    c.remove_holder-before.new.sources c.remove_inbound.new.inbounds c.give.new.self (unique p) c.give.ensures.pooled
-    c.remove_holder-before.result (was p) (port p) (none p (omega (arith, c.if-before-gt1.false)))
-    (subst O c.inbound_key.ensures c.remove_inbound.ensures.values) (subst P c.pool_key.ensures c.give.ensures.taken)
+    let last : c.remove_holder-before.result.holders ≤ 1 = omega (arith, c.if-before-gt1.false) in
+    ended _ _ _ c.self.invariant c.args.m _ _ _ (rest p last) c.give.ensures.pooled
+    (λ q. sym (held_more _ _ _ (had p last) (rest p last) c.self.invariant.table q)) (absent p last)
+    (rw c.inbound_key.ensures at c.remove_inbound.ensures.values) (rw c.pool_key.ensures at c.give.ensures.taken)
 
 pub returns-clause-held : goal.returns-clause-held
 returns-clause-held c =
     let p = (goal.at.returns-clause-held c).After-remove_holder-before in
-    let some : 0 < c.remove_holder-before.result.holders =
-    c.self.invariant.sound.held (source_key_of c.args.m) c.remove_holder-before.result (was p) in
-    rw (← c.self.view_is)
-    (ended_held c.self.inside.sources c.self.inside.inbounds c.self.inside.pools c.self.invariant c.args.m
-    c.remove_holder-before.new.sources c.remove_inbound.new.inbounds c.give.new.self (unique p) c.give.ensures.pooled
-    c.remove_holder-before.result (was p) (port p) (omega (arith, some, c.if-before-gt1.false))
-    (none p (omega (arith, c.if-before-gt1.false))))
+    let last : c.remove_holder-before.result.holders ≤ 1 = omega (arith, c.if-before-gt1.false) in
+    rw (← c.self.view_is) (λ q. sym (held_more _ _ _ (had p last) (rest p last) c.self.invariant.table q))
 
 pub give-requires-clause-taken : goal.give-requires-clause-taken
 give-requires-clause-taken c bitmap =
     ap (λ k. taken_in c.self.inside.pools k c.args.m.external.port) c.pool_key.ensures
-    ∙ port_taken c.self.inside.sources c.self.inside.inbounds c.self.inside.pools c.self.invariant c.args.m
-    (rw (← c.self.view_is) at c.requires) (ap (λ (k : PoolKey). has_pool k.kind) (sym c.pool_key.ensures) ∙ bitmap)
+    ∙ port_taken _ _ _ c.self.invariant c.args.m (rw (← c.self.view_is) at c.requires)
+    (ap (λ (k : PoolKey). has_pool k.kind) (sym c.pool_key.ensures) ∙ bitmap)

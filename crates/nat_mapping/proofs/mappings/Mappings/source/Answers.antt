@@ -1,8 +1,7 @@
 use Rattle.std.proofs.Common.{◌≡◌, ◌↔◌, ℕ, List, not, is_some, sym, subst, ◌∙◌, ap, refl, Option, Some, None, Result, Err}
 use Rattle.nat_mapping.proofs.Names.{HoldsSame, IfOk, MapError, MappedPort, Mapping, NoPort, PoolKey, candidates, find, get, inbound_at, none-some, ok_or}
 use Rattle.nat_mapping.proofs.Names.{option_map, or_else, order_of, same_inbound, source_of}
-use Rattle.nat_mapping.proofs.Answers.{source_is}
-use Rattle.nat_mapping.proofs.Entries.{counts_same}
+use Rattle.nat_mapping.proofs.Represented.{source_is}
 use Rattle.nat_mapping.proofs.mappings.Mappings.source.Goals as goal
 use Rattle.nat_mapping.proofs.mappings.Mappings.source.Goals.{After-find_source}
 
@@ -16,9 +15,7 @@ answer c found =
 wanted : (c : After-find_source) (held : List Mapping) → HoldsSame held c.args.self.now.held → (found : Option MappedPort)
     → c.find_source.result ≡ found → source_of c.args.kind c.args.internal c.args.address c.args.range held ≡ answer c found
 wanted c held same found is =
-    source_is _ _ _ c.self.invariant.sound held
-    (counts_same c.self.inside.sources c.self.invariant.unique held c.args.self.now.held
-    (ap (λ v. v.held) c.self.view_is) same) c.args.kind c.args.internal c.args.address c.args.range
+    source_is _ _ _ c.self.invariant held (rw (← c.self.view_is) at same) c.args.kind c.args.internal c.args.address c.args.range
     ∙ ap (answer c) (sym c.find_source.ensures ∙ is)
 
 pub returns-in-Some-clause-ok : goal.returns-in-Some-clause-ok

@@ -1,13 +1,11 @@
-use Rattle.std.proofs.Common.{◌≡◌, not, Some, None, Bool, subst, sym, ◌∙◌, ap, Option}
-use Rattle.nat_mapping.proofs.Names.{Order, Pool, PoolKey, candidates, find, get, is_taken, is_taken_by, order_by, order_of}
+use Rattle.std.proofs.Common.{◌≡◌, not, None, sym, ◌∙◌, ap, Option}
+use Rattle.nat_mapping.proofs.Names.{Order, Pool, candidates, find, is_taken, is_taken_by, order_by, order_of}
 use Rattle.port_pool.specs.Taken.{order_of as pool_order}
-use Rattle.nat_mapping.proofs.Same.{pool_fun}
 use Rattle.nat_mapping.proofs.pools.Pools.choose.Goals as goal
 
 pub returns-in-Some : goal.returns-in-Some
 returns-in-Some c =
-    let Q : (PoolKey → PoolKey → Bool) → Type 0 = λ eq. Some c.in-Some.pool.now ≡ get eq c.args.self.now.pools c.args.key in
-    let is = subst Q pool_fun c.in-Some.ensures.value in
+    let is = c.in-Some.ensures.value in
     let order : pool_order c.in-Some.pool.now ≡ order_of c.args.key.kind =
     c.requires.used.order c.args.key (pool_order c.in-Some.pool.now) (ap order_by (sym is)) in
     c.choose.ensures.first
@@ -16,8 +14,7 @@ returns-in-Some c =
 
 pub returns-in-None : goal.returns-in-None
 returns-in-None c =
-    let Q : (PoolKey → PoolKey → Bool) → Type 0 = λ eq. None ≡ get eq c.args.self.now.pools c.args.key in
     c.choose_unused.ensures
     ∙ ap (λ (o : Order). find (λ p. not (is_taken_by None p)) (candidates o c.args.port c.args.range)) c.order.ensures
-    ∙ ap (λ (o : Option Pool). find (λ p. not (is_taken_by o p))
-    (candidates (order_of c.args.key.kind) c.args.port c.args.range)) (subst Q pool_fun c.in-None.ensures.value)
+    ∙ ap (λ (o : Option Pool). find (λ p. not (is_taken_by o p)) (candidates (order_of c.args.key.kind) c.args.port c.args.range))
+    c.in-None.ensures.value
