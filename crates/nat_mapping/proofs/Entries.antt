@@ -1,8 +1,8 @@
 -- The list of mappings that entries represent.
 use Rattle.std.specs.Prelude.{◌==◌, ◌&&◌, replicate}
-use Rattle.std.proofs.Common.{◌≡◌, ℕ, ◌+◌, ◌*◌, Bool, true, false, cond, List, [], ◌∷◌, ◌++◌, refl, sym, ◌∙◌, ap, subst, inl, inr, arith}
-use Rattle.nat_mapping.proofs.Names.{CountsHolders, IsDistinct, IsDistinct-tail, IsUnique, MappedPort, Mapping, SourceKey, Sources, cases_Bool, get}
-use Rattle.nat_mapping.proofs.Names.{held_by, holders_at, holders_of, keys_of, lookup, lookup-none, lookup_head, lookup_tail, mapping_at, none_past_head}
+use Rattle.std.proofs.Common.{◌≡◌, ℕ, ◌+◌, ◌*◌, Bool, true, false, cond, List, [], ◌∷◌, ◌++◌, Option, Some, None, refl, sym, ◌∙◌, ap, subst, arith}
+use Rattle.nat_mapping.proofs.Names.{CountsHolders, IsDistinct, IsDistinct-tail, IsUnique, MappedPort, Mapping, SourceKey, Sources, get}
+use Rattle.nat_mapping.proofs.Names.{held_by, holders_at, holders_of, keys_of, lookup, lookup-none, mapping_at, none_past_head}
 use Rattle.nat_mapping.proofs.Names.{same_endpoint, same_kind, same_mapping, same_source, source_key_of, sum_by, sum_by-append, sum_by-replicate}
 use Rattle.nat_mapping.proofs.Equal.{source_parts, source_test, equivalence}
 
@@ -29,35 +29,23 @@ head m x n rest =
     let f : Mapping → ℕ = λ y. cond (same_mapping m y) 1 0 in
     sum_by-append f (replicate n x) rest ∙ ap (λ k. k + sum_by f rest) (sum_by-replicate f n x ∙ times (same_mapping m x) n)
 
-pub count_entries : (es : List (SourceKey × MappedPort)) → IsDistinct same_source (keys_of es) → (m : Mapping)
+-- where the first entry has its key, no other has
+split : (b : Bool) (h : MappedPort) (o : Option MappedPort) (port : ℕ) → (b ≡ true → o ≡ None)
+    → cond (b && port == h.port) h.holders 0 + holders_at o port ≡ holders_at (cond b (Some h) o) port
+split true h o port none =
+    let rest : holders_at o port ≡ 0 = ap (λ x. holders_at x port) (none refl) in omega (arith, rest)
+split false h o port none = omega arith
+
+count_entries : (es : List (SourceKey × MappedPort)) → IsDistinct same_source (keys_of es) → (m : Mapping)
     → holders_of m (held_by es) ≡ holders_at (lookup (same_source (source_key_of m)) es) m.external.port
 unfolding held_by holders_of
 count_entries [] distinct m = refl
 count_entries (e ∷ es) distinct m =
-    let rest = count_entries es (IsDistinct-tail same_source e.0 (keys_of es) distinct) m in
-    let port = m.external.port in
-    let first : holders_of m (held_by (e ∷ es))
-    ≡ cond (same_source (source_key_of m) e.0 && port == e.1.port) e.1.holders 0 + holders_of m (held_by es) =
-    head m (mapping_at e.0 e.1) e.1.holders (held_by es) ∙ ap (λ b. cond b e.1.holders 0 + holders_of m (held_by es)) (same_by m e.0 e.1) in
-    elim (cases_Bool (same_source (source_key_of m) e.0)) [
-      | inl t ↦
-          let none : holders_of m (held_by es) ≡ 0 = rest
-          ∙ ap (λ o. holders_at o port) (lookup-none (same_source (source_key_of m)) es
-          (none_past_head (equivalence same_source source_test) (source_key_of m) e es distinct t)) in
-          let here : cond (same_source (source_key_of m) e.0 && port == e.1.port) e.1.holders 0
-          ≡ cond (port == e.1.port) e.1.holders 0 = ap (λ b. cond (b && port == e.1.port) e.1.holders 0) t in
-          let found : holders_at (lookup (same_source (source_key_of m)) (e ∷ es)) port
-          ≡ cond (port == e.1.port) e.1.holders 0 =
-          ap (λ o. holders_at o port) (lookup_head (same_source (source_key_of m)) e es t) in
-          omega (arith, first, none, here, found)
-      | inr f ↦
-          let here : ◌≡◌ {A = ℕ} (cond (same_source (source_key_of m) e.0 && port == e.1.port) e.1.holders 0) 0 =
-          ap (λ b. cond (b && port == e.1.port) e.1.holders 0) f in
-          let found : holders_at (lookup (same_source (source_key_of m)) (e ∷ es)) port
-          ≡ holders_at (lookup (same_source (source_key_of m)) es) port =
-          ap (λ o. holders_at o port) (lookup_tail (same_source (source_key_of m)) e es f) in
-          omega (arith, first, rest, here, found)
-    ]
+    let test = same_source (source_key_of m) in
+    head m (mapping_at e.0 e.1) e.1.holders (held_by es)
+    ∙ (λ i. cond (same_by m e.0 e.1 i) e.1.holders 0 + count_entries es (IsDistinct-tail same_source e.0 (keys_of es) distinct) m i)
+    ∙ split (test e.0) e.1 (lookup test es) m.external.port
+    (λ t. lookup-none test es (none_past_head (equivalence same_source source_test) (source_key_of m) e es distinct t))
 
 -- the list that a table represents has each mapping as often as the table says
 pub counts_of : (sources : Sources) → IsUnique same_source sources → CountsHolders (get same_source sources) (held_by sources.entries)

@@ -59,7 +59,7 @@ is_among m (x ∷ held) some =
 pub more_alike : (one other : List Mapping) (m : Mapping) → HoldsSame one other → HoldsSame (m ∷ one) (m ∷ other)
 more_alike one other m same q = omega (arith, holders_cons q m one, holders_cons q m other, same q)
 
--- one holder more of a mapping that is there, too
+-- however many holders each has
 pub record SameMembers (one other : List Mapping) : Type 0 where
   pub there : (m : Mapping) → Contains one m → Contains other m
   pub back : (m : Mapping) → Contains other m → Contains one m

@@ -8,7 +8,6 @@ pub use Rattle.ip_headers.specs.declared.tuple.Mapping.{Mapping}
 pub use Rattle.ip_headers.specs.steps.Equal.{same_endpoint-refl, same_endpoint-true, same_kind-refl, same_kind-true}
 pub use Rattle.ip_headers.specs.steps.WordBytes.{first_word, words_after}
 pub use Rattle.list_laws.specs.Lists.{Contains-head}
-pub use Rattle.list_laws.specs.Options.{none_not_some, some_of_map}
 pub use Rattle.nat_mapping.specs.Mappings.{HoldsSame, IsOneToOne, first_free_port, has_external, has_internal, has_pool, is_port_held, or_else, order_of}
 pub use Rattle.nat_mapping.specs.Mappings.{pooled, same_mapping, share_pool, source_of}
 unfoldable pub use Rattle.nat_mapping.specs.Mappings.{holders_of, inbound_of, pool_count_of, port_of}
@@ -25,16 +24,15 @@ pub use Rattle.nat_mapping.specs.steps.Holders.{holders_cons, holders_none}
 pub use Rattle.nat_mapping.specs.steps.Keys.{inbound_at, inbound_key_of, mapping_at, one_fewer, pool_key_of}
 pub use Rattle.nat_mapping.specs.steps.Keys.{one_more, source_key_of}
 pub use Rattle.nat_mapping.specs.steps.KeyTests.{same_inbound, same_pool, same_source}
-pub use Rattle.nat_mapping.specs.steps.Pooled.{AreUsed, IsPooled, orders_in, taken_in}
-pub use Rattle.nat_mapping.specs.steps.Ports.{IsSpare, is_taken_by, order_by}
+pub use Rattle.nat_mapping.specs.steps.Pooled.{IsPooled, taken_in}
+pub use Rattle.nat_mapping.specs.steps.Ports.{IsSpare, is_taken_by}
 unfoldable pub use Rattle.port_pool.specs.Candidates.{candidates}
 pub use Rattle.port_pool.specs.Taken.{is_taken}
 pub use Rattle.port_pool.specs.declared.order.Order.{Order}
 pub use Rattle.port_pool.specs.declared.order.Order.TheVariants.{Identifiers, Ports, Zero}
 pub use Rattle.port_pool.specs.declared.pool.Pool.{Pool}
 pub use Rattle.port_pool.specs.declared.range.CandidateRange.{CandidateRange}
-pub use Rattle.std.proofs.lemmas.Bool.{and_from, and_parts, and_right, both_ways, cases_Bool, cond-false, cond-true, eq-eqb, eqb-true, false_from_ne_true}
-pub use Rattle.std.proofs.lemmas.Bool.{or_cases, or_left, or_right}
+pub use Rattle.std.proofs.lemmas.Bool.{and_from, and_parts, both_ways, cases_Bool, cond-false, cond-true, eq-eqb, eqb-true, false_from_ne_true}
 pub use Rattle.std.proofs.lemmas.Bool.Decides.{nat_tests, same_from_decides}
 pub use Rattle.std.proofs.lemmas.List.Elements.{All-pop}
 pub use Rattle.std.proofs.lemmas.List.Folds.{sum_by-replicate}

@@ -120,5 +120,6 @@ pub inbound_more : (m : Mapping) (held : List Mapping) (kind : Kind) (external :
 unfolding inbound_of
 inbound_more m held kind external =
     let rest = find (has_external kind external) held in
-    ap (λ b. option_map (λ (n : Mapping). n.internal) (cond b (Some m) rest)) (sym (inbound_parts (inbound_key_of m) (record { kind = kind; external = external })))
+    let is = inbound_parts (inbound_key_of m) (record { kind = kind; external = external }) in
+    ap (λ b. option_map (λ (n : Mapping). n.internal) (cond b (Some m) rest)) (sym is)
     ∙ map_cond (λ (n : Mapping). n.internal) (same_inbound (inbound_key_of m) (record { kind = kind; external = external })) m rest

@@ -1,11 +1,12 @@
 -- The number of pools.
 use Rattle.std.specs.Prelude.{map, ◌||◌}
-use Rattle.std.proofs.Common.{◌≡◌, ℕ, Bool, true, false, cond, is_some, List, [], ◌∷◌, Option, Some, None, suc, length, refl, sym, subst, ◌∙◌, ap, inl, inr, arith}
+use Rattle.std.proofs.Common.{◌≡◌, ℕ, Bool, true, false, cond, is_some, List, [], ◌∷◌, Option, Some, None, suc, length}
+use Rattle.std.proofs.Common.{refl, sym, subst, ◌∙◌, ap, inl, inr, arith}
 use Rattle.std.specs.List.{filter}
 use Rattle.std.proofs.lemmas.Map.Made.{is_member-Decides}
 use Rattle.nat_mapping.proofs.Names.{Contains, Contains-head, Inbounds, IsConsistent, Mapping, Pool, PoolKey, Pools, Sources, get, has_pool, hash_map_len}
 use Rattle.nat_mapping.proofs.Names.{held_by, inbound_at, is_member, is_some-lookup, is_taken_by, keys_of, length-from_keys, length-keys_of}
-use Rattle.nat_mapping.proofs.Names.{order_by, pool_count_of, pool_key_of, pooled, same_from_decides, same_pool, share_pool, unique_keys}
+use Rattle.nat_mapping.proofs.Names.{pool_count_of, pool_key_of, pooled, same_from_decides, same_pool, share_pool, unique_keys}
 use Rattle.list_laws.specs.Decisions.{Contains-cases, Contains-none, Contains-there}
 use Rattle.list_laws.specs.Elements.{Contains-map, Contains-unmap}
 use Rattle.nat_mapping.proofs.Equal.{equivalence, here_true, pool_parts, pool_test}
@@ -73,14 +74,14 @@ module _ (sources : Sources) (inbounds : Inbounds) (pools : Pools) (kept : IsCon
   pool_held : (key : PoolKey) → is_some (get same_pool pools.pools key) ≡ true → Contains (map pool_key_of (pooled held)) key
   pool_held key some =
       let found = some_of (get same_pool pools.pools key) some in
-      let ordered = ap (λ o. is_some (order_by o)) found.1 in
-      let used = kept.pooled.used.used key ordered in
-      let bitmap = kept.pooled.used.bitmap key ordered in
-      let out = some_of _ (sym (kept.ports key used.0 bitmap) ∙ used.1) in
-      let external = (inbound_at key used.0).external in
+      let in_use = kept.pooled.used key found.0 found.1 in
+      let port = in_use.used.0 in
+      let taken = ap (λ o. is_taken_by o port) found.1 ∙ in_use.used.1 in
+      let out = some_of _ (sym (kept.ports key port in_use.bitmap) ∙ taken) in
+      let external = (inbound_at key port).external in
       let m = from_external key.kind external out.0 in
       let among = (inbound_finds key.kind external (held_by sources.entries)).some out.0 (sym (kept.inbound key.kind external) ∙ out.1) in
-      Contains-map pool_key_of (pooled held) m (has_filter (λ (x : Mapping). has_pool x.kind) held m (same.back m among) bitmap)
+      Contains-map pool_key_of (pooled held) m (has_filter (λ (x : Mapping). has_pool x.kind) held m (same.back m among) in_use.bitmap)
 
   -- a mapping that is held has its pool, if its kind has pools
   held_pool : (m : Mapping) → Contains held m → has_pool m.kind ≡ true → is_some (get same_pool pools.pools (pool_key_of m)) ≡ true

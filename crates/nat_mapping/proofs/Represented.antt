@@ -1,8 +1,10 @@
 -- The tables represent the mappings held: what they say of one, and what a change of its holders leaves.
 use Rattle.std.specs.Prelude.{◌==◌, ◌&&◌, if◌then◌else◌}
-use Rattle.std.proofs.Common.{◌≡◌, ℕ, ◌<◌, ◌+◌, Bool, true, false, cond, is_some, not, List, ◌∷◌, Option, Some, None, IfSome, refl, sym, ◌∙◌, ap, subst, inl, inr, arith}
+use Rattle.std.proofs.Common.{◌≡◌, ℕ, ◌<◌, ◌+◌, Bool, true, false, cond, is_some, not, List, ◌∷◌, Option, Some, None, IfSome}
+use Rattle.std.proofs.Common.{refl, sym, ◌∙◌, ap, subst, inl, inr, arith}
 use Rattle.nat_mapping.proofs.Names.{ArePorts, Contains, Contains-head, Endpoint, HoldsSame, InboundKey, Inbounds, IsConsistent, IsOneToOne, IsPooled, IsTable}
-use Rattle.nat_mapping.proofs.Names.{Kind, MappedPort, Mapping, PoolKey, Pools, SourceKey, Sources, and_from, and_parts, cases_Bool, cond-false, cond-true, eq-eqb}
+use Rattle.nat_mapping.proofs.Names.{Kind, MappedPort, Mapping, PoolKey, Pools, SourceKey, Sources, and_from}
+use Rattle.nat_mapping.proofs.Names.{and_parts, cases_Bool, cond-false, cond-true, eq-eqb}
 use Rattle.nat_mapping.proofs.Names.{eqb-true, get, has_pool, held_by, holders_at, holders_cons, holders_of, inbound_at, inbound_key_of, inbound_of, mapping_at}
 use Rattle.nat_mapping.proofs.Names.{none-some, one_more, option_map, pool_key_of, port_of, same_inbound, same_mapping, same_pool, same_source, source_key_of}
 use Rattle.nat_mapping.proofs.Names.{CandidateRange, candidates, find, or_else, order_of, source_of, taken_in}
@@ -172,6 +174,12 @@ ports_set inbounds inbounds' pools pools' m w ports set set_port key port some =
     ∙ (λ i. cond (same_port m key port i) (is_some w) (ports key port some i))
     ∙ sym (ap is_some (set at) ∙ some_set (same_inbound (inbound_key_of m) at) w (get same_inbound inbounds at))
 
+-- the port by the tables: the one found, else the first free candidate
+abbrev pub source_by : Inbounds → Kind → Endpoint → ℕ → Option CandidateRange → Option MappedPort → Option ℕ
+source_by inbounds kind internal address range found = or_else (option_map (λ h. h.port) found)
+    (find (λ p. not (is_some (get same_inbound inbounds (inbound_at (record { kind = kind; address = address }) p))))
+    (candidates (order_of kind) internal.port range))
+
 module _ (sources : Sources) (inbounds : Inbounds) (pools : Pools) (kept : IsConsistent sources inbounds pools) where
   -- the port of an internal endpoint, by its entry
   pub port_is : (kind : Kind) (internal : Endpoint) (address : ℕ)
@@ -192,15 +200,15 @@ module _ (sources : Sources) (inbounds : Inbounds) (pools : Pools) (kept : IsCon
           none-some found.0 (sym none ∙ found.1.0))
 
   pub source_is : (held : List Mapping) → HoldsSame held (held_by sources.entries) → (kind : Kind) (internal : Endpoint) (address : ℕ)
-      (range : Option CandidateRange) → source_of kind internal address range held
-      ≡ or_else (option_map (λ h. h.port) (get same_source sources (record { kind = kind; internal = internal; address = address })))
-      (find (λ p. not (is_some (get same_inbound inbounds (inbound_at (record { kind = kind; address = address }) p))))
-      (candidates (order_of kind) internal.port range))
-  source_is held same kind internal address range =
+      (range : Option CandidateRange) (found : Option MappedPort)
+      → get same_source sources (record { kind = kind; internal = internal; address = address }) ≡ found
+      → source_of kind internal address range held ≡ source_by inbounds kind internal address range found
+  source_is held same kind internal address range found is =
       source_alike held (held_by sources.entries) (members_alike held (held_by sources.entries) same) kept.one_to_one kind internal address range
       ∙ (λ i. or_else (port_is kind internal address i)
       (find (λ p. not (is_some (sym (kept.inbound kind (record { address = address; port = p })) i)))
       (candidates (order_of kind) internal.port range)))
+      ∙ ap (source_by inbounds kind internal address range) is
 
   -- the other table and the pools say the same, and the same mappings are held
   pub grown : (sources' : Sources) (inbounds' : Inbounds) (pools' : Pools) → IsTable sources'
@@ -218,12 +226,6 @@ module _ (sources : Sources) (inbounds : Inbounds) (pools : Pools) (kept : IsCon
   }
 
   module _ (m : Mapping) where
-    pub held_port : Contains (held_by sources.entries) m → (h : MappedPort)
-        → get same_source sources (source_key_of m) ≡ Some h → h.port ≡ m.external.port
-    held_port among h is =
-        let n : Mapping = mapping_at (source_key_of m) h in
-        kept.one_to_one.one_port n m (found_held sources kept.table (source_key_of m) h is) among refl refl refl
-
     -- if one more holder keeps the list one to one, the mapping is in the table with its own port, or not at all
     pub own_port : IsOneToOne (m ∷ held_by sources.entries) → (h : MappedPort)
         → get same_source sources (source_key_of m) ≡ Some h → h.port ≡ m.external.port

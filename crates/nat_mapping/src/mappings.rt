@@ -14,9 +14,7 @@ use crate::keys::{
     InboundKey, MappedPort, PoolKey, SourceKey, has_pool, inbound_key, pool_key, source_key,
 };
 use crate::pools::Pools;
-use crate::tables::{
-    add_holder, find_inbound, find_source, insert_inbound, remove_holder, remove_inbound, spare_of,
-};
+use crate::tables::{add_holder, find_inbound, insert_inbound, remove_holder, spare_of};
 use ip_headers::{Endpoint, Kind, Mapping};
 use port_pool::CandidateRange;
 use std::alloc::{AllocError, Global};
@@ -99,7 +97,7 @@ impl Mappings {
             internal,
             address,
         };
-        match find_source(&self.sources, key) {
+        match self.sources.get(&key) {
             Some(mapped) => Ok(mapped.port),
             None => first_free_port(&self.inbounds, &self.pools, key, range).ok_or(
                 MapError::NoPort,
@@ -218,7 +216,7 @@ impl Mappings {
         if before.holders > 1 {
             return;
         }
-        remove_inbound(&mut self.inbounds, inbound_key(m));
+        self.inbounds.remove(&inbound_key(m));
         self.pools.give(pool_key(m), m.external.port);
     }
 }

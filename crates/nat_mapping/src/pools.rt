@@ -5,10 +5,12 @@ ghost use Rattle.std.specs.Bool.{OnFalse, OnTrue};
 ghost use Rattle.std.specs.List.{find};
 ghost use Rattle.std.specs.HashMap.{get, spare, IsUnique};
 ghost use Rattle.port_pool.specs.Candidates.{candidates};
+ghost use Rattle.port_pool.specs.Taken.{is_taken, order_of as pool_order};
+ghost use Rattle.port_pool.specs.declared.pool.Pool.{Pool as Ports};
 ghost use Rattle.nat_mapping.specs.declared.keys.PoolKey.{PoolKey as Key};
 ghost use Rattle.nat_mapping.specs.Mappings.{order_of, has_pool};
 ghost use Rattle.nat_mapping.specs.steps.KeyTests.{same_pool};
-ghost use Rattle.nat_mapping.specs.steps.Ports.{is_taken_by, order_by, IsSpare};
+ghost use Rattle.nat_mapping.specs.steps.Ports.{is_taken_by, IsInUse, IsSpare, SetsPort};
 
 use crate::keys::{PoolKey, has_pool, order};
 use crate::tables::spare_of;
@@ -143,16 +145,11 @@ impl Pools {
 /// Takes a port of a pool, if there is that pool.
 fn take_port(pools: &mut HashMap<PoolKey, Pool, WordState>, key: PoolKey, port: u16) -> bool
     requires free { is_taken_by (get same_pool pools.old key) port ≡ false }
-    requires bitmap { order_by (get same_pool pools.old key) ≢ Some Order.Zero }
+    requires used { (pool : Ports) → get same_pool pools.old key ≡ Some pool → IsInUse key pool }
     ensures found { result ≡ is_some (get same_pool pools.old key) }
-    ensures taken { result ≡ true → (q : Key) (p : ℕ)
-        → is_taken_by (get same_pool pools.new q) p
-        ≡ (if same_pool key q && p == port then true
-        else is_taken_by (get same_pool pools.old q) p) }
-    ensures orders { (q : Key) → order_by (get same_pool pools.new q)
-        ≡ order_by (get same_pool pools.old q) }
-    ensures absent { result ≡ false → (q : Key)
-        → get same_pool pools.new q ≡ get same_pool pools.old q }
+    ensures taken { OnTrue result (SetsPort pools.old pools.new key port true) }
+    ensures absent { OnFalse result ((q : Key)
+        → get same_pool pools.new q ≡ get same_pool pools.old q) }
     ensures spare { spare pools.new ≡ spare pools.old }
     ensures unique { IsUnique same_pool pools.new }
 {
@@ -168,12 +165,7 @@ fn take_port(pools: &mut HashMap<PoolKey, Pool, WordState>, key: PoolKey, port: 
 /// Gives a port back to its pool; true where the pool has no taken port left.
 fn give_port(pools: &mut HashMap<PoolKey, Pool, WordState>, key: PoolKey, port: u16) -> bool
     requires { is_taken_by (get same_pool pools.old key) port ≡ true }
-    ensures taken { (q : Key) (p : ℕ)
-        → is_taken_by (get same_pool pools.new q) p
-        ≡ (if same_pool key q && p == port then false
-        else is_taken_by (get same_pool pools.old q) p) }
-    ensures orders { (q : Key) → order_by (get same_pool pools.new q)
-        ≡ order_by (get same_pool pools.old q) }
+    ensures given { SetsPort pools.old pools.new key port false }
     ensures unused { OnTrue result ((p : ℕ) → is_taken_by (get same_pool pools.new key) p ≡ false) }
     ensures used { OnFalse result ((p : ℕ) × (is_taken_by (get same_pool pools.new key) p ≡ true)) }
     ensures spare { spare pools.new ≡ spare pools.old }
@@ -192,8 +184,8 @@ fn give_port(pools: &mut HashMap<PoolKey, Pool, WordState>, key: PoolKey, port: 
 fn start_pool(pool: Pool, order: Order, port: u16) -> Pool
     requires spare { IsSpare pool }
     requires bitmap { order ≢ Order.Zero }
-    ensures order { order_by (Some result) ≡ Some order }
-    ensures taken { (p : ℕ) → is_taken_by (Some result) p ≡ (p == port) }
+    ensures order { pool_order result ≡ order }
+    ensures taken { (p : ℕ) → is_taken result p ≡ (if p == port then true else false) }
 {
     let mut pool = pool.with_order(order);
     pool.take(port);

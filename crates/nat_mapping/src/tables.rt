@@ -1,27 +1,16 @@
 //! The two tables of mappings, and their changes at one key.
 ghost use Rattle.std.specs.Prelude.{◌≡◌, ◌+◌, ◌<◌, ◌≤◌, IfSome, IsSome, Some, None, cond};
 ghost use Rattle.std.specs.HashMap.{get, spare, IsUnique};
-ghost use Rattle.nat_mapping.specs.declared.keys.SourceKey.{SourceKey as ByInternal};
 ghost use Rattle.nat_mapping.specs.declared.keys.InboundKey.{InboundKey as ByExternal};
 ghost use Rattle.nat_mapping.specs.steps.Keys.{one_fewer, one_more};
-ghost use Rattle.nat_mapping.specs.steps.KeyTests.{same_inbound, same_source};
+ghost use Rattle.nat_mapping.specs.steps.KeyTests.{same_inbound};
 
-use crate::keys::{InboundKey, MappedPort, SourceKey};
+use crate::keys::{InboundKey, MappedPort};
 use ip_headers::Endpoint;
 use std::collections::HashMap;
 use std::collections::hash_map::Entry;
 use std::hash::Hash;
 use word_hash::WordState;
-
-/// A mapping's port and holders.
-pub(crate) fn find_source(
-    sources: &HashMap<SourceKey, MappedPort, WordState>,
-    key: SourceKey,
-) -> Option<MappedPort>
-    ensures { result ≡ get same_source sources.now key }
-{
-    sources.get(&key).copied()
-}
 
 /// The internal endpoint behind an external one.
 pub(crate) fn find_inbound(
@@ -120,17 +109,4 @@ pub(crate) fn insert_inbound(
         Ok(_) => (),
         Err(_) => unreachable!(),
     }
-}
-
-/// Removes an external endpoint.
-pub(crate) fn remove_inbound(
-    inbounds: &mut HashMap<InboundKey, Endpoint, WordState>,
-    key: InboundKey,
-)
-    ensures values { (q : ByExternal)
-        → get same_inbound inbounds.new q
-        ≡ cond (same_inbound key q) None (get same_inbound inbounds.old q) }
-    ensures spare { spare inbounds.old ≤ spare inbounds.new }
-{
-    inbounds.remove(&key);
 }

@@ -19,4 +19,5 @@ pub returns-clause-port : goal.returns-clause-port
 returns-clause-port c one other same unique kind internal address = port_alike one other (members_alike one other same) unique kind internal address
 
 pub returns-clause-source : goal.returns-clause-source
-returns-clause-source c one other same unique kind internal address range = source_alike one other (members_alike one other same) unique kind internal address range
+returns-clause-source c one other same unique kind internal address range =
+    source_alike one other (members_alike one other same) unique kind internal address range

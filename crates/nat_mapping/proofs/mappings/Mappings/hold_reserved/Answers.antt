@@ -1,9 +1,9 @@
 use Rattle.std.proofs.Common.{◌≡◌, ◌<◌, ◌∷◌, sym, ◌∙◌, ap, subst, refl, Some, IfSome}
-use Rattle.nat_mapping.proofs.Names.{IsOneToOne, IsTable, MappedPort, PoolKey, SourceKey, get, has_pool, held_by, one_more, same_Some, same_source}
+use Rattle.nat_mapping.proofs.Names.{IsOneToOne, IsTable, MappedPort, PoolKey, SourceKey, get, has_pool, held_by, one_more, same_source}
 use Rattle.nat_mapping.proofs.Names.{source_key_of, taken_in}
 use Rattle.nat_mapping.proofs.Equal.{source_test}
 use Rattle.nat_mapping.proofs.Lists.{members_flip}
-use Rattle.nat_mapping.proofs.Sets.{Sets, all_set, sets_by}
+use Rattle.nat_mapping.proofs.Sets.{Sets, all_put, sets_by}
 use Rattle.nat_mapping.proofs.Represented.{HasMore, begun, entry_held, few_holders, grown, held_more, members_more, more_live, own_port, port_free}
 use Rattle.nat_mapping.proofs.mappings.Mappings.hold_reserved.Goals as goal
 use Rattle.nat_mapping.proofs.mappings.Mappings.hold_reserved.Goals.{After-add_holder}
@@ -26,8 +26,7 @@ has c = record {
 table : (c : After-add_holder) → IsTable c.add_holder.new.sources
 table c = record {
   unique = c.add_holder.ensures.unique;
-  live = all_set same_source source_test (λ q h. 0 < h.holders) _ _ _ _ (has c).sets c.self.invariant.table.live
-      (λ h is. subst (λ (x : MappedPort). 0 < x.holders) (same_Some _ _ is) (more_live _ _));
+  live = all_put same_source source_test (λ q h. 0 < h.holders) _ _ _ _ (has c).sets c.self.invariant.table.live (more_live _ _);
 }
 
 pub add_holder-requires-clause-few : goal.add_holder-requires-clause-few

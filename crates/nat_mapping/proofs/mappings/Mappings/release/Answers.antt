@@ -1,9 +1,10 @@
-use Rattle.std.proofs.Common.{◌≡◌, ◌<◌, ◌≤◌, ◌+◌, ◌-◌, subst, sym, ◌∙◌, ap, refl, arith, Some, None, IsSome}
+use Rattle.std.proofs.Common.{◌≡◌, ◌<◌, ◌≤◌, ◌+◌, ◌-◌, ◌∷◌, subst, sym, ◌∙◌, ap, refl, arith, Some, None, IsSome}
 use Rattle.nat_mapping.proofs.Names.{Contains, IsTable, MappedPort, PoolKey, SourceKey, get, has_pool, held_by, none-some, one_fewer, same_Some, same_source}
 use Rattle.nat_mapping.proofs.Names.{source_key_of, taken_in}
 use Rattle.nat_mapping.proofs.Equal.{source_test}
-use Rattle.nat_mapping.proofs.Sets.{Sets, all_set, sets_by}
-use Rattle.nat_mapping.proofs.Represented.{HasMore, ended, entry_held, grown, has_fewer, held_found, held_more, held_port, members_more, port_taken}
+use Rattle.nat_mapping.proofs.OneMore.{members_cons, one_to_one-within}
+use Rattle.nat_mapping.proofs.Sets.{Sets, all_put, all_removed, sets_by}
+use Rattle.nat_mapping.proofs.Represented.{HasMore, ended, entry_held, grown, has_fewer, held_found, held_more, members_more, own_port, port_taken}
 use Rattle.nat_mapping.proofs.mappings.Mappings.release.Goals as goal
 use Rattle.nat_mapping.proofs.mappings.Mappings.release.Goals.{After-remove_holder-before}
 
@@ -15,7 +16,10 @@ was : (c : After-remove_holder-before) → get same_source c.self.inside.sources
 was c = rw c.source_key.ensures at c.remove_holder-before.ensures.before
 
 port : (c : After-remove_holder-before) → c.remove_holder-before.result.port ≡ c.args.m.external.port
-port c = held_port _ _ _ c.self.invariant c.args.m (there c) c.remove_holder-before.result (was c)
+port c =
+    let held = held_by c.self.inside.sources.entries in
+    own_port _ _ _ c.self.invariant c.args.m (one_to_one-within (c.args.m ∷ held) held (members_cons c.args.m held (there c)).there
+    c.self.invariant.one_to_one) c.remove_holder-before.result (was c)
 
 -- ---- with another holder
 
@@ -34,8 +38,8 @@ module _ (c : After-remove_holder-before) (more : 1 < c.remove_holder-before.res
   table : IsTable c.remove_holder-before.new.sources
   table = record {
     unique = c.remove_holder-before.ensures.unique;
-    live = all_set same_source source_test (λ q h. 0 < h.holders) _ _ _ _ left c.self.invariant.table.live
-        (λ h is. subst (λ (x : MappedPort). 0 < x.holders) (same_Some _ _ is) (omega (arith, more)));
+    live = all_put same_source source_test (λ q h. 0 < h.holders) _ _ _ (one_fewer c.remove_holder-before.result) left
+        c.self.invariant.table.live (omega (arith, more));
   }
 
 -- ---- with the last one
@@ -54,7 +58,7 @@ module _ (c : After-remove_holder-before) (last : c.remove_holder-before.result.
   rest : IsTable c.remove_holder-before.new.sources
   rest = record {
     unique = c.remove_holder-before.ensures.unique;
-    live = all_set same_source source_test (λ q h. 0 < h.holders) _ _ _ _ gone c.self.invariant.table.live (λ h is. absurd (none-some h is));
+    live = all_removed same_source source_test (λ q h. 0 < h.holders) _ _ _ gone c.self.invariant.table.live;
   }
 
   absent : Contains (held_by c.remove_holder-before.new.sources.entries) c.args.m → ⊥
@@ -85,7 +89,7 @@ invariant_of-self-2 c =
     let last : c.remove_holder-before.result.holders ≤ 1 = omega (arith, c.if-before-gt1.false) in
     ended _ _ _ c.self.invariant c.args.m _ _ _ (rest p last) c.give.ensures.pooled
     (λ q. sym (held_more _ _ _ (had p last) (rest p last) c.self.invariant.table q)) (absent p last)
-    (rw c.inbound_key.ensures at c.remove_inbound.ensures.values) (rw c.pool_key.ensures at c.give.ensures.taken)
+    (rw c.inbound_key.ensures at c.remove.ensures.updates.0) (rw c.pool_key.ensures at c.give.ensures.taken)
 
 pub returns-clause-held : goal.returns-clause-held
 returns-clause-held c =

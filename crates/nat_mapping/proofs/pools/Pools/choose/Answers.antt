@@ -1,15 +1,13 @@
-use Rattle.std.proofs.Common.{◌≡◌, not, None, sym, ◌∙◌, ap, Option}
-use Rattle.nat_mapping.proofs.Names.{Order, Pool, candidates, find, is_taken, is_taken_by, order_by, order_of}
-use Rattle.port_pool.specs.Taken.{order_of as pool_order}
+use Rattle.std.proofs.Common.{not, None, sym, ◌∙◌, ap, Option}
+use Rattle.nat_mapping.proofs.Names.{Order, Pool, candidates, find, is_taken, is_taken_by, order_of}
 use Rattle.nat_mapping.proofs.pools.Pools.choose.Goals as goal
 
 pub returns-in-Some : goal.returns-in-Some
 returns-in-Some c =
     let is = c.in-Some.ensures.value in
-    let order : pool_order c.in-Some.pool.now ≡ order_of c.args.key.kind =
-    c.requires.used.order c.args.key (pool_order c.in-Some.pool.now) (ap order_by (sym is)) in
     c.choose.ensures.first
-    ∙ ap (λ (o : Order). find (λ p. not (is_taken c.in-Some.pool.now p)) (candidates o c.args.port c.args.range)) order
+    ∙ ap (λ (o : Order). find (λ p. not (is_taken c.in-Some.pool.now p)) (candidates o c.args.port c.args.range))
+    (c.requires.used c.args.key c.in-Some.pool.now (sym is)).order
     ∙ ap (λ (o : Option Pool). find (λ p. not (is_taken_by o p)) (candidates (order_of c.args.key.kind) c.args.port c.args.range)) is
 
 pub returns-in-None : goal.returns-in-None
