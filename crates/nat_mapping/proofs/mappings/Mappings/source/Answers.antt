@@ -18,7 +18,7 @@ returns-in-Some-clause-ok c held same =
 
 pub returns-in-Some-clause-no_port : goal.returns-in-Some-clause-no_port
 returns-in-Some-clause-no_port c held same =
-    (answered (Some c.in-Some.mapped.now.port) (source_of c.args.kind c.args.internal c.args.address c.args.range held)
+    (answered _ (source_of c.args.kind c.args.internal c.args.address c.args.range held)
     (returns-in-Some-clause-ok c held same)).1
 
 pub returns-in-None-clause-ok : goal.returns-in-None-clause-ok
