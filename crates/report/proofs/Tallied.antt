@@ -79,7 +79,7 @@ grouped : (a b c : Bool) → ((a && b) && c) ≡ (a && (b && c))
 grouped true b c = refl
 grouped false b c = refl
 
-pub counted_at : (size : ℕ) (p at : StatementPosition) (ts : Tallies)
+counted_at : (size : ℕ) (p at : StatementPosition) (ts : Tallies)
     → tally_at (counted size p ts) at ≡ changed_if (same_position p at) (raised size) (tally_at ts at)
 counted_at size p at ts =
     let rule : List Tally → List Tally = rule_counted size p.statement in
@@ -98,6 +98,16 @@ counted_at size p at ts =
     changed_at chain p.rule.chain at.rule.chain xs c refl)
     (changed_at table p.rule.table at.rule.table ts t refl)))
     ∙ ap (λ same. changed_if same (raised size) (tally_at ts at)) (grouped (t && c) r s)
+
+-- an event changes the counter that it counts
+event_at : (size : ℕ) (e : Event) (at : StatementPosition) (ts : Tallies)
+    → tally_at (counted_event size e ts) at ≡ changed_if (is_counted_at at e) (raised size) (tally_at ts at)
+event_at size (events.Counted p) at ts = counted_at size p at ts
+event_at size (events.Logged p) at ts = refl
+event_at size (events.Marked field value) at ts = refl
+event_at size events.Untracked at ts = refl
+event_at size (events.TookVerdict rule verdict) at ts = refl
+event_at size (events.TookPolicy chain policy) at ts = refl
 
 -- ---- as many packets more as the events say
 
@@ -134,17 +144,6 @@ changed_grown : (size : ℕ) (same : Bool) (o : Option Tally) (t : Tally) → o 
 changed_grown size true o t is p q = ap (option_map (raised size)) is ∙ ap Some (once_grown size t p q)
 changed_grown size false o t is p q = is ∙ ap Some (not_grown size t)
 
-event_at : (size : ℕ) (e : Event) (at : StatementPosition) (ts : Tallies) (t : Tally) → tally_at ts at ≡ Some t
-    → t.packets + 1 ≤ GREATEST → t.bytes + size ≤ GREATEST
-    → tally_at (counted_event size e ts) at ≡ Some (grown size (times (is_counted_at at e)) t)
-event_at size (events.Counted p) at ts t is a b =
-    counted_at size p at ts ∙ changed_grown size (same_position p at) (tally_at ts at) t is a b
-event_at size (events.Logged p) at ts t is a b = is ∙ ap Some (not_grown size t)
-event_at size (events.Marked field value) at ts t is a b = is ∙ ap Some (not_grown size t)
-event_at size events.Untracked at ts t is a b = is ∙ ap Some (not_grown size t)
-event_at size (events.TookVerdict rule verdict) at ts t is a b = is ∙ ap Some (not_grown size t)
-event_at size (events.TookPolicy chain policy) at ts t is a b = is ∙ ap Some (not_grown size t)
-
 times_most : (same : Bool) → times same ≤ 1
 times_most true = omega arith
 times_most false = omega arith
@@ -166,7 +165,8 @@ all_at size (e ∷ es) at ts t is a b =
     let small : k * size ≤ size = product_most (is_counted_at at e) size in
     let split : suc (length es) * size ≡ size + length es * size = more_products (length es) size in
     let first : tally_at (counted_event size e ts) at ≡ Some (grown size k t) =
-    event_at size e at ts t is (omega (arith, a)) (omega (arith, b, split)) in
+    event_at size e at ts
+    ∙ changed_grown size (is_counted_at at e) (tally_at ts at) t is (omega (arith, a)) (omega (arith, b, split)) in
     all_at size es at (counted_event size e ts) (grown size k t) first (omega (arith, a, few)) (omega (
       arith,
       b,
@@ -194,21 +194,6 @@ changed_within size p b true (Some x) t were is =
 pub wider : (p b p' b' : ℕ) (ts : Tallies) → p ≤ p' → b ≤ b' → AllWithin p b ts → AllWithin p' b' ts
 wider p b p' b' ts pp bb were = λ at t is. let h = were at t is in (omega (arith, h.0, pp), omega (arith, h.1, bb))
 
-within_event : (size p b : ℕ) (e : Event) (ts : Tallies) → AllWithin p b ts
-    → AllWithin (p + 1) (b + size) (counted_event size e ts)
-within_event size p b (events.Counted position) ts were = λ at t is.
-    changed_within size p b (same_position position at) (tally_at ts at) t (were at)
-    (sym (counted_at size position at ts) ∙ is)
-within_event size p b (events.Logged position) ts were =
-    wider p b (p + 1) (b + size) ts (omega arith) (omega arith) were
-within_event size p b (events.Marked field value) ts were =
-    wider p b (p + 1) (b + size) ts (omega arith) (omega arith) were
-within_event size p b events.Untracked ts were = wider p b (p + 1) (b + size) ts (omega arith) (omega arith) were
-within_event size p b (events.TookVerdict rule verdict) ts were =
-    wider p b (p + 1) (b + size) ts (omega arith) (omega arith) were
-within_event size p b (events.TookPolicy chain policy) ts were =
-    wider p b (p + 1) (b + size) ts (omega arith) (omega arith) were
-
 pub within_all : (size p b : ℕ) (es : List Event) (ts : Tallies) → AllWithin p b ts
     → AllWithin (p + length es) (b + length es * size) (counted_all size es ts)
 within_all size p b [] ts were = wider p b (p + 0) (b + 0 * size) ts (omega arith) (omega arith) were
@@ -216,7 +201,8 @@ within_all size p b (e ∷ es) ts were =
     let split : suc (length es) * size ≡ size + length es * size = more_products (length es) size in
     wider ((p + 1) + length es) ((b + size) + length es * size) (p + suc (length es)) (b + suc (length es) * size) _
     (omega arith) (omega (arith, split))
-    (within_all size (p + 1) (b + size) es (counted_event size e ts) (within_event size p b e ts were))
+    (within_all size (p + 1) (b + size) es (counted_event size e ts) (λ at t is.
+    changed_within size p b (is_counted_at at e) (tally_at ts at) t (were at) (sym (event_at size e at ts) ∙ is)))
 
 -- ---- a history with one more entry
 
