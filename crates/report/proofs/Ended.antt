@@ -1,45 +1,25 @@
 -- The numbers of a report after one more record.
 use Rattle.std.proofs.Common.{◌≡◌, ◌≢◌, ◌<◌, ◌≤◌, ◌+◌, ◌==◌, ℕ, Bool, true, false, cond, List, ◌∷◌, length, slice_index}
 use Rattle.std.proofs.Common.{set, refl, sym, ap, ◌∙◌, arith, get_or-set_same, get_or-set_other}
+use Rattle.std.specs.Prelude.{count_by}
 use mir.Val.{bool_byte}
 use Rattle.std.proofs.lemmas.Bool.Decides.{Decides-eqb}
 use Rattle.std.proofs.lemmas.List.Sums.{sum_by-cons}
-use Rattle.conntrack.specs.Histories.{is_creation}
 use Rattle.history.specs.declared.outcome.Cause.{Cause}
-use Rattle.history.specs.declared.outcome.Outcome.{Outcome}
 use Rattle.history.specs.declared.outcome.Outcome.TheVariants.{Dropped}
-use Rattle.history.specs.Outcomes.{report_index, is_passed, is_local, is_dropped_for}
+use Rattle.history.specs.Outcomes.{report_index, is_dropped_for}
 use Rattle.history.specs.History.{Entry}
-use Rattle.report.specs.Report.{passed, local, dropped, begun}
 
--- one more where a record ended so
+-- one more where a test holds
 abbrev pub more_if : Bool → ℕ → ℕ
 more_if so n = cond so 1 0 + n
 
-pub passed_more : (history : List Entry) (e : Entry) (o : Outcome) (n : ℕ) → o ≡ e.outcome → n ≡ passed history
-    → more_if (is_passed o) n ≡ passed (e ∷ history)
-passed_more history e o n is were = ap (λ (p : Outcome). more_if (is_passed p) n) is
-    ∙ ap (more_if (is_passed e.outcome)) were
-    ∙ sym (sum_by-cons (λ (x : Entry). cond (is_passed x.outcome) 1 0) e history)
-
-pub local_more : (history : List Entry) (e : Entry) (o : Outcome) (n : ℕ) → o ≡ e.outcome → n ≡ local history
-    → more_if (is_local o) n ≡ local (e ∷ history)
-local_more history e o n is were = ap (λ (p : Outcome). more_if (is_local p) n) is
-    ∙ ap (more_if (is_local e.outcome)) were
-    ∙ sym (sum_by-cons (λ (x : Entry). cond (is_local x.outcome) 1 0) e history)
-
-pub dropped_more : (k : Cause) (history : List Entry) (e : Entry) (o : Outcome) (n : ℕ) → o ≡ e.outcome
-    → n ≡ dropped k history → more_if (is_dropped_for k o) n ≡ dropped k (e ∷ history)
-dropped_more k history e o n is were =
-    ap (λ (p : Outcome). more_if (is_dropped_for k p) n) is ∙ ap (more_if (is_dropped_for k e.outcome)) were
-    ∙ sym (sum_by-cons (λ (x : Entry). cond (is_dropped_for k x.outcome) 1 0) e history)
-
--- one more where a record began a connection
-pub begun_more : (history : List Entry) (e : Entry) (begins : Bool) (n : ℕ) → begins ≡ is_creation e.tracked.change
-    → n ≡ begun history → more_if begins n ≡ begun (e ∷ history)
-begun_more history e begins n is were =
-    ap (λ (b : Bool). more_if b n) is ∙ ap (more_if (is_creation e.tracked.change)) were
-    ∙ sym (sum_by-cons (λ (x : Entry). cond (is_creation x.tracked.change) 1 0) e history)
+-- so many entries pass a test after one more
+pub count_more : (test : Entry → Bool) (history : List Entry) (e : Entry) (passes : Bool) (n : ℕ) → passes ≡ test e
+    → n ≡ count_by test history → more_if passes n ≡ count_by test (e ∷ history)
+count_more test history e passes n is were =
+    ap (λ (b : Bool). more_if b n) is ∙ ap (more_if (test e)) were
+    ∙ sym (sum_by-cons (λ (x : Entry). cond (test x) 1 0) e history)
 
 -- what is added for a test is one where it holds
 pub more_by_test : (b : Bool) (n : ℕ) → n + bool_byte b ≡ more_if b n

@@ -7,6 +7,7 @@ use Rattle.std.proofs.lemmas.List.{set_past}
 use Rattle.std.specs.List.{flat_map}
 use Rattle.nft_tree.specs.Tree.{Text, TableTree}
 use Rattle.rule_meaning.specs.declared.event.Event.{Event}
+use Rattle.conntrack.specs.Histories.{is_creation}
 use Rattle.history.specs.declared.entry.Entry as lent
 use Rattle.history.specs.declared.outcome.Cause.{Cause}
 use Rattle.history.specs.declared.outcome.Outcome.{Outcome}
@@ -18,7 +19,7 @@ use Rattle.report.specs.steps.Bounds.{AllWithin}
 use Rattle.report.specs.steps.Noting.{noted}
 use Rattle.report.specs.steps.Tallying.{counted_all}
 use Rattle.report.proofs.Tallied.{wider, within_all, tallies_more}
-use Rattle.report.proofs.Ended.{more_if, passed_more, local_more, dropped_more, begun_more}
+use Rattle.report.proofs.Ended.{more_if, count_more}
 use Rattle.report.proofs.NotedLines.{rest_more}
 
 -- ---- the bounds
@@ -113,11 +114,14 @@ reports_more old known rules trace history written e entry sent kept lost begins
     entry.outcome e.outcome r.traces_so is.number is.events is.outcome in
     record {
       records = omega (arith, r.records);
-      passed_are = sent_is ∙ passed_more history e entry.outcome old.passed is.outcome r.passed_are;
-      local_are = kept_is ∙ local_more history e entry.outcome old.local is.outcome r.local_are;
+      passed_are = sent_is ∙ count_more (λ x. is_passed x.outcome) history e (is_passed entry.outcome) old.passed
+          (ap is_passed is.outcome) r.passed_are;
+      local_are = kept_is ∙ count_more (λ x. is_local x.outcome) history e (is_local entry.outcome) old.local
+          (ap is_local is.outcome) r.local_are;
       dropped_are = λ cause. lost_is cause
-          ∙ dropped_more cause history e entry.outcome (drops_of old cause) is.outcome (r.dropped_are cause);
-      begun_are = begins_is ∙ begun_more history e entry.begun old.begun is.begun r.begun_are;
+          ∙ count_more (λ x. is_dropped_for cause x.outcome) history e (is_dropped_for cause entry.outcome)
+          (drops_of old cause) (ap (is_dropped_for cause) is.outcome) (r.dropped_are cause);
+      begun_are = begins_is ∙ count_more (λ x. is_creation x.tracked.change) history e entry.begun old.begun is.begun r.begun_are;
       tallies_are = λ at start h. ap (λ xs. tally_at xs at) counts
           ∙ tallies_more rules history e old.tallies ((old.records + 1) * 2 ^ 64) ((old.records + 1) * 2 ^ 80) within
           (omega (arith, few, several)) (omega (arith, few, bytes)) r.tallies_are at start h;
