@@ -1,6 +1,6 @@
 -- Lists of distinct keys.
-use Rattle.std.proofs.Common.{◌≡◌, ◌≢◌, ◌⊎◌, ℕ, ◌≤◌, List, [], ◌∷◌, ◌++◌, slice_get, Some, None, refl, sym, ap, ◌∙◌, subst, inl, inr, arith}
-use Rattle.aged_tracker.proofs.Names.{IsApart, IsIn, IsIn-without, IsRising, IsSorted, cases_eq, cond-true, ne_eqb, none-some, not_from_false, same_Some}
+use Rattle.std.proofs.Common.{◌≡◌, ◌≢◌, ◌⊎◌, ℕ, List, [], ◌∷◌, ◌++◌, refl, sym, ◌∙◌, subst, inl, inr}
+use Rattle.aged_tracker.proofs.Names.{IsIn, IsIn-without, IsSorted, cases_eq, cond-true, ne_eqb, not_from_false}
 use Rattle.aged_tracker.proofs.Names.{without_head}
 use Rattle.futures.specs.LinkedLists.{without}
 
@@ -22,16 +22,6 @@ IsIn-without_kept key other (first ∷ rest) found differs =
           (elim found [ inl here ↦ inl here | inr there ↦ inr (IsIn-without_kept key other rest there differs) ])
     ]
 
-pub IsApart-without : (key : ℕ) (keys : List ℕ) → IsApart keys → IsApart (without key keys)
-IsApart-without key [] apart = tt
-IsApart-without key (first ∷ rest) apart =
-    elim (cases_eq first key) [
-      | inl same ↦ subst IsApart (sym (without_head key first rest same)) (IsApart-without key rest apart.1)
-      | inr differs ↦
-          subst IsApart (sym (without_past key first rest differs))
-          (λ found. apart.0 (IsIn-without key first rest found).0, IsApart-without key rest apart.1)
-    ]
-
 pub IsIn-push : (key other : ℕ) (keys : List ℕ) → IsIn other (keys ++ key ∷ []) → IsIn other keys ⊎ (key ≡ other)
 IsIn-push key other [] found = elim found [ inl here ↦ inr here | inr nowhere ↦ absurd nowhere ]
 IsIn-push key other (first ∷ rest) found =
@@ -48,39 +38,6 @@ IsIn-push_kept key other (first ∷ rest) found =
 pub IsIn-push_last : (key : ℕ) (keys : List ℕ) → IsIn key (keys ++ key ∷ [])
 IsIn-push_last key [] = inl refl
 IsIn-push_last key (first ∷ rest) = inr (IsIn-push_last key rest)
-
-pub IsApart-push : (key : ℕ) (keys : List ℕ) → IsApart keys → ¬ IsIn key keys → IsApart (keys ++ key ∷ [])
-IsApart-push key [] apart absent = (λ nowhere. nowhere, tt)
-IsApart-push key (first ∷ rest) apart absent = (
-  λ found. elim (IsIn-push key first rest found) [ inl old ↦ apart.0 old | inr new ↦ absent (inl (sym new)) ],
-  IsApart-push key rest apart.1 (λ there. absent (inr there)),
-)
-
--- the front has the least moment
-pub IsRising-front : (f : ℕ → ℕ) (keys : List ℕ) (front key : ℕ) → IsRising f keys → slice_get keys 0 ≡ Some front
-    → IsIn key keys → f front ≤ f key
-IsRising-front f [] front key rising is found = absurd found
-IsRising-front f (first ∷ rest) front key rising is found =
-    let same : first ≡ front = same_Some first front is in
-    elim found [
-      | inl here ↦ let e : f front ≡ f key = ap f (sym same ∙ here) in omega (arith, e)
-      | inr there ↦ let e : f front ≡ f first = ap f (sym same) in omega (arith, e, rising.0 key there)
-    ]
-
--- an empty list has no front
-pub none_in : (keys : List ℕ) (key : ℕ) → slice_get keys 0 ≡ None → ¬ IsIn key keys
-none_in [] key is found = found
-none_in (first ∷ rest) key is found = absurd (none-some first (sym is))
-
-pub front_in : (keys : List ℕ) (key : ℕ) → slice_get keys 0 ≡ Some key → IsIn key keys
-front_in [] key is = absurd (none-some key is)
-front_in (first ∷ rest) key is = inl (same_Some first key is)
-
--- a front other than the last key was there before that joined
-pub front_push : (key front : ℕ) (keys : List ℕ) → front ≢ key → slice_get (keys ++ key ∷ []) 0 ≡ Some front
-    → slice_get keys 0 ≡ Some front
-front_push key front [] differs is = absurd (differs (sym (same_Some key front is)))
-front_push key front (first ∷ rest) differs is = is
 
 module _ (R : ℕ → ℕ → Type 0) where
   pub IsSorted-without : (key : ℕ) (keys : List ℕ) → IsSorted R keys → IsSorted R (without key keys)

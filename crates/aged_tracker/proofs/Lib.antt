@@ -3,12 +3,9 @@ pub mod Keys
 pub mod HeldLists
 pub mod Ordered
 pub mod Links
-pub mod Moved
-pub mod Walks
-pub mod Kept
-pub mod Filed
+pub mod Rings
+pub mod Fronts
 pub mod Tables
-pub mod Linked
 pub mod Turns
 pub mod Listed
 pub mod Expired

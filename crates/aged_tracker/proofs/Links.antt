@@ -2,7 +2,7 @@
 use Rattle.std.proofs.Common.{◌≡◌, ◌≢◌, ℕ, ◌+◌, ◌-◌, ◌<◌, ◌≤◌, cond, List, get_or, Option, Some, None}
 use Rattle.std.proofs.Common.{IsSome, is_some, refl, sym, ap, ◌∙◌, subst, inl, inr, arith}
 use Rattle.std.specs.Prelude.{option_map}
-use Rattle.aged_tracker.proofs.Names.{IsNode, IsOn, IsRing, Link, Relinks, SameExceptLinks, SameExceptNeighbours, Slab, Slot, Updates, cases_lt, except_links}
+use Rattle.aged_tracker.proofs.Names.{IsNode, IsOn, IsRing, Link, Relinks, SameBy, Slab, Slot, Updates, cases_lt, except_links}
 use Rattle.aged_tracker.proofs.Names.{except_neighbours, le-ltb, link_at, link_by, no_link, none-some, owner_by, owner_of}
 use Rattle.std.proofs.lemmas.Bool.{lt-ltb}
 use Rattle.slab.specs.Slab.{get}
@@ -47,17 +47,17 @@ Relinks-slot old new heads key s updates =
       others = links_but old new heads key (Some s) updates;
     }
 
-module _ (old new : Slab Slot) (same : SameExceptNeighbours old new) where
+module _ (old new : Slab Slot) (same : SameBy except_neighbours old new) where
   pub bare_owner : (k : ℕ) → owner_of new k ≡ owner_of old k
   bare_owner k = kept_by owner_by except_neighbours (λ s. refl) (get old k) (get new k) (same k)
 
   pub bare_place : (p : ℕ) → IsNode old p → IsNode new p
   bare_place p is above = kept_by is_some except_neighbours (λ s. refl) (get old (p - 5)) (get new (p - 5)) (same (p - 5)) ∙ is above
 
-  pub aside_kept : SameExceptLinks old new
+  pub aside_kept : SameBy except_links old new
   aside_kept k = kept_by (option_map except_links) except_neighbours (λ s. refl) (get old k) (get new k) (same k)
 
-pub aside_place : (old new : Slab Slot) → SameExceptLinks old new → (p : ℕ) → IsNode old p → IsNode new p
+pub aside_place : (old new : Slab Slot) → SameBy except_links old new → (p : ℕ) → IsNode old p → IsNode new p
 aside_place old new same p is above = kept_by is_some except_links (λ s. refl) (get old (p - 5)) (get new (p - 5)) (same (p - 5)) ∙ is above
 
 pub owned_some : (o : Option Slot) (list : ℕ) → owner_by o ≡ Some list → IsSome o

@@ -5,14 +5,13 @@ pub use Rattle.aged_tracker.specs.declared.slot.ListLinks.{ListLinks}
 pub use Rattle.aged_tracker.specs.declared.slot.Neighbour.TheVariants.{Next, Previous}
 pub use Rattle.aged_tracker.specs.declared.slot.Slot.{Slot}
 pub use Rattle.aged_tracker.specs.steps.Keyed.{IsConsistent, IsKeyed, belonging_of}
-pub use Rattle.aged_tracker.specs.steps.SlotLists.{IsLast, IsNode, IsOwned, IsRing, IsRings, Lists, MAX_KEYS, Moves, Pushes, Relinks, SameExceptLinks, SameExceptNeighbours, SameLists}
-pub use Rattle.aged_tracker.specs.steps.SlotLists.{Unlinks, cons_held, except_links, except_neighbours, held_at, held_in, held_of, key_at, keys_of, link_at}
-pub use Rattle.aged_tracker.specs.steps.SlotLists.{link_by, lists_of, neighbour, next_of, no_link, number, owner_by, owner_of, prev_of, updated, walk}
-pub use Rattle.aged_tracker.specs.steps.Table.{AreOldest, AreOldestBut, IsAllLive, IsFiled, IsLinked, IsLiveQueue, IsOldest, IsOrder, IsRising, IsSorted, IsTable, MAX_SERIAL, Sets}
-pub use Rattle.aged_tracker.specs.steps.Table.{held_by, idle_at, in_order, insert_key, insert_used, keys_by, keys_in, last_at, last_by, limit_at, numbered_key}
-pub use Rattle.aged_tracker.specs.steps.Table.{order_in, order_of, owner_in, queue_by, queue_list, queue_number, queue_of, queues_of, serial_at, serial_by}
-pub use Rattle.aged_tracker.specs.steps.SlotLists.{with_links}
-pub use Rattle.aged_tracker.specs.steps.Table.{slots_of}
+pub use Rattle.aged_tracker.specs.steps.SlotLists.{HasRings, IsNode, IsOwned, IsRing, IsRings, Lists, MAX_KEYS, Relinks, Relists, SameBy}
+pub use Rattle.aged_tracker.specs.steps.SlotLists.{cons_held, except_links, except_neighbours, held_at, held_in, held_of, link_at}
+pub use Rattle.aged_tracker.specs.steps.SlotLists.{link_by, neighbour, next_of, no_link, number, off, owner_by, owner_of, prev_of, pushed}
+pub use Rattle.aged_tracker.specs.steps.SlotLists.{updated, with_links}
+pub use Rattle.aged_tracker.specs.steps.Table.{AreOldest, AreOldestBut, IsAllLive, IsLiveQueue, IsOrder, IsRising, IsSorted, IsTable, MAX_SERIAL, Sets}
+pub use Rattle.aged_tracker.specs.steps.Table.{held_by, idle_at, in_order, insert_key, insert_used, keys_by, last_at, last_by, limit_at, numbered_key}
+pub use Rattle.aged_tracker.specs.steps.Table.{order_in, order_of, queue_by, queue_number, queue_of, serial_at, serial_by, slots_of}
 pub use Rattle.box_file.specs.declared.idle_line.IdleKind.{IdleKind}
 pub use Rattle.box_file.specs.declared.limits.Limits.{Limits}
 pub use Rattle.conntrack.specs.ConntrackEntry.{IsNoneLater, aged_of, begun_with, belonging_by, belongs_in, connection_of, connection_ref, has_distinct_ids}
@@ -26,8 +25,8 @@ pub use Rattle.conntrack.specs.declared.connection.ConntrackEntry.{ConntrackEntr
 pub use Rattle.conntrack.specs.declared.connection.Direction.{Direction}
 pub use Rattle.conntrack.specs.declared.connection.Direction.TheVariants.{Reply}
 pub use Rattle.conntrack.specs.declared.connection.Flags.{Flags}
-pub use Rattle.futures.proofs.LinkLemmas.{IsIn-without, IsOn, IsRing-kept, IsRing-push, IsRing-skip, free_not_on, length-without, next_on, prev_end_on, prev_on}
-pub use Rattle.futures.proofs.LinkLemmas.{rings_apart, without_head}
+pub use Rattle.futures.proofs.LinkLemmas.{IsIn-without, IsOn, IsRing-kept, IsRing-push, IsRing-skip, free_not_on, next_on, prev_end_on, prev_on}
+pub use Rattle.futures.proofs.LinkLemmas.{rings_apart, without_absent, without_head}
 pub use Rattle.futures.specs.LinkedLists.{IsApart, IsIn}
 pub use Rattle.futures.specs.Links.{Inserts, Joins}
 pub use Rattle.ip_headers.specs.Same.{same_tuple}

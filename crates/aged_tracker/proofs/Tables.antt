@@ -2,15 +2,26 @@
 use Rattle.std.proofs.Common.{◌≡◌, ◌≢◌, ℕ, ◌≤◌, List, [], ◌∷◌, map, Option, Some, None, IsSome, Bool, true, false}
 use Rattle.std.proofs.Common.{not, ◌||◌, cond, refl, sym, ap, ◌∙◌, subst, inl, inr, arith}
 use Rattle.std.specs.Prelude.{filter, option_map}
-use Rattle.aged_tracker.proofs.Names.{ConnId, ConntrackEntry, Direction, Flags, IsIn, IsNoneLater, Sets, cases_eq, cons_held, eq-eqb, eqb-true, has_id}
-use Rattle.aged_tracker.proofs.Names.{held_in, last_at, last_by, ne_eqb, not_from_false, same_id, touched, touched_at, without_head}
+use Rattle.aged_tracker.proofs.Names.{ConnId, ConntrackEntry, Direction, Flags, IsIn, IsNoneLater, SameBy, Sets, cases_eq, cons_held, eq-eqb, eqb-true, except_links, has_id}
+use Rattle.aged_tracker.proofs.Names.{Slab, Slot, held_at, held_in, held_of, last_at, last_by, ne_eqb, not_from_false, same_id, touched, touched_at, without_head}
+use Rattle.slab.specs.Slab.{get}
+use Rattle.list_laws.specs.Options.{some_of_map}
 use Rattle.futures.specs.LinkedLists as linked
 use Rattle.conntrack.specs.ConntrackEntry.{without}
 use Rattle.aged_tracker.proofs.Keys.{without_past}
+use Rattle.aged_tracker.proofs.Links.{kept_by}
 
 -- each entry has its slot's key as id
 abbrev pub IsNamed : (ℕ → Option ConntrackEntry) → Type 0
 IsNamed s = (key : ℕ) (h : ConntrackEntry) → s key ≡ Some h → h.id.0 ≡ key
+
+-- the slots of a table are so
+pub named_at : (slots : Slab Slot) → IsNamed (held_at slots)
+named_at slots key h is = ap (λ (x : ConntrackEntry). x.id.0) (sym (some_of_map (held_of key) (get slots key) h is).2)
+
+-- a write of links keeps the entries
+pub held_aside : (old new : Slab Slot) → SameBy except_links old new → (k : ℕ) → held_at new k ≡ held_at old k
+held_aside old new same k = kept_by (option_map (held_of k)) except_links (λ s. refl) (get old k) (get new k) (same k)
 
 -- ---- the entries at some keys
 

@@ -6,7 +6,7 @@ use Rattle.aged_tracker.proofs.Names.{false_from_ne_true, has_distinct_ids, has_
 use Rattle.aged_tracker.proofs.Names.{removed_entry, same_id, same_tuple, serial_at, slots_of, touched, touched_at}
 use Rattle.std.specs.Prelude.{IfSome, option_map}
 use Rattle.conntrack.specs.ConntrackEntry.{without}
-use Rattle.aged_tracker.proofs.Tables.{has_id-slot, same_id-named}
+use Rattle.aged_tracker.proofs.Tables.{has_id-slot, named_at, same_id-named}
 use Rattle.aged_tracker.proofs.Links.{some_of}
 use Rattle.aged_tracker.proofs.Ordered.{apart_by_serial}
 use Rattle.aged_tracker.proofs.Members.{distinct_held, find_only}
@@ -18,25 +18,25 @@ module _ (t : AgedSlots) (table : IsTable t) where
   slot_listed k h is = table.order.listed k (subst IsSome (sym is) refl)
 
   pub slot_of : (id : ConnId) → has_id id (held_by t) ≡ true → IsSome ((slots_of t) id.0)
-  slot_of id has = (has_id-slot (slots_of t) id (order_of t) table.linked.named has).1
+  slot_of id has = (has_id-slot (slots_of t) id (order_of t) (named_at t.slots) has).1
 
   pub distinct_by : has_distinct_ids (held_by t) ≡ true
-  distinct_by = distinct_held (slots_of t) (order_of t) table.linked.named (apart_by_serial (serial_at t.slots) (order_of t) table.order.rising)
+  distinct_by = distinct_held (slots_of t) (order_of t) (named_at t.slots) (apart_by_serial (serial_at t.slots) (order_of t) table.order.rising)
 
   pub fresh_id : (id : ConnId) → (slots_of t) id.0 ≡ None → has_id id (held_by t) ≡ false
   fresh_id id free = false_from_ne_true _ (λ has. let slot = some_of _ (slot_of id has) in none-some slot.0 (sym free ∙ slot.1))
 
   pub has_by : (id : ConnId) (h : ConntrackEntry) → (slots_of t) id.0 ≡ Some h → has_id id (held_by t) ≡ true
-  has_by id h is = has_id-held (slots_of t) id h (order_of t) table.linked.named is (slot_listed id.0 h is)
+  has_by id h is = has_id-held (slots_of t) id h (order_of t) (named_at t.slots) is (slot_listed id.0 h is)
 
   named_key : (id : ConnId) (k : ℕ) (x : ConntrackEntry) → slots_of t k ≡ Some x → same_id id x ≡ true → k ≡ id.0
-  named_key id k x is same = sym (table.linked.named k x is) ∙ eqb-true x.id.0 id.0 same
+  named_key id k x is same = sym (named_at t.slots k x is) ∙ eqb-true x.id.0 id.0 same
 
   pub handed_over : (id : ConnId) (h : ConntrackEntry) → slots_of t id.0 ≡ Some h → removed_entry id (held_by t) ≡ Some (aged_of h)
   handed_over id h is =
       ap (option_map aged_of)
       (find_only (same_id id) (slots_of t) (order_of t) id.0 h (slot_listed id.0 h is) is
-      (same_id-named (slots_of t) id h table.linked.named is) (named_key id))
+      (same_id-named (slots_of t) id h (named_at t.slots) is) (named_key id))
 
   pub one_fewer : (id : ConnId) (h : ConntrackEntry) → slots_of t id.0 ≡ Some h → length (without id (held_by t)) + 1 ≡ length (held_by t)
   one_fewer id h is = length-without_one id (held_by t) distinct_by (has_by id h is)

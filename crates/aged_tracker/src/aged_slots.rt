@@ -3,10 +3,10 @@ ghost use Rattle.std.specs.Prelude.{◌≡◌, ◌+◌, ◌<◌, ◌≤◌, ◌+
 ghost use Rattle.slab.specs.Slab.{get, slab_len, ContainsKey, Updates};
 ghost use Rattle.futures.specs.LinkedLists.{IsIn};
 ghost use Rattle.conntrack.specs.ConntrackEntry.{begun_with, connection_of, is_live, touched, touched_at, without, IsNoneLater};
-ghost use Rattle.aged_tracker.specs.steps.SlotLists.{MAX_KEYS, keys_of, lists_of, owner_of, held_at, held_in, held_of, updated};
-ghost use Rattle.aged_tracker.specs.steps.SlotLists.{Fills, IsLast, IsOwned, IsRings, Moves, SameExceptLinks, SameSize, Slots as SlotsName};
+ghost use Rattle.aged_tracker.specs.steps.SlotLists.{MAX_KEYS, except_links, held_at, held_in, held_of, next_of, off, owner_of, prev_of, pushed};
+ghost use Rattle.aged_tracker.specs.steps.SlotLists.{updated, Fills, HasRings, IsOwned, Relists, SameBy, SameSize, Slots as SlotsName};
 ghost use Rattle.aged_tracker.specs.steps.Table.{MAX_SERIAL, has_room, held_by, keys_by, last_at, limit_at, queue_by};
-ghost use Rattle.aged_tracker.specs.steps.Table.{queue_of, slots_of, AreOldest, AreOldestBut, IsAllLive, IsLiveQueue, IsOldest, IsTable, Sets};
+ghost use Rattle.aged_tracker.specs.steps.Table.{queue_of, slots_of, AreOldest, AreOldestBut, IsAllLive, IsLiveQueue, IsTable, Sets};
 ghost use Rattle.aged_tracker.specs.steps.Keyed.{belonging_of};
 
 use crate::linked_lists::{empty_heads, front, is_first, is_last, push_back, unlink};
@@ -41,10 +41,9 @@ fn limit_at(limits: Limits, queue: usize) -> u64
 
 /// The moment of the last packet of a queue's front.
 fn oldest_of(slots: &Slots, queues: &[Link; LISTS], queue: usize, steps: &mut Steps) -> Moment
-    requires range { queue < 5 }
-    requires rings { IsRings slots.now queues.now }
-    ensures oldest { IsOldest (held_at slots.now)
-        (lists_of slots.now queues.now) queue result }
+    requires { queue < 5 }
+    ensures oldest { (front : ℕ) → next_of slots.now queues.now queue ≡ 5 + front
+        → result ≡ last_at (held_at slots.now) front }
     ensures rises { steps.old ≤ steps.new }
     ensures steps { steps.new ≤ steps.old + 1 }
 {
@@ -55,6 +54,28 @@ fn oldest_of(slots: &Slots, queues: &[Link; LISTS], queue: usize, steps: &mut St
             Some(slot) => slot.last,
         },
     }
+}
+
+/// Removes a slot from its queue, and notes the moment of the front that is left.
+fn take_out(
+    slots: &mut Slots,
+    queues: &mut [Link; LISTS],
+    oldest: &mut [Moment; LISTS],
+    key: usize,
+    steps: &mut Steps,
+)
+    requires rings { HasRings slots.old queues.old }
+    requires owned { IsOwned slots.old key }
+    requires oldest { AreOldestBut key slots.old queues.old oldest.old }
+    ensures relists { Relists slots.old slots.new queues.old queues.new key None (off key) }
+    ensures oldest { AreOldest slots.new queues.new oldest.new }
+    ensures except_links { SameBy except_links slots.old slots.new }
+    ensures size { SameSize slots.old slots.new }
+    ensures rises { steps.old ≤ steps.new }
+    ensures steps { steps.new ≤ steps.old + 4 }
+{
+    let left = unlink(slots, queues, key, steps);
+    oldest[left] = oldest_of(slots, queues, left, steps);
 }
 
 /// Moves a slot to the end of a queue, unless it is the last there already. `oldest` may then lack
@@ -69,24 +90,23 @@ fn requeue(
 )
     requires range { queue < 5 }
     requires few { key < MAX_KEYS }
+    requires rings { HasRings slots.old queues.old }
     requires owned { IsOwned slots.old key }
-    requires rings { IsRings slots.old queues.old }
     requires oldest { AreOldestBut key slots.old queues.old oldest.old }
-    ensures rings { IsRings slots.new queues.new }
-    ensures moves { Moves (lists_of slots.old queues.old) (lists_of slots.new queues.new) key queue }
+    ensures relists { Relists slots.old slots.new queues.old queues.new key (Some queue)
+        (λ lists. pushed key queue (off key lists)) }
     ensures oldest { AreOldestBut key slots.new queues.new oldest.new }
-    ensures except_links { SameExceptLinks slots.old slots.new }
+    ensures except_links { SameBy except_links slots.old slots.new }
     ensures size { SameSize slots.old slots.new }
     ensures rises { steps.old ≤ steps.new }
     ensures steps { steps.new ≤ steps.old + 6 }
-    ensures stays { IsLast key (keys_of slots.old queues.old queue) → steps.new ≡ steps.old }
+    ensures stays { prev_of slots.old queues.old queue ≡ 5 + key → steps.new ≡ steps.old }
 {
     if is_last(queues, queue, key) {
         return;
     }
-    let left = unlink(slots, queues, key, steps);
+    take_out(slots, queues, oldest, key, steps);
     push_back(slots, queues, queue, key, steps);
-    oldest[left] = oldest_of(slots, queues, left, steps);
 }
 
 /// Notes the moment of a slot's last packet, if the slot is the front of its queue.
@@ -99,7 +119,7 @@ fn note_front(
 )
     requires range { queue < 5 }
     requires few { key < MAX_KEYS }
-    ensures { (slots : SlotsName) → IsRings slots queues.now
+    ensures { (slots : SlotsName) → HasRings slots queues.now
         → owner_of slots key ≡ Some queue → last_at (held_at slots) key ≡ moment
         → AreOldestBut key slots queues.now oldest.old → AreOldest slots queues.now oldest.new }
 {
@@ -219,10 +239,14 @@ impl AgedSlots {
         ensures steps { steps.new ≤ steps.old + 5 }
     {
         let key = id.0;
-        let left = unlink(&mut self.slots, &mut self.queues, key, steps);
-        let slot = self.slots.remove(key, steps);
-        self.oldest[left] = oldest_of(&self.slots, &self.queues, left, steps);
-        slot.held(key)
+        take_out(
+            &mut self.slots,
+            &mut self.queues,
+            &mut self.oldest,
+            key,
+            steps,
+        );
+        self.slots.remove(key, steps).held(key)
     }
 
     /// The front of a queue, if it has expired.

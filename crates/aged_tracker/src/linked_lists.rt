@@ -1,10 +1,10 @@
 //! Circular doubly linked lists of slots, each with a head. In `steps` calls count the slots that
 //! they read or write.
-ghost use Rattle.std.specs.Prelude.{◌≡◌, ◌+◌, ◌<◌, ◌≤◌, ◌↔◌, ◌++◌, ◌∷◌, [], ℕ, List, Some, None, IfSome, IsTrue, slice_get};
+ghost use Rattle.std.specs.Prelude.{◌≡◌, ◌+◌, ◌<◌, ◌≤◌, ◌==◌, [], IfSome, IfNone, Some, None};
 ghost use Rattle.slab.specs.Slab.{ContainsKey};
-ghost use Rattle.aged_tracker.specs.steps.SlotLists.{MAX_KEYS, number, link_at, owner_of, keys_of, with_neighbour, Relinks};
-ghost use Rattle.aged_tracker.specs.steps.SlotLists.{lists_of, IsLast, IsOwned, IsNode, IsRings, Pushes, SameExceptLinks};
-ghost use Rattle.aged_tracker.specs.steps.SlotLists.{SameExceptNeighbours, SameSize, Slots as SlotsName, Unlinks};
+ghost use Rattle.aged_tracker.specs.steps.SlotLists.{MAX_KEYS, except_links, except_neighbours, link_at, next_of, number, off, owner_of};
+ghost use Rattle.aged_tracker.specs.steps.SlotLists.{prev_of, pushed, with_neighbour, HasRings, IsNode, IsOwned, IsRings, Relinks, Relists};
+ghost use Rattle.aged_tracker.specs.steps.SlotLists.{SameBy, SameSize, Slots as SlotsName};
 
 use crate::slot::{LISTS, Link, ListLinks, Neighbour, NodeIndex};
 use crate::slots::Slots;
@@ -32,7 +32,7 @@ fn set_neighbour(
     requires { IsNode slots.old (number at) }
     ensures links { Relinks (link_at slots.old heads.old) (link_at slots.new heads.new)
         (number at) (with_neighbour neighbour to (link_at slots.old heads.old (number at))) }
-    ensures except_neighbours { SameExceptNeighbours slots.old slots.new }
+    ensures except_neighbours { SameBy except_neighbours slots.old slots.new }
     ensures size { SameSize slots.old slots.new }
     ensures rises { steps.old ≤ steps.new }
     ensures steps { steps.new ≤ steps.old + 1 }
@@ -46,14 +46,12 @@ fn set_neighbour(
 
 /// Removes a slot from its list, and returns that list.
 pub fn unlink(slots: &mut Slots, heads: &mut [Link; LISTS], key: usize, steps: &mut Steps) -> usize
-    requires rings { IsRings slots.old heads.old }
+    requires rings { HasRings slots.old heads.old }
     requires owned { IsOwned slots.old key }
-    ensures rings { IsRings slots.new heads.new }
+    ensures relists { Relists slots.old slots.new heads.old heads.new key None (off key) }
     ensures owner { owner_of slots.old key ≡ Some result }
     ensures range { result < 5 }
-    ensures lists { Unlinks (lists_of slots.old heads.old)
-        (lists_of slots.new heads.new) key result }
-    ensures except_links { SameExceptLinks slots.old slots.new }
+    ensures except_links { SameBy except_links slots.old slots.new }
     ensures size { SameSize slots.old slots.new }
     ensures rises { steps.old ≤ steps.new }
     ensures steps { steps.new ≤ steps.old + 3 }
@@ -80,11 +78,10 @@ pub fn push_back(
     requires slot { ContainsKey slots.old key }
     requires few { key < MAX_KEYS }
     requires free { owner_of slots.old key ≡ None }
-    requires rings { IsRings slots.old heads.old }
-    ensures rings { IsRings slots.new heads.new }
-    ensures lists { Pushes (lists_of slots.old heads.old)
-        (lists_of slots.new heads.new) key list }
-    ensures except_links { SameExceptLinks slots.old slots.new }
+    requires rings { HasRings slots.old heads.old }
+    ensures relists { Relists slots.old slots.new heads.old heads.new key (Some list)
+        (pushed key list) }
+    ensures except_links { SameBy except_links slots.old slots.new }
     ensures size { SameSize slots.old slots.new }
     ensures rises { steps.old ≤ steps.new }
     ensures steps { steps.new ≤ steps.old + 2 }
@@ -107,8 +104,9 @@ pub fn push_back(
 /// The first key of a list.
 pub fn front(heads: &[Link; LISTS], list: usize) -> Option<usize>
     requires { list < 5 }
-    ensures { (slots : SlotsName) → IsRings slots heads.now
-        → result ≡ slice_get (keys_of slots heads.now list) 0 }
+    ensures some { (slots : SlotsName)
+        → IfSome result (λ key. next_of slots heads.now list ≡ 5 + key) }
+    ensures none { (slots : SlotsName) → IfNone result (next_of slots heads.now list < 5) }
 {
     head_link(heads, list).next.key()
 }
@@ -117,8 +115,7 @@ pub fn front(heads: &[Link; LISTS], list: usize) -> Option<usize>
 pub fn is_first(heads: &[Link; LISTS], list: usize, key: usize) -> bool
     requires range { list < 5 }
     requires few { key < MAX_KEYS }
-    ensures { (slots : SlotsName) → IsRings slots heads.now
-        → (IsTrue result ↔ (slice_get (keys_of slots heads.now list) 0 ≡ Some key)) }
+    ensures { (slots : SlotsName) → result ≡ (next_of slots heads.now list == 5 + key) }
 {
     head_link(heads, list).next.number() == LISTS + key
 }
@@ -127,18 +124,14 @@ pub fn is_first(heads: &[Link; LISTS], list: usize, key: usize) -> bool
 pub fn is_last(heads: &[Link; LISTS], list: usize, key: usize) -> bool
     requires range { list < 5 }
     requires few { key < MAX_KEYS }
-    ensures { (slots : SlotsName) → IsRings slots heads.now
-        → (IsTrue result ↔ IsLast key (keys_of slots heads.now list)) }
+    ensures { (slots : SlotsName) → result ≡ (prev_of slots heads.now list == 5 + key) }
 {
     head_link(heads, list).prev.number() == LISTS + key
 }
 
 /// The heads of empty lists.
 pub fn empty_heads() -> [Link; LISTS]
-    ensures rings { (slots : SlotsName) → slots.slots ≡ []
-        → IsRings slots result }
-    ensures lists { (slots : SlotsName) (list : ℕ) → slots.slots ≡ []
-        → keys_of slots result list ≡ [] }
+    ensures { (slots : SlotsName) → slots.slots ≡ [] → IsRings slots result (λ list. []) }
 {
     [
         Link::alone(0),

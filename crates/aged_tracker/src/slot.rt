@@ -1,11 +1,11 @@
 //! A slot of a table, with its links.
-ghost use Rattle.std.specs.Prelude.{◌≡◌, ◌+◌, ◌<◌, ℕ, None};
+ghost use Rattle.std.specs.Prelude.{◌≡◌, ◌+◌, ◌<◌, ℕ, None, IfSome, IfNone};
 ghost use Rattle.conntrack.specs.Phases.{is_closing, phase_by};
 ghost use Rattle.conntrack.specs.ConntrackEntry.{connection_ref, is_live};
 ghost use Rattle.aged_tracker.specs.steps.Keyed.{belonging_of};
 ghost use Rattle.aged_tracker.specs.steps.Packed.{tuple_of};
 ghost use Rattle.aged_tracker.specs.steps.Table.{idle_at, queue_by, queue_in, queue_number};
-ghost use Rattle.aged_tracker.specs.steps.SlotLists.{MAX_KEYS, held_of, key_at, touched_slot, number, with_neighbour};
+ghost use Rattle.aged_tracker.specs.steps.SlotLists.{MAX_KEYS, held_of, touched_slot, number, with_neighbour};
 
 use crate::packed::{PackedTuple, is_same};
 use box_file::{IdleKind, Limits};
@@ -88,7 +88,8 @@ impl NodeIndex {
 
     /// The key of the slot, unless the node is a head.
     pub fn key(self) -> Option<usize>
-        ensures { result ≡ key_at (number self) }
+        ensures slot { IfSome result (λ key. number self ≡ 5 + key) }
+        ensures head { IfNone result (number self < 5) }
     {
         self.number().checked_sub(LISTS)
     }

@@ -1,7 +1,7 @@
 -- Circular doubly linked lists through the slots of a slab, each with a head: the queues. A slot is in one of
 -- them.
-use Rattle.std.specs.Prelude.{◌≡◌, ◌≢◌, ℕ, zero, suc, ◌-◌, ◌<◌, ◌≤◌, nat_lt, if◌then◌else◌, List, [], ◌∷◌}
-use Rattle.std.specs.Prelude.{◌++◌, length, Option, Some, None, IsSome, option_map, slice_index_or}
+use Rattle.std.specs.Prelude.{◌≡◌, ◌≢◌, ℕ, ◌-◌, ◌<◌, ◌≤◌, nat_lt, ◌==◌, if◌then◌else◌, List, [], ◌∷◌}
+use Rattle.std.specs.Prelude.{◌++◌, Option, Some, None, IsSome, option_map, slice_index_or}
 use Rattle.slab.specs.Slab.{Slab, Updates, get, slab_len}
 use Rattle.futures.specs.LinkedLists.{without}
 use Rattle.futures.specs.Links as ring
@@ -121,12 +121,6 @@ owner_by (Some slot) = slot.links.list
 abbrev pub owner_of : Slab Slot → ℕ → Option ℕ
 owner_of slots key = owner_by (get slots key)
 
--- the circular list of a head has these keys, each once, in this order: all slots that belong to it
-abbrev pub IsRing : Slab Slot → List Link → ℕ → List ℕ → Type 0
-IsRing slots heads list keys =
-    ring.IsRing (next_of slots heads) (prev_of slots heads) 5
-    (owner_of slots) list keys
-
 -- the node exists
 abbrev pub IsNode : Slab Slot → ℕ → Type 0
 IsNode slots node = 5 ≤ node → IsSome (get slots (node - 5))
@@ -136,87 +130,53 @@ pub record Relinks (old new : ℕ → Link) (node : ℕ) (link : Link) : Type 0 
   pub here : new node ≡ link
   pub others : (other : ℕ) → other ≢ node → new other ≡ old other
 
+-- each slot is as it was, as far as this keeps of it
+abbrev pub SameBy : (Slot → Slot) → Slab Slot → Slab Slot → Type 0
+SameBy keep old new = (key : ℕ) → option_map keep (get new key) ≡ option_map keep (get old key)
+
 -- a slot without its neighbours
 abbrev pub except_neighbours : Slot → Slot
 except_neighbours slot = with_link no_link slot
-
-abbrev pub SameExceptNeighbours : Slab Slot → Slab Slot → Type 0
-SameExceptNeighbours old new =
-    (key : ℕ) → option_map except_neighbours (get new key) ≡ option_map except_neighbours (get old key)
 
 -- a slot without its links
 abbrev pub except_links : Slot → Slot
 except_links slot = with_links (record { list = None; link = no_link }) slot
 
-abbrev pub SameExceptLinks : Slab Slot → Slab Slot → Type 0
-SameExceptLinks old new =
-    (key : ℕ) → option_map except_links (get new key) ≡ option_map except_links (get old key)
-
 -- ---- lists
 
--- the key of a node, unless it is a head
-abbrev pub key_at : ℕ → Option ℕ
-key_at node = if nat_lt node 5 then None else Some (node - 5)
+-- the keys of each list
+abbrev pub Lists : Type 0
+Lists = ℕ → List ℕ
 
--- the keys along the links after a node, up to the next head, at most so many
-abbrev pub walk : (ℕ → ℕ) → ℕ → ℕ → List ℕ
-walk next zero from = []
-walk next (suc more) from = if nat_lt (next from) 5 then [] else (next from - 5) ∷ walk next more (next from)
+-- the circular list of a head has these keys, each once, in this order: all slots that belong to it
+abbrev pub IsRing : Slab Slot → List Link → ℕ → List ℕ → Type 0
+IsRing slots heads list keys =
+    ring.IsRing (next_of slots heads) (prev_of slots heads) 5 (owner_of slots) list keys
 
--- the keys of a list
-abbrev pub keys_of : Slab Slot → List Link → ℕ → List ℕ
-keys_of slots heads list = walk (next_of slots heads) (length slots.slots) list
+abbrev pub IsRings : Slab Slot → List Link → Lists → Type 0
+IsRings slots heads lists = (list : ℕ) → list < 5 → IsRing slots heads list (lists list)
 
--- each list of a set is circular
-abbrev pub IsRings : Slab Slot → List Link → Type 0
-IsRings slots heads =
-    (list : ℕ) → list < 5 → IsRing slots heads list (keys_of slots heads list)
+abbrev pub HasRings : Slab Slot → List Link → Type 0
+HasRings slots heads = (lists : Lists) × IsRings slots heads lists
 
--- the keys of each list of a set, and the list of each key
-pub record Lists : Type 0 where
-  pub items : ℕ → List ℕ
-  pub list_of : ℕ → Option ℕ
+-- the lists without a key
+abbrev pub off : ℕ → Lists → Lists
+off key lists list = without key (lists list)
 
-abbrev pub lists_of : Slab Slot → List Link → Lists
-lists_of slots heads = record {
-  items = λ list. if nat_lt list 5 then keys_of slots heads list else [];
-  list_of = owner_of slots;
-}
+-- the lists with a key at the end of one
+abbrev pub pushed : ℕ → ℕ → Lists → Lists
+pushed key to lists list = if list == to then lists list ++ key ∷ [] else lists list
 
 -- a key is in one of the lists
 abbrev pub IsOwned : Slab Slot → ℕ → Type 0
 IsOwned slots key = (list : ℕ) × ((list < 5) × (owner_of slots key ≡ Some list))
 
--- the key left its list, and nothing else changed
-pub record Unlinks (old new : Lists) (key list : ℕ) : Type 0 where
-  pub moved : new.list_of key ≡ None
-  pub rest : (other : ℕ) → other ≢ key → new.list_of other ≡ old.list_of other
-  pub left : new.items list ≡ without key (old.items list)
-  pub others : (other : ℕ) → other ≢ list → new.items other ≡ old.items other
-
--- the key was appended to a list, and nothing else changed
-pub record Pushes (old new : Lists) (key list : ℕ) : Type 0 where
-  pub moved : new.list_of key ≡ Some list
-  pub rest : (other : ℕ) → other ≢ key → new.list_of other ≡ old.list_of other
-  pub last : new.items list ≡ old.items list ++ key ∷ []
-  pub others : (other : ℕ) → other ≢ list → new.items other ≡ old.items other
-
--- the key is the last of these
-abbrev pub IsLast : ℕ → List ℕ → Type 0
-IsLast key keys = without key keys ++ key ∷ [] ≡ keys
-
--- the key went from its list to the end of one, and nothing else changed
-pub record Moves (old new : Lists) (key to : ℕ) : Type 0 where
-  pub from : ℕ
-  pub was : old.list_of key ≡ Some from
-  pub left : Lists
-  pub unlinks : Unlinks old left key from
-  pub pushes : Pushes left new key to
-
--- no list changed
-pub record SameLists (old new : Lists) : Type 0 where
-  pub items : (list : ℕ) → new.items list ≡ old.items list
-  pub list_of : (key : ℕ) → new.list_of key ≡ old.list_of key
+-- the key is in this list now or in none, and the keys of the lists changed so
+pub record Relists (old new : Slab Slot) (heads heads' : List Link) (key : ℕ) (to : Option ℕ)
+    (change : Lists → Lists) : Type 0 where
+  pub rings : (lists : Lists) → IsRings old heads lists → IsRings new heads' (change lists)
+  pub here : owner_of new key ≡ to
+  pub others : (other : ℕ) → other ≢ key → owner_of new other ≡ owner_of old other
 
 -- slots
 abbrev pub Slots : Type 0

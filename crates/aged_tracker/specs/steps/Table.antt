@@ -1,8 +1,8 @@
 -- A conntrack table: slots that are numbered in the order of their creation, and a queue for each timeout.
-use Rattle.std.specs.Prelude.{◌≡◌, ◌≢◌, ℕ, zero, suc, ◌-◌, ◌^◌, ◌<◌, ◌≤◌, Bool, true, nat_lt, ◌&&◌, ◌==◌}
-use Rattle.std.specs.Prelude.{if◌then◌else◌, List, [], ◌∷◌, length, map, Option, Some, None, IsSome, option_map, slice_get, slice_index_or}
+use Rattle.std.specs.Prelude.{◌≡◌, ◌≢◌, ℕ, zero, suc, ◌+◌, ◌-◌, ◌^◌, ◌<◌, ◌≤◌, Bool, true, nat_lt, ◌&&◌, ◌==◌}
+use Rattle.std.specs.Prelude.{if◌then◌else◌, List, [], ◌∷◌, length, map, Option, Some, None, IsSome, option_map, slice_index_or}
 use Rattle.slab.specs.Slab.{Slab, get, slab_len}
-use Rattle.futures.specs.LinkedLists.{IsIn, IsApart}
+use Rattle.futures.specs.LinkedLists.{IsIn}
 use Rattle.ip_headers.specs.declared.tuple.Kind.{Kind}
 use Rattle.conntrack.specs.declared.connection.Phase.{Phase}
 use Rattle.conntrack.specs.declared.connection.ConntrackEntry.{ConntrackEntry}
@@ -14,7 +14,7 @@ use Rattle.conntrack.specs.ConntrackEntry.{is_live}
 use Rattle.aged_tracker.specs.declared.aged_slots.AgedSlots.{AgedSlots}
 use Rattle.aged_tracker.specs.declared.slot.Link.{Link}
 use Rattle.aged_tracker.specs.declared.slot.Slot.{Slot}
-use Rattle.aged_tracker.specs.steps.SlotLists.{MAX_KEYS, Lists, held_at, held_in, lists_of, IsRings}
+use Rattle.aged_tracker.specs.steps.SlotLists.{MAX_KEYS, Lists, held_at, held_in, next_of, owner_of, IsRings}
 
 -- ---- queues
 
@@ -50,24 +50,6 @@ limit_at limits q = limit_in limits (idle_at q)
 
 -- ---- lists
 
--- the keys of a list
-abbrev pub keys_in : Lists → ℕ → List ℕ
-keys_in lists list = lists.items list
-
--- the list of a key
-abbrev pub owner_in : Lists → ℕ → Option ℕ
-owner_in lists key = lists.list_of key
-
--- each key is in its expected list, once, and in no other
-pub record IsFiled (lists : Lists) (list_for : ℕ → Option ℕ) : Type 0 where
-  pub owner : (key : ℕ) → owner_in lists key ≡ list_for key
-  pub listed : (key list : ℕ) → list_for key ≡ Some list → IsIn key (keys_in lists list)
-  pub placed : (key list : ℕ) → IsIn key (keys_in lists list) → list_for key ≡ Some list
-  pub apart : (list : ℕ) → IsApart (keys_in lists list)
-
-abbrev pub queue_list : (ℕ → Option ConntrackEntry) → ℕ → Option ℕ
-queue_list slots key = option_map queue_of (slots key)
-
 abbrev pub last_by : Option ConntrackEntry → ℕ
 last_by None = 0
 last_by (Some h) = h.last
@@ -85,27 +67,17 @@ IsSorted R (key ∷ keys) = ((other : ℕ) → IsIn other keys → R key other) 
 abbrev pub IsRising : (ℕ → ℕ) → List ℕ → Type 0
 IsRising f = IsSorted (λ key other. f key ≤ f other)
 
--- each entry has its slot's key as id and is in its queue, and each queue is sorted by last packets
-pub record IsLinked (slots : ℕ → Option ConntrackEntry) (kinds : Lists) : Type 0 where
-  pub named : (key : ℕ) (h : ConntrackEntry) → slots key ≡ Some h → h.id.0 ≡ key
-  pub queues : IsFiled kinds (queue_list slots)
-  pub rising : (q : ℕ) → IsRising (last_at slots) (keys_in kinds q)
-
--- the moment of a queue's front entry
-abbrev pub IsOldest : (ℕ → Option ConntrackEntry) → Lists → ℕ → ℕ → Type 0
-IsOldest slots queues q moment =
-    (key : ℕ) → slice_get (keys_in queues q) 0 ≡ Some key → moment ≡ last_at slots key
-
--- each queue's moment is its front entry's
-abbrev pub AreOldest : Slab Slot → List Link → List ℕ → Type 0
-AreOldest slots heads moments =
-    (q : ℕ) → q < 5 → IsOldest (held_at slots) (lists_of slots heads) q (slice_index_or moments q 0)
-
--- it is so where the queue doesn't have this key in front
+-- the moment of each queue's front, unless that is this key
 abbrev pub AreOldestBut : ℕ → Slab Slot → List Link → List ℕ → Type 0
 AreOldestBut key slots heads moments =
-    (q : ℕ) → q < 5 → (other : ℕ) → other ≢ key → slice_get (keys_in (lists_of slots heads) q) 0 ≡ Some other
-    → slice_index_or moments q 0 ≡ last_at (held_at slots) other
+    (q : ℕ) → q < 5 → (front : ℕ) → front ≢ key → next_of slots heads q ≡ 5 + front
+    → slice_index_or moments q 0 ≡ last_at (held_at slots) front
+
+-- the moment of each queue's front
+abbrev pub AreOldest : Slab Slot → List Link → List ℕ → Type 0
+AreOldest slots heads moments =
+    (q : ℕ) → q < 5 → (front : ℕ) → next_of slots heads q ≡ 5 + front
+    → slice_index_or moments q 0 ≡ last_at (held_at slots) front
 
 -- ---- the order of creation
 
@@ -152,9 +124,6 @@ in_order slots serial (suc key) = insert_used serial key (slots key) (in_order s
 abbrev pub slots_of : AgedSlots → ℕ → Option ConntrackEntry
 slots_of t = held_at t.slots
 
-abbrev pub queues_of : AgedSlots → Lists
-queues_of t = lists_of t.slots t.queues
-
 -- the keys in the order of creation
 abbrev pub order_in : Slab Slot → List ℕ
 order_in slots = in_order (held_at slots) (serial_at slots) (length slots.slots)
@@ -166,9 +135,12 @@ order_of t = order_in t.slots
 abbrev pub held_by : AgedSlots → List ConntrackEntry
 held_by t = held_in (slots_of t) (order_of t)
 
+-- each slot is in its entry's queue, and each queue is sorted by last packets
 pub record IsTable (t : AgedSlots) : Type 0 where
-  pub rings : IsRings t.slots t.queues
-  pub linked : IsLinked (slots_of t) (queues_of t)
+  pub lists : Lists
+  pub rings : IsRings t.slots t.queues lists
+  pub owners : (key : ℕ) → owner_of t.slots key ≡ option_map queue_of (slots_of t key)
+  pub rising : (q : ℕ) → q < 5 → IsRising (last_at (slots_of t)) (lists q)
   pub order : IsOrder (slots_of t) (serial_at t.slots) (order_of t)
   pub below : (key : ℕ) → IsSome (slots_of t key) → serial_at t.slots key < t.next_serial
   pub oldest : AreOldest t.slots t.queues t.oldest

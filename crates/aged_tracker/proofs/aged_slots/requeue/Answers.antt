@@ -1,26 +1,25 @@
-use Rattle.std.proofs.Common.{◌≡◌, ◌∙◌, length, rules, arith}
-use Rattle.aged_tracker.proofs.Names.{lists_of}
-use Rattle.aged_tracker.proofs.Kept.{held_aside}
-use Rattle.aged_tracker.proofs.Linked.{moves_nowhere, oldest_moved}
+use Rattle.std.proofs.Common.{◌∙◌, eqb-true, sym}
+use Rattle.aged_tracker.proofs.Names.{off, pushed}
+use Rattle.aged_tracker.proofs.Fronts.{oldest_pushed, relists_last}
+use Rattle.aged_tracker.proofs.Rings.{relists_then}
+use Rattle.aged_tracker.proofs.Turns.{last_aside}
 use Rattle.aged_tracker.proofs.aged_slots.requeue.Goals as goal
 
-pub returns-then-is_last-clause-moves : goal.returns-then-is_last-clause-moves
-returns-then-is_last-clause-moves c =
-    moves_nowhere c.args.slots.now c.args.queues.now c.args.key c.args.queue c.requires.range c.requires.rings
-    ((c.is_last.ensures c.args.slots.now c.requires.rings).0 c.if-is_last.true)
+pub push_back-requires-clause-rings : goal.push_back-requires-clause-rings
+push_back-requires-clause-rings c = (off c.args.key c.requires.rings.0, c.take_out.ensures.relists.rings c.requires.rings.0 c.requires.rings.1)
+
+pub returns-then-is_last-clause-relists : goal.returns-then-is_last-clause-relists
+returns-then-is_last-clause-relists c =
+    relists_last c.args.slots.now c.args.queues.now c.args.key c.args.queue c.requires.rings c.requires.range
+    (eqb-true _ _ (sym (c.is_last.ensures c.args.slots.now) ∙ c.if-is_last.true))
+
+pub returns-clause-relists : goal.returns-clause-relists
+returns-clause-relists c =
+    relists_then _ _ _ _ _ _ c.args.key _ _ (off c.args.key) (pushed c.args.key c.args.queue) c.take_out.ensures.relists
+    c.push_back.ensures.relists
 
 pub returns-clause-oldest : goal.returns-clause-oldest
 returns-clause-oldest c =
-    let long : length c.args.oldest.now ≡ 5 = search rules in
-    oldest_moved c.args.slots.now c.push_back.new.slots c.args.queues.now c.push_back.new.heads c.args.key c.args.queue
-    c.args.oldest.now c.oldest_of.result
-    (record {
-      from = c.unlink-left.result;
-      was = c.unlink-left.ensures.owner;
-      left = lists_of c.unlink-left.new.slots c.unlink-left.new.heads;
-      unlinks = c.unlink-left.ensures.lists;
-      pushes = c.push_back.ensures.lists;
-    })
-    (λ k. held_aside c.unlink-left.new.slots c.push_back.new.slots c.push_back.ensures.except_links k
-    ∙ held_aside c.args.slots.now c.unlink-left.new.slots c.unlink-left.ensures.except_links k)
-    (omega (arith, long, c.unlink-left.ensures.range)) c.oldest_of.ensures.oldest c.requires.oldest
+    oldest_pushed _ _ _ _ c.args.key c.take_out.new.oldest (λ k d. last_aside c.take_out.new.slots c.push_back.new.slots c.push_back.ensures.except_links k) c.args.queue
+    (off c.args.key c.requires.rings.0, c.take_out.ensures.relists.rings c.requires.rings.0 c.requires.rings.1)
+    c.push_back.ensures.relists (λ q range front d. c.take_out.ensures.oldest q range front)

@@ -1,8 +1,7 @@
 use Rattle.std.proofs.Common.{◌≡◌, ◌≢◌, ℕ, ◌+◌, Some, refl, ap, ◌∙◌, arith}
-use Rattle.aged_tracker.proofs.Names.{Next, Previous, free_not_on, keys_of, link_at, neighbour, next_of, number, owner_of, prev_end_on, prev_of}
+use Rattle.aged_tracker.proofs.Names.{Next, Previous, free_not_on, link_at, neighbour, next_of, number, owner_of, prev_end_on, prev_of}
 use Rattle.aged_tracker.proofs.Links.{bare_owner, on_place, aside_kept, aside_place}
-use Rattle.aged_tracker.proofs.Moved.{Spliced, Placed, joined, placed, unmoved}
-use Rattle.aged_tracker.proofs.Kept.{rings_pushed, lists_pushed}
+use Rattle.aged_tracker.proofs.Rings.{Placed, Spliced, joined, placed, relists_pushed, unmoved}
 use Rattle.aged_tracker.proofs.linked_lists.push_back.Goals as goal
 use Rattle.aged_tracker.proofs.linked_lists.push_back.Goals.{After-set_links, After-set_neighbour-2}
 
@@ -13,8 +12,8 @@ own c = placed _ _ c.args.key _ c.requires.slot c.set_links.ensures.slots
 
 pub set_neighbour-requires : goal.set_neighbour-requires
 set_neighbour-requires c =
-    let keys = keys_of c.args.slots.now c.args.heads.now c.args.list in
-    let ring = c.requires.rings c.args.list c.requires.range in
+    let keys = c.requires.rings.0 c.args.list in
+    let ring = c.requires.rings.1 c.args.list c.requires.range in
     let b = ap (neighbour Previous) (c.head_link.ensures c.args.slots.now) in
     aside_place c.args.slots.now c.set_links.new.self (own (goal.at.set_neighbour-requires c).After-set_links).same
     (number c.head_link.result.prev)
@@ -24,8 +23,8 @@ set_neighbour-requires c =
 spliced : (c : After-set_neighbour-2) → Spliced c.args.slots.now c.set_neighbour-2.new.slots c.args.heads.now
     c.set_neighbour-2.new.heads c.args.key c.args.list
 spliced c =
-    let keys = keys_of c.args.slots.now c.args.heads.now c.args.list in
-    let ring = c.requires.rings c.args.list c.requires.range in
+    let keys = c.requires.rings.0 c.args.list in
+    let ring = c.requires.rings.1 c.args.list c.requires.range in
     let p = placed _ _ c.args.key _ c.requires.slot c.set_links.ensures.slots in
     let linked = p.link c.args.heads.now in
     let b = ap (neighbour Previous) (c.head_link.ensures c.args.slots.now) in
@@ -61,15 +60,10 @@ spliced c =
       others = λ k d. owners k ∙ p.others k d;
     }
 
-pub returns-clause-rings : goal.returns-clause-rings
-returns-clause-rings c =
-    rings_pushed _ _ _ _ c.args.key c.args.list c.requires.rings c.requires.range c.requires.free
-    (spliced (goal.at.returns-clause-rings c).After-set_neighbour-2)
-
-pub returns-clause-lists : goal.returns-clause-lists
-returns-clause-lists c =
-    lists_pushed _ _ _ _ c.args.key c.args.list c.requires.rings c.requires.range c.requires.free
-    (spliced (goal.at.returns-clause-lists c).After-set_neighbour-2)
+pub returns-clause-relists : goal.returns-clause-relists
+returns-clause-relists c =
+    relists_pushed _ _ _ _ c.args.key c.args.list (spliced (goal.at.returns-clause-relists c).After-set_neighbour-2) c.requires.range
+    c.requires.free
 
 pub returns-clause-except_links : goal.returns-clause-except_links
 returns-clause-except_links c k =

@@ -1,9 +1,8 @@
 use Rattle.std.proofs.Common.{◌≡◌, ℕ, ◌+◌, ◌<◌, Some, None, refl, ap, sym, ◌∙◌, arith}
-use Rattle.aged_tracker.proofs.Names.{IsNode, IsOn, Link, ListLinks, Next, Previous, keys_of, link_at, neighbour, next_on, owner_of, prev_on, same_Some}
+use Rattle.aged_tracker.proofs.Names.{IsNode, IsOn, Link, ListLinks, Next, Previous, link_at, neighbour, next_on, owner_of, prev_on, same_Some}
 use Rattle.slab.specs.Slab.{get}
 use Rattle.aged_tracker.proofs.Links.{bare_owner, bare_place, on_place, aside_kept, aside_place, owned_some}
-use Rattle.aged_tracker.proofs.Moved.{Skipped, Placed, joined, placed, unmoved}
-use Rattle.aged_tracker.proofs.Kept.{rings_unlinked, lists_unlinked}
+use Rattle.aged_tracker.proofs.Rings.{Placed, Skipped, joined, placed, relists_left, unmoved}
 use Rattle.aged_tracker.proofs.linked_lists.unlink.Goals as goal
 use Rattle.aged_tracker.proofs.linked_lists.unlink.Goals.{After-take_links-links, After-set_neighbour-2, After-from}
 
@@ -16,25 +15,23 @@ taken c = placed c.args.slots.now c.take_links-links.new.self c.args.key (links 
     (owned_some (get c.args.slots.now c.args.key) c.requires.owned.0 c.requires.owned.1.1) c.take_links-links.ensures.slots
 
 -- a neighbour exists
-place : (c : After-take_links-links) (p : ℕ)
-    → IsOn 5 c.requires.owned.0 (keys_of c.args.slots.now c.args.heads.now c.requires.owned.0) p
+place : (c : After-take_links-links) (p : ℕ) → IsOn 5 c.requires.owned.0 (c.requires.rings.0 c.requires.owned.0) p
     → IsNode c.take_links-links.new.self p
 place c p on =
     aside_place c.args.slots.now c.take_links-links.new.self (taken c).same p
-    (on_place c.args.slots.now c.args.heads.now c.requires.owned.0
-    (keys_of c.args.slots.now c.args.heads.now c.requires.owned.0) p c.requires.owned.1.0
-    (c.requires.rings c.requires.owned.0 c.requires.owned.1.0) on)
+    (on_place c.args.slots.now c.args.heads.now c.requires.owned.0 (c.requires.rings.0 c.requires.owned.0) p c.requires.owned.1.0
+    (c.requires.rings.1 c.requires.owned.0 c.requires.owned.1.0) on)
 
 pub set_neighbour-requires : goal.set_neighbour-requires
 set_neighbour-requires c =
-    let ring = c.requires.rings c.requires.owned.0 c.requires.owned.1.0 in
+    let ring = c.requires.rings.1 c.requires.owned.0 c.requires.owned.1.0 in
     place (goal.at.set_neighbour-requires c).After-take_links-links _
     (rw (c.take_links-links.ensures.link c.args.heads.now)
     (prev_on _ _ 5 c.requires.owned.0 _ c.requires.owned.0 c.args.key ring.chained (ring.listed c.args.key c.requires.owned.1.1)))
 
 pub set_neighbour-requires-2 : goal.set_neighbour-requires-2
 set_neighbour-requires-2 c =
-    let ring = c.requires.rings c.requires.owned.0 c.requires.owned.1.0 in
+    let ring = c.requires.rings.1 c.requires.owned.0 c.requires.owned.1.0 in
     bare_place c.take_links-links.new.self c.set_neighbour.new.slots c.set_neighbour.ensures.except_neighbours _
     (place (goal.at.set_neighbour-requires-2 c).After-take_links-links _
     (rw (c.take_links-links.ensures.link c.args.heads.now)
@@ -75,21 +72,15 @@ range c =
     let same = same_Some c.from.result c.requires.owned.0 (sym (owned c) ∙ c.requires.owned.1.1) in
     omega (arith, same, c.requires.owned.1.0)
 
-pub returns-clause-rings : goal.returns-clause-rings
-returns-clause-rings c =
-    rings_unlinked _ _ _ _ c.args.key c.from.result c.requires.rings (range c) (owned c)
-    (skipped (goal.at.returns-clause-rings c).After-set_neighbour-2)
+pub returns-clause-relists : goal.returns-clause-relists
+returns-clause-relists c =
+    relists_left _ _ _ _ c.args.key (skipped (goal.at.returns-clause-relists c).After-set_neighbour-2) c.from.result (range c) (owned c)
 
 pub returns-clause-owner : goal.returns-clause-owner
 returns-clause-owner c = owned c
 
 pub returns-clause-range : goal.returns-clause-range
 returns-clause-range c = range c
-
-pub returns-clause-lists : goal.returns-clause-lists
-returns-clause-lists c =
-    lists_unlinked _ _ _ _ c.args.key c.from.result c.requires.rings (range c) (owned c)
-    (skipped (goal.at.returns-clause-lists c).After-set_neighbour-2)
 
 pub returns-clause-except_links : goal.returns-clause-except_links
 returns-clause-except_links c k =

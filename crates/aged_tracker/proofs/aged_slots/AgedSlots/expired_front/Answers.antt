@@ -1,24 +1,20 @@
-use Rattle.std.proofs.Common.{ap, sym, ◌∙◌, rules, slice_get}
-use Rattle.aged_tracker.proofs.Kept.{items_at}
+use Rattle.std.proofs.Common.{rules}
 use Rattle.aged_tracker.proofs.Expired.{queue_empty, queue_live, front_expired}
 use Rattle.aged_tracker.proofs.aged_slots.AgedSlots.expired_front.Goals as goal
 
 pub returns-in-None-clause-none : goal.returns-in-None-clause-none
 returns-in-None-clause-none c =
     queue_empty c.args.limits c.args.self.now c.args.now c.args.queue c.requires.table c.requires.range
-    (ap (λ ks. slice_get ks 0) (items_at c.args.self.now.slots c.args.self.now.queues c.args.queue
-    c.requires.range) ∙ sym (c.in-None.ensures c.args.self.now.slots c.requires.table.rings))
+    (c.in-None.ensures.none c.args.self.now.slots)
 
 pub returns-then-saturating_sub-limit_at-clause-none :
     goal.returns-then-saturating_sub-limit_at-clause-none
 returns-then-saturating_sub-limit_at-clause-none c =
     queue_live c.args.limits c.args.self.now c.args.now c.args.queue c.requires.table c.requires.range c.in-Some.key
-    (ap (λ ks. slice_get ks 0) (items_at c.args.self.now.slots c.args.self.now.queues c.args.queue
-    c.requires.range) ∙ sym (c.in-Some.ensures c.args.self.now.slots c.requires.table.rings)) (search rules)
+    (c.in-Some.ensures.some c.args.self.now.slots) (search rules)
 
 pub returns-else-saturating_sub-limit_at-clause-some :
     goal.returns-else-saturating_sub-limit_at-clause-some
 returns-else-saturating_sub-limit_at-clause-some c =
     front_expired c.args.limits c.args.self.now c.args.now c.args.queue c.requires.table c.requires.range c.in-Some.key
-    (ap (λ ks. slice_get ks 0) (items_at c.args.self.now.slots c.args.self.now.queues c.args.queue
-    c.requires.range) ∙ sym (c.in-Some.ensures c.args.self.now.slots c.requires.table.rings)) (search rules)
+    (c.in-Some.ensures.some c.args.self.now.slots) (search rules)

@@ -1,14 +1,18 @@
-use Rattle.std.proofs.Common.{◌≡◌, ◌<◌, ◌++◌, ◌∷◌, [], Some, refl, ap, sym, ◌∙◌, subst, arith}
-use Rattle.std.specs.Prelude.{nat_lt, ◌&&◌}
-use Rattle.aged_tracker.proofs.Names.{ConntrackEntry, MAX_KEYS, MAX_SERIAL, Sets, and_parts, begun_with, held_at, held_by, held_of, last_by, ltb-true, queue_by}
-use Rattle.aged_tracker.proofs.Names.{queue_of, slab_len, slots_of}
-use Rattle.aged_tracker.proofs.Turns.{begun_rings, begun_sets, begun_held, begun_oldest, begun_table}
+use Rattle.std.proofs.Common.{◌≡◌, ◌<◌, ◌++◌, ◌∷◌, [], Some, None, refl, ap, sym, ◌∙◌, subst, arith}
+use Rattle.std.specs.Prelude.{nat_lt, ◌&&◌, option_map}
+use Rattle.aged_tracker.proofs.Names.{AreOldestBut, ConntrackEntry, MAX_KEYS, MAX_SERIAL, Relists, Sets, Slot, and_parts, begun_with, held_at, held_by}
+use Rattle.aged_tracker.proofs.Names.{held_of, last_at, last_by, ltb-true, order_of, owner_by, pushed, queue_by, queue_of, slab_len, slots_of}
+use Rattle.aged_tracker.proofs.Fronts.{oldest_pushed, oldest_written}
+use Rattle.aged_tracker.proofs.HeldLists.{held_push, held_same}
+use Rattle.aged_tracker.proofs.Ordered.{not_none}
+use Rattle.aged_tracker.proofs.Rings.{relists_off, relists_then}
+use Rattle.aged_tracker.proofs.Turns.{Writes, below_after, held_after, last_aside, least, order_more, rising_free, rising_pushed, sets, table_after}
+use Rattle.aged_tracker.proofs.Turns.{writes_first}
 use Rattle.aged_tracker.proofs.aged_slots.AgedSlots.insert.Goals as goal
-use Rattle.aged_tracker.proofs.aged_slots.AgedSlots.insert.Goals.{After-push_back}
+use Rattle.aged_tracker.proofs.aged_slots.AgedSlots.insert.Goals.{After-fill-key, After-push_back}
 
-to : (c : After-push_back) → c.queue_by-queue.result ≡ queue_of (held_of c.fill-key.result c.fill-key.ensures.fills.slot)
-to c = c.queue_by-queue.ensures.queue ∙ ap (queue_by c.begun-held.result.original.kind) c.phase.ensures
-    ∙ ap queue_of (sym c.fill-key.ensures.fills.holds)
+abbrev slot : After-push_back → Slot
+slot c = c.fill-key.ensures.fills.slot
 
 few : (c : After-push_back) → c.fill-key.result < MAX_KEYS
 few c =
@@ -18,58 +22,75 @@ few c =
     let below : c.args.self.now.slots.vacant_key < MAX_KEYS = ltb-true c.args.self.now.slots.vacant_key MAX_KEYS keys.0 in
     omega (arith, below, c.fill-key.ensures.key)
 
-made : (c : After-push_back) → held_of c.fill-key.result c.fill-key.ensures.fills.slot
-    ≡ begun_with (record { 0 = c.fill-key.result }) c.args.connection c.args.flags
+made : (c : After-push_back) → held_of c.fill-key.result (slot c) ≡ begun_with (record { 0 = c.fill-key.result }) c.args.connection c.args.flags
 made c =
     c.fill-key.ensures.fills.holds
     ∙ ap (λ (h : ConntrackEntry). record h { id = record { 0 = c.fill-key.result } }) c.begun-held.ensures
 
+-- it is in no list first
+filled : (c : After-fill-key) → Relists c.args.self.now.slots c.fill-key.new.self c.args.self.now.queues c.args.self.now.queues
+    c.fill-key.result None (λ lists. lists)
+filled c = relists_off _ _ _ c.fill-key.result _ c.fill-key.ensures.fills.updates (ap owner_by c.fill-key.ensures.free)
+    (ap owner_by c.fill-key.ensures.fills.updates.changed ∙ c.fill-key.ensures.fills.unlisted)
+
 pub push_back-requires-clause-rings : goal.push_back-requires-clause-rings
-push_back-requires-clause-rings c = begun_rings c.args.self.now c.fill-key.new.self c.fill-key.result
-    c.fill-key.ensures.fills.slot c.requires.table c.fill-key.ensures.free c.fill-key.ensures.fills.updates
-    c.fill-key.ensures.fills.unlisted
+push_back-requires-clause-rings c =
+    (c.requires.table.lists, (filled (goal.at.push_back-requires-clause-rings c).After-fill-key).rings _ c.requires.table.rings)
 
 pub note_front-requires-clause-few : goal.note_front-requires-clause-few
 note_front-requires-clause-few c = few (goal.at.note_front-requires-clause-few c).After-push_back
 
-last : (c : After-push_back) → c.fill-key.ensures.fills.slot.last ≡ c.args.connection.last
-last c = ap (λ (h : ConntrackEntry). h.last) (made c)
+writes : (c : After-push_back) → Writes c.args.self.now.slots c.push_back.new.slots c.fill-key.result (Some (slot c))
+writes c = writes_first _ _ _ c.fill-key.result _ c.fill-key.ensures.fills.updates c.push_back.ensures.except_links
+
+begun : (c : After-push_back) → Sets (slots_of c.args.self.now) (held_at c.push_back.new.slots) c.fill-key.result (Some (held_of c.fill-key.result (slot c)))
+begun c = sets c.args.self.now c.requires.table _ c.fill-key.result _ (writes c)
 
 pub returns-clause-table : goal.returns-clause-table
 returns-clause-table c =
     let at = (goal.at.returns-clause-table c).After-push_back in
-    begun_table c.args.self.now c.fill-key.new.self c.fill-key.result c.fill-key.ensures.fills.slot c.requires.table
-    c.fill-key.ensures.free c.fill-key.ensures.fills.updates c.fill-key.ensures.fills.unlisted
-    c.push_back.new.slots c.push_back.new.heads c.queue_by-queue.result c.fill-key.ensures.fills.numbered
-    c.push_back.ensures.except_links c.push_back.ensures.lists (to at)
-    c.args.connection.last c.requires.later (last at) c.push_back.ensures.rings c.note_front.new.oldest
-    (c.note_front.ensures c.push_back.new.slots c.push_back.ensures.rings c.push_back.ensures.lists.moved
-    (ap last_by (begun_sets c.args.self.now c.fill-key.new.self c.fill-key.result c.fill-key.ensures.fills.slot c.requires.table
-    c.fill-key.ensures.free c.fill-key.ensures.fills.updates c.fill-key.ensures.fills.unlisted
-    c.push_back.new.slots c.push_back.new.heads c.queue_by-queue.result c.fill-key.ensures.fills.numbered
-    c.push_back.ensures.except_links c.push_back.ensures.lists (to at)).changed ∙ last at)
-    (begun_oldest c.args.self.now c.fill-key.new.self c.fill-key.result c.fill-key.ensures.fills.slot c.requires.table
-    c.fill-key.ensures.free c.fill-key.ensures.fills.updates c.fill-key.ensures.fills.unlisted
-    c.push_back.new.slots c.push_back.new.heads c.queue_by-queue.result c.fill-key.ensures.fills.numbered
-    c.push_back.ensures.except_links c.push_back.ensures.lists (to at)))
-    (few at) _ refl
+    let t = c.args.self.now in
+    let table = c.requires.table in
+    let key = c.fill-key.result in
+    let known = (goal.at.returns-clause-table c).After-fill-key in
+    let relists = relists_then _ _ _ _ _ _ key _ _ (λ lists. lists) (pushed key c.queue_by-queue.result) (filled known)
+    c.push_back.ensures.relists in
+    let to : c.queue_by-queue.result ≡ queue_of (held_of key (slot at)) = c.queue_by-queue.ensures.queue
+    ∙ ap (queue_by c.begun-held.result.original.kind) c.phase.ensures ∙ ap queue_of (sym c.fill-key.ensures.fills.holds) in
+    let last : last_at (held_at c.push_back.new.slots) key ≡ c.args.connection.last =
+    ap last_by (begun at).changed ∙ ap (λ (h : ConntrackEntry). h.last) (made at) in
+    let oldest : AreOldestBut key c.push_back.new.slots c.push_back.new.heads t.oldest =
+    oldest_pushed c.fill-key.new.self c.push_back.new.slots t.queues c.push_back.new.heads key t.oldest
+    (λ k d. last_aside c.fill-key.new.self c.push_back.new.slots c.push_back.ensures.except_links k) c.queue_by-queue.result
+    (table.lists, (filled known).rings _ table.rings) c.push_back.ensures.relists
+    (oldest_written t.slots c.fill-key.new.self t.queues key t.oldest (λ k d. ap (λ o. last_by (option_map (held_of k) o)) (c.fill-key.ensures.fills.updates.others k d))
+    (λ q range front d. table.oldest q range front)) in
+    table_after t table c.push_back.new.slots key (Some (slot at)) (writes at) c.push_back.new.heads _ _ c.note_front.new.oldest
+    _ (order_of t ++ key ∷ []) relists (ap Some to)
+    (rising_pushed t table _ key _ (writes at) c.queue_by-queue.result table.lists
+    (rising_free t table _ key _ (writes at) c.fill-key.ensures.free) (least t table _ key _ (writes at) c.args.connection.last last c.requires.later))
+    (c.note_front.ensures c.push_back.new.slots (_, relists.rings table.lists table.rings) relists.here last oldest)
+    (order_more t table _ key _ (writes at) c.fill-key.ensures.free refl c.fill-key.ensures.fills.numbered)
+    (below_after t table _ key _ (writes at) _ (omega arith) (λ is. omega (arith, c.fill-key.ensures.fills.numbered)))
+    (few at)
 
 pub returns-clause-held : goal.returns-clause-held
 returns-clause-held c =
-    begun_held c.args.self.now c.fill-key.new.self c.fill-key.result c.fill-key.ensures.fills.slot c.requires.table
-    c.fill-key.ensures.free c.fill-key.ensures.fills.updates c.fill-key.ensures.fills.unlisted
-    c.push_back.new.slots c.push_back.new.heads c.queue_by-queue.result c.fill-key.ensures.fills.numbered
-    c.push_back.ensures.except_links c.push_back.ensures.lists (to (goal.at.returns-clause-held c).After-push_back)
-    ∙ ap (λ (h : ConntrackEntry). held_by c.args.self.now ++ h ∷ []) (made (goal.at.returns-clause-held c).After-push_back)
+    let at = (goal.at.returns-clause-held c).After-push_back in
+    let t = c.args.self.now in
+    let key = c.fill-key.result in
+    held_after t c.requires.table _ key _ (writes at) (order_of t ++ key ∷ [])
+    (order_more t c.requires.table _ key _ (writes at) c.fill-key.ensures.free refl c.fill-key.ensures.fills.numbered)
+    ∙ held_push (held_at c.push_back.new.slots) (order_of t) key (held_of key (slot at)) (begun at).changed
+    ∙ ap (λ hs. hs ++ held_of key (slot at) ∷ []) (held_same (slots_of t) (held_at c.push_back.new.slots) (order_of t)
+    (λ k found. (begun at).others k (λ e. not_none (slots_of t k)
+    (ap (slots_of t) e ∙ ap (option_map (held_of key)) c.fill-key.ensures.free) (c.requires.table.order.used k found))))
+    ∙ ap (λ (h : ConntrackEntry). held_by t ++ h ∷ []) (made at)
 
 pub returns-clause-few : goal.returns-clause-few
 returns-clause-few c = few (goal.at.returns-clause-few c).After-push_back
 
 pub returns-clause-slots : goal.returns-clause-slots
 returns-clause-slots c =
-    subst (λ h. Sets (slots_of c.args.self.now) (held_at c.push_back.new.slots) c.fill-key.result (Some h))
-    (made (goal.at.returns-clause-slots c).After-push_back)
-    (begun_sets c.args.self.now c.fill-key.new.self c.fill-key.result c.fill-key.ensures.fills.slot c.requires.table
-    c.fill-key.ensures.free c.fill-key.ensures.fills.updates c.fill-key.ensures.fills.unlisted
-    c.push_back.new.slots c.push_back.new.heads c.queue_by-queue.result c.fill-key.ensures.fills.numbered
-    c.push_back.ensures.except_links c.push_back.ensures.lists (to (goal.at.returns-clause-slots c).After-push_back))
+    let at = (goal.at.returns-clause-slots c).After-push_back in
+    subst (λ h. Sets (slots_of c.args.self.now) (held_at c.push_back.new.slots) c.fill-key.result (Some h)) (made at) (begun at)

@@ -1,40 +1,106 @@
-use Rattle.aged_tracker.proofs.Turns.{touch_rings, touch_owned, touch_oldest, touched_last, touched_held, touched_slots, touched_table}
+use Rattle.std.proofs.Common.{◌≡◌, ℕ, Some, Option, ap, sym, ◌∙◌, inl, inr, refl, arith}
+use Rattle.std.specs.Prelude.{option_map}
+use Rattle.aged_tracker.proofs.Names.{ConntrackEntry, Relists, SameBy, Slab, Slot, Updates, cases_eq, except_links, held_at, held_of, last_at, last_by, link_by, off, order_of}
+use Rattle.aged_tracker.proofs.Names.{owner_by, owner_of, pushed, queue_of, serial_by, slots_of, touched, updated}
+use Rattle.slab.specs.Slab.{get}
+use Rattle.aged_tracker.proofs.Expired.{queue_of-range}
+use Rattle.aged_tracker.proofs.Fronts.{oldest_written}
+use Rattle.aged_tracker.proofs.Links.{some_of}
+use Rattle.aged_tracker.proofs.Rings.{relists_same, relists_then}
+use Rattle.aged_tracker.proofs.Tables.{held_touched, named_at}
+use Rattle.aged_tracker.proofs.Turns.{Writes, below_after, held_after, least, order_same, rising_left, rising_pushed, sets, slot_by, table_after, writes_first}
 use Rattle.aged_tracker.proofs.aged_slots.AgedSlots.touch.Goals as goal
+use Rattle.aged_tracker.proofs.aged_slots.AgedSlots.touch.Goals.{After-touch-queue}
+
+slot : (c : After-touch-queue) → (s : Slot) × (get c.args.self.now.slots c.args.id.0 ≡ Some s)
+slot c = some_of _ (slot_by c.args.self.now.slots c.args.id.0 c.requires.is_held)
+
+abbrev entry : After-touch-queue → ConntrackEntry
+entry c = held_of c.args.id.0 (slot c).0
+
+abbrev after : After-touch-queue → Slot
+after c = updated (touched c.args.direction c.args.flags c.args.mark c.args.now (entry c)) (slot c).0
+
+wrote : (c : After-touch-queue) → Updates c.args.self.now.slots c.touch-queue.new.self c.args.id.0 (Some (after c))
+wrote c = rw (slot c).1 at c.touch-queue.ensures.slots
+
+-- what the write keeps of a slot
+kept : (c : After-touch-queue) {X : Type 0} (f : Option Slot → X) → f (Some (after c)) ≡ f (Some (slot c).0) → (k : ℕ)
+    → f (get c.touch-queue.new.self k) ≡ f (get c.args.self.now.slots k)
+kept c f same k =
+    elim (cases_eq k c.args.id.0) [
+      | inl e ↦ ap (λ j. f (get c.touch-queue.new.self j)) e ∙ ap f (wrote c).changed ∙ same
+          ∙ sym (ap (λ j. f (get c.args.self.now.slots j)) e ∙ ap f (slot c).1)
+      | inr d ↦ ap f ((wrote c).others k d)
+    ]
+
+same : (c : After-touch-queue) → Relists c.args.self.now.slots c.touch-queue.new.self c.args.self.now.queues c.args.self.now.queues
+    c.args.id.0 (owner_of c.args.self.now.slots c.args.id.0) (λ lists. lists)
+same c = relists_same _ _ _ c.args.id.0 (kept c link_by refl) (kept c owner_by refl)
 
 pub requeue-requires-clause-few : goal.requeue-requires-clause-few
 requeue-requires-clause-few c = c.requires.table.few c.args.id.0 c.requires.is_held
 
-pub requeue-requires-clause-owned : goal.requeue-requires-clause-owned
-requeue-requires-clause-owned c = touch_owned c.args.self.now c.touch-queue.new.self c.args.id c.args.direction c.args.flags c.args.mark c.args.now
-    c.touch-queue.result c.requires.table c.requires.is_held c.touch-queue.ensures.slots c.touch-queue.ensures.queue
-
 pub requeue-requires-clause-rings : goal.requeue-requires-clause-rings
-requeue-requires-clause-rings c = touch_rings c.args.self.now c.touch-queue.new.self c.args.id c.args.direction c.args.flags c.args.mark c.args.now
-    c.touch-queue.result c.requires.table c.requires.is_held c.touch-queue.ensures.slots c.touch-queue.ensures.queue
+requeue-requires-clause-rings c =
+    (c.requires.table.lists, (same (goal.at.requeue-requires-clause-rings c).After-touch-queue).rings _ c.requires.table.rings)
+
+pub requeue-requires-clause-owned : goal.requeue-requires-clause-owned
+requeue-requires-clause-owned c =
+    let at = (goal.at.requeue-requires-clause-owned c).After-touch-queue in (
+      queue_of (entry at),
+      (
+        queue_of-range (entry at),
+        (same at).here ∙ c.requires.table.owners c.args.id.0
+            ∙ ap (λ o. option_map queue_of (option_map (held_of c.args.id.0) o)) (slot at).1,
+      ),
+    )
 
 pub requeue-requires-clause-oldest : goal.requeue-requires-clause-oldest
-requeue-requires-clause-oldest c = touch_oldest c.args.self.now c.touch-queue.new.self c.args.id c.args.direction c.args.flags c.args.mark c.args.now
-    c.touch-queue.result c.requires.table c.requires.is_held c.touch-queue.ensures.slots c.touch-queue.ensures.queue
+requeue-requires-clause-oldest c =
+    let at = (goal.at.requeue-requires-clause-oldest c).After-touch-queue in
+    oldest_written c.args.self.now.slots c.touch-queue.new.self c.args.self.now.queues c.args.id.0 c.args.self.now.oldest (λ k d. ap (λ o. last_by (option_map (held_of k) o)) ((wrote at).others k d))
+    (λ q range front d. c.requires.table.oldest q range front)
 
 pub note_front-requires-clause-few : goal.note_front-requires-clause-few
 note_front-requires-clause-few c = c.requires.table.few c.args.id.0 c.requires.is_held
 
+writes : (c : After-touch-queue) (new : Slab Slot) → SameBy except_links c.touch-queue.new.self new
+    → Writes c.args.self.now.slots new c.args.id.0 (Some (after c))
+writes c new = writes_first c.args.self.now.slots c.touch-queue.new.self new c.args.id.0 (Some (after c)) (wrote c)
+
 pub returns-clause-table : goal.returns-clause-table
 returns-clause-table c =
-    touched_table c.args.self.now c.touch-queue.new.self c.args.id c.args.direction c.args.flags c.args.mark c.args.now
-    c.touch-queue.result c.requires.table c.requires.is_held c.touch-queue.ensures.slots c.touch-queue.ensures.queue
-    c.requeue.new.slots c.requeue.new.queues c.requeue.ensures.moves c.requeue.ensures.except_links c.requires.later
-    c.requeue.ensures.rings c.note_front.new.oldest (c.note_front.ensures c.requeue.new.slots c.requeue.ensures.rings
-    c.requeue.ensures.moves.pushes.moved (touched_last c.args.self.now c.touch-queue.new.self c.args.id c.args.direction c.args.flags c.args.mark c.args.now
-    c.touch-queue.result c.requires.table c.requires.is_held c.touch-queue.ensures.slots c.touch-queue.ensures.queue
-    c.requeue.new.slots c.requeue.new.queues c.requeue.ensures.moves c.requeue.ensures.except_links) c.requeue.ensures.oldest)
+    let at = (goal.at.returns-clause-table c).After-touch-queue in
+    let ws = writes at c.requeue.new.slots c.requeue.ensures.except_links in
+    let t = c.args.self.now in
+    let table = c.requires.table in
+    let key = c.args.id.0 in
+    let relists = relists_then _ _ _ _ _ _ key _ _ (λ lists. lists) (λ lists. pushed key c.touch-queue.result (off key lists)) (same at)
+    c.requeue.ensures.relists in
+    let last : last_at (held_at c.requeue.new.slots) key ≡ c.args.now = ap last_by (sets t table _ key _ ws).changed in
+    table_after t table c.requeue.new.slots key (Some (after at)) ws c.requeue.new.queues _ _ c.note_front.new.oldest _ (order_of t)
+    relists (ap Some (rw (slot at).1 at c.touch-queue.ensures.queue))
+    (rising_pushed t table _ key _ ws c.touch-queue.result (off key table.lists) (rising_left t table _ key _ ws)
+    (least t table _ key _ ws c.args.now last c.requires.later))
+    (c.note_front.ensures c.requeue.new.slots (_, relists.rings table.lists table.rings) relists.here last c.requeue.ensures.oldest)
+    (order_same t table _ key _ ws c.requires.is_held refl (sym (ap serial_by (slot at).1)))
+    (below_after t table _ key _ ws _ (omega arith)
+    (λ is. let was = table.below key c.requires.is_held in omega (arith, was, ap serial_by (slot at).1)))
+    (table.few key c.requires.is_held)
 
 pub returns-clause-held : goal.returns-clause-held
-returns-clause-held c = touched_held c.args.self.now c.touch-queue.new.self c.args.id c.args.direction c.args.flags c.args.mark c.args.now
-    c.touch-queue.result c.requires.table c.requires.is_held c.touch-queue.ensures.slots c.touch-queue.ensures.queue
-    c.requeue.new.slots c.requeue.new.queues c.requeue.ensures.moves c.requeue.ensures.except_links
+returns-clause-held c =
+    let at = (goal.at.returns-clause-held c).After-touch-queue in
+    let ws = writes at c.requeue.new.slots c.requeue.ensures.except_links in
+    let t = c.args.self.now in
+    held_after t c.requires.table _ c.args.id.0 _ ws (order_of t)
+    (order_same t c.requires.table _ c.args.id.0 _ ws c.requires.is_held refl (sym (ap serial_by (slot at).1)))
+    ∙ held_touched c.args.id c.args.direction c.args.flags c.args.mark c.args.now (slots_of t) (held_at c.requeue.new.slots) (entry at)
+    (named_at t.slots) (ap (option_map (held_of c.args.id.0)) (slot at).1) (sets t c.requires.table _ c.args.id.0 _ ws) (order_of t)
 
 pub returns-clause-slots : goal.returns-clause-slots
-returns-clause-slots c = touched_slots c.args.self.now c.touch-queue.new.self c.args.id c.args.direction c.args.flags c.args.mark c.args.now
-    c.touch-queue.result c.requires.table c.requires.is_held c.touch-queue.ensures.slots c.touch-queue.ensures.queue
-    c.requeue.new.slots c.requeue.new.queues c.requeue.ensures.moves c.requeue.ensures.except_links
+returns-clause-slots c =
+    let at = (goal.at.returns-clause-slots c).After-touch-queue in
+    rw (slot at).1
+    (sets c.args.self.now c.requires.table _ c.args.id.0 _ (writes at c.requeue.new.slots c.requeue.ensures.except_links))

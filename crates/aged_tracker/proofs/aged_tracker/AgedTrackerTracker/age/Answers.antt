@@ -2,6 +2,7 @@ use Rattle.std.proofs.Common.{◌≡◌, ◌+◌, Some, refl, ap, sym, subst, le
 use Rattle.aged_tracker.proofs.Names.{Aged, ConnId, ConntrackEntry, aged_of, live_at, order_of, removed_entry, same_Some, slots_of}
 use Rattle.conntrack.specs.ConntrackEntry.{without}
 use Rattle.aged_tracker.proofs.Links.{some_of}
+use Rattle.aged_tracker.proofs.Tables.{named_at}
 use Rattle.aged_tracker.proofs.Whole.{has_by, distinct_by, handed_over, one_fewer}
 use Rattle.aged_tracker.proofs.Found.{live_all, live_without}
 use Rattle.aged_tracker.proofs.aged_tracker.AgedTrackerTracker.age.Goals as goal
@@ -35,7 +36,7 @@ named c =
     let taken : removed_entry c.in-Some.id c.args.self.now.held ≡ Some (aged_of at.0) =
     rw (← c.self.view_is) (handed_over c.self.inside.slots c.self.invariant.table c.in-Some.id at.0 at.1) in
     let same : c.end.result ≡ aged_of at.0 = same_Some c.end.result (aged_of at.0) (sym c.end.ensures.aged ∙ taken) in
-    ap (λ (a : Aged). a.id) same ∙ ap (λ n. record { 0 = n }) (c.self.invariant.table.linked.named c.in-Some.id.0 at.0 at.1)
+    ap (λ (a : Aged). a.id) same ∙ ap (λ n. record { 0 = n }) ((named_at c.self.inside.slots.slots) c.in-Some.id.0 at.0 at.1)
 
 pub returns-in-Some-clause-some : goal.returns-in-Some-clause-some
 returns-in-Some-clause-some c =
@@ -46,7 +47,7 @@ returns-in-Some-clause-some c =
       c.end.ensures.held ∙ ap (λ (i : ConnId). without i c.args.self.now.held) (sym name),
       ap (live_at c.args.self.now.limits c.args.now) c.end.ensures.held
           ∙ rw (← c.self.view_is) (live_without c.self.inside.limits
-          (slots_of c.self.inside.slots) c.args.now c.in-Some.id at.0 c.self.invariant.table.linked.named at.1
+          (slots_of c.self.inside.slots) c.args.now c.in-Some.id at.0 (named_at c.self.inside.slots.slots) at.1
           expired (order_of c.self.inside.slots)),
     )
 

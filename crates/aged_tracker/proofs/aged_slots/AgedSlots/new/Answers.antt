@@ -1,0 +1,17 @@
+use Rattle.std.proofs.Common.{[], arith, rules}
+use Rattle.aged_tracker.proofs.Names.{IsRings}
+use Rattle.aged_tracker.proofs.aged_slots.AgedSlots.new.Goals as goal
+
+pub returns-clause-table : goal.returns-clause-table
+returns-clause-table c =
+    let rings : IsRings c.new.result c.empty_heads.result (λ list. []) = c.empty_heads.ensures c.new.result c.new.ensures.empty in
+    record {
+      lists = λ list. [];
+      rings = rings;
+      owners = search rules;
+      rising = λ q range. tt;
+      order = search rules;
+      below = search rules;
+      oldest = λ q range front is. absurd (omega (arith, (rings q range).chained.0, is, range));
+      few = search rules;
+    }
