@@ -8,25 +8,18 @@ use Rattle.futures.specs.Links as ring
 use Rattle.list_laws.specs.Options.{some_of_map}
 use Rattle.aged_tracker.proofs.Fronts.{front_least, front_owned, none_in}
 
-idle_at-number : (k : IdleKind) → idle_at (queue_number k) ≡ k
-idle_at-number idle.Udp = refl
-idle_at-number idle.Established = refl
-idle_at-number idle.Transitory = refl
-idle_at-number idle.Echo = refl
-idle_at-number idle.Other = refl
-
-queue_number-range : (k : IdleKind) → queue_number k < 5
-queue_number-range idle.Udp = omega arith
-queue_number-range idle.Established = omega arith
-queue_number-range idle.Transitory = omega arith
-queue_number-range idle.Echo = omega arith
-queue_number-range idle.Other = omega arith
+known_queue : (k : IdleKind) → (queue_number k < 5) × (idle_at (queue_number k) ≡ k)
+known_queue idle.Udp = (omega arith, refl)
+known_queue idle.Established = (omega arith, refl)
+known_queue idle.Transitory = (omega arith, refl)
+known_queue idle.Echo = (omega arith, refl)
+known_queue idle.Other = (omega arith, refl)
 
 pub queue_of-range : (h : ConntrackEntry) → queue_of h < 5
-queue_of-range h = queue_number-range (idle_kind h.original.kind (phase_of h))
+queue_of-range h = (known_queue (idle_kind h.original.kind (phase_of h))).0
 
 limit_of-at : (limits : Limits) (h : ConntrackEntry) (q : ℕ) → queue_of h ≡ q → limit_of limits h ≡ limit_at limits q
-limit_of-at limits h q is = ap (limit_in limits) (sym (idle_at-number (idle_kind h.original.kind (phase_of h)))) ∙ ap (limit_at limits) is
+limit_of-at limits h q is = ap (limit_in limits) (sym (known_queue (idle_kind h.original.kind (phase_of h))).1) ∙ ap (limit_at limits) is
 
 module _ (limits : Limits) (t : AgedSlots) (now q : ℕ) (table : IsTable t) (range : q < 5) where
   chain : ring.IsChain (next_of t.slots t.queues) (prev_of t.slots t.queues) 5 q (table.lists q) q

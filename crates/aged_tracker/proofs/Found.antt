@@ -108,25 +108,3 @@ live_without limits s now id h named is expired (k ∷ keys) =
 pub has_id-held : (s : ℕ → Option ConntrackEntry) (id : ConnId) (h : ConntrackEntry) (keys : List ℕ) → IsNamed s
     → s id.0 ≡ Some h → IsIn id.0 keys → has_id id (held_in s keys) ≡ true
 has_id-held s id h keys named is found = any_some (same_id id) s keys id.0 h found is (same_id-named s id h named is)
-
-without_new : (id : ConnId) (held : List ConntrackEntry) → has_id id held ≡ false → without id held ≡ held
-without_new id [] none = refl
-without_new id (x ∷ held) none = grind (arith, nat_tests, without_new id held)
-
-without_step : (id : ConnId) (x : ConntrackEntry) (held : List ConntrackEntry) (b : Bool) → same_id id x ≡ b
-    → (b || has_id id held) ≡ true → has_id x.id held ≡ false
-    → (has_id id held ≡ true → length (without id held) + 1 ≡ length held)
-    → length (without id (x ∷ held)) + 1 ≡ length (x ∷ held)
-without_step id x held true same has absent rec =
-    let none : has_id id held ≡ false =
-    ap (λ n. list_any (λ (y : ConntrackEntry). eqb y.id.0 n) held) (sym (eqb-true x.id.0 id.0 same)) ∙ absent in
-    let stays : without id held ≡ held = without_new id held none in
-    rw (same, stays) (omega arith)
-without_step id x held false other has absent rec = let e = rec has in rw other (omega (arith, e))
-
-pub length-without_one : (id : ConnId) (held : List ConntrackEntry) → has_distinct_ids held ≡ true
-    → has_id id held ≡ true → length (without id held) + 1 ≡ length held
-length-without_one id [] distinct has = absurd cc
-length-without_one id (x ∷ held) distinct has =
-    let parts = and_parts _ _ distinct in
-    without_step id x held (same_id id x) refl has (not-true _ parts.0) (length-without_one id held parts.1)

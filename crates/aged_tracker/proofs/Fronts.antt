@@ -1,13 +1,15 @@
 -- The first and the last key of a list, and the moments of the fronts of queues.
-use Rattle.std.proofs.Common.{◌≡◌, ◌≢◌, ℕ, ◌+◌, ◌<◌, ◌≤◌, List, [], ◌∷◌, ◌++◌, length, get_or, set, Some, None, refl, sym, ap, ◌∙◌, subst, inl, inr, arith}
-use Rattle.aged_tracker.proofs.Names.{AreOldest, AreOldestBut, HasRings, IsApart, IsIn, IsRing, IsRising, Link, Next, Relists, Slab, Slot, cases_eq}
-use Rattle.aged_tracker.proofs.Names.{get_or-set_other, get_or-set_same, held_at, last_at, neighbour, next_of, none-some, off, owner_of, prev_of, pushed, same_Some}
-use Rattle.aged_tracker.proofs.Names.{without_absent, without_head}
+use Rattle.std.proofs.Common.{◌≡◌, ◌≢◌, ℕ, ◌+◌, ◌<◌, ◌≤◌, List, [], ◌∷◌, ◌++◌, length, get_or, set, Option, Some, None, refl, sym, ap, ◌∙◌, subst, inl, inr, arith}
+use Rattle.std.specs.Prelude.{option_map}
+use Rattle.aged_tracker.proofs.Names.{AreOldest, AreOldestBut, HasRings, IsApart, IsIn, IsRing, IsRising, Link, Next, Relists, SameBy, Slab, Slot, Updates, cases_eq, except_links}
+use Rattle.aged_tracker.proofs.Names.{get_or-set_other, get_or-set_same, held_at, held_of, last_at, last_by, neighbour, next_of, none-some, off, owner_of, prev_of}
+use Rattle.aged_tracker.proofs.Names.{pushed, same_Some, without_absent, without_head}
 use Rattle.futures.specs.LinkedLists.{without}
 use Rattle.futures.specs.Links as ring
 use Rattle.aged_tracker.proofs.Keys.{IsIn-push_last, without_past}
 use Rattle.aged_tracker.proofs.Links.{link_at-head}
 use Rattle.aged_tracker.proofs.Rings.{pushed_by}
+use Rattle.aged_tracker.proofs.Tables.{held_aside}
 
 module _ (next prev : ℕ → ℕ) (list : ℕ) where
   pub front_in : (keys : List ℕ) (front : ℕ) → list < 5 → ring.IsChain next prev 5 list keys list → next list ≡ 5 + front → IsIn front keys
@@ -53,10 +55,10 @@ module _ (next prev : ℕ → ℕ) (list : ℕ) where
       ap (λ ks. ks ++ key ∷ []) (without_past key first (second ∷ rest)
       (λ e. apart.0 (subst (λ k. IsIn k (second ∷ rest)) (sym e) there))) ∙ ap (λ ks. first ∷ ks) rec
 
-  last_by : (key : ℕ) (keys : List ℕ) → list < 5 → ring.IsChain next prev 5 list keys list → IsApart keys → prev list ≡ 5 + key
+  last_at_end : (key : ℕ) (keys : List ℕ) → list < 5 → ring.IsChain next prev 5 list keys list → IsApart keys → prev list ≡ 5 + key
       → without key keys ++ key ∷ [] ≡ keys
-  last_by key [] range chain apart end = absurd (omega (arith, range, chain.1, end))
-  last_by key (first ∷ rest) range chain apart end = last_from key list first rest chain apart end
+  last_at_end key [] range chain apart end = absurd (omega (arith, range, chain.1, end))
+  last_at_end key (first ∷ rest) range chain apart end = last_from key list first rest chain apart end
 
 pub front_owned : (slots : Slab Slot) (heads : List Link) → HasRings slots heads → (q front : ℕ) → q < 5
     → next_of slots heads q ≡ 5 + front → owner_of slots front ≡ Some q
@@ -68,7 +70,7 @@ pub relists_last : (slots : Slab Slot) (heads : List Link) (key list : ℕ) → 
     → prev_of slots heads list ≡ 5 + key → Relists slots slots heads heads key (Some list) (λ lists. pushed key list (off key lists))
 relists_last slots heads key list known range end =
     let last : (keys : List ℕ) → IsRing slots heads list keys → without key keys ++ key ∷ [] ≡ keys =
-    λ keys ring. last_by _ _ list key keys range ring.chained ring.apart end in
+    λ keys ring. last_at_end _ _ list key keys range ring.chained ring.apart end in
     let ring = known.1 list range in
     let owned : owner_of slots key ≡ Some list =
     ring.owned key (subst (IsIn key) (last (known.0 list) ring) (IsIn-push_last key (without key (known.0 list)))) in
@@ -84,22 +86,27 @@ relists_last slots heads key list known range end =
 
 -- ---- the moments of fronts
 
-module _ (old new : Slab Slot) (heads heads' : List Link) (key : ℕ) (moments : List ℕ)
-    (last : (k : ℕ) → k ≢ key → last_at (held_at new) k ≡ last_at (held_at old) k) where
-  -- no other key comes to the front of a queue
-  pub oldest_kept : ((q front : ℕ) → q < 5 → front ≢ key → next_of new heads' q ≡ 5 + front → next_of old heads q ≡ 5 + front)
-      → AreOldestBut key old heads moments → AreOldestBut key new heads' moments
-  oldest_kept fronts oldest q range front d is = oldest q range front d (fronts q front range d is) ∙ sym (last front d)
+-- a slot gets a value
+pub oldest_written : (old new : Slab Slot) (heads : List Link) (key : ℕ) (moments : List ℕ) (slot : Option Slot) → Updates old new key slot
+    → AreOldest old heads moments → AreOldestBut key new heads moments
+oldest_written old new heads key moments slot updates oldest q range front d is =
+    oldest q range front (ap (neighbour Next) (link_at-head old heads q range ∙ sym (link_at-head new heads q range)) ∙ is)
+    ∙ sym (ap (λ o. last_by (option_map (held_of front) o)) (updates.others front d))
 
+module _ (old new : Slab Slot) (heads heads' : List Link) (key : ℕ) (moments : List ℕ) (same : SameBy except_links old new) where
+  last : (k : ℕ) → last_at (held_at new) k ≡ last_at (held_at old) k
+  last k = ap last_by (held_aside old new same k)
+
+  -- the key goes to the end of a queue
   pub oldest_pushed : (list : ℕ) → HasRings old heads → Relists old new heads heads' key (Some list) (pushed key list)
       → AreOldestBut key old heads moments → AreOldestBut key new heads' moments
-  oldest_pushed list known relists =
-      oldest_kept (λ q front range d is.
+  oldest_pushed list known relists oldest q range front d is =
       let ring = (known.1 q range).chained in
-      pushed_by (λ keys. IsRing new heads' q keys → next_of old heads q ≡ 5 + front) key list q known.0
+      let was = pushed_by (λ keys. IsRing new heads' q keys → next_of old heads q ≡ 5 + front) key list q known.0
       (λ e ring'. front_before _ _ q _ _ (known.0 q) key front d ring ring'.chained is)
       (λ n ring'. sym (same_front _ _ q _ _ (known.0 q) ring ring'.chained) ∙ is)
-      (relists.rings known.0 known.1 q range))
+      (relists.rings known.0 known.1 q range) in
+      oldest q range front d was ∙ sym (last front)
 
   -- the key leaves its queue, whose front is noted
   pub oldest_left : (list moment : ℕ) → HasRings old heads → Relists old new heads heads' key None (off key) → owner_of old key ≡ Some list
@@ -118,16 +125,8 @@ module _ (old new : Slab Slot) (heads heads' : List Link) (key : ℕ) (moments :
             none-some q (sym relists.here ∙ ap (owner_of new) (sym e) ∙ front_owned new heads' (off key known.0, rings') q front range is) in
             get_or-set_other moments list q moment 0 n
             ∙ oldest q range front differs (sym (same_front _ _ q _ _ (known.0 q) (known.1 q range).chained stays) ∙ is)
-            ∙ sym (last front differs)
+            ∙ sym (last front)
       ]
-
--- a write of one slot leaves the heads alone
-pub oldest_written : (old new : Slab Slot) (heads : List Link) (key : ℕ) (moments : List ℕ)
-    → ((k : ℕ) → k ≢ key → last_at (held_at new) k ≡ last_at (held_at old) k) → AreOldestBut key old heads moments
-    → AreOldestBut key new heads moments
-oldest_written old new heads key moments last =
-    oldest_kept old new heads heads key moments last (λ q front range d is.
-    ap (neighbour Next) (link_at-head old heads q range ∙ sym (link_at-head new heads q range)) ∙ is)
 
 -- a slot in no queue is no front
 pub oldest_all : (slots : Slab Slot) (heads : List Link) (key : ℕ) (moments : List ℕ) → HasRings slots heads → owner_of slots key ≡ None

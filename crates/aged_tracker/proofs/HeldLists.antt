@@ -1,6 +1,7 @@
 -- The entries at some keys.
-use Rattle.std.proofs.Common.{◌≡◌, ℕ, List, [], ◌∷◌, ◌++◌, Option, Some, None, refl, ap, ◌∙◌, inl, inr}
+use Rattle.std.proofs.Common.{◌≡◌, ℕ, suc, List, [], ◌∷◌, ◌++◌, length, Option, Some, None, IsSome, refl, ap, ◌∙◌, inl, inr}
 use Rattle.aged_tracker.proofs.Names.{ConntrackEntry, IsIn, cons_held, held_in}
+use Rattle.aged_tracker.proofs.Links.{some_of}
 
 pub held_same : (old new : ℕ → Option ConntrackEntry) (keys : List ℕ) → ((k : ℕ) → IsIn k keys → new k ≡ old k)
     → held_in new keys ≡ held_in old keys
@@ -17,3 +18,10 @@ pub held_push : (s : ℕ → Option ConntrackEntry) (keys : List ℕ) (key : ℕ
     → held_in s (keys ++ key ∷ []) ≡ held_in s keys ++ h ∷ []
 held_push s [] key h is = ap (λ o. cons_held o []) is
 held_push s (k ∷ keys) key h is = ap (cons_held (s k)) (held_push s keys key h is) ∙ cons_append (s k) (held_in s keys) (h ∷ [])
+
+-- each of them is there
+pub length_held : (s : ℕ → Option ConntrackEntry) (keys : List ℕ) → ((k : ℕ) → IsIn k keys → IsSome (s k))
+    → length (held_in s keys) ≡ length keys
+length_held s [] used = refl
+length_held s (k ∷ keys) used =
+    let slot = some_of (s k) (used k (inl refl)) in rw slot.1 (ap suc (length_held s keys (λ j found. used j (inr found))))

@@ -2,8 +2,9 @@
 use Rattle.std.proofs.Common.{◌≡◌, ◌≢◌, ℕ, ◌≤◌, List, [], ◌∷◌, map, Option, Some, None, IsSome, Bool, true, false}
 use Rattle.std.proofs.Common.{not, ◌||◌, cond, refl, sym, ap, ◌∙◌, subst, inl, inr, arith}
 use Rattle.std.specs.Prelude.{filter, option_map}
-use Rattle.aged_tracker.proofs.Names.{ConnId, ConntrackEntry, Direction, Flags, IsIn, IsNoneLater, SameBy, Sets, cases_eq, cons_held, eq-eqb, eqb-true, except_links, has_id}
-use Rattle.aged_tracker.proofs.Names.{Slab, Slot, held_at, held_in, held_of, last_at, last_by, ne_eqb, not_from_false, same_id, touched, touched_at, without_head}
+use Rattle.aged_tracker.proofs.Names.{ConnId, ConntrackEntry, Direction, Flags, IsIn, IsNoneLater, SameBy, Sets, cases_eq, cons_held, eq-eqb, eqb-true}
+use Rattle.aged_tracker.proofs.Names.{Slab, Slot, except_links, has_id, held_at, held_in, held_of, last_at, last_by, ne_eqb, not_from_false, same_id, touched}
+use Rattle.aged_tracker.proofs.Names.{touched_at, without_head}
 use Rattle.slab.specs.Slab.{get}
 use Rattle.list_laws.specs.Options.{some_of_map}
 use Rattle.futures.specs.LinkedLists as linked
@@ -91,27 +92,6 @@ module _ (id : ConnId) (direction : Direction) (flags : Flags) (mark now : ℕ) 
             ∙ sym (ap (λ o. option_map f o) (ap old e ∙ is))
         | inr d ↦ updates.others k d ∙ option_stays (old k) (λ x at. other_id-named old id k x named d at)
       ])
-
--- the id of an entry is the key of a slot
-has_step : (s : ℕ → Option ConntrackEntry) (id : ConnId) (k : ℕ) (o : Option ConntrackEntry)
-    (rest : List ConntrackEntry) (P : Type 0) → IsNamed s → s k ≡ o → has_id id (cons_held o rest) ≡ true
-    → ((h : ConntrackEntry) → k ≡ id.0 → s id.0 ≡ Some h → P) → (has_id id rest ≡ true → P) → P
-has_step s id k None rest P named is has here there = there has
-has_step s id k (Some h) rest P named is has here there = by_test (same_id id h) refl has
-  where
-    by_test : (b : Bool) → same_id id h ≡ b → (b || has_id id rest) ≡ true → P
-    by_test true same has =
-        let at : k ≡ id.0 = sym (named k h is) ∙ eqb-true h.id.0 id.0 same in
-        here h at (subst (λ j. s j ≡ Some h) at is)
-    by_test false other has = there has
-
-pub has_id-slot : (s : ℕ → Option ConntrackEntry) (id : ConnId) (keys : List ℕ) → IsNamed s
-    → has_id id (held_in s keys) ≡ true → IsIn id.0 keys × IsSome (s id.0)
-has_id-slot s id [] named has = absurd cc
-has_id-slot s id (k ∷ keys) named has =
-    has_step s id k (s k) (held_in s keys) _ named refl has
-    (λ h at is. (inl at, subst IsSome (sym is) refl))
-    (λ later. let rec = has_id-slot s id keys named later in (inr rec.0, rec.1))
 
 later_step : (now : ℕ) (o : Option ConntrackEntry) (rest : List ConntrackEntry) → IsNoneLater now (cons_held o rest)
     → (last_by o ≤ now) × IsNoneLater now rest

@@ -3,16 +3,16 @@ use Rattle.std.proofs.Common.{◌≡◌, ◌≢◌, ℕ, ◌<◌, ◌≤◌, Lis
 use Rattle.std.proofs.Common.{arith}
 use Rattle.std.specs.Prelude.{option_map}
 use Rattle.aged_tracker.proofs.Names.{AgedSlots, AreOldest, ContainsKey-within, IsIn, IsIn-without}
-use Rattle.aged_tracker.proofs.Names.{IsNoneLater, IsOrder, IsRising, IsTable, Link, Lists, MAX_KEYS, Relists, SameBy, Sets, Slab, Slot}
+use Rattle.aged_tracker.proofs.Names.{IsNoneLater, IsOrder, IsRising, IsSorted, IsTable, Link, Lists, MAX_KEYS, Relists, SameBy, Sets, Slab, Slot}
 use Rattle.aged_tracker.proofs.Names.{Updates, cases_eq, except_links, held_at, held_by, held_in, held_of, last_at, last_by, none-some, off}
 use Rattle.aged_tracker.proofs.Names.{order_in, order_of, owner_by, owner_of, pushed, queue_of, serial_at, serial_by, slots_of}
 use Rattle.slab.specs.Slab.{get}
 use Rattle.list_laws.specs.Options.{option_cases}
 use Rattle.futures.specs.LinkedLists as linked
-use Rattle.aged_tracker.proofs.Keys.{IsSorted-without, IsSorted-push, IsSorted-to}
+use Rattle.aged_tracker.proofs.Keys.{IsIn-push, IsIn-push_kept, IsIn-push_last, IsIn-without_kept, IsSorted-push, IsSorted-to, IsSorted-without}
 use Rattle.aged_tracker.proofs.Rings.{pushed_by}
-use Rattle.aged_tracker.proofs.Tables.{held_aside, none_later-at}
-use Rattle.aged_tracker.proofs.Ordered.{in_order-is, order_kept, order_begun, order_ended}
+use Rattle.aged_tracker.proofs.Tables.{none_later-at}
+use Rattle.aged_tracker.proofs.Ordered.{IsBelow, in_order-is, not_none}
 use Rattle.aged_tracker.proofs.Links.{kept_by}
 
 pub slot_by : (slots : Slab Slot) (key : ℕ) → IsSome (held_at slots key) → IsSome (get slots key)
@@ -26,9 +26,6 @@ slot_by slots key is = by_slot (get slots key) is
 order_found : (slots : Slab Slot) (keys : List ℕ) → IsOrder (held_at slots) (serial_at slots) keys → order_in slots ≡ keys
 order_found slots keys is =
     in_order-is (held_at slots) (serial_at slots) keys is _ (λ k some. ContainsKey-within slots k (slot_by slots k some))
-
-pub last_aside : (old new : Slab Slot) → SameBy except_links old new → (k : ℕ) → last_at (held_at new) k ≡ last_at (held_at old) k
-last_aside old new same k = ap last_by (held_aside old new same k)
 
 -- ---- reserved memory
 
@@ -152,22 +149,62 @@ module _ (t : AgedSlots) (table : IsTable t) (new : Slab Slot) (key : ℕ) (slot
 
   -- ---- the order of creation
 
+  resorted : (keys : List ℕ) → ((k : ℕ) → IsIn k keys → serial_at new k ≡ serial_at t.slots k) → IsSorted (IsBelow (serial_at t.slots)) keys
+      → IsSorted (IsBelow (serial_at new)) keys
+  resorted keys kept =
+      IsSorted-to (IsBelow (serial_at t.slots)) (IsBelow (serial_at new)) keys (λ j k f g below. omega (arith, kept j f, kept k g, below))
+
+  -- it keeps its number
   pub order_same : IsSome (slots_of t key) → IsSome (option_map (held_of key) slot) → serial_by slot ≡ serial_at t.slots key
       → IsOrder (held_at new) (serial_at new) (order_of t)
   order_same was is number =
-      order_kept (slots_of t) (held_at new) (serial_at t.slots) (serial_at new) key (option_map (held_of key) slot) sets serials was is
-      (serial ∙ number) (order_of t) table.order
+      record {
+        listed = λ k some. elim (cases_eq k key) [
+          | inl e ↦ table.order.listed k (subst (λ j. IsSome (slots_of t j)) (sym e) was)
+          | inr d ↦ table.order.listed k (subst IsSome (sets.others k d) some)
+        ];
+        used = λ k f. elim (cases_eq k key) [
+          | inl e ↦ subst IsSome (sym (ap (held_at new) e ∙ sets.changed)) is
+          | inr d ↦ subst IsSome (sym (sets.others k d)) (table.order.used k f)
+        ];
+        rising = resorted (order_of t) (λ k f. elim (cases_eq k key) [
+          | inl e ↦ ap (serial_at new) e ∙ serial ∙ number ∙ sym (ap (serial_at t.slots) e)
+          | inr d ↦ serials k d
+        ]) table.order.rising;
+      }
 
+  -- it was free, and has a number above all others now
   pub order_more : get t.slots key ≡ None → IsSome (option_map (held_of key) slot) → serial_by slot ≡ t.next_serial
       → IsOrder (held_at new) (serial_at new) (order_of t ++ key ∷ [])
   order_more free is number =
-      order_begun (slots_of t) (held_at new) (serial_at t.slots) (serial_at new) key (option_map (held_of key) slot) sets serials
-      (ap (option_map (held_of key)) free) is (λ k some. omega (arith, serial, number, table.below k some)) (order_of t) table.order
+      let other : (k : ℕ) → IsIn k (order_of t) → k ≢ key =
+      λ k f e. not_none (slots_of t k) (ap (slots_of t) e ∙ ap (option_map (held_of key)) free) (table.order.used k f) in
+      record {
+        listed = λ k some. elim (cases_eq k key) [
+          | inl e ↦ subst (λ j. IsIn j (order_of t ++ key ∷ [])) (sym e) (IsIn-push_last key (order_of t))
+          | inr d ↦ IsIn-push_kept key k (order_of t) (table.order.listed k (subst IsSome (sets.others k d) some))
+        ];
+        used = λ k f. elim (IsIn-push key k (order_of t) f) [
+          | inl there ↦ subst IsSome (sym (sets.others k (other k there))) (table.order.used k there)
+          | inr e ↦ subst IsSome (sym (ap (held_at new) (sym e) ∙ sets.changed)) is
+        ];
+        rising = IsSorted-push (IsBelow (serial_at new)) key (order_of t)
+            (resorted (order_of t) (λ k f. serials k (other k f)) table.order.rising)
+            (λ k f. omega (arith, serials k (other k f), serial, number, table.below k (table.order.used k f)));
+      }
 
+  -- it is free now
   pub order_less : slot ≡ None → IsOrder (held_at new) (serial_at new) (linked.without key (order_of t))
   order_less gone =
-      order_ended (slots_of t) (held_at new) (serial_at t.slots) (serial_at new) key (option_map (held_of key) slot) sets serials
-      (ap (option_map (held_of key)) gone) (order_of t) table.order
+      let still : (k : ℕ) → IsSome (held_at new k) → k ≢ key =
+      λ k some e. not_none (held_at new k) (ap (held_at new) e ∙ sets.changed ∙ ap (option_map (held_of key)) gone) some in
+      record {
+        listed = λ k some. IsIn-without_kept key k (order_of t)
+            (table.order.listed k (subst IsSome (sets.others k (still k some)) some)) (still k some);
+        used = λ k f. let was = IsIn-without key k (order_of t) f in subst IsSome (sym (sets.others k was.1)) (table.order.used k was.0);
+        rising = resorted (linked.without key (order_of t)) (λ k f. serials k (IsIn-without key k (order_of t) f).1)
+            (IsSorted-without (IsBelow (serial_at t.slots)) key (order_of t) table.order.rising);
+      }
 
   pub below_after : (next : ℕ) → t.next_serial ≤ next → (IsSome (held_at new key) → serial_by slot < next) → (k : ℕ)
       → IsSome (held_at new k) → serial_at new k < next

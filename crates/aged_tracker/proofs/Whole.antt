@@ -1,30 +1,40 @@
 -- The invariant of an `AgedTracker` when an entry is touched, created or removed.
 use Rattle.std.proofs.Common.{◌≡◌, ℕ, ◌+◌, ◌-◌, [], ◌∷◌, ◌++◌, length, Option, Some, None, IsSome, is_some}
-use Rattle.std.proofs.Common.{true, false, cond, refl, sym, ap, ◌∙◌, subst, arith, length-append}
-use Rattle.aged_tracker.proofs.Names.{AgedSlots, ConnId, ConntrackEntry, Direction, Flags, IsConsistent, IsIn, IsKeyed, IsTable, Sets, Tuple, aged_of, eqb-true}
-use Rattle.aged_tracker.proofs.Names.{false_from_ne_true, has_distinct_ids, has_id, have_disjoint_tuples, held_by, is_taken, length-map, none-some, order_of}
+use Rattle.std.proofs.Common.{true, false, cond, refl, sym, ap, ◌∙◌, subst, inl, inr, arith, length-append}
+use Rattle.aged_tracker.proofs.Names.{AgedSlots, ConnId, ConntrackEntry, Direction, Flags, IsConsistent, IsIn, IsIn-without, IsKeyed, IsTable, Sets, Tuple, aged_of, eqb-true}
+use Rattle.aged_tracker.proofs.Names.{has_distinct_ids, has_id, have_disjoint_tuples, held_by, is_taken, length-map, ne_eqb, none-some, order_of}
 use Rattle.aged_tracker.proofs.Names.{removed_entry, same_id, same_tuple, serial_at, slots_of, touched, touched_at}
 use Rattle.std.specs.Prelude.{IfSome, option_map}
 use Rattle.conntrack.specs.ConntrackEntry.{without}
-use Rattle.aged_tracker.proofs.Tables.{has_id-slot, named_at, same_id-named}
+use Rattle.futures.proofs.LinkLemmas.{length-without}
+use Rattle.futures.specs.LinkedLists as linked
+use Rattle.list_laws.specs.Options.{option_cases}
+use Rattle.aged_tracker.proofs.HeldLists.{length_held}
+use Rattle.aged_tracker.proofs.Tables.{held_without, named_at, same_id-named}
 use Rattle.aged_tracker.proofs.Links.{some_of}
 use Rattle.aged_tracker.proofs.Ordered.{apart_by_serial}
-use Rattle.aged_tracker.proofs.Members.{distinct_held, find_only}
+use Rattle.aged_tracker.proofs.Members.{any_none, distinct_held, find_only, not_both}
 use Rattle.aged_tracker.proofs.Keyed.{keyed_begun, keyed_ended, keyed_touched, apart_held, taken_none, taken_some, free_at}
-use Rattle.aged_tracker.proofs.Found.{length-without_one, has_id-held}
+use Rattle.aged_tracker.proofs.Found.{has_id-held}
 
 module _ (t : AgedSlots) (table : IsTable t) where
   pub slot_listed : (k : ℕ) (h : ConntrackEntry) → (slots_of t) k ≡ Some h → IsIn k (order_of t)
   slot_listed k h is = table.order.listed k (subst IsSome (sym is) refl)
 
+  pub fresh_id : (id : ConnId) → (slots_of t) id.0 ≡ None → has_id id (held_by t) ≡ false
+  fresh_id id free =
+      any_none (same_id id) (slots_of t) (order_of t)
+      (λ k x found is. ne_eqb x.id.0 id.0 (λ e. none-some x (sym free ∙ ap (slots_of t) (sym e ∙ named_at t.slots k x is) ∙ is)))
+
   pub slot_of : (id : ConnId) → has_id id (held_by t) ≡ true → IsSome ((slots_of t) id.0)
-  slot_of id has = (has_id-slot (slots_of t) id (order_of t) (named_at t.slots) has).1
+  slot_of id has =
+      elim (option_cases (slots_of t id.0)) [
+        | inl free ↦ not_both _ has (fresh_id id free)
+        | inr slot ↦ subst IsSome (sym slot.1) refl
+      ]
 
   pub distinct_by : has_distinct_ids (held_by t) ≡ true
   distinct_by = distinct_held (slots_of t) (order_of t) (named_at t.slots) (apart_by_serial (serial_at t.slots) (order_of t) table.order.rising)
-
-  pub fresh_id : (id : ConnId) → (slots_of t) id.0 ≡ None → has_id id (held_by t) ≡ false
-  fresh_id id free = false_from_ne_true _ (λ has. let slot = some_of _ (slot_of id has) in none-some slot.0 (sym free ∙ slot.1))
 
   pub has_by : (id : ConnId) (h : ConntrackEntry) → (slots_of t) id.0 ≡ Some h → has_id id (held_by t) ≡ true
   has_by id h is = has_id-held (slots_of t) id h (order_of t) (named_at t.slots) is (slot_listed id.0 h is)
@@ -39,7 +49,16 @@ module _ (t : AgedSlots) (table : IsTable t) where
       (same_id-named (slots_of t) id h (named_at t.slots) is) (named_key id))
 
   pub one_fewer : (id : ConnId) (h : ConntrackEntry) → slots_of t id.0 ≡ Some h → length (without id (held_by t)) + 1 ≡ length (held_by t)
-  one_fewer id h is = length-without_one id (held_by t) distinct_by (has_by id h is)
+  one_fewer id h is =
+      let rest = held_without (slots_of t) (slots_of t) id h (named_at t.slots) is (λ k d. refl) (order_of t) in
+      let apart = apart_by_serial (serial_at t.slots) (order_of t) table.order.rising in
+      omega (
+        arith,
+        ap length rest,
+        length_held (slots_of t) (order_of t) table.order.used,
+        length_held (slots_of t) (linked.without id.0 (order_of t)) (λ k f. table.order.used k (IsIn-without id.0 k (order_of t) f).0),
+        length-without id.0 (order_of t) apart (slot_listed id.0 h is),
+      )
 
   module _ (at : Tuple → Option ℕ) (keyed : IsKeyed (slots_of t) at) where
     pub apart_by : have_disjoint_tuples (held_by t) ≡ true
@@ -89,12 +108,7 @@ module _ (t new : AgedSlots) (at at' : Tuple → Option ℕ) (live : ℕ) (aged 
       record {
         table = table;
         keyed = keyed_ended (slots_of t) (slots_of new) at at' id.0 h aged.keyed updates is now;
-        count = omega (
-          arith,
-          aged.count,
-          ap length held,
-          length-without_one id (held_by t) (distinct_by t aged.table) (has_by t aged.table id h is),
-        );
+        count = omega (arith, aged.count, ap length held, one_fewer t aged.table id h is);
       }
 
 pub none_of : {X : Type 0} (o : Option X) → is_some o ≡ false → o ≡ None

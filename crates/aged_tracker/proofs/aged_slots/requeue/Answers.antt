@@ -2,7 +2,6 @@ use Rattle.std.proofs.Common.{◌∙◌, eqb-true, sym}
 use Rattle.aged_tracker.proofs.Names.{off, pushed}
 use Rattle.aged_tracker.proofs.Fronts.{oldest_pushed, relists_last}
 use Rattle.aged_tracker.proofs.Rings.{relists_then}
-use Rattle.aged_tracker.proofs.Turns.{last_aside}
 use Rattle.aged_tracker.proofs.aged_slots.requeue.Goals as goal
 
 pub push_back-requires-clause-rings : goal.push_back-requires-clause-rings
@@ -20,6 +19,6 @@ returns-clause-relists c =
 
 pub returns-clause-oldest : goal.returns-clause-oldest
 returns-clause-oldest c =
-    oldest_pushed _ _ _ _ c.args.key c.take_out.new.oldest (λ k d. last_aside c.take_out.new.slots c.push_back.new.slots c.push_back.ensures.except_links k) c.args.queue
+    oldest_pushed _ _ _ _ c.args.key c.take_out.new.oldest c.push_back.ensures.except_links c.args.queue
     (off c.args.key c.requires.rings.0, c.take_out.ensures.relists.rings c.requires.rings.0 c.requires.rings.1)
     c.push_back.ensures.relists (λ q range front d. c.take_out.ensures.oldest q range front)

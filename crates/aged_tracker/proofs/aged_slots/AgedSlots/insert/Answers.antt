@@ -6,7 +6,7 @@ use Rattle.aged_tracker.proofs.Fronts.{oldest_pushed, oldest_written}
 use Rattle.aged_tracker.proofs.HeldLists.{held_push, held_same}
 use Rattle.aged_tracker.proofs.Ordered.{not_none}
 use Rattle.aged_tracker.proofs.Rings.{relists_off, relists_then}
-use Rattle.aged_tracker.proofs.Turns.{Writes, below_after, held_after, last_aside, least, order_more, rising_free, rising_pushed, sets, table_after}
+use Rattle.aged_tracker.proofs.Turns.{Writes, below_after, held_after, least, order_more, rising_free, rising_pushed, sets, table_after}
 use Rattle.aged_tracker.proofs.Turns.{writes_first}
 use Rattle.aged_tracker.proofs.aged_slots.AgedSlots.insert.Goals as goal
 use Rattle.aged_tracker.proofs.aged_slots.AgedSlots.insert.Goals.{After-fill-key, After-push_back}
@@ -60,11 +60,9 @@ returns-clause-table c =
     let last : last_at (held_at c.push_back.new.slots) key ≡ c.args.connection.last =
     ap last_by (begun at).changed ∙ ap (λ (h : ConntrackEntry). h.last) (made at) in
     let oldest : AreOldestBut key c.push_back.new.slots c.push_back.new.heads t.oldest =
-    oldest_pushed c.fill-key.new.self c.push_back.new.slots t.queues c.push_back.new.heads key t.oldest
-    (λ k d. last_aside c.fill-key.new.self c.push_back.new.slots c.push_back.ensures.except_links k) c.queue_by-queue.result
+    oldest_pushed c.fill-key.new.self _ t.queues _ key t.oldest c.push_back.ensures.except_links c.queue_by-queue.result
     (table.lists, (filled known).rings _ table.rings) c.push_back.ensures.relists
-    (oldest_written t.slots c.fill-key.new.self t.queues key t.oldest (λ k d. ap (λ o. last_by (option_map (held_of k) o)) (c.fill-key.ensures.fills.updates.others k d))
-    (λ q range front d. table.oldest q range front)) in
+    (oldest_written t.slots _ _ key _ _ c.fill-key.ensures.fills.updates table.oldest) in
     table_after t table c.push_back.new.slots key (Some (slot at)) (writes at) c.push_back.new.heads _ _ c.note_front.new.oldest
     _ (order_of t ++ key ∷ []) relists (ap Some to)
     (rising_pushed t table _ key _ (writes at) c.queue_by-queue.result table.lists

@@ -24,7 +24,9 @@ pub take_out-requires-clause-oldest : goal.take_out-requires-clause-oldest
 take_out-requires-clause-oldest c q range front d = c.requires.table.oldest q range front
 
 value : (c : After-remove) → slots_of c.args.self.now c.args.id.0 ≡ Some (held_of c.args.id.0 c.remove.result)
-value c = sym (held_aside c.args.self.now.slots c.take_out.new.slots c.take_out.ensures.except_links c.args.id.0) ∙ ap (option_map (held_of c.args.id.0)) c.remove.ensures.value
+value c =
+    sym (held_aside c.args.self.now.slots c.take_out.new.slots c.take_out.ensures.except_links c.args.id.0)
+    ∙ ap (option_map (held_of c.args.id.0)) c.remove.ensures.value
 
 writes : (c : After-remove) → Writes c.args.self.now.slots c.remove.new.self c.args.id.0 None
 writes c = writes_last _ _ _ c.args.id.0 None c.take_out.ensures.except_links c.remove.ensures.updates
@@ -42,8 +44,7 @@ returns-clause-table c =
     table_after t table c.remove.new.self key None (writes at) c.take_out.new.queues None (off key) c.take_out.new.oldest t.next_serial
     (linked.without key (order_of t)) relists refl (rising_left t table _ key _ (writes at))
     (oldest_all c.remove.new.self c.take_out.new.queues key c.take_out.new.oldest (_, relists.rings table.lists table.rings) relists.here
-    (oldest_written c.take_out.new.slots c.remove.new.self c.take_out.new.queues key c.take_out.new.oldest (λ k d. ap (λ o. last_by (option_map (held_of k) o)) (c.remove.ensures.updates.others k d))
-    (λ q range front d. c.take_out.ensures.oldest q range front)))
+    (oldest_written c.take_out.new.slots _ _ key _ None c.remove.ensures.updates c.take_out.ensures.oldest))
     (order_less t table _ key _ (writes at) refl)
     (below_after t table _ key _ (writes at) t.next_serial (omega arith) (λ is. not_none _ (ap (option_map (held_of key)) c.remove.ensures.updates.changed) is))
     (table.few key c.requires.is_held)

@@ -1,6 +1,7 @@
 use Rattle.std.proofs.Common.{◌≡◌, ℕ, Some, Option, ap, sym, ◌∙◌, inl, inr, refl, arith}
 use Rattle.std.specs.Prelude.{option_map}
-use Rattle.aged_tracker.proofs.Names.{ConntrackEntry, Relists, SameBy, Slab, Slot, Updates, cases_eq, except_links, held_at, held_of, last_at, last_by, link_by, off, order_of}
+use Rattle.aged_tracker.proofs.Names.{ConntrackEntry, Relists, SameBy, Slab, Slot, Updates, cases_eq, except_links, held_at, held_of, last_at}
+use Rattle.aged_tracker.proofs.Names.{last_by, link_by, off, order_of}
 use Rattle.aged_tracker.proofs.Names.{owner_by, owner_of, pushed, queue_of, serial_by, slots_of, touched, updated}
 use Rattle.slab.specs.Slab.{get}
 use Rattle.aged_tracker.proofs.Expired.{queue_of-range}
@@ -59,8 +60,7 @@ requeue-requires-clause-owned c =
 pub requeue-requires-clause-oldest : goal.requeue-requires-clause-oldest
 requeue-requires-clause-oldest c =
     let at = (goal.at.requeue-requires-clause-oldest c).After-touch-queue in
-    oldest_written c.args.self.now.slots c.touch-queue.new.self c.args.self.now.queues c.args.id.0 c.args.self.now.oldest (λ k d. ap (λ o. last_by (option_map (held_of k) o)) ((wrote at).others k d))
-    (λ q range front d. c.requires.table.oldest q range front)
+    oldest_written _ _ _ c.args.id.0 _ (Some (after at)) (wrote at) c.requires.table.oldest
 
 pub note_front-requires-clause-few : goal.note_front-requires-clause-few
 note_front-requires-clause-few c = c.requires.table.few c.args.id.0 c.requires.is_held
