@@ -3,6 +3,7 @@ use Rattle.std.proofs.Common.{◌≡◌, ◌≢◌, ℕ, List, [], ◌∷◌, Op
 use Rattle.aged_tracker.proofs.Names.{ConntrackEntry, IsApart, IsIn, IsKeyed, Sets, Tuple, and_from, cases_Bool, cases_eq, cond-false, cond-true, cons_held}
 use Rattle.aged_tracker.proofs.Names.{false_from_ne_true, have_disjoint_tuples, held_in, is_incoming, is_taken, none-some, not_from_false, or_cases, or_from}
 use Rattle.aged_tracker.proofs.Names.{or_left, or_parts, or_right, same_Some, same_tuple, same_tuple-refl, same_tuple-true}
+use Rattle.list_laws.specs.Options.{option_cases}
 use Rattle.aged_tracker.proofs.Members.{not_both, any_none, any_some}
 
 pub incoming-original : (h : ConntrackEntry) → is_incoming h.original h ≡ true
@@ -38,12 +39,6 @@ module _ (s : ℕ → Option ConntrackEntry) (at : Tuple → Option ℕ) (keyed 
       by_slot None is = is
       by_slot (Some key) is = absurd (not_both _ (taken_some keys tuple key is listed) free)
 
-  apart_step : (o : Option ConntrackEntry) (rest : List ConntrackEntry)
-      → ((x : ConntrackEntry) → o ≡ Some x → (is_taken x.original rest ≡ false) × (is_taken x.reply rest ≡ false))
-      → have_disjoint_tuples rest ≡ true → have_disjoint_tuples (cons_held o rest) ≡ true
-  apart_step None rest free apart = apart
-  apart_step (Some x) rest free apart = and_from _ _ (not_from_false _ (or_from _ _ (free x refl).0 (free x refl).1)) apart
-
   pub apart_held : (keys : List ℕ) → IsApart keys → have_disjoint_tuples (held_in s keys) ≡ true
   apart_held [] apart = refl
   apart_held (k ∷ keys) apart =
@@ -51,9 +46,12 @@ module _ (s : ℕ → Option ConntrackEntry) (at : Tuple → Option ℕ) (keyed 
       → is_taken tuple (held_in s keys) ≡ false =
       λ x tuple is owned. any_none (is_incoming tuple) s keys (λ j y found at'.
       false_from_ne_true (is_incoming tuple y) (λ t. apart.0 (subst (λ i. IsIn i keys) (one_owner j k y x tuple at' is t owned) found))) in
-      apart_step (s k) (held_in s keys)
-      (λ x is. (free x x.original is (incoming-original x), free x x.reply is (incoming-reply x)))
-      (apart_held keys apart.1)
+      let rest = apart_held keys apart.1 in
+      elim (option_cases (s k)) [
+        | inl none ↦ rw none rest
+        | inr x ↦ rw x.1 (and_from _ _ (not_from_false _ (or_from _ _ (free x.0 x.0.original x.1 (incoming-original x.0))
+            (free x.0 x.0.reply x.1 (incoming-reply x.0)))) rest)
+      ]
 
 -- an entry in a slot that was free
 module _ (old new : ℕ → Option ConntrackEntry) (at at' : Tuple → Option ℕ) (key : ℕ) (h : ConntrackEntry)

@@ -2,23 +2,19 @@
 use Rattle.std.proofs.Common.{◌≡◌, ℕ, List, [], ◌∷◌, Option, Some, None, Bool, true, false, refl, sym, ap, ◌∙◌, subst, inl, inr}
 use Rattle.aged_tracker.proofs.Names.{ConntrackEntry, IsApart, IsIn, and_from, cases_eq, cons_held, false_from_ne_true, find, has_distinct_ids, has_id, held_in}
 use Rattle.aged_tracker.proofs.Names.{list_any, ne_eqb, not_from_false, or_from, or_left, or_right, same_id}
+use Rattle.list_laws.specs.Options.{option_cases}
 use Rattle.aged_tracker.proofs.Tables.{IsNamed}
 
 pub not_both : {P : Type 0} (b : Bool) → b ≡ true → b ≡ false → P
 not_both b t f = absurd cc
 
 module _ (f : ConntrackEntry → Bool) (s : ℕ → Option ConntrackEntry) where
-  none_step : (o : Option ConntrackEntry) (rest : List ConntrackEntry)
-      → ((x : ConntrackEntry) → o ≡ Some x → f x ≡ false) → list_any f rest ≡ false
-      → list_any f (cons_held o rest) ≡ false
-  none_step None rest fails none = none
-  none_step (Some x) rest fails none = or_from _ _ (fails x refl) none
-
   pub any_none : (keys : List ℕ) → ((k : ℕ) (x : ConntrackEntry) → IsIn k keys → s k ≡ Some x → f x ≡ false)
       → list_any f (held_in s keys) ≡ false
   any_none [] fails = refl
   any_none (k ∷ keys) fails =
-      none_step (s k) (held_in s keys) (λ x is. fails k x (inl refl) is) (any_none keys (λ j x found is. fails j x (inr found) is))
+      let rest = any_none keys (λ j x found is. fails j x (inr found) is) in
+      elim (option_cases (s k)) [ inl none ↦ rw none rest | inr x ↦ rw x.1 (or_from _ _ (fails k x.0 (inl refl) x.1) rest) ]
 
   some_step : (o : Option ConntrackEntry) (rest : List ConntrackEntry) → list_any f rest ≡ true → list_any f (cons_held o rest) ≡ true
   some_step None rest some = some
@@ -28,9 +24,7 @@ module _ (f : ConntrackEntry → Bool) (s : ℕ → Option ConntrackEntry) where
   any_some [] k x found is passes = absurd found
   any_some (j ∷ keys) k x found is passes =
       elim found [
-        | inl here ↦
-            let at : s j ≡ Some x = ap s here ∙ is in
-            ap (λ o. list_any f (cons_held o (held_in s keys))) at ∙ or_left _ _ passes
+        | inl here ↦ rw (ap s here ∙ is) (or_left _ _ passes)
         | inr there ↦ some_step (s j) (held_in s keys) (any_some keys k x there is passes)
       ]
 
@@ -58,16 +52,12 @@ module _ (f : ConntrackEntry → Bool) (s : ℕ → Option ConntrackEntry) where
       ]
 
 -- slots have distinct ids
-distinct_step : (o : Option ConntrackEntry) (rest : List ConntrackEntry)
-    → ((x : ConntrackEntry) → o ≡ Some x → has_id x.id rest ≡ false) → has_distinct_ids rest ≡ true
-    → has_distinct_ids (cons_held o rest) ≡ true
-distinct_step None rest apart distinct = distinct
-distinct_step (Some x) rest apart distinct = and_from _ _ (not_from_false _ (apart x refl)) distinct
-
 pub distinct_held : (s : ℕ → Option ConntrackEntry) (keys : List ℕ) → IsNamed s → IsApart keys → has_distinct_ids (held_in s keys) ≡ true
 distinct_held s [] named apart = refl
 distinct_held s (k ∷ keys) named apart =
-    distinct_step (s k) (held_in s keys)
-    (λ x is. any_none (same_id x.id) s keys (λ j y found at. ne_eqb y.id.0 x.id.0
-    (λ e. apart.0 (subst (λ i. IsIn i keys) (sym (named j y at) ∙ e ∙ named k x is) found))))
-    (distinct_held s keys named apart.1)
+    let rest = distinct_held s keys named apart.1 in
+    elim (option_cases (s k)) [
+      | inl none ↦ rw none rest
+      | inr x ↦ rw x.1 (and_from _ _ (not_from_false _ (any_none (same_id x.0.id) s keys (λ j y found at. ne_eqb y.id.0 x.0.id.0
+          (λ e. apart.0 (subst (λ i. IsIn i keys) (sym (named j y at) ∙ e ∙ named k x.0 x.1) found))))) rest)
+    ]

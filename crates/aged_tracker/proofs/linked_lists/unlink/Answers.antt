@@ -64,23 +64,18 @@ skipped c =
       others = λ k d. owners k ∙ l.others k d;
     }
 
-owned : (c : After-from) → owner_of c.args.slots.now c.args.key ≡ Some c.from.result
-owned c = sym c.take_links-links.ensures.list ∙ c.in-Some.is ∙ ap Some (sym c.from.ensures)
+pub returns-clause-owner : goal.returns-clause-owner
+returns-clause-owner c = sym c.take_links-links.ensures.list ∙ c.in-Some.is ∙ ap Some (sym c.from.ensures)
 
-range : (c : After-from) → c.from.result < 5
-range c =
-    let same = same_Some c.from.result c.requires.owned.0 (sym (owned c) ∙ c.requires.owned.1.1) in
+pub returns-clause-range : goal.returns-clause-range
+returns-clause-range c =
+    let same = same_Some c.from.result c.requires.owned.0 (sym (returns-clause-owner c) ∙ c.requires.owned.1.1) in
     omega (arith, same, c.requires.owned.1.0)
 
 pub returns-clause-relists : goal.returns-clause-relists
 returns-clause-relists c =
-    relists_left _ _ _ _ c.args.key (skipped (goal.at.returns-clause-relists c).After-set_neighbour-2) c.from.result (range c) (owned c)
-
-pub returns-clause-owner : goal.returns-clause-owner
-returns-clause-owner c = owned c
-
-pub returns-clause-range : goal.returns-clause-range
-returns-clause-range c = range c
+    relists_left _ _ _ _ c.args.key (skipped (goal.at.returns-clause-relists c).After-set_neighbour-2) c.from.result (returns-clause-range c)
+    (returns-clause-owner c)
 
 pub returns-clause-except_links : goal.returns-clause-except_links
 returns-clause-except_links c k =
