@@ -2,12 +2,13 @@
 use Rattle.std.proofs.Common.{◌≡◌, ℕ, ◌+◌, List, [], ◌∷◌, length, Option, Some, None, Bool, true, false, not}
 use Rattle.std.proofs.Common.{◌||◌, ◌&&◌, cond, eqb, refl, sym, ap, ◌∙◌, inl, inr, arith}
 use Rattle.aged_tracker.proofs.Names.{ConnId, ConntrackEntry, Flags, Found, IsAllLive, IsIn, IsKeyed, Limits, NotFound, Reply, Tuple, and_parts, belonging_by}
-use Rattle.aged_tracker.proofs.Names.{belonging_of, belongs_in, cases_Bool, connection_ref, cons_held, eqb-true, find, find-filter, has_distinct_ids, has_id}
+use Rattle.aged_tracker.proofs.Names.{belonging_of, belongs_in, cases_Bool, cases_eq, connection_ref, cons_held, eqb-true, find, find-filter, has_distinct_ids, has_id}
 use Rattle.aged_tracker.proofs.Names.{held_in, is_incoming, is_live, list_any, live_at, nat_tests, not-true, of_reply, or_left, or_parts, or_right}
 use Rattle.aged_tracker.proofs.Names.{same_Some, same_id, same_tuple}
 use Rattle.std.specs.Prelude.{filter, if◌then◌else◌}
 use Rattle.conntrack.specs.ConntrackEntry.{without}
-use Rattle.aged_tracker.proofs.Tables.{IsNamed, filter_cons, same_id-named}
+use Rattle.list_laws.specs.Options.{option_cases}
+use Rattle.aged_tracker.proofs.Tables.{IsNamed, other_id-named, same_id-named}
 use Rattle.aged_tracker.proofs.Members.{not_both, find_none, find_only, any_some}
 use Rattle.aged_tracker.proofs.Keyed.{one_owner, no_owner}
 
@@ -73,21 +74,8 @@ pub live_all : (limits : Limits) (s : ℕ → Option ConntrackEntry) (now : ℕ)
     → live_at limits now (held_in s keys) ≡ held_in s keys
 live_all limits s now [] all = refl
 live_all limits s now (k ∷ keys) all =
-    filter_cons (is_live limits now) (s k) (held_in s keys) (λ h is. all k h is) ∙ ap (cons_held (s k)) (live_all limits s now keys all)
-
-drop_test : (p q : ConntrackEntry → Bool) (x : ConntrackEntry) (rest : List ConntrackEntry) (b c : Bool) → p x ≡ b
-    → q x ≡ c → (c ≡ false → b ≡ false) → filter p (filter q rest) ≡ filter p rest
-    → filter p (filter q (x ∷ rest)) ≡ filter p (x ∷ rest)
-drop_test p q x rest true true pe qe h rec = rw (qe, pe, rec) refl
-drop_test p q x rest false true pe qe h rec = rw (qe, pe, rec) refl
-drop_test p q x rest false false pe qe h rec = rw (qe, pe, rec) refl
-drop_test p q x rest true false pe qe h rec = not_both true refl (h refl)
-
-drop_step : (p q : ConntrackEntry → Bool) (o : Option ConntrackEntry) (rest : List ConntrackEntry)
-    → ((x : ConntrackEntry) → o ≡ Some x → q x ≡ false → p x ≡ false) → filter p (filter q rest) ≡ filter p rest
-    → filter p (filter q (cons_held o rest)) ≡ filter p (cons_held o rest)
-drop_step p q None rest h rec = rec
-drop_step p q (Some x) rest h rec = drop_test p q x rest (p x) (q x) refl refl (h x refl) rec
+    let rec = live_all limits s now keys all in
+    elim (option_cases (s k)) [ inl none ↦ rw none rec | inr x ↦ rw (x.1, all k x.0 x.1) (ap (λ hs. x.0 ∷ hs) rec) ]
 
 -- removing an expired entry keeps the live ones
 pub live_without : (limits : Limits) (s : ℕ → Option ConntrackEntry) (now : ℕ) (id : ConnId) (h : ConntrackEntry)
@@ -95,16 +83,14 @@ pub live_without : (limits : Limits) (s : ℕ → Option ConntrackEntry) (now : 
     → live_at limits now (without id (held_in s keys)) ≡ live_at limits now (held_in s keys)
 live_without limits s now id h named is expired [] = refl
 live_without limits s now id h named is expired (k ∷ keys) =
-    drop_step (is_live limits now) (λ x. not (same_id id x)) (s k) (held_in s keys)
-    (λ x at out. elim (cases_Bool (same_id id x)) [
-      | inl t ↦
-          let e : k ≡ id.0 = sym (named k x at) ∙ eqb-true x.id.0 id.0 t in
-          let same : x ≡ h = same_Some x h (sym at ∙ ap s e ∙ is) in
-          ap (is_live limits now) same ∙ expired
-      | inr f ↦ not_both true refl (sym (ap not f) ∙ out)
-    ])
-    (live_without limits s now id h named is expired keys)
-
-pub has_id-held : (s : ℕ → Option ConntrackEntry) (id : ConnId) (h : ConntrackEntry) (keys : List ℕ) → IsNamed s
-    → s id.0 ≡ Some h → IsIn id.0 keys → has_id id (held_in s keys) ≡ true
-has_id-held s id h keys named is found = any_some (same_id id) s keys id.0 h found is (same_id-named s id h named is)
+    let rec = live_without limits s now id h named is expired keys in
+    elim (option_cases (s k)) [
+      | inl none ↦ rw none rec
+      | inr x ↦ elim (cases_eq k id.0) [
+        | inl e ↦
+            let same : x.0 ≡ h = same_Some x.0 h (sym x.1 ∙ ap s e ∙ is) in
+            rw (x.1, same, same_id-named s id h named is, expired) rec
+        | inr d ↦
+            rw (x.1, other_id-named s id k x.0 named d x.1) (ap (λ hs. cond (is_live limits now x.0) (x.0 ∷ hs) hs) rec)
+      ]
+    ]

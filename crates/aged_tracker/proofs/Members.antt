@@ -37,15 +37,12 @@ module _ (f : ConntrackEntry → Bool) (s : ℕ → Option ConntrackEntry) where
   find_none [] fails = refl
   find_none (k ∷ keys) fails = find_fails (s k) (held_in s keys) (λ x is. fails k x is) ∙ find_none keys fails
 
-  find_here : (x : ConntrackEntry) (rest : List ConntrackEntry) → f x ≡ true → find f (x ∷ rest) ≡ Some x
-  find_here x rest passes = rw passes refl
-
   pub find_only : (keys : List ℕ) (key : ℕ) (h : ConntrackEntry) → IsIn key keys → s key ≡ Some h → f h ≡ true
       → ((k : ℕ) (x : ConntrackEntry) → s k ≡ Some x → f x ≡ true → k ≡ key) → find f (held_in s keys) ≡ Some h
   find_only [] key h found is passes only = absurd found
   find_only (k ∷ keys) key h found is passes only =
       elim (cases_eq k key) [
-        | inl e ↦ ap (λ o. find f (cons_held o (held_in s keys))) (ap s e ∙ is) ∙ find_here h (held_in s keys) passes
+        | inl e ↦ rw (ap s e ∙ is, passes) refl
         | inr d ↦
             find_fails (s k) (held_in s keys) (λ x at. false_from_ne_true (f x) (λ t. d (only k x at t)))
             ∙ elim found [ inl here ↦ absurd (d here) | inr there ↦ find_only keys key h there is passes only ]

@@ -26,15 +26,10 @@ held_aside old new same k = kept_by (option_map (held_of k)) except_links (λ s.
 
 -- ---- the entries at some keys
 
-pub filter_cons : (p : ConntrackEntry → Bool) (o : Option ConntrackEntry) (rest : List ConntrackEntry)
-    → ((h : ConntrackEntry) → o ≡ Some h → p h ≡ true) → filter p (cons_held o rest) ≡ cons_held o (filter p rest)
-filter_cons p None rest passes = refl
-filter_cons p (Some h) rest passes = rw (passes h refl) refl
-
 pub same_id-named : (s : ℕ → Option ConntrackEntry) (id : ConnId) (h : ConntrackEntry) → IsNamed s → s id.0 ≡ Some h → same_id id h ≡ true
 same_id-named s id h named is = eq-eqb h.id.0 id.0 (named id.0 h is)
 
-other_id-named : (s : ℕ → Option ConntrackEntry) (id : ConnId) (k : ℕ) (h : ConntrackEntry) → IsNamed s → k ≢ id.0
+pub other_id-named : (s : ℕ → Option ConntrackEntry) (id : ConnId) (k : ℕ) (h : ConntrackEntry) → IsNamed s → k ≢ id.0
     → s k ≡ Some h → same_id id h ≡ false
 other_id-named s id k h named differs is = ne_eqb h.id.0 id.0 (λ e. differs (sym (named k h is) ∙ e))
 

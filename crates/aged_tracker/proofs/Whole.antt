@@ -13,9 +13,8 @@ use Rattle.aged_tracker.proofs.HeldLists.{length_held}
 use Rattle.aged_tracker.proofs.Tables.{held_without, named_at, same_id-named}
 use Rattle.aged_tracker.proofs.Links.{some_of}
 use Rattle.aged_tracker.proofs.Ordered.{apart_by_serial}
-use Rattle.aged_tracker.proofs.Members.{any_none, distinct_held, find_only, not_both}
+use Rattle.aged_tracker.proofs.Members.{any_none, any_some, distinct_held, find_only, not_both}
 use Rattle.aged_tracker.proofs.Keyed.{keyed_begun, keyed_ended, keyed_touched, apart_held, taken_none, taken_some, free_at}
-use Rattle.aged_tracker.proofs.Found.{has_id-held}
 
 module _ (t : AgedSlots) (table : IsTable t) where
   pub slot_listed : (k : ℕ) (h : ConntrackEntry) → (slots_of t) k ≡ Some h → IsIn k (order_of t)
@@ -37,7 +36,9 @@ module _ (t : AgedSlots) (table : IsTable t) where
   distinct_by = distinct_held (slots_of t) (order_of t) (named_at t.slots) (apart_by_serial (serial_at t.slots) (order_of t) table.order.rising)
 
   pub has_by : (id : ConnId) (h : ConntrackEntry) → (slots_of t) id.0 ≡ Some h → has_id id (held_by t) ≡ true
-  has_by id h is = has_id-held (slots_of t) id h (order_of t) (named_at t.slots) is (slot_listed id.0 h is)
+  has_by id h is =
+      any_some (same_id id) (slots_of t) (order_of t) id.0 h (slot_listed id.0 h is) is
+      (same_id-named (slots_of t) id h (named_at t.slots) is)
 
   named_key : (id : ConnId) (k : ℕ) (x : ConntrackEntry) → slots_of t k ≡ Some x → same_id id x ≡ true → k ≡ id.0
   named_key id k x is same = sym (named_at t.slots k x is) ∙ eqb-true x.id.0 id.0 same
