@@ -1,15 +1,16 @@
 -- Lookups, and live entries.
-use Rattle.std.proofs.Common.{◌≡◌, ℕ, ◌+◌, List, [], ◌∷◌, length, Option, Some, None, Bool, true, false, not}
-use Rattle.std.proofs.Common.{◌||◌, ◌&&◌, cond, eqb, refl, sym, ap, ◌∙◌, inl, inr, arith}
+use Rattle.std.proofs.Common.{◌≡◌, ℕ, List, [], ◌∷◌, Option, Some, None, Bool, true, false, not}
+use Rattle.std.proofs.Common.{◌||◌, ◌&&◌, cond, refl, sym, ap, ◌∙◌, inl, inr}
 use Rattle.aged_tracker.proofs.Names.{ConnId, ConntrackEntry, Flags, Found, IsAllLive, IsIn, IsKeyed, Limits, NotFound, Reply, Tuple, and_parts, belonging_by}
-use Rattle.aged_tracker.proofs.Names.{belonging_of, belongs_in, cases_Bool, cases_eq, connection_ref, cons_held, eqb-true, find, find-filter, has_distinct_ids, has_id}
-use Rattle.aged_tracker.proofs.Names.{held_in, is_incoming, is_live, list_any, live_at, nat_tests, not-true, of_reply, or_left, or_parts, or_right}
-use Rattle.aged_tracker.proofs.Names.{same_Some, same_id, same_tuple}
-use Rattle.std.specs.Prelude.{filter, if◌then◌else◌}
+use Rattle.aged_tracker.proofs.Names.{belonging_of, belongs_in, cases_Bool, cases_eq, connection_ref, find}
+use Rattle.aged_tracker.proofs.Names.{find-filter}
+use Rattle.aged_tracker.proofs.Names.{held_in, is_incoming, is_live, live_at, of_reply, or_left, or_parts, or_right}
+use Rattle.aged_tracker.proofs.Names.{same_Some, same_tuple}
+use Rattle.std.specs.Prelude.{if◌then◌else◌}
 use Rattle.conntrack.specs.ConntrackEntry.{without}
 use Rattle.list_laws.specs.Options.{option_cases}
 use Rattle.aged_tracker.proofs.Tables.{IsNamed, other_id-named, same_id-named}
-use Rattle.aged_tracker.proofs.Members.{not_both, find_none, find_only, any_some}
+use Rattle.aged_tracker.proofs.Members.{not_both, find_none, find_only}
 use Rattle.aged_tracker.proofs.Keyed.{one_owner, no_owner}
 
 and_no : (a b : Bool) → b ≡ false → (a && b) ≡ false

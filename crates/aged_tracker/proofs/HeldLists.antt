@@ -1,5 +1,5 @@
 -- The entries at some keys.
-use Rattle.std.proofs.Common.{◌≡◌, ℕ, suc, List, [], ◌∷◌, ◌++◌, length, Option, Some, None, IsSome, refl, ap, ◌∙◌, inl, inr}
+use Rattle.std.proofs.Common.{◌≡◌, ℕ, suc, List, [], ◌∷◌, ◌++◌, length, Option, Some, IsSome, refl, ap, ◌∙◌, inl, inr}
 use Rattle.aged_tracker.proofs.Names.{ConntrackEntry, IsIn, cons_held, held_in}
 use Rattle.list_laws.specs.Options.{option_cases}
 use Rattle.aged_tracker.proofs.Links.{some_of}

@@ -1,6 +1,6 @@
 -- The index from tuples to slots, and lookups.
 use Rattle.std.proofs.Common.{◌≡◌, ◌≢◌, ℕ, List, [], ◌∷◌, Option, Some, None, true, false, cond, refl, sym, ap, ◌∙◌, subst, inl, inr}
-use Rattle.aged_tracker.proofs.Names.{ConntrackEntry, IsApart, IsIn, IsKeyed, Sets, Tuple, and_from, cases_Bool, cases_eq, cond-false, cond-true, cons_held}
+use Rattle.aged_tracker.proofs.Names.{ConntrackEntry, IsApart, IsIn, IsKeyed, Sets, Tuple, and_from, cases_Bool, cases_eq, cond-false, cond-true}
 use Rattle.aged_tracker.proofs.Names.{false_from_ne_true, have_disjoint_tuples, held_in, is_incoming, is_taken, none-some, not_from_false, or_cases, or_from}
 use Rattle.aged_tracker.proofs.Names.{or_left, or_parts, or_right, same_Some, same_tuple, same_tuple-refl, same_tuple-true}
 use Rattle.list_laws.specs.Options.{option_cases}

@@ -1,6 +1,6 @@
 -- Searches in the entries.
 use Rattle.std.proofs.Common.{◌≡◌, ℕ, List, [], ◌∷◌, Option, Some, None, Bool, true, false, refl, sym, ap, ◌∙◌, subst, inl, inr}
-use Rattle.aged_tracker.proofs.Names.{ConntrackEntry, IsApart, IsIn, and_from, cases_eq, cons_held, false_from_ne_true, find, has_distinct_ids, has_id, held_in}
+use Rattle.aged_tracker.proofs.Names.{ConntrackEntry, IsApart, IsIn, and_from, cases_eq, cons_held, false_from_ne_true, find, has_distinct_ids, held_in}
 use Rattle.aged_tracker.proofs.Names.{list_any, ne_eqb, not_from_false, or_from, or_left, or_right, same_id}
 use Rattle.list_laws.specs.Options.{option_cases}
 use Rattle.aged_tracker.proofs.Tables.{IsNamed}

@@ -1,10 +1,8 @@
 -- The order of creation: the keys of all entries, by rising numbers.
-use Rattle.std.proofs.Common.{◌≡◌, ◌≢◌, ℕ, zero, suc, ◌<◌, cond, List, [], ◌∷◌, ◌++◌, Option, Some, None, IsSome, refl, sym, ap, ◌∙◌, subst, inl, inr, arith}
-use Rattle.aged_tracker.proofs.Names.{ConntrackEntry, IsApart, IsIn, IsIn-without, IsOrder, IsSorted, Sets, cases_eq, cases_lt, in_order, insert_key}
+use Rattle.std.proofs.Common.{◌≡◌, ◌≢◌, ℕ, zero, suc, ◌<◌, cond, List, [], ◌∷◌, Option, Some, None, IsSome, refl, sym, ap, ◌∙◌, subst, inl, inr, arith}
+use Rattle.aged_tracker.proofs.Names.{ConntrackEntry, IsApart, IsIn, IsOrder, IsSorted, cases_eq, cases_lt, in_order, insert_key}
 use Rattle.aged_tracker.proofs.Names.{insert_used, le-ltb, none-some}
 use Rattle.std.proofs.lemmas.Bool.{lt-ltb}
-use Rattle.futures.specs.LinkedLists.{without}
-use Rattle.aged_tracker.proofs.Keys.{IsIn-push, IsIn-push_kept, IsIn-push_last, IsIn-without_kept, IsSorted-push, IsSorted-to, IsSorted-without}
 
 pub not_none : {X P : Type 0} (o : Option X) → o ≡ None → IsSome o → P
 not_none None e is = absurd cc

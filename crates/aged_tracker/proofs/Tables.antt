@@ -1,9 +1,9 @@
 -- The entries as slots and lists change.
-use Rattle.std.proofs.Common.{◌≡◌, ◌≢◌, ℕ, ◌≤◌, List, [], ◌∷◌, map, Option, Some, None, IsSome, Bool, true, false}
-use Rattle.std.proofs.Common.{not, ◌||◌, cond, refl, sym, ap, ◌∙◌, subst, inl, inr, arith}
-use Rattle.std.specs.Prelude.{filter, option_map}
-use Rattle.aged_tracker.proofs.Names.{ConnId, ConntrackEntry, Direction, Flags, IsIn, IsNoneLater, SameBy, Sets, cases_eq, cons_held, eq-eqb, eqb-true}
-use Rattle.aged_tracker.proofs.Names.{Slab, Slot, except_links, has_id, held_at, held_in, held_of, last_at, last_by, ne_eqb, not_from_false, same_id, touched}
+use Rattle.std.proofs.Common.{◌≡◌, ◌≢◌, ℕ, ◌≤◌, List, [], ◌∷◌, Option, Some, None, true, false}
+use Rattle.std.proofs.Common.{refl, sym, ap, ◌∙◌, subst, inl, inr, arith}
+use Rattle.std.specs.Prelude.{option_map}
+use Rattle.aged_tracker.proofs.Names.{ConnId, ConntrackEntry, Direction, Flags, IsIn, IsNoneLater, SameBy, Sets, cases_eq, cons_held, eq-eqb}
+use Rattle.aged_tracker.proofs.Names.{Slab, Slot, except_links, held_at, held_in, held_of, last_at, last_by, ne_eqb, same_id, touched}
 use Rattle.aged_tracker.proofs.Names.{touched_at, without_head}
 use Rattle.slab.specs.Slab.{get}
 use Rattle.list_laws.specs.Options.{option_cases, some_of_map}

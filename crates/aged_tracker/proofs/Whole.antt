@@ -1,7 +1,8 @@
 -- The invariant of an `AgedTracker` when an entry is touched, created or removed.
 use Rattle.std.proofs.Common.{◌≡◌, ℕ, ◌+◌, ◌-◌, [], ◌∷◌, ◌++◌, length, Option, Some, None, IsSome, is_some}
 use Rattle.std.proofs.Common.{true, false, cond, refl, sym, ap, ◌∙◌, subst, inl, inr, arith, length-append}
-use Rattle.aged_tracker.proofs.Names.{AgedSlots, ConnId, ConntrackEntry, Direction, Flags, IsConsistent, IsIn, IsIn-without, IsKeyed, IsTable, Sets, Tuple, aged_of, eqb-true}
+use Rattle.aged_tracker.proofs.Names.{AgedSlots, ConnId, ConntrackEntry, Direction, Flags, IsConsistent, IsIn, IsIn-without, IsKeyed, IsTable}
+use Rattle.aged_tracker.proofs.Names.{Sets, Tuple, aged_of, eqb-true}
 use Rattle.aged_tracker.proofs.Names.{has_distinct_ids, has_id, have_disjoint_tuples, held_by, is_taken, length-map, ne_eqb, none-some, order_of}
 use Rattle.aged_tracker.proofs.Names.{removed_entry, same_id, same_tuple, serial_at, slots_of, touched, touched_at}
 use Rattle.std.specs.Prelude.{IfSome, option_map}

@@ -1,4 +1,4 @@
-use Rattle.std.proofs.Common.{◌≡◌, ℕ, ◌+◌, ◌<◌, Some, None, refl, ap, sym, ◌∙◌, arith}
+use Rattle.std.proofs.Common.{◌≡◌, ℕ, ◌+◌, Some, None, refl, ap, sym, ◌∙◌, arith}
 use Rattle.aged_tracker.proofs.Names.{IsNode, IsOn, Link, ListLinks, Next, Previous, link_at, neighbour, next_on, owner_of, prev_on, same_Some}
 use Rattle.slab.specs.Slab.{get}
 use Rattle.aged_tracker.proofs.Links.{bare_owner, bare_place, on_place, aside_kept, aside_place, owned_some}

@@ -1,6 +1,6 @@
 use Rattle.std.proofs.Common.{◌≡◌, Some, None, ap, sym, ◌∙◌, refl, arith}
 use Rattle.std.specs.Prelude.{option_map}
-use Rattle.aged_tracker.proofs.Names.{Relists, held_at, held_of, last_by, off, order_of, owner_by, queue_of, slots_of}
+use Rattle.aged_tracker.proofs.Names.{Relists, held_at, held_of, off, order_of, owner_by, queue_of, slots_of}
 use Rattle.futures.specs.LinkedLists as linked
 use Rattle.aged_tracker.proofs.Expired.{queue_of-range}
 use Rattle.aged_tracker.proofs.Fronts.{oldest_all, oldest_written}
