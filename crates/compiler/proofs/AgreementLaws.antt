@@ -1,165 +1,100 @@
--- All base chains of a ruleset: each is in one of its tables, so the code of the tables agrees with the
--- rules.
-use Rattle.std.proofs.Common.{◌≡◌, ℕ, zero, suc, ◌+◌, ◌<◌, ◌≤◌, List, [], ◌∷◌, Option, Some, None, refl, arith, ap, ◌∙◌, sym, subst, ⊎_elim}
-use Rattle.std.specs.Prelude.{Contains, slice_get, slice_index_or}
-use Rattle.std.proofs.lemmas.List.Elements.{Contains-append_cases}
+-- The starts of all hooks: each has the cost of its base chain, and its code agrees with the rules.
+use Rattle.std.proofs.Common.{◌≡◌, ℕ, ◌≤◌, List, [], ◌∷◌, get_or, map, Some, refl, sym, ap, ap₂, ◌∙◌, subst, arith, ⊎_elim}
+use Rattle.std.specs.Prelude.{filter, All, Contains, slice_get, slice_index}
+use Rattle.std.proofs.lemmas.List.Elements.{All-filter, All-head, All-tail}
+use Rattle.std.proofs.lemmas.List.Sorted.{All-permutation}
+use Rattle.std.proofs.lemmas.Option.{slice_get_within, get_or_from_slice_get}
+use Rattle.list_laws.specs.Elements.{Contains-cases}
 use Rattle.nft_tree.specs.declared.chain.Hook.{Hook}
-use Rattle.nft_tree.specs.Tree.{Statement, HeadTree, ChainTree, TableTree}
-use Rattle.nft_tree.specs.TableItems.{chains_of}
-use Rattle.rule_check.specs.Checked.{CheckedTree}
+use Rattle.nft_tree.specs.Tree.{TableTree}
+use Rattle.rule_paths.specs.Paths.{Caller, AreCosts, AreAllCosts}
+use Rattle.rule_paths.specs.Findings.{AreChainDepths}
+use Rattle.rule_check.specs.Checked.{CheckedTree, AreRulesetCosts, AreRulesetDepths}
 use Rattle.rule_meaning.specs.declared.facts.Facts.{Facts}
 use Rattle.rule_meaning.specs.declared.event.Event.{Event}
 use Rattle.rule_meaning.specs.Runs.{table_program}
-use Rattle.rule_meaning.specs.Hooks.{BaseChain, base_chain_of, base_chains_from, base_chains_of_tables, base_chains_of, HookResult, RunsBaseChain}
+use Rattle.rule_meaning.specs.Hooks.{BaseChain, base_chains_of, HookResult, RunsBaseChain}
+use Rattle.rule_laws.specs.Ranking.{IsRanking, weight_by, chain_cost_by}
 use Rattle.filter_vm.specs.declared.code.Code.{Code}
 use Rattle.filter_vm.specs.declared.code.Start.{Start}
-use Rattle.rule_code.specs.declared.code.TableCode.{TableCode}
 use Rattle.filter_vm.specs.Machine.{starts_of}
-use Rattle.compiler.specs.Compiled.{AgreesWithRules}
-use Rattle.code_layout.specs.CodeLayout.{IsTableCode}
-use Rattle.rule_laws.specs.Ranking.{IsRanking}
+use Rattle.compiler.specs.declared.compiled_chain.CompiledChain.{CompiledChain}
+use Rattle.compiler.specs.Compiled.{start_head, base_chain_head, cost_in, start_cost, AgreesWithRules}
+use Rattle.compiler.specs.steps.Bases.{base, runs_on_hook, HasCost}
+use Rattle.compiler.specs.steps.RulesetCode.{IsRulesetCode}
 use Rattle.compiler.proofs.BaseLaws.{agrees}
 
--- ---- the table and the chain of a base chain
+module _ (tables : List TableTree) where
+  abbrev IsCosted : CompiledChain → Type 0
+  IsCosted b = HasCost tables b.number b.cost
 
-record InChain (table chain : ℕ) (head : Option HeadTree) (b : BaseChain) : Type 0 where
-  number : b.number ≡ record { table = table; chain = chain }
-  is : head ≡ Some b.head
+  -- the start is that of the base chain, with its cost
+  record StartOf (start : Start) : Type 0 where
+    chain : CompiledChain
+    same_head : start_head start ≡ base_chain_head (base chain)
+    costs : start.cost ≡ chain.cost
+    has : IsCosted chain
 
-in-base-at : (table chain : ℕ) (head : HeadTree) (b : BaseChain) (k : ℕ) → k < 1
-    → slice_index_or (base_chain_of table chain (Some head)) k b ≡ b → InChain table chain (Some head) b
-in-base-at table chain head b zero l e = record { number = ap (λ x. x.number) (sym e); is = ap (λ x. Some x.head) e }
-in-base-at table chain head b (suc k) l e = absurd (omega arith)
+  start-of : (order : List CompiledChain) (starts : List Start) (start : Start)
+      → map start_head starts ≡ map base_chain_head (map base order)
+      → map (λ s. s.cost) starts ≡ map (λ b. b.cost) order → All IsCosted order → Contains starts start → StartOf start
+  start-of order [] start heads costs all here = let l = here.1 in absurd (omega arith)
+  start-of [] (s ∷ starts) start heads costs all here = cc
+  start-of (b ∷ order) (s ∷ starts) start heads costs all here = ⊎_elim
+      (λ is. record {
+        chain = b;
+        same_head = ap start_head (sym is) ∙ (let e : start_head s ≡ base_chain_head (base b) = cc in e);
+        costs = ap (λ (x : Start). x.cost) (sym is) ∙ (let e : s.cost ≡ b.cost = cc in e);
+        has = All-head IsCosted b order all;
+      })
+      (λ later. start-of order starts start (cc) (cc) (All-tail IsCosted b order all) later)
+      (Contains-cases s starts start here)
 
-in-base : (table chain : ℕ) (head : Option HeadTree) (b : BaseChain)
-    → Contains (base_chain_of table chain head) b → InChain table chain head b
-in-base table chain None b h = let l = h.1 in absurd (omega arith)
-in-base table chain (Some head) b h = in-base-at table chain head b h.0 h.1 h.2
+  costs-shown : (cost : TableTree → Caller → ℕ) → AreAllCosts tables cost → (bases : List CompiledChain)
+      → All IsCosted bases → map (λ b. b.cost) bases ≡ map (start_cost tables cost) (map base bases)
+  costs-shown cost all [] costed = refl
+  costs-shown cost all (b ∷ bases) costed =
+      let h = All-head IsCosted b bases costed in
+      let within = slice_get_within tables b.number.table h.table h.stands in
+      let here = get_or_from_slice_get tables b.number.table h.table h.table h.stands in
+      ap₂ ◌∷◌
+      (h.is (cost h.table) (all h.table (b.number.table, within, here))
+      ∙ sym (ap (λ t. cost_in cost t b.number.chain) h.stands))
+      (costs-shown cost all bases (All-tail IsCosted b bases costed))
 
--- the chain of a base chain among chains, of which the first has this number
-record AmongChains (table first : ℕ) (chains : List ChainTree) (b : BaseChain) : Type 0 where
-  place : ℕ
-  chain : ChainTree
-  holds : slice_get chains place ≡ Some chain
-  number : b.number ≡ record { table = table; chain = first + place }
-  is : chain.head ≡ Some b.head
+module _ (checked : CheckedTree) (code : Code) (made : IsRulesetCode checked code) where
+  in-order : (hook : Hook) → All (IsCosted checked.rules) (made.ordered hook).order
+  in-order hook =
+      let o = made.ordered hook in
+      All-permutation (IsCosted checked.rules) (filter (runs_on_hook hook) made.bases) o.order o.moved
+      (All-filter (runs_on_hook hook) (IsCosted checked.rules) made.bases made.costs)
 
-among-chains : (table first : ℕ) (chains : List ChainTree) (b : BaseChain)
-    → Contains (base_chains_from table first chains) b → AmongChains table first chains b
-among-chains table first [] b h = let l = h.1 in absurd (omega arith)
-among-chains table first (c ∷ cs) b h = ⊎_elim
-    (λ here.
-    let at = in-base table first c.head b here in
-    let same : first ≡ first + 0 = omega arith in
-    record {
-      place = 0;
-      chain = c;
-      holds = refl;
-      number =
-          at.number ∙ ap (λ n. record { table = table; chain = n }) same;
-      is = at.is;
-    })
-    (λ rest.
-    let at = among-chains table (suc first) cs b rest in
-    let same : suc first + at.place ≡ first + suc at.place = omega arith in
-    record {
-      place = suc at.place;
-      chain = at.chain;
-      holds = at.holds;
-      number =
-          at.number ∙ ap (λ n. record { table = table; chain = n }) same;
-      is = at.is;
-    })
-    (Contains-append_cases (base_chain_of table first c.head) (base_chains_from table (suc first) cs) b h)
+  pub starts-cost : (hook : Hook) (cost : TableTree → Caller → ℕ) → AreAllCosts checked.rules cost
+      → map (λ s. s.cost) (starts_of code hook) ≡ map (start_cost checked.rules cost)
+      (map base (made.ordered hook).order)
+  starts-cost hook cost all = (made.ordered hook).costs_are
+      ∙ costs-shown checked.rules cost all (made.ordered hook).order (in-order hook)
 
--- the table and the chain of a base chain among tables
-pub record Among (first : ℕ) (tables : List TableTree) (b : BaseChain) : Type 0 where
-  pub place : ℕ
-  pub table : TableTree
-  pub holds : slice_get tables place ≡ Some table
-  pub number : b.number.table ≡ first + place
-  pub chain : ChainTree
-  pub has : slice_get (chains_of table) b.number.chain ≡ Some chain
-  pub is : chain.head ≡ Some b.head
-
-among-tables : (first : ℕ) (tables : List TableTree) (b : BaseChain)
-    → Contains (base_chains_of_tables first tables) b → Among first tables b
-among-tables first [] b h = let l = h.1 in absurd (omega arith)
-among-tables first (t ∷ ts) b h = ⊎_elim
-    (λ here.
-    let at = among-chains first 0 (chains_of t) b here in
-    let same : first ≡ first + 0 = omega arith in
-    let chain : at.place ≡ 0 + at.place = omega arith in
-    record {
-      place = 0;
-      table = t;
-      holds = refl;
-      number = ap (λ n. n.table) at.number ∙ same;
-      chain = at.chain;
-      has = ap (λ n. slice_get (chains_of t) n.chain) at.number ∙ ap (slice_get (chains_of t)) (sym chain) ∙ at.holds;
-      is = at.is;
-    })
-    (λ rest.
-    let at = among-tables (suc first) ts b rest in
-    let same : suc first + at.place ≡ first + suc at.place = omega arith in
-    record {
-      place = suc at.place;
-      table = at.table;
-      holds = at.holds;
-      number = at.number ∙ same;
-      chain =
-          at.chain;
-      has = at.has;
-      is = at.is;
-    })
-    (Contains-append_cases (base_chains_from first 0 (chains_of t)) (base_chains_of_tables (suc first) ts) b h)
-
--- a base chain of a ruleset is a chain of one of its tables
-pub record BaseChainAt (tables : List TableTree) (b : BaseChain) : Type 0 where
-  pub table : TableTree
-  pub holds : slice_get tables b.number.table ≡ Some table
-  pub chain : ChainTree
-  pub has : slice_get (chains_of table) b.number.chain ≡ Some chain
-  pub is : chain.head ≡ Some b.head
-
-pub base-holds : (tables : List TableTree) (b : BaseChain) → Contains (base_chains_of tables) b → BaseChainAt tables b
-base-holds tables b h =
-    let at = among-tables 0 tables b h in
-    let same : 0 + at.place ≡ at.place = omega arith in
-    record {
-      table = at.table;
-      holds = ap (slice_get tables) (at.number ∙ same) ∙ at.holds;
-      chain =
-          at.chain;
-      has = at.has;
-      is = at.is;
-    }
-
--- ---- all starts
-
--- the code of a table, with the weights of its statements, and the costs and jump depths of its chains
-pub record CodedTable (checked : CheckedTree) (code : Code) (number : ℕ) (table : TableTree) : Type 0 where
-  pub table_code : TableCode
-  pub holds : slice_get code.tables.items number ≡ Some table_code
-  pub is : IsTableCode checked.plant number table table_code
-  pub weight : Statement → ℕ
-  pub cost : ℕ → ℕ
-  pub depth : ℕ → ℕ
-  pub costs_rank_chains : IsRanking (table_program checked.plant number table) weight cost depth
-  pub enough : (hook : Hook) (start : Start) → Contains (starts_of code hook) start → start.chain.table ≡ number
-      → cost start.chain.chain + 1 ≤ start.cost
-  pub shallow : (c : ℕ) → depth c ≤ 16
-
-pub all_agree : (checked : CheckedTree) (code : Code)
-    → ((number : ℕ) (table : TableTree) → slice_get checked.rules number ≡ Some table
-    → CodedTable checked code number table) → ((b : BaseChain) → Contains (base_chains_of checked.rules) b
-    → (f : Facts) (es : List Event) → (end : HookResult) × RunsBaseChain checked.plant checked.rules b f es end)
-    → AgreesWithRules checked code
-all_agree checked code coded ends hook start b is_start is_base same_head =
-    let at = base-holds checked.rules b is_base in
-    let c = coded b.number.table at.table at.holds in
-    let same : start.chain ≡ b.number = ap (λ x. x.chain) same_head in
-    let enough = c.enough hook start is_start (ap (λ n. n.table) same) in
-    agrees checked.plant checked.rules at.table b code start c.table_code c.weight c.cost c.depth at.holds
-    c.holds c.is c.costs_rank_chains same_head
-    (subst (λ n. c.cost n.chain + 1 ≤ start.cost) same enough) (c.shallow b.number.chain) (ends b is_base)
+  pub all_agree : (costs : List (List ℕ)) → AreRulesetCosts checked.rules costs
+      → (depths : List (List ℕ)) → AreRulesetDepths checked.rules depths
+      → ((i j : ℕ) → slice_index (get_or depths i []) j ≤ 16)
+      → ((number : ℕ) (t : TableTree) → slice_get checked.rules number ≡ Some t → (cost : Caller → ℕ)
+      → AreCosts t cost → (deep : List ℕ) → AreChainDepths t deep
+      → IsRanking (table_program checked.plant number t) (weight_by cost) (chain_cost_by t cost)
+      (λ c. slice_index deep c))
+      → ((b : BaseChain) → Contains (base_chains_of checked.rules) b → (f : Facts) (es : List Event)
+      → (end : HookResult) × RunsBaseChain checked.plant checked.rules b f es end)
+      → AgreesWithRules checked code
+  all_agree costs are depths deep shallow ranks ends hook start b is_start is_base same_head =
+      let o = made.ordered hook in
+      let s = start-of checked.rules o.order (starts_of code hook) start o.starts_are o.costs_are (in-order hook) is_start in
+      let has = subst (λ n. HasCost checked.rules n s.chain.cost) (ap (λ x. x.chain) (sym s.same_head ∙ same_head)) s.has in
+      let n = b.number.table in
+      let its = (are.are n has.table has.stands).has_costs in
+      let coded = made.tables.each n has.table has.stands in
+      let cost = has.is its.0 its.1 in
+      let as_much = s.costs in
+      agrees checked.plant checked.rules has.table b code start coded.0 (weight_by its.0) (chain_cost_by has.table its.0)
+      (λ c. slice_index (get_or depths n []) c) has.stands coded.1 coded.2
+      (ranks n has.table has.stands its.0 its.1 (get_or depths n []) (deep.are n has.table has.stands)) same_head
+      (omega (arith, cost, as_much)) (shallow n b.number.chain) (ends b is_base)

@@ -28,20 +28,12 @@ pub finish-last : (go : Continuation) (o : RunResult) (ticks : ℕ) → (finish 
 finish-last go (at_end f es) ticks = refl
 finish-last go (over verdict f es) ticks = refl
 
--- a chain that is there
-pub goes_to : (go : Continuation) (place : Option ℕ) (at_step : ℕ) (stack : List ℕ) (f : Facts)
-    (es : List Event) (ticks : ℕ) → place ≡ Some at_step
-    → enter_chain go place stack f es ticks ≡ go at_step stack f es ticks
-goes_to go place at_step stack f es ticks is = ap (λ o. enter_chain go o stack f es ticks) is
-
--- and that can be called
-pub calls : (go : Continuation) (place : Option ℕ) (at_step back : ℕ) (stack : List ℕ) (f : Facts)
-    (es : List Event) (ticks : ℕ) → place ≡ Some at_step → length stack < 16
-    → call go place back stack f es ticks ≡ go at_step (back ∷ stack) f es ticks
-calls go place at_step back stack f es ticks is room =
+-- a chain can be called where fewer than 16 calls are open
+pub calls : (go : Continuation) (place : Option ℕ) (back : ℕ) (stack : List ℕ) (f : Facts) (es : List Event)
+    (ticks : ℕ) → length stack < 16 → call go place back stack f es ticks ≡ enter_chain go place (back ∷ stack) f es ticks
+calls go place back stack f es ticks room =
     let fits : nat_lt (length stack) 16 ≡ true = grind (arith, nat_tests) in
-    ap (λ (b : Bool). if b then enter_chain go place (back ∷ stack) f es ticks else invalid_code f es ticks)
-    fits ∙ goes_to go place at_step (back ∷ stack) f es ticks is
+    ap (λ (b : Bool). if b then enter_chain go place (back ∷ stack) f es ticks else invalid_code f es ticks) fits
 
 module _ (t : TableCode) where
   -- this has the result in at most so many statements, and more fuel changes nothing

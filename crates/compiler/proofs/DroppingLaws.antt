@@ -48,45 +48,28 @@ module _ {S : Type 0} (p : Program S) (left_at : ℕ → Option (List (List S)))
 
   -- ---- what is left of a chain
 
-  record Left (c : ℕ) (rules : List (List S)) : Type 0 where
-    rest : List (List S)
-    there : left_at c ≡ Some rest
-    is : LeavesOut p any_facts c 1 rules rest
+  left-of : (c : ℕ) (before after : Option (List (List S))) → LeavesOutOf p c before after → (rules : List (List S))
+      → before ≡ Some rules → (rest : List (List S)) × (after ≡ Some rest) × LeavesOut p any_facts c 1 rules rest
+  left-of c None after h rules is = absurd (none-some rules is)
+  left-of c (Some rs) None h rules is = absurd h
+  left-of c (Some rs) (Some ks) h rules is =
+      (ks, refl, subst (λ xs. LeavesOut p any_facts c 1 xs ks) (same_Some rs rules is) h)
 
-  left-of : (c : ℕ) (before after : Option (List (List S))) (rules : List (List S)) → LeavesOutOf p c before after
-      → left_at c ≡ after → before ≡ Some rules → Left c rules
-  left-of c None None rules h there is = absurd (none-some rules is)
-  left-of c None (Some ks) rules h there is = absurd h
-  left-of c (Some rs) None rules h there is = absurd h
-  left-of c (Some rs) (Some ks) rules h there is = record {
-    rest = ks;
-    there = there;
-    is = subst (λ xs. LeavesOut p any_facts c 1 xs ks) (same_Some rs rules is) h;
-  }
-
-  -- a chain of which something is left
-  record Whole (c : ℕ) (rest : List (List S)) : Type 0 where
-    rules : List (List S)
-    there : p.rules_at c ≡ Some rules
-    is : LeavesOut p any_facts c 1 rules rest
-
-  whole-of : (c : ℕ) (before after : Option (List (List S))) (rest : List (List S)) → LeavesOutOf p c before after
-      → p.rules_at c ≡ before → after ≡ Some rest → Whole c rest
-  whole-of c None None rest h there is = absurd (none-some rest is)
-  whole-of c None (Some ks) rest h there is = absurd h
-  whole-of c (Some rs) None rest h there is = absurd h
-  whole-of c (Some rs) (Some ks) rest h there is = record {
-    rules = rs;
-    there = there;
-    is = subst (λ xs. LeavesOut p any_facts c 1 rs xs) (same_Some ks rest is) h;
-  }
+  whole-of : (c : ℕ) (before after : Option (List (List S))) → LeavesOutOf p c before after → (rest : List (List S))
+      → after ≡ Some rest → (rules : List (List S)) × (before ≡ Some rules) × LeavesOut p any_facts c 1 rules rest
+  whole-of c before None h rest is = absurd (none-some rest is)
+  whole-of c None (Some ks) h rest is = absurd h
+  whole-of c (Some rs) (Some ks) h rest is =
+      (rs, refl, subst (λ xs. LeavesOut p any_facts c 1 rs xs) (same_Some ks rest is) h)
 
   module _ (leaves : (c : ℕ) → LeavesOutOf p c (p.rules_at c) (left_at c)) where
-    left-chain : (c : ℕ) (rules : List (List S)) → p.rules_at c ≡ Some rules → Left c rules
-    left-chain c rules is = left-of c (p.rules_at c) (left_at c) rules (leaves c) refl is
+    left-chain : (c : ℕ) (rules : List (List S)) → p.rules_at c ≡ Some rules
+        → (rest : List (List S)) × (left_at c ≡ Some rest) × LeavesOut p any_facts c 1 rules rest
+    left-chain c = left-of c (p.rules_at c) (left_at c) (leaves c)
 
-    whole-chain : (c : ℕ) (rest : List (List S)) → left_at c ≡ Some rest → Whole c rest
-    whole-chain c rest is = whole-of c (p.rules_at c) (left_at c) rest (leaves c) refl is
+    whole-chain : (c : ℕ) (rest : List (List S)) → left_at c ≡ Some rest
+        → (rules : List (List S)) × (p.rules_at c ≡ Some rules) × LeavesOut p any_facts c 1 rules rest
+    whole-chain c = whole-of c (p.rules_at c) (left_at c) (leaves c)
 
     -- ---- results
 
@@ -152,25 +135,21 @@ module _ {S : Type 0} (p : Program S) (left_at : ℕ → Option (List (List S)))
     stays (returns is) = only-in _ is tt (λ Reach ks to out. returns is)
     stays (jumps d {ss = ss} g later chain is has inner run) = only-in _ is tt (λ Reach ks to out.
         let left = left-chain d chain has in
-        jumps d g later left.rest is left.there (stays inner any_facts left.rest tt left.is)
+        jumps d g later left.0 is left.1 (stays inner any_facts left.0 tt left.2)
         (stays run Reach ks (to g (leads ss g is tt)) out))
     stays (jumps_away d chain is has inner over) = only-in _ is tt (λ Reach ks to out.
         let left = left-chain d chain has in
-        jumps_away d left.rest is left.there (stays inner any_facts left.rest tt left.is) over)
+        jumps_away d left.0 is left.1 (stays inner any_facts left.0 tt left.2) over)
     stays (goes d chain is has inner) = only-in _ is tt (λ Reach ks to out.
         let left = left-chain d chain has in
-        goes d left.rest is left.there (stays inner any_facts left.rest tt left.is))
+        goes d left.0 is left.1 (stays inner any_facts left.0 tt left.2))
 
     -- a chain has its results without the rules that never match
     pub left-runs : (c : ℕ) (rules : List (List S)) (f : Facts) (es : List Event) (o : RunResult)
         → p.rules_at c ≡ Some rules → Runs p c 1 (at_rule rules) f es o
         → (rest : List (List S)) × (left_at c ≡ Some rest) × Runs left_program c 1 (at_rule rest) f es o
     left-runs c rules f es o is run =
-        let left = left-chain c rules is in (
-          left.rest,
-          left.there,
-          stays run any_facts left.rest tt left.is,
-        )
+        let left = left-chain c rules is in (left.0, left.1, stays run any_facts left.0 tt left.2)
 
     -- ---- ranking
 
@@ -208,10 +187,10 @@ module _ {S : Type 0} (p : Program S) (left_at : ℕ → Option (List (List S)))
     statement-of {c} {s} of =
         let whole = whole-chain c of.rules of.has in
         record {
-          rules = whole.rules;
-          has = whole.there;
+          rules = whole.0;
+          has = whole.1;
           rule = of.rule;
-          in_chain = was-there any_facts c 1 whole.rules of.rules of.rule s whole.is of.in_chain of.in_rule;
+          in_chain = was-there any_facts c 1 whole.0 of.rules of.rule s whole.2 of.in_chain of.in_rule;
           in_rule = of.in_rule;
         }
 
@@ -221,8 +200,8 @@ module _ {S : Type 0} (p : Program S) (left_at : ℕ → Option (List (List S)))
       some = ranks.some;
       sums = λ c rest is.
           let whole = whole-chain c rest is in
-          let less = lighter weight any_facts c 1 whole.rules rest whole.is in
-          let sum = ranks.sums c whole.rules whole.there in
+          let less = lighter weight any_facts c 1 whole.0 rest whole.2 in
+          let sum = ranks.sums c whole.0 whole.1 in
           omega (arith, less, sum);
       jumps = λ c d s at_place f inside is. ranks.jumps c d s at_place f (statement-of inside) is;
       gotos = λ c d s at_place f inside is. ranks.gotos c d s at_place f (statement-of inside) is;

@@ -1,4 +1,5 @@
 -- What is left of a chain: the rules that are left out of it never match a packet that gets to them.
+use borrow.Author.Count.{below_more}
 use Rattle.std.proofs.Common.{◌≡◌, ℕ, zero, suc, ◌+◌, ◌-◌, ◌*◌, ◌^◌, ◌<◌, ◌≤◌, inl, inr, Bool, true, false, List, [], ◌∷◌, length, get_or, map}
 use Rattle.std.proofs.Common.{Option, Some, None, refl, sym, ap, ◌∙◌, subst, arith, ⊎_elim}
 use Rattle.std.specs.Prelude.{if◌then◌else◌, slice_get}
@@ -162,60 +163,54 @@ module _ (plant : PlantTree) (number : ℕ) (t : TableTree) where
         let last : k - 1 + 1 ≡ k = omega arith in
         so.missed f here s x has i (k - 1) (omega arith) last (narrower s i (k - 1) k (omega arith) merged) listed
 
-    reached-more : (k : ℕ) (Reach : Facts → Type 0) (c n : ℕ) (r : List Statement) → r ≡ at k → Reached k Reach
-        → Reached (k + 1) (behind (table_program plant number t) Reach c n r)
-    reached-more k Reach c n r is so = record {
-      goes_on_to = λ i lt ends g way. ⊎_elim
-          (λ early. so.goes_on_to i early ends way.0 way.1)
-          (λ from.
-          let same : i ≡ k = omega arith in
-          none-past c n 1 r way.0 g (ap always_ends (is ∙ ap at (sym same)) ∙ ends) way.2)
-          (cases_lt i k);
-      missed = λ g way s x has i j le last merged listed.
+    -- the packets behind the next rule: each was before it, it didn't end the chain for all, and they have no value
+    -- that it lists
+    reached-next : (k : ℕ) (Reach Next : Facts → Type 0) → Reached k Reach → ((g : Facts) → Next g → (f : Facts) × Reach f
+        × (always_ends (at k) ≡ true → ⊥) × ((s : Selector) (x : ℕ) → merged_selector (at k) ≡ Some s → value s g ≡ Some x
+        → (value s f ≡ Some x) × (lists plant (at k) x ≡ true → ⊥))) → Reached (k + 1) Next
+    reached-next k Reach Next so before = record {
+      goes_on_to = below_more (λ i. always_ends (at i) ≡ true → (g : Facts) → Next g → ⊥) k
+          (λ i early ends g next. let was = before g next in so.goes_on_to i early ends was.0 was.1)
+          (λ ends g next. (before g next).2 ends);
+      missed = λ g next s x has i j le last merged listed.
           let same : j ≡ k = omega arith in
           let upto : AreMerged plant rules s i k = subst (AreMerged plant rules s i) same merged in
-          let past = missed-by c n r s way.0 g x (ap merged_selector is ∙ upto k (omega arith) (omega arith)) way.2 in
-          let had = ap (value s) (sym past.0) ∙ has in
+          let was = before g next in
+          let here = was.3 s x (upto k (omega arith) (omega arith)) has in
           ⊎_elim
-          (λ early. not-taken k Reach so way.0 way.1 s x had i early upto listed)
-          (λ from.
-          let at_k : i ≡ k = omega arith in
-          past.1 had (ap (λ ss. lists plant ss x) (is ∙ ap at (sym at_k)) ∙ listed))
+          (λ early. not-taken k Reach so was.0 was.1 s x here.0 i early upto listed)
+          (λ from. let at_k : i ≡ k = omega arith in here.1 (subst (λ m. lists plant (at m) x ≡ true) at_k listed))
           (cases_lt i k);
     }
+
+    reached-more : (k : ℕ) (Reach : Facts → Type 0) (c n : ℕ) → Reached k Reach
+        → Reached (k + 1) (behind (table_program plant number t) Reach c n (at k))
+    reached-more k Reach c n so = reached-next k Reach (behind (table_program plant number t) Reach c n (at k)) so (λ g way. (
+      way.0,
+      way.1,
+      λ ends. none-past c n 1 (at k) way.0 g ends way.2,
+      λ s x merged has.
+          let past = missed-by c n (at k) s way.0 g x merged way.2 in
+          let had = ap (value s) (sym past.0) ∙ has in
+          (had, past.1 had),
+    ))
 
     dropped-more : (k : ℕ) (Reach : Facts → Type 0) → IsDropped plant rules k → Reached k Reach → Reached (k + 1) Reach
-    dropped-more k Reach dropped so = record {
-      goes_on_to = λ i lt ends f here. ⊎_elim
-          (λ early. so.goes_on_to i early ends f here)
-          (λ from.
-          let same : i ≡ k = omega arith in
-          ends-not dropped f here (ap (λ m. always_ends (at m)) (sym same) ∙ ends))
-          (cases_lt i k);
-      missed = λ f here s x has i j le last merged listed.
-          let same : j ≡ k = omega arith in
-          let upto : AreMerged plant rules s i k = subst (AreMerged plant rules s i) same merged in
-          ⊎_elim
-          (λ early. not-taken k Reach so f here s x has i early upto listed)
-          (λ from.
-          let at_k : i ≡ k = omega arith in
-          lists-not dropped f here s x has (upto k (omega arith) (omega arith))
-          (ap (λ m. lists plant (at m) x) (sym at_k) ∙ listed))
-          (cases_lt i k);
-    }
-      where
-        ends-not : IsDropped plant rules k → (f : Facts) → Reach f → always_ends (at k) ≡ true → ⊥
-        ends-not (inl u) f here ends = so.goes_on_to u.by u.earlier u.ends f here
-        ends-not (inr h) f here ends = merged-goes-on (at k) h.selector h.reads ends
-
-        lists-not : IsDropped plant rules k → (f : Facts) → Reach f → (s : Selector) (x : ℕ) → value s f ≡ Some x
-            → merged_selector (at k) ≡ Some s → lists plant (at k) x ≡ true → ⊥
-        lists-not (inl u) f here s x has is listed = so.goes_on_to u.by u.earlier u.ends f here
-        lists-not (inr h) f here s x has is listed =
+    dropped-more k Reach (inl u) so = reached-next k Reach Reach so
+        (λ f here. absurd (so.goes_on_to u.by u.earlier u.ends f here))
+    dropped-more k Reach (inr h) so = reached-next k Reach Reach so (λ f here. (
+      f,
+      here,
+      merged-goes-on (at k) h.selector h.reads,
+      λ s x is has. (
+        has,
+        λ listed.
             let same : h.selector ≡ s = same_Some h.selector s (sym h.reads ∙ is) in
             let taken = h.taken x listed in
             not-taken k Reach so f here s x has taken.by taken.earlier
-            (subst (λ y. AreMerged plant rules y taken.by k) same taken.merged) taken.lists_it
+            (subst (λ y. AreMerged plant rules y taken.by k) same taken.merged) taken.lists_it,
+      ),
+    ))
 
     -- ---- no packet matches a rule that is dropped
 
@@ -266,7 +261,8 @@ module _ (plant : PlantTree) (number : ℕ) (t : TableTree) where
             leaves (k + 1) (n + 1) c rs ls (behind (table_program plant number t) Reach c n r) (omega arith) (omega arith)
                 (λ i. rules_are (suc i) ∙ ap at (one-more k i))
                 (λ i. left_are (suc i) ∙ ap (λ m. get_or left m None) (one-more k i))
-                (reached-more k Reach c n r rule so),
+                (subst (λ ss. Reached (k + 1) (behind (table_program plant number t) Reach c n ss)) (sym rule)
+                (reached-more k Reach c n so)),
           )
 
   none-before : (rules : List (List Statement)) → Reached rules 0 any_facts

@@ -5,10 +5,8 @@ pub mod StartLaws
 pub mod OrderLaws
 pub mod TotalLaws
 pub mod FewLaws
-pub mod RulesetCodeLaws
 pub mod DoesLaws
 pub mod LayoutLaws
 pub mod Simulation
 pub mod BaseLaws
 pub mod AgreementLaws
-pub mod CodedLaws

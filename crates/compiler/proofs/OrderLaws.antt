@@ -3,7 +3,7 @@ use Rattle.std.proofs.Common.{◌≡◌, ℕ, ◌+◌, Bool, true, false, not, �
 use Rattle.std.specs.Prelude.{filter, int_lt}
 use Rattle.std.specs.List.{list_any}
 use Rattle.std.specs.List.Sorted.{IsPermutation, IsSortedBy, IsStableBy, ties}
-use Rattle.std.proofs.lemmas.Bool.{false≢true}
+use Rattle.std.proofs.lemmas.Bool.{false≢true, or_parts}
 use Rattle.std.proofs.lemmas.Cmp.{int_ranked}
 use Rattle.std.proofs.lemmas.List.{get_or-map, length-map}
 use Rattle.std.proofs.lemmas.List.Folds.{Any-from_list_any}
@@ -16,7 +16,6 @@ use Rattle.filter_vm.specs.declared.code.Start.{Start}
 use Rattle.compiler.specs.declared.compiled_chain.CompiledChain.{CompiledChain}
 use Rattle.compiler.specs.Compiled.{HasStarts, start_cost}
 use Rattle.compiler.specs.steps.Bases.{base, runs_on_hook, Ordered}
-use Rattle.code_layout.proofs.AddLaws.{none_first, none_later}
 use Rattle.compiler.proofs.StartLaws.{filter_alike}
 
 -- ---- a list and what it shows
@@ -43,7 +42,7 @@ filter_shown f p (x ∷ xs) = cond_shown f (p (f x)) x (filter (λ y. p (f y)) x
 none_passes : {A : Type 0} (p : A → Bool) (xs : List A) → list_any p xs ≡ false → filter p xs ≡ []
 none_passes p [] none = refl
 none_passes p (x ∷ xs) none = ap (λ b. cond b (x ∷ filter p xs) (filter p xs))
-    (none_first (p x) (list_any p xs) none) ∙ none_passes p xs (none_later (p x) (list_any p xs) none)
+    (or_parts (p x) (list_any p xs) none).0 ∙ none_passes p xs (or_parts (p x) (list_any p xs) none).1
 
 -- ---- equal priorities
 

@@ -1,5 +1,5 @@
 -- The machine simulates the rules: it has their result, in at most as many statements as they weigh.
-use Rattle.std.proofs.Common.{◌≡◌, ℕ, suc, ◌+◌, ◌≤◌, List, [], ◌∷◌, length, Some, refl, arith, subst}
+use Rattle.std.proofs.Common.{◌≡◌, ℕ, suc, ◌+◌, ◌≤◌, List, [], ◌∷◌, length, Some, refl, ap, arith, subst}
 use Rattle.std.specs.Prelude.{sum_by, slice_get}
 use Rattle.std.proofs.lemmas.List.Sums.{sum_by-cons}
 use Rattle.rule_meaning.specs.declared.facts.Facts.{Facts}
@@ -10,10 +10,10 @@ use Rattle.rule_meaning.specs.Runs.{Program, Remainder, at_rule, in_rule, RunRes
 use Rattle.rule_meaning.specs.Runs.{next_rule, rule_ends, passes, fails, notes, accepts, drops, translates, continues, returns, jumps, jumps_away}
 use Rattle.rule_meaning.specs.Runs.{goes}
 use Rattle.rule_code.specs.declared.code.TableCode.{TableCode}
-use Rattle.filter_vm.specs.Machine.{Continuation, Stop, apply_effect}
+use Rattle.filter_vm.specs.Machine.{Continuation, Stop, enter_chain, apply_effect}
 use Rattle.code_layout.specs.CodeLayout.{RulesAt, IsCode}
 use Rattle.rule_laws.specs.Ranking.{IsStatementOf, IsRanking}
-use Rattle.compiler.proofs.DoesLaws.{Does, does-more, does-same, does-now, does-over, does-then, does-end, goes_to, calls, finish}
+use Rattle.compiler.proofs.DoesLaws.{Does, does-more, does-same, does-now, does-over, does-then, does-end, calls, finish}
 use Rattle.compiler.proofs.LayoutLaws.{weighs, LeftIn, LeftAt, rules-in, does-statement}
 
 module _ {S : Type 0} (p : Program S) (t : TableCode) (weight : S → ℕ) (cost depth : ℕ → ℕ) (code : IsCode p t)
@@ -66,15 +66,15 @@ module _ {S : Type 0} (p : Program S) (t : TableCode) (weight : S → ℕ) (cost
         costs_rank_chains.sums d chain has,
       )
 
-  goto-fits : (c n k d : ℕ) (s : S) (f : Facts) (chain : List (List S)) → IsStatementOf p c s
-      → p.effect_of (statement_position p c n k) s f ≡ give (Goto d) → p.rules_at d ≡ Some chain
-      → suc (sum_by (sum_by weight) chain) ≤ weight s
-  goto-fits c n k d s f chain inside effect_of has =
-      omega (
-        arith,
-        (costs_rank_chains.gotos c d s (statement_position p c n k) f inside effect_of).0,
-        costs_rank_chains.sums d chain has,
-      )
+  -- a chain that is entered, up to its end
+  entered : {stack : List ℕ} {o : RunResult} (d : ℕ) (chain : List (List S)) (f : Facts) (es : List Event)
+      → p.rules_at d ≡ Some chain → length stack + depth d ≤ 16 → Follows d 1 (at_rule chain) f es o
+      → Does t (weighs weight (at_rule chain))
+      (λ go. enter_chain go (slice_get t.chain_offsets.items d) stack f es) stack o
+  entered {stack} d chain f es has room follows =
+      let there = code.chains d chain has in
+      does-same t (weighs weight (at_rule chain)) (λ go ticks. ap (λ o. enter_chain go o stack f es ticks) there.1)
+      (follows there.0 there.2 (rules-in p d chain has) stack room)
 
   -- a jump, up to the end of its chain
   jumped : {c n k d : ℕ} {s : S} {stack : List ℕ} {f : Facts} {o : RunResult} (es : List Event)
@@ -84,27 +84,11 @@ module _ {S : Type 0} (p : Program S) (t : TableCode) (weight : S → ℕ) (cost
       → Does t (weighs weight (at_rule chain)) (Doing c n (give (Jump d)) at_step left stack f es)
       ((at_step + 1 + left) ∷ stack) o
   jumped {c} {n} {k} {d} {s} {stack} {f} es chain at_step left inside effect_of has room follows =
-      let there = code.chains d chain has in
       let deep = (costs_rank_chains.jumps c d s (statement_position p c n k) f inside effect_of).1 in
-      let back = at_step + 1 + left in
       does-same t (weighs weight (at_rule chain))
-      (λ go ticks. calls go (slice_get t.chain_offsets.items d) there.0 back stack f
-      (with_verdict p es c n (Jump d)) ticks there.1 (omega arith))
-      (follows there.0 there.2 (rules-in p d chain has) (back ∷ stack) (omega arith))
-
-  -- a goto, up to the end of the chain
-  went : {c n k d : ℕ} {s : S} {stack : List ℕ} {f : Facts} {o : RunResult} (es : List Event)
-      (chain : List (List S)) (at_step left : ℕ) → IsStatementOf p c s
-      → p.effect_of (statement_position p c n k) s f ≡ give (Goto d) → p.rules_at d ≡ Some chain
-      → length stack + depth c ≤ 16 → Follows d 1 (at_rule chain) f (with_verdict p es c n (Goto d)) o
-      → Does t (weighs weight (at_rule chain)) (Doing c n (give (Goto d)) at_step left stack f es) stack o
-  went {c} {n} {k} {d} {s} {stack} {f} es chain at_step left inside effect_of has room follows =
-      let there = code.chains d chain has in
-      let deep = (costs_rank_chains.gotos c d s (statement_position p c n k) f inside effect_of).1 in
-      does-same t (weighs weight (at_rule chain))
-      (λ go ticks. goes_to go (slice_get t.chain_offsets.items d) there.0 stack f
-      (with_verdict p es c n (Goto d)) ticks there.1)
-      (follows there.0 there.2 (rules-in p d chain has) stack (omega arith))
+      (λ go ticks. calls go (slice_get t.chain_offsets.items d) (at_step + 1 + left) stack f
+      (with_verdict p es c n (Jump d)) ticks (omega arith))
+      (entered d chain f (with_verdict p es c n (Jump d)) has (omega arith) follows)
 
   pub simulates : {c n : ℕ} {left : Remainder S} {f : Facts} {es : List Event} {o : RunResult}
       → Runs p c n left f es o → Follows c n left f es o
@@ -158,6 +142,8 @@ module _ {S : Type 0} (p : Program S) (t : TableCode) (weight : S → ℕ) (cost
       (does-over t (sum_by (sum_by weight) chain) is call)
   simulates {c} {n} (goes {k = k} d {s = s} {ss = ss} {rs = rs} {f = f} {es = es} chain effect_of has inner)
       at_step holds inside stack room =
-      first ss rs (sum_by (sum_by weight) chain) at_step
-      (omega (arith, goto-fits c n k d s f chain inside.0.0 effect_of has)) holds effect_of
-      (went es chain at_step (length ss) inside.0.0 effect_of has room (simulates inner))
+      let falls = costs_rank_chains.gotos c d s (statement_position p c n k) f inside.0.0 effect_of in
+      let less = falls.0 in
+      let deep = falls.1 in
+      first ss rs (sum_by (sum_by weight) chain) at_step (omega (arith, costs_rank_chains.sums d chain has)) holds
+      effect_of (entered d chain f (with_verdict p es c n (Goto d)) has (omega arith) (simulates inner))

@@ -1,13 +1,12 @@
 -- Base chains, in the order of the text.
-use Rattle.std.proofs.Common.{◌≡◌, ℕ, zero, suc, ◌+◌, ◌<◌, ◌≤◌, add-one, Bool, false, List, [], ◌∷◌, ◌++◌, length, get_or, drop, map, Some, refl, sym}
+use Rattle.std.proofs.Common.{◌≡◌, ℕ, ◌+◌, ◌<◌, ◌≤◌, add-one, Bool, List, [], ◌∷◌, ◌++◌, length, get_or, drop, map, Option, Some, None, refl, sym}
 use Rattle.std.proofs.Common.{ap, ◌∙◌, subst, ap₂, arith, append_assoc, ℤ, not, ◌&&◌, cond, Result, Ok, Err, Vec, Global, Bor, IfOk}
-use Rattle.std.specs.Prelude.{slice_get, slice_index, filter, All, int_lt}
-use Rattle.std.specs.Option.{option_map}
-use Rattle.std.specs.List.{list_any}
-use Rattle.std.proofs.lemmas.List.{append-nil, map-append}
-use Rattle.std.proofs.lemmas.List.Elements.{All-nil, All-append}
-use Rattle.std.proofs.lemmas.Option.{slice_get-map, slice_get_read}
-use Rattle.std.proofs.Math.ListN.{drop_of_length-le}
+use Rattle.std.specs.Prelude.{slice_get, slice_index, filter, All, int_lt, sum_by}
+use Rattle.std.specs.List.{zip}
+use Rattle.std.proofs.lemmas.List.{append-nil, map-append, drop_all, drop_more}
+use Rattle.std.proofs.lemmas.List.Elements.{All-nil, All-append, All-head}
+use Rattle.std.proofs.lemmas.List.Sums.{sum_by-cons, sum_by-append}
+use Rattle.std.proofs.lemmas.Option.{slice_get_within, get_or_from_slice_get}
 use Rattle.std.proofs.lemmas.Fn.{always_returns_same}
 use Rattle.std.specs.Fn.{Called, ComputesKey}
 use Rattle.std.specs.List.Sorted.{IsPermutation, IsSortedByKey, IsStableByKey, ties}
@@ -17,166 +16,198 @@ use Rattle.list_laws.specs.Tests.{less_by}
 use denote.Param.Members.{Mut}
 use Rattle.nft_tree.specs.declared.chain.Hook.{Hook}
 use Rattle.nft_tree.specs.Priorities.{priority_number}
-use Rattle.nft_tree.specs.Tree.{ChainTree, TableTree}
+use Rattle.nft_tree.specs.Tree.{HeadTree, ChainTree, TableTree}
 use Rattle.nft_tree.specs.TableItems.{chains_of}
-use Rattle.rule_values.specs.Faults.{chain_out_of_range, item_out_of_range}
+use Rattle.rule_paths.specs.Paths.{a_chain, MAX_COST}
+use Rattle.rule_paths.specs.Findings.{AreChainCosts}
+use Rattle.rule_paths.proofs.ReadLaws.{cost-at, costs-long}
+use Rattle.rule_laws.specs.Ranking as ranking
+use Rattle.rule_laws.specs.Ranking.{chain_cost_by}
 use Rattle.rule_meaning.specs.declared.event.ChainNo.{ChainNo}
-use Rattle.rule_meaning.specs.Hooks.{BaseChain, base_chain_of, base_chains_from, base_chains_of_tables, runs_before}
-use Rattle.rule_check.specs.Checked.{AreRulesetCosts}
+use Rattle.rule_meaning.specs.Hooks.{base_chain_of, base_chains_from, base_chains_of_tables, runs_before}
+use Rattle.rule_check.specs.Checked.{AreRulesetCosts, base_part, base_sum, ruleset_sum}
 use Rattle.filter_vm.specs.declared.code.Start.{Start}
 use Rattle.compiler.specs.Compiled.{start_head, base_chain_head}
 use Rattle.compiler.specs.declared.compiled_chain.CompiledChain.{CompiledChain}
-use Rattle.compiler.specs.steps.Bases.{base, runs_on_hook, AddsBases, CostsIn, Ordered}
-use Rattle.code_layout.proofs.AddLaws.{none_first, none_later}
-use Rattle.compiler.proofs.TableLaws.{chains_free}
+use Rattle.compiler.specs.steps.Bases.{base, runs_on_hook, AddsBases, HasCost, Ordered}
 
--- ---- an element of a list
+-- ---- what base chains cost
 
-pub shown_at : {A B : Type 0} (f : A → B) (xs : List A) (i : ℕ) (x : A) → i < length xs → x ≡ get_or xs i x
-    → slice_get (map f xs) i ≡ Some (f x)
-shown_at f xs i x lt is = slice_get-map f xs i ∙ ap (option_map f) (slice_get_read xs (length xs) i x refl lt is)
+abbrev pub cost_of : CompiledChain → ℕ
+cost_of b = b.cost
 
-pub drop_at : {A : Type 0} (xs : List A) (i : ℕ) (x : A) → slice_get xs i ≡ Some x → drop i xs ≡ x ∷ drop (i + 1) xs
-drop_at [] i x is = cc
-drop_at (y ∷ ys) zero x is = let e : y ≡ x = cc in ap (λ z. z ∷ ys) e
-drop_at (y ∷ ys) (suc i) x is = let n : suc (i + 1) ≡ suc i + 1 = omega arith in
-    drop_at ys i x is ∙ ap (λ m. x ∷ drop m (y ∷ ys)) n
+abbrev part : ChainTree × ℕ → ℕ
+part p = base_part p.0.head p.1
 
-pub none_at : {A : Type 0} (p : A → Bool) (xs : List A) (i : ℕ) (x : A) → list_any p xs ≡ false
-    → slice_get xs i ≡ Some x → p x ≡ false
-none_at p [] i x none is = cc
-none_at p (y ∷ ys) zero x none is = let e : y ≡ x = cc in ap p (sym e) ∙ none_first (p y) (list_any p ys) none
-none_at p (y ∷ ys) (suc i) x none is = none_at p ys i x (none_later (p y) (list_any p ys) none) is
+abbrev table_part : TableTree × List ℕ → ℕ
+table_part p = base_sum p.0 p.1
 
--- the head of a chain of the table is right, and so is what its rules have
-pub chain_is_right : (t : TableTree) (i : ℕ) (c : ChainTree) → list_any item_out_of_range t.items ≡ false
-    → slice_get (chains_of t) i ≡ Some c → chain_out_of_range c ≡ false
-chain_is_right t i c none is = none_at chain_out_of_range (chains_of t) i c
-    (chains_free item_out_of_range chain_out_of_range (λ c h. h) t.items none) is
+-- the base chain has this number, and costs 1 more than this cost, which is below the limit
+abbrev pub Costs : ChainNo → ℕ → ChainNo → ℕ → Type 0
+Costs number cost n c = (n ≡ number) × (c ≡ cost + 1) × (cost < MAX_COST)
 
--- ---- appending base chains
+-- what a chain adds
+added_cost : (table place cost : ℕ) (head : Option HeadTree) (number : ChainNo) (more : List CompiledChain)
+    → map base more ≡ base_chain_of table place head → All (λ (b : CompiledChain). Costs number cost b.number b.cost) more
+    → sum_by cost_of more ≡ base_part head cost
+added_cost table place cost None number [] are all = refl
+added_cost table place cost None number (b ∷ more) are all = cc
+added_cost table place cost (Some head) number [] are all = cc
+added_cost table place cost (Some head) number (b ∷ []) are all =
+    let is = All-head (λ (x : CompiledChain). Costs number cost x.number x.cost) b [] all in
+    let its = is.1 in
+    omega (arith, sum_by-cons cost_of b [])
+added_cost table place cost (Some head) number (b ∷ other ∷ more) are all = cc
 
-all_agree : {A : Type 0} (P Q : A → Type 0) → ((x : A) → P x → Q x) → (xs : List A) → All P xs → All Q xs
-all_agree P Q f xs all = λ k d lt. f (get_or xs k d) (all k d lt)
+all_so : {A : Type 0} (P Q : A → Type 0) → ((x : A) → P x → Q x) → (xs : List A) → All P xs → All Q xs
+all_so P Q f xs all = λ k d lt. f (get_or xs k d) (all k d lt)
 
-adds_on : (first second : List BaseChain) (Costs : ChainNo → ℕ → Type 0) (old now new : List CompiledChain)
-    → AddsBases first Costs old now → AddsBases second Costs now new → AddsBases (first ++ second) Costs old new
-adds_on first second Costs old now new a b = record {
-  more = a.more ++ b.more;
-  is = b.is ∙ ap (λ xs. xs ++ b.more) a.is ∙ append_assoc old a.more b.more;
-  are = map-append base a.more b.more ∙ ap (λ xs. xs ++ map base b.more) a.are ∙ ap (λ xs. first ++ xs) b.are;
-  costs = All-append (λ (x : CompiledChain). Costs x.number x.cost) a.more b.more a.costs b.costs;
-}
+rest_from : {A : Type 0} (xs : List A) (i : ℕ) (x : A) → slice_get xs i ≡ Some x → drop i xs ≡ x ∷ drop (i + 1) xs
+rest_from xs i x is = drop_more xs i x (slice_get_within xs i x is)
+    ∙ ap (λ y. y ∷ drop (i + 1) xs) (get_or_from_slice_get xs i x x is)
 
--- what each base chain of a table costs
-abbrev pub InTable : ℕ → List ℕ → ChainNo → ℕ → Type 0
-InTable table costs n cost = (n.table ≡ table) × (cost ≡ slice_index costs n.chain + 1)
+-- ---- the base chains of a table
 
--- loop invariant: the base chains among the first chains of a table are appended
-pub record BasesSoFar (table : ℕ) (all : List ChainTree) (place : ℕ) (costs : List ℕ)
-    (old now : List CompiledChain) : Type 0 where
-  pub front : List BaseChain
-  pub split : base_chains_from table 0 all ≡ front ++ base_chains_from table place (drop place all)
-  pub added : AddsBases front (InTable table costs) old now
+module _ (table : ℕ) (t : TableTree) (costs : List ℕ) (old : List CompiledChain) where
+  -- loop invariant: the base chains among the first chains of the table are appended, each with its cost
+  pub record BasesSoFar (place : ℕ) (now : List CompiledChain) : Type 0 where
+    pub are : map base now ++ base_chains_from table place (drop place (chains_of t))
+        ≡ map base old ++ base_chains_from table 0 (chains_of t)
+    pub costed : (tables : List TableTree) → slice_get tables table ≡ Some t
+        → All (λ (b : CompiledChain). HasCost tables b.number b.cost) old
+        → All (λ (b : CompiledChain). HasCost tables b.number b.cost) now
+    pub sum : sum_by cost_of now + sum_by part (zip (drop place (chains_of t)) (drop place costs))
+        ≡ sum_by cost_of old + base_sum t costs
 
-pub bases_none : (table : ℕ) (all : List ChainTree) (costs : List ℕ) (bases : List CompiledChain)
-    → BasesSoFar table all 0 costs bases bases
-bases_none table all costs bases = record {
-  front = [];
-  split = refl;
-  added = record {
-    more = [];
-    is = sym (append-nil bases);
-    are = refl;
-    costs =
-        All-nil (λ (b : CompiledChain). InTable table costs b.number b.cost);
-  };
-}
+  pub bases_more : (place : ℕ) (chain : ChainTree) (now new : List CompiledChain) → AreChainCosts t costs
+      → slice_get (chains_of t) place ≡ Some chain
+      → AddsBases (base_chain_of table place chain.head)
+      (Costs (record { table = table; chain = place }) (slice_index costs place)) now new
+      → BasesSoFar place now → BasesSoFar (place + 1) new
+  bases_more place chain now new are_costs is one so = record {
+    are = ap (λ xs. xs ++ base_chains_from table (place + 1) rest)
+        (ap (map base) one.is ∙ map-append base now one.more ∙ ap (λ xs. map base now ++ xs) one.are)
+        ∙ append_assoc (map base now) (base_chain_of table place chain.head) (base_chains_from table (place + 1) rest)
+        ∙ ap (λ n. map base now ++ (base_chain_of table place chain.head ++ base_chains_from table n rest)) (add-one place)
+        ∙ ap (λ cs. map base now ++ base_chains_from table place cs) (sym split) ∙ so.are;
+    costed = λ tables at before. subst (All (λ (b : CompiledChain). HasCost tables b.number b.cost)) (sym one.is)
+        (All-append (λ (b : CompiledChain). HasCost tables b.number b.cost) now one.more (so.costed tables at before)
+        (all_so (λ (b : CompiledChain). Costs number cost b.number b.cost)
+        (λ (b : CompiledChain). HasCost tables b.number b.cost) (has_cost tables at) one.more one.costs));
+    sum = omega (
+      arith,
+      so.sum,
+      ap (λ xs. sum_by cost_of xs) one.is,
+      sum_by-append cost_of now one.more,
+      added_cost table place cost chain.head number one.more one.are one.costs,
+      ap₂ (λ cs xs. sum_by part (zip cs xs)) split (drop_more costs place 0 row_within),
+      sum_by-cons part (chain, cost) (zip rest (drop (place + 1) costs)),
+    );
+  }
+    where
+      rest : List ChainTree
+      rest = drop (place + 1) (chains_of t)
 
-pub bases_more : (table : ℕ) (all : List ChainTree) (place : ℕ) (chain : ChainTree) (costs : List ℕ) (cost : ℕ)
-    (old now new : List CompiledChain) → slice_get all place ≡ Some chain → cost ≡ slice_index costs place
-    → AddsBases (base_chain_of table place chain.head) (λ n c. (n ≡ record { table = table; chain = place })
-    × (c ≡ cost + 1)) now new → BasesSoFar table all place costs old now
-    → BasesSoFar table all (place + 1) costs old new
-bases_more table all place chain costs cost old now new is cost_is one so =
-    let number : ChainNo = record { table = table; chain = place } in
-    let P : CompiledChain → Type 0 = λ b. (b.number ≡ number) × (b.cost ≡ cost + 1) in
-    let Q : CompiledChain → Type 0 = λ b. InTable table costs b.number b.cost in
-    record {
-      front = so.front ++ base_chain_of table place chain.head;
-      split = so.split ∙ ap (λ cs. so.front ++ base_chains_from table place cs) (drop_at all place chain is)
-          ∙ ap (λ n. so.front ++ (base_chain_of table place chain.head
-          ++ base_chains_from table n (drop (place + 1) all))) (sym (add-one place))
-          ∙ sym (append_assoc so.front (base_chain_of table place chain.head)
-          (base_chains_from table (place + 1) (drop (place + 1) all)));
-      added = adds_on so.front (base_chain_of table place chain.head) (InTable table costs) old now new so.added
-          (record {
-            more = one.more;
-            is = one.is;
-            are = one.are;
-            costs =
-                all_agree P Q (λ b h. (
-                  ap (λ n. n.table) h.0,
-                  h.1
-                      ∙ ap (λ n. n + 1) (cost_is ∙ ap (λ n. slice_index costs n.chain) (sym h.0)),
-                )) one.more one.costs;
-          });
-    }
+      cost : ℕ
+      cost = slice_index costs place
 
-pub bases_all : (table : ℕ) (all : List ChainTree) (place : ℕ) (costs : List ℕ) (old now : List CompiledChain)
-    → length all ≤ place → BasesSoFar table all place costs old now
-    → AddsBases (base_chains_from table 0 all) (InTable table costs) old now
-bases_all table all place costs old now ruleset_code so =
-    let none : base_chains_from table place (drop place all) ≡ [] =
-    ap (base_chains_from table place) (drop_of_length-le all ruleset_code) in
-    let wanted : so.front ≡ base_chains_from table 0 all =
-    sym (so.split ∙ ap (λ bs. so.front ++ bs) none ∙ append-nil so.front) in
-    subst (λ bs. AddsBases bs (InTable table costs) old now) wanted so.added
+      number : ChainNo
+      number = record { table = table; chain = place }
+
+      within : place < length (chains_of t)
+      within = slice_get_within (chains_of t) place chain is
+
+      row_within : place < length costs
+      row_within = omega (arith, within, costs-long t costs are_costs)
+
+      split : drop place (chains_of t) ≡ chain ∷ rest
+      split = rest_from (chains_of t) place chain is
+
+      has_cost : (tables : List TableTree) → slice_get tables table ≡ Some t → (b : CompiledChain)
+          → Costs number cost b.number b.cost → HasCost tables b.number b.cost
+      has_cost tables at b h = record {
+        table = t;
+        stands = ap (λ n. slice_get tables n.table) h.0 ∙ at;
+        is = λ by is_cost.
+            let shown = cost-at t costs are_costs by is_cost place chain within
+            (sym (get_or_from_slice_get (chains_of t) place chain chain is)) in
+            let its : chain_cost_by t by b.number.chain ≡ by (a_chain chain.name) =
+            ap (λ n. chain_cost_by t by n.chain) h.0 ∙ ap (ranking.cost_of by) is in
+            omega (arith, shown, its, h.1, h.2);
+      }
+
+  -- all of them are
+  pub bases_all : (place : ℕ) (now : List CompiledChain) → length (chains_of t) ≤ place → BasesSoFar place now
+      → (map base now ≡ map base old ++ base_chains_from table 0 (chains_of t))
+      × (sum_by cost_of now ≡ sum_by cost_of old + base_sum t costs)
+  bases_all place now past so =
+      let none = drop_all place (chains_of t) past in (
+        sym (append-nil (map base now)) ∙ ap (λ cs. map base now ++ base_chains_from table place cs) (sym none) ∙ so.are,
+        omega (arith, so.sum, ap (λ cs. sum_by part (zip cs (drop place costs))) none),
+      )
 
 -- ---- the tables of a ruleset
 
--- loop invariant: the base chains of the first tables are appended, each with its cost
-pub record TableBasesSoFar (all : List TableTree) (place : ℕ) (now : List CompiledChain) : Type 0 where
-  pub split : base_chains_of_tables 0 all ≡ map base now ++ base_chains_of_tables place (drop place all)
-  pub costs : (costs : List (List ℕ)) → AreRulesetCosts all costs
-      → All (λ (b : CompiledChain). CostsIn costs b.number b.cost) now
+module _ (all : List TableTree) where
+  -- loop invariant: the base chains of the first tables are there, each with its cost
+  pub record TableBasesSoFar (place : ℕ) (now : List CompiledChain) : Type 0 where
+    pub are : map base now ++ base_chains_of_tables place (drop place all) ≡ base_chains_of_tables 0 all
+    pub costed : All (λ (b : CompiledChain). HasCost all b.number b.cost) now
+    pub sum : (costs : List (List ℕ)) → AreRulesetCosts all costs
+        → sum_by cost_of now + sum_by table_part (zip (drop place all) (drop place costs)) ≡ ruleset_sum all costs
 
-pub table_bases_none : (all : List TableTree) (now : List CompiledChain) → now ≡ [] → TableBasesSoFar all 0 now
-table_bases_none all now none = record {
-  split = ap (λ bs. map base bs ++ base_chains_of_tables 0 all) (sym none);
-  costs = λ costs are. subst (λ bs. All (λ (b : CompiledChain). CostsIn costs b.number b.cost) bs) (sym none)
-      (All-nil (λ (b : CompiledChain). CostsIn costs b.number b.cost));
-}
+  pub table_bases_none : (now : List CompiledChain) → now ≡ [] → TableBasesSoFar 0 now
+  table_bases_none now none = subst (TableBasesSoFar 0) (sym none) (record {
+    are = refl;
+    costed = All-nil (λ (b : CompiledChain). HasCost all b.number b.cost);
+    sum = λ costs are. omega arith;
+  })
 
-pub table_bases_more : (all : List TableTree) (place : ℕ) (t : TableTree) (row : List ℕ)
-    (now new : List CompiledChain) → slice_get all place ≡ Some t
-    → ((costs : List (List ℕ)) → AreRulesetCosts all costs → row ≡ get_or costs place [])
-    → AddsBases (base_chains_from place 0 (chains_of t)) (InTable place row) now new
-    → TableBasesSoFar all place now → TableBasesSoFar all (place + 1) new
-table_bases_more all place t row now new is rows added so =
-    let more : map base new ≡ map base now ++ base_chains_from place 0 (chains_of t) =
-    ap (map base) added.is ∙ map-append base now added.more ∙ ap (λ bs. map base now ++ bs) added.are in
-    record {
-      split = so.split ∙ ap (λ ts. map base now ++ base_chains_of_tables place ts) (drop_at all place t is)
-          ∙ ap (λ n. map base now ++ (base_chains_from place 0 (chains_of t)
-          ++ base_chains_of_tables n (drop (place + 1) all))) (sym (add-one place))
-          ∙ sym (append_assoc (map base now) (base_chains_from place 0 (chains_of t))
-          (base_chains_of_tables (place + 1) (drop (place + 1) all)))
-          ∙ ap (λ bs. bs ++ base_chains_of_tables (place + 1) (drop (place + 1) all)) (sym more);
-      costs = λ costs are.
-          let P : CompiledChain → Type 0 = λ b. InTable place row b.number b.cost in
-          let Q : CompiledChain → Type 0 = λ b. CostsIn costs b.number b.cost in
-          let here = all_agree P Q (λ b h. h.1 ∙ ap (λ r. slice_index r b.number.chain + 1)
-          (rows costs are ∙ ap (λ n. get_or costs n []) (sym h.0))) added.more added.costs in
-          subst (All Q) (sym added.is) (All-append Q now added.more (so.costs costs are) here);
-    }
+  pub table_bases_more : (place : ℕ) (t : TableTree) (row : List ℕ) (now new : List CompiledChain)
+      → slice_get all place ≡ Some t
+      → ((costs : List (List ℕ)) → AreRulesetCosts all costs → row ≡ get_or costs place [])
+      → map base new ≡ map base now ++ base_chains_from place 0 (chains_of t)
+      → (All (λ (b : CompiledChain). HasCost all b.number b.cost) now
+      → All (λ (b : CompiledChain). HasCost all b.number b.cost) new)
+      → sum_by cost_of new ≡ sum_by cost_of now + base_sum t row
+      → TableBasesSoFar place now → TableBasesSoFar (place + 1) new
+  table_bases_more place t row now new is rows more costed sum so = record {
+    are = ap (λ xs. xs ++ base_chains_of_tables (place + 1) rest) more
+        ∙ append_assoc (map base now) (base_chains_from place 0 (chains_of t)) (base_chains_of_tables (place + 1) rest)
+        ∙ ap (λ n. map base now ++ (base_chains_from place 0 (chains_of t) ++ base_chains_of_tables n rest)) (add-one place)
+        ∙ ap (λ ts. map base now ++ base_chains_of_tables place ts) (sym split) ∙ so.are;
+    costed = costed so.costed;
+    sum = λ costs are.
+        let within = slice_get_within all place t is in
+        let row_within : place < length costs = omega (arith, are.long) in
+        let its = drop_more costs place [] row_within
+        ∙ ap (λ r. r ∷ drop (place + 1) costs) (sym (rows costs are)) in
+        omega (
+          arith,
+          so.sum costs are,
+          ap₂ (λ ts xs. sum_by table_part (zip ts xs)) split its,
+          sum_by-cons table_part (t, row) (zip rest (drop (place + 1) costs)),
+        );
+  }
+    where
+      rest : List TableTree
+      rest = drop (place + 1) all
 
-pub table_bases_all : (all : List TableTree) (place : ℕ) (now : List CompiledChain) → length all ≤ place
-    → TableBasesSoFar all place now → map base now ≡ base_chains_of_tables 0 all
-table_bases_all all place now ruleset_code so =
-    let none : base_chains_of_tables place (drop place all) ≡ [] =
-    ap (base_chains_of_tables place) (drop_of_length-le all ruleset_code) in
-    sym (so.split ∙ ap (λ bs. map base now ++ bs) none ∙ append-nil (map base now))
+      split : drop place all ≡ t ∷ rest
+      split = rest_from all place t is
+
+  pub table_bases_all : (place : ℕ) (now : List CompiledChain) → length all ≤ place → TableBasesSoFar place now
+      → (map base now ≡ base_chains_of_tables 0 all) × ((costs : List (List ℕ)) → AreRulesetCosts all costs
+      → sum_by cost_of now ≡ ruleset_sum all costs)
+  table_bases_all place now past so =
+      let none = drop_all place all past in (
+        sym (append-nil (map base now)) ∙ ap (λ ts. map base now ++ base_chains_of_tables place ts) (sym none) ∙ so.are,
+        λ costs are. omega (
+          arith,
+          so.sum costs are,
+          ap (λ ts. sum_by table_part (zip ts (drop place costs))) none,
+        ),
+      )
 
 -- ---- order
 

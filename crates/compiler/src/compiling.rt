@@ -63,5 +63,6 @@ pub fn compile(alloc: Global, checked: &Checked) -> Result<Code, AllocError>
     checked.known_bounds();
     costs_rank_chains();
     hooks_terminate();
-    ruleset_code(alloc, checked)
+    let code = ruleset_code(alloc, checked)?;
+    Ok(code)
 }

@@ -1,14 +1,15 @@
 //! The starts of a ruleset: its base chains, hook by hook, in the order in which they run.
-ghost use Rattle.std.specs.Prelude.{◌≡◌, ◌+◌, ◌<◌, ℕ, false, List, filter, length, map, slice_get, slice_index, Some, All, IfOk, OnOk};
+ghost use Rattle.std.specs.Prelude.{◌≡◌, ◌+◌, ◌++◌, ◌<◌, ℕ, false, List, filter, length, map, slice_get, slice_index, sum_by, Some, All, IfOk, OnOk};
 ghost use Rattle.std.specs.List.{list_any};
-ghost use Rattle.nft_tree.specs.Tree.{ChainTree, HeadTree, chain_tree};
+ghost use Rattle.nft_tree.specs.Tree.{ChainTree, HeadTree, TableTree, chain_tree};
 ghost use Rattle.nft_tree.specs.TableItems.{chains_of};
 ghost use Rattle.rule_paths.specs.Paths.{MAX_COST};
+ghost use Rattle.rule_paths.specs.Findings.{AreChainCosts};
 ghost use Rattle.rule_values.specs.Faults.{chain_out_of_range, has_wrong_value, item_out_of_range};
-ghost use Rattle.rule_check.specs.Checked.{AreRulesetCosts};
+ghost use Rattle.rule_check.specs.Checked.{AreRulesetCosts, base_sum, ruleset_sum};
 ghost use Rattle.rule_meaning.specs.Hooks.{base_chain_of, base_chains_from, base_chains_of, same_hook};
 ghost use Rattle.compiler.specs.Compiled.{start_head, base_chain_head};
-ghost use Rattle.compiler.specs.steps.Bases.{AddsBases, CostsIn, Ordered, base, runs_on_hook};
+ghost use Rattle.compiler.specs.steps.Bases.{AddsBases, HasCost, Ordered, base, runs_on_hook};
 
 use crate::compiled_chain::CompiledChain;
 use code_layout::to_u32;
@@ -30,7 +31,7 @@ fn add_base<'t>(
     requires small { (head : HeadTree) → (chain_tree chain.now).head ≡ Some head → cost < MAX_COST }
     ensures { OnOk result (AddsBases
         (base_chain_of number.table number.chain (chain_tree chain.now).head)
-        (λ n c. (n ≡ number) × (c ≡ cost + 1))
+        (λ n c. (n ≡ number) × (c ≡ cost + 1) × (cost < MAX_COST))
         bases.old.items bases.new.items) }
 {
     if let Some(head) = &chain.head {
@@ -52,13 +53,18 @@ fn add_bases<'t>(
 ) -> Result<(), AllocError>
     requires bounds { list_any item_out_of_range names.now.items ≡ false }
     requires long { length costs.now ≡ length (chains_of names.now) }
+    requires costs { AreChainCosts names.now costs.now }
     requires small { (j : ℕ) (c : ChainTree) (head : HeadTree)
         → slice_get (chains_of names.now) j ≡ Some c
         → c.head ≡ Some head → slice_index costs.now j < MAX_COST }
-    ensures { OnOk result (AddsBases
-        (base_chains_from table 0 (chains_of names.now))
-        (λ n c. (n.table ≡ table) × (c ≡ slice_index costs.now n.chain + 1))
-        bases.old.items bases.new.items) }
+    ensures bases { OnOk result (map base bases.new.items
+        ≡ map base bases.old.items ++ base_chains_from table 0 (chains_of names.now)) }
+    ensures costs { OnOk result ((tables : List TableTree)
+        → slice_get tables table ≡ Some names.now
+        → All (λ b. HasCost tables b.number b.cost) bases.old.items
+        → All (λ b. HasCost tables b.number b.cost) bases.new.items) }
+    ensures sum { OnOk result (sum_by (λ b. b.cost) bases.new.items
+        ≡ sum_by (λ b. b.cost) bases.old.items + base_sum names.now costs.now) }
 {
     for (place, chain) in names.chains().iter().enumerate() {
         let number = ChainNo {
@@ -79,9 +85,11 @@ pub(crate) fn base_chains<'t>(
     requires names { names.now ≡ checked.now.rules }
     requires bounds { list_any (has_wrong_value checked.now.plant) names.now ≡ false }
     ensures bases { IfOk result (λ bases. map base bases.items ≡ base_chains_of checked.now.rules) }
-    ensures costs { IfOk result (λ bases. (costs : List (List ℕ))
+    ensures costs { IfOk result (λ bases.
+        All (λ b. HasCost checked.now.rules b.number b.cost) bases.items) }
+    ensures sum { IfOk result (λ bases. (costs : List (List ℕ))
         → AreRulesetCosts checked.now.rules costs
-        → All (λ b. CostsIn costs b.number b.cost) bases.items) }
+        → sum_by (λ b. b.cost) bases.items ≡ ruleset_sum checked.now.rules costs) }
 {
     let mut bases = Vec::new(alloc);
     for (table, names) in names.iter().enumerate() {

@@ -32,15 +32,13 @@ fn table_code(
         lookups: declared(alloc, plant, names)?,
         dropped: 0,
     };
-    let mut rest = names.chains();
-    while let [chain, others @ ..] = rest {
+    for (place, chain) in names.chains().iter().enumerate() {
         let number = ChainNo {
             table,
-            chain: to_u32(code.chain_offsets.len())?,
+            chain: to_u32(place)?,
         };
         code.chain_offsets.push(code.steps.list().len())?;
         add_chain(alloc, plant, names, number, chain, &mut code)?;
-        rest = others;
     }
     Ok(code)
 }
@@ -56,12 +54,9 @@ pub(crate) fn table_codes(
     ensures { IfOk result (λ codes. AreTableCodes plant.now names.now codes.items) }
 {
     let mut codes = Vec::new(alloc);
-    let mut rest = names;
-    while let [table, others @ ..] = rest {
-        let number = to_u32(codes.len())?;
-        let code = table_code(alloc, plant, table, number)?;
+    for (number, table) in names.iter().enumerate() {
+        let code = table_code(alloc, plant, table, to_u32(number)?)?;
         codes.push(IndexedTable::new(alloc, code)?)?;
-        rest = others;
     }
     Ok(codes)
 }

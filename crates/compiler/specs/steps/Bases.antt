@@ -1,8 +1,10 @@
 -- Base chains with their costs, and the order in which they run.
-use Rattle.std.specs.Prelude.{◌≡◌, ℕ, ◌+◌, Bool, List, [], ◌++◌, map, filter, get_or, slice_index, All}
+use Rattle.std.specs.Prelude.{◌≡◌, ℕ, ◌+◌, Bool, List, ◌++◌, map, filter, slice_get, Some, All}
 use Rattle.std.specs.List.Sorted.{IsPermutation, IsSortedBy, IsStableBy}
 use Rattle.nft_tree.specs.declared.chain.Hook.{Hook}
-use Rattle.nft_tree.specs.Tree.{head_tree}
+use Rattle.nft_tree.specs.Tree.{TableTree, head_tree}
+use Rattle.rule_paths.specs.Paths.{Caller, AreCosts}
+use Rattle.rule_laws.specs.Ranking.{chain_cost_by}
 use Rattle.rule_meaning.specs.declared.event.ChainNo.{ChainNo}
 use Rattle.rule_meaning.specs.Hooks.{BaseChain, runs_before, is_on_hook}
 use Rattle.filter_vm.specs.declared.code.Start.{Start}
@@ -23,9 +25,11 @@ pub record AddsBases (wanted : List BaseChain) (Costs : ChainNo → ℕ → Type
   pub are : map base more ≡ wanted
   pub costs : All (λ b. Costs b.number b.cost) more
 
--- 1 more than the chain of this number costs, where costs are listed by table and chain
-abbrev pub CostsIn : List (List ℕ) → ChainNo → ℕ → Type 0
-CostsIn costs n cost = cost ≡ slice_index (get_or costs n.table []) n.chain + 1
+-- 1 more than the chain of this number costs, by any solution of its table's cost equations
+pub record HasCost (tables : List TableTree) (n : ChainNo) (cost : ℕ) : Type 0 where
+  pub table : TableTree
+  pub stands : slice_get tables n.table ≡ Some table
+  pub is : (by : Caller → ℕ) → AreCosts table by → cost ≡ 1 + chain_cost_by table by n.chain
 
 -- the starts are the base chains of the hook, in order of priority and then of the text
 pub record Ordered (hook : Hook) (bases : List CompiledChain) (starts : List Start) : Type 0 where

@@ -1,24 +1,29 @@
-use Rattle.std.proofs.Common.{◌≡◌, ◌+◌, Some, refl, subst, Bor}
+use Rattle.std.proofs.Common.{◌≡◌, ◌≤◌, Some, length, ap, subst, Bor, arith}
 use Rattle.std.specs.Prelude.{slice_get, slice_index}
+use Rattle.std.proofs.lemmas.List.{length-map}
 use Rattle.nft_tree.specs.declared.chain.Chain.{Chain}
 use Rattle.nft_tree.specs.Tree.{ChainTree, chain_tree}
 use Rattle.nft_tree.specs.TableItems.{chains_of}
+use Rattle.rule_values.specs.Faults.{chain_out_of_range, item_out_of_range}
 use Rattle.rule_meaning.specs.Hooks.{base_chain_of}
 use Rattle.compiler.specs.steps.Bases.{AddsBases}
-use Rattle.compiler.proofs.StartLaws.{shown_at, chain_is_right, bases_more}
+use Rattle.compiler.proofs.TableLaws.{shown_at, chain_free}
+use Rattle.compiler.proofs.StartLaws.{Costs, bases_more, bases_all}
 use Rattle.compiler.proofs.starts.add_bases.Goals as goal
+
+abbrev tree : Bor Chain → ChainTree
+tree b = chain_tree b.now
 
 pub add_base-requires-clause-bounds : goal.add_base-requires-clause-bounds
 add_base-requires-clause-bounds c =
-    let tree : Bor Chain → ChainTree = λ b. chain_tree b.now in
     let at = subst (λ cs. slice_get cs c.loop-place.place ≡ Some (tree c.chain-item.result))
     c.chains-chain-items.ensures.all (shown_at tree c.chains-chain-items.result.now c.loop-place.place
     c.chain-item.result c.loop-place-test.true c.chain-item.is) in
-    chain_is_right c.args.names.now c.loop-place.place (tree c.chain-item.result) c.requires.bounds at
+    chain_free item_out_of_range chain_out_of_range (λ x h. h) c.args.names.now.items c.loop-place.place
+    (tree c.chain-item.result) c.requires.bounds at
 
 pub add_base-requires-clause-small : goal.add_base-requires-clause-small
 add_base-requires-clause-small c = λ head is_base.
-    let tree : Bor Chain → ChainTree = λ b. chain_tree b.now in
     let at = subst (λ cs. slice_get cs c.loop-place.place ≡ Some (tree c.chain-item.result))
     c.chains-chain-items.ensures.all (shown_at tree c.chains-chain-items.result.now c.loop-place.place
     c.chain-item.result c.loop-place-test.true c.chain-item.is) in
@@ -26,14 +31,20 @@ add_base-requires-clause-small c = λ head is_base.
 
 pub loop-place-preserved : goal.loop-place-preserved
 loop-place-preserved c =
-    let tree : Bor Chain → ChainTree = λ b. chain_tree b.now in
     let at = subst (λ cs. slice_get cs c.loop-place.place ≡ Some (tree c.chain-item.result))
     c.chains-chain-items.ensures.all (shown_at tree c.chains-chain-items.result.now c.loop-place.place
     c.chain-item.result c.loop-place-test.true c.chain-item.is) in
     let added = subst (λ n. AddsBases (base_chain_of c.args.table n (tree c.chain-item.result).head)
-    (λ m cost. (m ≡ record { table = c.args.table; chain = n })
-    × (cost ≡ slice_index c.args.costs.now c.loop-place.place + 1)) c.loop-place.bases.items
-    c.add_base.new.bases.items) c.in_ok-to_u32.ensures c.in_ok-add_base.ensures in
-    bases_more c.args.table (chains_of c.args.names.now) c.loop-place.place (tree c.chain-item.result)
-    c.args.costs.now (slice_index c.args.costs.now c.loop-place.place) _ c.loop-place.bases.items
-    c.add_base.new.bases.items at refl added c.loop-place.invariant
+    (Costs (record { table = c.args.table; chain = n }) (slice_index c.args.costs.now c.loop-place.place))
+    c.loop-place.bases.items c.add_base.new.bases.items) c.in_ok-to_u32.ensures c.in_ok-add_base.ensures in
+    bases_more c.args.table c.args.names.now c.args.costs.now _ c.loop-place.place (tree c.chain-item.result)
+    c.loop-place.bases.items c.add_base.new.bases.items c.requires.costs at added c.loop-place.invariant
+
+pub returns : goal.returns
+returns c =
+    let long = ap length c.chains-chain-items.ensures.all in
+    let same = length-map c.chains-chain-items.result.now tree in
+    let past : length (chains_of c.args.names.now) ≤ c.loop-place.place = omega arith in
+    let all = bases_all c.args.table c.args.names.now c.args.costs.now _ c.loop-place.place c.loop-place.bases.items past
+    c.loop-place.invariant in
+    record { bases = all.0; costs = c.loop-place.invariant.costed; sum = all.1 }

@@ -1,36 +1,48 @@
-use Rattle.std.proofs.Common.{◌≡◌, ◌-◌, ◌∷◌, ◌∙◌, List, length, take, drop, sym, ap, subst}
-use Rattle.std.specs.List.{list_any}
-use Rattle.list_laws.specs.Lists.{head_and_rest}
+use borrow.Author.Count.{below_more}
+use Rattle.std.proofs.Common.{◌≡◌, ◌+◌, ◌∷◌, ◌++◌, [], ◌∙◌, Some, length, length-append, refl, sym, ap, subst, arith}
+use Rattle.std.specs.Prelude.{slice_get}
+use Rattle.std.proofs.lemmas.Bool.{or_parts}
+use Rattle.std.proofs.lemmas.Option.{slice_get_read, slice_get_within}
+use Rattle.list_laws.specs.Options.{some_unique}
 use Rattle.nft_tree.specs.Tree.{TableTree}
 use Rattle.rule_types.specs.Types.{table_mismatches}
 use Rattle.rule_values.specs.Faults.{has_wrong_value}
-use Rattle.code_layout.specs.CodeLayout.{IsTableCode}
-use Rattle.code_layout.proofs.AddLaws.{nothing_left, none_later}
-use Rattle.compiler.proofs.TableLaws.{tables_more, tables_all}
+use Rattle.compiler.proofs.TableLaws.{HasCode, code_kept, code_added, none_at}
 use Rattle.compiler.proofs.tables.table_codes.Goals as goal
 
-pub loop-rest-preserved : goal.loop-rest-preserved
-loop-rest-preserved c =
-    let rest : List TableTree = c.loop-rest.rest.now in
-    let others : List TableTree = take (length rest - 1) (drop 1 rest) in
-    let is : rest ≡ c.table-item.result ∷ others = head_and_rest rest c.table-item.result
-    c.in-len1-up.len_at_least c.table-item.is in
-    let types = ap (list_any table_mismatches) (sym is) ∙ c.loop-rest.invariant.types in
-    let bounds = ap (list_any (has_wrong_value c.args.plant.now)) (sym is) ∙ c.loop-rest.invariant.bounds in
-    let number : c.in_ok-number.number ≡ length c.loop-rest.codes.items =
-    c.in_ok-number.ensures ∙ c.len.ensures ∙ c.loop-rest.codes.ok.0 in
-    let holds = subst (λ n. IsTableCode c.args.plant.now n c.table-item.result c.in_ok-code.code) number
-    c.in_ok-code.ensures in
-    let indexed = subst (λ t. IsTableCode c.args.plant.now (length c.loop-rest.codes.items) c.table-item.result
-    t) (sym c.in_ok-new.ensures) holds in
+pub table_code-requires-clause-types : goal.table_code-requires-clause-types
+table_code-requires-clause-types c = none_at table_mismatches c.args.names.now c.loop-number.number
+    c.index-names-number.result c.requires.types (slice_get_read c.args.names.now (length c.args.names.now)
+    c.loop-number.number c.index-names-number.result refl c.loop-number-test.true c.index-names-number.is)
+
+pub table_code-requires-clause-bounds : goal.table_code-requires-clause-bounds
+table_code-requires-clause-bounds c = (or_parts _ _ (none_at (has_wrong_value c.args.plant.now) c.args.names.now
+    c.loop-number.number c.index-names-number.result c.requires.bounds (slice_get_read c.args.names.now
+    (length c.args.names.now) c.loop-number.number c.index-names-number.result refl c.loop-number-test.true
+    c.index-names-number.is))).1
+
+pub loop-number-preserved : goal.loop-number-preserved
+loop-number-preserved c =
+    let i = c.loop-number.number in
+    let plant = c.args.plant.now in
+    let table = c.index-names-number.result in
+    let now = c.loop-number.codes.items in
+    let so = c.loop-number.invariant in
+    let at = slice_get_read c.args.names.now (length c.args.names.now) i table refl c.loop-number-test.true
+    c.index-names-number.is in
+    let is = rw (sym c.in_ok-new.ensures, c.in_ok-to_u32.ensures) at c.in_ok-code.ensures in
     record {
-      made = tables_more c.args.plant.now c.args.names.now rest others c.table-item.result
-          c.loop-rest.codes.items _ c.in_ok-new.field-0 is c.in_ok-push.ensures.items indexed
-          c.loop-rest.invariant.made;
-      types = none_later _ _ types;
-      bounds = none_later _ _ bounds;
+      count = ap length c.in_ok-push.ensures.items ∙ length-append now _ ∙ ap (λ n. n + 1) so.count;
+      made = rw c.in_ok-push.ensures.items (below_more
+          (λ k. (t : TableTree) → slice_get c.args.names.now k ≡ Some t → HasCode plant (now ++ c.in_ok-new.field-0 ∷ []) k t) i
+          (λ k before t has. code_kept plant now c.in_ok-new.field-0 k t (so.made k before t has))
+          (λ t has. subst (HasCode plant (now ++ c.in_ok-new.field-0 ∷ []) i) (some_unique _ table t at has)
+          (code_added plant now c.in_ok-new.field-0 i table so.count is)));
     }
 
 pub returns : goal.returns
-returns c = tables_all c.args.plant.now c.args.names.now _ _
-    (nothing_left c.loop-rest.rest.now c.in_default.len_below) c.loop-rest.invariant.made
+returns c = record {
+  each = λ i t has. let within = slice_get_within c.args.names.now i t has in
+      c.loop-number.invariant.made i (omega arith) t has;
+  same_length = omega arith;
+}
