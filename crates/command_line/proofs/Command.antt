@@ -2,20 +2,20 @@
 -- the defaults, and the rows of what was used.
 use Rattle.std.proofs.Common.{◌&&◌, ◌+◌, ◌++◌, ◌==◌, ◌||◌, ◌≡◌, ◌∙◌, ◌∷◌, ℕ, Bool, List, None, Option, Some, [], ap, arith, codes, cond}
 use Rattle.std.proofs.Common.{false, is_some, length, not, refl, suc, sym, true, true≢false}
-use Rattle.std.specs.Prelude.{filter, fold, min, slice_get}
-use Rattle.std.specs.List.{list_all, list_any}
+use Rattle.std.specs.Prelude.{fold, min, slice_get}
+use Rattle.std.specs.List.{list_any}
 use Rattle.std.specs.Option.{option_map_or}
 use Rattle.std.specs.Str.{bytes_eq, chars}
 use Rattle.std.proofs.lemmas.Slice.Eq.{bytes_eq-Decides}
 use Rattle.clap.specs.Facts.{explicit_source}
-use Rattle.clap.specs.Faults.{bundle_fault, bundle_step_fault, defaults_fault, flag_word_fault, flags_fault, given_default_fault, long_fault, other_fault}
+use Rattle.clap.specs.Faults.{bundle_fault, bundle_step_fault, defaults_fault, flag_word_fault, flags_fault, long_fault, other_fault}
 use Rattle.clap.specs.Faults.{short_fault}
 use Rattle.clap.specs.Kinds.{Kinds, or_else}
 use Rattle.clap.specs.Lexer.{long_of, short_of, usize_max}
 use Rattle.clap.specs.Simple.{Shape, filled, help_rule, new_shape, with_index}
 use Rattle.clap.specs.Takes.{is_given}
 use Rattle.clap.specs.Walk.{Held, Outcome, Row, Rule, Step, Text, Waiting, Walk, after_flag, arg_by_id, arg_by_index, arg_by_long, arg_by_short}
-use Rattle.clap.specs.Walk.{default_rows, has_row, idle, is_empty, long_or_other, long_word, plain, plain_word, reading_by, short_or_plain}
+use Rattle.clap.specs.Walk.{idle, long_or_other, long_word, plain, plain_word, reading_by, short_or_plain}
 use Rattle.clap.specs.Walk.{subcommand_or_other, trailing, with_default}
 use Rattle.clap.proofs.WalkLemmas.{both, bundle_ends}
 use Rattle.clap.proofs.FaultLemmas.{fault_ends}
@@ -146,17 +146,6 @@ Paths rules flag p (id ∷ left) =
     × Other id (flag ∷ codes "report" ∷ left) × (bytes_eq flag id ≡ false) × (bytes_eq (codes "report") id ≡ false)
     × Paths rules flag (min (p + 1) usize_max) left
 
-abbrev is_nil : {A : Type 0} → List A → Bool
-is_nil [] = true
-is_nil (x ∷ xs) = false
-
-abbrev pub has_default : Rule → Bool
-has_default a = not (is_nil a.defaults)
-
--- and its default passes its parser
-abbrev pub is_defaulted : Rule → Bool
-is_defaulted a = is_nil a.defaults || is_nil (given_default_fault a a.defaults)
-
 abbrev pub lacks : List Row → List Text → Bool
 lacks rows ids = list_any (λ id. not (is_given id rows)) ids
 
@@ -176,54 +165,12 @@ pub record Form : Type 0 where
 pub record IsCommand (c : Form) : Type 0 where
   pub shorts : (x : ℕ) → arg_by_short c.rules x ≡ cond (104 == x || false) (Some help) None
   pub longs : (name : Text) → arg_by_long c.rules name ≡ option_by c.has_flag c.has_file c.flag name
-  pub report : c.has_file ≡ true → arg_by_id c.rules (codes "report") ≡ Some report_filled
+  pub report : arg_by_id c.rules (codes "report") ≡ cond c.has_file (Some report_filled) None
   pub paths : Paths c.rules c.flag 1 c.ids
   pub apart : (bytes_eq c.flag (codes "report") ≡ false) × (bytes_eq (codes "report") c.flag ≡ false)
-  pub defaulted : filter has_default c.rules ≡ cond c.has_flag (flag_filled c.flag ∷ []) []
-  pub defaults : list_all is_defaulted c.rules ≡ true
+  pub defaults : (all : List Row) → (fold with_default all c.rules ≡ cond c.has_flag (with_default all (flag_filled c.flag)) all)
+      × (defaults_fault all c.rules ≡ [])
   pub required : (rows : List Row) → list_any (λ a. a.required && not (is_given a.id rows)) c.rules ≡ lacks rows c.ids
-
--- ---- defaults
-
-pub filter_defaults : (rules : List Rule) (all : List Row)
-    → fold with_default all rules ≡ fold with_default all (filter has_default rules)
-filter_defaults [] all = refl
-filter_defaults (a ∷ rest) all = go a.defaults refl (filter_defaults rest)
-  where
-    same : (b : Bool) → cond b all all ≡ all
-    same true = refl
-    same false = refl
-
-    go : (ds : List Text) → a.defaults ≡ ds
-        → ((rows : List Row) → fold with_default rows rest ≡ fold with_default rows (filter has_default rest))
-        → fold with_default (with_default all a) rest
-        ≡ fold with_default all (cond (not (is_nil ds)) (a ∷ filter has_default rest) (filter has_default rest))
-    go [] is more =
-        ap (λ x. fold with_default x rest)
-        (ap (λ ds. cond (has_row a.id all) all (default_rows a.id (reading_by a) ds all)) is ∙ same (has_row a.id all))
-        ∙ more all
-    go (d ∷ ds) is more = more (with_default all a)
-
-pub defaults_pass : (rules : List Rule) (all : List Row) → list_all is_defaulted rules ≡ true → defaults_fault all rules ≡ []
-unfolding defaults_fault
-defaults_pass [] all e = refl
-defaults_pass (a ∷ rest) all e =
-    let p = both (is_defaulted a) (list_all is_defaulted rest) e in
-    ap (λ k. or_else k (defaults_fault (with_default all a) rest)) (go a.defaults (given_default_fault a a.defaults) p.0)
-    ∙ defaults_pass rest (with_default all a) p.1
-  where
-    none : (b : Bool) → ◌≡◌ {A = Kinds} (cond b [] []) []
-    none true = refl
-    none false = refl
-
-    sure : (b : Bool) (k : Kinds) → cond (b || true) [] k ≡ []
-    sure true k = refl
-    sure false k = refl
-
-    go : (ds : List Text) (k : Kinds) → (is_nil ds || is_nil k) ≡ true → cond (has_row a.id all || is_empty ds) [] k ≡ []
-    go [] k e = sure (has_row a.id all) k
-    go (d ∷ ds) [] e = none (has_row a.id all || is_empty (d ∷ ds))
-    go (d ∷ ds) (k ∷ ks) e = absurd (true≢false (sym e))
 
 -- ---- the rows
 

@@ -11,13 +11,13 @@ use Rattle.clap.specs.Kinds.{Kinds, or_else}
 use Rattle.clap.specs.Lexer.{long_of, short_of}
 use Rattle.clap.specs.Simple.{App, Shape, built, entered, filled, names_of, new_shape, subcommand_of, version_rule, with_index}
 use Rattle.clap.specs.Walk.{Held, Names, Row, Rule, Step, Text, Walk, after_step, arg_by_long, finished, idle, long_or_other, long_word, nothing_held}
-use Rattle.clap.specs.Walk.{rows_after, settled, subcommand_met, subcommand_or_other, trailing, value, walked}
+use Rattle.clap.specs.Walk.{rows_after, settled, subcommand_met, subcommand_or_other, trailing, value, walked, with_default}
 use Rattle.clap.specs.declared.error.kind.ErrorKind.TheVariants.{InvalidSubcommand, UnknownArgument}
 use Rattle.clap.proofs.FaultLemmas.{stopped_fault}
 use Rattle.clap.proofs.OnLiterals.{clap_on_literals}
 use Rattle.clap.proofs.WalkLemmas.{walk_stopped}
 use Rattle.command_line.specs.steps.Program.{flag_rule, program_app}
-use Rattle.command_line.proofs.Command.{AsksHelp, Fits, Form, Gives, IsCommand, Met, first_nil, help, idle_walk, leaf, long_step, not_nil, option_by}
+use Rattle.command_line.proofs.Command.{AsksHelp, Fits, Form, Gives, IsCommand, Met, Paths, first_nil, flag_filled, help, idle_walk, leaf, long_step, not_nil, option_by}
 use Rattle.command_line.proofs.Command.{plain_step, short_step, then_nil}
 use Rattle.command_line.proofs.Parse.{AnswersAt, parsed}
 use Rattle.command_line.proofs.Scan.{Seen, before, has_no_short, is_taken, scan}
@@ -76,9 +76,13 @@ explain_form = record {
   file = Some [];
 }
 
-either : (b : Bool) (o : Option Rule) → cond b o o ≡ o
-either true o = refl
-either false o = refl
+either : {A : Type 0} (b : Bool) (x : A) → cond b x x ≡ x
+either true x = refl
+either false x = refl
+
+or_true : (b : Bool) → (b || true) ≡ true
+or_true true = refl
+or_true false = refl
 
 all_longs : (name : Text) → arg_by_long (sub 1).rules name ≡ option_by true false (codes "all") name
 all_longs name =
@@ -87,14 +91,34 @@ all_longs name =
 no_longs : (name : Text) → arg_by_long (sub 2).rules name ≡ option_by false false (codes "all") name
 no_longs name = sym (either (bytes_eq (codes "all") name || false) _ ∙ either (bytes_eq (codes "report") name || false) _)
 
+-- what `IsCommand` says of defaults
+abbrev Defaults : Form → Type 0
+Defaults c = (all : List Row) → (fold with_default all c.rules ≡ cond c.has_flag (with_default all (flag_filled c.flag)) all)
+    × (defaults_fault all c.rules ≡ [])
+
+run_defaults : Defaults run_form
+unfolding defaults_fault
+run_defaults all = (simp either, simp (or_true, either))
+
+check_defaults : Defaults check_form
+unfolding defaults_fault
+check_defaults all = (simp either, simp (or_true, either))
+
+explain_defaults : Defaults explain_form
+unfolding defaults_fault
+explain_defaults all = (simp either, simp or_true)
+
 run_command : IsCommand run_form
-run_command = search rules
+run_command = search (rules, run_defaults)
+
+check_paths : Paths check_form.rules check_form.flag 1 check_form.ids
+check_paths = search rules
 
 check_command : IsCommand check_form
-check_command = search (rules, all_longs)
+check_command = search (rules, all_longs, check_defaults, check_paths)
 
 explain_command : IsCommand explain_form
-explain_command = search (rules, no_longs)
+explain_command = search (rules, no_longs, explain_defaults)
 
 run_begins : Fits run_form [] run_form.ids false None
 run_begins = search rules

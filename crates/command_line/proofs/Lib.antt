@@ -1,5 +1,4 @@
 pub mod Options
-pub mod Described
 pub mod Rows
 pub mod Scan
 pub mod Words

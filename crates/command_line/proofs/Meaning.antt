@@ -12,7 +12,7 @@ use Rattle.command_line.specs.CommandLine.{report_of, without_flag, without_repo
 use Rattle.command_line.proofs.Scan.{Kind, Later, Place, Seen, after, at_end, before, dashes, filed, flagged, is_taken, kind, kind_by, naming, odd, operand}
 use Rattle.command_line.proofs.Scan.{operand_met, scan}
 use Rattle.command_line.proofs.Scan.{with_operand, word_met}
-use Rattle.command_line.proofs.Words.{Means, means, plain_bare, plain_taken, taken_bare, taken_plain}
+use Rattle.command_line.proofs.Words.{Means, means, plain_taken, taken_bare, taken_plain}
 
 -- as many operands as are left
 abbrev pub match_up : List Text → List Text → Bool
@@ -155,67 +155,54 @@ module _ (is_operand : Text → Bool) (flag : Text) where
 
 -- ---- another test of operands
 
-abbrev Within : Option Seen → Option Seen → Type 0
-Within a b = (m : Seen) → a ≡ Some m → b ≡ Some m
-
-operand_within : (word : Text) (a b : Option Seen) → Within a b → Within (with_operand word a) (with_operand word b)
-operand_within word None b within m e = cc
-operand_within word (Some seen) b within m e = ap (with_operand word) (within seen refl) ∙ e
-
-met_within : (k : Kind) (word : Text) (left : List Text) (met : Bool) (file : Option Text) (f g : Later)
-    → ((place : Place) (l : List Text) (m : Bool) (o : Option Text) → Within (f place l m o) (g place l m o))
-    → Within (word_met k word left met file f) (word_met k word left met file g)
-met_within dashes word left met file f g within = within after left met file
-met_within flagged word left true file f g within = λ m e. e
-met_within flagged word left false file f g within = within before left true file
-met_within (filed value) word left met (Some x) f g within = λ m e. e
-met_within (filed None) word left met None f g within = within naming left met None
-met_within (filed (Some x)) word left met None f g within = within before left met (Some x)
-met_within operand word [] met file f g within = λ m e. e
-met_within operand word (id ∷ left) met file f g within = operand_within word _ _ (within before left met file)
-met_within odd word left met file f g within = λ m e. e
-
-cond_within : (a b : Bool) (x y : Option Seen) (m : Seen) → (a ≡ true → b ≡ true) → (x ≡ Some m → y ≡ Some m)
-    → cond a x None ≡ Some m → cond b y None ≡ Some m
-cond_within true b x y m passes more e = ap (λ c. cond c y None) (passes refl) ∙ more e
-cond_within false b x y m passes more e = cc
-
 abbrev pub Each : (Text → Type 0) → List Text → Type 0
 Each P [] = Unit {0}
 Each P (word ∷ rest) = P word × Each P rest
 
-pub everywhere : (P : Text → Type 0) → ((word : Text) → P word) → (words : List Text) → Each P words
-everywhere P all [] = tt
-everywhere P all (word ∷ rest) = (all word, everywhere P all rest)
-
-module _ (p q : Text → Bool) (flag : Text) where
-  kind_within : (word : Text) (left : List Text) (met : Bool) (file : Option Text) (f : Later)
-      → (p word ≡ true → q word ≡ true)
-      → Within (word_met (kind p flag word) word left met file f) (word_met (kind q flag word) word left met file f)
-  kind_within word left met file f passes = go (bytes_eq word (codes "--")) (long_of word) (p word) (q word) passes
-    where
-      go : (d : Bool) (o : Option (Text × Option Text)) (a b : Bool) → (a ≡ true → b ≡ true)
-          → Within (word_met (cond d dashes (kind_by flag o a)) word left met file f)
-          (word_met (cond d dashes (kind_by flag o b)) word left met file f)
-      go true o a b passes m e = e
-      go false (Some x) a b passes m e = e
-      go false None true b passes m e = ap (λ c. word_met (cond c operand odd) word left met file f) (passes refl) ∙ e
-      go false None false b passes m e = cc
-
-  pub scan_within : (words : List Text) → Each (λ word. p word ≡ true → q word ≡ true) words
+module _ (p q : Text → Bool) where
+  -- tests that agree on the words find the same
+  scan_same : (flag : Text) (words : List Text) → Each (λ word. p word ≡ q word) words
       → (place : Place) (left : List Text) (met : Bool) (file : Option Text)
-      → Within (scan p flag words place left met file) (scan q flag words place left met file)
-  scan_within [] each before left met file m e = e
-  scan_within [] each after left met file m e = e
-  scan_within [] each naming left met file m e = e
-  scan_within (word ∷ rest) each before left met file m e =
-      kind_within word left met file (scan q flag rest) each.0 m
-      (met_within (kind p flag word) word left met file _ _ (scan_within rest each.1) m e)
-  scan_within (word ∷ rest) each after [] met file m e = e
-  scan_within (word ∷ rest) each after (id ∷ left) met file m e =
-      operand_within word _ _ (scan_within rest each.1 after left met file) m e
-  scan_within (word ∷ rest) each naming left met file m e =
-      cond_within (p word) (q word) _ _ m each.0 (scan_within rest each.1 before left met (Some word) m) e
+      → scan p flag words place left met file ≡ scan q flag words place left met file
+  scan_same flag [] each before left met file = refl
+  scan_same flag [] each after left met file = refl
+  scan_same flag [] each naming left met file = refl
+  scan_same flag (word ∷ rest) each before left met file = λ j.
+      word_met (cond (bytes_eq word (codes "--")) dashes (kind_by flag (long_of word) (each.0 j))) word left met file
+      (λ place l m f. scan_same flag rest each.1 place l m f j)
+  scan_same flag (word ∷ rest) each after left met file = λ j.
+      operand_met word after left met file (λ place l m f. scan_same flag rest each.1 place l m f j)
+  scan_same flag (word ∷ rest) each naming left met file = λ j.
+      cond (each.0 j) (scan_same flag rest each.1 before left met (Some word) j) None
+
+  module _ (passes : (word : Text) → p word ≡ true → q word ≡ true) where
+    plain_passes : (words : List Text) → plain_by p words ≡ true → plain_by q words ≡ true
+    plain_passes [] e = refl
+    plain_passes (word ∷ rest) e = go (bytes_eq word (codes "--")) e (plain_passes rest)
+      where
+        go : (d : Bool) → cond d true (p word && plain_by p rest) ≡ true → (plain_by p rest ≡ true → plain_by q rest ≡ true)
+            → cond d true (q word && plain_by q rest) ≡ true
+        go true f more = refl
+        go false f more = let parts = both (p word) (plain_by p rest) f in λ j. passes word parts.0 j && more parts.1 j
+
+    names_pass : (words : List Text) → names_by p words ≡ true → names_by q words ≡ true
+    names_pass [] e = refl
+    names_pass (word ∷ rest) e = go (bytes_eq word (codes "--")) (as_report word) e (names_pass rest)
+      where
+        next_passes : (o : Option Text) → option_map_or p o false ≡ true → option_map_or q o false ≡ true
+        next_passes None f = f
+        next_passes (Some next) f = passes next f
+
+        go : (d : Bool) (o : Option (Option Text)) → cond d true (name_by p o rest (names_by p rest)) ≡ true
+            → (names_by p rest ≡ true → names_by q rest ≡ true) → cond d true (name_by q o rest (names_by q rest)) ≡ true
+        go true o f more = refl
+        go false None f more = more f
+        go false (Some None) f more = next_passes (slice_get rest 0) f
+        go false (Some (Some file)) f more = refl
+
+    named_passes : (file : Option Text) (words : List Text) → names_of p file words ≡ true → names_of q file words ≡ true
+    named_passes None words e = names_pass words e
+    named_passes (Some f) words e = refl
 
 -- ---- the definitions of the command line
 
@@ -248,9 +235,9 @@ parts true true false s m e = cc
 parts true false c s m e = cc
 parts false b c s m e = cc
 
-texts_plain : (words : List Text) → AreTexts words → Each (λ word. is_taken word ≡ true → is_plain_word word ≡ true) words
-texts_plain [] each = tt
-texts_plain (word ∷ rest) each = (taken_plain word each.0, texts_plain rest each.1)
+texts_alike : (words : List Text) → AreTexts words → Each (λ word. is_taken word ≡ is_plain_word word) words
+texts_alike [] each = tt
+texts_alike (word ∷ rest) each = (taken_plain word each.0, texts_alike rest each.1)
 
 -- the report's option names a file
 abbrev pub is_named : Option Text → List Text → Bool
@@ -263,8 +250,7 @@ named_all (Some f) words = refl
 
 module _ (flag : Text) (long : long_of (45 ∷ 45 ∷ flag) ≡ Some (flag, None)) (apart : bytes_eq (codes "report") flag ≡ false)
     (rest left : List Text) (met : Bool) (file : Option Text) where
-  scan_parts : (p : Text → Bool)
-      → ((word : Text) → p word ≡ true → (bytes_eq word (codes "--") ≡ false) × (long_of word ≡ None))
+  scan_parts : (p : Text → Bool) → ((word : Text) → p word ≡ true → long_of word ≡ None)
       → (seen : Seen) → scan p flag rest before left met file ≡ Some seen
       → (names_of p file rest ≡ true) × (plain_by p (words_of flag met file rest) ≡ true)
       × (match_up (operands (words_of flag met file rest)) left ≡ true) × (seen_of flag met file rest ≡ seen)
@@ -281,11 +267,10 @@ module _ (flag : Text) (long : long_of (45 ∷ 45 ∷ flag) ≡ Some (flag, None
       → AreTexts rest → (is_named file rest && are_operands n (words_of flag met file rest)) ≡ true
   found_formed n count seen found texts =
       let words = words_of flag met file rest in
-      let is = scan_parts is_plain_word plain_bare seen
-      (scan_within is_taken is_plain_word flag rest (texts_plain rest texts) before left met file seen found) in
-      ap (λ b. b && are_operands n words) (sym (named_all file rest) ∙ is.0)
-      ∙ ap (λ b. b && (length (operands words) == n)) (sym (plain_all words) ∙ is.1)
-      ∙ eq-eqb (length (operands words)) n (same_length (operands words) left is.2 ∙ count)
+      let is = scan_parts is_plain_word (λ word e. taken_bare word (plain_taken word e)) seen
+      (sym (scan_same is_taken is_plain_word flag rest (texts_alike rest texts) before left met file) ∙ found) in
+      λ j. (sym (named_all file rest) ∙ is.0) j && ((sym (plain_all words) ∙ is.1) j
+      && eq-eqb (length (operands words)) n (same_length (operands words) left is.2 ∙ count) j)
 
   -- the pass finds something in well-formed words
   pub formed_found : (n : ℕ) → length left ≡ n → (is_named file rest && are_operands n (words_of flag met file rest)) ≡ true
@@ -295,9 +280,7 @@ module _ (flag : Text) (long : long_of (45 ∷ 45 ∷ flag) ≡ Some (flag, None
       let p = both (is_named file rest) (are_operands n words) e in
       let q = both (are_plain words) (length (operands words) == n) p.1 in
       let matches = lengths_match (operands words) left (eqb-true (length (operands words)) n q.1 ∙ sym count) in
-      scan_within is_plain_word is_taken flag rest
-      (everywhere (λ word. is_plain_word word ≡ true → is_taken word ≡ true) plain_taken rest) before left met file
-      (seen_of flag met file rest)
-      (scan_means is_plain_word flag (means is_plain_word flag long apart plain_bare) rest before left met file
-      ∙ λ j. cond ((named_all file rest ∙ p.0) j) (cond ((plain_all words ∙ q.0) j)
+      scan_means is_taken flag (means is_taken flag long apart taken_bare) rest before left met file
+      ∙ (λ j. cond (named_passes is_plain_word is_taken plain_taken file rest (named_all file rest ∙ p.0) j)
+      (cond (plain_passes is_plain_word is_taken plain_taken words (plain_all words ∙ q.0) j)
       (cond (matches j) (Some (seen_of flag met file rest)) None) None) None)

@@ -18,7 +18,7 @@ use Rattle.clap.specs.Walk.{subcommand_met, subcommand_or_other, takes_values, t
 use Rattle.clap.specs.Walk.{with_values}
 use Rattle.clap.specs.declared.error.kind.ErrorKind.TheVariants.{ArgumentConflict, TooManyValues}
 use Rattle.clap.specs.declared.parser.matches.ValueSource.TheVariants.{CommandLine, DefaultValue}
-use Rattle.command_line.proofs.Command.{AsksHelp, Fits, Form, Gives, IsCommand, Keeps, Met, Other, Paths, Pending, at, defaults_pass, filter_defaults}
+use Rattle.command_line.proofs.Command.{AsksHelp, Fits, Form, Gives, IsCommand, Keeps, Met, Other, Paths, Pending, at, }
 use Rattle.command_line.proofs.Command.{first_nil, fits_file, fits_flag, fits_path, flag_filled, gives_option, gives_path, help, idle_walk, lacks, leaf}
 use Rattle.command_line.proofs.Command.{long_step, newly, not_nil, place_of, plain_step, report_filled, short_step, then_nil, walk_with}
 use Rattle.command_line.proofs.Rows.{appended, appended_anew, flag_of, has_row-at, kept, row, row_at, set_row, source_of, still, unset_row}
@@ -137,19 +137,20 @@ module _ (c : Form) (is : IsCommand c) where
 
   ended : (all : List Row) (met : Bool) → (c.has_flag ≡ true → row_at c.flag all ≡ flag_of c.flag met)
       → Ended met all (fold with_default all c.rules)
-  ended all met unset =
-      subst (Ended met all) (sym (filter_defaults c.rules all ∙ ap (fold with_default all) is.defaulted)) (go c.has_flag refl met unset)
+  ended all met unset = subst (Ended met all) (sym (is.defaults all).0) (go c.has_flag refl met unset)
     where
+      default_by : Bool → List Row
+      default_by b = cond b all (with_values c.flag (unset_row c.flag).reading DefaultValue (codes "false" ∷ []) all)
+
+      has : (m : Bool) → row_at c.flag all ≡ flag_of c.flag m → has_row c.flag all ≡ is_some (flag_of c.flag m)
+      has m at = has_row-at c.flag all ∙ ap (λ (o : Option Row). is_some o) at
+
       go : (b : Bool) → c.has_flag ≡ b → (m : Bool) → (c.has_flag ≡ true → row_at c.flag all ≡ flag_of c.flag m)
-          → Ended m all (fold with_default all (cond b (flag_filled c.flag ∷ []) []))
+          → Ended m all (cond b (with_default all (flag_filled c.flag)) all)
       go false so m unset = (λ id r e. e, λ id other. refl, λ bad. absurd (true≢false (sym bad ∙ so)))
       go true so true unset =
-          subst (Ended true all) (sym (ap (λ b. cond b all (with_values c.flag (unset_row c.flag).reading DefaultValue (codes "false" ∷ []) all))
-          (has_row-at c.flag all ∙ ap (λ (o : Option Row). is_some o) (unset so))))
-          (λ id r e. e, λ id other. refl, λ _. unset so)
-      go true so false unset =
-          subst (Ended false all) (sym (ap (λ b. cond b all (with_values c.flag (unset_row c.flag).reading DefaultValue (codes "false" ∷ []) all))
-          (has_row-at c.flag all ∙ ap (λ (o : Option Row). is_some o) (unset so))
+          subst (Ended true all) (sym (ap default_by (has true (unset so)))) (λ id r e. e, λ id other. refl, λ _. unset so)
+      go true so false unset = subst (Ended false all) (sym (ap default_by (has false (unset so))
           ∙ appended c.flag (unset_row c.flag).reading DefaultValue (codes "false" ∷ []) all (unset so))) (
             λ id r e. still id all (unset_row c.flag ∷ []) r e,
             λ id other. kept id all (unset_row c.flag) other,
@@ -162,7 +163,7 @@ module _ (c : Form) (is : IsCommand c) where
   end_faults all rows pending p t left stands owes =
       (λ j. or_else (stands.0 j) (or_else (defaults_fault (stands.1 j) c.rules)
       (check_fault s (fold with_default (stands.1 j) c.rules) false)))
-      ∙ ap (λ k. or_else k (check_fault s (fold with_default all c.rules) false)) (defaults_pass c.rules all is.defaults)
+      ∙ ap (λ k. or_else k (check_fault s (fold with_default all c.rules) false)) (is.defaults all).1
       ∙ ap (check_kinds false false) (is.required (fold with_default all c.rules) ∙ owes)
 
   words_end : (t : Bool) (left : List Text) (met : Bool) (file : Option Text) (p : ℕ) (all rows : List Row) (pending : Pending)
@@ -346,9 +347,12 @@ module _ (c : Form) (is : IsCommand c) where
   abbrev pub waits : List Row → ℕ → Walk
   waits all p = walk_with (option (codes "report")) (at all (file_pending [])) p false
 
+  report_is : c.has_file ≡ true → arg_by_id c.rules (codes "report") ≡ Some report_filled
+  report_is so = is.report ∙ ap (λ b. cond b (Some report_filled) None) so
+
   file_fault : (words : List Text) (all : List Row) → c.has_file ≡ true
       → settle_fault c.rules false (at all (file_pending words)) ≡ use_fault false report_filled words all
-  file_fault words all so = ap (λ o. option_map_or (λ a. use_fault false a words all) o []) (is.report so)
+  file_fault words all so = ap (λ o. option_map_or (λ a. use_fault false a words all) o []) (report_is so)
 
   unnamed_bad : (all : List Row) → c.has_file ≡ true → Bad all (file_pending [])
   unnamed_bad all so e = not_nil _ _ (sym (file_fault [] all so) ∙ e)
@@ -357,7 +361,7 @@ module _ (c : Form) (is : IsCommand c) where
       → Stands all (file_pending (word ∷ [])) (all ++ row (codes "report") word ∷ [])
   stands_file word all so none = (
     file_fault (word ∷ []) all so ∙ first_use (codes "report") all none,
-    ap (λ o. used_by_id o (word ∷ []) all) (is.report so)
+    ap (λ o. used_by_id o (word ∷ []) all) (report_is so)
         ∙ appended_anew (codes "report") (row (codes "report") word).reading CommandLine (word ∷ []) all none,
   )
 
@@ -383,7 +387,7 @@ module _ (c : Form) (is : IsCommand c) where
       go false d None long true short =
           let turn = turns (option (codes "report")) all (file_pending []) p word _ _ refl
           (plain_step s asks (option (codes "report")) all (file_pending []) p word d long short) in
-          let met = ap (λ (a : Option Rule). option_word a (codes "report") word h) (is.report so) in
+          let met = ap (λ (a : Option Rule). option_word a (codes "report") word h) (report_is so) in
           passes (waits all p) (idle_walk (at all (file_pending (word ∷ []))) p false) word rest all left o
           turn.0 (turn.1 ∙ ap (λ (m : Held × Waiting). after_step c.rules word (waits all p) m.0 (next m.1)) met) later
       go false d None long false short = stops (waits all p) word rest (λ e.

@@ -6,14 +6,13 @@ use Rattle.std.specs.List.{before_first}
 use Rattle.std.specs.Option.{option_map_or}
 use Rattle.std.specs.Str.{IsUtf8, bytes_eq, chars, encode_utf8_all}
 use Rattle.std.proofs.lemmas.Bool.{false_from_ne_true, not-true}
-use Rattle.std.proofs.lemmas.Option.{none-some}
+use Rattle.std.proofs.lemmas.Option.{none-some, option_and_then_some}
 use Rattle.std.proofs.lemmas.Slice.Eq.{bytes_eq-Decides}
 use Rattle.std.proofs.lemmas.Str.{chars_past_char, encodes-chars}
 use Rattle.clap.specs.Lexer.{has_byte, long_of, long_of_rest, short_of, short_of_rest, strip_byte}
 use Rattle.clap.specs.Walk.{Text}
 use Rattle.std.proofs.lemmas.List.Folds.{list_any_at}
 use Rattle.clap.proofs.CutLemmas.{before_first-Lacks}
-use Rattle.clap.proofs.WalkLemmas.{both}
 use Rattle.command_line.specs.CommandLine.{as_report, is_plain_word, report_option}
 use Rattle.command_line.proofs.Scan.{Kind, dashes, filed, flagged, has_no_short, is_taken, kind, kind_by, long_kind, odd, operand}
 
@@ -35,72 +34,40 @@ named (x ∷ xs) name e =
     sym (lacks_all (x ∷ xs) (no_value (has_byte 61 (x ∷ xs)) _ (ap worth e))) ∙ ap text e
 
 -- what follows a hyphen
-behind : {A : Type 0} (f : Text → Option A) (word : Text) (a : A) → option_and_then f (strip_byte 45 word) ≡ Some a
-    → (rest : Text) × (word ≡ 45 ∷ rest) × (f rest ≡ Some a)
-behind f [] a e = cc
-behind f (x ∷ xs) a e = go (x == 45) refl e
+stripped : (word rest : Text) → strip_byte 45 word ≡ Some rest → word ≡ 45 ∷ rest
+stripped [] rest e = cc
+stripped (x ∷ xs) rest e = go (x == 45) refl e
   where
-    go : (b : Bool) → (x == 45) ≡ b → option_and_then f (cond b (Some xs) None) ≡ Some a
-        → (rest : Text) × (x ∷ xs ≡ 45 ∷ rest) × (f rest ≡ Some a)
-    go true is f = (xs, ap (λ (c : ℕ). c ∷ xs) (eqb-true x 45 is), f)
+    go : (b : Bool) → (x == 45) ≡ b → cond b (Some xs) None ≡ Some rest → x ∷ xs ≡ 45 ∷ rest
+    go true is f = let same : xs ≡ rest = cc in λ j. eqb-true x 45 is j ∷ same j
     go false is f = cc
-
-then_then : (o : Option Text) → option_and_then long_of_rest (option_and_then (strip_byte 45) o)
-    ≡ option_and_then (λ rest. option_and_then long_of_rest (strip_byte 45 rest)) o
-then_then None = refl
-then_then (Some rest) = refl
 
 pub long_text : (word name : Text) → long_of word ≡ Some (name, None) → word ≡ 45 ∷ 45 ∷ name
 long_text word name e =
-    let one = behind (λ rest. option_and_then long_of_rest (strip_byte 45 rest)) word (name, None)
-    (sym (then_then (strip_byte 45 word)) ∙ e) in
-    let two = behind long_of_rest one.0 (name, None) one.2 in
-    one.1 ∙ ap (λ (t : Text). 45 ∷ t) (two.1 ∙ ap (λ (t : Text). 45 ∷ t) (named two.0 name two.2))
-
--- ---- a plain word
-
--- it is no flag
-pub plain_lexed : (word : Text) → is_plain_word word ≡ true
-    → (bytes_eq word (codes "--") ≡ false) × (long_of word ≡ None) × (short_of word ≡ None)
-plain_lexed [] e = (refl, refl, refl)
-plain_lexed (c ∷ []) e = go (c == 45)
-  where
-    go : (b : Bool) → ((b && false) ≡ false)
-        × (option_and_then long_of_rest (option_and_then (strip_byte 45) (cond b (Some []) None)) ≡ None)
-        × (option_and_then short_of_rest (cond b (Some []) None) ≡ None)
-    go true = (refl, refl, refl)
-    go false = (refl, refl, refl)
-plain_lexed (c ∷ x ∷ rest) e =
-    let no : (c == 45) ≡ false = not-true (c == 45) e in (
-      ap (λ b. b && bytes_eq (x ∷ rest) (45 ∷ [])) no,
-      ap (λ b. option_and_then long_of_rest (option_and_then (strip_byte 45) (cond b (Some (x ∷ rest)) None))) no,
-      ap (λ b. option_and_then short_of_rest (cond b (Some (x ∷ rest)) None)) no,
-    )
-
-pub plain_taken : (word : Text) → is_plain_word word ≡ true → is_taken word ≡ true
-plain_taken word e =
-    let is = plain_lexed word e in
-    ap (λ b. not b && (not (is_some (long_of word)) && has_no_short (short_of word))) is.0
-    ∙ ap (λ o. not (is_some o) && has_no_short (short_of word)) is.1 ∙ ap has_no_short is.2
-
-pub plain_bare : (word : Text) → is_plain_word word ≡ true → (bytes_eq word (codes "--") ≡ false) × (long_of word ≡ None)
-plain_bare word e = let is = plain_lexed word e in (is.0, is.1)
+    option_and_then_some long_of_rest (option_and_then (strip_byte 45) (strip_byte 45 word)) (name, None) e (λ rest two is.
+    option_and_then_some (strip_byte 45) (strip_byte 45 word) rest two (λ one first second.
+    stripped word one first ∙ ap (λ (t : Text). 45 ∷ t) (stripped one rest second ∙ ap (λ (t : Text). 45 ∷ t) (named rest name is))))
 
 -- ---- a word that clap takes for an operand
 
-no_long : (o : Option (Text × Option Text)) → not (is_some o) ≡ true → o ≡ None
-no_long None e = refl
-no_long (Some q) e = absurd (true≢false (sym e))
+pub plain_taken : (word : Text) → is_plain_word word ≡ true → is_taken word ≡ true
+plain_taken [] e = refl
+plain_taken (c ∷ []) e = go (c == 45)
+  where
+    go : (b : Bool) → (not (b && false)
+        && (not (is_some (option_and_then long_of_rest (option_and_then (strip_byte 45) (cond b (Some []) None))))
+        && has_no_short (option_and_then short_of_rest (cond b (Some []) None)))) ≡ true
+    go true = refl
+    go false = refl
+plain_taken (c ∷ x ∷ rest) e = let no : (c == 45) ≡ false = not-true (c == 45) e in simp no
 
-pub taken_parts : (word : Text) → is_taken word ≡ true
-    → (bytes_eq word (codes "--") ≡ false) × (long_of word ≡ None) × (has_no_short (short_of word) ≡ true)
-taken_parts word e =
-    let p = both (not (bytes_eq word (codes "--"))) (not (is_some (long_of word)) && has_no_short (short_of word)) e in
-    let q = both (not (is_some (long_of word))) (has_no_short (short_of word)) p.1 in
-    (not-true (bytes_eq word (codes "--")) p.0, no_long (long_of word) q.0, q.1)
-
-pub taken_bare : (word : Text) → is_taken word ≡ true → (bytes_eq word (codes "--") ≡ false) × (long_of word ≡ None)
-taken_bare word e = let is = taken_parts word e in (is.0, is.1)
+pub taken_bare : (word : Text) → is_taken word ≡ true → long_of word ≡ None
+taken_bare word e = go (bytes_eq word (codes "--")) (long_of word) (has_no_short (short_of word)) e
+  where
+    go : (d : Bool) (o : Option (Text × Option Text)) (b : Bool) → (not d && (not (is_some o) && b)) ≡ true → o ≡ None
+    go false None b f = refl
+    go false (Some q) b f = absurd (true≢false (sym f))
+    go true o b f = absurd (true≢false (sym f))
 
 -- what stands behind a hyphen begins with a character
 no_first : (cs : List ℕ) → not (is_some (slice_get cs 0)) ≡ true → cs ≡ []
@@ -120,28 +87,21 @@ character_behind x rest utf8 e =
     absurd (omega arith)
 
 -- `--` is itself, and a word with more behind two hyphens has a long name
-no_double : (rest : Text) → bytes_eq rest [] ≡ false → option_and_then long_of_rest (Some rest) ≡ None → ⊥
-no_double [] is long = true≢false is
-no_double (y ∷ ys) is long = cc
+no_double : (rest : Text) → (not (bytes_eq rest []) && (not (is_some (long_of_rest rest)) && true)) ≡ false
+no_double [] = refl
+no_double (y ∷ ys) = refl
 
--- a text that clap takes for an operand is plain
-pub taken_plain : (word : Text) → IsUtf8 word → is_taken word ≡ true → is_plain_word word ≡ true
-taken_plain [] utf8 e = refl
-taken_plain (c ∷ []) utf8 e = refl
-taken_plain (c ∷ x ∷ rest) utf8 e =
-    let is = taken_parts (c ∷ x ∷ rest) e in go (c == 45) refl (x == 45) refl is.0 is.1 is.2
+-- of texts clap takes the plain ones for operands
+pub taken_plain : (word : Text) → IsUtf8 word → is_taken word ≡ is_plain_word word
+taken_plain [] utf8 = refl
+taken_plain (c ∷ []) utf8 = plain_taken (c ∷ []) refl
+taken_plain (c ∷ x ∷ rest) utf8 = go (c == 45) refl (x == 45) refl
   where
-    go : (b : Bool) → (c == 45) ≡ b → (d : Bool) → (x == 45) ≡ d → (b && (d && bytes_eq rest [])) ≡ false
-        → option_and_then long_of_rest (option_and_then (strip_byte 45) (cond b (Some (x ∷ rest)) None)) ≡ None
-        → has_no_short (option_and_then short_of_rest (cond b (Some (x ∷ rest)) None)) ≡ true
-        → not (c == 45) ≡ true
-    go false hyphen d second is long f = ap not hyphen
-    go true hyphen true second is long f =
-        absurd (no_double rest is (ap (λ (t : Bool). option_and_then long_of_rest (cond t (Some rest) None))
-        (sym second) ∙ long))
-    go true hyphen false second is long f =
-        absurd (character_behind x rest (subst (λ (k : ℕ). IsUtf8 (k ∷ x ∷ rest)) (eqb-true c 45 hyphen) utf8)
-        (ap (λ (t : Bool). has_no_short (cond t None (Some (x ∷ rest)))) (sym second) ∙ f))
+    go : (b : Bool) → (c == 45) ≡ b → (d : Bool) → (x == 45) ≡ d → is_taken (c ∷ x ∷ rest) ≡ not b
+    go false hyphen d second = simp hyphen
+    go true hyphen true second = simp (hyphen, second) (no_double rest)
+    go true hyphen false second = simp (hyphen, second) (false_from_ne_true _
+        (character_behind x rest (subst (λ (k : ℕ). IsUtf8 (k ∷ x ∷ rest)) (eqb-true c 45 hyphen) utf8)))
 
 -- ---- what the definitions of the command line make of each kind of word
 
@@ -158,8 +118,7 @@ module _ (is_operand : Text → Bool) (flag : Text) where
       × (as_report word ≡ None) × (is_operand word ≡ false)
 
   pub means : (long_of (45 ∷ 45 ∷ flag) ≡ Some (flag, None)) → bytes_eq (codes "report") flag ≡ false
-      → ((word : Text) → is_operand word ≡ true → (bytes_eq word (codes "--") ≡ false) × (long_of word ≡ None))
-      → (word : Text) → Means word (kind is_operand flag word)
+      → ((word : Text) → is_operand word ≡ true → long_of word ≡ None) → (word : Text) → Means word (kind is_operand flag word)
   means long apart bare word =
       go (bytes_eq word (codes "--")) refl (long_of word) refl (is_operand word) refl
     where
@@ -179,7 +138,7 @@ module _ (is_operand : Text → Bool) (flag : Text) where
           (λ e. never (sym long ∙ sym (ap long_of ((bytes_eq-Decides word (45 ∷ 45 ∷ flag)).0 e)) ∙ is))
 
       no_operand : (q : Text × Option Text) → long_of word ≡ Some q → is_operand word ≡ false
-      no_operand q is = false_from_ne_true (is_operand word) (λ e. none-some q (sym (bare word e).1 ∙ is))
+      no_operand q is = false_from_ne_true (is_operand word) (λ e. none-some q (sym (bare word e) ∙ is))
 
       -- what `--report` means of a word of this name
       report : (name : Text) (v : Option Text) (b : Bool) → long_of word ≡ Some (name, v) → bytes_eq (codes "report") name ≡ b
