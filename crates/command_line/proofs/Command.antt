@@ -9,14 +9,14 @@ use Rattle.std.specs.Str.{bytes_eq, chars}
 use Rattle.std.proofs.lemmas.Slice.Eq.{bytes_eq-Decides}
 use Rattle.clap.specs.Facts.{explicit_source}
 use Rattle.clap.specs.Faults.{bundle_fault, bundle_step_fault, defaults_fault, flag_word_fault, flags_fault, long_fault, other_fault}
-use Rattle.clap.specs.Faults.{short_fault}
+use Rattle.clap.specs.Faults.{short_fault, step_fault, turn_fault}
 use Rattle.clap.specs.Kinds.{Kinds, or_else}
 use Rattle.clap.specs.Lexer.{long_of, short_of, usize_max}
 use Rattle.clap.specs.Simple.{Shape, filled, help_rule, new_shape, with_index}
 use Rattle.clap.specs.Takes.{is_given}
-use Rattle.clap.specs.Walk.{Held, Outcome, Row, Rule, Step, Text, Waiting, Walk, after_flag, arg_by_id, arg_by_index, arg_by_long, arg_by_short}
+use Rattle.clap.specs.Walk.{Held, Names, Outcome, Row, Rule, Step, Text, Waiting, Walk, after_flag, after_step, arg_by_id, arg_by_index, arg_by_long, arg_by_short}
 use Rattle.clap.specs.Walk.{idle, long_or_other, long_word, plain, plain_word, reading_by, short_or_plain}
-use Rattle.clap.specs.Walk.{subcommand_or_other, trailing, with_default}
+use Rattle.clap.specs.Walk.{subcommand_met, subcommand_or_other, trailing, walked, with_default}
 use Rattle.clap.proofs.WalkLemmas.{both, bundle_ends}
 use Rattle.clap.proofs.FaultLemmas.{fault_ends}
 use Rattle.clap.specs.declared.error.kind.ErrorKind.{ErrorKind}
@@ -56,60 +56,87 @@ abbrev pub AsksHelp : Shape → Type 0
 AsksHelp s = (x : ℕ) (rest : Text) (h : Held) (next : Held → Kinds)
     → short_fault s.rules s.args_override_self (arg_by_short s.rules x) rest h next ≡ [] → ⊥
 
-module _ (s : Shape) (asks : AsksHelp s) (waiting : Waiting) (rows : List Row) (pending : Pending) (p : ℕ) (word : Text) where
+module _ (s : Shape) (asks : AsksHelp s) (names : Names) (waiting : Waiting) (rows : List Row) (pending : Pending) (p : ℕ)
+    (word : Text) where
   abbrev h : Held
   h = at rows pending
 
+  abbrev w : Walk
+  w = walk_with waiting h p false
+
   -- the word has this fault, and is this step
-  abbrev pub Met : Kinds → Held × Step → Type 0
+  abbrev Met : Kinds → Held × Step → Type 0
   Met fault m = (other_fault s None word h ≡ fault) × (subcommand_or_other s.rules None waiting p word h ≡ m)
 
-  pub long_step : (q : Text × Option Text) → bytes_eq word (codes "--") ≡ false → long_of word ≡ Some q
-      → Met (long_fault s.rules s.args_override_self (arg_by_long s.rules q.0) q.1 h)
-      (long_word s.rules waiting word q.0 q.1 h)
-  long_step q d long = (
-    λ j. cond (d j) [] (flag_word_fault s.rules s.args_override_self (long j) word h),
-    λ j. cond (d j) (h, trailing p) (long_or_other s.rules waiting word (long j) h),
-  )
+  -- and so it goes in its turn
+  abbrev pub Turn : Kinds → Held × Step → Type 0
+  Turn k m = (turn_fault s names w word ≡ or_else k (step_fault s p m.0 m.1))
+      × (walked s.rules names w word ≡ after_step s.rules word w m.0 m.1)
 
   no_character : (o : Option ℕ) → not (is_some o) ≡ true → None ≡ o
   no_character None e = refl
   no_character (Some x) e = absurd (true≢false (sym e))
 
-  pub plain_step : bytes_eq word (codes "--") ≡ false → long_of word ≡ None → has_no_short (short_of word) ≡ true
-      → Met [] (plain_word s.rules waiting word h)
-  plain_step d long no_short = go (short_of word) no_short (
-    λ j. cond (d j) [] (flag_word_fault s.rules s.args_override_self (long j) word h),
-    λ j. cond (d j) (h, trailing p) (long_or_other s.rules waiting word (long j) h),
-  )
-    where
-      go : (u : Option Text) → has_no_short u ≡ true
-          → Met (option_map_or (λ flags. bundle_fault s.rules s.args_override_self flags h) u [])
-          (short_or_plain s.rules waiting word u h) → Met [] (plain_word s.rules waiting word h)
-      go None e met = met
-      go (Some flags) e met =
-          let none : None ≡ slice_get (chars flags) 0 = no_character (slice_get (chars flags) 0) e in (
-            met.0 ∙ sym (fault_ends s.rules s.args_override_self (length flags) flags 0 h none),
-            met.1 ∙ ap (λ (q : Held × Outcome). after_flag s.rules waiting word q.0 q.1)
-                (sym (bundle_ends s.rules (length flags) flags 0 plain h none)),
-          )
+  plain_met : (u : Option Text) → has_no_short u ≡ true
+      → Met (option_map_or (λ flags. bundle_fault s.rules s.args_override_self flags h) u [])
+      (short_or_plain s.rules waiting word u h) → Met [] (plain_word s.rules waiting word h)
+  plain_met None e met = met
+  plain_met (Some flags) e met =
+      let none : None ≡ slice_get (chars flags) 0 = no_character (slice_get (chars flags) 0) e in (
+        met.0 ∙ sym (fault_ends s.rules s.args_override_self (length flags) flags 0 h none),
+        met.1 ∙ ap (λ (q : Held × Outcome). after_flag s.rules waiting word q.0 q.1)
+            (sym (bundle_ends s.rules (length flags) flags 0 plain h none)),
+      )
 
-  pub short_step : bytes_eq word (codes "--") ≡ false → long_of word ≡ None → has_no_short (short_of word) ≡ false
-      → other_fault s None word h ≡ [] → ⊥
+  short_fails : (u : Option Text) → has_no_short u ≡ false
+      → option_map_or (λ flags. bundle_fault s.rules s.args_override_self flags h) u [] ≡ [] → ⊥
   unfolding flags_fault chars
-  short_step d long short e =
-      go (short_of word) short (sym (λ j. cond (d j) [] (flag_word_fault s.rules s.args_override_self (long j) word h)) ∙ e)
+  short_fails None some e = true≢false some
+  short_fails (Some []) some e = true≢false some
+  short_fails (Some (x ∷ rest)) some e = first (slice_get (chars (x ∷ rest)) 0) some e
     where
-      first : (k : ℕ) (o : Option ℕ) (flags : Text) → not (is_some o) ≡ false
-          → bundle_step_fault s.rules s.args_override_self o flags 0 h (flags_fault s.rules s.args_override_self k) ≡ [] → ⊥
-      first k None flags none f = true≢false none
-      first k (Some x) flags none f = asks x _ _ _ f
+      first : (o : Option ℕ) → not (is_some o) ≡ false → bundle_step_fault s.rules s.args_override_self o (x ∷ rest) 0 h
+          (flags_fault s.rules s.args_override_self (length rest)) ≡ [] → ⊥
+      first None none f = true≢false none
+      first (Some y) none f = asks y _ _ _ f
 
-      go : (u : Option Text) → has_no_short u ≡ false
-          → option_map_or (λ flags. bundle_fault s.rules s.args_override_self flags h) u [] ≡ [] → ⊥
-      go None none f = true≢false none
-      go (Some []) none f = true≢false none
-      go (Some (x ∷ rest)) none f = first (length rest) (slice_get (chars (x ∷ rest)) 0) (x ∷ rest) none f
+  module _ (none : subcommand_met names waiting word ≡ None) where
+    turns : (k : Kinds) (m : Held × Step) → Met k m → Turn k m
+    unfolding walked
+    turns k m met = (
+      (λ j. let x = subcommand_or_other s.rules (none j) waiting p word h in
+      or_else (other_fault s (none j) word h) (step_fault s p x.0 x.1))
+          ∙ (λ j. or_else (met.0 j) (step_fault s p (met.1 j).0 (met.1 j).1)),
+      (λ j. let x = subcommand_or_other s.rules (none j) waiting p word h in after_step s.rules word w x.0 x.1)
+          ∙ (λ j. after_step s.rules word w (met.1 j).0 (met.1 j).1),
+    )
+
+    -- a word is `--`, an option by its long name, no option, or a bundle of short flags, which has a fault
+    pub by_word : (P : Bool → Option (Text × Option Text) → Bool → Type 0)
+        → ((o : Option (Text × Option Text)) (b : Bool) → Turn [] (h, trailing p) → P true o b)
+        → ((q : Text × Option Text) (b : Bool) → Turn (long_fault s.rules s.args_override_self (arg_by_long s.rules q.0) q.1 h)
+        (long_word s.rules waiting word q.0 q.1 h) → P false (Some q) b)
+        → (Turn [] (plain_word s.rules waiting word h) → P false None true)
+        → ((turn_fault s names w word ≡ [] → ⊥) → P false None false)
+        → P (bytes_eq word (codes "--")) (long_of word) (has_no_short (short_of word))
+    by_word P dashed long bare short =
+        go (bytes_eq word (codes "--")) refl (long_of word) refl (has_no_short (short_of word)) refl
+      where
+        met : (d : Bool) → bytes_eq word (codes "--") ≡ d → (o : Option (Text × Option Text)) → long_of word ≡ o
+            → Met (cond d [] (flag_word_fault s.rules s.args_override_self o word h))
+            (cond d (h, trailing p) (long_or_other s.rules waiting word o h))
+        met d dashes o is = (
+          λ j. cond (dashes j) [] (flag_word_fault s.rules s.args_override_self (is j) word h),
+          λ j. cond (dashes j) (h, trailing p) (long_or_other s.rules waiting word (is j) h),
+        )
+
+        go : (d : Bool) → bytes_eq word (codes "--") ≡ d → (o : Option (Text × Option Text)) → long_of word ≡ o
+            → (b : Bool) → has_no_short (short_of word) ≡ b → P d o b
+        go true d o is b e = dashed o b (turns _ _ (met true d o is))
+        go false d (Some q) is b e = long q b (turns _ _ (met false d (Some q) is))
+        go false d None is true e = bare (turns _ _ (plain_met (short_of word) e (met false d None is)))
+        go false d None is false e = short (λ f. short_fails (short_of word) e
+            (sym (met false d None is).0 ∙ ap (λ o. other_fault s o word h) (sym none) ∙ first_nil _ _ f))
 
 -- ---- the command
 

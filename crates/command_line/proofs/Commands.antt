@@ -17,8 +17,8 @@ use Rattle.clap.proofs.FaultLemmas.{stopped_fault}
 use Rattle.clap.proofs.OnLiterals.{clap_on_literals}
 use Rattle.clap.proofs.WalkLemmas.{walk_stopped}
 use Rattle.command_line.specs.steps.Program.{flag_rule, program_app}
-use Rattle.command_line.proofs.Command.{AsksHelp, Fits, Form, Gives, IsCommand, Met, Paths, first_nil, flag_filled, help, idle_walk, leaf, long_step, not_nil, option_by}
-use Rattle.command_line.proofs.Command.{plain_step, short_step, then_nil}
+use Rattle.command_line.proofs.Command.{AsksHelp, Fits, Form, Gives, IsCommand, Paths, by_word, first_nil, flag_filled, help, idle_walk, leaf, not_nil, option_by}
+use Rattle.command_line.proofs.Command.{then_nil}
 use Rattle.command_line.proofs.Parse.{AnswersAt, parsed}
 use Rattle.command_line.proofs.Scan.{Seen, before, has_no_short, is_taken, scan}
 
@@ -259,101 +259,49 @@ stray (word ∷ rest) e =
     not_nil _ _ (first_nil (turn_fault top names w word) (walk_fault top names after rest)
     (first_nil (walk_fault top names w (word ∷ rest)) (ended (fold (walked top.rules names) after rest)) e))
 
-module _ (program word : Text) (rest : List Text) where
-  -- the faults where the word has this one and is this step
-  abbrev From : Kinds → Held × Step → Kinds
-  From k m =
-      let w = after_step top.rules word first m.0 m.1 in
-      or_else (or_else (or_else k (step_fault top 1 m.0 m.1)) (walk_fault top names w rest))
-      (ended (fold (walked top.rules names) w rest))
+after_turn : (a b c : Kinds) → or_else (or_else a b) c ≡ [] → or_else b c ≡ []
+after_turn [] b c e = e
+after_turn (k ∷ ks) b c e = not_nil k ks e
 
-  from_nil : (k : Kinds) (m : Held × Step) → From k m ≡ [] → (k ≡ []) × (step_fault top 1 m.0 m.1 ≡ [])
-  from_nil k m e =
-      let w = after_step top.rules word first m.0 m.1 in
-      let turn = or_else k (step_fault top 1 m.0 m.1) in
-      let last = ended (fold (walked top.rules names) w rest) in
-      let one : turn ≡ [] = first_nil turn (walk_fault top names w rest) (first_nil (or_else turn (walk_fault top names w rest)) last e) in
-      (first_nil k (step_fault top 1 m.0 m.1) one, then_nil k (step_fault top 1 m.0 m.1) one)
+module _ (program word : Text) (rest : List Text) (e : fault_of program_app (program ∷ word ∷ rest) ≡ []) where
+  turn_nil : turn_fault top names first word ≡ []
+  unfolding walk_fault
+  turn_nil = first_nil _ _ (first_nil (walk_fault top names first (word ∷ rest)) _ e)
 
-  met_nil : (k : Kinds) (m : Held × Step) → Met top top_asks idle [] None 1 word k m
-      → From (other_fault top None word nothing_held) (subcommand_or_other top.rules None idle 1 word nothing_held) ≡ []
-      → (k ≡ []) × (step_fault top 1 m.0 m.1 ≡ [])
-  met_nil k m met e = from_nil k m (sym (λ j. From (met.0 j) (met.1 j)) ∙ e)
+  -- the walk over the words after this one has no fault
+  rest_nil : or_else (walk_fault top names (walked top.rules names first word) rest)
+      (ended (fold (walked top.rules names) (walked top.rules names first word) rest)) ≡ []
+  unfolding walk_fault
+  rest_nil = after_turn (turn_fault top names first word) _ _ e
 
-  word_fault : (met : Option Text) → subcommand_met names idle word ≡ met → fault_of program_app (program ∷ word ∷ rest)
-      ≡ From (other_fault top met word nothing_held) (subcommand_or_other top.rules met idle 1 word nothing_held)
-  unfolding walked walk_fault
-  word_fault met is = ap (λ (o : Option Text). From (other_fault top o word nothing_held)
-      (subcommand_or_other top.rules o idle 1 word nothing_held)) is
+  helped : subcommand_met names idle word ≡ Some (codes "help") → ⊥
+  helped met = not_nil _ _ (sym (ap (λ o. other_fault top o word nothing_held) met) ∙ first_nil _ _ turn_nil)
 
-  helped : subcommand_met names idle word ≡ Some (codes "help") → fault_of program_app (program ∷ word ∷ rest) ≡ [] → ⊥
-  helped met e = not_nil _ _ (from_nil (other_fault top (Some (codes "help")) word nothing_held)
-      (subcommand_or_other top.rules (Some (codes "help")) idle 1 word nothing_held) (sym (word_fault (Some (codes "help")) met) ∙ e)).0
-
-  stranger : subcommand_met names idle word ≡ None → fault_of program_app (program ∷ word ∷ rest) ≡ [] → ⊥
-  stranger none e =
-      go (bytes_eq word (codes "--")) refl (long_of word) refl (has_no_short (short_of word)) refl (sym (word_fault None none) ∙ e)
-    where
-      go : (d : Bool) → bytes_eq word (codes "--") ≡ d → (o : Option (Text × Option Text)) → long_of word ≡ o
-          → (b : Bool) → has_no_short (short_of word) ≡ b
-          → From (other_fault top None word nothing_held) (subcommand_or_other top.rules None idle 1 word nothing_held) ≡ [] → ⊥
-      go true d o long b short f = stray rest (sym (λ j. From (cond (d j) [] (flag_word_fault top.rules false (long_of word) word nothing_held))
-          (cond (d j) (nothing_held, trailing 1) (long_or_other top.rules idle word (long_of word) nothing_held))) ∙ f)
-      go false d (Some q) long b short f =
-          shown_long top.rules (bytes_eq (codes "help") q.0 || false) (bytes_eq (codes "version") q.0 || false) q.1 nothing_held
-          (met_nil (long_fault top.rules top.args_override_self (arg_by_long top.rules q.0) q.1 nothing_held)
-          (long_word top.rules idle word q.0 q.1 nothing_held) (long_step top top_asks idle [] None 1 word q d long) f).0
-      go false d None long true short f =
-          let met = plain_step top top_asks idle [] None 1 word d long short in
-          let bad : step_fault top 1 nothing_held value ≡ [] = (met_nil [] (nothing_held, value) met f).1 in
-          let none : stray_fault top ≡ [] = bad in
-          not_nil UnknownArgument (InvalidSubcommand ∷ []) none
-      go false d None long false short f = short_step top top_asks idle [] None 1 word d long short
-          (from_nil (other_fault top None word nothing_held)
-          (subcommand_or_other top.rules None idle 1 word nothing_held) f).0
+  stranger : subcommand_met names idle word ≡ None → ⊥
+  stranger none = by_word top top_asks names idle [] None 1 word none (λ d o b. ⊥)
+      (λ o b turn. stray rest (ap (λ (w : Walk). or_else (walk_fault top names w rest) (ended (fold (walked top.rules names) w rest)))
+      (sym turn.1) ∙ rest_nil))
+      (λ q b turn. shown_long top.rules (bytes_eq (codes "help") q.0 || false) (bytes_eq (codes "version") q.0 || false) q.1
+      nothing_held (first_nil _ _ (sym turn.0 ∙ turn_nil)))
+      (λ turn. let none : stray_fault top ≡ [] = sym turn.0 ∙ turn_nil in not_nil UnknownArgument (InvalidSubcommand ∷ []) none)
+      (λ fails. fails turn_nil)
 
 -- ---- the words of a task
 
--- what the rows of the subcommand of this name are
-pub record TookTask (name : Text) (rest : List Text) (rows : List Row) : Type 0 where
-  pub check : bytes_eq name (codes "check") ≡ true → Took check_form rest rows
-  pub explaining : bytes_eq name (codes "explain") ≡ true → Took explain_form rest rows
-  pub run : bytes_eq name (codes "check") ≡ false → bytes_eq name (codes "explain") ≡ false
-      → (name ≡ codes "run") × Took run_form rest rows
-
-took_run : (rest : List Text) (rows : List Row) → Took run_form rest rows → TookTask (codes "run") rest rows
-took_run rest rows took = record {
-  check = λ bad. absurd (true≢false (sym bad));
-  explaining = λ bad. absurd (true≢false (sym bad));
-  run = λ _ _. (refl, took);
-}
-
-took_check : (rest : List Text) (rows : List Row) → Took check_form rest rows → TookTask (codes "check") rest rows
-took_check rest rows took = record {
-  check = λ _. took;
-  explaining = λ bad. absurd (true≢false (sym bad));
-  run = λ bad _. absurd (true≢false bad);
-}
-
-took_explain : (rest : List Text) (rows : List Row) → Took explain_form rest rows → TookTask (codes "explain") rest rows
-took_explain rest rows took = record {
-  check = λ bad. absurd (true≢false (sym bad));
-  explaining = λ _. took;
-  run = λ _ bad. absurd (true≢false bad);
-}
+-- the form of the subcommand of this name
+abbrev pub form_of : Text → Form
+form_of name = cond (bytes_eq name (codes "check")) check_form (cond (bytes_eq name (codes "explain")) explain_form run_form)
 
 -- words without a fault are the program's name, a subcommand and its words
 abbrev pub IsRead : List Text → Type 0
 IsRead words = (program : Text) × (name : Text) × (rest : List Text) × (rows : List Row) × (words ≡ program ∷ name ∷ rest)
-    × (subcommand_of program_app words ≡ Some (name, rows)) × TookTask name rest rows
+    × (subcommand_of program_app words ≡ Some (name, rows)) × (name ≡ (form_of name).name) × Took (form_of name) rest rows
 
-read_as : (c : Form) → IsSubcommand c → (program word : Text) (rest : List Text)
-    → ((rows : List Row) → Took c rest rows → TookTask c.name rest rows) → bytes_eq c.name word ≡ true
+read_as : (c : Form) → IsSubcommand c → form_of c.name ≡ c → (program word : Text) (rest : List Text) → bytes_eq c.name word ≡ true
     → fault_of program_app (program ∷ word ∷ rest) ≡ [] → IsRead (program ∷ word ∷ rest)
-read_as c is program word rest task named e =
-    let same : c.name ≡ word = (bytes_eq-Decides c.name word).0 named in
+read_as c is of program word rest named e =
     let enters = is.enters program rest in
-    subst (λ (w : Text). fault_of program_app (program ∷ w ∷ rest) ≡ [] → IsRead (program ∷ w ∷ rest)) same
+    subst (λ (w : Text). fault_of program_app (program ∷ w ∷ rest) ≡ [] → IsRead (program ∷ w ∷ rest)) ((bytes_eq-Decides c.name word).0 named)
     (λ f. (
       program,
       c.name,
@@ -361,7 +309,8 @@ read_as c is program word rest task named e =
       rows_after c.rules [] rest,
       refl,
       enters.1,
-      task _ (took c is.command is.begins rest (sym enters.0 ∙ f)),
+      ap (λ (d : Form). d.name) (sym of),
+      subst (λ (d : Form). Took d rest (rows_after c.rules [] rest)) (sym of) (took c is.command is.begins rest (sym enters.0 ∙ f)),
     )) e
 
 abbrev name_by : Bool → Bool → Bool → Bool → Option Text
@@ -380,11 +329,11 @@ task_read (program ∷ word ∷ rest) e =
     go : (r : Bool) → bytes_eq (codes "run") word ≡ r → (c : Bool) → bytes_eq (codes "check") word ≡ c
         → (x : Bool) → bytes_eq (codes "explain") word ≡ x → (h : Bool) → subcommand_met names idle word ≡ name_by r c x h
         → IsRead (program ∷ word ∷ rest)
-    go true is c f x g h met = read_as run_form run_sub program word rest (took_run rest) is e
-    go false is true f x g h met = read_as check_form check_sub program word rest (took_check rest) f e
-    go false is false f true g h met = read_as explain_form explain_sub program word rest (took_explain rest) g e
-    go false is false f false g true met = absurd (helped program word rest met e)
-    go false is false f false g false met = absurd (stranger program word rest met e)
+    go true is c f x g h met = read_as run_form run_sub refl program word rest is e
+    go false is true f x g h met = read_as check_form check_sub refl program word rest f e
+    go false is false f true g h met = read_as explain_form explain_sub refl program word rest g e
+    go false is false f false g true met = absurd (helped program word rest e met)
+    go false is false f false g false met = absurd (stranger program word rest e met)
 
 -- words in which the pass finds something have no fault
 pub found_passes : (c : Form) → IsSubcommand c → (program : Text) (rest : List Text) (seen : Seen)

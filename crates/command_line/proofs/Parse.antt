@@ -15,13 +15,14 @@ use Rattle.clap.specs.Simple.{Shape}
 use Rattle.clap.specs.Walk.{Held, Row, Rule, Step, Text, Waiting, Walk, after_flag, after_step, arg_by_id, arg_by_index, arg_by_long, finished, has_row}
 use Rattle.clap.specs.Walk.{idle, is_pending, long_met as clap_long_met, long_or_other, next, option, option_word, pushed, settled, settled_rows}
 use Rattle.clap.specs.Walk.{subcommand_met, subcommand_or_other, takes_values, to_positional, trailing, used, used_by_id, value, walked, with_default}
-use Rattle.clap.specs.Walk.{with_values}
+use Rattle.clap.specs.Walk.{with_values, without}
+use Rattle.clap.specs.declared.builder.value_parser.Reading.{Reading}
 use Rattle.clap.specs.declared.error.kind.ErrorKind.TheVariants.{ArgumentConflict, TooManyValues}
 use Rattle.clap.specs.declared.parser.matches.ValueSource.TheVariants.{CommandLine, DefaultValue}
-use Rattle.command_line.proofs.Command.{AsksHelp, Fits, Form, Gives, IsCommand, Keeps, Met, Other, Paths, Pending, at, }
+use Rattle.command_line.proofs.Command.{AsksHelp, Fits, Form, Gives, IsCommand, Keeps, Other, Paths, Pending, at}
 use Rattle.command_line.proofs.Command.{first_nil, fits_file, fits_flag, fits_path, flag_filled, gives_option, gives_path, help, idle_walk, lacks, leaf}
-use Rattle.command_line.proofs.Command.{long_step, newly, not_nil, place_of, plain_step, report_filled, short_step, then_nil, walk_with}
-use Rattle.command_line.proofs.Rows.{appended, appended_anew, flag_of, has_row-at, kept, row, row_at, set_row, source_of, still, unset_row}
+use Rattle.command_line.proofs.Command.{Turn, by_word, newly, not_nil, place_of, report_filled, then_nil, walk_with}
+use Rattle.command_line.proofs.Rows.{appended, appended_anew, new_row, flag_of, has_row-at, kept, row, row_at, set_row, source_of, still, unset_row}
 use Rattle.command_line.proofs.Scan.{Kind, Later, Place, Seen, after, at_end, before, filed, flagged, has_no_short, is_taken, kind_by, long_kind, naming}
 use Rattle.command_line.proofs.Scan.{odd, operand, operand_met, scan, with_operand}
 use Rattle.command_line.proofs.Scan.{dashes}
@@ -255,48 +256,6 @@ module _ (c : Form) (is : IsCommand c) where
       (stands_operand id word p all paths.1 known.unused.0)
       (fits_path c all id word left met file paths.2 known)))
 
-  -- ---- a word before any `--`
-
-  abbrev Turn : Waiting → List Row → Pending → ℕ → Text → Kinds → Held × Step → Type 0
-  Turn waiting rows pending p word k m =
-      (turn_fault s [] (walk_with waiting (at rows pending) p false) word ≡ or_else k (step_fault s p m.0 m.1))
-      × (walked c.rules [] (walk_with waiting (at rows pending) p false) word
-      ≡ after_step c.rules word (walk_with waiting (at rows pending) p false) m.0 m.1)
-
-  turns : (waiting : Waiting) (rows : List Row) (pending : Pending) (p : ℕ) (word : Text) (k : Kinds) (m : Held × Step)
-      → subcommand_met [] waiting word ≡ None → Met s asks waiting rows pending p word k m
-      → Turn waiting rows pending p word k m
-  unfolding walked
-  turns waiting rows pending p word k m none met =
-      subst (λ (x : Kinds × Held × Step). Turn waiting rows pending p word x.0 (x.1, x.2)) (λ j. (met.0 j, (met.1 j).0, (met.1 j).1))
-      (subst (λ (x : Kinds × Held × Step). Turn waiting rows pending p word x.0 (x.1, x.2))
-      (λ j. let m = subcommand_or_other c.rules (none j) waiting p word (at rows pending) in
-      (other_fault s (none j) word (at rows pending), m.0, m.1)) (refl, refl))
-
-  -- `--`
-  dashes_go : (waiting : Waiting) (rows : List Row) (pending : Pending) (p : ℕ) (word : Text)
-      → subcommand_met [] waiting word ≡ None → bytes_eq word (codes "--") ≡ true
-      → (turn_fault s [] (walk_with waiting (at rows pending) p false) word ≡ [])
-      × (walked c.rules [] (walk_with waiting (at rows pending) p false) word ≡ walk_with waiting (at rows pending) p true)
-  dashes_go waiting rows pending p word none d =
-      let h = at rows pending in
-      turns waiting rows pending p word [] (h, trailing p) none (
-        λ j. cond (d j) [] (flag_word_fault c.rules false (long_of word) word h),
-        λ j. cond (d j) (h, trailing p) (long_or_other c.rules waiting word (long_of word) h),
-      )
-
-  -- an option of this rule
-  option_turns : (waiting : Waiting) (rows : List Row) (pending : Pending) (p : ℕ) (word : Text) (q : Text × Option Text)
-      (a : Option Rule) → subcommand_met [] waiting word ≡ None
-      → bytes_eq word (codes "--") ≡ false → long_of word ≡ Some q → arg_by_long c.rules q.0 ≡ a
-      → let m = clap_long_met c.rules a q.1 (at rows pending) in
-      Turn waiting rows pending p word (long_fault c.rules false a q.1 (at rows pending)) (after_flag c.rules waiting word m.0 m.1)
-  option_turns waiting rows pending p word q a none d long found =
-      let h = at rows pending in
-      subst (λ (o : Option Rule). let m = clap_long_met c.rules o q.1 h in
-      Turn waiting rows pending p word (long_fault c.rules false o q.1 h) (after_flag c.rules waiting word m.0 m.1)) found
-      (turns waiting rows pending p word _ _ none (long_step s asks waiting rows pending p word q d long))
-
   -- ---- what is pending has a fault, whatever follows
 
   abbrev Bad : List Row → Pending → Type 0
@@ -319,25 +278,14 @@ module _ (c : Form) (is : IsCommand c) where
   unfolding walk_fault
   bad_before rows pending p left [] paths bad = λ e. bad (first_nil _ _ e)
   bad_before rows pending p left (word ∷ rest) paths bad =
-      go (bytes_eq word (codes "--")) refl (long_of word) refl (has_no_short (short_of word)) refl
-    where
-      w : Walk
-      w = idle_walk (at rows pending) p false
-
-      go : (d : Bool) → bytes_eq word (codes "--") ≡ d → (o : Option (Text × Option Text)) → long_of word ≡ o
-          → (b : Bool) → has_no_short (short_of word) ≡ b → fault w (word ∷ rest) ≡ [] → ⊥
-      go true d o long b short =
-          let goes = dashes_go idle rows pending p word refl d in
-          passes w (idle_walk (at rows pending) p true) word rest rows left None goes.0 goes.1
-          (bad_after idle rows pending p left rest paths bad)
-      go false d (Some q) long b short = stops w word rest (λ e.
-          bad (long_settles c.rules (arg_by_long c.rules q.0) q.1 (at rows pending) (first_nil _ _
-          (sym (option_turns idle rows pending p word q _ refl d long refl).0 ∙ e))))
-      go false d None long true short = stops w word rest (λ e.
-          bad_step rows pending p left paths bad
-          (sym (turns idle rows pending p word _ _ refl (plain_step s asks idle rows pending p word d long short)).0 ∙ e))
-      go false d None long false short = stops w word rest (λ e. short_step s asks idle rows pending p word d long short
-          (first_nil _ _ e))
+      let w = idle_walk (at rows pending) p false in
+      by_word s asks [] idle rows pending p word refl (λ d o b. fault w (word ∷ rest) ≡ [] → ⊥)
+      (λ o b turn. passes w (idle_walk (at rows pending) p true) word rest rows left None turn.0 turn.1
+      (bad_after idle rows pending p left rest paths bad))
+      (λ q b turn. stops w word rest (λ e.
+      bad (long_settles c.rules (arg_by_long c.rules q.0) q.1 (at rows pending) (first_nil _ _ (sym turn.0 ∙ e)))))
+      (λ turn. stops w word rest (λ e. bad_step rows pending p left paths bad (sym turn.0 ∙ e)))
+      (λ fails. stops w word rest fails)
 
   -- ---- the word behind `--report`
 
@@ -369,29 +317,19 @@ module _ (c : Form) (is : IsCommand c) where
       → Paths c.rules c.flag p left → Answers (idle_walk (at all (file_pending (word ∷ []))) p false) rest all left o
       → Answers (waits all p) (word ∷ rest) all left (cond (is_taken word) o None)
   named_so word rest left p all o so paths later =
-      go (bytes_eq word (codes "--")) refl (long_of word) refl (has_no_short (short_of word)) refl
-    where
-      h : Held
-      h = at all (file_pending [])
-
-      go : (d : Bool) → bytes_eq word (codes "--") ≡ d → (q : Option (Text × Option Text)) → long_of word ≡ q
-          → (b : Bool) → has_no_short (short_of word) ≡ b
-          → Answers (waits all p) (word ∷ rest) all left (cond (not d && (not (is_some q) && b)) o None)
-      go true d q long b short =
-          let goes = dashes_go (option (codes "report")) all (file_pending []) p word refl d in
-          passes (waits all p) (walk_with (option (codes "report")) h p true) word rest all left None goes.0 goes.1
-          (bad_after (option (codes "report")) all (file_pending []) p left rest paths (unnamed_bad all so))
-      go false d (Some q) long b short = stops (waits all p) word rest (λ e.
-          unnamed_bad all so (long_settles c.rules (arg_by_long c.rules q.0) q.1 h (first_nil _ _
-          (sym (option_turns (option (codes "report")) all (file_pending []) p word q _ refl d long refl).0 ∙ e))))
-      go false d None long true short =
-          let turn = turns (option (codes "report")) all (file_pending []) p word _ _ refl
-          (plain_step s asks (option (codes "report")) all (file_pending []) p word d long short) in
-          let met = ap (λ (a : Option Rule). option_word a (codes "report") word h) (report_is so) in
-          passes (waits all p) (idle_walk (at all (file_pending (word ∷ []))) p false) word rest all left o
-          turn.0 (turn.1 ∙ ap (λ (m : Held × Waiting). after_step c.rules word (waits all p) m.0 (next m.1)) met) later
-      go false d None long false short = stops (waits all p) word rest (λ e.
-          short_step s asks (option (codes "report")) all (file_pending []) p word d long short (first_nil _ _ e))
+      let h = at all (file_pending []) in
+      by_word s asks [] (option (codes "report")) all (file_pending []) p word refl
+      (λ d q b. Answers (waits all p) (word ∷ rest) all left (cond (not d && (not (is_some q) && b)) o None))
+      (λ q b turn. passes (waits all p) (walk_with (option (codes "report")) h p true) word rest all left None turn.0 turn.1
+      (bad_after (option (codes "report")) all (file_pending []) p left rest paths (unnamed_bad all so)))
+      (λ q b turn. stops (waits all p) word rest (λ e. unnamed_bad all so
+      (long_settles c.rules (arg_by_long c.rules q.0) q.1 h (first_nil _ _ (sym turn.0 ∙ e)))))
+      (λ turn.
+      let met = ap (λ (a : Option Rule). option_word a (codes "report") word h) (report_is so) in
+      passes (waits all p) (idle_walk (at all (file_pending (word ∷ []))) p false) word rest all left o
+      (turn.0 ∙ ap (λ (m : Held × Waiting). step_fault s p m.0 (next m.1)) met)
+      (turn.1 ∙ ap (λ (m : Held × Waiting). after_step c.rules word (waits all p) m.0 (next m.1)) met) later)
+      (λ fails. stops (waits all p) word rest fails)
 
   -- a second file for the report
   twice : (file : Text) (rest left : List Text) (p : ℕ) (all : List Row) → c.has_file ≡ true
@@ -430,50 +368,58 @@ module _ (c : Form) (is : IsCommand c) where
 
     abbrev Turned : Option Text → Option Rule → Type 0
     Turned v a = let m = clap_long_met c.rules a v (at rows pending) in
-        Turn idle rows pending p word (long_fault c.rules false a v (at rows pending)) (after_flag c.rules idle word m.0 m.1)
+        Turn s asks [] idle rows pending p word (long_fault c.rules false a v (at rows pending)) (after_flag c.rules idle word m.0 m.1)
+
+    -- an option is used, with these values
+    abbrev Uses : Text → Reading → List Text → Type 0
+    Uses id how values =
+        let settled = settled_rows c.rules pending rows in
+        (turn_fault s [] w word ≡ or_else (or_else (settle_fault c.rules false (at rows pending)) (repeats (has_row id settled))) [])
+        × (walked c.rules [] w word ≡ idle_walk (at (with_values id how CommandLine values (without id settled)) None) p false)
+
+    once : (id : Text) (how : Reading) (values : List Text) (o : Option Seen) → Uses id how values → row_at id all ≡ None
+        → let now = all ++ new_row id how CommandLine values ∷ [] in
+        Answers (idle_walk (at now None) p false) rest now left o → Answers w (word ∷ rest) all left o
+    once id how values o turn none later =
+        let r = new_row id how CommandLine values in
+        passes w (idle_walk (at (all ++ r ∷ []) None) p false) word rest all left o
+        (turn.0 ∙ (λ j. or_else (or_else (stands.0 j) (repeats (has_row id (stands.1 j)))) [])
+        ∙ ap (λ k. or_else k []) (first_use id all none))
+        (turn.1 ∙ (λ j. idle_walk (at (with_values id how CommandLine values (without id (stands.1 j))) None) p false)
+        ∙ ap (λ (x : List Row). idle_walk (at x None) p false) (appended_anew id how CommandLine values all none))
+        (answers_option (idle_walk (at (all ++ r ∷ []) None) p false) rest all r left o later)
+
+    once_more : (id : Text) (how : Reading) (values : List Text) (r : Row) → Uses id how values → row_at id all ≡ Some r
+        → fault w (word ∷ rest) ≡ [] → ⊥
+    once_more id how values r turn there = stops w word rest (λ e.
+        again id r (settled_rows c.rules pending rows) (ap (row_at id) stands.1 ∙ there)
+        (then_nil (settle_fault c.rules false (at rows pending)) _ (first_nil _ _ (sym turn.0 ∙ e))))
 
     flag_met : (met : Bool) (file : Option Text) → fits all left met file → Turned None (Some (flag_filled c.flag))
         → c.has_flag ≡ true → After flagged met file
-    flag_met true file known turn so = stops w word rest (λ e.
-        again c.flag (set_row c.flag) (settled_rows c.rules pending rows) (ap (row_at c.flag) stands.1 ∙ known.flagged so)
-        (then_nil (settle_fault c.rules false (at rows pending)) _ (first_nil _ _ (sym turn.0 ∙ e))))
+    flag_met true file known turn so =
+        once_more c.flag (set_row c.flag).reading (codes "true" ∷ []) (set_row c.flag) turn (known.flagged so)
     flag_met false file known turn so =
-        let none = known.flagged so in
         let now = all ++ set_row c.flag ∷ [] in
-        passes w (idle_walk (at now None) p false) word rest all left _
-        (turn.0 ∙ (λ j. or_else (or_else (stands.0 j) (repeats (has_row c.flag (stands.1 j)))) [])
-        ∙ ap (λ k. or_else k []) (first_use c.flag all none))
-        (turn.1 ∙ (λ j. idle_walk (at (used (flag_filled c.flag) [] (stands.1 j)) None) p false)
-        ∙ ap (λ (x : List Row). idle_walk (at x None) p false)
-        (appended_anew c.flag (set_row c.flag).reading CommandLine (codes "true" ∷ []) all none))
-        (answers_option (idle_walk (at now None) p false) rest all (set_row c.flag) left _
+        once c.flag (set_row c.flag).reading (codes "true" ∷ []) _ turn (known.flagged so)
         (goes_on left true file p now now None paths (refl, refl)
-        (fits_flag c all left file so (is.apart.0, (others left p paths).0) known)))
+        (fits_flag c all left file so (is.apart.0, (others left p paths).0) known))
 
     file_met : (v : Option Text) (met : Bool) (file : Option Text) → fits all left met file → Turned v (Some report_filled)
         → c.has_file ≡ true → After (filed v) met file
     file_met None met (Some g) known turn so =
         passes w (waits all p) word rest all left None (turn.0 ∙ ap (λ k. or_else k []) stands.0)
         (turn.1 ∙ λ j. waits (stands.1 j) p) (twice g rest left p all so (known.filed so) paths)
-    file_met (Some f) met (Some g) known turn so = stops w word rest (λ e.
-        again (codes "report") (row (codes "report") g) (settled_rows c.rules pending rows)
-        (ap (row_at (codes "report")) stands.1 ∙ known.filed so)
-        (then_nil (settle_fault c.rules false (at rows pending)) _ (first_nil _ _ (sym turn.0 ∙ e))))
+    file_met (Some f) met (Some g) known turn so = once_more (codes "report") (row (codes "report") g).reading (f ∷ [])
+        (row (codes "report") g) turn (known.filed so)
     file_met None met None known turn so =
         passes w (waits all p) word rest all left _ (turn.0 ∙ ap (λ k. or_else k []) stands.0)
         (turn.1 ∙ λ j. waits (stands.1 j) p) (waits_on left met p all so paths known)
     file_met (Some f) met None known turn so =
-        let none = known.filed so in
         let now = all ++ row (codes "report") f ∷ [] in
-        passes w (idle_walk (at now None) p false) word rest all left _
-        (turn.0 ∙ (λ j. or_else (or_else (stands.0 j) (repeats (has_row (codes "report") (stands.1 j)))) [])
-        ∙ ap (λ k. or_else k []) (first_use (codes "report") all none))
-        (turn.1 ∙ (λ j. idle_walk (at (used report_filled (f ∷ []) (stands.1 j)) None) p false)
-        ∙ ap (λ (x : List Row). idle_walk (at x None) p false)
-        (appended_anew (codes "report") (row (codes "report") f).reading CommandLine (f ∷ []) all none))
-        (answers_option (idle_walk (at now None) p false) rest all (row (codes "report") f) left _
+        once (codes "report") (row (codes "report") f).reading (f ∷ []) _ turn (known.filed so)
         (goes_on left met (Some f) p now now None paths (refl, refl)
-        (fits_file c all left met f so (is.apart.1, (others left p paths).1) known)))
+        (fits_file c all left met f so (is.apart.1, (others left p paths).1) known))
 
     no_option : (b : Bool) (v : Option Text) → Turned v (cond b (Some help) None) → fault w (word ∷ rest) ≡ [] → ⊥
     no_option b v turn = stops w word rest (λ e. help_long c.rules b v (at rows pending) (first_nil _ _ (sym turn.0 ∙ e)))
@@ -499,24 +445,14 @@ module _ (c : Form) (is : IsCommand c) where
 
     word_answers : (met : Bool) (file : Option Text) → fits all left met file → Go true rest
         → After (pass.kind is_taken c.flag word) met file
-    word_answers met file known trails =
-        go (bytes_eq word (codes "--")) refl (long_of word) refl (has_no_short (short_of word)) refl
-      where
-        go : (d : Bool) → bytes_eq word (codes "--") ≡ d → (q : Option (Text × Option Text)) → long_of word ≡ q
-            → (b : Bool) → has_no_short (short_of word) ≡ b
-            → After (cond d dashes (kind_by c.flag q (not d && (not (is_some q) && b)))) met file
-        go true d q long b short =
-            let goes = dashes_go idle rows pending p word refl d in
-            passes w (idle_walk (at rows pending) p true) word rest all left _ goes.0 goes.1
-            (trails left met file p all rows pending paths stands known)
-        go false d (Some (name, v)) long b short =
-            long_answers name v (bytes_eq c.flag name) refl (bytes_eq (codes "report") name) refl c.has_flag refl c.has_file refl
-            (option_turns idle rows pending p word (name, v) _ refl d long (is.longs name)) met file known
-        go false d None long true short =
-            let turn = turns idle rows pending p word _ _ refl (plain_step s asks idle rows pending p word d long short) in
-            operand_answers false word rest left met file p all rows pending turn.0 turn.1 paths stands known goes_on
-        go false d None long false short = stops w word rest (λ e.
-            short_step s asks idle rows pending p word d long short (first_nil _ _ e))
+    word_answers met file known trails = by_word s asks [] idle rows pending p word refl
+        (λ d q b. After (cond d dashes (kind_by c.flag q (not d && (not (is_some q) && b)))) met file)
+        (λ q b turn. passes w (idle_walk (at rows pending) p true) word rest all left _ turn.0 turn.1
+        (trails left met file p all rows pending paths stands known))
+        (λ q b turn. long_answers q.0 q.1 (bytes_eq c.flag q.0) refl (bytes_eq (codes "report") q.0) refl c.has_flag refl
+        c.has_file refl (subst (Turned q.1) (is.longs q.0) turn) met file known)
+        (λ turn. operand_answers false word rest left met file p all rows pending turn.0 turn.1 paths stands known goes_on)
+        (λ fails. stops w word rest fails)
 
   mutual
     unfolding walked walk_fault

@@ -3,7 +3,7 @@
 -- Read it first, then `Scan` (one pass over the words of a subcommand), `Meaning` (it finds what the
 -- definitions say), `Parse` (and so does clap, for a command as `Command` describes it), `Commands` (the three
 -- subcommands are such commands); `Words` and `Rows` stand below them.
-use Rattle.std.proofs.Common.{◌&&◌, ◌||◌, ◌≡◌, ◌∙◌, ◌∷◌, Bool, List, None, Option, Some, [], ap, codes, false, inl, inr}
+use Rattle.std.proofs.Common.{◌&&◌, ◌||◌, ◌≡◌, ◌∙◌, ◌∷◌, Bool, List, None, Option, Some, [], ap, codes, cond, false, inl, inr}
 use Rattle.std.proofs.Common.{length, ℕ, refl, rules, subst, sym, true, true≢false}
 use Rattle.std.specs.Prelude.{option_and_then, option_map, slice_get}
 use Rattle.std.specs.Borrow.{Bor}
@@ -25,36 +25,26 @@ use Rattle.clap.specs.declared.parser.matches.Found.{Found}
 use Rattle.clap.proofs.OnLiterals.{clap_on_literals}
 use Rattle.clap.proofs.WalkLemmas.{both, first_value-rows, one_text-rows}
 use Rattle.command_line.specs.CommandLine.{AreTexts, RequestsTask, are_operands, is_check, is_explain, is_run, is_well_formed}
-use Rattle.command_line.specs.CommandLine.{path_texts}
-use Rattle.command_line.specs.steps.Given.{GivesTask, HasTask}
+use Rattle.command_line.specs.CommandLine.{operands, path_texts}
+use Rattle.command_line.specs.steps.Given.{GivesTask, HasTask, Sets}
 use Rattle.command_line.specs.steps.Program.{program_app}
 use Rattle.command_line.specs.declared.task.Task.{Task}
 use Rattle.command_line.specs.declared.task.Task.TheVariants.{Check, Explain, Run}
 use Rattle.command_line.proofs.Command.{Form, Values}
-use Rattle.command_line.proofs.Commands.{IsSubcommand, Took, TookTask, check_form, check_sub, explain_form, explain_sub, found_passes, run_form, run_sub}
+use Rattle.command_line.proofs.Commands.{IsSubcommand, Took, check_form, check_sub, explain_form, explain_sub, form_of, found_passes, run_form, run_sub}
 use Rattle.command_line.proofs.Commands.{task_read}
-use Rattle.command_line.proofs.Meaning.{formed_found, found_formed, found_is, is_named, seen_of, words_of}
+use Rattle.command_line.proofs.Meaning.{formed_found, found_formed, found_is, is_met, is_named, seen_of, words_of}
 use Rattle.command_line.proofs.Rows.{row, row_at, row_of, source_of}
 use Rattle.command_line.proofs.Scan.{Seen}
 
 -- ---- the words of a subcommand
 
--- texts in which the pass finds something are well-formed
-words_formed : (c : Form) → IsSubcommand c → (n : ℕ) → length c.ids ≡ n → (rest : List Text) (rows : List Row) → Took c rest rows
-    → AreTexts rest → (is_named c.file rest && are_operands n (words_of c.flag c.met c.file rest)) ≡ true
-words_formed c is n count rest rows took =
-    found_formed c.flag is.long is.command.apart.1 rest c.ids c.met c.file n count took.0 took.1
-
--- and well-formed words have no fault
+-- well-formed words have no fault
 words_fit : (c : Form) → IsSubcommand c → (n : ℕ) → length c.ids ≡ n → (program : Text) (rest : List Text)
     → (is_named c.file rest && are_operands n (words_of c.flag c.met c.file rest)) ≡ true
     → fault_of program_app (program ∷ c.name ∷ rest) ≡ []
 words_fit c is n count program rest e = found_passes c is program rest (seen_of c.flag c.met c.file rest)
     (formed_found c.flag is.long is.command.apart.1 rest c.ids c.met c.file n count e)
-
-seen_is : (c : Form) → IsSubcommand c → (rest : List Text) (rows : List Row) (took : Took c rest rows)
-    → seen_of c.flag c.met c.file rest ≡ took.0
-seen_is c is rest rows took = found_is c.flag is.long is.command.apart.1 rest c.ids c.met c.file took.0 took.1
 
 named_passes : (program name word : Text) (rest : List Text) (b : Bool) → (bytes_eq word name && b) ≡ true
     → (b ≡ true → fault_of program_app (program ∷ name ∷ rest) ≡ []) → fault_of program_app (program ∷ word ∷ rest) ≡ []
@@ -102,7 +92,8 @@ given_as o p name rows is n e = (
 )
 
 abbrev pub HasRead : List Text → Text → List Row → Type 0
-HasRead words name rows = (program : Text) × (rest : List Text) × (words ≡ program ∷ name ∷ rest) × TookTask name rest rows
+HasRead words name rows = (program : Text) × (rest : List Text) × (words ≡ program ∷ name ∷ rest) × (name ≡ (form_of name).name)
+    × Took (form_of name) rest rows
 
 pub has_read : (app : App) (words : List Text) (m : ArgMatches) (name : Text) (rows : List Row) → app ≡ program_app
     → (is_simple_and_free app ≡ true → fault_of app words ≡ []) → HasMatchesOf app words m
@@ -119,7 +110,7 @@ has_read app words m name rows is fault matches found =
     let name_is : name ≡ got.1 = cc in
     let all : Some rows ≡ Some got.3 = found.1 ∙ ap (option_map (λ (p : Text × List Row). p.1)) sub in
     let rows_are : rows ≡ got.3 = cc in
-    subst (λ (p : Text × List Row). HasRead words p.0 p.1) (λ j. (sym name_is j, sym rows_are j)) (got.0, got.2, got.4, got.6)
+    subst (λ (p : Text × List Row). HasRead words p.0 p.1) (λ j. (sym name_is j, sym rows_are j)) (got.0, got.2, got.4, got.6, got.7)
 
 -- ---- the values
 
@@ -162,10 +153,10 @@ text_of id true = refl
 text_of id false = refl
 
 -- a flag, as it is read
-flag_is : (f : Found) (id : Text) (met result : Bool) → row_at id (rows_of f) ≡ Some (source_of id met)
+flag_read : (f : Found) (id : Text) (met result : Bool) → row_at id (rows_of f) ≡ Some (source_of id met)
     → (one_text f id ≡ Some (codes "true") → result ≡ true) × (one_text f id ≡ Some (codes "false") → result ≡ false)
     → result ≡ met
-flag_is f id met result at when =
+flag_read f id met result at when =
     go met (one_text-rows f id ∙ ap (option_and_then (λ (r : Row). row_text r)) at ∙ text_of id met)
   where
     go : (m : Bool) → one_text f id ≡ Some (bool_text m) → result ≡ m
@@ -178,61 +169,69 @@ file_of (Some f) = refl
 
 -- ---- the subcommand, and its task
 
--- the required arguments of a subcommand have values
-pub has_task : (words : List Text) (name : Text) (f : Found) → HasRead words name (rows_of f) → HasTask name f
-has_task words name f got = record {
-  check = λ same.
-      let took = got.3.check same in
-      let all = given f check_form.ids took.0.0 took.2.values in
-      (all.0, all.1.0);
-  explaining = λ same. let took = got.3.explaining same in (given f explain_form.ids took.0.0 took.2.values).0;
-  run = λ other last.
-      let took = (got.3.run other last).1 in
-      let all = given f run_form.ids took.0.0 took.2.values in
-      (all.0, all.1.0, all.1.1.0, all.1.1.1.0);
-}
+module _ (words : List Text) (name : Text) (f : Found) (got : HasRead words name (rows_of f)) where
+  abbrev Taken : Form → Type 0
+  Taken c = (words ≡ got.0 ∷ c.name ∷ got.1) × Took c got.1 (rows_of f)
 
--- the task is the one that the words request
-pub task_requested : (words : List Text) (name : Text) (f : Found) (task : Task)
-    → HasRead words name (rows_of f) → GivesTask name f task → RequestsTask words task
-task_requested words name f (Run task) got gives =
-    let took = (got.3.run gives.0 gives.1).1 in
-    let rest = got.1 in
-    let seen = seen_is run_form run_sub rest (rows_of f) took in
-    let named : words ≡ got.0 ∷ codes "run" ∷ rest = got.2 ∙ ap (λ (n : Text). got.0 ∷ n ∷ rest) (got.3.run gives.0 gives.1).0 in
-    subst (λ (ws : List Text). RequestsTask ws (Run task)) (sym named) (
-      refl,
-      words_formed run_form run_sub 4 refl rest (rows_of f) took,
-      gives.3 ∙ first_value-rows f (codes "report") ∙ ap (option_and_then (λ (r : Row). slice_get r.values 0)) (took.2.filed refl)
-          ∙ file_of took.0.2 ∙ ap (λ (m : Seen). m.2) (sym seen),
-      flag_is f (codes "trace") took.0.1 task.trace (took.2.flagged refl) gives.2 ∙ ap (λ (m : Seen). m.1) (sym seen),
-      ap (λ (m : Seen). m.0) seen
-          ∙ firsts f run_form.ids took.0.0 (path_texts task.paths) took.2.values (gives.4, (gives.5, (gives.6, (gives.7, tt)))),
-    )
-task_requested words name f (Check task) got gives =
-    let took = got.3.check gives.0 in
-    let rest = got.1 in
-    let seen = seen_is check_form check_sub rest (rows_of f) took in
-    let named : words ≡ got.0 ∷ codes "check" ∷ rest =
-    got.2 ∙ ap (λ (n : Text). got.0 ∷ n ∷ rest) ((bytes_eq-Decides name (codes "check")).0 gives.0) in
-    subst (λ (ws : List Text). RequestsTask ws (Check task)) (sym named) (
-      refl,
-      words_formed check_form check_sub 2 refl rest (rows_of f) took,
-      flag_is f (codes "all") took.0.1 task.all (took.2.flagged refl) gives.1 ∙ ap (λ (m : Seen). m.1) (sym seen),
-      ap (λ (m : Seen). m.0) seen
-          ∙ firsts f check_form.ids took.0.0 (task.texts.rules.now ∷ task.texts.plant.now ∷ []) took.2.values (gives.2, (gives.3, tt)),
-    )
-task_requested words name f (Explain code) got gives =
-    let took = got.3.explaining gives.0 in
-    let rest = got.1 in
-    let seen = seen_is explain_form explain_sub rest (rows_of f) took in
-    let named : words ≡ got.0 ∷ codes "explain" ∷ rest =
-    got.2 ∙ ap (λ (n : Text). got.0 ∷ n ∷ rest) ((bytes_eq-Decides name (codes "explain")).0 gives.0) in
-    subst (λ (ws : List Text). RequestsTask ws (Explain code)) (sym named) (
-      refl,
-      words_formed explain_form explain_sub 1 refl rest (rows_of f) took,
-      ap (λ (m : Seen). m.0) seen ∙ firsts f explain_form.ids took.0.0 (code.now ∷ []) took.2.values (gives.1, tt),
-    )
+  taken : (c : Form) → form_of name ≡ c → Taken c
+  taken c of = subst Taken of (got.2 ∙ ap (λ (n : Text). got.0 ∷ n ∷ got.1) got.3, got.4)
+
+  taken_named : (c : Form) → form_of c.name ≡ c → bytes_eq name c.name ≡ true → Taken c
+  taken_named c of same = taken c (ap form_of ((bytes_eq-Decides name c.name).0 same) ∙ of)
+
+  taken_run : bytes_eq name (codes "check") ≡ false → bytes_eq name (codes "explain") ≡ false → Taken run_form
+  taken_run other last = taken run_form (λ j. cond (other j) check_form (cond (last j) explain_form run_form))
+
+  have : (c : Form) → Taken c → Given f c.ids
+  have c t = given f c.ids t.1.0.0 t.1.2.values
+
+  -- the required arguments of a subcommand have values
+  pub has_task : HasTask name f
+  has_task = record {
+    check = λ same. let all = have check_form (taken_named check_form refl same) in (all.0, all.1.0);
+    explaining = λ same. (have explain_form (taken_named explain_form refl same)).0;
+    run = λ other last. let all = have run_form (taken_run other last) in (all.0, all.1.0, all.1.1.0, all.1.1.1.0);
+  }
+
+  module _ (c : Form) (is : IsSubcommand c) (t : Taken c) where
+    seen : seen_of c.flag c.met c.file got.1 ≡ t.1.0
+    seen = found_is c.flag is.long is.command.apart.1 got.1 c.ids c.met c.file t.1.0 t.1.1
+
+    -- texts in which the pass finds something are well-formed
+    formed : (n : ℕ) → length c.ids ≡ n → AreTexts got.1
+        → (is_named c.file got.1 && are_operands n (words_of c.flag c.met c.file got.1)) ≡ true
+    formed n count = found_formed c.flag is.long is.command.apart.1 got.1 c.ids c.met c.file n count t.1.0 t.1.1
+
+    paths_are : (vs : List Text) → Firsts f c.ids vs → operands (words_of c.flag c.met c.file got.1) ≡ vs
+    paths_are vs all = ap (λ (m : Seen). m.0) seen ∙ firsts f c.ids t.1.0.0 vs t.1.2.values all
+
+    flag_is : (flag : Bool) → c.has_flag ≡ true → Sets f c.flag flag → flag ≡ is_met c.flag c.met c.file got.1
+    flag_is flag so sets = flag_read f c.flag t.1.0.1 flag (t.1.2.flagged so) sets ∙ ap (λ (m : Seen). m.1) (sym seen)
+
+  -- the task is the one that the words request
+  pub task_requested : (task : Task) → GivesTask name f task → RequestsTask words task
+  task_requested (Run task) gives =
+      let t = taken_run gives.0 gives.1 in
+      subst (λ (ws : List Text). RequestsTask ws (Run task)) (sym t.0) (
+        refl,
+        formed run_form run_sub t 4 refl,
+        gives.3 ∙ first_value-rows f (codes "report") ∙ ap (option_and_then (λ (r : Row). slice_get r.values 0)) (t.1.2.filed refl)
+            ∙ file_of t.1.0.2 ∙ ap (λ (m : Seen). m.2) (sym (seen run_form run_sub t)),
+        flag_is run_form run_sub t task.trace refl gives.2,
+        paths_are run_form run_sub t (path_texts task.paths) (gives.4, (gives.5, (gives.6, (gives.7, tt)))),
+      )
+  task_requested (Check task) gives =
+      let t = taken_named check_form refl gives.0 in
+      subst (λ (ws : List Text). RequestsTask ws (Check task)) (sym t.0) (
+        refl,
+        formed check_form check_sub t 2 refl,
+        flag_is check_form check_sub t task.all refl gives.1,
+        paths_are check_form check_sub t (task.texts.rules.now ∷ task.texts.plant.now ∷ []) (gives.2, (gives.3, tt)),
+      )
+  task_requested (Explain code) gives =
+      let t = taken_named explain_form refl gives.0 in
+      subst (λ (ws : List Text). RequestsTask ws (Explain code)) (sym t.0)
+      (refl, formed explain_form explain_sub t 1 refl, paths_are explain_form explain_sub t (code.now ∷ []) (gives.1, tt))
 
 -- ---- errors
 

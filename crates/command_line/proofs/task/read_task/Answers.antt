@@ -15,12 +15,12 @@ task_of-requires c =
 
 pub returns-clause-requested : goal.returns-clause-requested
 returns-clause-requested c =
-    task_requested _ c.unwrap.result.0.now (found_of c.unwrap.result.1.now) c.task_of.result
+    task_requested _ c.unwrap.result.0.now (found_of c.unwrap.result.1.now)
     (has_read _ _ c.in_ok-matches.matches c.unwrap.result.0.now _ c.in_ok-program.ensures
     c.in_ok-matches.ensures.kinds c.in_ok-matches.ensures.matches
     (given_as c.subcommand.result c.unwrap.result _ _ c.unwrap.ensures c.subcommand.ensures.name
     c.subcommand.ensures.rows))
-    c.task_of.ensures
+    c.task_of.result c.task_of.ensures
 
 pub returns-in_err-matches-clause-refused : goal.returns-in_err-matches-clause-refused
 returns-in_err-matches-clause-refused c =
