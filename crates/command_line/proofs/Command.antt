@@ -22,7 +22,7 @@ use Rattle.clap.proofs.FaultLemmas.{fault_ends}
 use Rattle.clap.specs.declared.error.kind.ErrorKind.{ErrorKind}
 use Rattle.command_line.specs.steps.Program.{flag_rule, path_rule, report_rule}
 use Rattle.command_line.proofs.Meaning.{Each}
-use Rattle.command_line.proofs.Rows.{flag_of, joined, kept, row, row_at, row_of, set_row, source_of, still}
+use Rattle.command_line.proofs.Rows.{flag_of, kept, newly, row, row_at, row_of, set_row, source_of, still}
 use Rattle.command_line.proofs.Scan.{Seen, has_no_short}
 
 -- ---- lists of kinds
@@ -217,9 +217,6 @@ each_kept r all (id ∷ left) other none = (kept id all r other.0 ∙ none.0, ea
 
 pub keeps_more : (all final : List Row) (r : Row) → Keeps (all ++ r ∷ []) final → Keeps all final
 keeps_more all final r keeps id x is = keeps id x (still id all (r ∷ []) x is)
-
-pub newly : (all : List Row) (r : Row) → row_at r.id all ≡ None → row_at r.id (all ++ r ∷ []) ≡ Some r
-newly all r none = joined r.id all r none ∙ ap (λ b. cond b (Some r) None) ((bytes_eq-Decides r.id r.id).1 refl)
 
 module _ (c : Form) where
   -- what is known of the rows on the way

@@ -4,6 +4,7 @@ use Rattle.std.proofs.Common.{is_some, refl, rules, subst, sym, true, true≢fal
 use Rattle.std.specs.Prelude.{fold, option_map}
 use Rattle.std.specs.List.{slice_index_or}
 use Rattle.std.specs.Str.{bytes_eq}
+use Rattle.std.proofs.Math.Bool.{or-true}
 use Rattle.std.proofs.lemmas.Slice.Eq.{bytes_eq-Decides}
 use Rattle.clap.specs.Faults.{check_fault, stray_fault, defaults_fault, entered_fault, fault_of, flag_word_fault, level_fault, long_fault, other_fault}
 use Rattle.clap.specs.Faults.{settle_fault, short_fault, step_fault, turn_fault, walk_fault}
@@ -80,16 +81,11 @@ either : {A : Type 0} (b : Bool) (x : A) → cond b x x ≡ x
 either true x = refl
 either false x = refl
 
-or_true : (b : Bool) → (b || true) ≡ true
-or_true true = refl
-or_true false = refl
-
 all_longs : (name : Text) → arg_by_long (sub 1).rules name ≡ option_by true false (codes "all") name
-all_longs name =
-    ap (λ o. cond (bytes_eq (codes "all") name || false) (Some (filled (flag_rule (codes "all")))) o) (sym (either _ _))
+all_longs name = simp either
 
 no_longs : (name : Text) → arg_by_long (sub 2).rules name ≡ option_by false false (codes "all") name
-no_longs name = sym (either (bytes_eq (codes "all") name || false) _ ∙ either (bytes_eq (codes "report") name || false) _)
+no_longs name = simp either
 
 -- what `IsCommand` says of defaults
 abbrev Defaults : Form → Type 0
@@ -98,15 +94,15 @@ Defaults c = (all : List Row) → (fold with_default all c.rules ≡ cond c.has_
 
 run_defaults : Defaults run_form
 unfolding defaults_fault
-run_defaults all = (simp either, simp (or_true, either))
+run_defaults all = (simp either, simp (or-true, either))
 
 check_defaults : Defaults check_form
 unfolding defaults_fault
-check_defaults all = (simp either, simp (or_true, either))
+check_defaults all = (simp either, simp (or-true, either))
 
 explain_defaults : Defaults explain_form
 unfolding defaults_fault
-explain_defaults all = (simp either, simp or_true)
+explain_defaults all = (simp either, simp or-true)
 
 run_command : IsCommand run_form
 run_command = search (rules, run_defaults)
@@ -119,15 +115,6 @@ check_command = search (rules, all_longs, check_defaults, check_paths)
 
 explain_command : IsCommand explain_form
 explain_command = search (rules, no_longs, explain_defaults)
-
-run_begins : Fits run_form [] run_form.ids false None
-run_begins = search rules
-
-check_begins : Fits check_form [] check_form.ids false (Some [])
-check_begins = search rules
-
-explain_begins : Fits explain_form [] explain_form.ids true (Some [])
-explain_begins = search rules
 
 -- what the pass finds in the words of a subcommand, and the rows of it
 abbrev pub Took : Form → List Text → List Row → Type 0
@@ -206,7 +193,7 @@ pub run_sub : IsSubcommand run_form
 unfolding clap_on_literals
 run_sub = record {
   command = run_command;
-  begins = run_begins;
+  begins = search rules;
   long = refl;
   enters = λ program rest. enters run_form program rest refl refl refl refl;
 }
@@ -215,7 +202,7 @@ pub check_sub : IsSubcommand check_form
 unfolding clap_on_literals
 check_sub = record {
   command = check_command;
-  begins = check_begins;
+  begins = search rules;
   long = refl;
   enters = λ program rest. enters check_form program rest refl refl refl refl;
 }
@@ -224,7 +211,7 @@ pub explain_sub : IsSubcommand explain_form
 unfolding clap_on_literals
 explain_sub = record {
   command = explain_command;
-  begins = explain_begins;
+  begins = search rules;
   long = refl;
   enters = λ program rest. enters explain_form program rest refl refl refl refl;
 }

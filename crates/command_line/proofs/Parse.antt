@@ -5,6 +5,7 @@ use Rattle.std.proofs.Common.{not, refl, subst, sym, true, true≢false}
 use Rattle.std.specs.Prelude.{fold, min}
 use Rattle.std.specs.Option.{option_map_or}
 use Rattle.std.specs.Str.{bytes_eq}
+use Rattle.std.proofs.Math.Bool.{and-false, or-false}
 use Rattle.std.proofs.lemmas.Slice.Eq.{bytes_eq-Decides}
 use Rattle.clap.specs.Facts.{explicit_source}
 use Rattle.clap.specs.Faults.{check_fault, defaults_fault, flag_word_fault, long_fault, option_fault, other_fault, positional_fault, react_fault}
@@ -21,8 +22,8 @@ use Rattle.clap.specs.declared.error.kind.ErrorKind.TheVariants.{ArgumentConflic
 use Rattle.clap.specs.declared.parser.matches.ValueSource.TheVariants.{CommandLine, DefaultValue}
 use Rattle.command_line.proofs.Command.{AsksHelp, Fits, Form, Gives, IsCommand, Keeps, Other, Paths, Pending, at}
 use Rattle.command_line.proofs.Command.{first_nil, fits_file, fits_flag, fits_path, flag_filled, gives_option, gives_path, help, idle_walk, lacks, leaf}
-use Rattle.command_line.proofs.Command.{Turn, by_word, newly, not_nil, place_of, report_filled, then_nil, walk_with}
-use Rattle.command_line.proofs.Rows.{appended, appended_anew, new_row, flag_of, has_row-at, kept, row, row_at, set_row, source_of, still, unset_row}
+use Rattle.command_line.proofs.Command.{Turn, by_word, not_nil, place_of, report_filled, then_nil, walk_with}
+use Rattle.command_line.proofs.Rows.{appended, appended_anew, new_row, flag_of, has_row-at, kept, newly, row, row_at, set_row, source_of, still, unset_row}
 use Rattle.command_line.proofs.Scan.{Kind, Later, Place, Seen, after, at_end, before, filed, flagged, has_no_short, is_taken, kind_by, long_kind, naming}
 use Rattle.command_line.proofs.Scan.{odd, operand, operand_met, scan, with_operand}
 use Rattle.command_line.proofs.Scan.{dashes}
@@ -52,10 +53,6 @@ long_settles c (Some a) v h e = go (takes_values a) v e
     go true None e = e
     go false (Some x) e = not_nil _ _ e
     go false None e = first_nil _ _ e
-
-settled_first : (b : Bool) (k : Kinds) → cond (b && false) [] k ≡ k
-settled_first true k = refl
-settled_first false k = refl
 
 -- a first use, and a second
 abbrev repeats : Bool → Kinds
@@ -199,9 +196,7 @@ module _ (c : Form) (is : IsCommand c) where
 
   operand_fault : (id : Text) (p : ℕ) (rows all : List Row) (pending : Pending) → arg_by_index c.rules p ≡ Some (place_of id p)
       → step_fault s p (at rows pending) value ≡ settle_fault c.rules false (at rows pending)
-  operand_fault id p rows all pending found =
-      ap (λ o. option_map_or (λ a. positional_fault c.rules false a (at rows pending)) o (stray_fault s)) found
-      ∙ settled_first (is_pending (place_of id p) pending) (settle_fault c.rules false (at rows pending))
+  operand_fault id p rows all pending found = simp (found, and-false)
 
   stray : (p : ℕ) (h : Held) → arg_by_index c.rules p ≡ None → step_fault s p h value ≡ [] → ⊥
   stray p h none e =
@@ -211,22 +206,8 @@ module _ (c : Form) (is : IsCommand c) where
       → arg_by_index c.rules p ≡ Some (place_of id p) → settled_rows c.rules pending rows ≡ all
       → to_positional c.rules (arg_by_index c.rules p) word (idle_walk (at rows pending) p t) (at rows pending)
       ≡ idle_walk (at all (Some (id, word ∷ []))) (min (p + 1) usize_max) t
-  moves id word p t rows all pending found settles =
-      ap (λ o. to_positional c.rules o word (idle_walk (at rows pending) p t) (at rows pending)) found
-      ∙ go (is_pending (place_of id p) pending) t
-      ∙ (λ j. idle_walk (at (settles j) (Some (id, word ∷ []))) (min (p + 1) usize_max) t)
-    where
-      go : (b t : Bool) → ◌≡◌ {A = Walk} (record {
-        held = pushed id word (cond (b && false) (at rows pending) (settled c.rules (at rows pending)));
-        waiting = idle;
-        position = min (p + 1) usize_max;
-        is_trailing = t || false;
-        stopped = None;
-      }) (idle_walk (at (settled_rows c.rules pending rows) (Some (id, word ∷ []))) (min (p + 1) usize_max) t)
-      go true true = refl
-      go true false = refl
-      go false true = refl
-      go false false = refl
+  moves id word p t rows all pending found settles = simp (found, and-false, or-false)
+      (λ j. idle_walk (at (settles j) (Some (id, word ∷ []))) (min (p + 1) usize_max) t)
 
   abbrev place_by : Bool → Place
   place_by t = cond t after before

@@ -2,6 +2,9 @@
 use Rattle.std.proofs.Common.{◌≡◌, ◌∙◌, ◌||◌, ◌++◌, Bool, cond, codes, true, false, refl, ap, List, [], ◌∷◌, Option, Some, None}
 use Rattle.std.proofs.Common.{is_some, append-nil}
 use Rattle.std.specs.Prelude.{find, option_map}
+use Rattle.std.specs.Option.{option_or}
+use Rattle.std.proofs.lemmas.List.Folds.{find-append}
+use Rattle.std.proofs.lemmas.Slice.Eq.{bytes_eq-Decides}
 use Rattle.std.specs.Str.{bytes_eq}
 use Rattle.clap.specs.Simple.{filled}
 use Rattle.clap.specs.Walk.{Row, Text, at_row, has_row, more_values, reading_by, with_values, without}
@@ -16,26 +19,12 @@ row_at id rows = find (λ r. bytes_eq r.id id) rows
 
 -- the first row stays the first
 pub still : (id : Text) (all more : List Row) (r : Row) → row_at id all ≡ Some r → row_at id (all ++ more) ≡ Some r
-still id [] more r e = cc
-still id (x ∷ xs) more r e = go (bytes_eq x.id id) e (still id xs more r)
-  where
-    go : (b : Bool) → cond b (Some x) (row_at id xs) ≡ Some r
-        → (row_at id xs ≡ Some r → row_at id (xs ++ more) ≡ Some r)
-        → cond b (Some x) (row_at id (xs ++ more)) ≡ Some r
-    go true e later = e
-    go false e later = later e
+still id all more r e = find-append (λ r. bytes_eq r.id id) all more ∙ ap (λ (o : Option Row). option_or o (row_at id more)) e
 
 -- one more row is the first where there was none
-pub joined : (id : Text) (all : List Row) (r : Row) → row_at id all ≡ None
-    → row_at id (all ++ r ∷ []) ≡ cond (bytes_eq r.id id) (Some r) None
-joined id [] r none = refl
-joined id (x ∷ xs) r none = go (bytes_eq x.id id) none (joined id xs r)
-  where
-    go : (b : Bool) → cond b (Some x) (row_at id xs) ≡ None
-        → (row_at id xs ≡ None → row_at id (xs ++ r ∷ []) ≡ cond (bytes_eq r.id id) (Some r) None)
-        → cond b (Some x) (row_at id (xs ++ r ∷ [])) ≡ cond (bytes_eq r.id id) (Some r) None
-    go true bad later = cc
-    go false none later = later none
+pub newly : (all : List Row) (r : Row) → row_at r.id all ≡ None → row_at r.id (all ++ r ∷ []) ≡ Some r
+newly all r none = find-append (λ x. bytes_eq x.id r.id) all (r ∷ [])
+    ∙ (λ j. option_or (none j) (cond ((bytes_eq-Decides r.id r.id).1 refl j) (Some r) None))
 
 pub kept : (id : Text) (all : List Row) (r : Row) → bytes_eq r.id id ≡ false → row_at id (all ++ r ∷ []) ≡ row_at id all
 kept id [] r other = ap (λ (b : Bool). cond b (Some r) None) other

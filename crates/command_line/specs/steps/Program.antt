@@ -1,5 +1,5 @@
 -- The command line as clap's command.
-use Rattle.std.specs.Prelude.{Some, codes, fold, true}
+use Rattle.std.specs.Prelude.{List, [], ◌∷◌, Some, codes, fold, true}
 use Rattle.clap.specs.declared.builder.action.ArgAction.TheVariants.{SetTrue}
 use Rattle.clap.specs.Words.{App, Rule, Shape, Text, new_app, new_rule, with_rule, with_subcommand}
 use Rattle.command_line.specs.declared.program.Argument.{Argument}
@@ -16,25 +16,19 @@ flag_rule name = record (new_rule name) { long = Some name; action = Some SetTru
 abbrev pub report_rule : Rule
 report_rule = record (new_rule (codes "report")) { long = Some (codes "report"); value_names = 1 }
 
-abbrev pub paths_app : App
-paths_app =
-    with_rule (with_rule (with_rule (with_rule (new_app (codes "run")) (path_rule (codes "rules")))
-    (path_rule (codes "plant"))) (path_rule (codes "input"))) (path_rule (codes "output"))
+-- a command of this name, with these arguments
+abbrev pub shape_with : Text → List Rule → Shape
+shape_with name rules = (fold with_rule (new_app name) rules).top
 
 abbrev pub run_shape : Shape
-run_shape = (with_rule (with_rule paths_app (flag_rule (codes "trace"))) report_rule).top
-
-abbrev pub check_app : App
-check_app =
-    with_rule (with_rule (with_rule (new_app (codes "check")) (path_rule (codes "rules")))
-    (path_rule (codes "plant")))
-    (flag_rule (codes "all"))
+run_shape = shape_with (codes "run") (path_rule (codes "rules") ∷ path_rule (codes "plant") ∷ path_rule (codes "input")
+    ∷ path_rule (codes "output") ∷ flag_rule (codes "trace") ∷ report_rule ∷ [])
 
 abbrev pub check_shape : Shape
-check_shape = check_app.top
+check_shape = shape_with (codes "check") (path_rule (codes "rules") ∷ path_rule (codes "plant") ∷ flag_rule (codes "all") ∷ [])
 
 abbrev pub explain_shape : Shape
-explain_shape = (with_rule (new_app (codes "explain")) (path_rule (codes "code"))).top
+explain_shape = shape_with (codes "explain") (path_rule (codes "code") ∷ [])
 
 abbrev pub top_app : App
 top_app = record (new_app (codes "nftrun")) {
@@ -42,13 +36,7 @@ top_app = record (new_app (codes "nftrun")) {
 }
 
 abbrev pub program_app : App
-program_app = with_subcommand
-    (with_subcommand
-    (with_subcommand
-    top_app
-    run_shape)
-    check_shape)
-    explain_shape
+program_app = fold with_subcommand top_app (run_shape ∷ check_shape ∷ explain_shape ∷ [])
 
 -- ---- the same, as the table of subcommands describes it
 
