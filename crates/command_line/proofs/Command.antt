@@ -23,7 +23,7 @@ use Rattle.clap.specs.declared.error.kind.ErrorKind.{ErrorKind}
 use Rattle.command_line.specs.steps.Program.{flag_rule, path_rule, report_rule}
 use Rattle.command_line.proofs.Meaning.{Each}
 use Rattle.command_line.proofs.Rows.{flag_of, kept, newly, row, row_at, row_of, set_row, source_of, still}
-use Rattle.command_line.proofs.Scan.{Seen, has_no_short}
+use Rattle.command_line.proofs.Scan.{Pairs, Seen, has_no_short}
 
 -- ---- lists of kinds
 
@@ -201,98 +201,74 @@ pub record IsCommand (c : Form) : Type 0 where
 
 -- ---- the rows
 
-abbrev pub Keeps : List Row → List Row → Type 0
-Keeps all final = (id : Text) (r : Row) → row_at id all ≡ Some r → row_at id final ≡ Some r
+-- these paths are there
+abbrev pub Holds : List Row → Pairs → Type 0
+Holds rows [] = Unit {0}
+Holds rows (q ∷ done) = (row_at q.0 rows ≡ Some (row q.0 q.1)) × Holds rows done
 
--- the operands are the values of the paths
-abbrev pub Values : List Row → List Text → List Text → Type 0
-Values rows (id ∷ ids) (word ∷ ops) = (row_at id rows ≡ Some (row id word)) × Values rows ids ops
-Values rows [] [] = Unit {0}
-Values rows _ _ = ⊥
+pub holds_more : (all more : List Row) (done : Pairs) → Holds all done → Holds (all ++ more) done
+holds_more all more [] holds = tt
+holds_more all more (q ∷ done) holds = (still q.0 all more _ holds.0, holds_more all more done holds.1)
 
 each_kept : (r : Row) (all : List Row) (left : List Text) → Other r.id left → Each (λ id. row_at id all ≡ None) left
     → Each (λ id. row_at id (all ++ r ∷ []) ≡ None) left
 each_kept r all [] other none = tt
 each_kept r all (id ∷ left) other none = (kept id all r other.0 ∙ none.0, each_kept r all left other.1 none.1)
 
-pub keeps_more : (all final : List Row) (r : Row) → Keeps (all ++ r ∷ []) final → Keeps all final
-keeps_more all final r keeps id x is = keeps id x (still id all (r ∷ []) x is)
-
 module _ (c : Form) where
   -- what is known of the rows on the way
-  pub record Fits (all : List Row) (left : List Text) (met : Bool) (file : Option Text) : Type 0 where
+  pub record Fits (all : List Row) (done : Pairs) (left : List Text) (met : Bool) (file : Option Text) : Type 0 where
+    pub holds : Holds all done
     pub unused : Each (λ id. row_at id all ≡ None) left
     pub flagged : c.has_flag ≡ true → row_at c.flag all ≡ flag_of c.flag met
     pub unflagged : c.has_flag ≡ false → met ≡ true
     pub filed : c.has_file ≡ true → row_at (codes "report") all ≡ row_of (codes "report") file
     pub unfiled : c.has_file ≡ false → is_some file ≡ true
-    pub owes : (final : List Row) → Keeps all final → lacks final c.ids ≡ lacks final left
+    pub owes : (final : List Row) → Holds final done → lacks final c.ids ≡ lacks final left
 
   -- and of those at the end
-  pub record Gives (all : List Row) (left : List Text) (seen : Seen) (final : List Row) : Type 0 where
-    pub keeps : Keeps all final
-    pub values : Values final left seen.0
+  pub record Gives (seen : Seen) (final : List Row) : Type 0 where
+    pub holds : Holds final seen.0
     pub flagged : c.has_flag ≡ true → row_at c.flag final ≡ Some (source_of c.flag seen.1)
     pub filed : c.has_file ≡ true → row_at (codes "report") final ≡ row_of (codes "report") seen.2
 
-  pub fits_path : (all : List Row) (id word : Text) (left : List Text) (met : Bool) (file : Option Text)
-      → Other id (c.flag ∷ codes "report" ∷ left) → Fits all (id ∷ left) met file
-      → Fits (all ++ row id word ∷ []) left met file
-  fits_path all id word left met file other fits = record {
-    unused = each_kept (row id word) all left other.1.1 fits.unused.1;
-    flagged = λ so. kept c.flag all (row id word) other.0 ∙ fits.flagged so;
-    unflagged = fits.unflagged;
-    filed = λ so. kept (codes "report") all (row id word) other.1.0 ∙ fits.filed so;
-    unfiled = fits.unfiled;
-    owes = λ final keeps.
-        fits.owes final (keeps_more all final (row id word) keeps)
-        ∙ ap (λ (o : Option Row). not (option_map_or (λ r. explicit_source r.source) o false) || lacks final left)
-        (keeps id (row id word) (newly all (row id word) fits.unused.0));
-  }
+  module _ (all : List Row) (done : Pairs) (left : List Text) (met : Bool) where
+    pub fits_path : (id word : Text) (file : Option Text) → Other id (c.flag ∷ codes "report" ∷ left)
+        → Fits all done (id ∷ left) met file → Fits (all ++ row id word ∷ []) ((id, word) ∷ done) left met file
+    fits_path id word file other fits =
+        let r = row id word in record {
+          holds = (newly all r fits.unused.0, holds_more all (r ∷ []) done fits.holds);
+          unused = each_kept r all left other.1.1 fits.unused.1;
+          flagged = λ so. kept c.flag all r other.0 ∙ fits.flagged so;
+          unflagged = fits.unflagged;
+          filed = λ so. kept (codes "report") all r other.1.0 ∙ fits.filed so;
+          unfiled = fits.unfiled;
+          owes = λ final holds. fits.owes final holds.1
+              ∙ ap (λ (o : Option Row). not (option_map_or (λ r. explicit_source r.source) o false) || lacks final left) holds.0;
+        }
 
-  pub gives_path : (all : List Row) (id word : Text) (left : List Text) (seen : Seen) (final : List Row) → row_at id all ≡ None
-      → Gives (all ++ row id word ∷ []) left seen final
-      → Gives all (id ∷ left) (word ∷ seen.0, seen.1, seen.2) final
-  gives_path all id word left seen final none gives = record {
-    keeps = keeps_more all final (row id word) gives.keeps;
-    values = (gives.keeps id (row id word) (newly all (row id word) none), gives.values);
-    flagged = gives.flagged;
-    filed = gives.filed;
-  }
+    pub fits_flag : (file : Option Text) → c.has_flag ≡ true → Other c.flag (codes "report" ∷ left)
+        → Fits all done left false file → Fits (all ++ set_row c.flag ∷ []) done left true file
+    fits_flag file so other fits =
+        let r = set_row c.flag in record {
+          holds = holds_more all (r ∷ []) done fits.holds;
+          unused = each_kept r all left other.1 fits.unused;
+          flagged = λ _. newly all r (fits.flagged so);
+          unflagged = λ _. refl;
+          filed = λ f. kept (codes "report") all r other.0 ∙ fits.filed f;
+          unfiled = fits.unfiled;
+          owes = fits.owes;
+        }
 
-  pub gives_option : (all : List Row) (r : Row) (left : List Text) (seen : Seen) (final : List Row)
-      → Gives (all ++ r ∷ []) left seen final → Gives all left seen final
-  gives_option all r left seen final gives = record {
-    keeps = keeps_more all final r gives.keeps;
-    values = gives.values;
-    flagged = gives.flagged;
-    filed = gives.filed;
-  }
-
-  owes_more : (all : List Row) (r : Row) (left : List Text)
-      → ((final : List Row) → Keeps all final → lacks final c.ids ≡ lacks final left)
-      → (final : List Row) → Keeps (all ++ r ∷ []) final → lacks final c.ids ≡ lacks final left
-  owes_more all r left owes final keeps = owes final (keeps_more all final r keeps)
-
-  pub fits_flag : (all : List Row) (left : List Text) (file : Option Text) → c.has_flag ≡ true
-      → Other c.flag (codes "report" ∷ left) → Fits all left false file → Fits (all ++ set_row c.flag ∷ []) left true file
-  fits_flag all left file so other fits = record {
-    unused = each_kept (set_row c.flag) all left other.1 fits.unused;
-    flagged = λ _. newly all (set_row c.flag) (fits.flagged so);
-    unflagged = λ _. refl;
-    filed = λ f. kept (codes "report") all (set_row c.flag) other.0 ∙ fits.filed f;
-    unfiled = fits.unfiled;
-    owes = owes_more all (set_row c.flag) left fits.owes;
-  }
-
-  pub fits_file : (all : List Row) (left : List Text) (met : Bool) (f : Text) → c.has_file ≡ true
-      → Other (codes "report") (c.flag ∷ left) → Fits all left met None
-      → Fits (all ++ row (codes "report") f ∷ []) left met (Some f)
-  fits_file all left met f so other fits = record {
-    unused = each_kept (row (codes "report") f) all left other.1 fits.unused;
-    flagged = λ b. kept c.flag all (row (codes "report") f) other.0 ∙ fits.flagged b;
-    unflagged = fits.unflagged;
-    filed = λ _. newly all (row (codes "report") f) (fits.filed so);
-    unfiled = λ _. refl;
-    owes = owes_more all (row (codes "report") f) left fits.owes;
-  }
+    pub fits_file : (f : Text) → c.has_file ≡ true → Other (codes "report") (c.flag ∷ left)
+        → Fits all done left met None → Fits (all ++ row (codes "report") f ∷ []) done left met (Some f)
+    fits_file f so other fits =
+        let r = row (codes "report") f in record {
+          holds = holds_more all (r ∷ []) done fits.holds;
+          unused = each_kept r all left other.1 fits.unused;
+          flagged = λ b. kept c.flag all r other.0 ∙ fits.flagged b;
+          unflagged = fits.unflagged;
+          filed = λ _. newly all r (fits.filed so);
+          unfiled = λ _. refl;
+          owes = fits.owes;
+        }

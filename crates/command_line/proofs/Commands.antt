@@ -116,31 +116,33 @@ check_command = search (rules, all_longs, check_defaults, check_paths)
 explain_command : IsCommand explain_form
 explain_command = search (rules, no_longs, explain_defaults)
 
--- what the pass finds in the words of a subcommand, and the rows of it
+-- the pass over the words of a subcommand
+abbrev pub found_in : Form → List Text → Option Seen
+found_in c rest = scan is_taken c.flag rest before [] c.ids c.met c.file
+
+-- what it finds, and the rows of it
 abbrev pub Took : Form → List Text → List Row → Type 0
-Took c rest rows = (seen : Seen) × (scan is_taken c.flag rest before c.ids c.met c.file ≡ Some seen) × Gives c [] c.ids seen rows
+Took c rest rows = (seen : Seen) × (found_in c rest ≡ Some seen) × Gives c seen rows
 
 abbrev level : Form → List Text → Kinds
 level c rest = level_fault (leaf c.name c.rules) [] nothing_held rest false []
 
-abbrev Answer : (c : Form) → IsCommand c → List Text → Option Seen → Type 0
-Answer c is rest seen =
-    AnswersAt c is (level c rest) (fold (walked c.rules []) (idle_walk nothing_held 1 false) rest) [] c.ids seen
+module _ (c : Form) (is : IsCommand c) (begins : Fits c [] [] c.ids c.met c.file) (rest : List Text) where
+  abbrev Answer : Option Seen → Type 0
+  Answer = AnswersAt c is (level c rest) (fold (walked c.rules []) (idle_walk nothing_held 1 false) rest)
 
-module _ (c : Form) (is : IsCommand c) (begins : Fits c [] c.ids c.met c.file) (rest : List Text) where
-  answer : Answer c is rest (scan is_taken c.flag rest before c.ids c.met c.file)
-  answer = parsed c is false rest c.ids c.met c.file 1 [] [] None is.paths (refl, refl) begins
+  answer : Answer (found_in c rest)
+  answer = parsed c is false rest [] c.ids c.met c.file 1 [] [] None is.paths (refl, refl) begins
 
   took : level c rest ≡ [] → Took c rest (rows_after c.rules [] rest)
-  took e = go (scan is_taken c.flag rest before c.ids c.met c.file) refl answer
+  took e = go (found_in c rest) refl answer
     where
-      go : (o : Option Seen) → scan is_taken c.flag rest before c.ids c.met c.file ≡ o → Answer c is rest o
-          → Took c rest (rows_after c.rules [] rest)
+      go : (o : Option Seen) → found_in c rest ≡ o → Answer o → Took c rest (rows_after c.rules [] rest)
       go None found a = absurd (a e)
       go (Some seen) found a = (seen, found, a.1)
 
-  takes : (seen : Seen) → scan is_taken c.flag rest before c.ids c.met c.file ≡ Some seen → level c rest ≡ []
-  takes seen found = (subst (Answer c is rest) found answer).0
+  takes : (seen : Seen) → found_in c rest ≡ Some seen → level c rest ≡ []
+  takes seen found = (subst Answer found answer).0
 
 -- ---- the subcommand that the words name
 
@@ -185,7 +187,7 @@ enters c program rest goes faults ends met =
 -- a subcommand of the program
 pub record IsSubcommand (c : Form) : Type 0 where
   pub command : IsCommand c
-  pub begins : Fits c [] c.ids c.met c.file
+  pub begins : Fits c [] [] c.ids c.met c.file
   pub long : long_of (45 ∷ 45 ∷ c.flag) ≡ Some (c.flag, None)
   pub enters : (program : Text) (rest : List Text) → Enters c program rest
 
@@ -324,6 +326,6 @@ task_read (program ∷ word ∷ rest) e =
 
 -- words in which the pass finds something have no fault
 pub found_passes : (c : Form) → IsSubcommand c → (program : Text) (rest : List Text) (seen : Seen)
-    → scan is_taken c.flag rest before c.ids c.met c.file ≡ Some seen → fault_of program_app (program ∷ c.name ∷ rest) ≡ []
+    → found_in c rest ≡ Some seen → fault_of program_app (program ∷ c.name ∷ rest) ≡ []
 found_passes c is program rest seen found =
     (is.enters program rest).0 ∙ takes c is.command is.begins rest seen found

@@ -10,8 +10,8 @@ use Rattle.clap.proofs.WalkLemmas.{both}
 use Rattle.command_line.specs.CommandLine.{AreTexts, are_operands, are_plain, as_report, has_flag, is_plain_word, names_file, names_file_by, operands}
 use Rattle.command_line.specs.CommandLine.{report_of, without_flag, without_report}
 use Rattle.command_line.proofs.Scan.{Kind, Later, Place, Seen, after, at_end, before, dashes, filed, flagged, is_taken, kind, kind_by, naming, odd, operand}
-use Rattle.command_line.proofs.Scan.{operand_met, scan}
-use Rattle.command_line.proofs.Scan.{with_operand, word_met}
+use Rattle.command_line.proofs.Scan.{Pairs, operand_met, scan}
+use Rattle.command_line.proofs.Scan.{word_met}
 use Rattle.command_line.proofs.Words.{Means, means, plain_taken, taken_bare, taken_plain}
 
 -- as many operands as are left
@@ -26,8 +26,13 @@ lengths_match [] (id ∷ left) e = absurd (omega arith)
 lengths_match (word ∷ ops) [] e = absurd (omega arith)
 lengths_match (word ∷ ops) (id ∷ left) e = lengths_match ops left (omega arith)
 
-abbrev pub counted : List Text → Bool → Option Text → List Text → Option Seen
-counted left met file ops = cond (match_up ops left) (Some (ops, met, file)) None
+-- the paths with these operands
+abbrev pub pairs : Pairs → List Text → List Text → Pairs
+pairs done (id ∷ left) (word ∷ ops) = pairs ((id, word) ∷ done) left ops
+pairs done _ _ = done
+
+abbrev pub counted : Pairs → List Text → Bool → Option Text → List Text → Option Seen
+counted done left met file ops = cond (match_up ops left) (Some (pairs done left ops, met, file)) None
 
 module _ (is_operand : Text → Bool) where
   abbrev pub plain_by : List Text → Bool
@@ -60,8 +65,9 @@ abbrev pub file_of : Option Text → List Text → Option Text
 file_of None words = report_of words
 file_of (Some f) words = Some f
 
-abbrev pub seen_of : Text → Bool → Option Text → List Text → Seen
-seen_of flag met file words = (operands (words_of flag met file words), is_met flag met file words, file_of file words)
+abbrev pub seen_of : Text → Pairs → List Text → Bool → Option Text → List Text → Seen
+seen_of flag done left met file words =
+    (pairs done left (operands (words_of flag met file words)), is_met flag met file words, file_of file words)
 
 abbrev pub names_of : (Text → Bool) → Option Text → List Text → Bool
 names_of is_operand None words = names_by is_operand words
@@ -69,24 +75,16 @@ names_of is_operand (Some f) words = true
 
 module _ (is_operand : Text → Bool) (flag : Text) where
   -- the flag may be among the words, or was met already, and so may the report's option
-  abbrev pub with_file : List Text → Bool → Option Text → List Text → Option Seen
-  with_file left met file words =
+  abbrev pub with_file : Pairs → List Text → Bool → Option Text → List Text → Option Seen
+  with_file done left met file words =
       cond (names_of is_operand file words) (cond (plain_by is_operand (words_of flag met file words))
-      (cond (match_up (operands (words_of flag met file words)) left) (Some (seen_of flag met file words)) None) None) None
+      (cond (match_up (operands (words_of flag met file words)) left) (Some (seen_of flag done left met file words)) None) None) None
 
-  abbrev pub meaning : List Text → Place → List Text → Bool → Option Text → Option Seen
-  meaning words after left met file = counted left met file words
-  meaning words before left met file = with_file left met file words
-  meaning [] naming left met file = None
-  meaning (word ∷ rest) naming left met file = cond (is_operand word) (with_file left met (Some word) rest) None
-
-  operand_more : (word : Text) (n p m : Bool) (seen : Seen)
-      → with_operand word (cond n (cond p (cond m (Some seen) None) None) None)
-      ≡ cond n (cond p (cond m (with_operand word (Some seen)) None) None) None
-  operand_more word true true true seen = refl
-  operand_more word true true false seen = refl
-  operand_more word true false m seen = refl
-  operand_more word false p m seen = refl
+  abbrev pub meaning : List Text → Place → Pairs → List Text → Bool → Option Text → Option Seen
+  meaning words after done left met file = counted done left met file words
+  meaning words before done left met file = with_file done left met file words
+  meaning [] naming done left met file = None
+  meaning (word ∷ rest) naming done left met file = cond (is_operand word) (with_file done left met (Some word) rest) None
 
   no_more : (n p : Bool) → ◌≡◌ {A = Option Seen} None (cond n (cond p None None) None)
   no_more true true = refl
@@ -94,64 +92,65 @@ module _ (is_operand : Text → Bool) (flag : Text) where
   no_more false p = refl
 
   by_kind : (word : Text) (rest : List Text) (k : Kind) → Means is_operand flag word k
-      → (left : List Text) (met : Bool) (file : Option Text)
-      → word_met k word left met file (meaning rest) ≡ with_file left met file (word ∷ rest)
-  by_kind word rest dashes is left true (Some f) = simp is
-  by_kind word rest dashes is left false (Some f) = simp is
-  by_kind word rest dashes is left true None = simp is
-  by_kind word rest dashes is left false None = simp is
-  by_kind word rest flagged is left true (Some f) = simp (is.0, is.3)
-  by_kind word rest flagged is left false (Some f) = simp (is.0, is.1)
-  by_kind word rest flagged is left true None = simp (is.0, is.2, is.3) (no_more (names_by is_operand rest) true)
-  by_kind word rest flagged is left false None = simp (is.0, is.1, is.2)
-  by_kind word rest (filed value) is left true (Some f) = simp (is.0, is.3)
-  by_kind word rest (filed value) is left false (Some f) = simp (is.0, is.1, is.3)
-  by_kind word rest (filed (Some x)) is left true None = simp (is.0, is.2)
-  by_kind word rest (filed (Some x)) is left false None = simp (is.0, is.2)
-  by_kind word [] (filed None) is left true None = simp (is.0, is.2)
-  by_kind word [] (filed None) is left false None = simp (is.0, is.2)
-  by_kind word (next ∷ rest) (filed None) is left true None = simp (is.0, is.2)
-  by_kind word (next ∷ rest) (filed None) is left false None = simp (is.0, is.2)
-  by_kind word rest operand is [] true (Some f) = simp (is.0, is.3) (no_more true (plain_by is_operand rest))
-  by_kind word rest operand is [] false (Some f) = simp (is.0, is.1, is.3) (no_more true _)
-  by_kind word rest operand is [] true None = simp (is.0, is.2, is.3) (no_more (names_by is_operand rest) _)
-  by_kind word rest operand is [] false None = simp (is.0, is.1, is.2, is.3) (no_more (names_by is_operand rest) _)
-  by_kind word rest operand is (id ∷ left) true (Some f) = simp (is.0, is.3) (operand_more word true _ _ _)
-  by_kind word rest operand is (id ∷ left) false (Some f) = simp (is.0, is.1, is.3) (operand_more word true _ _ _)
-  by_kind word rest operand is (id ∷ left) true None = simp (is.0, is.2, is.3) (operand_more word (names_by is_operand rest) _ _ _)
-  by_kind word rest operand is (id ∷ left) false None =
-      simp (is.0, is.1, is.2, is.3) (operand_more word (names_by is_operand rest) _ _ _)
-  by_kind word rest odd is left true (Some f) = simp (is.0, is.3)
-  by_kind word rest odd is left false (Some f) = simp (is.0, is.1, is.3)
-  by_kind word rest odd is left true None = simp (is.0, is.2, is.3) (no_more (names_by is_operand rest) true)
-  by_kind word rest odd is left false None = simp (is.0, is.1, is.2, is.3) (no_more (names_by is_operand rest) true)
+      → (done : Pairs) (left : List Text) (met : Bool) (file : Option Text)
+      → word_met k word done left met file (meaning rest) ≡ with_file done left met file (word ∷ rest)
+  by_kind word rest dashes is done left true (Some f) = simp is
+  by_kind word rest dashes is done left false (Some f) = simp is
+  by_kind word rest dashes is done left true None = simp is
+  by_kind word rest dashes is done left false None = simp is
+  by_kind word rest flagged is done left true (Some f) = simp (is.0, is.3)
+  by_kind word rest flagged is done left false (Some f) = simp (is.0, is.1)
+  by_kind word rest flagged is done left true None = simp (is.0, is.2, is.3) (no_more (names_by is_operand rest) true)
+  by_kind word rest flagged is done left false None = simp (is.0, is.1, is.2)
+  by_kind word rest (filed value) is done left true (Some f) = simp (is.0, is.3)
+  by_kind word rest (filed value) is done left false (Some f) = simp (is.0, is.1, is.3)
+  by_kind word rest (filed (Some x)) is done left true None = simp (is.0, is.2)
+  by_kind word rest (filed (Some x)) is done left false None = simp (is.0, is.2)
+  by_kind word [] (filed None) is done left true None = simp (is.0, is.2)
+  by_kind word [] (filed None) is done left false None = simp (is.0, is.2)
+  by_kind word (next ∷ rest) (filed None) is done left true None = simp (is.0, is.2)
+  by_kind word (next ∷ rest) (filed None) is done left false None = simp (is.0, is.2)
+  by_kind word rest operand is done [] true (Some f) = simp (is.0, is.3) (no_more true (plain_by is_operand rest))
+  by_kind word rest operand is done [] false (Some f) = simp (is.0, is.1, is.3) (no_more true _)
+  by_kind word rest operand is done [] true None = simp (is.0, is.2, is.3) (no_more (names_by is_operand rest) _)
+  by_kind word rest operand is done [] false None = simp (is.0, is.1, is.2, is.3) (no_more (names_by is_operand rest) _)
+  by_kind word rest operand is done (id ∷ left) true (Some f) = simp (is.0, is.3)
+  by_kind word rest operand is done (id ∷ left) false (Some f) = simp (is.0, is.1, is.3)
+  by_kind word rest operand is done (id ∷ left) true None = simp (is.0, is.2, is.3)
+  by_kind word rest operand is done (id ∷ left) false None =
+      simp (is.0, is.1, is.2, is.3)
+  by_kind word rest odd is done left true (Some f) = simp (is.0, is.3)
+  by_kind word rest odd is done left false (Some f) = simp (is.0, is.1, is.3)
+  by_kind word rest odd is done left true None = simp (is.0, is.2, is.3) (no_more (names_by is_operand rest) true)
+  by_kind word rest odd is done left false None = simp (is.0, is.1, is.2, is.3) (no_more (names_by is_operand rest) true)
 
-  at_the_end : (left : List Text) (met : Bool) (file : Option Text) → at_end left met file ≡ counted left met file []
-  at_the_end [] met file = refl
-  at_the_end (id ∷ left) met file = refl
+  at_the_end : (done : Pairs) (left : List Text) (met : Bool) (file : Option Text)
+      → at_end done left met file ≡ counted done left met file []
+  at_the_end done [] met file = refl
+  at_the_end done (id ∷ left) met file = refl
 
-  after_dashes : (word : Text) (rest left : List Text) (met : Bool) (file : Option Text)
-      → operand_met word after left met file (meaning rest) ≡ counted left met file (word ∷ rest)
-  after_dashes word rest [] met file = refl
-  after_dashes word rest (id ∷ left) met file = operand_more word true true (match_up rest left) (rest, met, file)
+  after_dashes : (word : Text) (rest : List Text) (done : Pairs) (left : List Text) (met : Bool) (file : Option Text)
+      → operand_met word after done left met file (meaning rest) ≡ counted done left met file (word ∷ rest)
+  after_dashes word rest done [] met file = refl
+  after_dashes word rest done (id ∷ left) met file = refl
 
   module _ (kinds : (word : Text) → Means is_operand flag word (kind is_operand flag word)) where
-    pub scan_means : (words : List Text) (place : Place) (left : List Text) (met : Bool) (file : Option Text)
-        → scan is_operand flag words place left met file ≡ meaning words place left met file
-    scan_means [] before left true (Some f) = at_the_end left true (Some f)
-    scan_means [] before left false (Some f) = at_the_end left false (Some f)
-    scan_means [] before left true None = at_the_end left true None
-    scan_means [] before left false None = at_the_end left false None
-    scan_means [] after left met file = at_the_end left met file
-    scan_means [] naming left met file = refl
-    scan_means (word ∷ rest) before left met file =
-        (λ j. word_met (kind is_operand flag word) word left met file (λ p l m f. scan_means rest p l m f j))
-        ∙ by_kind word rest (kind is_operand flag word) (kinds word) left met file
-    scan_means (word ∷ rest) after left met file =
-        (λ j. operand_met word after left met file (λ p l m f. scan_means rest p l m f j))
-        ∙ after_dashes word rest left met file
-    scan_means (word ∷ rest) naming left met file =
-        λ j. cond (is_operand word) (scan_means rest before left met (Some word) j) None
+    pub scan_means : (words : List Text) (place : Place) (done : Pairs) (left : List Text) (met : Bool) (file : Option Text)
+        → scan is_operand flag words place done left met file ≡ meaning words place done left met file
+    scan_means [] before done left true (Some f) = at_the_end done left true (Some f)
+    scan_means [] before done left false (Some f) = at_the_end done left false (Some f)
+    scan_means [] before done left true None = at_the_end done left true None
+    scan_means [] before done left false None = at_the_end done left false None
+    scan_means [] after done left met file = at_the_end done left met file
+    scan_means [] naming done left met file = refl
+    scan_means (word ∷ rest) before done left met file =
+        (λ j. word_met (kind is_operand flag word) word done left met file (λ p d l m f. scan_means rest p d l m f j))
+        ∙ by_kind word rest (kind is_operand flag word) (kinds word) done left met file
+    scan_means (word ∷ rest) after done left met file =
+        (λ j. operand_met word after done left met file (λ p d l m f. scan_means rest p d l m f j))
+        ∙ after_dashes word rest done left met file
+    scan_means (word ∷ rest) naming done left met file =
+        λ j. cond (is_operand word) (scan_means rest before done left met (Some word) j) None
 
 -- ---- another test of operands
 
@@ -162,18 +161,18 @@ Each P (word ∷ rest) = P word × Each P rest
 module _ (p q : Text → Bool) where
   -- tests that agree on the words find the same
   scan_same : (flag : Text) (words : List Text) → Each (λ word. p word ≡ q word) words
-      → (place : Place) (left : List Text) (met : Bool) (file : Option Text)
-      → scan p flag words place left met file ≡ scan q flag words place left met file
-  scan_same flag [] each before left met file = refl
-  scan_same flag [] each after left met file = refl
-  scan_same flag [] each naming left met file = refl
-  scan_same flag (word ∷ rest) each before left met file = λ j.
-      word_met (cond (bytes_eq word (codes "--")) dashes (kind_by flag (long_of word) (each.0 j))) word left met file
-      (λ place l m f. scan_same flag rest each.1 place l m f j)
-  scan_same flag (word ∷ rest) each after left met file = λ j.
-      operand_met word after left met file (λ place l m f. scan_same flag rest each.1 place l m f j)
-  scan_same flag (word ∷ rest) each naming left met file = λ j.
-      cond (each.0 j) (scan_same flag rest each.1 before left met (Some word) j) None
+      → (place : Place) (done : Pairs) (left : List Text) (met : Bool) (file : Option Text)
+      → scan p flag words place done left met file ≡ scan q flag words place done left met file
+  scan_same flag [] each before done left met file = refl
+  scan_same flag [] each after done left met file = refl
+  scan_same flag [] each naming done left met file = refl
+  scan_same flag (word ∷ rest) each before done left met file = λ j.
+      word_met (cond (bytes_eq word (codes "--")) dashes (kind_by flag (long_of word) (each.0 j))) word done left met file
+      (λ place d l m f. scan_same flag rest each.1 place d l m f j)
+  scan_same flag (word ∷ rest) each after done left met file = λ j.
+      operand_met word after done left met file (λ place d l m f. scan_same flag rest each.1 place d l m f j)
+  scan_same flag (word ∷ rest) each naming done left met file = λ j.
+      cond (each.0 j) (scan_same flag rest each.1 before done left met (Some word) j) None
 
   module _ (passes : (word : Text) → p word ≡ true → q word ≡ true) where
     plain_passes : (words : List Text) → plain_by p words ≡ true → plain_by q words ≡ true
@@ -250,37 +249,41 @@ named_all (Some f) words = refl
 
 module _ (flag : Text) (long : long_of (45 ∷ 45 ∷ flag) ≡ Some (flag, None)) (apart : bytes_eq (codes "report") flag ≡ false)
     (rest left : List Text) (met : Bool) (file : Option Text) where
+  abbrev said : Seen
+  said = seen_of flag [] left met file rest
+
   scan_parts : (p : Text → Bool) → ((word : Text) → p word ≡ true → long_of word ≡ None)
-      → (seen : Seen) → scan p flag rest before left met file ≡ Some seen
+      → (seen : Seen) → scan p flag rest before [] left met file ≡ Some seen
       → (names_of p file rest ≡ true) × (plain_by p (words_of flag met file rest) ≡ true)
-      × (match_up (operands (words_of flag met file rest)) left ≡ true) × (seen_of flag met file rest ≡ seen)
+      × (match_up (operands (words_of flag met file rest)) left ≡ true) × (said ≡ seen)
   scan_parts p bare seen found = parts (names_of p file rest) (plain_by p (words_of flag met file rest))
-      (match_up (operands (words_of flag met file rest)) left) (seen_of flag met file rest) seen
-      (sym (scan_means p flag (means p flag long apart bare) rest before left met file) ∙ found)
+      (match_up (operands (words_of flag met file rest)) left) said seen
+      (sym (scan_means p flag (means p flag long apart bare) rest before [] left met file) ∙ found)
 
   -- what the pass finds is what the words say
-  pub found_is : (seen : Seen) → scan is_taken flag rest before left met file ≡ Some seen → seen_of flag met file rest ≡ seen
-  found_is seen found = (scan_parts is_taken taken_bare seen found).3
+  pub found_is : (seen : Seen) → scan is_taken flag rest before [] left met file ≡ Some seen
+      → (match_up (operands (words_of flag met file rest)) left ≡ true) × (said ≡ seen)
+  found_is seen found = let is = scan_parts is_taken taken_bare seen found in (is.2, is.3)
 
   -- and texts of which it finds something are well-formed
-  pub found_formed : (n : ℕ) → length left ≡ n → (seen : Seen) → scan is_taken flag rest before left met file ≡ Some seen
+  pub found_formed : (n : ℕ) → length left ≡ n → (seen : Seen) → scan is_taken flag rest before [] left met file ≡ Some seen
       → AreTexts rest → (is_named file rest && are_operands n (words_of flag met file rest)) ≡ true
   found_formed n count seen found texts =
       let words = words_of flag met file rest in
       let is = scan_parts is_plain_word (λ word e. taken_bare word (plain_taken word e)) seen
-      (sym (scan_same is_taken is_plain_word flag rest (texts_alike rest texts) before left met file) ∙ found) in
+      (sym (scan_same is_taken is_plain_word flag rest (texts_alike rest texts) before [] left met file) ∙ found) in
       λ j. (sym (named_all file rest) ∙ is.0) j && ((sym (plain_all words) ∙ is.1) j
       && eq-eqb (length (operands words)) n (same_length (operands words) left is.2 ∙ count) j)
 
   -- the pass finds something in well-formed words
   pub formed_found : (n : ℕ) → length left ≡ n → (is_named file rest && are_operands n (words_of flag met file rest)) ≡ true
-      → scan is_taken flag rest before left met file ≡ Some (seen_of flag met file rest)
+      → scan is_taken flag rest before [] left met file ≡ Some said
   formed_found n count e =
       let words = words_of flag met file rest in
       let p = both (is_named file rest) (are_operands n words) e in
       let q = both (are_plain words) (length (operands words) == n) p.1 in
       let matches = lengths_match (operands words) left (eqb-true (length (operands words)) n q.1 ∙ sym count) in
-      scan_means is_taken flag (means is_taken flag long apart taken_bare) rest before left met file
+      scan_means is_taken flag (means is_taken flag long apart taken_bare) rest before [] left met file
       ∙ (λ j. cond (named_passes is_plain_word is_taken plain_taken file rest (named_all file rest ∙ p.0) j)
       (cond (plain_passes is_plain_word is_taken plain_taken words (plain_all words ∙ q.0) j)
-      (cond (matches j) (Some (seen_of flag met file rest)) None) None) None)
+      (cond (matches j) (Some said) None) None) None)

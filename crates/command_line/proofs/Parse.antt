@@ -20,12 +20,12 @@ use Rattle.clap.specs.Walk.{with_values, without}
 use Rattle.clap.specs.declared.builder.value_parser.Reading.{Reading}
 use Rattle.clap.specs.declared.error.kind.ErrorKind.TheVariants.{ArgumentConflict, TooManyValues}
 use Rattle.clap.specs.declared.parser.matches.ValueSource.TheVariants.{CommandLine, DefaultValue}
-use Rattle.command_line.proofs.Command.{AsksHelp, Fits, Form, Gives, IsCommand, Keeps, Other, Paths, Pending, at}
-use Rattle.command_line.proofs.Command.{first_nil, fits_file, fits_flag, fits_path, flag_filled, gives_option, gives_path, help, idle_walk, lacks, leaf}
+use Rattle.command_line.proofs.Command.{AsksHelp, Fits, Form, Gives, Holds, IsCommand, Other, Paths, Pending, at}
+use Rattle.command_line.proofs.Command.{first_nil, fits_file, fits_flag, fits_path, flag_filled, help, holds_more, idle_walk, lacks, leaf}
 use Rattle.command_line.proofs.Command.{Turn, by_word, not_nil, place_of, report_filled, then_nil, walk_with}
 use Rattle.command_line.proofs.Rows.{appended, appended_anew, new_row, flag_of, has_row-at, kept, newly, row, row_at, set_row, source_of, still, unset_row}
-use Rattle.command_line.proofs.Scan.{Kind, Later, Place, Seen, after, at_end, before, filed, flagged, has_no_short, is_taken, kind_by, long_kind, naming}
-use Rattle.command_line.proofs.Scan.{odd, operand, operand_met, scan, with_operand}
+use Rattle.command_line.proofs.Scan.{Kind, Later, Pairs, Place, Seen, after, at_end, before, filed, flagged, has_no_short, is_taken, kind_by, long_kind, naming}
+use Rattle.command_line.proofs.Scan.{odd, operand, operand_met, scan}
 use Rattle.command_line.proofs.Scan.{dashes}
 use Rattle.command_line.proofs.Scan as pass
 
@@ -86,37 +86,24 @@ module _ (c : Form) (is : IsCommand c) where
   abbrev pub fault : Walk → List Text → Kinds
   fault w rest = or_else (walk_fault s [] w rest) (ends (end_of w rest))
 
-  abbrev fits : List Row → List Text → Bool → Option Text → Type 0
+  abbrev fits : List Row → Pairs → List Text → Bool → Option Text → Type 0
   fits = Fits c
 
   -- the walk with these faults and this end answers as the pass does
-  abbrev pub AnswersAt : Kinds → Walk → List Row → List Text → Option Seen → Type 0
-  AnswersAt k e all left None = k ≡ [] → ⊥
-  AnswersAt k e all left (Some seen) = (k ≡ []) × Gives c all left seen (finished c.rules e.held)
+  abbrev pub AnswersAt : Kinds → Walk → Option Seen → Type 0
+  AnswersAt k e None = k ≡ [] → ⊥
+  AnswersAt k e (Some seen) = (k ≡ []) × Gives c seen (finished c.rules e.held)
 
-  abbrev pub Answers : Walk → List Text → List Row → List Text → Option Seen → Type 0
-  Answers w words all left seen = AnswersAt (fault w words) (end_of w words) all left seen
-
-  answers_operand : (w : Walk) (rest : List Text) (all : List Row) (id word : Text) (left : List Text) (o : Option Seen)
-      → row_at id all ≡ None → Answers w rest (all ++ row id word ∷ []) left o
-      → Answers w rest all (id ∷ left) (with_operand word o)
-  answers_operand w rest all id word left None none a = a
-  answers_operand w rest all id word left (Some seen) none a =
-      (a.0, gives_path c all id word left seen _ none a.1)
-
-  answers_option : (w : Walk) (rest : List Text) (all : List Row) (r : Row) (left : List Text) (o : Option Seen)
-      → Answers w rest (all ++ r ∷ []) left o → Answers w rest all left o
-  answers_option w rest all r left None a = a
-  answers_option w rest all r left (Some seen) a = (a.0, gives_option c all r left seen _ a.1)
+  abbrev pub Answers : Walk → List Text → Option Seen → Type 0
+  Answers w words seen = AnswersAt (fault w words) (end_of w words) seen
 
   -- a word without a fault, and one with a fault
-  passes : (w v : Walk) (word : Text) (rest : List Text) (all : List Row) (left : List Text) (o : Option Seen)
-      → turn_fault s [] w word ≡ [] → walked c.rules [] w word ≡ v → Answers v rest all left o
-      → Answers w (word ∷ rest) all left o
+  passes : (w v : Walk) (word : Text) (rest : List Text) (o : Option Seen)
+      → turn_fault s [] w word ≡ [] → walked c.rules [] w word ≡ v → Answers v rest o → Answers w (word ∷ rest) o
   unfolding walk_fault
-  passes w v word rest all left o none goes a =
+  passes w v word rest o none goes a =
       subst (λ (x : Kinds × Walk). AnswersAt (or_else (or_else x.0 (walk_fault s [] x.1 rest)) (ends (end_of x.1 rest)))
-      (end_of x.1 rest) all left o) (λ j. (sym none j, sym goes j)) a
+      (end_of x.1 rest) o) (λ j. (sym none j, sym goes j)) a
 
   stops : (w : Walk) (word : Text) (rest : List Text) → (turn_fault s [] w word ≡ [] → ⊥) → fault w (word ∷ rest) ≡ [] → ⊥
   unfolding walk_fault
@@ -129,7 +116,7 @@ module _ (c : Form) (is : IsCommand c) where
   Stands rows pending all = (settle_fault c.rules false (at rows pending) ≡ []) × (settled_rows c.rules pending rows ≡ all)
 
   abbrev Ended : Bool → List Row → List Row → Type 0
-  Ended met all final = Keeps all final
+  Ended met all final = ((done : Pairs) → Holds all done → Holds final done)
       × ((id : Text) → bytes_eq c.flag id ≡ false → row_at id final ≡ row_at id all)
       × (c.has_flag ≡ true → row_at c.flag final ≡ Some (source_of c.flag met))
 
@@ -145,12 +132,12 @@ module _ (c : Form) (is : IsCommand c) where
 
       go : (b : Bool) → c.has_flag ≡ b → (m : Bool) → (c.has_flag ≡ true → row_at c.flag all ≡ flag_of c.flag m)
           → Ended m all (cond b (with_default all (flag_filled c.flag)) all)
-      go false so m unset = (λ id r e. e, λ id other. refl, λ bad. absurd (true≢false (sym bad ∙ so)))
+      go false so m unset = (λ done holds. holds, λ id other. refl, λ bad. absurd (true≢false (sym bad ∙ so)))
       go true so true unset =
-          subst (Ended true all) (sym (ap default_by (has true (unset so)))) (λ id r e. e, λ id other. refl, λ _. unset so)
+          subst (Ended true all) (sym (ap default_by (has true (unset so)))) (λ done holds. holds, λ id other. refl, λ _. unset so)
       go true so false unset = subst (Ended false all) (sym (ap default_by (has false (unset so))
           ∙ appended c.flag (unset_row c.flag).reading DefaultValue (codes "false" ∷ []) all (unset so))) (
-            λ id r e. still id all (unset_row c.flag ∷ []) r e,
+            holds_more all (unset_row c.flag ∷ []),
             λ id other. kept id all (unset_row c.flag) other,
             λ _. newly all (unset_row c.flag) (unset so),
           )
@@ -164,24 +151,20 @@ module _ (c : Form) (is : IsCommand c) where
       ∙ ap (λ k. or_else k (check_fault s (fold with_default all c.rules) false)) (is.defaults all).1
       ∙ ap (check_kinds false false) (is.required (fold with_default all c.rules) ∙ owes)
 
-  words_end : (t : Bool) (left : List Text) (met : Bool) (file : Option Text) (p : ℕ) (all rows : List Row) (pending : Pending)
-      → Paths c.rules c.flag p left → Stands rows pending all → fits all left met file
-      → AnswersAt (ends (idle_walk (at rows pending) p t)) (idle_walk (at rows pending) p t) all left (at_end left met file)
-  words_end t [] met file p all rows pending paths stands known =
-      let end = ended all met known.flagged in (
-        end_faults all rows pending p t [] stands (known.owes _ end.0),
-        subst (λ (x : List Row). Gives c all [] ([], met, file) (fold with_default x c.rules))
-            (sym stands.1) (record {
-              keeps = end.0;
-              values = tt;
-              flagged = end.2;
-              filed = λ so. end.1 (codes "report") is.apart.0 ∙ known.filed so;
-            }),
+  words_end : (t : Bool) (done : Pairs) (left : List Text) (met : Bool) (file : Option Text) (p : ℕ) (all rows : List Row)
+      (pending : Pending) → Paths c.rules c.flag p left → Stands rows pending all → fits all done left met file
+      → AnswersAt (ends (idle_walk (at rows pending) p t)) (idle_walk (at rows pending) p t) (at_end done left met file)
+  words_end t done [] met file p all rows pending paths stands known =
+      let end = ended all met known.flagged in
+      let holds = end.0 done known.holds in (
+        end_faults all rows pending p t [] stands (known.owes _ holds),
+        subst (λ (x : List Row). Gives c (done, met, file) (fold with_default x c.rules)) (sym stands.1)
+            (record { holds = holds; flagged = end.2; filed = λ so. end.1 (codes "report") is.apart.0 ∙ known.filed so }),
       )
-  words_end t (id ∷ left) met file p all rows pending paths stands known = λ e.
+  words_end t done (id ∷ left) met file p all rows pending paths stands known = λ e.
       let end = ended all met known.flagged in
       let none : row_at id (fold with_default all c.rules) ≡ None = end.1 id paths.3 ∙ known.unused.0 in
-      not_nil _ _ (sym (end_faults all rows pending p t (id ∷ left) stands (known.owes _ end.0)
+      not_nil _ _ (sym (end_faults all rows pending p t (id ∷ left) stands (known.owes _ (end.0 done known.holds))
       ∙ ap (λ (o : Option Row). check_kinds false false (not (option_map_or (λ r. explicit_source r.source) o false)
       || lacks (fold with_default all c.rules) left)) none) ∙ e)
 
@@ -214,28 +197,25 @@ module _ (c : Form) (is : IsCommand c) where
 
   -- the words answer, wherever the walk over them begins
   abbrev Go : Bool → List Text → Type 0
-  Go t rest = (left : List Text) (met : Bool) (file : Option Text) (p : ℕ) (all rows : List Row) (pending : Pending)
-      → Paths c.rules c.flag p left → Stands rows pending all → fits all left met file
-      → Answers (idle_walk (at rows pending) p t) rest all left (scan is_taken c.flag rest (place_by t) left met file)
+  Go t rest = (done : Pairs) (left : List Text) (met : Bool) (file : Option Text) (p : ℕ) (all rows : List Row) (pending : Pending)
+      → Paths c.rules c.flag p left → Stands rows pending all → fits all done left met file
+      → Answers (idle_walk (at rows pending) p t) rest (scan is_taken c.flag rest (place_by t) done left met file)
 
-  operand_answers : (t : Bool) (word : Text) (rest left : List Text) (met : Bool) (file : Option Text) (p : ℕ)
-      (all rows : List Row) (pending : Pending)
+  operand_answers : (t : Bool) (word : Text) (rest : List Text) (done : Pairs) (left : List Text) (met : Bool) (file : Option Text)
+      (p : ℕ) (all rows : List Row) (pending : Pending)
       → turn_fault s [] (idle_walk (at rows pending) p t) word ≡ step_fault s p (at rows pending) value
       → walked c.rules [] (idle_walk (at rows pending) p t) word
       ≡ to_positional c.rules (arg_by_index c.rules p) word (idle_walk (at rows pending) p t) (at rows pending)
-      → Paths c.rules c.flag p left → Stands rows pending all → fits all left met file → Go t rest
-      → Answers (idle_walk (at rows pending) p t) (word ∷ rest) all left
-      (operand_met word (place_by t) left met file (scan is_taken c.flag rest))
-  operand_answers t word rest [] met file p all rows pending turn goes paths stands known later =
+      → Paths c.rules c.flag p left → Stands rows pending all → fits all done left met file → Go t rest
+      → Answers (idle_walk (at rows pending) p t) (word ∷ rest)
+      (operand_met word (place_by t) done left met file (scan is_taken c.flag rest))
+  operand_answers t word rest done [] met file p all rows pending turn goes paths stands known later =
       stops (idle_walk (at rows pending) p t) word rest (λ e. stray p (at rows pending) paths (sym turn ∙ e))
-  operand_answers t word rest (id ∷ left) met file p all rows pending turn goes paths stands known later =
+  operand_answers t word rest done (id ∷ left) met file p all rows pending turn goes paths stands known later =
       passes (idle_walk (at rows pending) p t) (idle_walk (at all (Some (id, word ∷ []))) (min (p + 1) usize_max) t)
-      word rest all (id ∷ left) _ (turn ∙ operand_fault id p rows all pending paths.0 ∙ stands.0)
-      (goes ∙ moves id word p t rows all pending paths.0 stands.1)
-      (answers_operand (idle_walk (at all (Some (id, word ∷ []))) (min (p + 1) usize_max) t) rest all id word left _ known.unused.0
-      (later left met file (min (p + 1) usize_max) (all ++ row id word ∷ []) all (Some (id, word ∷ [])) paths.5
-      (stands_operand id word p all paths.1 known.unused.0)
-      (fits_path c all id word left met file paths.2 known)))
+      word rest _ (turn ∙ operand_fault id p rows all pending paths.0 ∙ stands.0) (goes ∙ moves id word p t rows all pending paths.0 stands.1)
+      (later ((id, word) ∷ done) left met file (min (p + 1) usize_max) (all ++ row id word ∷ []) all (Some (id, word ∷ [])) paths.5
+      (stands_operand id word p all paths.1 known.unused.0) (fits_path c all done left met id word file paths.2 known))
 
   -- ---- what is pending has a fault, whatever follows
 
@@ -261,7 +241,7 @@ module _ (c : Form) (is : IsCommand c) where
   bad_before rows pending p left (word ∷ rest) paths bad =
       let w = idle_walk (at rows pending) p false in
       by_word s asks [] idle rows pending p word refl (λ d o b. fault w (word ∷ rest) ≡ [] → ⊥)
-      (λ o b turn. passes w (idle_walk (at rows pending) p true) word rest rows left None turn.0 turn.1
+      (λ o b turn. passes w (idle_walk (at rows pending) p true) word rest None turn.0 turn.1
       (bad_after idle rows pending p left rest paths bad))
       (λ q b turn. stops w word rest (λ e.
       bad (long_settles c.rules (arg_by_long c.rules q.0) q.1 (at rows pending) (first_nil _ _ (sym turn.0 ∙ e)))))
@@ -295,19 +275,19 @@ module _ (c : Form) (is : IsCommand c) where
   )
 
   named_so : (word : Text) (rest left : List Text) (p : ℕ) (all : List Row) (o : Option Seen) → c.has_file ≡ true
-      → Paths c.rules c.flag p left → Answers (idle_walk (at all (file_pending (word ∷ []))) p false) rest all left o
-      → Answers (waits all p) (word ∷ rest) all left (cond (is_taken word) o None)
+      → Paths c.rules c.flag p left → Answers (idle_walk (at all (file_pending (word ∷ []))) p false) rest o
+      → Answers (waits all p) (word ∷ rest) (cond (is_taken word) o None)
   named_so word rest left p all o so paths later =
       let h = at all (file_pending []) in
       by_word s asks [] (option (codes "report")) all (file_pending []) p word refl
-      (λ d q b. Answers (waits all p) (word ∷ rest) all left (cond (not d && (not (is_some q) && b)) o None))
-      (λ q b turn. passes (waits all p) (walk_with (option (codes "report")) h p true) word rest all left None turn.0 turn.1
+      (λ d q b. Answers (waits all p) (word ∷ rest) (cond (not d && (not (is_some q) && b)) o None))
+      (λ q b turn. passes (waits all p) (walk_with (option (codes "report")) h p true) word rest None turn.0 turn.1
       (bad_after (option (codes "report")) all (file_pending []) p left rest paths (unnamed_bad all so)))
       (λ q b turn. stops (waits all p) word rest (λ e. unnamed_bad all so
       (long_settles c.rules (arg_by_long c.rules q.0) q.1 h (first_nil _ _ (sym turn.0 ∙ e)))))
       (λ turn.
       let met = ap (λ (a : Option Rule). option_word a (codes "report") word h) (report_is so) in
-      passes (waits all p) (idle_walk (at all (file_pending (word ∷ []))) p false) word rest all left o
+      passes (waits all p) (idle_walk (at all (file_pending (word ∷ []))) p false) word rest o
       (turn.0 ∙ ap (λ (m : Held × Waiting). step_fault s p m.0 (next m.1)) met)
       (turn.1 ∙ ap (λ (m : Held × Waiting). after_step c.rules word (waits all p) m.0 (next m.1)) met) later)
       (λ fails. stops (waits all p) word rest fails)
@@ -323,29 +303,28 @@ module _ (c : Form) (is : IsCommand c) where
       (bad_before all (file_pending (word ∷ [])) p left rest paths
       (λ e. again (codes "report") (row (codes "report") file) all there (sym (file_fault (word ∷ []) all so) ∙ e))))
     where
-      nothing : (b : Bool) → Answers (waits all p) (word ∷ rest) all left (cond b None None)
-          → Answers (waits all p) (word ∷ rest) all left None
+      nothing : (b : Bool) → Answers (waits all p) (word ∷ rest) (cond b None None) → Answers (waits all p) (word ∷ rest) None
       nothing true a = a
       nothing false a = a
 
   -- ---- the words
 
   abbrev Wait : List Text → Type 0
-  Wait rest = (left : List Text) (met : Bool) (p : ℕ) (all : List Row) → c.has_file ≡ true
-      → Paths c.rules c.flag p left → fits all left met None
-      → Answers (waits all p) rest all left (scan is_taken c.flag rest naming left met None)
+  Wait rest = (done : Pairs) (left : List Text) (met : Bool) (p : ℕ) (all : List Row) → c.has_file ≡ true
+      → Paths c.rules c.flag p left → fits all done left met None
+      → Answers (waits all p) rest (scan is_taken c.flag rest naming done left met None)
 
   others : (left : List Text) (p : ℕ) → Paths c.rules c.flag p left → Other c.flag left × Other (codes "report") left
   others [] p paths = (tt, tt)
   others (id ∷ left) p paths = let more = others left (min (p + 1) usize_max) paths.5 in ((paths.3, more.0), (paths.4, more.1))
 
-  module _ (word : Text) (rest left : List Text) (p : ℕ) (all rows : List Row) (pending : Pending)
+  module _ (word : Text) (rest : List Text) (done : Pairs) (left : List Text) (p : ℕ) (all rows : List Row) (pending : Pending)
       (paths : Paths c.rules c.flag p left) (stands : Stands rows pending all) (goes_on : Go false rest) (waits_on : Wait rest) where
     abbrev w : Walk
     w = idle_walk (at rows pending) p false
 
     abbrev After : Kind → Bool → Option Text → Type 0
-    After k met file = Answers w (word ∷ rest) all left (pass.word_met k word left met file (scan is_taken c.flag rest))
+    After k met file = Answers w (word ∷ rest) (pass.word_met k word done left met file (scan is_taken c.flag rest))
 
     abbrev Turned : Option Text → Option Rule → Type 0
     Turned v a = let m = clap_long_met c.rules a v (at rows pending) in
@@ -360,15 +339,14 @@ module _ (c : Form) (is : IsCommand c) where
 
     once : (id : Text) (how : Reading) (values : List Text) (o : Option Seen) → Uses id how values → row_at id all ≡ None
         → let now = all ++ new_row id how CommandLine values ∷ [] in
-        Answers (idle_walk (at now None) p false) rest now left o → Answers w (word ∷ rest) all left o
+        Answers (idle_walk (at now None) p false) rest o → Answers w (word ∷ rest) o
     once id how values o turn none later =
         let r = new_row id how CommandLine values in
-        passes w (idle_walk (at (all ++ r ∷ []) None) p false) word rest all left o
+        passes w (idle_walk (at (all ++ r ∷ []) None) p false) word rest o
         (turn.0 ∙ (λ j. or_else (or_else (stands.0 j) (repeats (has_row id (stands.1 j)))) [])
         ∙ ap (λ k. or_else k []) (first_use id all none))
         (turn.1 ∙ (λ j. idle_walk (at (with_values id how CommandLine values (without id (stands.1 j))) None) p false)
-        ∙ ap (λ (x : List Row). idle_walk (at x None) p false) (appended_anew id how CommandLine values all none))
-        (answers_option (idle_walk (at (all ++ r ∷ []) None) p false) rest all r left o later)
+        ∙ ap (λ (x : List Row). idle_walk (at x None) p false) (appended_anew id how CommandLine values all none)) later
 
     once_more : (id : Text) (how : Reading) (values : List Text) (r : Row) → Uses id how values → row_at id all ≡ Some r
         → fault w (word ∷ rest) ≡ [] → ⊥
@@ -376,31 +354,31 @@ module _ (c : Form) (is : IsCommand c) where
         again id r (settled_rows c.rules pending rows) (ap (row_at id) stands.1 ∙ there)
         (then_nil (settle_fault c.rules false (at rows pending)) _ (first_nil _ _ (sym turn.0 ∙ e))))
 
-    flag_met : (met : Bool) (file : Option Text) → fits all left met file → Turned None (Some (flag_filled c.flag))
+    flag_met : (met : Bool) (file : Option Text) → fits all done left met file → Turned None (Some (flag_filled c.flag))
         → c.has_flag ≡ true → After flagged met file
     flag_met true file known turn so =
         once_more c.flag (set_row c.flag).reading (codes "true" ∷ []) (set_row c.flag) turn (known.flagged so)
     flag_met false file known turn so =
         let now = all ++ set_row c.flag ∷ [] in
         once c.flag (set_row c.flag).reading (codes "true" ∷ []) _ turn (known.flagged so)
-        (goes_on left true file p now now None paths (refl, refl)
-        (fits_flag c all left file so (is.apart.0, (others left p paths).0) known))
+        (goes_on done left true file p now now None paths (refl, refl)
+        (fits_flag c all done left false file so (is.apart.0, (others left p paths).0) known))
 
-    file_met : (v : Option Text) (met : Bool) (file : Option Text) → fits all left met file → Turned v (Some report_filled)
+    file_met : (v : Option Text) (met : Bool) (file : Option Text) → fits all done left met file → Turned v (Some report_filled)
         → c.has_file ≡ true → After (filed v) met file
     file_met None met (Some g) known turn so =
-        passes w (waits all p) word rest all left None (turn.0 ∙ ap (λ k. or_else k []) stands.0)
+        passes w (waits all p) word rest None (turn.0 ∙ ap (λ k. or_else k []) stands.0)
         (turn.1 ∙ λ j. waits (stands.1 j) p) (twice g rest left p all so (known.filed so) paths)
     file_met (Some f) met (Some g) known turn so = once_more (codes "report") (row (codes "report") g).reading (f ∷ [])
         (row (codes "report") g) turn (known.filed so)
     file_met None met None known turn so =
-        passes w (waits all p) word rest all left _ (turn.0 ∙ ap (λ k. or_else k []) stands.0)
-        (turn.1 ∙ λ j. waits (stands.1 j) p) (waits_on left met p all so paths known)
+        passes w (waits all p) word rest _ (turn.0 ∙ ap (λ k. or_else k []) stands.0)
+        (turn.1 ∙ λ j. waits (stands.1 j) p) (waits_on done left met p all so paths known)
     file_met (Some f) met None known turn so =
         let now = all ++ row (codes "report") f ∷ [] in
         once (codes "report") (row (codes "report") f).reading (f ∷ []) _ turn (known.filed so)
-        (goes_on left met (Some f) p now now None paths (refl, refl)
-        (fits_file c all left met f so (is.apart.1, (others left p paths).1) known))
+        (goes_on done left met (Some f) p now now None paths (refl, refl)
+        (fits_file c all done left met f so (is.apart.1, (others left p paths).1) known))
 
     no_option : (b : Bool) (v : Option Text) → Turned v (cond b (Some help) None) → fault w (word ∷ rest) ≡ [] → ⊥
     no_option b v turn = stops w word rest (λ e. help_long c.rules b v (at rows pending) (first_nil _ _ (sym turn.0 ∙ e)))
@@ -410,7 +388,7 @@ module _ (c : Form) (is : IsCommand c) where
         → Turned v (let other = cond (bytes_eq (codes "help") name || false) (Some help) None in
         let file = cond (r || false) (cond hr (Some report_filled) other) other in
         cond (f || false) (cond hf (Some (flag_filled c.flag)) file) file)
-        → (met : Bool) (file : Option Text) → fits all left met file → After (long_kind f r v) met file
+        → (met : Bool) (file : Option Text) → fits all done left met file → After (long_kind f r v) met file
     long_answers name None true f r re true hf hr hre turn met file known = flag_met met file known turn hf
     long_answers name (Some x) true f r re true hf hr hre turn met file known =
         stops w word rest (λ e. not_nil _ _ (sym turn.0 ∙ e))
@@ -424,40 +402,35 @@ module _ (c : Form) (is : IsCommand c) where
     long_answers name v false f true re hf hfe false hr turn met None known = absurd (true≢false (sym (known.unfiled hr)))
     long_answers name v false f false re hf hfe hr hre turn met file known = no_option _ v turn
 
-    word_answers : (met : Bool) (file : Option Text) → fits all left met file → Go true rest
+    word_answers : (met : Bool) (file : Option Text) → fits all done left met file → Go true rest
         → After (pass.kind is_taken c.flag word) met file
     word_answers met file known trails = by_word s asks [] idle rows pending p word refl
         (λ d q b. After (cond d dashes (kind_by c.flag q (not d && (not (is_some q) && b)))) met file)
-        (λ q b turn. passes w (idle_walk (at rows pending) p true) word rest all left _ turn.0 turn.1
-        (trails left met file p all rows pending paths stands known))
+        (λ q b turn. passes w (idle_walk (at rows pending) p true) word rest _ turn.0 turn.1
+        (trails done left met file p all rows pending paths stands known))
         (λ q b turn. long_answers q.0 q.1 (bytes_eq c.flag q.0) refl (bytes_eq (codes "report") q.0) refl c.has_flag refl
         c.has_file refl (subst (Turned q.1) (is.longs q.0) turn) met file known)
-        (λ turn. operand_answers false word rest left met file p all rows pending turn.0 turn.1 paths stands known goes_on)
+        (λ turn. operand_answers false word rest done left met file p all rows pending turn.0 turn.1 paths stands known goes_on)
         (λ fails. stops w word rest fails)
 
   mutual
     unfolding walked walk_fault
 
-    pub parsed : (t : Bool) (rest left : List Text) (met : Bool) (file : Option Text) (p : ℕ) (all rows : List Row)
-        (pending : Pending) → Paths c.rules c.flag p left → Stands rows pending all → fits all left met file
-        → Answers (idle_walk (at rows pending) p t) rest all left (scan is_taken c.flag rest (place_by t) left met file)
-    parsed true [] left met file p all rows pending paths stands known =
-        words_end true left met file p all rows pending paths stands known
-    parsed false [] left met file p all rows pending paths stands known =
-        words_end false left met file p all rows pending paths stands known
-    parsed true (word ∷ rest) left met file p all rows pending paths stands known =
-        operand_answers true word rest left met file p all rows pending refl refl paths stands known (parsed true rest)
-    parsed false (word ∷ rest) left met file p all rows pending paths stands known =
-        word_answers word rest left p all rows pending paths stands (parsed false rest) (named rest) met file known
+    pub parsed : (t : Bool) (rest : List Text) → Go t rest
+    parsed true [] done left met file p all rows pending paths stands known =
+        words_end true done left met file p all rows pending paths stands known
+    parsed false [] done left met file p all rows pending paths stands known =
+        words_end false done left met file p all rows pending paths stands known
+    parsed true (word ∷ rest) done left met file p all rows pending paths stands known =
+        operand_answers true word rest done left met file p all rows pending refl refl paths stands known (parsed true rest)
+    parsed false (word ∷ rest) done left met file p all rows pending paths stands known =
+        word_answers word rest done left p all rows pending paths stands (parsed false rest) (named rest) met file known
         (parsed true rest)
 
-    named : (rest left : List Text) (met : Bool) (p : ℕ) (all : List Row) → c.has_file ≡ true
-        → Paths c.rules c.flag p left → fits all left met None
-        → Answers (waits all p) rest all left (scan is_taken c.flag rest naming left met None)
-    named [] left met p all so paths known = λ e. unnamed_bad all so (first_nil _ _ e)
-    named (word ∷ rest) left met p all so paths known =
+    named : (rest : List Text) → Wait rest
+    named [] done left met p all so paths known = λ e. unnamed_bad all so (first_nil _ _ e)
+    named (word ∷ rest) done left met p all so paths known =
         named_so word rest left p all _ so paths
-        (answers_option (idle_walk (at all (file_pending (word ∷ []))) p false) rest all (row (codes "report") word) left _
-        (parsed false rest left met (Some word) p (all ++ row (codes "report") word ∷ []) all (file_pending (word ∷ [])) paths
+        (parsed false rest done left met (Some word) p (all ++ row (codes "report") word ∷ []) all (file_pending (word ∷ [])) paths
         (stands_file word all so (known.filed so))
-        (fits_file c all left met word so (is.apart.1, (others left p paths).1) known)))
+        (fits_file c all done left met word so (is.apart.1, (others left p paths).1) known))

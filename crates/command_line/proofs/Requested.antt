@@ -30,12 +30,12 @@ use Rattle.command_line.specs.steps.Given.{GivesTask, HasTask, Sets}
 use Rattle.command_line.specs.steps.Program.{program_app}
 use Rattle.command_line.specs.declared.task.Task.{Task}
 use Rattle.command_line.specs.declared.task.Task.TheVariants.{Check, Explain, Run}
-use Rattle.command_line.proofs.Command.{Form, Values}
+use Rattle.command_line.proofs.Command.{Form, Holds}
 use Rattle.command_line.proofs.Commands.{IsSubcommand, Took, check_form, check_sub, explain_form, explain_sub, form_of, found_passes, run_form, run_sub}
 use Rattle.command_line.proofs.Commands.{task_read}
-use Rattle.command_line.proofs.Meaning.{formed_found, found_formed, found_is, is_met, is_named, seen_of, words_of}
+use Rattle.command_line.proofs.Meaning.{formed_found, found_formed, found_is, is_met, is_named, match_up, pairs, seen_of, words_of}
 use Rattle.command_line.proofs.Rows.{row, row_at, row_of, source_of}
-use Rattle.command_line.proofs.Scan.{Seen}
+use Rattle.command_line.proofs.Scan.{Pairs, Seen}
 
 -- ---- the words of a subcommand
 
@@ -43,7 +43,7 @@ use Rattle.command_line.proofs.Scan.{Seen}
 words_fit : (c : Form) → IsSubcommand c → (n : ℕ) → length c.ids ≡ n → (program : Text) (rest : List Text)
     → (is_named c.file rest && are_operands n (words_of c.flag c.met c.file rest)) ≡ true
     → fault_of program_app (program ∷ c.name ∷ rest) ≡ []
-words_fit c is n count program rest e = found_passes c is program rest (seen_of c.flag c.met c.file rest)
+words_fit c is n count program rest e = found_passes c is program rest (seen_of c.flag [] c.ids c.met c.file rest)
     (formed_found c.flag is.long is.command.apart.1 rest c.ids c.met c.file n count e)
 
 named_passes : (program name word : Text) (rest : List Text) (b : Bool) → (bytes_eq word name && b) ≡ true
@@ -132,6 +132,20 @@ some_is : (o : Option Text) (v : Text) → o ≡ Some v → IsSome o
 some_is (Some s) v e = search rules
 some_is None v e = cc
 
+-- the operands are the values of the paths
+abbrev Values : List Row → List Text → List Text → Type 0
+Values rows (id ∷ ids) (word ∷ ops) = (row_at id rows ≡ Some (row id word)) × Values rows ids ops
+Values rows [] [] = Unit {0}
+Values rows _ _ = ⊥
+
+valued : (rows : List Row) (done : Pairs) (ids ops : List Text) → match_up ops ids ≡ true → Holds rows (pairs done ids ops)
+    → Values rows ids ops × Holds rows done
+valued rows done [] [] e holds = (tt, holds)
+valued rows done [] (word ∷ ops) e holds = absurd (true≢false (sym e))
+valued rows done (id ∷ ids) [] e holds = absurd (true≢false (sym e))
+valued rows done (id ∷ ids) (word ∷ ops) e holds =
+    let more = valued rows ((id, word) ∷ done) ids ops e holds in ((more.1.0, more.0), more.1.1)
+
 given : (f : Found) (ids ops : List Text) → Values (rows_of f) ids ops → Given f ids
 given f [] ops values = tt
 given f (id ∷ ids) [] values = absurd values
@@ -182,31 +196,38 @@ module _ (words : List Text) (name : Text) (f : Found) (got : HasRead words name
   taken_run : bytes_eq name (codes "check") ≡ false → bytes_eq name (codes "explain") ≡ false → Taken run_form
   taken_run other last = taken run_form (λ j. cond (other j) check_form (cond (last j) explain_form run_form))
 
-  have : (c : Form) → Taken c → Given f c.ids
-  have c t = given f c.ids t.1.0.0 t.1.2.values
-
-  -- the required arguments of a subcommand have values
-  pub has_task : HasTask name f
-  has_task = record {
-    check = λ same. let all = have check_form (taken_named check_form refl same) in (all.0, all.1.0);
-    explaining = λ same. (have explain_form (taken_named explain_form refl same)).0;
-    run = λ other last. let all = have run_form (taken_run other last) in (all.0, all.1.0, all.1.1.0, all.1.1.1.0);
-  }
-
   module _ (c : Form) (is : IsSubcommand c) (t : Taken c) where
-    seen : seen_of c.flag c.met c.file got.1 ≡ t.1.0
-    seen = found_is c.flag is.long is.command.apart.1 got.1 c.ids c.met c.file t.1.0 t.1.1
+    abbrev ops : List Text
+    ops = operands (words_of c.flag c.met c.file got.1)
+
+    found : (match_up ops c.ids ≡ true) × (seen_of c.flag [] c.ids c.met c.file got.1 ≡ t.1.0)
+    found = found_is c.flag is.long is.command.apart.1 got.1 c.ids c.met c.file t.1.0 t.1.1
+
+    values : Values (rows_of f) c.ids ops
+    values = (valued (rows_of f) [] c.ids ops found.0
+        (subst (λ (m : Seen). Holds (rows_of f) m.0) (sym found.1) t.1.2.holds)).0
+
+    have : Given f c.ids
+    have = given f c.ids ops values
 
     -- texts in which the pass finds something are well-formed
     formed : (n : ℕ) → length c.ids ≡ n → AreTexts got.1
         → (is_named c.file got.1 && are_operands n (words_of c.flag c.met c.file got.1)) ≡ true
     formed n count = found_formed c.flag is.long is.command.apart.1 got.1 c.ids c.met c.file n count t.1.0 t.1.1
 
-    paths_are : (vs : List Text) → Firsts f c.ids vs → operands (words_of c.flag c.met c.file got.1) ≡ vs
-    paths_are vs all = ap (λ (m : Seen). m.0) seen ∙ firsts f c.ids t.1.0.0 vs t.1.2.values all
+    paths_are : (vs : List Text) → Firsts f c.ids vs → ops ≡ vs
+    paths_are vs all = firsts f c.ids ops vs values all
 
     flag_is : (flag : Bool) → c.has_flag ≡ true → Sets f c.flag flag → flag ≡ is_met c.flag c.met c.file got.1
-    flag_is flag so sets = flag_read f c.flag t.1.0.1 flag (t.1.2.flagged so) sets ∙ ap (λ (m : Seen). m.1) (sym seen)
+    flag_is flag so sets = flag_read f c.flag t.1.0.1 flag (t.1.2.flagged so) sets ∙ ap (λ (m : Seen). m.1) (sym found.1)
+
+  -- the required arguments of a subcommand have values
+  pub has_task : HasTask name f
+  has_task = record {
+    check = λ same. let all = have check_form check_sub (taken_named check_form refl same) in (all.0, all.1.0);
+    explaining = λ same. (have explain_form explain_sub (taken_named explain_form refl same)).0;
+    run = λ other last. let all = have run_form run_sub (taken_run other last) in (all.0, all.1.0, all.1.1.0, all.1.1.1.0);
+  }
 
   -- the task is the one that the words request
   pub task_requested : (task : Task) → GivesTask name f task → RequestsTask words task
@@ -216,7 +237,7 @@ module _ (words : List Text) (name : Text) (f : Found) (got : HasRead words name
         refl,
         formed run_form run_sub t 4 refl,
         gives.3 ∙ first_value-rows f (codes "report") ∙ ap (option_and_then (λ (r : Row). slice_get r.values 0)) (t.1.2.filed refl)
-            ∙ file_of t.1.0.2 ∙ ap (λ (m : Seen). m.2) (sym (seen run_form run_sub t)),
+            ∙ file_of t.1.0.2 ∙ ap (λ (m : Seen). m.2) (sym (found run_form run_sub t).1),
         flag_is run_form run_sub t task.trace refl gives.2,
         paths_are run_form run_sub t (path_texts task.paths) (gives.4, (gives.5, (gives.6, (gives.7, tt)))),
       )

@@ -1,6 +1,6 @@
 -- What clap takes of the words of a subcommand, in one pass over them.
 use Rattle.std.proofs.Common.{◌&&◌, ◌∷◌, [], Bool, List, None, Option, Some, codes, cond, false, is_some, not, true}
-use Rattle.std.specs.Prelude.{option_map, slice_get}
+use Rattle.std.specs.Prelude.{slice_get}
 use Rattle.std.specs.Option.{option_map_or}
 use Rattle.std.specs.Str.{bytes_eq, chars}
 use Rattle.clap.specs.Lexer.{long_of, short_of}
@@ -40,45 +40,45 @@ abbrev pub kind_by : Text → Option (Text × Option Text) → Bool → Kind
 kind_by flag None plain = cond plain operand odd
 kind_by flag (Some q) plain = long_kind (bytes_eq flag q.0) (bytes_eq (codes "report") q.0) q.1
 
--- the operands, whether the flag was met, and the report's file
+-- the paths by their ids, the last first; whether the flag was met; and the report's file
+abbrev pub Pairs : Type 0
+Pairs = List (Text × Text)
+
 abbrev pub Seen : Type 0
-Seen = List Text × Bool × Option Text
+Seen = Pairs × Bool × Option Text
 
--- what the words after one give, by the place, the operands that are left, whether the flag was met, and
--- the report's file
+-- what the words after one give, by the place, the paths so far, the ids of those that are left, whether
+-- the flag was met, and the report's file
 abbrev pub Later : Type 0
-Later = Place → List Text → Bool → Option Text → Option Seen
+Later = Place → Pairs → List Text → Bool → Option Text → Option Seen
 
-abbrev pub with_operand : Text → Option Seen → Option Seen
-with_operand word seen = option_map (λ m. (word ∷ m.0, m.1, m.2)) seen
+abbrev pub operand_met : Text → Place → Pairs → List Text → Bool → Option Text → Later → Option Seen
+operand_met word place done [] met file later = None
+operand_met word place done (id ∷ left) met file later = later place ((id, word) ∷ done) left met file
 
-abbrev pub operand_met : Text → Place → List Text → Bool → Option Text → Later → Option Seen
-operand_met word place [] met file later = None
-operand_met word place (id ∷ left) met file later = with_operand word (later place left met file)
+abbrev pub word_met : Kind → Text → Pairs → List Text → Bool → Option Text → Later → Option Seen
+word_met dashes word done left met file later = later after done left met file
+word_met flagged word done left true file later = None
+word_met flagged word done left false file later = later before done left true file
+word_met (filed value) word done left met (Some f) later = None
+word_met (filed None) word done left met None later = later naming done left met None
+word_met (filed (Some f)) word done left met None later = later before done left met (Some f)
+word_met operand word done left met file later = operand_met word before done left met file later
+word_met odd word done left met file later = None
 
-abbrev pub word_met : Kind → Text → List Text → Bool → Option Text → Later → Option Seen
-word_met dashes word left met file later = later after left met file
-word_met flagged word left true file later = None
-word_met flagged word left false file later = later before left true file
-word_met (filed value) word left met (Some f) later = None
-word_met (filed None) word left met None later = later naming left met None
-word_met (filed (Some f)) word left met None later = later before left met (Some f)
-word_met operand word left met file later = operand_met word before left met file later
-word_met odd word left met file later = None
-
-abbrev pub at_end : List Text → Bool → Option Text → Option Seen
-at_end [] met file = Some ([], met, file)
-at_end (id ∷ left) met file = None
+abbrev pub at_end : Pairs → List Text → Bool → Option Text → Option Seen
+at_end done [] met file = Some (done, met, file)
+at_end done (id ∷ left) met file = None
 
 -- the words, of which those that pass the test are operands
 module _ (is_operand : Text → Bool) (flag : Text) where
   abbrev pub kind : Text → Kind
   kind word = cond (bytes_eq word (codes "--")) dashes (kind_by flag (long_of word) (is_operand word))
 
-  abbrev pub scan : List Text → Place → List Text → Bool → Option Text → Option Seen
-  scan [] before left met file = at_end left met file
-  scan [] after left met file = at_end left met file
-  scan [] naming left met file = None
-  scan (word ∷ rest) before left met file = word_met (kind word) word left met file (scan rest)
-  scan (word ∷ rest) after left met file = operand_met word after left met file (scan rest)
-  scan (word ∷ rest) naming left met file = cond (is_operand word) (scan rest before left met (Some word)) None
+  abbrev pub scan : List Text → Place → Pairs → List Text → Bool → Option Text → Option Seen
+  scan [] before done left met file = at_end done left met file
+  scan [] after done left met file = at_end done left met file
+  scan [] naming done left met file = None
+  scan (word ∷ rest) before done left met file = word_met (kind word) word done left met file (scan rest)
+  scan (word ∷ rest) after done left met file = operand_met word after done left met file (scan rest)
+  scan (word ∷ rest) naming done left met file = cond (is_operand word) (scan rest before done left met (Some word)) None
