@@ -1,29 +1,112 @@
 -- A command of some paths, with a flag or not, and with `--report FILE` or not, as clap reads it: one word,
 -- the defaults, and the rows of what was used.
-use Rattle.std.proofs.Common.{◌&&◌, ◌+◌, ◌++◌, ◌==◌, ◌||◌, ◌≡◌, ◌∙◌, ◌∷◌, ℕ, Bool, List, None, Option, Some, [], ap, arith, codes, cond}
-use Rattle.std.proofs.Common.{false, is_some, length, not, refl, suc, sym, true, true≢false}
-use Rattle.std.specs.Prelude.{fold, min, slice_get}
+use Rattle.std.proofs.Common.{◌&&◌, ◌+◌, ◌++◌, ◌==◌, ◌||◌, ◌≡◌, ◌∙◌, ◌∷◌, ℕ, Bool, List, None, Option, Some, [], ap, arith, codes, cond, false, is_some}
+use Rattle.std.proofs.Common.{length, not, refl, suc, sym, true, true≢false, append-nil}
+use Rattle.std.specs.Prelude.{fold, min, slice_get, find, option_map}
 use Rattle.std.specs.List.{list_any}
-use Rattle.std.specs.Option.{option_map_or}
+use Rattle.std.specs.Option.{option_map_or, option_or}
 use Rattle.std.specs.Str.{bytes_eq, chars}
 use Rattle.std.proofs.lemmas.Slice.Eq.{bytes_eq-Decides}
 use Rattle.clap.specs.Facts.{explicit_source}
-use Rattle.clap.specs.Faults.{bundle_fault, bundle_step_fault, defaults_fault, flag_word_fault, flags_fault, long_fault, other_fault}
-use Rattle.clap.specs.Faults.{short_fault, step_fault, turn_fault}
+use Rattle.clap.specs.Faults.{bundle_fault, bundle_step_fault, defaults_fault, flag_word_fault, flags_fault, long_fault, other_fault, short_fault, step_fault}
+use Rattle.clap.specs.Faults.{turn_fault}
 use Rattle.clap.specs.Kinds.{Kinds, or_else}
 use Rattle.clap.specs.Lexer.{long_of, short_of, usize_max}
 use Rattle.clap.specs.Simple.{Shape, filled, help_rule, new_shape, with_index}
 use Rattle.clap.specs.Takes.{is_given}
-use Rattle.clap.specs.Walk.{Held, Names, Outcome, Row, Rule, Step, Text, Waiting, Walk, after_flag, after_step, arg_by_id, arg_by_index, arg_by_long, arg_by_short}
-use Rattle.clap.specs.Walk.{idle, long_or_other, long_word, plain, plain_word, reading_by, short_or_plain}
-use Rattle.clap.specs.Walk.{subcommand_met, subcommand_or_other, trailing, walked, with_default}
-use Rattle.clap.proofs.WalkLemmas.{both, bundle_ends}
+use Rattle.clap.specs.Walk.{Held, Names, Outcome, Row, Rule, Step, Text, Waiting, Walk, after_flag, after_step, arg_by_id, arg_by_index, arg_by_long}
+use Rattle.clap.specs.Walk.{arg_by_short, idle, long_or_other, long_word, plain, plain_word, reading_by, short_or_plain, subcommand_met, subcommand_or_other}
+use Rattle.clap.specs.Walk.{trailing, walked, with_default, at_row, has_row, more_values, with_values, without}
+use Rattle.clap.proofs.WalkLemmas.{bundle_ends}
 use Rattle.clap.proofs.FaultLemmas.{fault_ends}
 use Rattle.clap.specs.declared.error.kind.ErrorKind.{ErrorKind}
 use Rattle.command_line.specs.steps.Program.{flag_rule, path_rule, report_rule}
-use Rattle.command_line.proofs.Meaning.{Each}
-use Rattle.command_line.proofs.Rows.{flag_of, kept, newly, row, row_at, row_of, set_row, source_of, still}
-use Rattle.command_line.proofs.Scan.{Pairs, Seen, has_no_short}
+use Rattle.command_line.proofs.Words.{Pairs, Seen, has_no_short, Each}
+use Rattle.std.proofs.lemmas.List.Folds.{find-append}
+use Rattle.clap.specs.declared.builder.value_parser.Reading.{Reading}
+use Rattle.clap.specs.declared.parser.matches.ValueSource.{ValueSource}
+use Rattle.clap.specs.declared.parser.matches.ValueSource.TheVariants.{CommandLine, DefaultValue}
+
+-- ---- rows: one for each argument that was used, in the order of the words
+
+-- the first row of an argument
+abbrev pub row_at : Text → List Row → Option Row
+row_at id rows = find (λ r. bytes_eq r.id id) rows
+
+-- the first row stays the first
+pub still : (id : Text) (all more : List Row) (r : Row) → row_at id all ≡ Some r → row_at id (all ++ more) ≡ Some r
+still id all more r e = find-append (λ r. bytes_eq r.id id) all more ∙ ap (λ (o : Option Row). option_or o (row_at id more)) e
+
+-- one more row is the first where there was none
+pub newly : (all : List Row) (r : Row) → row_at r.id all ≡ None → row_at r.id (all ++ r ∷ []) ≡ Some r
+newly all r none = find-append (λ x. bytes_eq x.id r.id) all (r ∷ [])
+    ∙ (λ j. option_or (none j) (cond ((bytes_eq-Decides r.id r.id).1 refl j) (Some r) None))
+
+pub kept : (id : Text) (all : List Row) (r : Row) → bytes_eq r.id id ≡ false → row_at id (all ++ r ∷ []) ≡ row_at id all
+kept id [] r other = ap (λ (b : Bool). cond b (Some r) None) other
+kept id (x ∷ xs) r other = ap (λ (o : Option Row). cond (bytes_eq x.id id) (Some x) o) (kept id xs r other)
+
+pub has_row-at : (id : Text) (all : List Row) → has_row id all ≡ is_some (row_at id all)
+has_row-at id [] = refl
+has_row-at id (x ∷ xs) = go (bytes_eq x.id id) (has_row-at id xs)
+  where
+    go : (b : Bool) → has_row id xs ≡ is_some (row_at id xs)
+        → (b || has_row id xs) ≡ is_some (cond b (Some x) (row_at id xs))
+    go true later = refl
+    go false later = later
+
+at_end : (id : Text) (change : Row → List Row) (missing all : List Row) → row_at id all ≡ None
+    → at_row id change missing all ≡ all ++ missing
+at_end id change missing [] none = refl
+at_end id change missing (x ∷ xs) none = go (bytes_eq x.id id) none (at_end id change missing xs)
+  where
+    go : (b : Bool) → cond b (Some x) (row_at id xs) ≡ None
+        → (row_at id xs ≡ None → at_row id change missing xs ≡ xs ++ missing)
+        → cond b (change x ++ xs) (x ∷ at_row id change missing xs) ≡ x ∷ (xs ++ missing)
+    go true bad later = cc
+    go false none later = ap (λ (l : List Row). x ∷ l) (later none)
+
+abbrev pub new_row : Text → Reading → ValueSource → List Text → Row
+new_row id how s values = record {
+  id = id;
+  values = values;
+  count = None;
+  source = Some s;
+  reading = how;
+}
+
+pub appended : (id : Text) (how : Reading) (s : ValueSource) (values : List Text) (all : List Row)
+    → row_at id all ≡ None → with_values id how s values all ≡ all ++ new_row id how s values ∷ []
+appended id how s values all none = at_end id (more_values s values) (new_row id how s values ∷ []) all none
+
+pub appended_anew : (id : Text) (how : Reading) (s : ValueSource) (values : List Text) (all : List Row)
+    → row_at id all ≡ None → with_values id how s values (without id all) ≡ all ++ new_row id how s values ∷ []
+appended_anew id how s values all none =
+    ap (with_values id how s values) (at_end id (λ _. []) [] all none ∙ append-nil all)
+    ∙ appended id how s values all none
+
+-- a value is the word itself, of a path and of the report's file
+abbrev pub row : Text → Text → Row
+row id v = new_row id (reading_by (filled (path_rule id))) CommandLine (v ∷ [])
+
+abbrev pub flag_row : Text → ValueSource → Text → Row
+flag_row id s v = new_row id (reading_by (filled (flag_rule id))) s (v ∷ [])
+
+abbrev pub set_row : Text → Row
+set_row id = flag_row id CommandLine (codes "true")
+
+abbrev pub unset_row : Text → Row
+unset_row id = flag_row id DefaultValue (codes "false")
+
+-- the row of the report, and of a flag before and after its default is in
+abbrev pub row_of : Text → Option Text → Option Row
+row_of id o = option_map (row id) o
+
+abbrev pub flag_of : Text → Bool → Option Row
+flag_of id met = cond met (Some (set_row id)) None
+
+abbrev pub source_of : Text → Bool → Row
+source_of id met = cond met (set_row id) (unset_row id)
 
 -- ---- lists of kinds
 
@@ -105,7 +188,7 @@ module _ (s : Shape) (asks : AsksHelp s) (names : Names) (waiting : Waiting) (ro
     unfolding walked
     turns k m met = (
       (λ j. let x = subcommand_or_other s.rules (none j) waiting p word h in
-      or_else (other_fault s (none j) word h) (step_fault s p x.0 x.1))
+          or_else (other_fault s (none j) word h) (step_fault s p x.0 x.1))
           ∙ (λ j. or_else (met.0 j) (step_fault s p (met.1 j).0 (met.1 j).1)),
       (λ j. let x = subcommand_or_other s.rules (none j) waiting p word h in after_step s.rules word w x.0 x.1)
           ∙ (λ j. after_step s.rules word w (met.1 j).0 (met.1 j).1),

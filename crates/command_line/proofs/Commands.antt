@@ -1,27 +1,27 @@
 -- The program's three subcommands, and which of them the words name.
-use Rattle.std.proofs.Common.{◌==◌, ◌||◌, ◌≡◌, ◌∙◌, ◌∷◌, ℕ, Bool, List, None, Option, Some, [], ap, codes, cond, false}
-use Rattle.std.proofs.Common.{is_some, refl, rules, subst, sym, true, true≢false}
+use Rattle.std.proofs.Common.{◌==◌, ◌||◌, ◌≡◌, ◌∙◌, ◌∷◌, ℕ, Bool, List, None, Option, Some, [], ap, codes, cond, false, is_some, refl, rules, subst, sym}
+use Rattle.std.proofs.Common.{true}
 use Rattle.std.specs.Prelude.{fold, option_map}
 use Rattle.std.specs.List.{slice_index_or}
 use Rattle.std.specs.Str.{bytes_eq}
 use Rattle.std.proofs.Math.Bool.{or-true}
 use Rattle.std.proofs.lemmas.Slice.Eq.{bytes_eq-Decides}
-use Rattle.clap.specs.Faults.{check_fault, stray_fault, defaults_fault, entered_fault, fault_of, flag_word_fault, level_fault, long_fault, other_fault}
-use Rattle.clap.specs.Faults.{settle_fault, short_fault, step_fault, turn_fault, walk_fault}
+use Rattle.clap.specs.Faults.{check_fault, stray_fault, defaults_fault, entered_fault, fault_of, level_fault, long_fault, other_fault}
+use Rattle.clap.specs.Faults.{settle_fault, short_fault, turn_fault, walk_fault}
 use Rattle.clap.specs.Kinds.{Kinds, or_else}
-use Rattle.clap.specs.Lexer.{long_of, short_of}
+use Rattle.clap.specs.Lexer.{long_of}
 use Rattle.clap.specs.Simple.{App, Shape, built, entered, filled, names_of, new_shape, subcommand_of, version_rule, with_index}
-use Rattle.clap.specs.Walk.{Held, Names, Row, Rule, Step, Text, Walk, after_step, arg_by_long, finished, idle, long_or_other, long_word, nothing_held}
-use Rattle.clap.specs.Walk.{rows_after, settled, subcommand_met, subcommand_or_other, trailing, value, walked, with_default}
+use Rattle.clap.specs.Walk.{Held, Names, Row, Rule, Text, Walk, arg_by_long, finished, idle, nothing_held}
+use Rattle.clap.specs.Walk.{rows_after, settled, subcommand_met, walked, with_default}
 use Rattle.clap.specs.declared.error.kind.ErrorKind.TheVariants.{InvalidSubcommand, UnknownArgument}
 use Rattle.clap.proofs.FaultLemmas.{stopped_fault}
 use Rattle.clap.proofs.OnLiterals.{clap_on_literals}
 use Rattle.clap.proofs.WalkLemmas.{walk_stopped}
-use Rattle.command_line.specs.steps.Program.{flag_rule, program_app}
-use Rattle.command_line.proofs.Command.{AsksHelp, Fits, Form, Gives, IsCommand, Paths, by_word, first_nil, flag_filled, help, idle_walk, leaf, not_nil, option_by}
-use Rattle.command_line.proofs.Command.{then_nil}
+use Rattle.command_line.specs.steps.Program.{program_app}
+use Rattle.command_line.proofs.Command.{AsksHelp, Fits, Form, Gives, IsCommand, Paths, by_word, first_nil, flag_filled, help, idle_walk, leaf, not_nil}
+use Rattle.command_line.proofs.Command.{option_by, then_nil}
 use Rattle.command_line.proofs.Parse.{AnswersAt, parsed}
-use Rattle.command_line.proofs.Scan.{Seen, before, has_no_short, is_taken, scan}
+use Rattle.command_line.proofs.Words.{Seen, before, is_taken, scan}
 
 abbrev pub whole : App
 whole = built program_app

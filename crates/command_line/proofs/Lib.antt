@@ -1,6 +1,4 @@
 pub mod Options
-pub mod Rows
-pub mod Scan
 pub mod Words
 pub mod Meaning
 pub mod Command

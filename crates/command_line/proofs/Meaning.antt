@@ -1,6 +1,6 @@
 -- The pass over the words finds what the definitions of the command line say.
-use Rattle.std.proofs.Common.{◌&&◌, ◌==◌, ◌≡◌, ◌∙◌, ◌∷◌, ℕ, Bool, List, None, Option, Some, [], ap, arith, codes, cond, eq-eqb, eqb-true}
-use Rattle.std.proofs.Common.{false, length, refl, suc, sym, true, true≢false}
+use Rattle.std.proofs.Common.{◌&&◌, ◌==◌, ◌≡◌, ◌∙◌, ◌∷◌, ℕ, Bool, List, None, Option, Some, [], ap, arith, codes, cond, eq-eqb, eqb-true, false, length, refl}
+use Rattle.std.proofs.Common.{suc, sym, true, true≢false}
 use Rattle.std.specs.Prelude.{slice_get}
 use Rattle.std.specs.Option.{option_map_or}
 use Rattle.std.specs.Str.{bytes_eq}
@@ -9,10 +9,8 @@ use Rattle.clap.specs.Walk.{Text}
 use Rattle.clap.proofs.WalkLemmas.{both}
 use Rattle.command_line.specs.CommandLine.{AreTexts, are_operands, are_plain, as_report, has_flag, is_plain_word, names_file, names_file_by, operands}
 use Rattle.command_line.specs.CommandLine.{report_of, without_flag, without_report}
-use Rattle.command_line.proofs.Scan.{Kind, Later, Place, Seen, after, at_end, before, dashes, filed, flagged, is_taken, kind, kind_by, naming, odd, operand}
-use Rattle.command_line.proofs.Scan.{Pairs, operand_met, scan}
-use Rattle.command_line.proofs.Scan.{word_met}
-use Rattle.command_line.proofs.Words.{Means, means, plain_taken, taken_bare, taken_plain}
+use Rattle.command_line.proofs.Words.{Kind, Place, Seen, after, at_end, before, dashes, filed, flagged, is_taken, kind, kind_by, naming, odd, operand}
+use Rattle.command_line.proofs.Words.{Pairs, operand_met, scan, word_met, Means, means, plain_taken, taken_bare, taken_plain, Each}
 
 -- as many operands as are left
 abbrev pub match_up : List Text → List Text → Bool
@@ -153,10 +151,6 @@ module _ (is_operand : Text → Bool) (flag : Text) where
         λ j. cond (is_operand word) (scan_means rest before done left met (Some word) j) None
 
 -- ---- another test of operands
-
-abbrev pub Each : (Text → Type 0) → List Text → Type 0
-Each P [] = Unit {0}
-Each P (word ∷ rest) = P word × Each P rest
 
 module _ (p q : Text → Bool) where
   -- tests that agree on the words find the same

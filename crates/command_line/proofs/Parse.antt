@@ -1,33 +1,30 @@
 -- clap's parse of the words of a subcommand is the pass over them (`parsed`): where the pass finds nothing
 -- the parse has a fault, and else it has none and the rows are those of what the pass found.
-use Rattle.std.proofs.Common.{◌&&◌, ◌+◌, ◌++◌, ◌==◌, ◌||◌, ◌≡◌, ◌∙◌, ◌∷◌, ℕ, Bool, List, None, Option, Some, [], ap, codes, cond, false, is_some}
-use Rattle.std.proofs.Common.{not, refl, subst, sym, true, true≢false}
+use Rattle.std.proofs.Common.{◌&&◌, ◌+◌, ◌++◌, ◌==◌, ◌||◌, ◌≡◌, ◌∙◌, ◌∷◌, ℕ, Bool, List, None, Option, Some, [], ap, codes, cond, false, is_some, not, refl}
+use Rattle.std.proofs.Common.{subst, sym, true, true≢false}
 use Rattle.std.specs.Prelude.{fold, min}
 use Rattle.std.specs.Option.{option_map_or}
 use Rattle.std.specs.Str.{bytes_eq}
 use Rattle.std.proofs.Math.Bool.{and-false, or-false}
 use Rattle.std.proofs.lemmas.Slice.Eq.{bytes_eq-Decides}
 use Rattle.clap.specs.Facts.{explicit_source}
-use Rattle.clap.specs.Faults.{check_fault, defaults_fault, flag_word_fault, long_fault, option_fault, other_fault, positional_fault, react_fault}
+use Rattle.clap.specs.Faults.{check_fault, defaults_fault, long_fault, option_fault, positional_fault, react_fault}
 use Rattle.clap.specs.Faults.{settle_fault, short_fault, step_fault, stray_fault, turn_fault, use_fault, walk_fault}
 use Rattle.clap.specs.Kinds.{Kinds, check_kinds, or_else}
-use Rattle.clap.specs.Lexer.{long_of, short_of, usize_max}
+use Rattle.clap.specs.Lexer.{usize_max}
 use Rattle.clap.specs.Simple.{Shape}
-use Rattle.clap.specs.Walk.{Held, Row, Rule, Step, Text, Waiting, Walk, after_flag, after_step, arg_by_id, arg_by_index, arg_by_long, finished, has_row}
-use Rattle.clap.specs.Walk.{idle, is_pending, long_met as clap_long_met, long_or_other, next, option, option_word, pushed, settled, settled_rows}
-use Rattle.clap.specs.Walk.{subcommand_met, subcommand_or_other, takes_values, to_positional, trailing, used, used_by_id, value, walked, with_default}
-use Rattle.clap.specs.Walk.{with_values, without}
+use Rattle.clap.specs.Walk.{Held, Row, Rule, Text, Waiting, Walk, after_flag, after_step, arg_by_id, arg_by_index, arg_by_long, finished, has_row, idle}
+use Rattle.clap.specs.Walk.{long_met as clap_long_met, next, option, option_word, settled, settled_rows}
+use Rattle.clap.specs.Walk.{takes_values, to_positional, used_by_id, value, walked, with_default, with_values, without}
 use Rattle.clap.specs.declared.builder.value_parser.Reading.{Reading}
 use Rattle.clap.specs.declared.error.kind.ErrorKind.TheVariants.{ArgumentConflict, TooManyValues}
 use Rattle.clap.specs.declared.parser.matches.ValueSource.TheVariants.{CommandLine, DefaultValue}
-use Rattle.command_line.proofs.Command.{AsksHelp, Fits, Form, Gives, Holds, IsCommand, Other, Paths, Pending, at}
-use Rattle.command_line.proofs.Command.{first_nil, fits_file, fits_flag, fits_path, flag_filled, help, holds_more, idle_walk, lacks, leaf}
-use Rattle.command_line.proofs.Command.{Turn, by_word, not_nil, place_of, report_filled, then_nil, walk_with}
-use Rattle.command_line.proofs.Rows.{appended, appended_anew, new_row, flag_of, has_row-at, kept, newly, row, row_at, set_row, source_of, still, unset_row}
-use Rattle.command_line.proofs.Scan.{Kind, Later, Pairs, Place, Seen, after, at_end, before, filed, flagged, has_no_short, is_taken, kind_by, long_kind, naming}
-use Rattle.command_line.proofs.Scan.{odd, operand, operand_met, scan}
-use Rattle.command_line.proofs.Scan.{dashes}
-use Rattle.command_line.proofs.Scan as pass
+use Rattle.command_line.proofs.Command.{AsksHelp, Fits, Form, Gives, Holds, IsCommand, Other, Paths, Pending, at, first_nil, fits_file, fits_flag, fits_path}
+use Rattle.command_line.proofs.Command.{flag_filled, help, holds_more, idle_walk, lacks, leaf, Turn, by_word, not_nil, place_of, report_filled, then_nil}
+use Rattle.command_line.proofs.Command.{walk_with, appended, appended_anew, new_row, flag_of, has_row-at, kept, newly, row, row_at, set_row, source_of}
+use Rattle.command_line.proofs.Command.{unset_row}
+use Rattle.command_line.proofs.Words.{Kind, Pairs, Place, Seen, after, at_end, before, filed, flagged, is_taken, kind_by, long_kind}
+use Rattle.command_line.proofs.Words.{naming, operand_met, scan, dashes, kind, word_met}
 
 -- ---- faults
 
@@ -324,7 +321,7 @@ module _ (c : Form) (is : IsCommand c) where
     w = idle_walk (at rows pending) p false
 
     abbrev After : Kind → Bool → Option Text → Type 0
-    After k met file = Answers w (word ∷ rest) (pass.word_met k word done left met file (scan is_taken c.flag rest))
+    After k met file = Answers w (word ∷ rest) (word_met k word done left met file (scan is_taken c.flag rest))
 
     abbrev Turned : Option Text → Option Rule → Type 0
     Turned v a = let m = clap_long_met c.rules a v (at rows pending) in
@@ -403,7 +400,7 @@ module _ (c : Form) (is : IsCommand c) where
     long_answers name v false f false re hf hfe hr hre turn met file known = no_option _ v turn
 
     word_answers : (met : Bool) (file : Option Text) → fits all done left met file → Go true rest
-        → After (pass.kind is_taken c.flag word) met file
+        → After (kind is_taken c.flag word) met file
     word_answers met file known trails = by_word s asks [] idle rows pending p word refl
         (λ d q b. After (cond d dashes (kind_by c.flag q (not d && (not (is_some q) && b)))) met file)
         (λ q b turn. passes w (idle_walk (at rows pending) p true) word rest _ turn.0 turn.1

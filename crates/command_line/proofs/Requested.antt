@@ -1,10 +1,10 @@
 -- The theorem of the command line: words that clap parses request the task that is made of its matches
 -- (`task_requested`), and words that are a task are never refused but for memory (`words_pass`).
--- Read it first, then `Scan` (one pass over the words of a subcommand), `Meaning` (it finds what the
--- definitions say), `Parse` (and so does clap, for a command as `Command` describes it), `Commands` (the three
--- subcommands are such commands); `Words` and `Rows` stand below them.
-use Rattle.std.proofs.Common.{◌&&◌, ◌||◌, ◌≡◌, ◌∙◌, ◌∷◌, Bool, List, None, Option, Some, [], ap, codes, cond, false, inl, inr}
-use Rattle.std.proofs.Common.{length, ℕ, refl, rules, subst, sym, true, true≢false}
+-- Read it first, then `Words` (what a word is, and one pass over the words of a subcommand), `Meaning` (it finds
+-- what the definitions say), `Parse` (and so does clap, for a command as `Command` describes it), `Commands` (the
+-- three subcommands are such commands).
+use Rattle.std.proofs.Common.{◌&&◌, ◌||◌, ◌≡◌, ◌∙◌, ◌∷◌, Bool, List, None, Option, Some, [], ap, codes, cond, false, inl, inr, length, ℕ, refl, rules, subst}
+use Rattle.std.proofs.Common.{sym, true, true≢false}
 use Rattle.std.specs.Prelude.{option_and_then, option_map, slice_get}
 use Rattle.std.specs.Borrow.{Bor}
 use Rattle.std.specs.Option.{IsSome}
@@ -24,18 +24,16 @@ use Rattle.clap.specs.declared.parser.matches.ArgMatches.TheViews.{out-ArgMatche
 use Rattle.clap.specs.declared.parser.matches.Found.{Found}
 use Rattle.clap.proofs.OnLiterals.{clap_on_literals}
 use Rattle.clap.proofs.WalkLemmas.{both, first_value-rows, one_text-rows}
-use Rattle.command_line.specs.CommandLine.{AreTexts, RequestsTask, are_operands, is_check, is_explain, is_run, is_well_formed}
-use Rattle.command_line.specs.CommandLine.{operands, path_texts}
+use Rattle.command_line.specs.CommandLine.{AreTexts, RequestsTask, are_operands, is_check, is_explain, is_run, is_well_formed, operands, path_texts}
 use Rattle.command_line.specs.steps.Given.{GivesTask, HasTask, Sets}
 use Rattle.command_line.specs.steps.Program.{program_app}
 use Rattle.command_line.specs.declared.task.Task.{Task}
 use Rattle.command_line.specs.declared.task.Task.TheVariants.{Check, Explain, Run}
-use Rattle.command_line.proofs.Command.{Form, Holds}
+use Rattle.command_line.proofs.Command.{Form, Holds, row, row_at, row_of, source_of}
 use Rattle.command_line.proofs.Commands.{IsSubcommand, Took, check_form, check_sub, explain_form, explain_sub, form_of, found_passes, run_form, run_sub}
 use Rattle.command_line.proofs.Commands.{task_read}
 use Rattle.command_line.proofs.Meaning.{formed_found, found_formed, found_is, is_met, is_named, match_up, pairs, seen_of, words_of}
-use Rattle.command_line.proofs.Rows.{row, row_at, row_of, source_of}
-use Rattle.command_line.proofs.Scan.{Pairs, Seen}
+use Rattle.command_line.proofs.Words.{Pairs, Seen}
 
 -- ---- the words of a subcommand
 
@@ -71,10 +69,6 @@ pub is_simple_program : is_simple_and_free program_app ≡ true
 unfolding clap_on_literals
 is_simple_program = refl
 
-is_simple_app : is_simple program_app ≡ true
-unfolding clap_on_literals
-is_simple_app = refl
-
 option_maps : {A B C : Type 0} (f : B → C) (g : A → B) (o : Option A)
     → option_map (λ a. f (g a)) o ≡ option_map f (option_map g o)
 option_maps f g None = refl
@@ -103,7 +97,7 @@ has_read app words m name rows is fault matches found =
     let got = task_read words (subst (λ (a : App). fault_of a words ≡ []) is
     (fault (ap is_simple_and_free is ∙ is_simple_program))) in
     let sub : subcommand_rows_of m ≡ Some (got.1, got.3) =
-    (matches (ap is_simple is ∙ is_simple_app)).1 ∙ ap (λ (a : App). subcommand_of a words) is ∙ got.5 in
+    (matches (ap is_simple is ∙ (both (is_simple program_app) _ is_simple_program).0)).1 ∙ ap (λ (a : App). subcommand_of a words) is ∙ got.5 in
     let named : subcommand_name_of m ≡ option_map (λ (p : Text × List Row). p.0) (subcommand_rows_of m) =
     option_maps (λ (p : Text × List Row). p.0) _ (out-ArgMatches m).subcommand in
     let same : Some name ≡ Some got.1 = found.0 ∙ named ∙ ap (option_map (λ (p : Text × List Row). p.0)) sub in
@@ -133,34 +127,26 @@ some_is (Some s) v e = search rules
 some_is None v e = cc
 
 -- the operands are the values of the paths
-abbrev Values : List Row → List Text → List Text → Type 0
-Values rows (id ∷ ids) (word ∷ ops) = (row_at id rows ≡ Some (row id word)) × Values rows ids ops
-Values rows [] [] = Unit {0}
-Values rows _ _ = ⊥
+given : (f : Found) (done : Pairs) (ids ops : List Text) → match_up ops ids ≡ true → Holds (rows_of f) (pairs done ids ops)
+    → Given f ids × Holds (rows_of f) done
+given f done [] [] e holds = (tt, holds)
+given f done [] (word ∷ ops) e holds = absurd (true≢false (sym e))
+given f done (id ∷ ids) [] e holds = absurd (true≢false (sym e))
+given f done (id ∷ ids) (word ∷ ops) e holds =
+    let more = given f ((id, word) ∷ done) ids ops e holds in ((some_is _ word (first_is f id word more.1.0), more.0), more.1.1)
 
-valued : (rows : List Row) (done : Pairs) (ids ops : List Text) → match_up ops ids ≡ true → Holds rows (pairs done ids ops)
-    → Values rows ids ops × Holds rows done
-valued rows done [] [] e holds = (tt, holds)
-valued rows done [] (word ∷ ops) e holds = absurd (true≢false (sym e))
-valued rows done (id ∷ ids) [] e holds = absurd (true≢false (sym e))
-valued rows done (id ∷ ids) (word ∷ ops) e holds =
-    let more = valued rows ((id, word) ∷ done) ids ops e holds in ((more.1.0, more.0), more.1.1)
-
-given : (f : Found) (ids ops : List Text) → Values (rows_of f) ids ops → Given f ids
-given f [] ops values = tt
-given f (id ∷ ids) [] values = absurd values
-given f (id ∷ ids) (word ∷ ops) values = (some_is _ word (first_is f id word values.0), given f ids ops values.1)
-
-firsts : (f : Found) (ids ops vs : List Text) → Values (rows_of f) ids ops → Firsts f ids vs → ops ≡ vs
-firsts f [] [] [] values all = refl
-firsts f [] [] (v ∷ vs) values all = absurd all
-firsts f [] (word ∷ ops) vs values all = absurd values
-firsts f (id ∷ ids) [] vs values all = absurd values
-firsts f (id ∷ ids) (word ∷ ops) [] values all = absurd all
-firsts f (id ∷ ids) (word ∷ ops) (v ∷ vs) values all =
-    let same : Some word ≡ Some v = sym (first_is f id word values.0) ∙ all.0 in
+firsts : (f : Found) (done : Pairs) (ids ops vs : List Text) → match_up ops ids ≡ true → Holds (rows_of f) (pairs done ids ops)
+    → Firsts f ids vs → (ops ≡ vs) × Holds (rows_of f) done
+firsts f done [] [] [] e holds all = (refl, holds)
+firsts f done [] [] (v ∷ vs) e holds all = absurd all
+firsts f done [] (word ∷ ops) vs e holds all = absurd (true≢false (sym e))
+firsts f done (id ∷ ids) [] vs e holds all = absurd (true≢false (sym e))
+firsts f done (id ∷ ids) (word ∷ ops) [] e holds all = absurd all
+firsts f done (id ∷ ids) (word ∷ ops) (v ∷ vs) e holds all =
+    let more = firsts f ((id, word) ∷ done) ids ops vs e holds all.1 in
+    let same : Some word ≡ Some v = sym (first_is f id word more.1.0) ∙ all.0 in
     let word_is : word ≡ v = cc in
-    λ j. word_is j ∷ firsts f ids ops vs values.1 all.1 j
+    (λ j. word_is j ∷ more.0 j, more.1.1)
 
 text_of : (id : Text) (met : Bool) → row_text (source_of id met) ≡ Some (bool_text met)
 text_of id true = refl
@@ -203,12 +189,11 @@ module _ (words : List Text) (name : Text) (f : Found) (got : HasRead words name
     found : (match_up ops c.ids ≡ true) × (seen_of c.flag [] c.ids c.met c.file got.1 ≡ t.1.0)
     found = found_is c.flag is.long is.command.apart.1 got.1 c.ids c.met c.file t.1.0 t.1.1
 
-    values : Values (rows_of f) c.ids ops
-    values = (valued (rows_of f) [] c.ids ops found.0
-        (subst (λ (m : Seen). Holds (rows_of f) m.0) (sym found.1) t.1.2.holds)).0
+    holds : Holds (rows_of f) (pairs [] c.ids ops)
+    holds = subst (λ (m : Seen). Holds (rows_of f) m.0) (sym found.1) t.1.2.holds
 
     have : Given f c.ids
-    have = given f c.ids ops values
+    have = (given f [] c.ids ops found.0 holds).0
 
     -- texts in which the pass finds something are well-formed
     formed : (n : ℕ) → length c.ids ≡ n → AreTexts got.1
@@ -216,7 +201,7 @@ module _ (words : List Text) (name : Text) (f : Found) (got : HasRead words name
     formed n count = found_formed c.flag is.long is.command.apart.1 got.1 c.ids c.met c.file n count t.1.0 t.1.1
 
     paths_are : (vs : List Text) → Firsts f c.ids vs → ops ≡ vs
-    paths_are vs all = firsts f c.ids ops vs values all
+    paths_are vs all = (firsts f [] c.ids ops vs found.0 holds all).0
 
     flag_is : (flag : Bool) → c.has_flag ≡ true → Sets f c.flag flag → flag ≡ is_met c.flag c.met c.file got.1
     flag_is flag so sets = flag_read f c.flag t.1.0.1 flag (t.1.2.flagged so) sets ∙ ap (λ (m : Seen). m.1) (sym found.1)

@@ -1,4 +1,4 @@
-use Rattle.std.proofs.Common.{◌∙◌, ◌||◌, ap, sym}
+use Rattle.std.proofs.Common.{◌∙◌, ◌||◌, sym}
 use Rattle.std.proofs.lemmas.List.Sums.{fold_more}
 use Rattle.clap.specs.Words.{with_rule}
 use Rattle.command_line.specs.steps.Program.{with_argument}
