@@ -1,31 +1,31 @@
 -- A command of some paths, with a flag or not, and with `--report FILE` or not, as clap reads it: one word,
 -- the defaults, and the rows of what was used.
-use Rattle.std.proofs.Common.{◌&&◌, ◌+◌, ◌++◌, ◌==◌, ◌||◌, ◌≡◌, ◌∙◌, ◌∷◌, ℕ, Bool, List, None, Option, Some, [], ap, arith, codes, cond, false, is_some}
-use Rattle.std.proofs.Common.{length, not, refl, suc, sym, true, true≢false, append-nil}
-use Rattle.std.specs.Prelude.{fold, min, slice_get, find, option_map}
+use Rattle.std.proofs.Common.{◌&&◌, ◌++◌, ◌+◌, ◌==◌, ◌||◌, ◌∙◌, ◌∷◌, ◌≡◌, [], ℕ, Bool, List, None, Option, Some, ap, append-nil, arith, codes, cond}
+use Rattle.std.proofs.Common.{false, is_some, length, not, refl, suc, sym, true, true≢false}
+use Rattle.std.specs.Prelude.{find, fold, min, option_map, slice_get}
 use Rattle.std.specs.List.{list_any}
 use Rattle.std.specs.Option.{option_map_or, option_or}
 use Rattle.std.specs.Str.{bytes_eq, chars}
 use Rattle.std.proofs.lemmas.Slice.Eq.{bytes_eq-Decides}
+use Rattle.std.proofs.lemmas.List.Folds.{find-append}
 use Rattle.clap.specs.Facts.{explicit_source}
-use Rattle.clap.specs.Faults.{bundle_fault, bundle_step_fault, defaults_fault, flag_word_fault, flags_fault, long_fault, other_fault, short_fault, step_fault}
-use Rattle.clap.specs.Faults.{turn_fault}
+use Rattle.clap.specs.Faults.{bundle_fault, bundle_step_fault, defaults_fault, flag_word_fault, flags_fault, long_fault, other_fault, short_fault}
+use Rattle.clap.specs.Faults.{step_fault, turn_fault}
 use Rattle.clap.specs.Kinds.{Kinds, or_else}
 use Rattle.clap.specs.Lexer.{long_of, short_of, usize_max}
-use Rattle.clap.specs.Simple.{Shape, filled, help_rule, new_shape, with_index}
+use Rattle.clap.specs.Simple.{Shape, filled, help_rule, new_shape, version_rule, with_index}
 use Rattle.clap.specs.Takes.{is_given}
 use Rattle.clap.specs.Walk.{Held, Names, Outcome, Row, Rule, Step, Text, Waiting, Walk, after_flag, after_step, arg_by_id, arg_by_index, arg_by_long}
-use Rattle.clap.specs.Walk.{arg_by_short, idle, long_or_other, long_word, plain, plain_word, reading_by, short_or_plain, subcommand_met, subcommand_or_other}
-use Rattle.clap.specs.Walk.{trailing, walked, with_default, at_row, has_row, more_values, with_values, without}
-use Rattle.clap.proofs.WalkLemmas.{bundle_ends}
-use Rattle.clap.proofs.FaultLemmas.{fault_ends}
+use Rattle.clap.specs.Walk.{arg_by_short, at_row, has_row, idle, long_or_other, long_word, more_values, plain, plain_word, reading_by, short_or_plain}
+use Rattle.clap.specs.Walk.{subcommand_met, subcommand_or_other, trailing, walked, with_default, with_values, without}
 use Rattle.clap.specs.declared.error.kind.ErrorKind.{ErrorKind}
-use Rattle.command_line.specs.steps.Program.{flag_rule, path_rule, report_rule}
-use Rattle.command_line.proofs.Words.{Pairs, Seen, has_no_short, Each}
-use Rattle.std.proofs.lemmas.List.Folds.{find-append}
 use Rattle.clap.specs.declared.builder.value_parser.Reading.{Reading}
 use Rattle.clap.specs.declared.parser.matches.ValueSource.{ValueSource}
 use Rattle.clap.specs.declared.parser.matches.ValueSource.TheVariants.{CommandLine, DefaultValue}
+use Rattle.clap.proofs.WalkLemmas.{bundle_ends}
+use Rattle.clap.proofs.FaultLemmas.{fault_ends}
+use Rattle.command_line.specs.steps.Program.{flag_rule, path_rule, report_rule}
+use Rattle.command_line.proofs.Words.{Each, Pairs, Seen, has_no_short}
 
 -- ---- rows: one for each argument that was used, in the order of the words
 
@@ -229,6 +229,24 @@ leaf name rules = record (new_shape name) { rules = rules; disable_help_subcomma
 abbrev pub help : Rule
 help = with_index 1 (filled help_rule)
 
+abbrev pub version : Rule
+version = with_index 1 (filled version_rule)
+
+-- options that show a text, and others that are unknown
+pub shown_long : (c : List Rule) (b d : Bool) (v : Option Text) (h : Held)
+    → long_fault c false (cond b (Some help) (cond d (Some version) None)) v h ≡ [] → ⊥
+shown_long c true d (Some x) h e = not_nil _ _ e
+shown_long c true d None h e = not_nil _ _ (then_nil _ _ e)
+shown_long c false true (Some x) h e = not_nil _ _ e
+shown_long c false true None h e = not_nil _ _ (then_nil _ _ e)
+shown_long c false false v h e = not_nil _ _ e
+
+pub shown_short : (c : List Rule) (b d : Bool) (rest : Text) (h : Held) (more : Held → Kinds)
+    → short_fault c false (cond b (Some help) (cond d (Some version) None)) rest h more ≡ [] → ⊥
+shown_short c true d rest h more e = not_nil _ _ (then_nil _ _ (first_nil _ _ e))
+shown_short c false true rest h more e = not_nil _ _ (then_nil _ _ (first_nil _ _ e))
+shown_short c false false rest h more e = not_nil _ _ e
+
 abbrev pub flag_filled : Text → Rule
 flag_filled flag = filled (flag_rule flag)
 
@@ -271,6 +289,11 @@ pub record Form : Type 0 where
   pub met : Bool
   pub file : Option Text
 
+-- only the flag has a default, which its parser takes
+abbrev pub Defaults : Form → Type 0
+Defaults c = (all : List Row) → (fold with_default all c.rules ≡ cond c.has_flag (with_default all (flag_filled c.flag)) all)
+    × (defaults_fault all c.rules ≡ [])
+
 -- the rules are those of the form
 pub record IsCommand (c : Form) : Type 0 where
   pub shorts : (x : ℕ) → arg_by_short c.rules x ≡ cond (104 == x || false) (Some help) None
@@ -278,8 +301,7 @@ pub record IsCommand (c : Form) : Type 0 where
   pub report : arg_by_id c.rules (codes "report") ≡ cond c.has_file (Some report_filled) None
   pub paths : Paths c.rules c.flag 1 c.ids
   pub apart : (bytes_eq c.flag (codes "report") ≡ false) × (bytes_eq (codes "report") c.flag ≡ false)
-  pub defaults : (all : List Row) → (fold with_default all c.rules ≡ cond c.has_flag (with_default all (flag_filled c.flag)) all)
-      × (defaults_fault all c.rules ≡ [])
+  pub defaults : Defaults c
   pub required : (rows : List Row) → list_any (λ a. a.required && not (is_given a.id rows)) c.rules ≡ lacks rows c.ids
 
 -- ---- the rows

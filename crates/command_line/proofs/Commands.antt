@@ -1,25 +1,24 @@
 -- The program's three subcommands, and which of them the words name.
-use Rattle.std.proofs.Common.{◌==◌, ◌||◌, ◌≡◌, ◌∙◌, ◌∷◌, ℕ, Bool, List, None, Option, Some, [], ap, codes, cond, false, is_some, refl, rules, subst, sym}
-use Rattle.std.proofs.Common.{true}
+use Rattle.std.proofs.Common.{◌==◌, ◌||◌, ◌∙◌, ◌∷◌, ◌≡◌, [], ℕ, Bool, List, None, Option, Some, ap, codes, cond, false, is_some, refl, rules, subst}
+use Rattle.std.proofs.Common.{sym, true}
 use Rattle.std.specs.Prelude.{fold, option_map}
 use Rattle.std.specs.List.{slice_index_or}
 use Rattle.std.specs.Str.{bytes_eq}
 use Rattle.std.proofs.Math.Bool.{or-true}
 use Rattle.std.proofs.lemmas.Slice.Eq.{bytes_eq-Decides}
-use Rattle.clap.specs.Faults.{check_fault, stray_fault, defaults_fault, entered_fault, fault_of, level_fault, long_fault, other_fault}
-use Rattle.clap.specs.Faults.{settle_fault, short_fault, turn_fault, walk_fault}
+use Rattle.clap.specs.Faults.{check_fault, defaults_fault, entered_fault, fault_of, level_fault, other_fault, settle_fault, stray_fault, turn_fault}
+use Rattle.clap.specs.Faults.{walk_fault}
 use Rattle.clap.specs.Kinds.{Kinds, or_else}
 use Rattle.clap.specs.Lexer.{long_of}
-use Rattle.clap.specs.Simple.{App, Shape, built, entered, filled, names_of, new_shape, subcommand_of, version_rule, with_index}
-use Rattle.clap.specs.Walk.{Held, Names, Row, Rule, Text, Walk, arg_by_long, finished, idle, nothing_held}
-use Rattle.clap.specs.Walk.{rows_after, settled, subcommand_met, walked, with_default}
+use Rattle.clap.specs.Simple.{App, Shape, built, entered, names_of, new_shape, subcommand_of}
+use Rattle.clap.specs.Walk.{Names, Row, Text, Walk, arg_by_long, finished, idle, nothing_held, rows_after, settled, subcommand_met, walked}
 use Rattle.clap.specs.declared.error.kind.ErrorKind.TheVariants.{InvalidSubcommand, UnknownArgument}
 use Rattle.clap.proofs.FaultLemmas.{stopped_fault}
 use Rattle.clap.proofs.OnLiterals.{clap_on_literals}
 use Rattle.clap.proofs.WalkLemmas.{walk_stopped}
 use Rattle.command_line.specs.steps.Program.{program_app}
-use Rattle.command_line.proofs.Command.{AsksHelp, Fits, Form, Gives, IsCommand, Paths, by_word, first_nil, flag_filled, help, idle_walk, leaf, not_nil}
-use Rattle.command_line.proofs.Command.{option_by, then_nil}
+use Rattle.command_line.proofs.Command.{AsksHelp, Defaults, Fits, Form, Gives, IsCommand, Paths, by_word, first_nil, idle_walk, leaf, not_nil}
+use Rattle.command_line.proofs.Command.{option_by, shown_long, shown_short}
 use Rattle.command_line.proofs.Parse.{AnswersAt, parsed}
 use Rattle.command_line.proofs.Words.{Seen, before, is_taken, scan}
 
@@ -31,9 +30,6 @@ top = whole.top
 
 abbrev pub sub : ℕ → Shape
 sub i = slice_index_or whole.subs i (new_shape [])
-
-abbrev version : Rule
-version = with_index 1 (filled version_rule)
 
 abbrev pub names : Names
 names = names_of whole
@@ -87,11 +83,6 @@ all_longs name = simp either
 no_longs : (name : Text) → arg_by_long (sub 2).rules name ≡ option_by false false (codes "all") name
 no_longs name = simp either
 
--- what `IsCommand` says of defaults
-abbrev Defaults : Form → Type 0
-Defaults c = (all : List Row) → (fold with_default all c.rules ≡ cond c.has_flag (with_default all (flag_filled c.flag)) all)
-    × (defaults_fault all c.rules ≡ [])
-
 run_defaults : Defaults run_form
 unfolding defaults_fault
 run_defaults all = (simp either, simp (or-true, either))
@@ -104,17 +95,8 @@ explain_defaults : Defaults explain_form
 unfolding defaults_fault
 explain_defaults all = (simp either, simp or-true)
 
-run_command : IsCommand run_form
-run_command = search (rules, run_defaults)
-
 check_paths : Paths check_form.rules check_form.flag 1 check_form.ids
 check_paths = search rules
-
-check_command : IsCommand check_form
-check_command = search (rules, all_longs, check_defaults, check_paths)
-
-explain_command : IsCommand explain_form
-explain_command = search (rules, no_longs, explain_defaults)
 
 -- the pass over the words of a subcommand
 abbrev pub found_in : Form → List Text → Option Seen
@@ -132,7 +114,7 @@ module _ (c : Form) (is : IsCommand c) (begins : Fits c [] [] c.ids c.met c.file
   Answer = AnswersAt c is (level c rest) (fold (walked c.rules []) (idle_walk nothing_held 1 false) rest)
 
   answer : Answer (found_in c rest)
-  answer = parsed c is false rest [] c.ids c.met c.file 1 [] [] None is.paths (refl, refl) begins
+  answer = parsed c is false rest [] c.ids c.met c.file 1 [] None is.paths refl begins
 
   took : level c rest ≡ [] → Took c rest (rows_after c.rules [] rest)
   took e = go (found_in c rest) refl answer
@@ -194,7 +176,7 @@ pub record IsSubcommand (c : Form) : Type 0 where
 pub run_sub : IsSubcommand run_form
 unfolding clap_on_literals
 run_sub = record {
-  command = run_command;
+  command = search (rules, run_defaults);
   begins = search rules;
   long = refl;
   enters = λ program rest. enters run_form program rest refl refl refl refl;
@@ -203,7 +185,7 @@ run_sub = record {
 pub check_sub : IsSubcommand check_form
 unfolding clap_on_literals
 check_sub = record {
-  command = check_command;
+  command = search (rules, all_longs, check_defaults, check_paths);
   begins = search rules;
   long = refl;
   enters = λ program rest. enters check_form program rest refl refl refl refl;
@@ -212,27 +194,13 @@ check_sub = record {
 pub explain_sub : IsSubcommand explain_form
 unfolding clap_on_literals
 explain_sub = record {
-  command = explain_command;
+  command = search (rules, no_longs, explain_defaults);
   begins = search rules;
   long = refl;
   enters = λ program rest. enters explain_form program rest refl refl refl refl;
 }
 
 -- ---- other words
-
-shown_long : (c : List Rule) (b d : Bool) (v : Option Text) (h : Held)
-    → long_fault c false (cond b (Some help) (cond d (Some version) None)) v h ≡ [] → ⊥
-shown_long c true d (Some x) h e = not_nil _ _ e
-shown_long c true d None h e = not_nil _ _ (then_nil _ _ e)
-shown_long c false true (Some x) h e = not_nil _ _ e
-shown_long c false true None h e = not_nil _ _ (then_nil _ _ e)
-shown_long c false false v h e = not_nil _ _ e
-
-shown_short : (c : List Rule) (b d : Bool) (rest : Text) (h : Held) (more : Held → Kinds)
-    → short_fault c false (cond b (Some help) (cond d (Some version) None)) rest h more ≡ [] → ⊥
-shown_short c true d rest h more e = not_nil _ _ (then_nil _ _ (first_nil _ _ e))
-shown_short c false true rest h more e = not_nil _ _ (then_nil _ _ (first_nil _ _ e))
-shown_short c false false rest h more e = not_nil _ _ e
 
 top_asks : AsksHelp top
 top_asks x rest h more e = shown_short top.rules (104 == x || false) (86 == x || false) rest h more e

@@ -1,16 +1,16 @@
 -- The pass over the words finds what the definitions of the command line say.
-use Rattle.std.proofs.Common.{◌&&◌, ◌==◌, ◌≡◌, ◌∙◌, ◌∷◌, ℕ, Bool, List, None, Option, Some, [], ap, arith, codes, cond, eq-eqb, eqb-true, false, length, refl}
-use Rattle.std.proofs.Common.{suc, sym, true, true≢false}
+use Rattle.std.proofs.Common.{◌&&◌, ◌==◌, ◌∙◌, ◌∷◌, ◌≡◌, [], ℕ, Bool, List, None, Option, Some, ap, codes, cond, false, length, refl, sym, true}
 use Rattle.std.specs.Prelude.{slice_get}
 use Rattle.std.specs.Option.{option_map_or}
 use Rattle.std.specs.Str.{bytes_eq}
+use Rattle.std.proofs.Math.Dec.{eqb-suc-suc, eqb-suc-zero, eqb-zero-suc}
 use Rattle.clap.specs.Lexer.{long_of}
 use Rattle.clap.specs.Walk.{Text}
 use Rattle.clap.proofs.WalkLemmas.{both}
 use Rattle.command_line.specs.CommandLine.{AreTexts, are_operands, are_plain, as_report, has_flag, is_plain_word, names_file, names_file_by, operands}
 use Rattle.command_line.specs.CommandLine.{report_of, without_flag, without_report}
-use Rattle.command_line.proofs.Words.{Kind, Place, Seen, after, at_end, before, dashes, filed, flagged, is_taken, kind, kind_by, naming, odd, operand}
-use Rattle.command_line.proofs.Words.{Pairs, operand_met, scan, word_met, Means, means, plain_taken, taken_bare, taken_plain, Each}
+use Rattle.command_line.proofs.Words.{Each, Kind, Means, Pairs, Place, Seen, after, at_end, before, dashes, filed, flagged, is_taken, kind, kind_by}
+use Rattle.command_line.proofs.Words.{means, naming, odd, operand, operand_met, plain_taken, scan, taken_bare, taken_plain, word_met}
 
 -- as many operands as are left
 abbrev pub match_up : List Text → List Text → Bool
@@ -18,11 +18,11 @@ match_up [] [] = true
 match_up (word ∷ ops) (id ∷ left) = match_up ops left
 match_up _ _ = false
 
-pub lengths_match : (ops left : List Text) → length ops ≡ length left → match_up ops left ≡ true
-lengths_match [] [] e = refl
-lengths_match [] (id ∷ left) e = absurd (omega arith)
-lengths_match (word ∷ ops) [] e = absurd (omega arith)
-lengths_match (word ∷ ops) (id ∷ left) e = lengths_match ops left (omega arith)
+matched : (ops left : List Text) → match_up ops left ≡ (length ops == length left)
+matched [] [] = refl
+matched [] (id ∷ left) = sym (eqb-zero-suc (length left))
+matched (word ∷ ops) [] = sym (eqb-suc-zero (length ops))
+matched (word ∷ ops) (id ∷ left) = matched ops left ∙ sym (eqb-suc-suc (length ops) (length left))
 
 -- the paths with these operands
 abbrev pub pairs : Pairs → List Text → List Text → Pairs
@@ -94,8 +94,7 @@ module _ (is_operand : Text → Bool) (flag : Text) where
       → word_met k word done left met file (meaning rest) ≡ with_file done left met file (word ∷ rest)
   by_kind word rest dashes is done left true (Some f) = simp is
   by_kind word rest dashes is done left false (Some f) = simp is
-  by_kind word rest dashes is done left true None = simp is
-  by_kind word rest dashes is done left false None = simp is
+  by_kind word rest dashes is done left met file = simp is
   by_kind word rest flagged is done left true (Some f) = simp (is.0, is.3)
   by_kind word rest flagged is done left false (Some f) = simp (is.0, is.1)
   by_kind word rest flagged is done left true None = simp (is.0, is.2, is.3) (no_more (names_by is_operand rest) true)
@@ -115,8 +114,7 @@ module _ (is_operand : Text → Bool) (flag : Text) where
   by_kind word rest operand is done (id ∷ left) true (Some f) = simp (is.0, is.3)
   by_kind word rest operand is done (id ∷ left) false (Some f) = simp (is.0, is.1, is.3)
   by_kind word rest operand is done (id ∷ left) true None = simp (is.0, is.2, is.3)
-  by_kind word rest operand is done (id ∷ left) false None =
-      simp (is.0, is.1, is.2, is.3)
+  by_kind word rest operand is done (id ∷ left) false None = simp (is.0, is.1, is.2, is.3)
   by_kind word rest odd is done left true (Some f) = simp (is.0, is.3)
   by_kind word rest odd is done left false (Some f) = simp (is.0, is.1, is.3)
   by_kind word rest odd is done left true None = simp (is.0, is.2, is.3) (no_more (names_by is_operand rest) true)
@@ -137,8 +135,7 @@ module _ (is_operand : Text → Bool) (flag : Text) where
         → scan is_operand flag words place done left met file ≡ meaning words place done left met file
     scan_means [] before done left true (Some f) = at_the_end done left true (Some f)
     scan_means [] before done left false (Some f) = at_the_end done left false (Some f)
-    scan_means [] before done left true None = at_the_end done left true None
-    scan_means [] before done left false None = at_the_end done left false None
+    scan_means [] before done left met file = at_the_end done left met file
     scan_means [] after done left met file = at_the_end done left met file
     scan_means [] naming done left met file = refl
     scan_means (word ∷ rest) before done left met file =
@@ -215,12 +212,6 @@ names_all (word ∷ rest) = go (bytes_eq word (codes "--")) (as_report word) (na
     go false (Some None) more = refl
     go false (Some (Some file)) more = refl
 
-same_length : (ops left : List Text) → match_up ops left ≡ true → length ops ≡ length left
-same_length [] [] e = refl
-same_length [] (id ∷ left) e = absurd (true≢false (sym e))
-same_length (word ∷ ops) [] e = absurd (true≢false (sym e))
-same_length (word ∷ ops) (id ∷ left) e = ap (λ n. suc n) (same_length ops left e)
-
 parts : (a b c : Bool) (s m : Seen) → cond a (cond b (cond c (Some s) None) None) None ≡ Some m
     → (a ≡ true) × (b ≡ true) × (c ≡ true) × (s ≡ m)
 parts true true true s m e = (refl, refl, refl, cc)
@@ -267,7 +258,7 @@ module _ (flag : Text) (long : long_of (45 ∷ 45 ∷ flag) ≡ Some (flag, None
       let is = scan_parts is_plain_word (λ word e. taken_bare word (plain_taken word e)) seen
       (sym (scan_same is_taken is_plain_word flag rest (texts_alike rest texts) before [] left met file) ∙ found) in
       λ j. (sym (named_all file rest) ∙ is.0) j && ((sym (plain_all words) ∙ is.1) j
-      && eq-eqb (length (operands words)) n (same_length (operands words) left is.2 ∙ count) j)
+      && (sym (matched (operands words) left ∙ ap (λ k. length (operands words) == k) count) ∙ is.2) j)
 
   -- the pass finds something in well-formed words
   pub formed_found : (n : ℕ) → length left ≡ n → (is_named file rest && are_operands n (words_of flag met file rest)) ≡ true
@@ -276,7 +267,7 @@ module _ (flag : Text) (long : long_of (45 ∷ 45 ∷ flag) ≡ Some (flag, None
       let words = words_of flag met file rest in
       let p = both (is_named file rest) (are_operands n words) e in
       let q = both (are_plain words) (length (operands words) == n) p.1 in
-      let matches = lengths_match (operands words) left (eqb-true (length (operands words)) n q.1 ∙ sym count) in
+      let matches = matched (operands words) left ∙ ap (λ k. length (operands words) == k) count ∙ q.1 in
       scan_means is_taken flag (means is_taken flag long apart taken_bare) rest before [] left met file
       ∙ (λ j. cond (named_passes is_plain_word is_taken plain_taken file rest (named_all file rest ∙ p.0) j)
       (cond (plain_passes is_plain_word is_taken plain_taken words (plain_all words ∙ q.0) j)

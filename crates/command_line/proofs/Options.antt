@@ -1,9 +1,9 @@
 -- An option among the words: a search that passed k words has it in the rest.
-use Rattle.std.proofs.Common.{◌++◌, ◌+◌, ◌<◌, ◌≡◌, ◌≤◌, ◌∙◌, ◌∷◌, ℕ, List, [], add-one, ap, append_assoc, arith, codes, drop, false}
-use Rattle.std.proofs.Common.{drop_of_length-le, get_or, length, map, refl, remove, subst, suc, sym, take, true, zero}
-use Rattle.std.proofs.lemmas.List.{length-map, take-append-drop}
+use Rattle.std.proofs.Common.{◌++◌, ◌+◌, ◌<◌, ◌∙◌, ◌∷◌, ◌≡◌, ◌≤◌, [], ℕ, List, add-one, ap, append_assoc, arith, codes, drop, drop_of_length-le}
+use Rattle.std.proofs.Common.{false, get_or, length, map, refl, remove, subst, suc, sym, take, true, zero}
 use Rattle.std.specs.Borrow.{Bor}
 use Rattle.std.specs.Str.{bytes_eq}
+use Rattle.std.proofs.lemmas.List.{length-map, take-append-drop}
 use Rattle.clap.specs.Words.{Text}
 use Rattle.command_line.specs.CommandLine.{has_flag, without_flag, without_option}
 

@@ -1,42 +1,32 @@
 -- clap's parse of the words of a subcommand is the pass over them (`parsed`): where the pass finds nothing
 -- the parse has a fault, and else it has none and the rows are those of what the pass found.
-use Rattle.std.proofs.Common.{◌&&◌, ◌+◌, ◌++◌, ◌==◌, ◌||◌, ◌≡◌, ◌∙◌, ◌∷◌, ℕ, Bool, List, None, Option, Some, [], ap, codes, cond, false, is_some, not, refl}
-use Rattle.std.proofs.Common.{subst, sym, true, true≢false}
+use Rattle.std.proofs.Common.{◌&&◌, ◌++◌, ◌+◌, ◌==◌, ◌||◌, ◌∙◌, ◌∷◌, ◌≡◌, [], ℕ, Bool, List, None, Option, Some, ap, codes, cond, false, is_some, not}
+use Rattle.std.proofs.Common.{refl, subst, sym, true, true≢false}
 use Rattle.std.specs.Prelude.{fold, min}
 use Rattle.std.specs.Option.{option_map_or}
 use Rattle.std.specs.Str.{bytes_eq}
 use Rattle.std.proofs.Math.Bool.{and-false, or-false}
 use Rattle.std.proofs.lemmas.Slice.Eq.{bytes_eq-Decides}
 use Rattle.clap.specs.Facts.{explicit_source}
-use Rattle.clap.specs.Faults.{check_fault, defaults_fault, long_fault, option_fault, positional_fault, react_fault}
-use Rattle.clap.specs.Faults.{settle_fault, short_fault, step_fault, stray_fault, turn_fault, use_fault, walk_fault}
+use Rattle.clap.specs.Faults.{check_fault, defaults_fault, long_fault, option_fault, positional_fault, react_fault, settle_fault, short_fault}
+use Rattle.clap.specs.Faults.{step_fault, stray_fault, turn_fault, use_fault, walk_fault}
 use Rattle.clap.specs.Kinds.{Kinds, check_kinds, or_else}
 use Rattle.clap.specs.Lexer.{usize_max}
 use Rattle.clap.specs.Simple.{Shape}
-use Rattle.clap.specs.Walk.{Held, Row, Rule, Text, Waiting, Walk, after_flag, after_step, arg_by_id, arg_by_index, arg_by_long, finished, has_row, idle}
-use Rattle.clap.specs.Walk.{long_met as clap_long_met, next, option, option_word, settled, settled_rows}
-use Rattle.clap.specs.Walk.{takes_values, to_positional, used_by_id, value, walked, with_default, with_values, without}
+use Rattle.clap.specs.Walk.{Held, Row, Rule, Text, Waiting, Walk, after_flag, after_step, arg_by_id, arg_by_index, arg_by_long, finished, has_row}
+use Rattle.clap.specs.Walk.{idle, long_met as clap_long_met, next, option, option_word, settled, settled_rows, takes_values, to_positional}
+use Rattle.clap.specs.Walk.{used_by_id, value, walked, with_default, with_values, without}
 use Rattle.clap.specs.declared.builder.value_parser.Reading.{Reading}
 use Rattle.clap.specs.declared.error.kind.ErrorKind.TheVariants.{ArgumentConflict, TooManyValues}
 use Rattle.clap.specs.declared.parser.matches.ValueSource.TheVariants.{CommandLine, DefaultValue}
-use Rattle.command_line.proofs.Command.{AsksHelp, Fits, Form, Gives, Holds, IsCommand, Other, Paths, Pending, at, first_nil, fits_file, fits_flag, fits_path}
-use Rattle.command_line.proofs.Command.{flag_filled, help, holds_more, idle_walk, lacks, leaf, Turn, by_word, not_nil, place_of, report_filled, then_nil}
-use Rattle.command_line.proofs.Command.{walk_with, appended, appended_anew, new_row, flag_of, has_row-at, kept, newly, row, row_at, set_row, source_of}
-use Rattle.command_line.proofs.Command.{unset_row}
-use Rattle.command_line.proofs.Words.{Kind, Pairs, Place, Seen, after, at_end, before, filed, flagged, is_taken, kind_by, long_kind}
-use Rattle.command_line.proofs.Words.{naming, operand_met, scan, dashes, kind, word_met}
+use Rattle.command_line.proofs.Command.{AsksHelp, Fits, Form, Gives, Holds, IsCommand, Other, Paths, Pending, Turn, appended, appended_anew, at}
+use Rattle.command_line.proofs.Command.{by_word, first_nil, fits_file, fits_flag, fits_path, flag_filled, flag_of, has_row-at, help, holds_more}
+use Rattle.command_line.proofs.Command.{idle_walk, kept, lacks, leaf, new_row, newly, not_nil, place_of, report_filled, row, row_at, set_row}
+use Rattle.command_line.proofs.Command.{shown_long, shown_short, source_of, then_nil, unset_row, walk_with}
+use Rattle.command_line.proofs.Words.{Kind, Pairs, Place, Seen, after, at_end, before, dashes, filed, flagged, is_taken, kind, kind_by, long_kind}
+use Rattle.command_line.proofs.Words.{naming, operand_met, scan, word_met}
 
 -- ---- faults
-
-help_long : (c : List Rule) (b : Bool) (v : Option Text) (h : Held) → long_fault c false (cond b (Some help) None) v h ≡ [] → ⊥
-help_long c true (Some x) h e = not_nil _ _ e
-help_long c true None h e = not_nil _ _ (then_nil _ _ e)
-help_long c false v h e = not_nil _ _ e
-
-help_short : (c : List Rule) (b : Bool) (rest : Text) (h : Held) (later : Held → Kinds)
-    → short_fault c false (cond b (Some help) None) rest h later ≡ [] → ⊥
-help_short c true rest h later e = not_nil _ _ (then_nil _ _ (first_nil _ _ e))
-help_short c false rest h later e = not_nil _ _ e
 
 -- a flag that is met settles what is pending
 long_settles : (c : List Rule) (a : Option Rule) (v : Option Text) (h : Held) → long_fault c false a v h ≡ []
@@ -70,7 +60,7 @@ module _ (c : Form) (is : IsCommand c) where
 
   asks : AsksHelp s
   asks x rest h later e =
-      help_short c.rules (104 == x || false) rest h later (ap (λ o. short_fault c.rules false o rest h later) (sym (is.shorts x)) ∙ e)
+      shown_short c.rules (104 == x || false) false rest h later (ap (λ o. short_fault c.rules false o rest h later) (sym (is.shorts x)) ∙ e)
 
   -- what may be at fault at the end of a walk
   abbrev pub ends : Walk → Kinds
@@ -108,9 +98,13 @@ module _ (c : Form) (is : IsCommand c) where
 
   -- ---- where the words end
 
-  -- what is pending has no fault, and these are the rows with it
-  abbrev Stands : List Row → Pending → List Row → Type 0
-  Stands rows pending all = (settle_fault c.rules false (at rows pending) ≡ []) × (settled_rows c.rules pending rows ≡ all)
+  -- what is pending has no fault
+  abbrev Stands : List Row → Pending → Type 0
+  Stands rows pending = settle_fault c.rules false (at rows pending) ≡ []
+
+  -- the rows with it
+  abbrev now : List Row → Pending → List Row
+  now rows pending = settled_rows c.rules pending rows
 
   abbrev Ended : Bool → List Row → List Row → Type 0
   Ended met all final = ((done : Pairs) → Holds all done → Holds final done)
@@ -139,80 +133,85 @@ module _ (c : Form) (is : IsCommand c) where
             λ _. newly all (unset_row c.flag) (unset so),
           )
 
-  end_faults : (all rows : List Row) (pending : Pending) (p : ℕ) (t : Bool) (left : List Text) → Stands rows pending all
-      → lacks (fold with_default all c.rules) c.ids ≡ lacks (fold with_default all c.rules) left
-      → ends (idle_walk (at rows pending) p t) ≡ check_kinds false false (lacks (fold with_default all c.rules) left)
-  end_faults all rows pending p t left stands owes =
-      (λ j. or_else (stands.0 j) (or_else (defaults_fault (stands.1 j) c.rules)
-      (check_fault s (fold with_default (stands.1 j) c.rules) false)))
-      ∙ ap (λ k. or_else k (check_fault s (fold with_default all c.rules) false)) (is.defaults all).1
-      ∙ ap (check_kinds false false) (is.required (fold with_default all c.rules) ∙ owes)
+  end_faults : (rows : List Row) (pending : Pending) (p : ℕ) (t : Bool) (left : List Text) → Stands rows pending
+      → let final = finished c.rules (at rows pending) in lacks final c.ids ≡ lacks final left
+      → ends (idle_walk (at rows pending) p t) ≡ check_kinds false false (lacks final left)
+  end_faults rows pending p t left stands owes =
+      let final = finished c.rules (at rows pending) in
+      (λ j. or_else (stands j) (or_else ((is.defaults (now rows pending)).1 j) (check_fault s final false)))
+      ∙ ap (check_kinds false false) (is.required final ∙ owes)
 
-  words_end : (t : Bool) (done : Pairs) (left : List Text) (met : Bool) (file : Option Text) (p : ℕ) (all rows : List Row)
-      (pending : Pending) → Paths c.rules c.flag p left → Stands rows pending all → fits all done left met file
+  words_end : (t : Bool) (done : Pairs) (left : List Text) (met : Bool) (file : Option Text) (p : ℕ) (rows : List Row) (pending : Pending)
+      → Paths c.rules c.flag p left → Stands rows pending → fits (now rows pending) done left met file
       → AnswersAt (ends (idle_walk (at rows pending) p t)) (idle_walk (at rows pending) p t) (at_end done left met file)
-  words_end t done [] met file p all rows pending paths stands known =
-      let end = ended all met known.flagged in
+  words_end t done [] met file p rows pending paths stands known =
+      let end = ended (now rows pending) met known.flagged in
       let holds = end.0 done known.holds in (
-        end_faults all rows pending p t [] stands (known.owes _ holds),
-        subst (λ (x : List Row). Gives c (done, met, file) (fold with_default x c.rules)) (sym stands.1)
-            (record { holds = holds; flagged = end.2; filed = λ so. end.1 (codes "report") is.apart.0 ∙ known.filed so }),
+        end_faults rows pending p t [] stands (known.owes _ holds),
+        record { holds = holds; flagged = end.2; filed = λ so. end.1 (codes "report") is.apart.0 ∙ known.filed so },
       )
-  words_end t done (id ∷ left) met file p all rows pending paths stands known = λ e.
-      let end = ended all met known.flagged in
-      let none : row_at id (fold with_default all c.rules) ≡ None = end.1 id paths.3 ∙ known.unused.0 in
-      not_nil _ _ (sym (end_faults all rows pending p t (id ∷ left) stands (known.owes _ (end.0 done known.holds))
+  words_end t done (id ∷ left) met file p rows pending paths stands known = λ e.
+      let final = finished c.rules (at rows pending) in
+      let end = ended (now rows pending) met known.flagged in
+      let none : row_at id final ≡ None = end.1 id paths.3 ∙ known.unused.0 in
+      not_nil _ _ (sym (end_faults rows pending p t (id ∷ left) stands (known.owes _ (end.0 done known.holds))
       ∙ ap (λ (o : Option Row). check_kinds false false (not (option_map_or (λ r. explicit_source r.source) o false)
-      || lacks (fold with_default all c.rules) left)) none) ∙ e)
+      || lacks final left)) none) ∙ e)
 
   -- ---- an operand
 
-  stands_operand : (id word : Text) (p : ℕ) (all : List Row) → arg_by_id c.rules id ≡ Some (place_of id p) → row_at id all ≡ None
-      → Stands all (Some (id, word ∷ [])) (all ++ row id word ∷ [])
-  stands_operand id word p all found none = (
-    ap (λ o. option_map_or (λ a. use_fault false a (word ∷ []) all) o []) found ∙ first_use id all none,
-    ap (λ o. used_by_id o (word ∷ []) all) found ∙ appended_anew id (row id word).reading CommandLine (word ∷ []) all none,
+  -- a word that is pending becomes a row
+  abbrev Pends : Text → Text → List Row → Type 0
+  Pends id word rows =
+      Stands rows (Some (id, word ∷ [])) × (now rows (Some (id, word ∷ [])) ≡ rows ++ row id word ∷ [])
+
+  pends_operand : (id word : Text) (p : ℕ) (rows : List Row) → arg_by_id c.rules id ≡ Some (place_of id p) → row_at id rows ≡ None
+      → Pends id word rows
+  pends_operand id word p rows found none = (
+    ap (λ o. option_map_or (λ a. use_fault false a (word ∷ []) rows) o []) found ∙ first_use id rows none,
+    ap (λ o. used_by_id o (word ∷ []) rows) found ∙ appended_anew id (row id word).reading CommandLine (word ∷ []) rows none,
   )
 
-  operand_fault : (id : Text) (p : ℕ) (rows all : List Row) (pending : Pending) → arg_by_index c.rules p ≡ Some (place_of id p)
+  operand_fault : (id : Text) (p : ℕ) (rows : List Row) (pending : Pending) → arg_by_index c.rules p ≡ Some (place_of id p)
       → step_fault s p (at rows pending) value ≡ settle_fault c.rules false (at rows pending)
-  operand_fault id p rows all pending found = simp (found, and-false)
+  operand_fault id p rows pending found = simp (found, and-false)
 
   stray : (p : ℕ) (h : Held) → arg_by_index c.rules p ≡ None → step_fault s p h value ≡ [] → ⊥
   stray p h none e =
       not_nil _ _ (sym (ap (λ o. option_map_or (λ a. positional_fault c.rules false a h) o (stray_fault s)) none) ∙ e)
 
-  moves : (id word : Text) (p : ℕ) (t : Bool) (rows all : List Row) (pending : Pending)
-      → arg_by_index c.rules p ≡ Some (place_of id p) → settled_rows c.rules pending rows ≡ all
+  moves : (id word : Text) (p : ℕ) (t : Bool) (rows : List Row) (pending : Pending) → arg_by_index c.rules p ≡ Some (place_of id p)
       → to_positional c.rules (arg_by_index c.rules p) word (idle_walk (at rows pending) p t) (at rows pending)
-      ≡ idle_walk (at all (Some (id, word ∷ []))) (min (p + 1) usize_max) t
-  moves id word p t rows all pending found settles = simp (found, and-false, or-false)
-      (λ j. idle_walk (at (settles j) (Some (id, word ∷ []))) (min (p + 1) usize_max) t)
+      ≡ idle_walk (at (now rows pending) (Some (id, word ∷ []))) (min (p + 1) usize_max) t
+  moves id word p t rows pending found = simp (found, and-false, or-false)
 
   abbrev place_by : Bool → Place
   place_by t = cond t after before
 
   -- the words answer, wherever the walk over them begins
   abbrev Go : Bool → List Text → Type 0
-  Go t rest = (done : Pairs) (left : List Text) (met : Bool) (file : Option Text) (p : ℕ) (all rows : List Row) (pending : Pending)
-      → Paths c.rules c.flag p left → Stands rows pending all → fits all done left met file
+  Go t rest = (done : Pairs) (left : List Text) (met : Bool) (file : Option Text) (p : ℕ) (rows : List Row) (pending : Pending)
+      → Paths c.rules c.flag p left → Stands rows pending → fits (now rows pending) done left met file
       → Answers (idle_walk (at rows pending) p t) rest (scan is_taken c.flag rest (place_by t) done left met file)
 
   operand_answers : (t : Bool) (word : Text) (rest : List Text) (done : Pairs) (left : List Text) (met : Bool) (file : Option Text)
-      (p : ℕ) (all rows : List Row) (pending : Pending)
+      (p : ℕ) (rows : List Row) (pending : Pending)
       → turn_fault s [] (idle_walk (at rows pending) p t) word ≡ step_fault s p (at rows pending) value
       → walked c.rules [] (idle_walk (at rows pending) p t) word
       ≡ to_positional c.rules (arg_by_index c.rules p) word (idle_walk (at rows pending) p t) (at rows pending)
-      → Paths c.rules c.flag p left → Stands rows pending all → fits all done left met file → Go t rest
+      → Paths c.rules c.flag p left → Stands rows pending → fits (now rows pending) done left met file → Go t rest
       → Answers (idle_walk (at rows pending) p t) (word ∷ rest)
       (operand_met word (place_by t) done left met file (scan is_taken c.flag rest))
-  operand_answers t word rest done [] met file p all rows pending turn goes paths stands known later =
+  operand_answers t word rest done [] met file p rows pending turn goes paths stands known later =
       stops (idle_walk (at rows pending) p t) word rest (λ e. stray p (at rows pending) paths (sym turn ∙ e))
-  operand_answers t word rest done (id ∷ left) met file p all rows pending turn goes paths stands known later =
-      passes (idle_walk (at rows pending) p t) (idle_walk (at all (Some (id, word ∷ []))) (min (p + 1) usize_max) t)
-      word rest _ (turn ∙ operand_fault id p rows all pending paths.0 ∙ stands.0) (goes ∙ moves id word p t rows all pending paths.0 stands.1)
-      (later ((id, word) ∷ done) left met file (min (p + 1) usize_max) (all ++ row id word ∷ []) all (Some (id, word ∷ [])) paths.5
-      (stands_operand id word p all paths.1 known.unused.0) (fits_path c all done left met id word file paths.2 known))
+  operand_answers t word rest done (id ∷ left) met file p rows pending turn goes paths stands known later =
+      let all = now rows pending in
+      let pends = pends_operand id word p all paths.1 known.unused.0 in
+      passes (idle_walk (at rows pending) p t) (idle_walk (at all (Some (id, word ∷ []))) (min (p + 1) usize_max) t) word rest _
+      (turn ∙ operand_fault id p rows pending paths.0 ∙ stands) (goes ∙ moves id word p t rows pending paths.0)
+      (later ((id, word) ∷ done) left met file (min (p + 1) usize_max) all (Some (id, word ∷ [])) paths.5 pends.0
+      (subst (λ (x : List Row). fits x ((id, word) ∷ done) left met file) (sym pends.1)
+      (fits_path c all done left met id word file paths.2 known)))
 
   -- ---- what is pending has a fault, whatever follows
 
@@ -222,7 +221,7 @@ module _ (c : Form) (is : IsCommand c) where
   bad_step : (rows : List Row) (pending : Pending) (p : ℕ) (left : List Text) → Paths c.rules c.flag p left → Bad rows pending
       → step_fault s p (at rows pending) value ≡ [] → ⊥
   bad_step rows pending p [] paths bad e = stray p (at rows pending) paths e
-  bad_step rows pending p (id ∷ left) paths bad e = bad (sym (operand_fault id p rows rows pending paths.0) ∙ e)
+  bad_step rows pending p (id ∷ left) paths bad e = bad (sym (operand_fault id p rows pending paths.0) ∙ e)
 
   bad_after : (waiting : Waiting) (rows : List Row) (pending : Pending) (p : ℕ) (left rest : List Text) → Paths c.rules c.flag p left
       → Bad rows pending → fault (walk_with waiting (at rows pending) p true) rest ≡ [] → ⊥
@@ -263,12 +262,12 @@ module _ (c : Form) (is : IsCommand c) where
   unnamed_bad : (all : List Row) → c.has_file ≡ true → Bad all (file_pending [])
   unnamed_bad all so e = not_nil _ _ (sym (file_fault [] all so) ∙ e)
 
-  stands_file : (word : Text) (all : List Row) → c.has_file ≡ true → row_at (codes "report") all ≡ None
-      → Stands all (file_pending (word ∷ [])) (all ++ row (codes "report") word ∷ [])
-  stands_file word all so none = (
-    file_fault (word ∷ []) all so ∙ first_use (codes "report") all none,
-    ap (λ o. used_by_id o (word ∷ []) all) (report_is so)
-        ∙ appended_anew (codes "report") (row (codes "report") word).reading CommandLine (word ∷ []) all none,
+  pends_file : (word : Text) (rows : List Row) → c.has_file ≡ true → row_at (codes "report") rows ≡ None
+      → Pends (codes "report") word rows
+  pends_file word rows so none = (
+    file_fault (word ∷ []) rows so ∙ first_use (codes "report") rows none,
+    ap (λ o. used_by_id o (word ∷ []) rows) (report_is so)
+        ∙ appended_anew (codes "report") (row (codes "report") word).reading CommandLine (word ∷ []) rows none,
   )
 
   named_so : (word : Text) (rest left : List Text) (p : ℕ) (all : List Row) (o : Option Seen) → c.has_file ≡ true
@@ -315,8 +314,11 @@ module _ (c : Form) (is : IsCommand c) where
   others [] p paths = (tt, tt)
   others (id ∷ left) p paths = let more = others left (min (p + 1) usize_max) paths.5 in ((paths.3, more.0), (paths.4, more.1))
 
-  module _ (word : Text) (rest : List Text) (done : Pairs) (left : List Text) (p : ℕ) (all rows : List Row) (pending : Pending)
-      (paths : Paths c.rules c.flag p left) (stands : Stands rows pending all) (goes_on : Go false rest) (waits_on : Wait rest) where
+  module _ (word : Text) (rest : List Text) (done : Pairs) (left : List Text) (p : ℕ) (rows : List Row) (pending : Pending)
+      (paths : Paths c.rules c.flag p left) (stands : Stands rows pending) (goes_on : Go false rest) (waits_on : Wait rest) where
+    abbrev so_far : List Row
+    so_far = now rows pending
+
     abbrev w : Walk
     w = idle_walk (at rows pending) p false
 
@@ -330,62 +332,54 @@ module _ (c : Form) (is : IsCommand c) where
     -- an option is used, with these values
     abbrev Uses : Text → Reading → List Text → Type 0
     Uses id how values =
-        let settled = settled_rows c.rules pending rows in
-        (turn_fault s [] w word ≡ or_else (or_else (settle_fault c.rules false (at rows pending)) (repeats (has_row id settled))) [])
-        × (walked c.rules [] w word ≡ idle_walk (at (with_values id how CommandLine values (without id settled)) None) p false)
+        (turn_fault s [] w word ≡ or_else (or_else (settle_fault c.rules false (at rows pending)) (repeats (has_row id so_far))) [])
+        × (walked c.rules [] w word ≡ idle_walk (at (with_values id how CommandLine values (without id so_far)) None) p false)
 
-    once : (id : Text) (how : Reading) (values : List Text) (o : Option Seen) → Uses id how values → row_at id all ≡ None
-        → let now = all ++ new_row id how CommandLine values ∷ [] in
-        Answers (idle_walk (at now None) p false) rest o → Answers w (word ∷ rest) o
+    once : (id : Text) (how : Reading) (values : List Text) (o : Option Seen) → Uses id how values → row_at id so_far ≡ None
+        → Answers (idle_walk (at (so_far ++ new_row id how CommandLine values ∷ []) None) p false) rest o → Answers w (word ∷ rest) o
     once id how values o turn none later =
-        let r = new_row id how CommandLine values in
-        passes w (idle_walk (at (all ++ r ∷ []) None) p false) word rest o
-        (turn.0 ∙ (λ j. or_else (or_else (stands.0 j) (repeats (has_row id (stands.1 j)))) [])
-        ∙ ap (λ k. or_else k []) (first_use id all none))
-        (turn.1 ∙ (λ j. idle_walk (at (with_values id how CommandLine values (without id (stands.1 j))) None) p false)
-        ∙ ap (λ (x : List Row). idle_walk (at x None) p false) (appended_anew id how CommandLine values all none)) later
+        passes w (idle_walk (at (so_far ++ new_row id how CommandLine values ∷ []) None) p false) word rest o
+        (turn.0 ∙ (λ j. or_else (or_else (stands j) (first_use id so_far none j)) []))
+        (turn.1 ∙ ap (λ (x : List Row). idle_walk (at x None) p false) (appended_anew id how CommandLine values so_far none)) later
 
-    once_more : (id : Text) (how : Reading) (values : List Text) (r : Row) → Uses id how values → row_at id all ≡ Some r
+    once_more : (id : Text) (how : Reading) (values : List Text) (r : Row) → Uses id how values → row_at id so_far ≡ Some r
         → fault w (word ∷ rest) ≡ [] → ⊥
-    once_more id how values r turn there = stops w word rest (λ e.
-        again id r (settled_rows c.rules pending rows) (ap (row_at id) stands.1 ∙ there)
+    once_more id how values r turn there = stops w word rest (λ e. again id r so_far there
         (then_nil (settle_fault c.rules false (at rows pending)) _ (first_nil _ _ (sym turn.0 ∙ e))))
 
-    flag_met : (met : Bool) (file : Option Text) → fits all done left met file → Turned None (Some (flag_filled c.flag))
+    flag_met : (met : Bool) (file : Option Text) → fits so_far done left met file → Turned None (Some (flag_filled c.flag))
         → c.has_flag ≡ true → After flagged met file
     flag_met true file known turn so =
         once_more c.flag (set_row c.flag).reading (codes "true" ∷ []) (set_row c.flag) turn (known.flagged so)
     flag_met false file known turn so =
-        let now = all ++ set_row c.flag ∷ [] in
         once c.flag (set_row c.flag).reading (codes "true" ∷ []) _ turn (known.flagged so)
-        (goes_on done left true file p now now None paths (refl, refl)
-        (fits_flag c all done left false file so (is.apart.0, (others left p paths).0) known))
+        (goes_on done left true file p (so_far ++ set_row c.flag ∷ []) None paths refl
+        (fits_flag c so_far done left false file so (is.apart.0, (others left p paths).0) known))
 
-    file_met : (v : Option Text) (met : Bool) (file : Option Text) → fits all done left met file → Turned v (Some report_filled)
+    file_met : (v : Option Text) (met : Bool) (file : Option Text) → fits so_far done left met file → Turned v (Some report_filled)
         → c.has_file ≡ true → After (filed v) met file
     file_met None met (Some g) known turn so =
-        passes w (waits all p) word rest None (turn.0 ∙ ap (λ k. or_else k []) stands.0)
-        (turn.1 ∙ λ j. waits (stands.1 j) p) (twice g rest left p all so (known.filed so) paths)
+        passes w (waits so_far p) word rest None (turn.0 ∙ ap (λ k. or_else k []) stands) turn.1
+        (twice g rest left p so_far so (known.filed so) paths)
     file_met (Some f) met (Some g) known turn so = once_more (codes "report") (row (codes "report") g).reading (f ∷ [])
         (row (codes "report") g) turn (known.filed so)
     file_met None met None known turn so =
-        passes w (waits all p) word rest _ (turn.0 ∙ ap (λ k. or_else k []) stands.0)
-        (turn.1 ∙ λ j. waits (stands.1 j) p) (waits_on done left met p all so paths known)
+        passes w (waits so_far p) word rest _ (turn.0 ∙ ap (λ k. or_else k []) stands) turn.1
+        (waits_on done left met p so_far so paths known)
     file_met (Some f) met None known turn so =
-        let now = all ++ row (codes "report") f ∷ [] in
         once (codes "report") (row (codes "report") f).reading (f ∷ []) _ turn (known.filed so)
-        (goes_on done left met (Some f) p now now None paths (refl, refl)
-        (fits_file c all done left met f so (is.apart.1, (others left p paths).1) known))
+        (goes_on done left met (Some f) p (so_far ++ row (codes "report") f ∷ []) None paths refl
+        (fits_file c so_far done left met f so (is.apart.1, (others left p paths).1) known))
 
     no_option : (b : Bool) (v : Option Text) → Turned v (cond b (Some help) None) → fault w (word ∷ rest) ≡ [] → ⊥
-    no_option b v turn = stops w word rest (λ e. help_long c.rules b v (at rows pending) (first_nil _ _ (sym turn.0 ∙ e)))
+    no_option b v turn = stops w word rest (λ e. shown_long c.rules b false v (at rows pending) (first_nil _ _ (sym turn.0 ∙ e)))
 
     long_answers : (name : Text) (v : Option Text) → (f : Bool) → bytes_eq c.flag name ≡ f
         → (r : Bool) → bytes_eq (codes "report") name ≡ r → (hf : Bool) → c.has_flag ≡ hf → (hr : Bool) → c.has_file ≡ hr
         → Turned v (let other = cond (bytes_eq (codes "help") name || false) (Some help) None in
         let file = cond (r || false) (cond hr (Some report_filled) other) other in
         cond (f || false) (cond hf (Some (flag_filled c.flag)) file) file)
-        → (met : Bool) (file : Option Text) → fits all done left met file → After (long_kind f r v) met file
+        → (met : Bool) (file : Option Text) → fits so_far done left met file → After (long_kind f r v) met file
     long_answers name None true f r re true hf hr hre turn met file known = flag_met met file known turn hf
     long_answers name (Some x) true f r re true hf hr hre turn met file known =
         stops w word rest (λ e. not_nil _ _ (sym turn.0 ∙ e))
@@ -399,35 +393,36 @@ module _ (c : Form) (is : IsCommand c) where
     long_answers name v false f true re hf hfe false hr turn met None known = absurd (true≢false (sym (known.unfiled hr)))
     long_answers name v false f false re hf hfe hr hre turn met file known = no_option _ v turn
 
-    word_answers : (met : Bool) (file : Option Text) → fits all done left met file → Go true rest
+    word_answers : (met : Bool) (file : Option Text) → fits so_far done left met file → Go true rest
         → After (kind is_taken c.flag word) met file
     word_answers met file known trails = by_word s asks [] idle rows pending p word refl
         (λ d q b. After (cond d dashes (kind_by c.flag q (not d && (not (is_some q) && b)))) met file)
         (λ q b turn. passes w (idle_walk (at rows pending) p true) word rest _ turn.0 turn.1
-        (trails done left met file p all rows pending paths stands known))
+        (trails done left met file p rows pending paths stands known))
         (λ q b turn. long_answers q.0 q.1 (bytes_eq c.flag q.0) refl (bytes_eq (codes "report") q.0) refl c.has_flag refl
         c.has_file refl (subst (Turned q.1) (is.longs q.0) turn) met file known)
-        (λ turn. operand_answers false word rest done left met file p all rows pending turn.0 turn.1 paths stands known goes_on)
+        (λ turn. operand_answers false word rest done left met file p rows pending turn.0 turn.1 paths stands known goes_on)
         (λ fails. stops w word rest fails)
 
   mutual
     unfolding walked walk_fault
 
     pub parsed : (t : Bool) (rest : List Text) → Go t rest
-    parsed true [] done left met file p all rows pending paths stands known =
-        words_end true done left met file p all rows pending paths stands known
-    parsed false [] done left met file p all rows pending paths stands known =
-        words_end false done left met file p all rows pending paths stands known
-    parsed true (word ∷ rest) done left met file p all rows pending paths stands known =
-        operand_answers true word rest done left met file p all rows pending refl refl paths stands known (parsed true rest)
-    parsed false (word ∷ rest) done left met file p all rows pending paths stands known =
-        word_answers word rest done left p all rows pending paths stands (parsed false rest) (named rest) met file known
+    parsed true [] done left met file p rows pending paths stands known =
+        words_end true done left met file p rows pending paths stands known
+    parsed false [] done left met file p rows pending paths stands known =
+        words_end false done left met file p rows pending paths stands known
+    parsed true (word ∷ rest) done left met file p rows pending paths stands known =
+        operand_answers true word rest done left met file p rows pending refl refl paths stands known (parsed true rest)
+    parsed false (word ∷ rest) done left met file p rows pending paths stands known =
+        word_answers word rest done left p rows pending paths stands (parsed false rest) (named rest) met file known
         (parsed true rest)
 
     named : (rest : List Text) → Wait rest
     named [] done left met p all so paths known = λ e. unnamed_bad all so (first_nil _ _ e)
     named (word ∷ rest) done left met p all so paths known =
         named_so word rest left p all _ so paths
-        (parsed false rest done left met (Some word) p (all ++ row (codes "report") word ∷ []) all (file_pending (word ∷ [])) paths
-        (stands_file word all so (known.filed so))
-        (fits_file c all done left met word so (is.apart.1, (others left p paths).1) known))
+        (let pends = pends_file word all so (known.filed so) in
+        parsed false rest done left met (Some word) p all (file_pending (word ∷ [])) paths pends.0
+        (subst (λ (x : List Row). fits x done left met (Some word)) (sym pends.1)
+        (fits_file c all done left met word so (is.apart.1, (others left p paths).1) known)))

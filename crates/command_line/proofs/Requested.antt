@@ -3,8 +3,8 @@
 -- Read it first, then `Words` (what a word is, and one pass over the words of a subcommand), `Meaning` (it finds
 -- what the definitions say), `Parse` (and so does clap, for a command as `Command` describes it), `Commands` (the
 -- three subcommands are such commands).
-use Rattle.std.proofs.Common.{◌&&◌, ◌||◌, ◌≡◌, ◌∙◌, ◌∷◌, Bool, List, None, Option, Some, [], ap, codes, cond, false, inl, inr, length, ℕ, refl, rules, subst}
-use Rattle.std.proofs.Common.{sym, true, true≢false}
+use Rattle.std.proofs.Common.{◌&&◌, ◌||◌, ◌∙◌, ◌∷◌, ◌≡◌, [], ℕ, Bool, List, None, Option, Some, ap, codes, cond, false, inl, inr, length, refl, rules}
+use Rattle.std.proofs.Common.{subst, sym, true, true≢false}
 use Rattle.std.specs.Prelude.{option_and_then, option_map, slice_get}
 use Rattle.std.specs.Borrow.{Bor}
 use Rattle.std.specs.Option.{IsSome}
@@ -30,36 +30,33 @@ use Rattle.command_line.specs.steps.Program.{program_app}
 use Rattle.command_line.specs.declared.task.Task.{Task}
 use Rattle.command_line.specs.declared.task.Task.TheVariants.{Check, Explain, Run}
 use Rattle.command_line.proofs.Command.{Form, Holds, row, row_at, row_of, source_of}
-use Rattle.command_line.proofs.Commands.{IsSubcommand, Took, check_form, check_sub, explain_form, explain_sub, form_of, found_passes, run_form, run_sub}
-use Rattle.command_line.proofs.Commands.{task_read}
+use Rattle.command_line.proofs.Commands.{IsSubcommand, Took, check_form, check_sub, explain_form, explain_sub, form_of, found_passes, run_form}
+use Rattle.command_line.proofs.Commands.{run_sub, task_read}
 use Rattle.command_line.proofs.Meaning.{formed_found, found_formed, found_is, is_met, is_named, match_up, pairs, seen_of, words_of}
 use Rattle.command_line.proofs.Words.{Pairs, Seen}
 
 -- ---- the words of a subcommand
 
--- well-formed words have no fault
-words_fit : (c : Form) → IsSubcommand c → (n : ℕ) → length c.ids ≡ n → (program : Text) (rest : List Text)
-    → (is_named c.file rest && are_operands n (words_of c.flag c.met c.file rest)) ≡ true
-    → fault_of program_app (program ∷ c.name ∷ rest) ≡ []
-words_fit c is n count program rest e = found_passes c is program rest (seen_of c.flag [] c.ids c.met c.file rest)
-    (formed_found c.flag is.long is.command.apart.1 rest c.ids c.met c.file n count e)
-
-named_passes : (program name word : Text) (rest : List Text) (b : Bool) → (bytes_eq word name && b) ≡ true
-    → (b ≡ true → fault_of program_app (program ∷ name ∷ rest) ≡ []) → fault_of program_app (program ∷ word ∷ rest) ≡ []
-named_passes program name word rest b e passes =
-    let p = both (bytes_eq word name) b e in
-    subst (λ (t : Text). fault_of program_app (program ∷ t ∷ rest) ≡ []) (sym ((bytes_eq-Decides word name).0 p.0)) (passes p.1)
+-- well-formed words of this name have no fault
+words_fit : (c : Form) → IsSubcommand c → (n : ℕ) → length c.ids ≡ n → (program name : Text) (rest : List Text)
+    → (bytes_eq name c.name && (is_named c.file rest && are_operands n (words_of c.flag c.met c.file rest))) ≡ true
+    → fault_of program_app (program ∷ name ∷ rest) ≡ []
+words_fit c is n count program name rest e =
+    let p = both (bytes_eq name c.name) (is_named c.file rest && are_operands n (words_of c.flag c.met c.file rest)) e in
+    subst (λ (t : Text). fault_of program_app (program ∷ t ∷ rest) ≡ []) (sym ((bytes_eq-Decides name c.name).0 p.0))
+    (found_passes c is program rest (seen_of c.flag [] c.ids c.met c.file rest)
+    (formed_found c.flag is.long is.command.apart.1 rest c.ids c.met c.file n count p.1))
 
 pub words_pass : (words : List Text) → is_well_formed words ≡ true → fault_of program_app words ≡ []
 words_pass [] e = absurd (true≢false (sym e))
 words_pass (program ∷ []) e = absurd (true≢false (sym e))
 words_pass (program ∷ name ∷ rest) e = elim (or_cases (bytes_eq name (codes "run") && is_run rest)
     (bytes_eq name (codes "check") && is_check rest || bytes_eq name (codes "explain") && is_explain rest) e) [
-      | inl run ↦ named_passes program (codes "run") name rest _ run (words_fit run_form run_sub 4 refl program rest)
+      | inl run ↦ words_fit run_form run_sub 4 refl program name rest run
       | inr other ↦ elim (or_cases (bytes_eq name (codes "check") && is_check rest)
           (bytes_eq name (codes "explain") && is_explain rest) other) [
-            | inl check ↦ named_passes program (codes "check") name rest _ check (words_fit check_form check_sub 2 refl program rest)
-            | inr code ↦ named_passes program (codes "explain") name rest _ code (words_fit explain_form explain_sub 1 refl program rest)
+            | inl check ↦ words_fit check_form check_sub 2 refl program name rest check
+            | inr code ↦ words_fit explain_form explain_sub 1 refl program name rest code
           ]
     ]
 
@@ -74,36 +71,32 @@ option_maps : {A B C : Type 0} (f : B → C) (g : A → B) (o : Option A)
 option_maps f g None = refl
 option_maps f g (Some a) = refl
 
--- the subcommand's name and its matches
-pub given_as : (o : Option (Bor Text × Bor ArgMatches)) (p : Bor Text × Bor ArgMatches) (name : Option Text)
-    (rows : Option (List Row)) → o ≡ Some p
-    → option_map (λ (q : Bor Text × Bor ArgMatches). q.0.now) o ≡ name
-    → option_map (λ (q : Bor Text × Bor ArgMatches). rows_of (found_of q.1.now)) o ≡ rows
-    → (Some p.0.now ≡ name) × (Some (rows_of (found_of p.1.now)) ≡ rows)
-given_as o p name rows is n e = (
-  ap (option_map (λ (q : Bor Text × Bor ArgMatches). q.0.now)) (sym is) ∙ n,
-  ap (option_map (λ (q : Bor Text × Bor ArgMatches). rows_of (found_of q.1.now))) (sym is) ∙ e,
-)
-
 abbrev pub HasRead : List Text → Text → List Row → Type 0
 HasRead words name rows = (program : Text) × (rest : List Text) × (words ≡ program ∷ name ∷ rest) × (name ≡ (form_of name).name)
     × Took (form_of name) rest rows
 
-pub has_read : (app : App) (words : List Text) (m : ArgMatches) (name : Text) (rows : List Row) → app ≡ program_app
-    → (is_simple_and_free app ≡ true → fault_of app words ≡ []) → HasMatchesOf app words m
-    → (Some name ≡ subcommand_name_of m) × (Some rows
-    ≡ option_map (λ (p : Text × List Row). p.1) (subcommand_rows_of m)) → HasRead words name rows
-has_read app words m name rows is fault matches found =
+-- the words of the subcommand that the matches give
+pub has_read : (app : App) (words : List Text) (m : ArgMatches) (o : Option (Bor Text × Bor ArgMatches)) (p : Bor Text × Bor ArgMatches)
+    → app ≡ program_app → (is_simple_and_free app ≡ true → fault_of app words ≡ []) → HasMatchesOf app words m → o ≡ Some p
+    → option_map (λ (q : Bor Text × Bor ArgMatches). q.0.now) o ≡ subcommand_name_of m
+    → option_map (λ (q : Bor Text × Bor ArgMatches). rows_of (found_of q.1.now)) o
+    ≡ option_map (λ (p : Text × List Row). p.1) (subcommand_rows_of m)
+    → HasRead words p.0.now (rows_of (found_of p.1.now))
+has_read app words m o p is fault matches found names rows =
     let got = task_read words (subst (λ (a : App). fault_of a words ≡ []) is
     (fault (ap is_simple_and_free is ∙ is_simple_program))) in
     let sub : subcommand_rows_of m ≡ Some (got.1, got.3) =
-    (matches (ap is_simple is ∙ (both (is_simple program_app) _ is_simple_program).0)).1 ∙ ap (λ (a : App). subcommand_of a words) is ∙ got.5 in
+    (matches (ap is_simple is ∙ (both (is_simple program_app) _ is_simple_program).0)).1
+    ∙ ap (λ (a : App). subcommand_of a words) is ∙ got.5 in
     let named : subcommand_name_of m ≡ option_map (λ (p : Text × List Row). p.0) (subcommand_rows_of m) =
     option_maps (λ (p : Text × List Row). p.0) _ (out-ArgMatches m).subcommand in
-    let same : Some name ≡ Some got.1 = found.0 ∙ named ∙ ap (option_map (λ (p : Text × List Row). p.0)) sub in
-    let name_is : name ≡ got.1 = cc in
-    let all : Some rows ≡ Some got.3 = found.1 ∙ ap (option_map (λ (p : Text × List Row). p.1)) sub in
-    let rows_are : rows ≡ got.3 = cc in
+    let same : Some p.0.now ≡ Some got.1 = ap (option_map (λ (q : Bor Text × Bor ArgMatches). q.0.now)) (sym found) ∙ names ∙ named
+    ∙ ap (option_map (λ (p : Text × List Row). p.0)) sub in
+    let name_is : p.0.now ≡ got.1 = cc in
+    let all : Some (rows_of (found_of p.1.now)) ≡ Some got.3 =
+    ap (option_map (λ (q : Bor Text × Bor ArgMatches). rows_of (found_of q.1.now))) (sym found) ∙ rows
+    ∙ ap (option_map (λ (p : Text × List Row). p.1)) sub in
+    let rows_are : rows_of (found_of p.1.now) ≡ got.3 = cc in
     subst (λ (p : Text × List Row). HasRead words p.0 p.1) (λ j. (sym name_is j, sym rows_are j)) (got.0, got.2, got.4, got.6, got.7)
 
 -- ---- the values

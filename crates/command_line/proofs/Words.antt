@@ -1,18 +1,18 @@
 -- What a word of a command line is: how clap reads it, in one pass over the words of a subcommand (`scan`),
 -- and how the definitions of the command line do.
-use Rattle.std.proofs.Common.{◌&&◌, ◌∷◌, [], Bool, List, None, Option, Some, codes, cond, false, is_some, not, true, ◌==◌, ◌≡◌, ◌∙◌, ℕ, ap, arith, eqb-true}
-use Rattle.std.proofs.Common.{eq-eqb, get_or, length, refl, subst, suc, sym, true≢false}
-use Rattle.std.specs.Prelude.{slice_get, option_and_then, unwrap_or}
+use Rattle.std.proofs.Common.{◌&&◌, ◌==◌, ◌∙◌, ◌∷◌, ◌≡◌, [], ℕ, Bool, List, None, Option, Some, ap, arith, codes, cond, eq-eqb, eqb-true, false}
+use Rattle.std.proofs.Common.{get_or, is_some, length, not, refl, subst, suc, sym, true, true≢false}
+use Rattle.std.specs.Prelude.{option_and_then, slice_get, unwrap_or}
 use Rattle.std.specs.Option.{option_map_or}
-use Rattle.std.specs.Str.{bytes_eq, chars, IsUtf8, encode_utf8_all}
-use Rattle.clap.specs.Lexer.{long_of, short_of, has_byte, long_of_rest, short_of_rest, strip_byte}
-use Rattle.clap.specs.Walk.{Text}
+use Rattle.std.specs.Str.{IsUtf8, bytes_eq, chars, encode_utf8_all}
 use Rattle.std.specs.List.{before_first}
 use Rattle.std.proofs.lemmas.Bool.{false_from_ne_true, not-true}
 use Rattle.std.proofs.lemmas.Option.{none-some, option_and_then_some}
 use Rattle.std.proofs.lemmas.Slice.Eq.{bytes_eq-Decides}
 use Rattle.std.proofs.lemmas.Str.{chars_past_char, encodes-chars}
 use Rattle.std.proofs.lemmas.List.Folds.{list_any_at}
+use Rattle.clap.specs.Lexer.{has_byte, long_of, long_of_rest, short_of, short_of_rest, strip_byte}
+use Rattle.clap.specs.Walk.{Text}
 use Rattle.clap.proofs.CutLemmas.{before_first-Lacks}
 use Rattle.command_line.specs.CommandLine.{as_report, is_plain_word, report_option}
 

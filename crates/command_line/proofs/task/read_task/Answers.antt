@@ -1,5 +1,5 @@
 use Rattle.std.proofs.Common.{◌≡◌, true, map}
-use Rattle.command_line.proofs.Requested.{given_as, has_read, has_task, refused, task_requested, words_pass}
+use Rattle.command_line.proofs.Requested.{has_read, has_task, refused, task_requested, words_pass}
 use Rattle.clap.proofs.TakesLemmas.{passed_up}
 use Rattle.clap.specs.Words.{found_of, kind_of}
 use Rattle.clap.specs.declared.error.kind.ErrorKind.TheVariants.{OutOfMemory}
@@ -8,19 +8,15 @@ use Rattle.command_line.proofs.task.read_task.Goals as goal
 
 pub task_of-requires : goal.task_of-requires
 task_of-requires c =
-    has_task _ _ _ (has_read _ (map (λ w. w.now) c.args.words.now) c.in_ok-matches.matches c.unwrap.result.0.now
-    _ c.in_ok-program.ensures c.in_ok-matches.ensures.kinds c.in_ok-matches.ensures.matches
-    (given_as c.subcommand.result c.unwrap.result _ _ c.unwrap.ensures c.subcommand.ensures.name
-    c.subcommand.ensures.rows))
+    has_task _ _ _ (has_read _ (map (λ w. w.now) c.args.words.now) c.in_ok-matches.matches c.subcommand.result c.unwrap.result
+    c.in_ok-program.ensures c.in_ok-matches.ensures.kinds c.in_ok-matches.ensures.matches c.unwrap.ensures
+    c.subcommand.ensures.name c.subcommand.ensures.rows)
 
 pub returns-clause-requested : goal.returns-clause-requested
 returns-clause-requested c =
-    task_requested _ c.unwrap.result.0.now (found_of c.unwrap.result.1.now)
-    (has_read _ _ c.in_ok-matches.matches c.unwrap.result.0.now _ c.in_ok-program.ensures
-    c.in_ok-matches.ensures.kinds c.in_ok-matches.ensures.matches
-    (given_as c.subcommand.result c.unwrap.result _ _ c.unwrap.ensures c.subcommand.ensures.name
-    c.subcommand.ensures.rows))
-    c.task_of.result c.task_of.ensures
+    task_requested _ _ (found_of c.unwrap.result.1.now) (has_read _ (map (λ w. w.now) c.args.words.now) c.in_ok-matches.matches
+    c.subcommand.result c.unwrap.result c.in_ok-program.ensures c.in_ok-matches.ensures.kinds c.in_ok-matches.ensures.matches
+    c.unwrap.ensures c.subcommand.ensures.name c.subcommand.ensures.rows) c.task_of.result c.task_of.ensures
 
 pub returns-in_err-matches-clause-refused : goal.returns-in_err-matches-clause-refused
 returns-in_err-matches-clause-refused c =
