@@ -70,43 +70,17 @@ begun_by id p mark reply source dest =
       dest = dest;
     }) p.flags
 
-module _ (P : ConntrackEntry → Type 0) where
-  -- so is one that a packet begins
-  abbrev pub IsBegunSo : Belonging → ConnId → Arrival → Confirmation → Type 0
-  IsBegunSo (Found place) id p confirmation = Unit {0}
-  IsBegunSo b id p Unconfirmed = Unit {0}
-  IsBegunSo b id p (Confirmed mark reply source dest) = P (begun_by id p mark reply source dest)
-
-  -- a touch keeps it
-  abbrev pub IsTouchedSo : Type 0
-  IsTouchedSo = (direction : Direction) (flags : Flags) (mark now : ℕ) (h : ConntrackEntry) → P h
-      → P (touched direction flags mark now h)
-
-  module _ (keeps : IsTouchedSo) where
-    each_touched : (id : ConnId) (direction : Direction) (flags : Flags) (mark now : ℕ) (held : List ConntrackEntry)
-        → All P held
-        → All P (touched_at id direction flags mark now held)
-    each_touched id direction flags mark now held all =
-        All-map P (λ h. cond (same_id id h) (touched direction flags mark now h) h) held
-        (All-weaker P _ (λ h one. by_test (same_id id h) h one) held all)
-      where
-        by_test : (b : Bool) (h : ConntrackEntry) → P h → P (cond b (touched direction flags mark now h) h)
-        by_test true h one = keeps direction flags mark now h one
-        by_test false h one = one
-
-    pub each_after_packet : (b : Belonging) (id : ConnId) (p : Arrival) (confirmation : Confirmation) (held : List
-        ConntrackEntry)
-        → All P (after_end b held) → IsBegunSo b id p confirmation → All P (after_packet b id p confirmation held)
-    each_after_packet (Found place) id p Unconfirmed held all begun = all
-    each_after_packet (Found place) id p (Confirmed mark reply source dest) held all begun =
-        each_touched place.id place.direction p.flags mark p.moment held all
-    each_after_packet b id p Unconfirmed held all begun = all
-    each_after_packet b id p (Confirmed mark reply source dest) held all begun =
-        All-push P (after_end b held) _ all begun
-
-  pub each_after_end : (b : Belonging) (held : List ConntrackEntry) → All P held → All P (after_end b held)
-  each_after_end (Ends e) held all = All-filter (λ h. not (same_id e h)) P held all
-  each_after_end _ held all = all
+-- what a touch keeps of one is kept of all
+pub each_touched : (P : ConntrackEntry → Type 0) (id : ConnId) (direction : Direction) (flags : Flags) (mark now : ℕ)
+    → ((h : ConntrackEntry) → P h → P (touched direction flags mark now h)) → (held : List ConntrackEntry) → All P held
+    → All P (touched_at id direction flags mark now held)
+each_touched P id direction flags mark now keeps held all =
+    All-map P (λ h. cond (same_id id h) (touched direction flags mark now h) h) held
+    (All-weaker P _ (λ h one. by_test (same_id id h) h one) held all)
+  where
+    by_test : (b : Bool) (h : ConntrackEntry) → P h → P (cond b (touched direction flags mark now h) h)
+    by_test true h one = keeps h one
+    by_test false h one = one
 
 -- ---- mappings
 
@@ -118,7 +92,7 @@ listed_is None m among = absurd (omega (arith, among.1))
 listed_is (Some n) m among =
     elim (Contains-cases n [] m among) [ inl e ↦ ap Some e | inr none ↦ absurd (omega (arith, none.1)) ]
 
-is_listed : (o : Option Mapping) (m : Mapping) → o ≡ Some m → Contains (listed o) m
+pub is_listed : (o : Option Mapping) (m : Mapping) → o ≡ Some m → Contains (listed o) m
 is_listed o m e = subst (λ (x : Option Mapping). Contains (listed x) m) (sym e) (Contains-head m [])
 
 held_as : (h : ConntrackEntry) (m : Mapping) → Contains (mappings_of h) m → HasMapping h m

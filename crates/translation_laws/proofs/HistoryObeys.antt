@@ -12,7 +12,7 @@ use Rattle.std.specs.Prelude.{filter, map, max}
 use Rattle.std.specs.List.{Contains, All}
 use Rattle.std.proofs.lemmas.Bool.{cond_both, lt-ltb, ltb-true, and_parts, and_from, both_ways, not_from_false}
 use Rattle.std.proofs.lemmas.Bool.{or_left, or_right}
-use Rattle.std.proofs.lemmas.List.Elements.{All-contains, filter_passes}
+use Rattle.std.proofs.lemmas.List.Elements.{All-contains, All-weaker, filter_passes}
 use Rattle.list_laws.specs.Lists.{Contains-head}
 use Rattle.list_laws.specs.Elements.{Contains-cases, Contains-tail, Contains-unmap}
 use Rattle.conntrack.specs.ConntrackEntry.{is_live, have_disjoint_tuples, connection_of, is_incoming}
@@ -30,7 +30,7 @@ use Rattle.conntrack.specs.declared.connection.Connection.{Connection}
 use Rattle.conntrack.specs.declared.connection.ConntrackEntry.{ConntrackEntry}
 use Rattle.translation.specs.LiveMappings.{mappings_in}
 use Rattle.translation_laws.proofs.Connections.{mapping_of_holder, not_behind, parts, taken_by, each_mapping}
-use Rattle.translation_laws.proofs.Connections.{given_one}
+use Rattle.translation_laws.proofs.Connections.{MappingsAre, given_one}
 use Rattle.ip_headers.specs.declared.view.HeaderFault.{HeaderFault}
 use Rattle.ip_headers.specs.Header.{fault_of, packet_of}
 use Rattle.ip_headers.specs.Passing.{Passes}
@@ -43,13 +43,12 @@ use Rattle.stepping.specs.Carried.{ReceivedPacket, carried, carried_after, carri
 use Rattle.stepping.specs.Carried.{input_interface}
 use Rattle.std.proofs.lemmas.Option.{none-some}
 use Rattle.nat_mapping.specs.Mappings.{IsOneToOne}
-use Rattle.translation_laws.proofs.EntryLaws.{allocated_among, allocates_port, begins_one, turns_back}
+use Rattle.translation_laws.proofs.EntryLaws.{allocates_so, begins_one, turns_back}
 use Rattle.translation_laws.proofs.EntryLaws.{BetweenEnds, GoesSo, goes_so, touches_own}
-use Rattle.translation_laws.proofs.Preserved.{AllChosen, CandidatesAlike, HasClass, chosen_kept, class_kept}
-use Rattle.translation_laws.proofs.Preserved.{MappingLaws, StillApart, after_one, apart_kept, one_to_one_kept}
-use Rattle.translation_laws.proofs.Preserved.{IsMade, made_kept}
-use Rattle.translation_laws.proofs.HistorySteps.{Always, OneEntryMore, lifted, lifted_before}
-use Rattle.translation_laws.proofs.Paths.{AcceptedWith, accepted_with, belongs_by, dropped_none}
+use Rattle.translation_laws.proofs.Preserved.{CandidatesAlike, IsChosen, IsMade, MappingLaws, Preserved, StillApart}
+use Rattle.translation_laws.proofs.Preserved.{ended, preserved}
+use Rattle.translation_laws.proofs.HistorySteps.{Always, IsKept, OneEntryMore, lifted}
+use Rattle.translation_laws.proofs.Paths.{accepted_with, belongs_by, dropped_none}
 use Rattle.translation_laws.proofs.Paths.{passes_accepted}
 
 -- ==== Each entry of a history extends the history before it.
@@ -212,36 +211,25 @@ pub record Known : Type 0 where
   pub faults : FaultLaws
 
 module _ (known : Known) (setup : Setup) where
-  abbrev IsOne : List Entry → List ConntrackEntry → Type 0
-  IsOne history held = IsOneToOne (mappings_in held)
-
-  abbrev IsApart : List Entry → List ConntrackEntry → Type 0
-  IsApart history held = IsTrue (have_disjoint_tuples held)
-
-  apart_always : Always setup (λ history now. IsTrue (have_disjoint_tuples (alive_at setup history now)))
-  apart_always = lifted known.more setup IsApart (apart_kept known.still)
-
-  given_always : Always setup (λ history now. GivenToOne (alive_at setup history now))
-  given_always history is now le h t flags =
-      given_one t (alive_at setup history now) h flags (apart_always history is now le)
+  kept : IsKept Preserved
+  kept = preserved known.still known.laws known.all
 
   live_always : Always setup (λ history now. LiveLaws setup history now (listed_at setup history now))
   live_always history is now le =
       let alive = alive_at setup history now in
-      let one = lifted known.more setup IsOne (one_to_one_kept known.laws) history is now le in
-      let class = lifted known.more setup (λ history held. HasClass history) (class_kept known.all) history is now le in
-      let chosen = lifted known.more setup AllChosen (chosen_kept known.laws) history is now le in
+      let k = lifted known.more setup Preserved kept history is now le in
       record {
         listed = refl;
-        apart = apart_listed alive (apart_always history is now le);
+        apart = apart_listed alive k.apart;
         one_internal = λ c d m n a b from other.
-            one.one_internal m n (listed_mapping alive c m a from) (listed_mapping alive d n b other);
+            k.mapped.one.one_internal m n (listed_mapping alive c m a from) (listed_mapping alive d n b other);
         one_port = λ c d m n a b from other.
-            one.one_port m n (listed_mapping alive c m a (inl from)) (listed_mapping alive d n b (inl other));
-        class = λ c m live holds ports latest. class m ports latest;
-        chosen = λ c m live holds.
-            each_mapping (λ m. latest_choice m history ≢ None) alive chosen m (listed_mapping alive c m live holds);
-        given = given_always history is now le;
+            k.mapped.one.one_port m n (listed_mapping alive c m a (inl from)) (listed_mapping alive d n b (inl other));
+        class = λ c m live holds ports latest. k.mapped.class m ports latest;
+        chosen = λ c m live holds. each_mapping (IsChosen history) alive
+            (All-weaker (IsMade history) (MappingsAre (IsChosen history)) (λ h one. one.chosen) alive k.mapped.all) m
+            (listed_mapping alive c m live holds);
+        given = λ h t flags. given_one t alive h flags k.apart;
         lives = lives_always setup history now;
       }
 
@@ -253,15 +241,11 @@ module _ (known : Known) (setup : Setup) where
     abbrev now : ℕ
     now = moment_after history r
 
+    before : Preserved history held
+    before = lifted known.more setup Preserved kept history is now (omega arith)
+
     faultless : (a : ReceivedPacket) → carried setup r ≡ Ok a → fault_of a.packet ≡ None
     faultless a arrived = subst IsFaultless arrived (carried_faultless known.faults setup r)
-
-    accepted_so : Next setup history r e → (a : ReceivedPacket) (t : Tuple) → ComesWith setup r e a t → IsAccepted e
-        → AcceptedWith setup held now a t e
-    accepted_so n a t comes accepted =
-        accepted_with setup held now a t e
-        (subst (λ (x : Result ReceivedPacket Cause). EntryOf setup held now x e) comes.carries n.entry) comes.tuple
-        comes.tracked accepted
 
     leaves_so : Next setup history r e → LeavesTranslated setup history r e
     leaves_so n a t comes h among incoming unended = record {
@@ -271,53 +255,34 @@ module _ (known : Known) (setup : Setup) where
       where
         goes : IsAccepted e → GoesSo h t e
         goes accepted =
-            goes_so setup held now a t e (accepted_so n a t comes accepted) known.sending (faultless a comes.carries) h
-            (All-contains IsMade held h
-            (lifted_before known.more setup (λ history held. All IsMade held) (made_kept known.laws) history is r)
-            among)
-            (lifted_before known.more setup IsApart (apart_kept known.still) history is r) among incoming unended
+            goes_so setup held now a t e (accepted_with setup history r e n a t comes accepted) known.sending (faultless a comes.carries)
+            history h
+            (All-contains (IsMade history) held h before.mapped.all among) before.apart among incoming unended
 
     begins_so : Next setup history r e → BeginsOne setup history r e
     begins_so n a t comes new free accepted =
-        begins_one setup held now a t e (accepted_so n a t comes accepted) new free
-
-    dropped_so : Next setup history r e → CountsForNone e
-    dropped_so n = dropped_none setup history r e n
+        begins_one setup held now a t e (accepted_with setup history r e n a t comes accepted) new free
 
     hairpins_so : Next setup history r e → Hairpins setup history r e
     hairpins_so n a t comes ports m among kind external other begins untold interface passed =
-        turns_back setup held now a t e (accepted_so n a t comes (passes_accepted e interface passed)) interface passed
+        turns_back setup held now a t e (accepted_with setup history r e n a t comes (passes_accepted e interface passed)) interface passed
         begins known.laws known.sending (faultless a comes.carries)
-        (after_one known.laws held (belongs_by held a.packet t)
-        (lifted_before known.more setup IsOne (one_to_one_kept known.laws) history is r)) ports m among kind external
-        other untold
-
-    -- a connection is begun by a packet that was looked up
-    allocates_so : Next setup history r e → AllocatesPort setup history r e
-    allocates_so n = record {
-      only = allocates_port setup history r e n;
-      mapped = λ a t comes m from.
-          allocated_among setup held now a t e (accepted_so n a t comes (begun_accepted n m from)) m from;
-    }
-      where
-        -- a dropped packet begins none
-        begun_accepted : Next setup history r e → (m : Mapping) → (begun e.tracked.change).source ≡ Some m
-            → IsAccepted e
-        begun_accepted n m from cause dropped =
-            none-some m (sym (ap (λ (c : ConnectionChange). (begun c).source) (dropped_so n cause dropped)) ∙ from)
+        (ended known.laws history held before.mapped (belongs_by held a.packet t)).one ports m among kind external other
+        untold
 
   pub history_obeys : (history : List Entry) → IsHistory setup history → HistoryLaws setup history
   history_obeys history is = record {
     live = live_always history is;
     next = λ r e n.
-        let reached : moment_of history ≤ max (moment_of history) r.moment = omega arith in record {
-          given = given_always history is (moment_after history r) reached;
-          lives = lives_always setup history (moment_after history r);
+        let live = live_always history is (moment_after history r) (omega arith) in
+        record {
+          given = live.given;
+          lives = live.lives;
           leaves = leaves_so history is r e n;
           touches = touches_own setup history r e n;
           begins = begins_so history is r e n;
-          dropped = dropped_so history is r e n;
+          dropped = dropped_none setup history r e n;
           hairpins = hairpins_so history is r e n;
-          allocates = allocates_so history is r e n;
+          allocates = allocates_so setup history r e n;
         };
   }

@@ -1,6 +1,6 @@
 -- What packets and time preserve of the connections held is true in each history.
 use Rattle.std.proofs.Common.{◌≡◌, ℕ, Bool, true, false, cond, List, Option, Some, None, refl, sym, subst}
-use Rattle.std.proofs.Common.{Result, Ok, Err, ap, ◌≤◌, IsTrue, [], ◌∷◌, arith}
+use Rattle.std.proofs.Common.{Result, Ok, Err, ap, ◌≤◌, ◌∙◌, IsTrue, [], ◌∷◌, arith}
 use Rattle.std.specs.Prelude.{length, nat_le, max}
 use Rattle.list_laws.specs.Options.{some_of_map}
 use Rattle.box_file.specs.Box.{PlantTree}
@@ -29,9 +29,8 @@ use Rattle.translation.specs.Nat.{with_source_nat, with_destination_nat, externa
 use Rattle.stepping.specs.Paths.{PathState, StepResult, Continue, Drop}
 use Rattle.stepping.specs.Confirmations.{confirmation_by, port_choice_for, port_choice_in, refusal, reply_to}
 use Rattle.stepping.specs.Confirmations.{confirmation_of, mark_in, port_choice_of}
-use Rattle.translation_laws.proofs.Paths.{AfterNat, AfterSourceNat, delivered, forwarded_on, stays}
-use Rattle.translation_laws.proofs.Paths.{IsConfirmed, IsUnrefused, IfContinues, IsThrough, belongs_by}
-use Rattle.translation_laws.proofs.Paths.{belongs_is, its_tuple, looked_up_so, path_so, tracked_is}
+use Rattle.translation_laws.proofs.Paths.{AcceptedWith, EntryCase, IsLookedUp, IsNone, accepted_so, begins, belongs_by}
+use Rattle.translation_laws.proofs.Paths.{dropped_so, entry_case, is_invalid, refreshes, unseen_so}
 use Rattle.ip_headers.specs.Tuple.{tuple_of}
 use Rattle.pcap_io.specs.Pcap.{Recorded}
 use Rattle.history.specs.declared.outcome.Cause.{Cause}
@@ -81,45 +80,6 @@ IsCounted port_choice (Confirmed mark reply source dest) (Found place) t held = 
 IsCounted port_choice (Confirmed mark reply source dest) belonging t held =
     IsBegun (after_end belonging held) t reply source dest port_choice
 
--- ---- the state of a packet without a connection
-
-abbrev pub IsNone : Belonging → Type 0
-IsNone (Found place) = ⊥
-IsNone _ = Unit {0}
-
--- if NAT left it NEW, this is its first state
-abbrev FromFirst : List Mapping → LookupState → Tuple → CtInfo → Type 0
-FromFirst mappings state t (Tracked of) = ⊥
-FromFirst mappings state t (New new_connection) = (state ≡ states.New) × IsNewConnection mappings t new_connection
-FromFirst mappings state t _ = Unit {0}
-
-module _ (setup : Setup) (mappings : List Mapping) (input : Interface) (t : Tuple) (s : PathState) where
-  from_first : (state : LookupState) → AfterNat setup mappings input (new_ct_info state t) s
-      → FromFirst mappings state t s.info
-  from_first states.New n = by_source n.so
-    where
-      turned : NewConnection
-      turned = with_destination_nat setup.plant mappings n.asked.facts (new_connection_of t) n.asked.verdict
-
-      drafted_by : (x : Option ExternalSource) (d : NewConnection) → with_source_nat mappings turned x ≡ Some d
-          → IsNewConnection mappings t d
-      drafted_by x d drafted = record {
-        plant = setup.plant;
-        facts = n.asked.facts;
-        verdict = n.asked.verdict;
-        external_source = x;
-        drafted = drafted;
-      }
-
-      by_source : AfterSourceNat setup mappings input (New turned) s → FromFirst mappings states.New t s.info
-      by_source (delivered none is) =
-          subst (FromFirst mappings states.New t) (sym is) (refl, drafted_by None turned refl)
-      by_source (forwarded_on asked ran on entered is) =
-          let x = external_source setup.plant asked.facts turned asked.verdict in
-          let d = some_of_map (λ (d : NewConnection). New d) (with_source_nat mappings turned x) s.info is in
-          subst (FromFirst mappings states.New t) d.2 (refl, drafted_by x d.0 d.1)
-  from_first state n = subst (FromFirst mappings state t) (sym (stays setup mappings input s Invalid tt n)) tt
-
 -- ---- its confirmation
 
 -- a connection that isn't refused is answered by a tuple that is free
@@ -132,45 +92,12 @@ untaken reply others e = by_tests (nat_le max_connections (length others)) (is_t
     by_tests false true k = cc
     by_tests false false k = refl
 
-module _ (t : Tuple) (held : List ConntrackEntry) (mark : ℕ) where
-  -- the confirmation of a packet that ends in this state
-  abbrev pub Counts : Belonging → CtInfo → Type 0
-  Counts b info =
-      IsCounted (port_choice_for (mappings_in (after_end b held)) info) (confirmation_by info mark) b t held
-
-  found_so : (port_choice : Option Bool) (confirmation : Confirmation) (place : ConnectionRef)
-      → IsCounted port_choice confirmation (Found place) t held
-  found_so port_choice Unconfirmed place = tt
-  found_so port_choice (Confirmed mark reply source dest) place = tt
-
-  begins_so : (others : List ConntrackEntry) (d : NewConnection)
-      → FromFirst (mappings_in others) (first_state t.kind) t (New d) → IsUnrefused others (New d)
-      → IsBegun others t (reply_to d) d.source d.dest (port_choice_in (mappings_in others) d.has_port_range d.source)
-  begins_so others d first free = record {
-    new = first.0;
-    new_connection = d;
-    drafted = first.1;
-    answers = refl;
-    from = refl;
-    to = refl;
-    free = untaken (reply_to d) others free;
-    chosen = refl;
-  }
-
-  none_so : (b : Belonging) → IsNone b → (info : CtInfo)
-      → FromFirst (mappings_in (after_end b held)) (first_state t.kind) t info → IsUnrefused (after_end b held) info
-      → Counts b info
-  none_so (Found place) none info first free = absurd none
-  none_so b none (Tracked of) first free = absurd first
-  none_so b none (New d) first free = begins_so (after_end b held) d first free
-  none_so b none info first free = tt
-
-  pub counts_so : (setup : Setup) (input : Interface) (s : PathState) (b : Belonging)
-      → IsConfirmed setup input (after_end b held) (ct_info_by t b) s → Counts b s.info
-  counts_so setup input s (Found place) c = found_so _ (confirmation_by s.info mark) place
-  counts_so setup input s b c =
-      none_so b tt s.info
-      (from_first setup (mappings_in (after_end b held)) input t s (first_state t.kind) c.0) c.1
+begun_counted : (b : Belonging) → IsNone b → (mark : ℕ) (t reply : Tuple) (source dest : Option Mapping)
+    (port_choice : Option Bool) (held : List ConntrackEntry)
+    → IsBegun (after_end b held) t reply source dest port_choice
+    → IsCounted port_choice (Confirmed mark reply source dest) b t held
+begun_counted (Found place) none mark t reply source dest port_choice held begun = absurd none
+begun_counted _ none mark t reply source dest port_choice held begun = begun
 
 -- ==== The part of an entry that conntrack reads.
 
@@ -182,42 +109,44 @@ pub data Follows (held : List ConntrackEntry) (now : ℕ) (e : Entry) : Type 0 w
       → e.tracked ≡ updates.entry_of (belongs_by held p t) (arrival_of now p t) confirmation
       → IsCounted e.port_choice confirmation (belongs_by held p t) t held → Follows held now e
 
-module _ (setup : Setup) (held : List ConntrackEntry) (now : ℕ) (p : List ℕ) (input : Interface) where
-  counted : (t : Tuple) (r : StepResult) → IfContinues (IsThrough setup input held p) r → tuple_in p r ≡ Some t
-      → IsCounted (port_choice_of (others_in held p) r) (confirmation_of r) (belongs_by held p t) t held
-  counted t (Drop cause s) through e = tt
-  counted t (Continue s) through e =
-      let l = looked_up_so setup input held p t s through e in
-      let mark = mark_in s.facts.ct in
-      subst (λ (b : Belonging). IsCounted (port_choice_for (mappings_in (after_end b held)) s.info)
-      (confirmation_by s.info mark) (belongs_by held p t) t held) (sym (belongs_is held p t l.read))
-      (counts_so t held mark setup input s (belongs_by held p t) l.confirmed)
+module _ (setup : Setup) (held : List ConntrackEntry) (now : ℕ) (e : Entry) where
+  counted : (a : ReceivedPacket) (t : Tuple) (q : AcceptedWith setup held now a t e)
+      → IsLookedUp setup (interface_facts setup.plant a.interface) held a.packet (belongs_by held a.packet t) t q.end
+      → IsCounted e.port_choice (confirmation_by q.end.info (mark_in q.end.facts.ct)) (belongs_by held a.packet t) t held
+  counted a t q (refreshes place found is) = rw (is, found) tt
+  counted a t q (is_invalid none new is) = rw is tt
+  counted a t q (begins none new n free) =
+      rw n.is (begun_counted (belongs_by held a.packet t) none (mark_in q.end.facts.ct) t (reply_to n.left) n.left.source
+      n.left.dest e.port_choice held
+      (record {
+        new = new;
+        new_connection = n.left;
+        drafted = record {
+          plant = setup.plant;
+          facts = n.asked.facts;
+          verdict = n.asked.verdict;
+          external_source = n.external;
+          drafted = n.drafted;
+        };
+        answers = refl;
+        from = refl;
+        to = refl;
+        free = untaken (reply_to n.left) (after_end (belongs_by held a.packet t) held) free;
+        chosen = q.port_choice
+            ∙ ap (port_choice_for (mappings_in (after_end (belongs_by held a.packet t) held))) n.is;
+      }))
 
-  result_follows : (r : StepResult) → IfContinues (IsThrough setup input held p) r
-      → Follows held now (entry_of now held p r)
-  result_follows r through = by_tuple (tuple_in p r) refl
-    where
-      by_tuple : (o : Option Tuple) → tuple_in p r ≡ o → Follows held now (entry_of now held p r)
-      by_tuple None e =
-          not_looked_up_so (ap (λ (o : Option Tuple). tracked_as now held p o (confirmation_of r)) e)
-      by_tuple (Some t) e =
-          let read = its_tuple p t (final_state r).info e in
-          seen_so p t (confirmation_of r) read (tracked_is now held p t r read e) (counted t r through e)
+  follows : (carries : Result ReceivedPacket Cause) → EntryCase setup held now carries e → Follows held now e
+  follows carries (unseen_so is untold other) = not_looked_up_so is
+  follows carries (dropped_so p t read is untold cause dropped) = seen_so p t Unconfirmed read is tt
+  follows carries (accepted_so a arrived t q) =
+      seen_so a.packet t (confirmation_by q.end.info (mark_in q.end.facts.ct)) q.read q.tracked (counted a t q q.state)
 
 pub next_follows : (setup : Setup) (history : List Entry) (r : Recorded) (e : Entry) → Next setup history r e
     → Follows (live_at_record setup history r) (moment_after history r) e
-next_follows setup history r e n = by_carried (carried setup r) n.entry
-  where
-    by_carried : (x : Result ReceivedPacket Cause)
-        → EntryOf setup (live_at_record setup history r) (moment_after history r) x e
-        → Follows (live_at_record setup history r) (moment_after history r) e
-    by_carried (Err cause) is = not_looked_up_so (ap (λ (x : Entry). x.tracked) is)
-    by_carried (Ok a) q =
-        let held = live_at_record setup history r in
-        let now = moment_after history r in
-        let input = interface_facts setup.plant a.interface in
-        subst (Follows held now) (sym q.2)
-        (result_follows setup held now a.packet input q.0 (path_so setup input held a.packet q.0 q.1))
+next_follows setup history r e n =
+    follows setup (live_at_record setup history r) (moment_after history r) e (carried setup r)
+    (entry_case setup history r e n)
 
 -- ==== What packets and time preserve of the connections held is true in each history.
 
@@ -302,10 +231,3 @@ module _ (more : OneEntryMore) (setup : Setup) (Inv : List Entry → List Conntr
 
     pub lifted : Always setup (λ history now. Inv history (alive_at setup history now))
     lifted history is now le = grown is.records [] history is.is_history (λ n l. kept.first) now le
-
-    -- and when the next record comes, before it
-    pub lifted_before : (history : List Entry) → IsHistory setup history → (r : Recorded)
-        → Inv history (live_at_record setup history r)
-    lifted_before history is r =
-        let reached : moment_of history ≤ max (moment_of history) r.moment = omega arith in
-        lifted history is (moment_after history r) reached

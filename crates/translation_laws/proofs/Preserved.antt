@@ -1,9 +1,9 @@
 -- What each entry preserves: tuples in no two connections, mappings one to one, tuples that packets can have, allocated ports.
 use Rattle.std.proofs.Common.{◌≡◌, ℕ, Bool, IsTrue, List, [], ◌∷◌, ◌++◌, Option, Some, inl, inr, refl, sym}
 use Rattle.std.proofs.Common.{subst, ◌∙◌, arith, not, None, ap, ◌≢◌, true, false, cond, is_some, ◌⊎◌}
-use Rattle.std.specs.List.{Contains, All}
+use Rattle.std.specs.List.{All, Contains, filter}
 use Rattle.std.proofs.lemmas.List.Elements.{All-filter, Contains-append_left, Contains-append_right, All-nil}
-use Rattle.std.proofs.lemmas.List.Elements.{All-weaker}
+use Rattle.std.proofs.lemmas.List.Elements.{All-push, All-weaker}
 use Rattle.list_laws.specs.Lists.{Contains-head}
 use Rattle.ip_headers.specs.declared.tuple.Endpoint.{Endpoint}
 use Rattle.ip_headers.specs.declared.tuple.Kind.{Kind}
@@ -13,12 +13,14 @@ use Rattle.port_pool.specs.declared.range.CandidateRange.{CandidateRange}
 use Rattle.nat_mapping.specs.Mappings.{IsOneToOne, inbound_of, source_of, first_free_port, is_port_held}
 use Rattle.nat_mapping.specs.Mappings.{or_else, port_of, same_mapping}
 use Rattle.conntrack.specs.declared.belonging.Belonging.{Belonging}
-use Rattle.conntrack.specs.declared.belonging.Belonging.TheVariants.{Found}
+use Rattle.conntrack.specs.declared.belonging.Belonging.TheVariants.{Ends, Found}
 use Rattle.conntrack.specs.declared.connection.ConnId.{ConnId}
 use Rattle.conntrack.specs.declared.connection.ConntrackEntry.{ConntrackEntry}
 use Rattle.box_file.specs.declared.limits.Limits.{Limits}
 use Rattle.conntrack.specs.ConntrackEntry.{have_disjoint_tuples, belongs_in, has_distinct_ids, is_live}
-use Rattle.conntrack.specs.ConntrackEntry.{live_at, first_state}
+use Rattle.conntrack.specs.declared.connection.Direction.{Direction}
+use Rattle.conntrack.specs.declared.connection.Flags.{Flags}
+use Rattle.conntrack.specs.ConntrackEntry.{first_state, live_at, same_id, touched_at}
 use Rattle.conntrack.specs.Updates.{Arrival, Confirmation, Unconfirmed, Confirmed, DoesNotClash, after_end}
 use Rattle.conntrack.specs.Updates.{after_packet, change_of_packet}
 use Rattle.translation.specs.declared.ct_info.NewConnection.{NewConnection}
@@ -26,8 +28,8 @@ use Rattle.translation.specs.LiveMappings.{listed, mappings_in}
 use Rattle.translation.specs.Nat.{range_of, has_ports}
 use Rattle.translation_laws.proofs.HistorySteps.{IsBegun, IsCounted, IsKept}
 use Rattle.translation_laws.proofs.Connections.{NewConnectionSo, SourceSo, stayed, went, with_nat_status_so}
-use Rattle.translation_laws.proofs.Connections.{IsBegunSo, MappingsAre, begun_by, each_after_end}
-use Rattle.translation_laws.proofs.Connections.{each_after_packet, each_holder, each_mapping, mapping_at}
+use Rattle.translation_laws.proofs.Connections.{MappingsAre, begun_by, each_holder, each_mapping, each_touched}
+use Rattle.translation_laws.proofs.Connections.{is_listed, mapping_at}
 use Rattle.translation_laws.proofs.Connections.{end_at, found_so, port_held, mapping_exact, mapping_same}
 use Rattle.list_laws.specs.Options.{some_of_map, none_not_some, some_unique}
 use Rattle.list_laws.specs.Elements.{Contains-cases}
@@ -48,7 +50,7 @@ use Rattle.port_pool.specs.declared.order.Order.TheVariants as orders
 use Rattle.conntrack.specs.declared.belonging.LookupState.TheVariants as states
 use Rattle.conntrack.specs.Updates as updates
 
--- ==== The connections held share no tuple, and their mappings stay one to one.
+-- ==== What is preserved of the connections held: their tuples are apart, their mappings one to one and allocated.
 
 -- ---- no tuple in common
 
@@ -67,16 +69,6 @@ begun_apart : (port_choice : Option Bool) (confirmation : Confirmation) (b : Bel
 begun_apart port_choice confirmation (Found place) t held c = tt
 begun_apart port_choice Unconfirmed b t held c = tt
 begun_apart port_choice (Confirmed mark reply source dest) b t held c = c.free
-
-pub apart_kept : StillApart → IsKept (λ history held. IsTrue (have_disjoint_tuples held))
-apart_kept still = record {
-  first = refl;
-  live = λ limits history held now apart. still.live limits held now apart;
-  none = λ history held e now is apart. apart;
-  packet = λ history held e id x confirmation p distinct read is touched apart.
-      still.packet held id x confirmation distinct apart
-      (begun_apart e.port_choice confirmation (belongs_in held x.tuple x.flags) x.tuple held touched);
-}
 
 -- ---- one to one
 
@@ -112,88 +104,6 @@ module _ (laws : MappingLaws) where
   dest_held mappings t d drafted m is =
       let r = drafted.dest m is in
       subst (Contains mappings) (sym r.0) (laws.inbound mappings t.kind d.tuple.destination t.destination r.1)
-
-  module _ (held : List ConntrackEntry) where
-    abbrev Its : ConntrackEntry → Type 0
-    Its = MappingsAre (Contains (mappings_in held))
-
-    left_one : (left : List ConntrackEntry) → All Its left → IsOneToOne (mappings_in held)
-        → IsOneToOne (mappings_in left)
-    left_one left all one =
-        laws.within (mappings_in left) (mappings_in held) (each_mapping (Contains (mappings_in held)) left all) one
-
-    itself : All Its held
-    itself = each_holder (Contains (mappings_in held)) held (λ m k. k)
-
-    pub after_one : (b : Belonging) → IsOneToOne (mappings_in held) → IsOneToOne (mappings_in (after_end b held))
-    after_one b = left_one (after_end b held) (each_after_end Its b held itself)
-
-    live_one : (limits : Limits) (now : ℕ) → IsOneToOne (mappings_in held)
-        → IsOneToOne (mappings_in (live_at limits now held))
-    live_one limits now = left_one (live_at limits now held) (All-filter (is_live limits now) Its held itself)
-
-    module _ (b : Belonging) (id : ConnId) (p : Arrival) (confirmation : Confirmation) where
-      -- where all that are held in the end are among some that are one to one
-      among_one : (all : List Mapping) → IsOneToOne all → ((m : Mapping) → Contains (mappings_in (after_end b held)) m
-          → Contains all m)
-          → IsBegunSo (MappingsAre (Contains all)) b id p confirmation
-          → IsOneToOne (mappings_in (after_packet b id p confirmation held))
-      among_one all one within begun =
-          laws.within (mappings_in (after_packet b id p confirmation held)) all
-          (each_mapping (Contains all) (after_packet b id p confirmation held)
-          (each_after_packet (MappingsAre (Contains all)) (λ direction flags mark now h k. k) b id p confirmation held
-          (each_holder (Contains all) (after_end b held) within) begun)) one
-
-    -- a new one beside others
-    module _ (others : List ConntrackEntry) (one : IsOneToOne (mappings_in others)) (port_choice : Option Bool)
-        (id : ConnId) (p : Arrival)
-        (mark : ℕ) (reply : Tuple) (source dest : Option Mapping)
-        (begun : IsBegun others p.tuple reply source dest port_choice) where
-      drafted : NewConnectionSo (mappings_in others) p.tuple begun.new_connection
-      drafted = with_nat_status_so (mappings_in others) p.tuple begun.new_connection begun.drafted
-
-      all_one : IsOneToOne (listed source ++ mappings_in others)
-      all_one =
-          subst (λ (o : Option Mapping). IsOneToOne (listed o ++ mappings_in others)) (sym begun.from)
-          (source_one (mappings_in others) p.tuple begun.new_connection drafted one)
-
-      its_own : MappingsAre (Contains (listed source ++ mappings_in others)) (begun_by id p mark reply source dest)
-      its_own m (inl e) =
-          Contains-append_left (listed source) (mappings_in others) m
-          (subst (λ (o : Option Mapping). Contains (listed o) m) (sym e) (Contains-head m []))
-      its_own m (inr e) =
-          Contains-append_right (listed source) (mappings_in others) m
-          (dest_held (mappings_in others) p.tuple begun.new_connection drafted m (sym begun.to ∙ e))
-
-  one_after_packet : (port_choice : Option Bool) (b : Belonging) (id : ConnId) (p : Arrival)
-      (confirmation : Confirmation) (held : List ConntrackEntry)
-      → IsOneToOne (mappings_in held) → IsCounted port_choice confirmation b p.tuple held
-      → IsOneToOne (mappings_in (after_packet b id p confirmation held))
-  one_after_packet port_choice (Found place) id p Unconfirmed held one c = one
-  one_after_packet port_choice (Found place) id p (Confirmed mark reply source dest) held one c =
-      among_one held (Found place) id p (Confirmed mark reply source dest) (mappings_in held) one (λ m k. k) tt
-  one_after_packet port_choice b id p Unconfirmed held one c = after_one held b one
-  one_after_packet port_choice b id p (Confirmed mark reply source dest) held one c =
-      let others = after_end b held in
-      let one_too = after_one held b one in
-      among_one held b id p (Confirmed mark reply source dest) (listed source ++ mappings_in others)
-      (all_one held others one_too port_choice id p mark reply source dest c)
-      (Contains-append_right (listed source) (mappings_in others))
-      (its_own held others one_too port_choice id p mark reply source dest c)
-
-  pub one_to_one_kept : IsKept (λ history held. IsOneToOne (mappings_in held))
-  one_to_one_kept = record {
-    first = record {
-      one_internal = λ m n x y k e. absurd (omega (arith, x.1));
-      one_port = λ m n x y k i e. absurd (omega (arith, x.1));
-    };
-    live = λ limits history held now one. live_one held limits now one;
-    none = λ history held e now is one. one;
-    packet = λ history held e id x confirmation p distinct read is touched one.
-        one_after_packet e.port_choice (belongs_in held x.tuple x.flags) id x confirmation held one touched;
-  }
-
--- ==== The connections that are held have tuples that packets can have.
 
 -- ---- the shape of a tuple: a port is 0 where its kind has none
 
@@ -288,62 +198,6 @@ module _ (mappings : List Mapping) (plain : (m : Mapping) → Contains mappings 
             subst IsPlain (some_unique d.source _ m is e) (source_plain t.kind t.source x.address (range_of x.ports)
             port chosen)
 
--- ---- a connection
-
-pub record IsMade (h : ConntrackEntry) : Type 0 where
-  pub kinds : h.reply.kind ≡ inverse_kind h.original.kind
-  pub original : IsShaped h.original
-  pub reply : IsShaped h.reply
-  pub plain : MappingsAre IsPlain h
-
-module _ (laws : MappingLaws) where
-  begun_made : (others : List ConntrackEntry) (all : All IsMade others) (port_choice : Option Bool) (id : ConnId)
-      (p : Arrival) (shaped : IsShaped p.tuple)
-      (mark : ℕ) (reply : Tuple) (source dest : Option Mapping) → IsBegun others p.tuple reply source dest port_choice
-      → IsMade (begun_by id p mark reply source dest)
-  begun_made others all port_choice id p shaped mark reply source dest b =
-      let plain = each_mapping IsPlain others (All-weaker IsMade (MappingsAre IsPlain) (λ h one. one.plain) others all)
-      in
-      let drafted = with_nat_status_so (mappings_in others) p.tuple b.new_connection b.drafted in
-      record {
-        kinds = ap (λ (u : Tuple). u.kind) b.answers ∙ ap inverse_kind drafted.kind;
-        original = shaped;
-        reply = subst IsShaped (sym b.answers) (inverse_shaped b.new_connection.tuple (new_connection_shaped
-            (mappings_in others) plain p.tuple b.new_connection b.new shaped drafted));
-        plain = λ m has. elim has [
-          | inl e ↦ source_is_plain (mappings_in others) plain p.tuple b.new_connection b.new shaped drafted m
-              (sym b.from ∙ e)
-          | inr e ↦ plain m (dest_held laws (mappings_in others) p.tuple b.new_connection drafted m (sym b.to ∙ e))
-        ];
-      }
-
-  begun_so : (port_choice : Option Bool) (b : Belonging) (id : ConnId) (p : Arrival) (confirmation : Confirmation)
-      (held : List ConntrackEntry) → IsShaped p.tuple
-      → All IsMade (after_end b held) → IsCounted port_choice confirmation b p.tuple held
-      → IsBegunSo IsMade b id p confirmation
-  begun_so port_choice (Found place) id p confirmation held shaped all c = tt
-  begun_so port_choice b id p Unconfirmed held shaped all c = tt
-  begun_so port_choice b id p (Confirmed mark reply source dest) held shaped all c =
-      begun_made (after_end b held) all port_choice id p shaped mark reply source dest c
-
-  pub made_kept : IsKept (λ history held. All IsMade held)
-  made_kept = record {
-    first = All-nil IsMade;
-    live = λ limits history held now all. All-filter (is_live limits now) IsMade held all;
-    none = λ history held e now is all. all;
-    packet = λ history held e id x confirmation p distinct read is touched all.
-        let b = belongs_in held x.tuple x.flags in
-        let left = each_after_end IsMade b held all in
-        each_after_packet IsMade (λ direction flags mark now h one. record {
-          kinds = one.kinds;
-          original = one.original;
-          reply = one.reply;
-          plain = one.plain;
-        })
-        b id x confirmation held left
-        (begun_so e.port_choice b id x confirmation held (tuple_shaped p x.tuple read) left touched);
-  }
-
 -- ==== A port allocated without a range has the class and the parity of the internal one, and the port of each live mapping was allocated by an entry.
 
 -- ---- which ports
@@ -405,53 +259,6 @@ module _ (mappings : List Mapping) (t : Tuple) (x : ExternalSource) (port : ℕ)
       ∙ chosen in
       port_held t.kind t.source x.address port mappings (so.1 ∙ same)
 
--- ---- a new one
-
-module _ (others : List ConntrackEntry) (t reply : Tuple) (source dest : Option Mapping) (port_choice : Option Bool)
-    (b : IsBegun others t reply source dest port_choice) where
-  begun_drafted : NewConnectionSo (mappings_in others) t b.new_connection
-  begun_drafted = with_nat_status_so (mappings_in others) t b.new_connection b.drafted
-
-  -- whether a port range was given, by the mapping of its source
-  by_mapping : (m : Mapping) → b.new_connection.source ≡ Some m
-      → port_choice ≡ port_choice_by b.new_connection.has_port_range (port_of m.kind m.internal m.external.address
-      (mappings_in others))
-  by_mapping m is = b.chosen ∙ ap (port_choice_in (mappings_in others) b.new_connection.has_port_range) is
-
-  source_alike : CandidatesAlike → (m : Mapping) → source ≡ Some m → port_choice ≡ Some false → has_ports m.kind ≡ true
-      → same_class_and_parity m.internal.port m.external.port ≡ true
-  source_alike all m e f ports = by_source begun_drafted.source
-    where
-      by_source : SourceSo (mappings_in others) t b.new_connection
-          → same_class_and_parity m.internal.port m.external.port ≡ true
-      by_source (stayed none same) = absurd (none_not_some b.new_connection.source m none (sym b.from ∙ e))
-      by_source (went x port chosen is to has_port_range) =
-          let same : mapping_at t.kind t.source (end_at x.address port) ≡ m =
-          some_unique b.new_connection.source _ m is (sym b.from ∙ e) in
-          let kind : t.kind ≡ m.kind = ap (λ (n : Mapping). n.kind) same in
-          subst (λ (n : Mapping). same_class_and_parity n.internal.port n.external.port ≡ true) same
-          (went_alike (mappings_in others) t x port chosen all b.new_connection.has_port_range has_port_range
-          (sym (by_mapping _ is) ∙ f) (ap has_ports kind ∙ ports))
-
-  -- it was allocated now, or was live before
-  source_chosen : (m : Mapping) → source ≡ Some m → (port_choice ≢ None) ⊎ Contains (mappings_in others) m
-  source_chosen m e = by_source begun_drafted.source
-    where
-      by_source : SourceSo (mappings_in others) t b.new_connection → (port_choice ≢ None)
-          ⊎ Contains (mappings_in others) m
-      by_source (stayed none same) = absurd (none_not_some b.new_connection.source m none (sym b.from ∙ e))
-      by_source (went x port chosen is to has_port_range) = by_fresh port_choice refl
-        where
-          before : port_choice ≡ None → Contains (mappings_in others) m
-          before f =
-              subst (Contains (mappings_in others)) (some_unique b.new_connection.source _ m is (sym b.from ∙ e))
-              (went_before (mappings_in others) t x port chosen b.new_connection.has_port_range
-              (sym (by_mapping _ is) ∙ f))
-
-          by_fresh : (o : Option Bool) → port_choice ≡ o → (port_choice ≢ None) ⊎ Contains (mappings_in others) m
-          by_fresh None f = inr (before f)
-          by_fresh (Some has_port_range) f = inl (λ none. none_not_some port_choice has_port_range none f)
-
 -- ---- the port that an entry allocates
 
 -- by what is recorded of it
@@ -464,10 +271,6 @@ chosen_or_earlier None earlier (inr some) = some
 chosen_or_earlier (Some has_port_range) earlier some = λ none. none-some has_port_range (sym none)
 
 module _ (m : Mapping) (history : List Entry) (e : Entry) where
-  choice_is : (tracked : TrackedPacket) → e.tracked ≡ tracked
-      → choice_in m e ≡ choice_by m e.port_choice (begun tracked.change).source
-  choice_is tracked is = ap (λ (t : TrackedPacket). choice_by m e.port_choice (begun t.change).source) is
-
   -- an entry that allocates no port keeps the latest choice
   none_chosen : choice_in m e ≡ None → latest_choice m (e ∷ history) ≡ latest_choice m history
   none_chosen none = ap (λ (o : Option Bool). or_earlier o (latest_choice m history)) none
@@ -491,96 +294,214 @@ chosen_by m port_choice (Some n) has_port_range e = by_test (cases_Bool (same_ma
     by_test (inr f) = absurd (none_not_some (cond (same_mapping m n) port_choice None) has_port_range
         (cond-false (same_mapping m n) port_choice None f) e)
 
--- ---- a port allocated without a range has the class and parity of the internal one
+-- ==== Together.
 
-abbrev pub HasClass : List Entry → Type 0
-HasClass history = (m : Mapping) → has_ports m.kind ≡ true → latest_choice m history ≡ Some false
-    → IsTrue (same_class_and_parity m.internal.port m.external.port)
-
-counted_class : CandidatesAlike → (port_choice : Option Bool) (confirmation : Confirmation) (b : Belonging)
-    (p : Arrival) (held : List ConntrackEntry)
-    → IsCounted port_choice confirmation b p.tuple held → (m : Mapping) → has_ports m.kind ≡ true
-    → choice_by m port_choice (begun (change_of_packet b p confirmation)).source ≡ Some false
-    → IsTrue (same_class_and_parity m.internal.port m.external.port)
-counted_class all port_choice Unconfirmed b p held c m ports e = absurd (none-some {A = Bool} false e)
-counted_class all port_choice (Confirmed mark reply source dest) (Found place) p held c m ports e =
-    absurd (none-some {A = Bool} false e)
-counted_class all port_choice (Confirmed mark reply source dest) b p held c m ports e =
-    let so = chosen_by m port_choice source false e in
-    source_alike (after_end b held) p.tuple reply source dest port_choice c all m so.0 so.1 ports
-
-pub class_kept : CandidatesAlike → IsKept (λ history held. HasClass history)
-class_kept all = record {
-  first = λ m ports e. absurd (none-some {A = Bool} false e);
-  live = λ limits history held now has. has;
-  none = λ history held e now is has m ports latest.
-      has m ports (sym (none_chosen m history e (choice_is m history e (updates.entry_at now) is)) ∙ latest);
-  packet = λ history held e id x confirmation p distinct read is touched has m ports latest.
-      elim (choice_or_earlier m history e (choice_in m e) false latest) [
-        | inl here ↦ counted_class all e.port_choice confirmation (belongs_in held x.tuple x.flags) x held touched m
-            ports (sym (choice_is m history e _ is) ∙ here)
-        | inr earlier ↦ has m ports earlier
-      ];
-}
-
--- ---- the port of each live mapping was allocated
-
-abbrev IsChosen : List Entry → Mapping → Type 0
+abbrev pub IsChosen : List Entry → Mapping → Type 0
 IsChosen history m = latest_choice m history ≢ None
 
-abbrev pub AllChosen : List Entry → List ConntrackEntry → Type 0
-AllChosen history held = All (MappingsAre (IsChosen history)) held
+-- a connection
+pub record IsMade (history : List Entry) (h : ConntrackEntry) : Type 0 where
+  pub kinds : h.reply.kind ≡ inverse_kind h.original.kind
+  pub original : IsShaped h.original
+  pub reply : IsShaped h.reply
+  pub plain : MappingsAre IsPlain h
+  pub chosen : MappingsAre (IsChosen history) h
 
-module _ (laws : MappingLaws) (history : List Entry) (e : Entry) where
-  still_all : (held : List ConntrackEntry) → AllChosen history held → AllChosen (e ∷ history) held
-  still_all held all =
-      All-weaker (MappingsAre (IsChosen history)) (MappingsAre (IsChosen (e ∷ history)))
-      (λ h one m has. chosen_or_earlier (choice_in m e) (latest_choice m history) (inr (one m has))) held all
+-- the mappings held, and the ports that entries allocated
+pub record Mapped (history : List Entry) (held : List ConntrackEntry) : Type 0 where
+  pub one : IsOneToOne (mappings_in held)
+  -- a port allocated without a range has the class and parity of the internal one
+  pub class : (m : Mapping) → has_ports m.kind ≡ true → latest_choice m history ≡ Some false
+      → IsTrue (same_class_and_parity m.internal.port m.external.port)
+  pub all : All (IsMade history) held
 
-  -- what a connection is begun with beside others
-  begun_chosen : (others : List ConntrackEntry) (id : ConnId) (p : Arrival) (mark : ℕ) (reply : Tuple)
-      (source dest : Option Mapping)
-      → ((m : Mapping) → choice_in m e ≡ choice_by m e.port_choice source)
-      → AllChosen history others → IsBegun others p.tuple reply source dest e.port_choice
-      → MappingsAre (IsChosen (e ∷ history)) (begun_by id p mark reply source dest)
-  begun_chosen others id p mark reply source dest is all b m has =
-      chosen_or_earlier (choice_in m e) (latest_choice m history) (by_place has)
-    where
-      before : Contains (mappings_in others) m → (choice_in m e ≢ None) ⊎ IsChosen history m
-      before k = inr (each_mapping (IsChosen history) others all m k)
+pub record Preserved (history : List Entry) (held : List ConntrackEntry) : Type 0 where
+  pub apart : IsTrue (have_disjoint_tuples held)
+  pub mapped : Mapped history held
 
-      here : source ≡ Some m → choice_in m e ≡ e.port_choice
-      here of = is m ∙ ap (choice_by m e.port_choice) of
-          ∙ cond-true (same_mapping m m) e.port_choice None (mapping_same m)
+module _ (laws : MappingLaws) (history : List Entry) (held : List ConntrackEntry) (k : Mapped history held) where
+  -- connections with mappings of those held
+  its_mappings : (left : List ConntrackEntry) → All (MappingsAre (Contains (mappings_in held))) left
+      → IsOneToOne (mappings_in left)
+  its_mappings left all =
+      laws.within (mappings_in left) (mappings_in held) (each_mapping (Contains (mappings_in held)) left all) k.one
 
-      by_choice : source ≡ Some m → (e.port_choice ≢ None) ⊎ Contains (mappings_in others) m
-          → (choice_in m e ≢ None) ⊎ IsChosen history m
-      by_choice of (inl some) = inl (λ none. some (sym (here of) ∙ none))
-      by_choice of (inr k) = before k
+  itself : All (MappingsAre (Contains (mappings_in held))) held
+  itself = each_holder (Contains (mappings_in held)) held (λ m among. among)
 
-      by_place : (source ≡ Some m) ⊎ (dest ≡ Some m) → (choice_in m e ≢ None) ⊎ IsChosen history m
-      by_place (inl of) = by_choice of (source_chosen others p.tuple reply source dest e.port_choice b m of)
-      by_place (inr to) = before (dest_held laws (mappings_in others) p.tuple b.new_connection
-          (begun_drafted others p.tuple reply source dest e.port_choice b) m (sym b.to ∙ to))
+  filtered : (p : ConntrackEntry → Bool) → Mapped history (filter p held)
+  filtered p = record {
+    one = its_mappings (filter p held) (All-filter p (MappingsAre (Contains (mappings_in held))) held itself);
+    class = k.class;
+    all = All-filter p (IsMade history) held k.all;
+  }
 
-  begun_all : (b : Belonging) (id : ConnId) (p : Arrival) (confirmation : Confirmation) (held : List ConntrackEntry)
-      → e.tracked ≡ updates.entry_of b p confirmation → AllChosen history (after_end b held)
-      → IsCounted e.port_choice confirmation b p.tuple held
-      → IsBegunSo (MappingsAre (IsChosen (e ∷ history))) b id p confirmation
-  begun_all (Found place) id p confirmation held is all c = tt
-  begun_all b id p Unconfirmed held is all c = tt
-  begun_all b id p (Confirmed mark reply source dest) held is all c =
-      begun_chosen (after_end b held) id p mark reply source dest (λ m. choice_is m history e _ is) all c
+  pub ended : (b : Belonging) → Mapped history (after_end b held)
+  ended (Ends id) = filtered (λ h. not (same_id id h))
+  ended _ = k
 
-pub chosen_kept : MappingLaws → IsKept AllChosen
-chosen_kept laws = record {
-  first = All-nil (MappingsAre (IsChosen []));
-  live = λ limits history held now all. All-filter (is_live limits now) (MappingsAre (IsChosen history)) held all;
-  none = λ history held e now is all. still_all laws history e held all;
-  packet = λ history held e id x confirmation p distinct read is touched all.
+  refreshed : (id : ConnId) (direction : Direction) (flags : Flags) (mark now : ℕ)
+      → Mapped history (touched_at id direction flags mark now held)
+  refreshed id direction flags mark now = record {
+    one = its_mappings (touched_at id direction flags mark now held)
+        (each_touched (MappingsAre (Contains (mappings_in held))) id direction flags mark now (λ h one. one) held itself);
+    class = k.class;
+    all = each_touched (IsMade history) id direction flags mark now (λ h one. record {
+      kinds = one.kinds;
+      original = one.original;
+      reply = one.reply;
+      plain = one.plain;
+      chosen = one.chosen;
+    }) held k.all;
+  }
+
+  module _ (e : Entry) where
+    made_later : All (IsMade (e ∷ history)) held
+    made_later = All-weaker (IsMade history) (IsMade (e ∷ history)) (λ h one. record {
+      kinds = one.kinds;
+      original = one.original;
+      reply = one.reply;
+      plain = one.plain;
+      chosen = λ m has. chosen_or_earlier (choice_in m e) (latest_choice m history) (inr (one.chosen m has));
+    }) held k.all
+
+    -- an entry that begins no connection with a mapping of its source
+    unchosen : (begun e.tracked.change).source ≡ None → Mapped (e ∷ history) held
+    unchosen none = record {
+      one = k.one;
+      class = λ m ports latest.
+          k.class m ports (sym (none_chosen m history e (ap (choice_by m e.port_choice) none)) ∙ latest);
+      all = made_later;
+    }
+
+    -- one that begins a connection beside these others
+    module _ (alike : CandidatesAlike) (id : ConnId) (p : Arrival) (shaped : IsShaped p.tuple) (mark : ℕ) (reply : Tuple)
+        (source dest : Option Mapping) (is : (begun e.tracked.change).source ≡ source)
+        (b : IsBegun held p.tuple reply source dest e.port_choice) where
+      abbrev mappings : List Mapping
+      mappings = mappings_in held
+
+      drafted : NewConnectionSo mappings p.tuple b.new_connection
+      drafted = with_nat_status_so mappings p.tuple b.new_connection b.drafted
+
+      -- its mappings are that of its source, and a live one
+      begun_mappings : (Q : Mapping → Type 0) → ((m : Mapping) → Contains mappings m → Q m)
+          → ((m : Mapping) → source ≡ Some m → Q m) → MappingsAre Q (begun_by id p mark reply source dest)
+      begun_mappings Q live own m (inl of) = own m of
+      begun_mappings Q live own m (inr to) =
+          live m (dest_held laws mappings p.tuple b.new_connection drafted m (sym b.to ∙ to))
+
+      -- the port of its source was allocated now, or was live before
+      source_so : (m : Mapping) → source ≡ Some m → SourceSo mappings p.tuple b.new_connection
+          → (e.port_choice ≡ None → Contains mappings m) × (e.port_choice ≡ Some false → has_ports m.kind ≡ true
+          → same_class_and_parity m.internal.port m.external.port ≡ true)
+      source_so m of (stayed none same) = absurd (none_not_some b.new_connection.source m none (sym b.from ∙ of))
+      source_so m of (went x port chosen from to has_port_range) =
+          let same : mapping_at p.tuple.kind p.tuple.source (end_at x.address port) ≡ m =
+          some_unique b.new_connection.source _ m from (sym b.from ∙ of) in
+          let tells = b.chosen ∙ ap (port_choice_in mappings b.new_connection.has_port_range) from in
+          subst (λ (n : Mapping). (e.port_choice ≡ None → Contains mappings n) × (e.port_choice ≡ Some false
+          → has_ports n.kind ≡ true → same_class_and_parity n.internal.port n.external.port ≡ true)) same (
+            λ untold. went_before mappings p.tuple x port chosen b.new_connection.has_port_range (sym tells ∙ untold),
+            λ told ports. went_alike mappings p.tuple x port chosen alike b.new_connection.has_port_range has_port_range
+                (sym tells ∙ told) ports,
+          )
+
+      source_chosen : (m : Mapping) → source ≡ Some m → (o : Option Bool) → e.port_choice ≡ o
+          → IsChosen (e ∷ history) m
+      source_chosen m of None untold =
+          chosen_or_earlier (choice_in m e) (latest_choice m history)
+          (inr (each_mapping (IsChosen history) held (All-weaker (IsMade history) (MappingsAre (IsChosen history))
+          (λ h one. one.chosen) held k.all) m ((source_so m of drafted.source).0 untold)))
+      source_chosen m of (Some named) told =
+          chosen_or_earlier (choice_in m e) (latest_choice m history)
+          (inl (λ none. none_not_some (choice_in m e) named none (ap (choice_by m e.port_choice) (is ∙ of)
+          ∙ cond-true (same_mapping m m) e.port_choice None (mapping_same m) ∙ told)))
+
+      begun_made : IsMade (e ∷ history) (begun_by id p mark reply source dest)
+      begun_made =
+          let plain = each_mapping IsPlain held (All-weaker (IsMade history) (MappingsAre IsPlain) (λ h one. one.plain)
+          held k.all) in
+          record {
+            kinds = ap (λ (u : Tuple). u.kind) b.answers ∙ ap inverse_kind drafted.kind;
+            original = shaped;
+            reply = subst IsShaped (sym b.answers) (inverse_shaped b.new_connection.tuple (new_connection_shaped mappings
+                plain p.tuple b.new_connection b.new shaped drafted));
+            plain = begun_mappings IsPlain plain (λ m of. source_is_plain mappings plain p.tuple b.new_connection b.new
+                shaped drafted m (sym b.from ∙ of));
+            chosen = begun_mappings (IsChosen (e ∷ history))
+                (λ m among. each_mapping (IsChosen (e ∷ history)) held (All-weaker (IsMade (e ∷ history))
+                (MappingsAre (IsChosen (e ∷ history))) (λ h one. one.chosen) held made_later) m among)
+                (λ m of. source_chosen m of e.port_choice refl);
+          }
+
+      begun_mapped : Mapped (e ∷ history) (held ++ begun_by id p mark reply source dest ∷ [])
+      begun_mapped =
+          let new = begun_by id p mark reply source dest in
+          let all = listed source ++ mappings in
+          record {
+            one = laws.within (mappings_in (held ++ new ∷ [])) all
+                (each_mapping (Contains all) (held ++ new ∷ [])
+                (All-push (MappingsAre (Contains all)) held new
+                (each_holder (Contains all) held (Contains-append_right (listed source) mappings))
+                (begun_mappings (Contains all) (Contains-append_right (listed source) mappings)
+                (λ m of. Contains-append_left (listed source) mappings m (is_listed source m of)))))
+                (subst (λ (o : Option Mapping). IsOneToOne (listed o ++ mappings)) (sym b.from)
+                (source_one laws mappings p.tuple b.new_connection drafted k.one));
+            class = λ m ports latest. elim (choice_or_earlier m history e (choice_in m e) false latest) [
+              | inl here ↦
+                  let so = chosen_by m e.port_choice source false (sym (ap (choice_by m e.port_choice) is) ∙ here) in
+                  (source_so m so.0 drafted.source).1 so.1 ports
+              | inr earlier ↦ k.class m ports earlier
+            ];
+            all = All-push (IsMade (e ∷ history)) held new made_later begun_made;
+          }
+
+-- with the entry of a packet
+packet_mapped : MappingLaws → CandidatesAlike → (history : List Entry) (held : List ConntrackEntry) (e : Entry)
+    (b : Belonging) (id : ConnId) (x : Arrival) (confirmation : Confirmation) → IsShaped x.tuple
+    → e.tracked ≡ updates.entry_of b x confirmation → IsCounted e.port_choice confirmation b x.tuple held
+    → Mapped history held → Mapped (e ∷ history) (after_packet b id x confirmation held)
+packet_mapped laws alike history held e (Found place) id x Unconfirmed shaped is c k =
+    unchosen laws history held k e (ap (λ (t : TrackedPacket). (begun t.change).source) is)
+packet_mapped laws alike history held e (Found place) id x (Confirmed mark reply source dest) shaped is c k =
+    unchosen laws history (touched_at place.id place.direction x.flags mark x.moment held)
+    (refreshed laws history held k place.id place.direction x.flags mark x.moment) e
+    (ap (λ (t : TrackedPacket). (begun t.change).source) is)
+packet_mapped laws alike history held e b id x Unconfirmed shaped is c k =
+    unchosen laws history (after_end b held) (ended laws history held k b) e
+    (ap (λ (t : TrackedPacket). (begun t.change).source) is)
+packet_mapped laws alike history held e b id x (Confirmed mark reply source dest) shaped is c k =
+    begun_mapped laws history (after_end b held) (ended laws history held k b) e alike id x shaped mark reply source dest
+    (ap (λ (t : TrackedPacket). (begun t.change).source) is) c
+
+pub preserved : StillApart → MappingLaws → CandidatesAlike → IsKept Preserved
+preserved still laws alike = record {
+  first = record {
+    apart = refl;
+    mapped = record {
+      one = record {
+        one_internal = λ m n x y k e. absurd (omega (arith, x.1));
+        one_port = λ m n x y k i e. absurd (omega (arith, x.1));
+      };
+      class = λ m ports e. absurd (none-some {A = Bool} false e);
+      all = All-nil (IsMade []);
+    };
+  };
+  live = λ limits history held now k. record {
+    apart = still.live limits held now k.apart;
+    mapped = filtered laws history held k.mapped (is_live limits now);
+  };
+  none = λ history held e now is k. record {
+    apart = k.apart;
+    mapped = unchosen laws history held k.mapped e (ap (λ (t : TrackedPacket). (begun t.change).source) is);
+  };
+  packet = λ history held e id x confirmation p distinct read is counted k.
       let b = belongs_in held x.tuple x.flags in
-      let left = each_after_end (MappingsAre (IsChosen history)) b held all in
-      each_after_packet (MappingsAre (IsChosen (e ∷ history))) (λ direction flags mark now h k. k) b id x confirmation
-      held (still_all laws history e (after_end b held) left)
-      (begun_all laws history e b id x confirmation held is left touched);
+      record {
+        apart = still.packet held id x confirmation distinct k.apart
+            (begun_apart e.port_choice confirmation b x.tuple held counted);
+        mapped = packet_mapped laws alike history held e b id x confirmation (tuple_shaped p x.tuple read) is counted
+            k.mapped;
+      };
 }
