@@ -21,7 +21,8 @@ use Rattle.conntrack.specs.ConntrackEntry.{of_reply, connection_ref}
 use Rattle.conntrack.specs.Updates.{Arrival, Confirmation, Unconfirmed, Confirmed, after_end, after_packet}
 use Rattle.translation.specs.LiveMappings.{listed, mappings_in, mappings_of}
 use Rattle.std.proofs.lemmas.Option.{none-some, same_Some}
-use Rattle.list_laws.specs.Options.{some_of_map, none_not_some}
+use Rattle.list_laws.specs.Options.{none_not_some, option_cases, some_of_map}
+use Rattle.nat_mapping.proofs.Lists.{found_among, none_such}
 use Rattle.box_file.specs.Box.{PlantTree}
 use Rattle.ip_headers.specs.declared.tuple.Endpoint.{Endpoint}
 use Rattle.ip_headers.specs.declared.tuple.Kind.{Kind}
@@ -39,7 +40,6 @@ use Rattle.translation.specs.CtInfos.{new_connection_of}
 use Rattle.translation.specs.Nat.{statement_destination, internal_endpoint, with_source_nat}
 use Rattle.translation.specs.Nat.{with_destination_nat, has_ports, to_internal, with_source_mapping}
 use Rattle.translation.specs.Nat.{port_named, range_of}
-use Rattle.translation_laws.proofs.HistorySteps.{IsNewConnection}
 use Rattle.std.specs.Option.{option_map}
 use Rattle.std.proofs.lemmas.Bool.{and_parts, and_from, cases_Bool, cond-true, cond-false, both_ways, eq-eqb}
 use Rattle.std.proofs.lemmas.Bool.{eqb-true, or_left, or_right, not-true, or_cases, and_left, and_right}
@@ -93,7 +93,7 @@ listed_is (Some n) m among =
     elim (Contains-cases n [] m among) [ inl e ↦ ap Some e | inr none ↦ absurd (omega (arith, none.1)) ]
 
 pub is_listed : (o : Option Mapping) (m : Mapping) → o ≡ Some m → Contains (listed o) m
-is_listed o m e = subst (λ (x : Option Mapping). Contains (listed x) m) (sym e) (Contains-head m [])
+is_listed o m e = rw e (Contains-head m [])
 
 held_as : (h : ConntrackEntry) (m : Mapping) → Contains (mappings_of h) m → HasMapping h m
 held_as h m among = elim (Contains-append_cases (listed h.source) (listed h.dest) m among) [
@@ -119,7 +119,7 @@ pub mapping_of_holder : (held : List ConntrackEntry) (h : ConntrackEntry) (m : M
 mapping_of_holder [] h m among has = absurd (omega (arith, among.1))
 mapping_of_holder (x ∷ held) h m among has = elim (Contains-cases x held h among) [
   | inl e ↦ Contains-append_left (mappings_of x) (mappings_in held) m
-      (among_its x m (subst (λ (y : ConntrackEntry). HasMapping y m) (sym e) has))
+      (among_its x m (rw e has))
   | inr later ↦ Contains-append_right (mappings_of x) (mappings_in held) m (mapping_of_holder held h m later has)
 ]
 
@@ -185,18 +185,19 @@ module _ (plant : PlantTree) (mappings : List Mapping) (f : Facts) (t : Tuple) w
   behind_parts true o i e = (refl, e)
   behind_parts false o i e = cc
 
+  unturned : IsTurned mappings t (new_connection_of t)
+  unturned = record { kind = refl; source = refl; none = refl; dest = λ m e. cc; shape = λ h. h }
+
   pub turned_so : (verdict : HookVerdict) → IsTurned mappings t (with_destination_nat plant mappings f (new_connection_of t)
       verdict)
   turned_so (Translated how) =
       record { kind = refl; source = refl; none = refl; dest = λ m e. absurd (none-some m e); shape = aimed_suits how }
-  turned_so Dropped =
-      record { kind = refl; source = refl; none = refl; dest = λ m e. absurd (none-some m e); shape = λ h. h }
+  turned_so Dropped = unturned
   turned_so Accepted = by_found (internal_endpoint mappings (new_connection_of t)) refl
     where
       by_found : (o : Option Endpoint) → internal_endpoint mappings (new_connection_of t) ≡ o
           → IsTurned mappings t (to_internal (new_connection_of t) o)
-      by_found None e =
-          record { kind = refl; source = refl; none = refl; dest = λ m k. absurd (none-some m k); shape = λ h. h }
+      by_found None e = unturned
       by_found (Some i) e =
           let parts = behind_parts (has_ports t.kind) (inbound_of t.kind t.destination mappings) i e in
           record {
@@ -224,21 +225,15 @@ pub record NewConnectionSo (mappings : List Mapping) (t : Tuple) (d : NewConnect
       → PortsMatchKind t.kind t.source.port d.tuple.destination.port
 
 module _ (mappings : List Mapping) (t : Tuple) (d : NewConnection) (turned : IsTurned mappings t d) where
-  its_port : (x : ExternalSource) (port : ℕ)
+  -- its source is still the packet's
+  its_source : (x : ExternalSource) (port : ℕ)
       → source_of d.tuple.kind d.tuple.source x.address (range_of x.ports) mappings ≡ Some port
-      → source_of t.kind t.source x.address (range_of x.ports) mappings ≡ Some port
-  its_port x port e =
-      subst (λ (k : Kind). source_of k t.source x.address (range_of x.ports) mappings ≡ Some port) turned.kind
-      (subst (λ (s : Endpoint). source_of d.tuple.kind s x.address (range_of x.ports) mappings ≡ Some port)
-      turned.source e)
+      → (source_of t.kind t.source x.address (range_of x.ports) mappings ≡ Some port)
+      × (mapping_at d.tuple.kind d.tuple.source (end_at x.address port)
+      ≡ mapping_at t.kind t.source (end_at x.address port))
+  its_source x port e = (rw (← turned.kind, ← turned.source) e, rw (turned.kind, turned.source) refl)
 
-  its_mapping : (external : Endpoint) → mapping_at d.tuple.kind d.tuple.source external
-      ≡ mapping_at t.kind t.source external
-  its_mapping external =
-      ap (λ (k : Kind). mapping_at k d.tuple.source external) turned.kind
-      ∙ ap (λ (s : Endpoint). mapping_at t.kind s external) turned.source
-
-  left_so : (x : Option ExternalSource) (after : NewConnection) → with_source_nat mappings d x ≡ Some after
+  pub left_so : (x : Option ExternalSource) (after : NewConnection) → with_source_nat mappings d x ≡ Some after
       → NewConnectionSo mappings t after
   left_so None after e =
       subst (NewConnectionSo mappings t) (same_Some d after e)
@@ -254,53 +249,20 @@ module _ (mappings : List Mapping) (t : Tuple) (d : NewConnection) (turned : IsT
       subst (NewConnectionSo mappings t) r.2
       (record {
         kind = turned.kind;
-        source = went x r.0 (its_port x r.0 r.1) (ap Some (its_mapping (end_at x.address r.0))) refl refl;
+        source = went x r.0 (its_source x r.0 r.1).0 (ap Some (its_source x r.0 r.1).1) refl refl;
         dest = turned.dest;
         shape = turned.shape;
       })
 
-pub with_nat_status_so : (mappings : List Mapping) (t : Tuple) (d : NewConnection) → IsNewConnection mappings t d
-    → NewConnectionSo mappings t d
-with_nat_status_so mappings t d x =
-    left_so mappings t (with_destination_nat x.plant mappings x.facts (new_connection_of t) x.verdict)
-    (turned_so x.plant mappings x.facts t x.verdict) x.external_source d x.drafted
+-- ==== What the searches for mappings find.
 
--- ==== What a search finds, and what the searches for mappings find.
-
-module _ {X : Type 0} (p : X → Bool) where
-  -- what is found is there and passes
-  pub found_so : (xs : List X) (x : X) → find p xs ≡ Some x → Contains xs x × (p x ≡ true)
-  found_so [] x e = absurd (none-some x e)
-  found_so (y ∷ xs) x e =
-      elim (cases_Bool (p y)) [
-        | inl t ↦
-            let same : y ≡ x = same_Some y x (sym (cond-true (p y) (Some y) (find p xs) t) ∙ e) in
-            (subst (λ (z : X). Contains (y ∷ xs) z) same (Contains-head y xs), subst (λ (z : X). p z ≡ true) same t)
-        | inr f ↦
-            let r = found_so xs x (sym (cond-false (p y) (Some y) (find p xs) f) ∙ e) in
-            (Contains-tail y xs x r.0, r.1)
-      ]
-
-  -- where one passes one is found
-  pub one_found : (xs : List X) (x : X) → Contains xs x → p x ≡ true → (y : X) × (find p xs ≡ Some y)
-  one_found [] x among passes = absurd (omega (arith, among.1))
-  one_found (z ∷ xs) x among passes =
-      elim (cases_Bool (p z)) [
-        | inl t ↦ (z, cond-true (p z) (Some z) (find p xs) t)
-        | inr f ↦
-            let later : Contains xs x = elim (Contains-cases z xs x among) [
-              | inl e ↦ absurd (both_ways (p z) f (subst (λ (w : X). p w ≡ true) (sym e) passes))
-              | inr k ↦ k
-            ] in
-            let r = one_found xs x later passes in
-            (r.0, cond-false (p z) (Some z) (find p xs) f ∙ r.1)
-      ]
-
--- ---- equal mappings
-
-pub mapping_same : (m : Mapping) → same_mapping m m ≡ true
-mapping_same m = and_from _ _ (same_kind-refl m.kind) (and_from _ _ (same_endpoint-refl m.internal)
-    (same_endpoint-refl m.external))
+-- where one passes one is found
+one_found : {X : Type 0} (p : X → Bool) (xs : List X) (x : X) → Contains xs x → p x ≡ true
+    → (y : X) × (find p xs ≡ Some y)
+one_found p xs x among passes = elim (option_cases (find p xs)) [
+  | inl none ↦ absurd (none_such p xs x none among passes)
+  | inr found ↦ found
+]
 
 pub parts_same : (m : Mapping) (kind : Kind) (internal external : Endpoint) → m.kind ≡ kind → m.internal ≡ internal
     → m.external ≡ external
@@ -308,13 +270,6 @@ pub parts_same : (m : Mapping) (kind : Kind) (internal external : Endpoint) → 
 parts_same m kind internal external k i e =
     ap (λ (x : Kind). mapping_at x m.internal m.external) k ∙ ap (λ (x : Endpoint). mapping_at kind x m.external) i
     ∙ ap (λ (x : Endpoint). mapping_at kind internal x) e
-
-pub mapping_exact : (m n : Mapping) → same_mapping m n ≡ true → m ≡ n
-mapping_exact m n h =
-    let kinds = and_parts _ _ h in
-    let ends = and_parts _ _ kinds.1 in
-    parts_same m n.kind n.internal n.external (same_kind-true _ _ kinds.0) (same_endpoint-true _ _ ends.0)
-    (same_endpoint-true _ _ ends.1)
 
 -- ---- those that are live
 
@@ -327,7 +282,7 @@ port_held kind internal address port mappings e =
     let r = some_of_map (λ (m : Mapping). m.external.port) (find (has_internal kind internal address) mappings) port e
     in
     let n = r.0 in
-    let so = found_so (has_internal kind internal address) mappings r.0 r.1 in
+    let so = found_among (has_internal kind internal address) mappings r.0 r.1 in
     let kinds = and_parts _ _ so.1 in
     let ends = and_parts _ _ kinds.1 in
     let at : r.0.external.address ≡ address = eqb-true _ _ ends.1 in
@@ -362,8 +317,7 @@ pub taken_by : (t : Tuple) (held : List ConntrackEntry) (h : ConntrackEntry) →
     → is_taken t held ≡ true
 taken_by t [] h among incoming = absurd (omega (arith, among.1))
 taken_by t (x ∷ held) h among incoming = elim (Contains-cases x held h among) [
-  | inl e ↦ or_left (is_incoming t x) (is_taken t held)
-      (subst (λ (y : ConntrackEntry). is_incoming t y ≡ true) (sym e) incoming)
+  | inl e ↦ or_left (is_incoming t x) (is_taken t held) (ap (is_incoming t) e ∙ incoming)
   | inr later ↦ or_right (is_incoming t x) (is_taken t held) (taken_by t held h later incoming)
 ]
 
@@ -381,12 +335,9 @@ pub not_behind : (x : ConntrackEntry) (held : List ConntrackEntry) (t : Tuple)
     → have_disjoint_tuples (x ∷ held) ≡ true → is_incoming t x ≡ true → is_taken t held ≡ false
 not_behind x held t apart incoming = by_tuple (or_cases (same_tuple x.original t) (same_tuple x.reply t) incoming)
   where
-    free : (u : Tuple) → is_taken u held ≡ false → same_tuple u t ≡ true → is_taken t held ≡ false
-    free u none same = subst (λ (v : Tuple). is_taken v held ≡ false) (same_tuple-true u t same) none
-
     by_tuple : (same_tuple x.original t ≡ true) ⊎ (same_tuple x.reply t ≡ true) → is_taken t held ≡ false
-    by_tuple (inl e) = free x.original (parts x held apart).0 e
-    by_tuple (inr e) = free x.reply (parts x held apart).1 e
+    by_tuple (inl e) = ap (λ (u : Tuple). is_taken u held) (sym (same_tuple-true x.original t e)) ∙ (parts x held apart).0
+    by_tuple (inr e) = ap (λ (u : Tuple). is_taken u held) (sym (same_tuple-true x.reply t e)) ∙ (parts x held apart).1
 
 module _ (t : Tuple) where
   -- only one connection has a tuple
@@ -404,121 +355,91 @@ module _ (t : Tuple) where
       by_place : (Contains held g → Contains held h → g ≡ h) → (x ≡ g) ⊎ Contains held g → (x ≡ h) ⊎ Contains held h
           → g ≡ h
       by_place rest (inl e) (inl f) = sym e ∙ f
-      by_place rest (inl e) (inr k) =
-          absurd (behind h k its (subst (λ (y : ConntrackEntry). is_incoming t y ≡ true) (sym e) mine))
-      by_place rest (inr k) (inl f) =
-          absurd (behind g k mine (subst (λ (y : ConntrackEntry). is_incoming t y ≡ true) (sym f) its))
+      by_place rest (inl e) (inr k) = absurd (behind h k its (ap (is_incoming t) e ∙ mine))
+      by_place rest (inr k) (inl f) = absurd (behind g k mine (ap (is_incoming t) f ∙ its))
       by_place rest (inr j) (inr k) = rest j k
-
-  -- a search for one of its tuples finds it
-  found_alone : (p : ConntrackEntry → Bool) → ((y : ConntrackEntry) → p y ≡ true → is_incoming t y ≡ true)
-      → (held : List ConntrackEntry) (h : ConntrackEntry) → have_disjoint_tuples held ≡ true → Contains held h
-      → p h ≡ true → find p held ≡ Some h
-  found_alone p incoming held h apart among passes =
-      let r = one_found p held h among passes in
-      let so = found_so p held r.0 r.1 in
-      r.1 ∙ ap Some (only_one held r.0 h apart so.0 among (incoming r.0 so.1) (incoming h passes))
-
-  pub given_one : (held : List ConntrackEntry) (h : ConntrackEntry) (flags : Flags) → have_disjoint_tuples held ≡ true
-      → Contains held h → is_incoming t h ≡ true → belongs_in held t flags ≡ given_to h t flags
-  given_one held h flags apart among incoming = by_test (cases_Bool (same_tuple h.original t))
-    where
-      told : (b : Bool) → same_tuple h.original t ≡ b
-          → given_to h t flags ≡ cond (b && (is_lone_syn flags && is_closing h)) (Ends h.id) (cond b
-          (Found (connection_ref h Original)) (Found (connection_ref h Reply)))
-      told b e = ap (λ (b : Bool). cond (b && (is_lone_syn flags && is_closing h)) (Ends h.id)
-          (cond b (Found (connection_ref h Original)) (Found (connection_ref h Reply)))) e
-
-      -- by an original tuple it finds no other
-      none_original : same_tuple h.original t ≡ false → (o : Option ConntrackEntry) → of_original held t ≡ o → o ≡ None
-      none_original other None e = refl
-      none_original other (Some y) e =
-          let so = found_so (λ (x : ConntrackEntry). same_tuple x.original t) held y e in
-          let same = only_one held y h apart so.0 among (or_left (same_tuple y.original t) (same_tuple y.reply t) so.1)
-          incoming in
-          absurd (both_ways (same_tuple h.original t) other
-          (subst (λ (x : ConntrackEntry). same_tuple x.original t ≡ true) same so.1))
-
-      by_test : (same_tuple h.original t ≡ true) ⊎ (same_tuple h.original t ≡ false)
-          → belongs_in held t flags ≡ given_to h t flags
-      by_test (inl e) =
-          ap (λ o. belonging_by flags o (of_reply held t))
-          (found_alone (λ (x : ConntrackEntry). same_tuple x.original t)
-          (λ y. or_left (same_tuple y.original t) (same_tuple y.reply t)) held h apart among e) ∙ sym (told true e)
-      by_test (inr e) =
-          let reply : same_tuple h.reply t ≡ true = grind (arith, e, incoming) in
-          ap (λ o. belonging_by flags o (of_reply held t)) (none_original e (of_original held t) refl)
-          ∙ ap (λ o. belonging_by flags None o) (found_alone (λ (x : ConntrackEntry). same_tuple x.reply t)
-          (λ y. or_right (same_tuple y.original t) (same_tuple y.reply t)) held h apart among reply)
-          ∙ sym (told false e)
 
 -- ==== The connection that a packet belongs to.
 
-ends_nowhere : (id : ConnId) (place : ConnectionRef) → Ends id ≡ Found place → ⊥
-ends_nowhere id place e = cc
+-- what a packet belongs to, were this the only connection, by whether it has its original tuple
+abbrev given_by : ConntrackEntry → Flags → Bool → Belonging
+given_by h flags original = cond (original && (is_lone_syn flags && is_closing h)) (Ends h.id)
+    (cond original (Found (connection_ref h Original)) (Found (connection_ref h Reply)))
 
-found_nowhere : (place : ConnectionRef) → NotFound ≡ Found place → ⊥
-found_nowhere place e = cc
+module _ (t : Tuple) (held : List ConntrackEntry) (flags : Flags) where
+  abbrev by_original : ConntrackEntry → Bool
+  by_original h = same_tuple h.original t
 
-same_place : (x y : ConnectionRef) → Found x ≡ Found y → x ≡ y
-same_place x y e = cc
+  abbrev by_reply : ConntrackEntry → Bool
+  by_reply h = same_tuple h.reply t
 
-module _ (t : Tuple) (flags : Flags) (held : List ConntrackEntry) (place : ConnectionRef) where
-  -- one that has its tuple, and that it doesn't remove
-  pub record FoundOne : Type 0 where
-    pub h : ConntrackEntry
-    pub among : Contains held h
-    pub incoming : IsTrue (is_incoming t h)
-    pub unended : does_end h t flags ≡ false
-    pub named : h.id ≡ place.id
-    pub touched : touch_of h t ≡ Touches place.id.0 place.direction
+  -- no connection has its tuple, or it belongs to one that does
+  data ItsHolder : Type 0 where
+    no_holder : belongs_in held t flags ≡ NotFound
+        → ((h : ConntrackEntry) → Contains held h → is_incoming t h ≡ true → ⊥) → ItsHolder
+    holder : (h : ConntrackEntry) → Contains held h → is_incoming t h ≡ true
+        → belongs_in held t flags ≡ given_to h t flags → ItsHolder
 
-  -- by its original tuple
-  found_original : (h : ConntrackEntry) → of_original held t ≡ Some h → (b : Bool)
-      → (is_lone_syn flags && is_closing h) ≡ b
-      → cond b (Ends h.id) (Found (connection_ref h Original)) ≡ Found place → FoundOne
-  found_original h o true ends e = absurd (ends_nowhere h.id place e)
-  found_original h o false ends e =
-      let so = found_so (λ (x : ConntrackEntry). same_tuple x.original t) held h o in
-      let same = same_place (connection_ref h Original) place e in
-      record {
-        h = h;
-        among = so.0;
-        incoming = or_left (same_tuple h.original t) (same_tuple h.reply t) so.1;
-        unended = and_right (same_tuple h.original t) (is_lone_syn flags && is_closing h) ends;
-        named = ap (λ (x : ConnectionRef). x.id) same;
-        touched = cond-true (same_tuple h.original t) (Touches h.id.0 Original) (Touches h.id.0 Reply) so.1
-            ∙ ap (λ (x : ConnectionRef). Touches x.id.0 x.direction) same;
-      }
-
-  -- by its reply tuple
-  found_reply : (h : ConntrackEntry) → of_original held t ≡ None → of_reply held t ≡ Some h
-      → Found (connection_ref h Reply) ≡ Found place → FoundOne
-  found_reply h none o e =
-      let so = found_so (λ (x : ConntrackEntry). same_tuple x.reply t) held h o in
-      let same = same_place (connection_ref h Reply) place e in
-      record {
-        h = h;
-        among = so.0;
-        incoming = or_right (same_tuple h.original t) (same_tuple h.reply t) so.1;
-        unended = and_left (same_tuple h.original t) (is_lone_syn flags && is_closing h) (other so.0);
-        named = ap (λ (x : ConnectionRef). x.id) same;
-        touched = cond-false (same_tuple h.original t) (Touches h.id.0 Original) (Touches h.id.0 Reply) (other so.0)
-            ∙ ap (λ (x : ConnectionRef). Touches x.id.0 x.direction) same;
-      }
+  its_holder : ItsHolder
+  its_holder = by_searches (of_original held t) (of_reply held t) refl refl
     where
-      other : Contains held h → same_tuple h.original t ≡ false
-      other among =
-          false_from_ne_true (same_tuple h.original t)
-          (λ is.
-          let r = one_found (λ (x : ConntrackEntry). same_tuple x.original t) held h among is in
-          none_not_some (of_original held t) r.0 none r.1)
+      belongs_as : (x y : Option ConntrackEntry) → of_original held t ≡ x → of_reply held t ≡ y
+          → belongs_in held t flags ≡ belonging_by flags x y
+      belongs_as x y o r = ap (λ z. belonging_by flags z (of_reply held t)) o ∙ ap (belonging_by flags x) r
 
-  pub found_one : belongs_in held t flags ≡ Found place → FoundOne
-  found_one e = by_searches (of_original held t) (of_reply held t) refl refl e
+      by_searches : (x y : Option ConntrackEntry) → of_original held t ≡ x → of_reply held t ≡ y → ItsHolder
+      by_searches (Some h) y o r =
+          let so = found_among by_original held h o in
+          holder h so.0 (or_left (by_original h) (by_reply h) so.1)
+          (belongs_as (Some h) y o r ∙ sym (ap (given_by h flags) so.1))
+      by_searches None (Some h) o r =
+          let so = found_among by_reply held h r in
+          holder h so.0 (or_right (by_original h) (by_reply h) so.1) (belongs_as None (Some h) o r
+          ∙ sym (ap (given_by h flags) (false_from_ne_true (by_original h) (none_such by_original held h o so.0))))
+      by_searches None None o r =
+          no_holder (belongs_as None None o r) (λ h among incoming.
+          elim (or_cases (by_original h) (by_reply h) incoming) [
+            | inl e ↦ none_such by_original held h o among e
+            | inr e ↦ none_such by_reply held h r among e
+          ])
+
+  -- where no tuple is in two connections
+  pub given_one : (h : ConntrackEntry) → have_disjoint_tuples held ≡ true → Contains held h
+      → is_incoming t h ≡ true → belongs_in held t flags ≡ given_to h t flags
+  given_one h apart among incoming = by_holder its_holder
     where
-      by_searches : (x y : Option ConntrackEntry) → of_original held t ≡ x → of_reply held t ≡ y
-          → belonging_by flags x y ≡ Found place → FoundOne
-      by_searches (Some h) y o r e = found_original h o (is_lone_syn flags && is_closing h) refl e
-      by_searches None (Some h) o r e = found_reply h o r e
-      by_searches None None o r e = absurd (found_nowhere place e)
+      by_holder : ItsHolder → belongs_in held t flags ≡ given_to h t flags
+      by_holder (no_holder is none) = absurd (none h among incoming)
+      by_holder (holder g its first is) =
+          is ∙ ap (λ (x : ConntrackEntry). given_to x t flags) (only_one t held g h apart its among first incoming)
+
+  module _ (place : ConnectionRef) where
+    -- one that has its tuple, and that it doesn't remove
+    pub record FoundOne : Type 0 where
+      pub h : ConntrackEntry
+      pub among : Contains held h
+      pub incoming : IsTrue (is_incoming t h)
+      pub unended : does_end h t flags ≡ false
+      pub named : h.id ≡ place.id
+      pub touched : touch_of h t ≡ Touches place.id.0 place.direction
+
+    found_by : (h : ConntrackEntry) (ended original : Bool) → cond ended (Ends h.id) (cond original
+        (Found (connection_ref h Original)) (Found (connection_ref h Reply))) ≡ Found place
+        → (ended ≡ false) × (h.id ≡ place.id) × (cond original (Touches h.id.0 Original) (Touches h.id.0 Reply)
+        ≡ Touches place.id.0 place.direction)
+    found_by h true original e = cc
+    found_by h false true e =
+        let same : connection_ref h Original ≡ place = cc in
+        (refl, ap (λ (x : ConnectionRef). x.id) same, ap (λ (x : ConnectionRef). Touches x.id.0 x.direction) same)
+    found_by h false false e =
+        let same : connection_ref h Reply ≡ place = cc in
+        (refl, ap (λ (x : ConnectionRef). x.id) same, ap (λ (x : ConnectionRef). Touches x.id.0 x.direction) same)
+
+    pub found_one : belongs_in held t flags ≡ Found place → FoundOne
+    found_one e = by_holder its_holder
+      where
+        by_holder : ItsHolder → FoundOne
+        by_holder (no_holder is none) = cc
+        by_holder (holder h among incoming is) =
+            let so = found_by h (does_end h t flags) (same_tuple h.original t) (sym is ∙ e) in
+            record { h = h; among = among; incoming = incoming; unended = so.0; named = so.1; touched = so.2 }

@@ -48,7 +48,7 @@ use Rattle.rewrite.specs.Rewritten.{rewritten}
 use Rattle.conntrack.specs.declared.belonging.ConnectionRef.{ConnectionRef}
 use Rattle.conntrack.specs.declared.connection.Direction.TheVariants.{Original, Reply}
 use Rattle.history.specs.declared.outcome.Outcome.TheVariants.{Local, Passed}
-use Rattle.translation_laws.proofs.Preserved.{IsMade, IsShaped, inverse_shaped, MappingLaws, went_before}
+use Rattle.translation_laws.proofs.Preserved.{IsMade, IsShaped, inverse_shaped, MappingLaws, port_chosen}
 use Rattle.conntrack.specs.declared.connection.ConnId.{ConnId}
 use Rattle.conntrack.specs.declared.connection.Direction.{Direction}
 use Rattle.pcap_io.specs.Pcap.{Recorded}
@@ -90,9 +90,6 @@ change_begun _ none p mark reply source dest = refl
 unconfirmed_none : (b : Belonging) (p : Arrival) → change_of_packet b p Unconfirmed ≡ NoChange
 unconfirmed_none (Found place) p = refl
 unconfirmed_none _ p = refl
-
-found_some : (b : Belonging) (place : ConnectionRef) → IsNone b → b ≡ Found place → ⊥
-found_some b place none is = subst IsNone is none
 
 module _ (setup : Setup) (held : List ConntrackEntry) (now : ℕ) (a : ReceivedPacket) (t : Tuple) (e : Entry) where
   -- it refreshes its connection, begins one, or does nothing
@@ -167,7 +164,7 @@ module _ (setup : Setup) (held : List ConntrackEntry) (now : ℕ) (a : ReceivedP
       by_case (did_begin none s n change port_choice events outcome packet) = (_, change, refl)
       by_case (did_nothing none other change port_choice) = absurd (other new)
       by_case (did_refresh place found change port_choice packet) =
-          let f = found_one t (flags_in (transport_of a.packet)) held place found in
+          let f = found_one t held (flags_in (transport_of a.packet)) place found in
           absurd (both_ways (does_end f.h t (flags_in (transport_of a.packet))) f.unended
           (free f.h f.among f.incoming))
 
@@ -207,40 +204,28 @@ module _ (setup : Setup) (held : List ConntrackEntry) (now : ℕ) (a : ReceivedP
   module _ (history : List Entry) (h : ConntrackEntry) (made : IsMade history h) (apart : IsTrue (have_disjoint_tuples held))
       (among : Contains held h) (incoming : IsTrue (is_incoming t h))
       (unended : does_end h t (flags_in (transport_of a.packet)) ≡ false) where
+    -- a packet of this connection, as forwarded
+    abbrev left_by : ConnectionRef → List ℕ
+    left_by place = rewritten a.packet (between (outgoing (tracked_connection place)) (Some (ttl a.packet - 1)))
+
     -- what it belongs to, by its direction
     given : (original : Bool) → same_tuple h.original t ≡ original
         → belongs_by held a.packet t ≡ cond original (Found (connection_ref h Original)) (Found (connection_ref h Reply))
     given original is =
-        given_one t held h (flags_in (transport_of a.packet)) apart among incoming
+        given_one t held (flags_in (transport_of a.packet)) h apart among incoming
         ∙ cond-false (does_end h t (flags_in (transport_of a.packet))) (Ends h.id)
         (cond (same_tuple h.original t) (Found (connection_ref h Original)) (Found (connection_ref h Reply))) unended
         ∙ ap (λ (b : Bool). cond b (Found (connection_ref h Original)) (Found (connection_ref h Reply))) is
 
-    -- it refreshes it so
-    refreshed : (place : ConnectionRef) → belongs_by held a.packet t ≡ Found place → Does setup held now a t e
-        → (e.tracked.change ≡ Touches place.id.0 place.direction)
-        × ((interface : ℕ) → e.outcome ≡ Passed interface
-        → e.packet ≡ rewritten a.packet (between (outgoing (tracked_connection place)) (Some (ttl a.packet - 1))))
-    refreshed place is (did_refresh other found change port_choice packet) =
-        let same : other ≡ place = cc (found, is) in
-        subst (λ (x : ConnectionRef). (e.tracked.change ≡ Touches x.id.0 x.direction)
-        × ((interface : ℕ) → e.outcome ≡ Passed interface
-        → e.packet ≡ rewritten a.packet (between (outgoing (tracked_connection x)) (Some (ttl a.packet - 1))))) same
-        (change, packet)
-    refreshed place is (did_begin none s n change port_choice events outcome packet) =
-        absurd (found_some (belongs_by held a.packet t) place none is)
-    refreshed place is (did_nothing none other change port_choice) =
-        absurd (found_some (belongs_by held a.packet t) place none is)
-
-    by_direction : (original : Bool) → same_tuple h.original t ≡ original → GoesSo h t e
-    by_direction true is =
-        let f = refreshed (connection_ref h Original) (given true is) (does setup held now a t e p) in
+    by_direction : (original : Bool) → same_tuple h.original t ≡ original → Does setup held now a t e → GoesSo h t e
+    by_direction true is (did_refresh place found change port_choice packet) =
+        let at : place ≡ connection_ref h Original = cc (found, given true is) in
         let same = same_tuple-true h.original t is in
         record {
-          touched = rw is f.0;
+          touched = rw is (change ∙ ap (λ (x : ConnectionRef). Touches x.id.0 x.direction) at);
           leaves = λ interface passed.
               let leaves : tuple_of e.packet ≡ Some (inverse h.reply) =
-              ap tuple_of (f.1 interface passed)
+              ap tuple_of (packet interface passed ∙ ap left_by at)
               ∙ leaves_between (inverse h.reply)
               (ap inverse_kind made.kinds ∙ twice h.original.kind ∙ ap (λ (x : Tuple). x.kind) same)
               (inverse_shaped h.reply made.reply) in
@@ -250,21 +235,27 @@ module _ (setup : Setup) (held : List ConntrackEntry) (now : ℕ) (a : ReceivedP
                     ∙ ap (λ (x : Tuple). Some (inverse x)) (same_tuple-true h.reply t o ∙ sym same);
               };
         }
-    by_direction false is =
-        let f = refreshed (connection_ref h Reply) (given false is) (does setup held now a t e p) in
+    by_direction false is (did_refresh place found change port_choice packet) =
+        let at : place ≡ connection_ref h Reply = cc (found, given false is) in
         record {
-          touched = rw is f.0;
+          touched = rw is (change ∙ ap (λ (x : ConnectionRef). Touches x.id.0 x.direction) at);
           leaves = λ interface passed. record {
             original = λ o. absurd (both_ways (same_tuple h.original t) is o);
-            reply = λ o. ap tuple_of (f.1 interface passed)
+            reply = λ o. ap tuple_of (packet interface passed ∙ ap left_by at)
                 ∙ leaves_between (inverse h.original)
                 (sym made.kinds ∙ ap (λ (x : Tuple). x.kind) (same_tuple-true h.reply t o))
                 (inverse_shaped h.original made.original);
           };
         }
+    by_direction true is (did_begin none s n change port_choice events outcome packet) =
+        absurd (subst IsNone (given true is) none)
+    by_direction false is (did_begin none s n change port_choice events outcome packet) =
+        absurd (subst IsNone (given false is) none)
+    by_direction true is (did_nothing none other change port_choice) = absurd (subst IsNone (given true is) none)
+    by_direction false is (did_nothing none other change port_choice) = absurd (subst IsNone (given false is) none)
 
     pub goes_so : GoesSo h t e
-    goes_so = by_direction (same_tuple h.original t) refl
+    goes_so = by_direction (same_tuple h.original t) refl (does setup held now a t e p)
 
 -- ==== A connection that is refreshed was live, and the packet has its tuple.
 
@@ -279,7 +270,7 @@ module _ (setup : Setup) (history : List Entry) (r : Recorded) (e : Entry) (c : 
   touches_live : (a : ReceivedPacket) → carried setup r ≡ Ok a → (t : Tuple) → AcceptedWith setup held now a t e
       → Does setup held now a t e → TouchesLive setup history r e c
   touches_live a arrived t p (did_refresh place found change port_choice packet) =
-      let f = found_one t (flags_in (transport_of a.packet)) held place found in
+      let f = found_one t held (flags_in (transport_of a.packet)) place found in
       let same : place.id.0 ≡ c = cc (change, touches) in
       record {
         a = a;
@@ -411,15 +402,13 @@ module _ (setup : Setup) (held : List ConntrackEntry) (now : ℕ) (a : ReceivedP
 
 hairpin_names_none : (plant : PlantTree) (entered : ℕ) (dest : Option Mapping) (x : ExternalSource)
     → hairpin plant entered dest ≡ Some x → is_some x.ports ≡ false
-hairpin_names_none plant entered None x e = absurd (none-some x e)
+hairpin_names_none plant entered None x e = cc
 hairpin_names_none plant entered (Some m) x e = by_owner (is_same_interface entered (owner plant m.external.address)) e
   where
-    at_external : ExternalSource
-    at_external = record { address = m.external.address; ports = None }
-
-    by_owner : (b : Bool) → (if b then None else Some at_external) ≡ Some x → is_some x.ports ≡ false
-    by_owner true k = absurd (none-some x k)
-    by_owner false k = ap (λ (y : ExternalSource). is_some y.ports) (sym (same_Some at_external x k))
+    by_owner : (b : Bool) → cond b None (let y : ExternalSource =
+        record { address = m.external.address; ports = None } in Some y) ≡ Some x → is_some x.ports ≡ false
+    by_owner true k = cc
+    by_owner false k = ap (λ (y : ExternalSource). is_some y.ports) (sym (same_Some _ x k))
 
 named_so : (plant : PlantTree) (f : Facts) (d : NewConnection) (verdict : HookVerdict) (x : ExternalSource)
     → external_source plant f d verdict ≡ Some x → is_some x.ports ≡ names_ports verdict
@@ -459,30 +448,25 @@ module _ (setup : Setup) (mappings : List Mapping) (input : Interface) (t : Tupl
       none_not_some behind.source m (turned_so setup.plant mappings n.asked.facts t n.asked.verdict).none
       (ap (λ (d : NewConnection). d.source) (same_Some behind n.left drafted) ∙ from)
 
-  by_external : (end : HookResult) → IsAsked setup end s.events → (o : Option ExternalSource)
-      → external_source setup.plant end.facts behind end.verdict ≡ o → with_source_nat mappings behind o ≡ Some n.left
-      → IsAllocated
-  by_external end asked None which e = absurd (unsourced e)
-  by_external end asked (Some x) which e =
+  allocated_by : (o : Option ExternalSource) → HasSource setup mappings input behind o s
+      → with_source_nat mappings behind o ≡ Some n.left → IsAllocated
+  allocated_by None source drafted = absurd (unsourced drafted)
+  allocated_by (Some x) (delivered output none) drafted = cc
+  allocated_by (Some x) (forwarded_on end asked on entered is) drafted =
       let r = some_of_map (with_source_mapping behind x)
-      (source_of behind.tuple.kind behind.tuple.source x.address (range_of x.ports) mappings) n.left e in
+      (source_of behind.tuple.kind behind.tuple.source x.address (range_of x.ports) mappings) n.left drafted in
       let its : mapping_at behind.tuple.kind behind.tuple.source (end_at x.address r.0) ≡ m =
       some_unique n.left.source _ m (sym (ap (λ (d : NewConnection). d.source) r.2)) from in
       let named : n.left.has_port_range ≡ is_some x.ports = sym (ap (λ (d : NewConnection). d.has_port_range) r.2) in
       record {
         end = end;
         asked = asked;
-        named = named ∙ named_so setup.plant end.facts behind end.verdict x which;
+        named = named ∙ named_so setup.plant end.facts behind end.verdict x is;
         live = λ told.
             subst (Contains mappings) its
-            (went_before mappings behind.tuple x r.0 r.1 n.left.has_port_range
-            (subst (λ (n' : Mapping). told_of n.left.has_port_range n' mappings ≡ None) (sym its) told));
+            ((port_chosen mappings behind.tuple x r.0 r.1 n.left.has_port_range named).0
+            (subst (λ (m : Mapping). told_of n.left.has_port_range m mappings ≡ None) (sym its) told));
       }
-
-  allocated_by : HasSource setup mappings input behind n.external s → IsAllocated
-  allocated_by (delivered output none) =
-      absurd (unsourced (ap (with_source_nat mappings behind) (sym none) ∙ n.drafted))
-  allocated_by (forwarded_on end asked on entered is) = by_external end asked n.external is n.drafted
 
 -- ---- the entry
 
@@ -499,7 +483,8 @@ module _ (setup : Setup) (held : List ConntrackEntry) (now : ℕ) (a : ReceivedP
   allocated_among (did_begin none s n change port_choice events outcome packet) m from =
       let mappings = beside held a.packet t in
       let source : n.left.source ≡ Some m = sym (ap source_begun change) ∙ from in
-      let q = allocated_by setup mappings (interface_facts setup.plant a.interface) t s n m source n.source in
+      let q = allocated_by setup mappings (interface_facts setup.plant a.interface) t s n m source n.external
+      n.source n.drafted in
       let port = port_of m.kind m.internal m.external.address mappings in
       let tells : e.port_choice ≡ told_of n.left.has_port_range m mappings =
       port_choice ∙ ap (port_choice_in mappings n.left.has_port_range) source in

@@ -118,16 +118,13 @@ their_names history (c ∷ cs) = ap (λ l. c ∷ l) (their_names history cs)
 
 has_filter : (p : ℕ → Bool) (cs : List ℕ) (c : ℕ) → Contains cs c → p c ≡ true → Contains (filter p cs) c
 has_filter p [] c among passes = among
-has_filter p (d ∷ cs) c among passes =
-    cond_both (p d) (d ∷ filter p cs) (filter p cs) (λ l. Contains l c)
-    (λ yes. elim (Contains-cases d cs c among) [
-      | inl e ↦ subst (λ (n : ℕ). Contains (d ∷ filter p cs) n) e (Contains-head d (filter p cs))
-      | inr k ↦ Contains-tail d (filter p cs) c (has_filter p cs c k passes)
-    ])
-    (λ no. elim (Contains-cases d cs c among) [
-      | inl e ↦ absurd (both_ways (p d) no (subst (λ (n : ℕ). p n ≡ true) (sym e) passes))
-      | inr k ↦ has_filter p cs c k passes
-    ])
+has_filter p (d ∷ cs) c among passes = elim (Contains-cases d cs c among) [
+  | inl e ↦ rw (ap p e ∙ passes) (subst (Contains (d ∷ filter p cs)) e (Contains-head d (filter p cs)))
+  | inr k ↦
+      let rest = has_filter p cs c k passes in
+      cond_both (p d) (d ∷ filter p cs) (filter p cs) (λ l. Contains l c)
+      (λ _. Contains-tail d (filter p cs) c rest) (λ _. rest)
+]
 
 -- a connection that wasn't ended is listed exactly while its last packet is less than its limit ago
 pub lives_always : (setup : Setup) (history : List Entry) (now : ℕ) → LivesOn setup history now
@@ -147,12 +144,9 @@ lives_always setup history now c among unended =
 
 -- ==== What is true of connections is true of them as they are listed.
 
-same_tuple-is : (s t : Tuple) → s ≡ t → same_tuple s t ≡ true
-same_tuple-is s t e = subst (λ (u : Tuple). same_tuple s u ≡ true) e (same_tuple-refl s)
-
 comes_to : (h : ConntrackEntry) (t : Tuple) → HasIncoming (connection_of h) t → is_incoming t h ≡ true
-comes_to h t (inl e) = or_left (same_tuple h.original t) (same_tuple h.reply t) (same_tuple-is h.original t e)
-comes_to h t (inr e) = or_right (same_tuple h.original t) (same_tuple h.reply t) (same_tuple-is h.reply t e)
+comes_to h t (inl e) = or_left (same_tuple h.original t) (same_tuple h.reply t) (rw e (same_tuple-refl t))
+comes_to h t (inr e) = or_right (same_tuple h.original t) (same_tuple h.reply t) (rw e (same_tuple-refl t))
 
 pub apart_listed : (held : List ConntrackEntry) → have_disjoint_tuples held ≡ true → AreApart (map connection_of held)
 apart_listed [] apart = tt
@@ -229,7 +223,7 @@ module _ (known : Known) (setup : Setup) where
         chosen = λ c m live holds. each_mapping (IsChosen history) alive
             (All-weaker (IsMade history) (MappingsAre (IsChosen history)) (λ h one. one.chosen) alive k.mapped.all) m
             (listed_mapping alive c m live holds);
-        given = λ h t flags. given_one t alive h flags k.apart;
+        given = λ h t flags. given_one t alive flags h k.apart;
         lives = lives_always setup history now;
       }
 

@@ -30,7 +30,8 @@ use Rattle.stepping.specs.Paths.{PathState, StepResult, Continue, Drop}
 use Rattle.stepping.specs.Confirmations.{confirmation_by, port_choice_for, port_choice_in, refusal, reply_to}
 use Rattle.stepping.specs.Confirmations.{confirmation_of, mark_in, port_choice_of}
 use Rattle.translation_laws.proofs.Paths.{AcceptedWith, EntryCase, IsLookedUp, IsNone, accepted_so, begins, belongs_by}
-use Rattle.translation_laws.proofs.Paths.{dropped_so, entry_case, is_invalid, refreshes, unseen_so}
+use Rattle.translation_laws.proofs.Paths.{beside, dropped_so, entry_case, is_invalid, refreshes, turned_by, unseen_so}
+use Rattle.translation_laws.proofs.Connections.{NewConnectionSo, left_so, turned_so}
 use Rattle.ip_headers.specs.Tuple.{tuple_of}
 use Rattle.pcap_io.specs.Pcap.{Recorded}
 use Rattle.history.specs.declared.outcome.Cause.{Cause}
@@ -49,25 +50,13 @@ use Rattle.conntrack.specs.Updates as updates
 
 -- ==== A confirmed packet belongs to a connection, or begins the one that NAT gave its mappings.
 
--- ---- the effects of statements
-
--- NAT made this new connection from a packet's tuple, among these mappings; source NAT doesn't run where the
--- packet is for the box
-pub record IsNewConnection (mappings : List Mapping) (t : Tuple) (new_connection : NewConnection) : Type 0 where
-  pub plant : PlantTree
-  pub facts : Facts
-  pub verdict : HookVerdict
-  pub external_source : Option ExternalSource
-  pub drafted : with_source_nat mappings (with_destination_nat plant mappings facts (new_connection_of t) verdict)
-      external_source ≡ Some new_connection
-
 -- a connection that begins beside these others with a packet of this tuple; and, where a port was allocated, whether a
 -- port range was given
 pub record IsBegun (others : List ConntrackEntry) (t reply : Tuple) (source dest : Option Mapping)
     (port_choice : Option Bool) : Type 0 where
   pub new : first_state t.kind ≡ states.New
   pub new_connection : NewConnection
-  pub drafted : IsNewConnection (mappings_in others) t new_connection
+  pub drafted : NewConnectionSo (mappings_in others) t new_connection
   pub answers : reply ≡ reply_to new_connection
   pub from : source ≡ new_connection.source
   pub to : dest ≡ new_connection.dest
@@ -116,24 +105,20 @@ module _ (setup : Setup) (held : List ConntrackEntry) (now : ℕ) (e : Entry) wh
   counted a t q (refreshes place found is) = rw (is, found) tt
   counted a t q (is_invalid none new is) = rw is tt
   counted a t q (begins none new n free) =
+      let mappings = beside held a.packet t in
+      let input = interface_facts setup.plant a.interface in
       rw n.is (begun_counted (belongs_by held a.packet t) none (mark_in q.end.facts.ct) t (reply_to n.left) n.left.source
       n.left.dest e.port_choice held
       (record {
         new = new;
         new_connection = n.left;
-        drafted = record {
-          plant = setup.plant;
-          facts = n.asked.facts;
-          verdict = n.asked.verdict;
-          external_source = n.external;
-          drafted = n.drafted;
-        };
+        drafted = left_so mappings t (turned_by setup mappings input (new_connection_of t) n.asked)
+            (turned_so setup.plant mappings n.asked.facts t n.asked.verdict) n.external n.left n.drafted;
         answers = refl;
         from = refl;
         to = refl;
         free = untaken (reply_to n.left) (after_end (belongs_by held a.packet t) held) free;
-        chosen = q.port_choice
-            ∙ ap (port_choice_for (mappings_in (after_end (belongs_by held a.packet t) held))) n.is;
+        chosen = q.port_choice ∙ ap (port_choice_for mappings) n.is;
       }))
 
   follows : (carries : Result ReceivedPacket Cause) → EntryCase setup held now carries e → Follows held now e

@@ -27,10 +27,12 @@ use Rattle.translation.specs.declared.ct_info.NewConnection.{NewConnection}
 use Rattle.translation.specs.LiveMappings.{listed, mappings_in}
 use Rattle.translation.specs.Nat.{range_of, has_ports}
 use Rattle.translation_laws.proofs.HistorySteps.{IsBegun, IsCounted, IsKept}
-use Rattle.translation_laws.proofs.Connections.{NewConnectionSo, SourceSo, stayed, went, with_nat_status_so}
+use Rattle.translation_laws.proofs.Connections.{NewConnectionSo, SourceSo, stayed, went}
 use Rattle.translation_laws.proofs.Connections.{MappingsAre, begun_by, each_holder, each_mapping, each_touched}
 use Rattle.translation_laws.proofs.Connections.{is_listed, mapping_at}
-use Rattle.translation_laws.proofs.Connections.{end_at, found_so, port_held, mapping_exact, mapping_same}
+use Rattle.translation_laws.proofs.Connections.{end_at, port_held}
+use Rattle.nat_mapping.proofs.Lists.{found_among}
+use Rattle.nat_mapping.proofs.Equal.{mapping_exact, mapping_same}
 use Rattle.list_laws.specs.Options.{some_of_map, none_not_some, some_unique}
 use Rattle.list_laws.specs.Elements.{Contains-cases}
 use Rattle.ip_headers.specs.declared.tuple.Kind.TheVariants.{EchoRequest, EchoReply, Other}
@@ -149,7 +151,7 @@ module _ (mappings : List Mapping) (plain : (m : Mapping) → Contains mappings 
       → first_free_port kind internal address range mappings ≡ Some port → OutsideSuits kind port
   fresh_plain (Other number) internal address range port e =
       zero_alone internal.port range port
-      (found_so (λ q. not (is_port_held (Other number) address mappings q)) (candidates orders.Zero internal.port range)
+      (found_among (λ q. not (is_port_held (Other number) address mappings q)) (candidates orders.Zero internal.port range)
       port e).0
   fresh_plain _ internal address range port e = tt
 
@@ -213,7 +215,7 @@ fresh_alike all mappings EchoRequest internal address port ports e = cc
 fresh_alike all mappings EchoReply internal address port ports e = cc
 fresh_alike all mappings (Other number) internal address port ports e = cc
 fresh_alike all mappings kind internal address port ports e =
-    all internal.port port (found_so (λ q. not (is_port_held kind address mappings q))
+    all internal.port port (found_among (λ q. not (is_port_held kind address mappings q))
     (candidates orders.Ports internal.port None) port e).0
 
 -- an allocation from all ports
@@ -221,43 +223,29 @@ unnamed : (ports : Option PortInterval) → is_some ports ≡ false → range_of
 unnamed None e = refl
 unnamed (Some ports) e = cc
 
--- an allocated port is none of a live mapping
-chosen_afresh : (has_port_range : Bool) (there : Option ℕ) (b : Bool) → port_choice_by has_port_range there ≡ Some b
-    → (there ≡ None) × (has_port_range ≡ b)
-chosen_afresh has_port_range None b e = (refl, cc)
-chosen_afresh has_port_range (Some port) b e = cc
+-- by what an entry tells of a mapping's port: it was live before, or has the class and parity of the internal one
+abbrev pub PortChosen : List Mapping → Option Bool → Mapping → Type 0
+PortChosen mappings port_choice m = (port_choice ≡ None → Contains mappings m)
+    × (port_choice ≡ Some false → CandidatesAlike → has_ports m.kind ≡ true
+    → same_class_and_parity m.internal.port m.external.port ≡ true)
 
-not_afresh : (has_port_range : Bool) (there : Option ℕ) → port_choice_by has_port_range there ≡ None → (port : ℕ)
-    × (there ≡ Some port)
-not_afresh has_port_range None e = cc
-not_afresh has_port_range (Some port) e = (port, refl)
-
-module _ (mappings : List Mapping) (t : Tuple) (x : ExternalSource) (port : ℕ)
-    (chosen : source_of t.kind t.source x.address (range_of x.ports) mappings ≡ Some port) where
-  abbrev there : Option ℕ
-  there = port_of t.kind t.source x.address mappings
-
-  abbrev afresh : Option CandidateRange → Option ℕ
-  afresh range = first_free_port t.kind t.source x.address range mappings
-
-  went_alike : CandidatesAlike → (has_port_range : Bool) → has_port_range ≡ is_some x.ports
-      → port_choice_by has_port_range there ≡ Some false → has_ports t.kind ≡ true
-      → same_class_and_parity t.source.port port ≡ true
-  went_alike all has_port_range is port_choice ports =
-      let so = chosen_afresh has_port_range there false port_choice in
-      let none : range_of x.ports ≡ None = unnamed x.ports (sym is ∙ so.1) in
-      let found : afresh (range_of x.ports) ≡ Some port =
-      ap (λ (o : Option ℕ). or_else o (afresh (range_of x.ports))) (sym so.0) ∙ chosen in
-      fresh_alike all mappings t.kind t.source x.address port ports (ap afresh (sym none) ∙ found)
-
-  -- a port that wasn't allocated was live before
-  pub went_before : (has_port_range : Bool) → port_choice_by has_port_range there ≡ None
-      → Contains mappings (mapping_at t.kind t.source (end_at x.address port))
-  went_before has_port_range port_choice =
-      let so = not_afresh has_port_range there port_choice in
-      let same : Some so.0 ≡ Some port = ap (λ (o : Option ℕ). or_else o (afresh (range_of x.ports))) (sym so.1)
-      ∙ chosen in
-      port_held t.kind t.source x.address port mappings (so.1 ∙ same)
+pub port_chosen : (mappings : List Mapping) (t : Tuple) (x : ExternalSource) (port : ℕ)
+    → source_of t.kind t.source x.address (range_of x.ports) mappings ≡ Some port → (has_port_range : Bool)
+    → has_port_range ≡ is_some x.ports
+    → PortChosen mappings (port_choice_by has_port_range (port_of t.kind t.source x.address mappings))
+    (mapping_at t.kind t.source (end_at x.address port))
+port_chosen mappings t x port chosen has_port_range is = by_port (port_of t.kind t.source x.address mappings) refl chosen
+  where
+    by_port : (o : Option ℕ) → port_of t.kind t.source x.address mappings ≡ o
+        → or_else o (first_free_port t.kind t.source x.address (range_of x.ports) mappings) ≡ Some port
+        → PortChosen mappings (port_choice_by has_port_range o) (mapping_at t.kind t.source (end_at x.address port))
+    by_port (Some p) there same =
+        (λ untold. port_held t.kind t.source x.address port mappings (there ∙ same), λ told. cc)
+    by_port None there found = (λ untold. cc, λ told all ports.
+        let named : has_port_range ≡ false = cc in
+        let range : range_of x.ports ≡ None = unnamed x.ports (sym is ∙ named) in
+        fresh_alike all mappings t.kind t.source x.address port ports
+        (ap (λ (r : Option CandidateRange). first_free_port t.kind t.source x.address r mappings) (sym range) ∙ found))
 
 -- ---- the port that an entry allocates
 
@@ -381,38 +369,32 @@ module _ (laws : MappingLaws) (history : List Entry) (held : List ConntrackEntry
       abbrev mappings : List Mapping
       mappings = mappings_in held
 
-      drafted : NewConnectionSo mappings p.tuple b.new_connection
-      drafted = with_nat_status_so mappings p.tuple b.new_connection b.drafted
-
       -- its mappings are that of its source, and a live one
       begun_mappings : (Q : Mapping → Type 0) → ((m : Mapping) → Contains mappings m → Q m)
           → ((m : Mapping) → source ≡ Some m → Q m) → MappingsAre Q (begun_by id p mark reply source dest)
       begun_mappings Q live own m (inl of) = own m of
       begun_mappings Q live own m (inr to) =
-          live m (dest_held laws mappings p.tuple b.new_connection drafted m (sym b.to ∙ to))
+          live m (dest_held laws mappings p.tuple b.new_connection b.drafted m (sym b.to ∙ to))
 
       -- the port of its source was allocated now, or was live before
       source_so : (m : Mapping) → source ≡ Some m → SourceSo mappings p.tuple b.new_connection
-          → (e.port_choice ≡ None → Contains mappings m) × (e.port_choice ≡ Some false → has_ports m.kind ≡ true
-          → same_class_and_parity m.internal.port m.external.port ≡ true)
+          → PortChosen mappings e.port_choice m
       source_so m of (stayed none same) = absurd (none_not_some b.new_connection.source m none (sym b.from ∙ of))
       source_so m of (went x port chosen from to has_port_range) =
           let same : mapping_at p.tuple.kind p.tuple.source (end_at x.address port) ≡ m =
           some_unique b.new_connection.source _ m from (sym b.from ∙ of) in
           let tells = b.chosen ∙ ap (port_choice_in mappings b.new_connection.has_port_range) from in
-          subst (λ (n : Mapping). (e.port_choice ≡ None → Contains mappings n) × (e.port_choice ≡ Some false
-          → has_ports n.kind ≡ true → same_class_and_parity n.internal.port n.external.port ≡ true)) same (
-            λ untold. went_before mappings p.tuple x port chosen b.new_connection.has_port_range (sym tells ∙ untold),
-            λ told ports. went_alike mappings p.tuple x port chosen alike b.new_connection.has_port_range has_port_range
-                (sym tells ∙ told) ports,
-          )
+          subst (PortChosen mappings e.port_choice) same
+          (subst (λ (o : Option Bool). PortChosen mappings o (mapping_at p.tuple.kind p.tuple.source
+          (end_at x.address port))) (sym tells)
+          (port_chosen mappings p.tuple x port chosen b.new_connection.has_port_range has_port_range))
 
       source_chosen : (m : Mapping) → source ≡ Some m → (o : Option Bool) → e.port_choice ≡ o
           → IsChosen (e ∷ history) m
       source_chosen m of None untold =
           chosen_or_earlier (choice_in m e) (latest_choice m history)
           (inr (each_mapping (IsChosen history) held (All-weaker (IsMade history) (MappingsAre (IsChosen history))
-          (λ h one. one.chosen) held k.all) m ((source_so m of drafted.source).0 untold)))
+          (λ h one. one.chosen) held k.all) m ((source_so m of b.drafted.source).0 untold)))
       source_chosen m of (Some named) told =
           chosen_or_earlier (choice_in m e) (latest_choice m history)
           (inl (λ none. none_not_some (choice_in m e) named none (ap (choice_by m e.port_choice) (is ∙ of)
@@ -423,12 +405,12 @@ module _ (laws : MappingLaws) (history : List Entry) (held : List ConntrackEntry
           let plain = each_mapping IsPlain held (All-weaker (IsMade history) (MappingsAre IsPlain) (λ h one. one.plain)
           held k.all) in
           record {
-            kinds = ap (λ (u : Tuple). u.kind) b.answers ∙ ap inverse_kind drafted.kind;
+            kinds = ap (λ (u : Tuple). u.kind) b.answers ∙ ap inverse_kind b.drafted.kind;
             original = shaped;
             reply = subst IsShaped (sym b.answers) (inverse_shaped b.new_connection.tuple (new_connection_shaped mappings
-                plain p.tuple b.new_connection b.new shaped drafted));
+                plain p.tuple b.new_connection b.new shaped b.drafted));
             plain = begun_mappings IsPlain plain (λ m of. source_is_plain mappings plain p.tuple b.new_connection b.new
-                shaped drafted m (sym b.from ∙ of));
+                shaped b.drafted m (sym b.from ∙ of));
             chosen = begun_mappings (IsChosen (e ∷ history))
                 (λ m among. each_mapping (IsChosen (e ∷ history)) held (All-weaker (IsMade (e ∷ history))
                 (MappingsAre (IsChosen (e ∷ history))) (λ h one. one.chosen) held made_later) m among)
@@ -447,11 +429,11 @@ module _ (laws : MappingLaws) (history : List Entry) (held : List ConntrackEntry
                 (begun_mappings (Contains all) (Contains-append_right (listed source) mappings)
                 (λ m of. Contains-append_left (listed source) mappings m (is_listed source m of)))))
                 (subst (λ (o : Option Mapping). IsOneToOne (listed o ++ mappings)) (sym b.from)
-                (source_one laws mappings p.tuple b.new_connection drafted k.one));
+                (source_one laws mappings p.tuple b.new_connection b.drafted k.one));
             class = λ m ports latest. elim (choice_or_earlier m history e (choice_in m e) false latest) [
               | inl here ↦
                   let so = chosen_by m e.port_choice source false (sym (ap (choice_by m e.port_choice) is) ∙ here) in
-                  (source_so m so.0 drafted.source).1 so.1 ports
+                  (source_so m so.0 b.drafted.source).1 so.1 alike ports
               | inr earlier ↦ k.class m ports earlier
             ];
             all = All-push (IsMade (e ∷ history)) held new made_later begun_made;
