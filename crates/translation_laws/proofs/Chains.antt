@@ -156,8 +156,7 @@ value_kept f k all (Some x) = all x
 connection_kept : (f : Facts) (t : CtFacts) (n : ℕ) → f.ct ≡ t → WayKept f (writes_connection f t n)
 connection_kept f (Known c) n is = (
   refl,
-  λ at_look_up es told. told_still (Known c) at_look_up es (Marked marks.Ct n ∷ []) refl
-      (subst (λ (x : CtFacts). TellExempt x at_look_up (did_exempt es)) is told),
+  λ at_look_up es told. told_still (Known c) at_look_up es (Marked marks.Ct n ∷ []) refl (rw is at told),
 )
 connection_kept f _ n is = tt
 
@@ -167,11 +166,7 @@ writes_kept marks.Meta f n =
 writes_kept marks.Ct f n = connection_kept f f.ct n refl
 
 skips_kept : (f : Facts) (t : CtFacts) → f.ct ≡ t → WayKept f (sets_notrack f t)
-skips_kept f NotLookedUp is = (
-  refl,
-  λ at_look_up es told. exempted at_look_up es
-      (subst (λ (x : CtFacts). TellExempt x at_look_up (did_exempt es)) is told),
-)
+skips_kept f NotLookedUp is = (refl, λ at_look_up es told. exempted at_look_up es (rw is at told))
 skips_kept f _ is = tt
 
 statement_effect_kept : (scope : Scope) (statement_position : StatementPosition) (s : Statement) (f : Facts)

@@ -91,79 +91,61 @@ unconfirmed_none : (b : Belonging) (p : Arrival) → change_of_packet b p Unconf
 unconfirmed_none (Found place) p = refl
 unconfirmed_none _ p = refl
 
-module _ (setup : Setup) (held : List ConntrackEntry) (now : ℕ) (a : ReceivedPacket) (t : Tuple) (e : Entry) where
-  -- it refreshes its connection, begins one, or does nothing
-  pub data Does : Type 0 where
-    did_refresh : (place : ConnectionRef) → belongs_by held a.packet t ≡ Found place
-        → e.tracked.change ≡ Touches place.id.0 place.direction → e.port_choice ≡ None
-        → ((interface : ℕ) → e.outcome ≡ Passed interface
-        → e.packet ≡ rewritten a.packet (between (outgoing (tracked_connection place)) (Some (ttl a.packet - 1))))
-        → Does
-    did_begin : IsNone (belongs_by held a.packet t) → (s : PathState)
-        → (n : IsTranslated setup (beside held a.packet t) (interface_facts setup.plant a.interface) (new_connection_of t) s)
-        → e.tracked.change ≡ begins_with t (reply_to n.left) n.left.source n.left.dest
-        → e.port_choice ≡ port_choice_in (beside held a.packet t) n.left.has_port_range n.left.source
-        → e.events ≡ s.events → e.outcome ≡ outcome_by s.facts.output
-        → ((interface : ℕ) → e.outcome ≡ Passed interface
-        → e.packet ≡ rewritten a.packet (between n.left.tuple (Some (ttl a.packet - 1)))) → Does
-    did_nothing : IsNone (belongs_by held a.packet t) → (first_state t.kind ≡ states.New → ⊥)
-        → e.tracked.change ≡ NoChange → e.port_choice ≡ None → Does
+module _ (setup : Setup) (held : List ConntrackEntry) (now : ℕ) (a : ReceivedPacket) (t : Tuple) (e : Entry)
+    (p : AcceptedWith setup held now a t e) where
+  abbrev Does : Type 0
+  Does = IsLookedUp setup (interface_facts setup.plant a.interface) held a.packet (belongs_by held a.packet t) t p.end
 
-  module _ (p : AcceptedWith setup held now a t e) where
-    -- with this state at its end
-    change_is : (info : CtInfo) → p.end.info ≡ info
-        → e.tracked.change ≡ change_of_packet (belongs_by held a.packet t) (arrival_of now a.packet t)
+  -- with this state at its end
+  module _ (info : CtInfo) (is : p.end.info ≡ info) where
+    change_is : e.tracked.change ≡ change_of_packet (belongs_by held a.packet t) (arrival_of now a.packet t)
         (confirmation_by info (mark_in p.end.facts.ct))
-    change_is info is =
+    change_is =
         ap (λ (x : TrackedPacket). x.change) p.tracked
         ∙ ap (λ (w : CtInfo). change_of_packet (belongs_by held a.packet t) (arrival_of now a.packet t)
         (confirmation_by w (mark_in p.end.facts.ct))) is
 
-    choice_is : (info : CtInfo) → p.end.info ≡ info → e.port_choice ≡ port_choice_for (beside held a.packet t) info
-    choice_is info is = p.port_choice ∙ ap (port_choice_for (beside held a.packet t)) is
+    choice_is : e.port_choice ≡ port_choice_for (beside held a.packet t) info
+    choice_is = p.port_choice ∙ ap (port_choice_for (beside held a.packet t)) is
 
-    packet_is : (info : CtInfo) → p.end.info ≡ info → (interface : ℕ) → e.outcome ≡ Passed interface
+    packet_is : (interface : ℕ) → e.outcome ≡ Passed interface
         → e.packet ≡ rewritten a.packet (change_of info a.packet (ttl a.packet - 1))
-    packet_is info is interface passed =
+    packet_is interface passed =
         p.packet ∙ ap (sent_on a.packet p.end.info) (sym p.outcome ∙ passed)
         ∙ ap (λ (w : CtInfo). rewritten a.packet (change_of w a.packet (ttl a.packet - 1))) is
 
-    pub does_so : IsLookedUp setup (interface_facts setup.plant a.interface) held a.packet (belongs_by held a.packet t) t p.end
-        → Does
-    does_so (refreshes place found is) =
-        did_refresh place found
-        (change_is _ is
-        ∙ ap (λ (b : Belonging). change_of_packet b (arrival_of now a.packet t)
-        (confirmation_by (Tracked (tracked_connection place)) (mark_in p.end.facts.ct))) found)
-        (choice_is _ is) (packet_is _ is)
-    does_so (begins none new n free) =
-        did_begin none p.end n
-        (change_is _ n.is
-        ∙ change_begun (belongs_by held a.packet t) none (arrival_of now a.packet t) (mark_in p.end.facts.ct) (reply_to n.left)
-        n.left.source n.left.dest)
-        (choice_is _ n.is) p.events p.outcome (packet_is _ n.is)
-    does_so (is_invalid none new is) =
-        did_nothing none new
-        (change_is _ is ∙ unconfirmed_none (belongs_by held a.packet t) (arrival_of now a.packet t)) (choice_is _ is)
+  refreshed : (place : ConnectionRef) → belongs_by held a.packet t ≡ Found place
+      → p.end.info ≡ Tracked (tracked_connection place) → e.tracked.change ≡ Touches place.id.0 place.direction
+  refreshed place found is =
+      change_is _ is
+      ∙ ap (λ (b : Belonging). change_of_packet b (arrival_of now a.packet t)
+      (confirmation_by (Tracked (tracked_connection place)) (mark_in p.end.facts.ct))) found
+
+  begun_so : IsNone (belongs_by held a.packet t) → (d : NewConnection) → p.end.info ≡ New d
+      → e.tracked.change ≡ begins_with t (reply_to d) d.source d.dest
+  begun_so none d is =
+      change_is _ is
+      ∙ change_begun (belongs_by held a.packet t) none (arrival_of now a.packet t) (mark_in p.end.facts.ct) (reply_to d)
+      d.source d.dest
+
+  unchanged : p.end.info ≡ Invalid → e.tracked.change ≡ NoChange
+  unchanged is = change_is _ is ∙ unconfirmed_none (belongs_by held a.packet t) (arrival_of now a.packet t)
 
 -- ==== The first packet of a connection begins it.
 
 module _ (setup : Setup) (held : List ConntrackEntry) (now : ℕ) (a : ReceivedPacket) (t : Tuple) (e : Entry)
     (p : AcceptedWith setup held now a t e) where
-  pub does : Does setup held now a t e
-  does = does_so setup held now a t e p p.state
-
   -- where no connection has its tuple but one that it removes
   pub begins_one : first_state t.kind ≡ states.New
       → ((h : ConntrackEntry) → Contains held h → IsTrue (is_incoming t h)
       → does_end h t (flags_in (transport_of a.packet)) ≡ true)
       → (b : Creation) × (e.tracked.change ≡ Begins b) × (b.original ≡ t)
-  begins_one new free = by_case does
+  begins_one new free = by_case p.state
     where
-      by_case : Does setup held now a t e → (b : Creation) × (e.tracked.change ≡ Begins b) × (b.original ≡ t)
-      by_case (did_begin none s n change port_choice events outcome packet) = (_, change, refl)
-      by_case (did_nothing none other change port_choice) = absurd (other new)
-      by_case (did_refresh place found change port_choice packet) =
+      by_case : Does setup held now a t e p → (b : Creation) × (e.tracked.change ≡ Begins b) × (b.original ≡ t)
+      by_case (begins none first n unrefused) = (_, begun_so setup held now a t e p none n.left n.is, refl)
+      by_case (is_invalid none other is) = absurd (other new)
+      by_case (refreshes place found is) =
           let f = found_one t held (flags_in (transport_of a.packet)) place found in
           absurd (both_ways (does_end f.h t (flags_in (transport_of a.packet))) f.unended
           (free f.h f.among f.incoming))
@@ -217,15 +199,15 @@ module _ (setup : Setup) (held : List ConntrackEntry) (now : ℕ) (a : ReceivedP
         (cond (same_tuple h.original t) (Found (connection_ref h Original)) (Found (connection_ref h Reply))) unended
         ∙ ap (λ (b : Bool). cond b (Found (connection_ref h Original)) (Found (connection_ref h Reply))) is
 
-    by_direction : (original : Bool) → same_tuple h.original t ≡ original → Does setup held now a t e → GoesSo h t e
-    by_direction true is (did_refresh place found change port_choice packet) =
+    by_direction : (original : Bool) → same_tuple h.original t ≡ original → Does setup held now a t e p → GoesSo h t e
+    by_direction true is (refreshes place found stayed) =
         let at : place ≡ connection_ref h Original = cc (found, given true is) in
         let same = same_tuple-true h.original t is in
         record {
-          touched = rw is (change ∙ ap (λ (x : ConnectionRef). Touches x.id.0 x.direction) at);
+          touched = rw is (refreshed setup held now a t e p place found stayed ∙ ap (λ (x : ConnectionRef). Touches x.id.0 x.direction) at);
           leaves = λ interface passed.
               let leaves : tuple_of e.packet ≡ Some (inverse h.reply) =
-              ap tuple_of (packet interface passed ∙ ap left_by at)
+              ap tuple_of (packet_is setup held now a t e p _ stayed interface passed ∙ ap left_by at)
               ∙ leaves_between (inverse h.reply)
               (ap inverse_kind made.kinds ∙ twice h.original.kind ∙ ap (λ (x : Tuple). x.kind) same)
               (inverse_shaped h.reply made.reply) in
@@ -235,27 +217,27 @@ module _ (setup : Setup) (held : List ConntrackEntry) (now : ℕ) (a : ReceivedP
                     ∙ ap (λ (x : Tuple). Some (inverse x)) (same_tuple-true h.reply t o ∙ sym same);
               };
         }
-    by_direction false is (did_refresh place found change port_choice packet) =
+    by_direction false is (refreshes place found stayed) =
         let at : place ≡ connection_ref h Reply = cc (found, given false is) in
         record {
-          touched = rw is (change ∙ ap (λ (x : ConnectionRef). Touches x.id.0 x.direction) at);
+          touched = rw is (refreshed setup held now a t e p place found stayed ∙ ap (λ (x : ConnectionRef). Touches x.id.0 x.direction) at);
           leaves = λ interface passed. record {
             original = λ o. absurd (both_ways (same_tuple h.original t) is o);
-            reply = λ o. ap tuple_of (packet interface passed ∙ ap left_by at)
+            reply = λ o. ap tuple_of (packet_is setup held now a t e p _ stayed interface passed ∙ ap left_by at)
                 ∙ leaves_between (inverse h.original)
                 (sym made.kinds ∙ ap (λ (x : Tuple). x.kind) (same_tuple-true h.reply t o))
                 (inverse_shaped h.original made.original);
           };
         }
-    by_direction true is (did_begin none s n change port_choice events outcome packet) =
+    by_direction true is (begins none new n free) =
         absurd (subst IsNone (given true is) none)
-    by_direction false is (did_begin none s n change port_choice events outcome packet) =
+    by_direction false is (begins none new n free) =
         absurd (subst IsNone (given false is) none)
-    by_direction true is (did_nothing none other change port_choice) = absurd (subst IsNone (given true is) none)
-    by_direction false is (did_nothing none other change port_choice) = absurd (subst IsNone (given false is) none)
+    by_direction true is (is_invalid none new stayed) = absurd (subst IsNone (given true is) none)
+    by_direction false is (is_invalid none new stayed) = absurd (subst IsNone (given false is) none)
 
     pub goes_so : GoesSo h t e
-    goes_so = by_direction (same_tuple h.original t) refl (does setup held now a t e p)
+    goes_so = by_direction (same_tuple h.original t) refl p.state
 
 -- ==== A connection that is refreshed was live, and the packet has its tuple.
 
@@ -267,9 +249,11 @@ module _ (setup : Setup) (history : List Entry) (r : Recorded) (e : Entry) (c : 
   abbrev now : ℕ
   now = moment_after history r
 
-  touches_live : (a : ReceivedPacket) → carried setup r ≡ Ok a → (t : Tuple) → AcceptedWith setup held now a t e
-      → Does setup held now a t e → TouchesLive setup history r e c
-  touches_live a arrived t p (did_refresh place found change port_choice packet) =
+  touches_live : (a : ReceivedPacket) → carried setup r ≡ Ok a → (t : Tuple)
+      → (p : AcceptedWith setup held now a t e)
+      → Does setup held now a t e p → TouchesLive setup history r e c
+  touches_live a arrived t p (refreshes place found is) =
+      let change = refreshed setup held now a t e p place found is in
       let f = found_one t held (flags_in (transport_of a.packet)) place found in
       let same : place.id.0 ≡ c = cc (change, touches) in
       record {
@@ -283,14 +267,15 @@ module _ (setup : Setup) (history : List Entry) (r : Recorded) (e : Entry) (c : 
         unended = f.unended;
         touched = change ∙ sym f.touched;
       }
-  touches_live a arrived t p (did_begin none s n change port_choice events outcome packet) = cc (change, touches)
-  touches_live a arrived t p (did_nothing none other change port_choice) = cc (change, touches)
+  touches_live a arrived t p (begins none new n free) =
+      cc (begun_so setup held now a t e p none n.left n.is, touches)
+  touches_live a arrived t p (is_invalid none new is) = cc (unchanged setup held now a t e p is, touches)
 
   touches_by : EntryCase setup held now (carried setup r) e → TouchesLive setup history r e c
   touches_by (unseen_so is untold other) = cc (ap (λ (x : TrackedPacket). x.change) is, touches)
   touches_by (dropped_so p t read is untold cause dropped) =
       cc (ap (λ (x : TrackedPacket). x.change) is, touches)
-  touches_by (accepted_so a arrived t p) = touches_live a arrived t p (does setup held now a t e p)
+  touches_by (accepted_so a arrived t p) = touches_live a arrived t p p.state
 
 pub touches_own : (setup : Setup) (history : List Entry) (r : Recorded) (e : Entry) → Next setup history r e
     → TouchesItsOwn setup history r e
@@ -362,28 +347,30 @@ module _ (laws : MappingLaws) (mappings : List Mapping) (one : IsOneToOne mappin
 
 module _ (setup : Setup) (held : List ConntrackEntry) (now : ℕ) (a : ReceivedPacket) (t : Tuple) (e : Entry)
     (p : AcceptedWith setup held now a t e) (interface : ℕ) (passed : e.outcome ≡ Passed interface)
-    (begins : IsTrue (is_creation e.tracked.change)) (laws : MappingLaws) (sending : BetweenEnds)
+    (created : IsTrue (is_creation e.tracked.change)) (laws : MappingLaws) (sending : BetweenEnds)
     (faultless : fault_of a.packet ≡ None) (one : IsOneToOne (beside held a.packet t)) (ports : has_ports t.kind ≡ true)
     (m : Mapping) (among : Contains (beside held a.packet t) m) (kind : m.kind ≡ t.kind)
     (external : m.external ≡ t.destination)
     (other : is_same_interface a.interface (owner setup.plant m.external.address) ≡ false)
     (untold : did_nat_act e.events ≡ false) where
-  turns_by : Does setup held now a t e → IsHairpinned t (mapping_at t.kind m.internal t.destination) (beside held a.packet t) e
-  turns_by (did_refresh place found change port_choice packet) =
-      absurd (both_ways (is_creation e.tracked.change) (ap is_creation change) begins)
-  turns_by (did_nothing none new change port_choice) =
-      absurd (both_ways (is_creation e.tracked.change) (ap is_creation change) begins)
-  turns_by (did_begin none s n change port_choice events outcome packet) =
+  turns_by : Does setup held now a t e p → IsHairpinned t (mapping_at t.kind m.internal t.destination) (beside held a.packet t) e
+  turns_by (refreshes place found is) =
+      absurd (both_ways (is_creation e.tracked.change)
+      (ap is_creation (refreshed setup held now a t e p place found is)) created)
+  turns_by (is_invalid none new is) =
+      absurd (both_ways (is_creation e.tracked.change) (ap is_creation (unchanged setup held now a t e p is)) created)
+  turns_by (begins none new n free) =
       let r = mapped laws (beside held a.packet t) one t ports m among kind external setup
-      (interface_facts setup.plant a.interface) s
+      (interface_facts setup.plant a.interface) p.end
       (subst (λ (x : Endpoint). is_same_interface a.interface (owner setup.plant x.address) ≡ false) external other)
-      (subst (λ (es : List Event). did_nat_act es ≡ false) events untold)
-      (λ none. let local : Local ≡ Passed interface = ap outcome_by (sym none) ∙ sym outcome ∙ passed in cc) n in
+      (subst (λ (es : List Event). did_nat_act es ≡ false) p.events untold)
+      (λ none. let local : Local ≡ Passed interface = ap outcome_by (sym none) ∙ sym p.outcome ∙ passed in cc) n in
       record {
         port = r.0;
         chosen = r.1;
-        began = change ∙ ap (λ (d : NewConnection). begins_with t (reply_to d) d.source d.dest) (sym r.2);
-        left = ap tuple_of (packet interface passed
+        began = begun_so setup held now a t e p none n.left n.is
+            ∙ ap (λ (d : NewConnection). begins_with t (reply_to d) d.source d.dest) (sym r.2);
+        left = ap tuple_of (packet_is setup held now a t e p _ n.is interface passed
             ∙ ap (λ (d : NewConnection). rewritten a.packet (between d.tuple (Some (ttl a.packet - 1)))) (sym r.2))
             ∙ leaves_between setup held now a t e p sending faultless
             (hairpinned t (mapping_at t.kind m.internal t.destination) r.0) refl
@@ -394,7 +381,7 @@ module _ (setup : Setup) (held : List ConntrackEntry) (now : ℕ) (a : ReceivedP
   turns_back =
       subst (λ (x : Mapping). IsHairpinned t x (beside held a.packet t) e)
       (sym (its_own laws (beside held a.packet t) one t ports m among kind external))
-      (turns_by (does setup held now a t e p))
+      (turns_by p.state)
 
 -- ==== An entry tells of the port that it allocates, and whether the NAT statement that acted names ports.
 
@@ -473,21 +460,23 @@ module _ (setup : Setup) (mappings : List Mapping) (input : Interface) (t : Tupl
 abbrev source_begun : ConnectionChange → Option Mapping
 source_begun change = (begun change).source
 
-module _ (setup : Setup) (held : List ConntrackEntry) (now : ℕ) (a : ReceivedPacket) (t : Tuple) (e : Entry) where
-  allocated_among : Does setup held now a t e → (m : Mapping) → source_begun e.tracked.change ≡ Some m
+module _ (setup : Setup) (held : List ConntrackEntry) (now : ℕ) (a : ReceivedPacket) (t : Tuple) (e : Entry)
+    (p : AcceptedWith setup held now a t e) where
+  allocated_among : Does setup held now a t e p → (m : Mapping) → source_begun e.tracked.change ≡ Some m
       → AllocatedAmong setup e (beside held a.packet t) m
-  allocated_among (did_refresh place found change port_choice packet) m from =
-      absurd (none_not_some (source_begun e.tracked.change) m (ap source_begun change) from)
-  allocated_among (did_nothing none new change port_choice) m from =
-      absurd (none_not_some (source_begun e.tracked.change) m (ap source_begun change) from)
-  allocated_among (did_begin none s n change port_choice events outcome packet) m from =
+  allocated_among (refreshes place found is) m from =
+      absurd (none_not_some (source_begun e.tracked.change) m
+      (ap source_begun (refreshed setup held now a t e p place found is)) from)
+  allocated_among (is_invalid none new is) m from =
+      absurd (none_not_some (source_begun e.tracked.change) m (ap source_begun (unchanged setup held now a t e p is)) from)
+  allocated_among (begins none new n free) m from =
       let mappings = beside held a.packet t in
-      let source : n.left.source ≡ Some m = sym (ap source_begun change) ∙ from in
-      let q = allocated_by setup mappings (interface_facts setup.plant a.interface) t s n m source n.external
+      let source : n.left.source ≡ Some m = sym (ap source_begun (begun_so setup held now a t e p none n.left n.is)) ∙ from in
+      let q = allocated_by setup mappings (interface_facts setup.plant a.interface) t p.end n m source n.external
       n.source n.drafted in
       let port = port_of m.kind m.internal m.external.address mappings in
       let tells : e.port_choice ≡ told_of n.left.has_port_range m mappings =
-      port_choice ∙ ap (port_choice_in mappings n.left.has_port_range) source in
+      choice_is setup held now a t e p _ n.is ∙ ap (port_choice_in mappings n.left.has_port_range) source in
       record {
         reused = λ among. tells ∙ ap (port_choice_by n.left.has_port_range) (port_found m mappings among).1;
         allocated = λ absent. (
@@ -497,18 +486,18 @@ module _ (setup : Setup) (held : List ConntrackEntry) (now : ℕ) (a : ReceivedP
             before = q.asked.before;
             ran = q.asked.ran;
             later = q.asked.later;
-            among = events ∙ q.asked.among;
+            among = p.events ∙ q.asked.among;
           },
           tells ∙ told_some n.left.has_port_range port (λ none. absent (q.live none)) ∙ ap Some q.named,
         );
       }
 
-  allocated_only : Does setup held now a t e → e.port_choice ≢ None → source_begun e.tracked.change ≢ None
-  allocated_only (did_refresh place found change port_choice packet) told unbegun = told port_choice
-  allocated_only (did_nothing none new change port_choice) told unbegun = told port_choice
-  allocated_only (did_begin none s n change port_choice events outcome packet) told unbegun =
-      told (port_choice ∙ ap (port_choice_in (beside held a.packet t) n.left.has_port_range)
-      (sym (ap source_begun change) ∙ unbegun))
+  allocated_only : Does setup held now a t e p → e.port_choice ≢ None → source_begun e.tracked.change ≢ None
+  allocated_only (refreshes place found is) told unbegun = told (choice_is setup held now a t e p _ is)
+  allocated_only (is_invalid none new is) told unbegun = told (choice_is setup held now a t e p _ is)
+  allocated_only (begins none new n free) told unbegun =
+      told (choice_is setup held now a t e p _ n.is ∙ ap (port_choice_in (beside held a.packet t) n.left.has_port_range)
+      (sym (ap source_begun (begun_so setup held now a t e p none n.left n.is)) ∙ unbegun))
 
 module _ (setup : Setup) (history : List Entry) (r : Recorded) (e : Entry) (n : Next setup history r e) where
   allocated_by_case : EntryCase setup (live_at_record setup history r) (moment_after history r) (carried setup r) e
@@ -517,7 +506,7 @@ module _ (setup : Setup) (history : List Entry) (r : Recorded) (e : Entry) (n : 
   allocated_by_case (dropped_so p t read is untold cause dropped) told = absurd (told untold)
   allocated_by_case (accepted_so a arrived t p) told =
       let held = live_at_record setup history r in
-      allocated_only setup held (moment_after history r) a t e (does setup held (moment_after history r) a t e p) told
+      allocated_only setup held (moment_after history r) a t e p p.state told
 
   -- a dropped packet begins none
   begun_accepted : (m : Mapping) → source_begun e.tracked.change ≡ Some m → IsAccepted e
@@ -531,6 +520,5 @@ module _ (setup : Setup) (history : List Entry) (r : Recorded) (e : Entry) (n : 
     mapped = λ a t comes m from.
         let held = live_at_record setup history r in
         let p = accepted_with setup history r e n a t comes (begun_accepted m from) in
-        allocated_among setup held (moment_after history r) a t e
-        (does setup held (moment_after history r) a t e p) m from;
+        allocated_among setup held (moment_after history r) a t e p p.state m from;
   }

@@ -17,7 +17,7 @@ use Rattle.hook_runs.specs.declared.stages.HookStage.{HookStage}
 use Rattle.hook_runs.specs.Stages.{chains_in_stage}
 use Rattle.history.specs.Setup.{Setup}
 use Rattle.translation.specs.declared.ct_info.CtInfo.{CtInfo}
-use Rattle.translation.specs.declared.ct_info.CtInfo.TheVariants.{Invalid, New, Tracked, Untracked}
+use Rattle.translation.specs.declared.ct_info.CtInfo.TheVariants.{Invalid, New, Related, Tracked, Untracked}
 use Rattle.translation.specs.declared.ct_info.NewConnection.{NewConnection}
 use Rattle.translation.specs.declared.external.ExternalSource.{ExternalSource}
 use Rattle.translation.specs.Nat.{after_source_nat, external_source}
@@ -456,14 +456,17 @@ module _ (setup : Setup) (input : Interface) (live : List ConntrackEntry) (p : L
     by_belonging t (Found place) is c = refreshes place is c.0
     by_belonging t b is c = by_state t b is tt (first_state t.kind) refl c
 
+    unseen_by : (info : CtInfo) → s.info ≡ info → IsOld info → lookup_tuple_of info p ≡ None
+        → ((t : Tuple) → tuple_of p ≡ Some t → did_exempt s.events ≡ false → ⊥) → IsThrough s
+    unseen_by info is old none other =
+        unseen (ap (λ (w : CtInfo). lookup_tuple_of w p) is ∙ none) (subst IsOld (sym is) old) other
+
     by_error : tuple_of p ≡ None → (b : Belonging)
         → IsConfirmed (others_beside (error_ct_info b) live p) (error_ct_info b) → IsThrough s
     by_error none (Found place) c =
-        unseen (ap (λ (w : CtInfo). lookup_tuple_of w p) c.0 ∙ none) (subst IsOld (sym c.0) tt)
+        unseen_by (Related (tracked_connection place)) c.0 tt none
         (λ t read tracked. none_not_some (tuple_of p) t none read)
-    by_error none _ c =
-        unseen (ap (λ (w : CtInfo). lookup_tuple_of w p) c.0 ∙ none) (subst IsOld (sym c.0) tt)
-        (λ t read tracked. none_not_some (tuple_of p) t none read)
+    by_error none _ c = unseen_by Invalid c.0 tt none (λ t read tracked. none_not_some (tuple_of p) t none read)
 
     by_tuple : did_exempt s.events ≡ false → (o : Option Tuple) → tuple_of p ≡ o
         → IsConfirmed (others_beside (ct_info_by_tuple live p o) live p) (ct_info_by_tuple live p o) → IsThrough s
@@ -475,8 +478,7 @@ module _ (setup : Setup) (input : Interface) (live : List ConntrackEntry) (p : L
     by_facts : (ct : CtFacts) → did_exempt s.events ≡ is_notrack ct
         → IsConfirmed (others_beside (looked_up_info ct live p) live p) (looked_up_info ct live p) → IsThrough s
     by_facts Notrack exempt c =
-        unseen (ap (λ (w : CtInfo). lookup_tuple_of w p) c.0) (subst IsOld (sym c.0) tt)
-        (λ t read tracked. both_ways (did_exempt s.events) tracked exempt)
+        unseen_by Untracked c.0 tt refl (λ t read tracked. both_ways (did_exempt s.events) tracked exempt)
     by_facts _ tracked c = by_tuple tracked (tuple_of p) refl c
 
   -- it came by this interface, and wasn't looked up
