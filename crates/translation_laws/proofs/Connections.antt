@@ -2,7 +2,7 @@
 use Rattle.std.proofs.Common.{◌≡◌, ℕ, Bool, true, false, cond, not, List, [], ◌∷◌, Option, Some, None}
 use Rattle.std.proofs.Common.{◌⊎◌, inl, inr, sym, ap, subst, arith, is_some, refl, ◌∙◌, ◌&&◌, ◌||◌, IsTrue}
 use Rattle.std.specs.List.{All, Contains, find}
-use Rattle.std.proofs.lemmas.List.Elements.{All-contains, All-contains_itself, All-filter, All-map, All-push}
+use Rattle.std.proofs.lemmas.List.Elements.{All-contains, All-contains_itself, All-map}
 use Rattle.std.proofs.lemmas.List.Elements.{All-weaker, Contains-append_cases, Contains-append_left}
 use Rattle.std.proofs.lemmas.List.Elements.{Contains-append_right}
 use Rattle.list_laws.specs.Lists.{Contains-head}
@@ -18,10 +18,10 @@ use Rattle.conntrack.specs.declared.connection.ConntrackEntry.{ConntrackEntry}
 use Rattle.conntrack.specs.ConntrackEntry.{begun_with, same_id, touched, touched_at, have_disjoint_tuples}
 use Rattle.conntrack.specs.ConntrackEntry.{belonging_by, belongs_in, is_incoming, is_taken, of_original}
 use Rattle.conntrack.specs.ConntrackEntry.{of_reply, connection_ref}
-use Rattle.conntrack.specs.Updates.{Arrival, Confirmation, Unconfirmed, Confirmed, after_end, after_packet}
+use Rattle.conntrack.specs.Updates.{Arrival}
 use Rattle.translation.specs.LiveMappings.{listed, mappings_in, mappings_of}
 use Rattle.std.proofs.lemmas.Option.{none-some, same_Some}
-use Rattle.list_laws.specs.Options.{none_not_some, option_cases, some_of_map}
+use Rattle.list_laws.specs.Options.{option_cases, some_of_map}
 use Rattle.nat_mapping.proofs.Lists.{found_among, none_such}
 use Rattle.box_file.specs.Box.{PlantTree}
 use Rattle.ip_headers.specs.declared.tuple.Endpoint.{Endpoint}
@@ -29,7 +29,6 @@ use Rattle.ip_headers.specs.declared.tuple.Kind.{Kind}
 use Rattle.ip_headers.specs.declared.tuple.Kind.TheVariants.{Tcp, Udp}
 use Rattle.rewrite.specs.Endpoints.{PortsMatchKind}
 use Rattle.nat_mapping.specs.Mappings.{inbound_of, source_of, has_internal, has_external, port_of}
-use Rattle.nat_mapping.specs.Mappings.{same_mapping}
 use Rattle.rule_meaning.specs.declared.facts.Facts.{Facts}
 use Rattle.rule_meaning.specs.declared.event.HookVerdict.{HookVerdict}
 use Rattle.rule_meaning.specs.declared.event.HookVerdict.TheVariants.{Accepted, Dropped, Translated}
@@ -41,8 +40,8 @@ use Rattle.translation.specs.Nat.{statement_destination, internal_endpoint, with
 use Rattle.translation.specs.Nat.{with_destination_nat, has_ports, to_internal, with_source_mapping}
 use Rattle.translation.specs.Nat.{port_named, range_of}
 use Rattle.std.specs.Option.{option_map}
-use Rattle.std.proofs.lemmas.Bool.{and_parts, and_from, cases_Bool, cond-true, cond-false, both_ways, eq-eqb}
-use Rattle.std.proofs.lemmas.Bool.{eqb-true, or_left, or_right, not-true, or_cases, and_left, and_right}
+use Rattle.std.proofs.lemmas.Bool.{and_parts, and_from, both_ways, eq-eqb}
+use Rattle.std.proofs.lemmas.Bool.{eqb-true, or_left, or_right, not-true, or_cases}
 use Rattle.std.proofs.lemmas.Bool.{false_from_ne_true}
 use Rattle.ip_headers.specs.steps.Equal.{same_kind-refl, same_kind-true, same_endpoint-refl}
 use Rattle.ip_headers.specs.steps.Equal.{same_endpoint-true, same_tuple-true}

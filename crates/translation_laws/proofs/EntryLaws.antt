@@ -1,6 +1,6 @@
 -- The laws of one entry: which connection it begins or refreshes, how the packet leaves, and the port that it allocates.
 use Rattle.std.proofs.Common.{◌≡◌, ℕ, true, IsTrue, List, Option, refl, ap, subst, ◌∙◌, ◌-◌, Bool, false}
-use Rattle.std.proofs.Common.{cond, Some, None, sym, Ok, ◌≢◌, is_some, if◌then◌else◌}
+use Rattle.std.proofs.Common.{cond, Some, None, sym, Ok, ◌≢◌, is_some}
 use Rattle.std.specs.List.{Contains}
 use Rattle.std.proofs.lemmas.Bool.{both_ways, cond-false, cond-true}
 use Rattle.ip_headers.specs.declared.tuple.Mapping.{Mapping}
@@ -8,20 +8,18 @@ use Rattle.ip_headers.specs.declared.tuple.Tuple.{Tuple}
 use Rattle.ip_headers.specs.Header.{transport_of, fault_of, payload_of, protocol, ttl}
 use Rattle.conntrack.specs.declared.belonging.Belonging.{Belonging}
 use Rattle.conntrack.specs.declared.belonging.Belonging.TheVariants.{Found, Ends}
-use Rattle.conntrack.specs.declared.belonging.LookupState.{LookupState}
 use Rattle.conntrack.specs.declared.connection.ConntrackEntry.{ConntrackEntry}
 use Rattle.conntrack.specs.ConntrackEntry.{first_state, is_incoming, have_disjoint_tuples, connection_ref}
 use Rattle.conntrack.specs.Histories.{ConnectionChange, Begins, Creation, TrackedPacket, Touches, NoChange}
 use Rattle.conntrack.specs.Histories.{is_creation, begun}
-use Rattle.conntrack.specs.Updates.{Arrival, Confirmed, after_end, change_of_packet, Confirmation}
+use Rattle.conntrack.specs.Updates.{Arrival, Confirmed, change_of_packet}
 use Rattle.conntrack.specs.Updates.{Unconfirmed}
 use Rattle.history.specs.Setup.{Setup}
 use Rattle.history.specs.History.{Entry}
 use Rattle.translation.specs.declared.ct_info.NewConnection.{NewConnection}
 use Rattle.translation.specs.declared.ct_info.CtInfo.{CtInfo}
 use Rattle.translation.specs.declared.ct_info.CtInfo.TheVariants.{New, Tracked, Invalid}
-use Rattle.translation.specs.LiveMappings.{mappings_in}
-use Rattle.translation.specs.CtInfos.{new_connection_of, new_ct_info, ct_info_by, change_of}
+use Rattle.translation.specs.CtInfos.{new_connection_of, change_of}
 use Rattle.translation.specs.CtInfos.{tracked_connection, outgoing}
 use Rattle.stepping.specs.Carried.{ReceivedPacket, interface_facts, carried}
 use Rattle.stepping.specs.Lookups.{flags_in}
@@ -39,7 +37,7 @@ use Rattle.translation_laws.proofs.Connections.{found_one, given_one, mapping_at
 use Rattle.translation_laws.proofs.Connections.{parts_same, port_found, end_at, turned_so}
 use Rattle.list_laws.specs.Options.{some_of_map, none_not_some, some_unique}
 use Rattle.ip_headers.specs.declared.tuple.Kind.{Kind}
-use Rattle.ip_headers.specs.declared.tuple.Kind.TheVariants.{EchoRequest, EchoReply}
+use Rattle.ip_headers.specs.declared.tuple.Kind.TheVariants.{EchoRequest}
 use Rattle.ip_headers.specs.Same.{same_tuple}
 use Rattle.ip_headers.specs.steps.Equal.{same_tuple-true}
 use Rattle.ip_headers.specs.Tuple.{inverse, inverse_kind, kind_of, tuple_of, tuple_with}
@@ -53,8 +51,7 @@ use Rattle.conntrack.specs.declared.connection.ConnId.{ConnId}
 use Rattle.conntrack.specs.declared.connection.Direction.{Direction}
 use Rattle.pcap_io.specs.Pcap.{Recorded}
 use Rattle.rule_meaning.specs.declared.event.Event.{Event}
-use Rattle.translation_laws.proofs.Chains.{did_exempt, did_nat_act}
-use Rattle.std.specs.Option.{option_map}
+use Rattle.translation_laws.proofs.Chains.{did_nat_act}
 use Rattle.box_file.specs.Box.{PlantTree, owner}
 use Rattle.ip_headers.specs.declared.tuple.Endpoint.{Endpoint}
 use Rattle.nat_mapping.specs.Mappings.{IsOneToOne, inbound_of, source_of, port_of}
@@ -64,8 +61,8 @@ use Rattle.rule_meaning.specs.declared.event.HookVerdict.{HookVerdict}
 use Rattle.rule_meaning.specs.declared.event.HookVerdict.TheVariants.{Accepted, Dropped, Translated}
 use Rattle.translation.specs.declared.external.ExternalSource.{ExternalSource}
 use Rattle.translation.specs.Nat.{with_source_nat, has_ports, to_internal, is_same_interface}
-use Rattle.translation.specs.Nat.{with_source_mapping, external_source, after_source_nat}
-use Rattle.translation.specs.Nat.{after_destination_nat, hairpin, range_of, with_destination_nat}
+use Rattle.translation.specs.Nat.{with_source_mapping, external_source}
+use Rattle.translation.specs.Nat.{hairpin, range_of, with_destination_nat}
 use Rattle.stepping.specs.Paths.{PathState}
 use Rattle.std.proofs.lemmas.Option.{none-some, same_Some}
 use Rattle.rule_meaning.specs.declared.event.NatAction.TheVariants.{Masquerade, Source}

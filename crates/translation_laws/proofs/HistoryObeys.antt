@@ -1,15 +1,15 @@
 -- The laws of NAT in each history, put together. To be read before it: Chains, Paths, HistorySteps, Connections, Preserved,
 -- EntryLaws.
 use Rattle.std.proofs.Common.{◌≡◌, List, [], ◌∷◌, ◌++◌, ◌⊎◌, inl, inr, refl, sym, ap, subst, ℕ, Bool}
-use Rattle.std.proofs.Common.{true, not, arith, drop, Option, Some, None, Result, Ok, Err, ◌≤◌}
-use Rattle.std.proofs.Common.{◌≢◌, IsTrue, ◌∙◌}
+use Rattle.std.proofs.Common.{true, not, arith, drop, Option, Some, None, Result, Ok, Err}
+use Rattle.std.proofs.Common.{◌∙◌}
 use Rattle.pcap_io.specs.Pcap.{Recorded}
 use Rattle.history.specs.Setup.{Setup, limits_of}
-use Rattle.history.specs.History.{Entry, tracked_of, moment_of}
-use Rattle.stepping.specs.Next.{IsHistoryOf, Next, EntryOf, live_at_record, moment_after}
-use Rattle.translation_laws.specs.Histories.{EntriesFollow, IsHistory, alive_at, latest_choice, listed_at}
-use Rattle.std.specs.Prelude.{filter, map, max}
-use Rattle.std.specs.List.{Contains, All}
+use Rattle.history.specs.History.{Entry, tracked_of}
+use Rattle.stepping.specs.Next.{IsHistoryOf, Next, live_at_record, moment_after}
+use Rattle.translation_laws.specs.Histories.{EntriesFollow, IsHistory, alive_at, listed_at}
+use Rattle.std.specs.Prelude.{filter, map}
+use Rattle.std.specs.List.{Contains}
 use Rattle.std.proofs.lemmas.Bool.{cond_both, lt-ltb, ltb-true, and_parts, and_from, both_ways, not_from_false}
 use Rattle.std.proofs.lemmas.Bool.{or_left, or_right}
 use Rattle.std.proofs.lemmas.List.Elements.{All-contains, All-weaker, filter_passes}
@@ -18,9 +18,8 @@ use Rattle.list_laws.specs.Elements.{Contains-cases, Contains-tail, Contains-unm
 use Rattle.conntrack.specs.ConntrackEntry.{is_live, have_disjoint_tuples, connection_of, is_incoming}
 use Rattle.conntrack.specs.ConntrackEntry.{is_taken}
 use Rattle.conntrack.specs.Histories.{TrackedPacket, begun_in, connection_in, is_alive, is_ended}
-use Rattle.conntrack.specs.Histories.{ConnectionChange, begun}
-use Rattle.translation_laws.specs.Laws.{LivesOn, names_of, AreApart, HasIncoming, HoldsMapping, AllocatesPort}
-use Rattle.translation_laws.specs.Laws.{BeginsOne, ComesWith, CountsForNone, GivenToOne, Hairpins}
+use Rattle.translation_laws.specs.Laws.{LivesOn, names_of, AreApart, HasIncoming, HoldsMapping}
+use Rattle.translation_laws.specs.Laws.{BeginsOne, Hairpins}
 use Rattle.translation_laws.specs.Laws.{HistoryLaws, IsAccepted, LeavesTranslated, LiveLaws}
 use Rattle.ip_headers.specs.declared.tuple.Mapping.{Mapping}
 use Rattle.ip_headers.specs.declared.tuple.Tuple.{Tuple}
@@ -41,8 +40,6 @@ use Rattle.pcap_io.specs.Links.{link_of}
 use Rattle.history.specs.declared.outcome.Cause.{Cause}
 use Rattle.stepping.specs.Carried.{ReceivedPacket, carried, carried_after, carried_by, carried_with}
 use Rattle.stepping.specs.Carried.{input_interface}
-use Rattle.std.proofs.lemmas.Option.{none-some}
-use Rattle.nat_mapping.specs.Mappings.{IsOneToOne}
 use Rattle.translation_laws.proofs.EntryLaws.{allocates_so, begins_one, turns_back}
 use Rattle.translation_laws.proofs.EntryLaws.{BetweenEnds, GoesSo, goes_so, touches_own}
 use Rattle.translation_laws.proofs.Preserved.{CandidatesAlike, IsChosen, IsMade, MappingLaws, Preserved, StillApart}

@@ -1,34 +1,22 @@
 -- What packets and time preserve of the connections held is true in each history.
 use Rattle.std.proofs.Common.{◌≡◌, ℕ, Bool, true, false, cond, List, Option, Some, None, refl, sym, subst}
-use Rattle.std.proofs.Common.{Result, Ok, Err, ap, ◌≤◌, ◌∙◌, IsTrue, [], ◌∷◌, arith}
+use Rattle.std.proofs.Common.{Result, ap, ◌≤◌, ◌∙◌, IsTrue, [], ◌∷◌, arith}
 use Rattle.std.specs.Prelude.{length, nat_le, max}
-use Rattle.list_laws.specs.Options.{some_of_map}
-use Rattle.box_file.specs.Box.{PlantTree}
 use Rattle.ip_headers.specs.declared.tuple.Mapping.{Mapping}
 use Rattle.ip_headers.specs.declared.tuple.Tuple.{Tuple}
 use Rattle.conntrack.specs.declared.belonging.Belonging.{Belonging}
 use Rattle.conntrack.specs.declared.belonging.Belonging.TheVariants.{Found}
-use Rattle.conntrack.specs.declared.belonging.ConnectionRef.{ConnectionRef}
-use Rattle.conntrack.specs.declared.belonging.LookupState.{LookupState}
 use Rattle.conntrack.specs.declared.connection.ConntrackEntry.{ConntrackEntry}
 use Rattle.conntrack.specs.ConntrackEntry.{first_state, is_taken, max_connections, belongs_in}
 use Rattle.conntrack.specs.ConntrackEntry.{has_distinct_ids, live_at}
 use Rattle.conntrack.specs.Updates.{Confirmation, Unconfirmed, Confirmed, after_end, entry_at, Arrival}
 use Rattle.conntrack.specs.Updates.{after_packet}
-use Rattle.rule_meaning.specs.declared.facts.Facts.{Facts}
-use Rattle.rule_meaning.specs.declared.facts.Interface.{Interface}
-use Rattle.rule_meaning.specs.declared.event.HookVerdict.{HookVerdict}
 use Rattle.history.specs.Setup.{Setup, limits_of}
-use Rattle.translation.specs.declared.external.ExternalSource.{ExternalSource}
 use Rattle.translation.specs.declared.ct_info.NewConnection.{NewConnection}
-use Rattle.translation.specs.declared.ct_info.CtInfo.{CtInfo}
-use Rattle.translation.specs.declared.ct_info.CtInfo.TheVariants.{Tracked, New, Invalid}
 use Rattle.translation.specs.LiveMappings.{mappings_in}
-use Rattle.translation.specs.CtInfos.{new_connection_of, new_ct_info, ct_info_by}
-use Rattle.translation.specs.Nat.{with_source_nat, with_destination_nat, external_source}
-use Rattle.stepping.specs.Paths.{PathState, StepResult, Continue, Drop}
+use Rattle.translation.specs.CtInfos.{new_connection_of}
 use Rattle.stepping.specs.Confirmations.{confirmation_by, port_choice_for, port_choice_in, refusal, reply_to}
-use Rattle.stepping.specs.Confirmations.{confirmation_of, mark_in, port_choice_of}
+use Rattle.stepping.specs.Confirmations.{mark_in}
 use Rattle.translation_laws.proofs.Paths.{AcceptedWith, EntryCase, IsLookedUp, IsNone, accepted_so, begins, belongs_by}
 use Rattle.translation_laws.proofs.Paths.{beside, dropped_so, entry_case, is_invalid, refreshes, turned_by, unseen_so}
 use Rattle.translation_laws.proofs.Connections.{NewConnectionSo, left_so, turned_so}
@@ -37,9 +25,8 @@ use Rattle.pcap_io.specs.Pcap.{Recorded}
 use Rattle.history.specs.declared.outcome.Cause.{Cause}
 use Rattle.history.specs.History.{Entry, moment_of, tracked_of}
 use Rattle.stepping.specs.Carried.{ReceivedPacket, carried, interface_facts}
-use Rattle.stepping.specs.Lookups.{others_in}
-use Rattle.stepping.specs.Next.{EntryOf, Next, arrival_of, entry_of, final_state, live_at_record}
-use Rattle.stepping.specs.Next.{moment_after, tracked_as, tuple_in, IsHistoryOf}
+use Rattle.stepping.specs.Next.{Next, arrival_of, live_at_record}
+use Rattle.stepping.specs.Next.{moment_after, IsHistoryOf}
 use Rattle.conntrack.specs.declared.connection.ConnId.{ConnId}
 use Rattle.box_file.specs.declared.limits.Limits.{Limits}
 use Rattle.conntrack.specs.Histories.{TrackedPacket, belongs, live_list}

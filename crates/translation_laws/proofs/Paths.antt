@@ -1,6 +1,6 @@
 -- The path of a packet through the hooks, and its entry.
 use Rattle.std.proofs.Common.{◌≡◌, ℕ, Bool, true, false, List, [], ◌++◌, Option, Some, None, refl, sym, ap}
-use Rattle.std.proofs.Common.{subst, append_assoc, append-nil, ◌∙◌, ◌-◌, true≢false, Ok, Result, Err}
+use Rattle.std.proofs.Common.{subst, append_assoc, append-nil, ◌∙◌, Ok, Result, Err}
 use Rattle.std.specs.Prelude.{nat_lt}
 use Rattle.std.proofs.lemmas.Bool.{both_ways, cond_both}
 use Rattle.std.proofs.lemmas.Option.{same_Some, none-some}
@@ -28,13 +28,13 @@ use Rattle.stepping.specs.Paths.{destination_nat_result, SourceNat, source_nat_r
 use Rattle.stepping.specs.Paths.{forwarded_facts, Routing, InputOrForward, AfterRouting, Hooks, on_arrival}
 use Rattle.conntrack.specs.declared.connection.ConntrackEntry.{ConntrackEntry}
 use Rattle.history.specs.declared.outcome.Cause.{Cause}
-use Rattle.stepping.specs.Confirmations.{Confirm, confirmed, refusal, reply_to, unless_refused}
+use Rattle.stepping.specs.Confirmations.{confirmed, refusal, reply_to, unless_refused}
 use Rattle.stepping.specs.Confirmations.{confirmation_by, confirmation_of, mark_in, port_choice_for}
 use Rattle.translation_laws.proofs.Chains.{KeepsEnd, Kept, RecordsNat, chains_kept, did_nat_act, nothing_kept}
 use Rattle.translation_laws.proofs.Chains.{IfLookedUp, TellExempt, did_exempt}
 use Rattle.rule_meaning.specs.declared.facts.CtFacts.{CtFacts}
 use Rattle.rule_meaning.specs.declared.facts.CtFacts.TheVariants.{NotLookedUp, Notrack, Known}
-use Rattle.translation.specs.CtInfos.{ct_facts_after_nat, ct_facts_of, error_ct_info, change_of, ct_info_by}
+use Rattle.translation.specs.CtInfos.{ct_facts_after_nat, ct_facts_of, error_ct_info, ct_info_by}
 use Rattle.translation.specs.CtInfos.{facts_after_destination_nat, facts_after_source_nat, new_ct_info}
 use Rattle.translation.specs.CtInfos.{new_connection_of, tracked_connection}
 use Rattle.pcap_io.specs.Pcap.{Recorded}
@@ -45,8 +45,7 @@ use Rattle.stepping.specs.Lookups.{error_belonging, belonging_by_tuple, belongin
 use Rattle.stepping.specs.Lookups.{flags_in, looked_up_info, lookup_tuple_of, others_beside, others_in}
 use Rattle.ip_headers.specs.Tuple.{inner_tuple_of, tuple_of}
 use Rattle.ip_headers.specs.declared.tuple.Tuple.{Tuple}
-use Rattle.ip_headers.specs.Header.{transport_of, ttl}
-use Rattle.rewrite.specs.Rewritten.{rewritten}
+use Rattle.ip_headers.specs.Header.{transport_of}
 use Rattle.conntrack.specs.declared.belonging.Belonging.{Belonging}
 use Rattle.conntrack.specs.declared.belonging.Belonging.TheVariants.{Found}
 use Rattle.conntrack.specs.declared.belonging.LookupState.{LookupState}

@@ -4,7 +4,6 @@ use Rattle.std.proofs.Common.{subst, ◌∙◌, arith, not, None, ap, ◌≢◌,
 use Rattle.std.specs.List.{All, Contains, filter}
 use Rattle.std.proofs.lemmas.List.Elements.{All-filter, Contains-append_left, Contains-append_right, All-nil}
 use Rattle.std.proofs.lemmas.List.Elements.{All-push, All-weaker}
-use Rattle.list_laws.specs.Lists.{Contains-head}
 use Rattle.ip_headers.specs.declared.tuple.Endpoint.{Endpoint}
 use Rattle.ip_headers.specs.declared.tuple.Kind.{Kind}
 use Rattle.ip_headers.specs.declared.tuple.Mapping.{Mapping}
@@ -22,7 +21,7 @@ use Rattle.conntrack.specs.declared.connection.Direction.{Direction}
 use Rattle.conntrack.specs.declared.connection.Flags.{Flags}
 use Rattle.conntrack.specs.ConntrackEntry.{first_state, live_at, same_id, touched_at}
 use Rattle.conntrack.specs.Updates.{Arrival, Confirmation, Unconfirmed, Confirmed, DoesNotClash, after_end}
-use Rattle.conntrack.specs.Updates.{after_packet, change_of_packet}
+use Rattle.conntrack.specs.Updates.{after_packet}
 use Rattle.translation.specs.declared.ct_info.NewConnection.{NewConnection}
 use Rattle.translation.specs.LiveMappings.{listed, mappings_in}
 use Rattle.translation.specs.Nat.{range_of, has_ports}
@@ -241,11 +240,14 @@ port_chosen mappings t x port chosen has_port_range is = by_port (port_of t.kind
         → PortChosen mappings (port_choice_by has_port_range o) (mapping_at t.kind t.source (end_at x.address port))
     by_port (Some p) there same =
         (λ untold. port_held t.kind t.source x.address port mappings (there ∙ same), λ told. cc)
-    by_port None there found = (λ untold. cc, λ told all ports.
-        let named : has_port_range ≡ false = cc in
-        let range : range_of x.ports ≡ None = unnamed x.ports (sym is ∙ named) in
-        fresh_alike all mappings t.kind t.source x.address port ports
-        (ap (λ (r : Option CandidateRange). first_free_port t.kind t.source x.address r mappings) (sym range) ∙ found))
+    by_port None there found = (
+      λ untold. cc,
+      λ told all ports.
+          let named : has_port_range ≡ false = cc in
+          let range : range_of x.ports ≡ None = unnamed x.ports (sym is ∙ named) in
+          fresh_alike all mappings t.kind t.source x.address port ports
+          (ap (λ (r : Option CandidateRange). first_free_port t.kind t.source x.address r mappings) (sym range) ∙ found),
+    )
 
 -- ---- the port that an entry allocates
 
