@@ -90,6 +90,7 @@ unconfirmed_none _ p = refl
 
 module _ (setup : Setup) (held : List ConntrackEntry) (now : ℕ) (a : ReceivedPacket) (t : Tuple) (e : Entry)
     (p : AcceptedWith setup held now a t e) where
+  -- what its look-up made of it: it refreshes its connection, begins one, or does nothing
   abbrev Does : Type 0
   Does = IsLookedUp setup (interface_facts setup.plant a.interface) held a.packet (belongs_by held a.packet t) t p.end
 

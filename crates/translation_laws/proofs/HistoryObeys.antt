@@ -1,4 +1,4 @@
--- The laws of NAT in each history, put together. To be read before it: Chains, Paths, HistorySteps, Connections, Preserved,
+-- The laws of NAT in each history, put together. To be read before it: Chains, Paths, Connections, HistorySteps, Preserved,
 -- EntryLaws.
 use Rattle.std.proofs.Common.{◌≡◌, List, [], ◌∷◌, ◌++◌, ◌⊎◌, inl, inr, refl, sym, ap, subst, ℕ, Bool}
 use Rattle.std.proofs.Common.{true, not, arith, drop, Option, Some, None, Result, Ok, Err}

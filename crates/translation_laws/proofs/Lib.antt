@@ -1,7 +1,7 @@
 mod Chains
 mod Paths
-mod HistorySteps
 mod Connections
+mod HistorySteps
 mod Preserved
 mod EntryLaws
 mod HistoryObeys
