@@ -31,7 +31,7 @@ use Rattle.translation_laws.proofs.Connections.{MappingsAre, begun_by, each_hold
 use Rattle.translation_laws.proofs.Connections.{is_listed, mapping_at}
 use Rattle.translation_laws.proofs.Connections.{end_at, port_held}
 use Rattle.nat_mapping.proofs.Lists.{found_among}
-use Rattle.nat_mapping.proofs.Equal.{mapping_exact, mapping_same}
+use Rattle.nat_mapping.proofs.Equal.{mapping_test}
 use Rattle.list_laws.specs.Options.{some_of_map, none_not_some, some_unique}
 use Rattle.list_laws.specs.Elements.{Contains-cases}
 use Rattle.ip_headers.specs.declared.tuple.Kind.TheVariants.{EchoRequest, EchoReply, Other}
@@ -280,7 +280,7 @@ chosen_by m port_choice (Some n) has_port_range e = by_test (cases_Bool (same_ma
   where
     by_test : (same_mapping m n ≡ true) ⊎ (same_mapping m n ≡ false) → (Some n ≡ Some m)
         × (port_choice ≡ Some has_port_range)
-    by_test (inl t) = (ap Some (sym (mapping_exact m n t)), sym (cond-true (same_mapping m n) port_choice None t) ∙ e)
+    by_test (inl t) = (ap Some (sym (mapping_test.exact m n t)), sym (cond-true (same_mapping m n) port_choice None t) ∙ e)
     by_test (inr f) = absurd (none_not_some (cond (same_mapping m n) port_choice None) has_port_range
         (cond-false (same_mapping m n) port_choice None f) e)
 
@@ -400,7 +400,7 @@ module _ (laws : MappingLaws) (history : List Entry) (held : List ConntrackEntry
       source_chosen m of (Some named) told =
           chosen_or_earlier (choice_in m e) (latest_choice m history)
           (inl (λ none. none_not_some (choice_in m e) named none (ap (choice_by m e.port_choice) (is ∙ of)
-          ∙ cond-true (same_mapping m m) e.port_choice None (mapping_same m) ∙ told)))
+          ∙ cond-true (same_mapping m m) e.port_choice None (mapping_test.same m) ∙ told)))
 
       begun_made : IsMade (e ∷ history) (begun_by id p mark reply source dest)
       begun_made =
