@@ -1,13 +1,10 @@
 //! The connections that an engine lists, with the plain list tracker and with the aged one.
 use crate::device_failures::ROUTER;
-use crate::support::{BOX, bytes, hasher};
+use crate::support::{bytes, started, take};
 use aged_tracker::AgedTracker;
-use box_file::Plant;
 use conntrack::{Connection, ListTracker, Tracker};
 use ip_headers::{Endpoint, Kind, Mapping, Tuple};
-use nft_parser::parse;
-use pcap_io::{LinkType, Record};
-use rule_check::check;
+use pcap_io::LinkType;
 use std::process::Abort;
 use stepping::Engine;
 
@@ -138,27 +135,11 @@ static LISTED: [(&[Sent], &[Masqueraded]); 4] = [
     ),
 ];
 
-/// A router with these rules, before its first record.
-pub fn router<R: Abort + AllocGlobal, T: Tracker>(rt: &R, rules: &[u8]) -> Engine<T> {
-    let hasher = hasher().expect(rt, "keys");
-    let tree = parse(rt.alloc(), rules).expect(rt, "rules");
-    let plant = Plant::read(rt.alloc(), BOX).expect(rt, "a box");
-    let checked = check(rt.alloc(), tree, plant).expect(rt, "an accepted ruleset");
-    Engine::new(rt.alloc(), hasher, checked).expect(rt, "memory")
-}
-
-/// Steps a record, as long as there may be more.
-fn take<R: Abort + AllocGlobal, T: Tracker>(rt: &R, engine: &mut Engine<T>, sent: &Sent) {
+/// Steps the record of a packet.
+fn take_packet<R: Abort + AllocGlobal, T: Tracker>(rt: &R, engine: &mut Engine<T>, sent: &Sent) {
     let (moment, link, packet) = *sent;
     let bytes = bytes(rt.alloc(), &[link, packet]).expect(rt, "a packet");
-    if engine.records() < 4_294_967_296 && moment < 4_294_967_296_000_000_000 {
-        let record = Record {
-            moment,
-            link_type: LinkType::Sll2,
-            bytes: &bytes,
-        };
-        engine.step(&record).expect(rt, "memory");
-    }
+    take(rt, engine, moment, LinkType::Sll2, &bytes);
 }
 
 /// The connections that the engine lists after these records.
@@ -168,7 +149,7 @@ fn listed_by<R: Abort + AllocGlobal, T: Tracker>(
     records: &[Sent],
 ) -> Vec<Connection> {
     for sent in records {
-        take(rt, engine, sent);
+        take_packet(rt, engine, sent);
     }
     engine.connections(rt.alloc()).expect(rt, "memory")
 }
@@ -179,7 +160,7 @@ fn listed_after<R: Abort + AllocGlobal, T: Tracker>(
     rules: &[u8],
     records: &[Sent],
 ) -> Vec<Connection> {
-    let mut engine: Engine<T> = router(rt, rules);
+    let mut engine: Engine<T> = started(rt, rules);
     listed_by(rt, &mut engine, records)
 }
 
@@ -211,9 +192,12 @@ pub fn masqueraded(connection: Masqueraded, mark: u32) -> Connection {
 
 /// Whether exactly these are listed, in this order and with this mark.
 fn are_listed(all: &[Connection], expected: &[Masqueraded], mark: u32) -> bool {
+    for (connection, expected_one) in all.iter().zip(expected) {
+        if *connection != masqueraded(*expected_one, mark) {
+            return false;
+        }
+    }
     all.len() == expected.len()
-        && all.iter().zip(expected).all(|(connection, &expected_one)| *connection
-            == masqueraded(expected_one, mark))
 }
 
 /// A router with these rules lists the connections of each row.

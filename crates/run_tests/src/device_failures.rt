@@ -218,10 +218,8 @@ fn run_of(alloc: Global, row: &Row, capture: &[u8], device_settings: DeviceSetti
 /// The lines of a report before its totals.
 fn lines_of(report: &[u8]) -> &[u8] {
     let text = str::from_utf8(report).unwrap_or("no text");
-    match text.split("records ").next() {
-        Some(lines) => lines.as_bytes(),
-        None => b"",
-    }
+    let (lines, _) = text.split_once("records ").unwrap_or((text, ""));
+    lines.as_bytes()
 }
 
 /// The outputs are beginnings of the whole run's, without totals unless the report's own writer

@@ -1,10 +1,11 @@
 //! The lists of an engine that holds as many connections and mappings as a busy box.
-use crate::connection_lists::{AT_THE_LIMIT, NAME_SERVER, OTHER, masqueraded, router};
+use crate::connection_lists::{AT_THE_LIMIT, NAME_SERVER, OTHER, masqueraded};
 use crate::device_failures::ROUTER;
+use crate::support::{started, take};
 use aged_tracker::AgedTracker;
 use conntrack::Connection;
 use ip_headers::{Endpoint, Kind};
-use pcap_io::{LinkType, Record};
+use pcap_io::LinkType;
 use std::process::Abort;
 use stepping::Engine;
 
@@ -21,6 +22,18 @@ const CONNECTIONS: usize = 100_000;
 
 const FIRST_PORT: u16 = 1024;
 
+/// The packet from this port of the host to this one of the server.
+fn packet_between(port: u16, to: u16) -> [u8; 48] {
+    let mut packet = PACKET;
+    let [high, low] = port.to_be_bytes();
+    packet[40] = high;
+    packet[41] = low;
+    let [high, low] = to.to_be_bytes();
+    packet[42] = high;
+    packet[43] = low;
+    packet
+}
+
 /// Steps a packet from this port of the host to this one of the server.
 fn send<R: Abort + AllocGlobal>(
     rt: &R,
@@ -29,21 +42,8 @@ fn send<R: Abort + AllocGlobal>(
     port: u16,
     to: u16,
 ) {
-    let mut bytes = PACKET;
-    let [high, low] = port.to_be_bytes();
-    bytes[40] = high;
-    bytes[41] = low;
-    let [high, low] = to.to_be_bytes();
-    bytes[42] = high;
-    bytes[43] = low;
-    if engine.records() < 4_294_967_296 && moment < 4_294_967_296_000_000_000 {
-        let record = Record {
-            moment,
-            link_type: LinkType::Sll2,
-            bytes: &bytes,
-        };
-        engine.step(&record).expect(rt, "memory");
-    }
+    let packet = packet_between(port, to);
+    take(rt, engine, moment, LinkType::Sll2, &packet);
 }
 
 /// The port of the host, and that of the server, of the connection of this number.
@@ -65,16 +65,19 @@ fn connection_of(number: usize, moment: u64) -> Connection {
 
 /// Whether these are the connections of the first numbers, in their order.
 fn are_first(all: &[Connection]) -> bool {
-    all.iter()
-        .enumerate()
-        .all(|(number, found)| *found == connection_of(number, 0))
+    for (number, found) in all.iter().enumerate() {
+        if *found != connection_of(number, 0) {
+            return false;
+        }
+    }
+    true
 }
 
 /// A hundred thousand connections with fifty thousand mappings are listed; when all have expired, a
 /// further one alone.
 #[test]
 fn many_connections_are_listed(rt: HostRuntime) {
-    let mut engine: Engine<AgedTracker> = router(&rt, ROUTER);
+    let mut engine: Engine<AgedTracker> = started(&rt, ROUTER);
     for number in 0..CONNECTIONS {
         let (port, to) = ports_of(number);
         send(&rt, &mut engine, 0, port, to);

@@ -305,14 +305,16 @@ impl Host for Recorder {
     }
 }
 
-/// The calls that the program must make.
-fn wanted(alloc: Global, row: &Row) -> Result<Vec<u8>, AllocError> {
-    let mut wanted = Vec::new(alloc);
+/// Whether these are the calls that the program must make.
+fn are_wanted(calls: &[u8], row: &Row) -> bool {
+    let mut rest = calls;
     for call in row.calls.iter().take(row.count) {
-        wanted.extend_from_slice(call.as_bytes())?;
+        match rest.strip_prefix(call.as_bytes()) {
+            Some(after) => rest = after,
+            None => return false,
+        }
     }
-    wanted.extend_from_slice(row.last.as_bytes())?;
-    Ok(wanted)
+    rest == row.last.as_bytes()
 }
 
 /// Runs the program on the row's host, and checks its calls and its exit status.
@@ -324,8 +326,7 @@ fn ends<R: Abort + AllocGlobal>(rt: &R, row: Row) {
         count: 0,
     };
     assert_eq!(rt; perform(rt.alloc(), &mut host), row.code);
-    let wanted = wanted(rt.alloc(), &row).expect(rt, "memory");
-    assert!(rt; host.calls == wanted);
+    assert!(rt; are_wanted(&host.calls, &row));
 }
 
 /// A run; one with a trace; one with a torn end; runs that would overwrite a file that they read,
@@ -656,23 +657,29 @@ static REPORTS: [Row; 13] = [
     },
 ];
 
-#[test]
-fn the_program_makes_these_calls(rt: HostRuntime) {
-    for row in &ROWS {
-        ends(&rt, *row);
-    }
-    for row in &REPORTS {
-        ends(&rt, *row);
+/// The program ends so on the host of each row.
+fn each_ends<R: Abort + AllocGlobal>(rt: &R, rows: &[Row]) {
+    for row in rows {
+        ends(rt, *row);
     }
 }
+
+#[test]
+fn the_program_makes_these_calls(rt: HostRuntime) {
+    each_ends(&rt, &ROWS);
+    each_ends(&rt, &REPORTS);
+}
+
+/// How a call fails, the last line that the program then prints, and its exit status.
+static FAILURES: [(io::ErrorKind, &str, u8); 2] = [
+    (io::ErrorKind::PermissionDenied, "tell nftrun: device\n", 5),
+    (io::ErrorKind::OutOfMemory, "tell nftrun: memory\n", 6),
+];
 
 /// Each call of a run fails in turn.
 fn stops<R: Abort + AllocGlobal>(rt: &R, done: Row, calls: usize) {
     for call in 0..calls {
-        for (kind, last, code) in [
-            (io::ErrorKind::PermissionDenied, "tell nftrun: device\n", 5),
-            (io::ErrorKind::OutOfMemory, "tell nftrun: memory\n", 6),
-        ] {
+        for &(kind, last, code) in &FAILURES {
             let row = Row {
                 failing: Some((call, kind)),
                 count: call.saturating_add(1),
@@ -691,8 +698,11 @@ fn no_call_follows_one_that_failed(rt: HostRuntime) {
     stops(&rt, REPORTED, REPORT_CALLS.len());
 }
 
-/// Arguments, and the paths of their task, or the kind and the exit status of the error.
-static WORDS: [(&[&str], Result<&str, (ErrorKind, i32)>); 37] = [
+/// The paths of a task, or the kind and the exit status of an error.
+type Answer = Result<&'static str, (ErrorKind, i32)>;
+
+/// Arguments, and what they are answered.
+static WORDS: [(&[&str], Answer); 37] = [
     (&["nftrun", "check", "r", "b"], Ok("r b")),
     (&["nftrun", "check", "--all", "r", "b"], Ok("r b all")),
     (&["nftrun", "check", "r", "b", "--all"], Ok("r b all")),
@@ -853,20 +863,31 @@ fn names_paths(alloc: Global, words: &[&str], error: &Error) -> Result<bool, All
     Ok(!is_help_of_run || text.contains("<RULES> <BOX> <IN> <OUT>"))
 }
 
+/// The task and its arguments are wanted.
+fn is_task<R: Abort + AllocGlobal>(rt: &R, wanted: &Answer, task: &Task<'_>) {
+    let text = shown(rt.alloc(), task).expect(rt, "memory");
+    assert!(rt; *wanted == Ok(text.as_str()), "{text}");
+}
+
+/// The error is wanted.
+fn is_refusal<R: Abort + AllocGlobal>(rt: &R, wanted: &Answer, words: &[&str], error: &Error) {
+    assert!(rt; *wanted == Err((error.kind(), error.exit_code())));
+    let is_named = names_paths(rt.alloc(), words, error);
+    assert!(rt; is_named.expect(rt, "memory"));
+}
+
+/// The arguments are answered so.
+fn are_answered<R: Abort + AllocGlobal>(rt: &R, words: &[&str], wanted: &Answer) {
+    match read_task(rt.alloc(), words) {
+        Ok(task) => is_task(rt, wanted, &task),
+        Err(error) => is_refusal(rt, wanted, words, &error),
+    }
+}
+
 #[test]
 fn words_ask_for_a_task_or_are_refused(rt: HostRuntime) {
     for (words, wanted) in &WORDS {
-        match read_task(rt.alloc(), words) {
-            Ok(task) => {
-                let text = shown(rt.alloc(), &task).expect(&rt, "memory");
-                assert!(&rt; *wanted == Ok(text.as_str()), "{text}");
-            }
-            Err(error) => {
-                assert!(&rt; *wanted == Err((error.kind(), error.exit_code())));
-                let is_named = names_paths(rt.alloc(), words, &error);
-                assert!(&rt; is_named.expect(&rt, "memory"));
-            }
-        }
+        are_answered(&rt, words, wanted);
     }
 }
 

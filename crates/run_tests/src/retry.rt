@@ -3,17 +3,13 @@
 ghost use Rattle.std.specs.Prelude.{◌<◌};
 
 use crate::device_failures::{ROWS, Row};
-use crate::support::{BOX, bytes, hasher, no_failures, run_over};
+use crate::support::{BOX, bytes, no_failures, run_over, started};
 use aged_tracker::AgedTracker;
-use box_file::Plant;
 use conntrack::Connection;
-use nft_parser::parse;
 use nft_tree::Ruleset;
 use pcap_io::{Capture, Counted, Record, Sink};
 use program::Status;
 use report::Report;
-use rule_check::check;
-use std::alloc::{AllocError, Global};
 use std::fs;
 use std::process::Abort;
 use std::rt::Files;
@@ -22,35 +18,41 @@ use stepping::Engine;
 /// The greatest number of records in a capture.
 const MOST_RECORDS: u64 = 4_294_967_296;
 
+/// The last record's number and length, the number of its events, and whether it created a
+/// connection.
+type LastRecord = (u64, u16, usize, bool);
+
 /// The state of an engine between two records, as its calls show it.
 #[derive(Drop)]
 struct EngineState {
     records: u64,
-    /// The last record's number and length, the number of its events, and whether it created a
-    /// connection.
-    entry: Option<(u64, u16, usize, bool)>,
+    entry: Option<LastRecord>,
     packet: Vec<u8>,
     connections: Vec<Connection>,
 }
 
-fn state_of(alloc: Global, engine: &Engine<AgedTracker>) -> Result<EngineState, AllocError> {
-    let entry = match engine.entry() {
+fn last_record(engine: &Engine<AgedTracker>) -> Option<LastRecord> {
+    match engine.entry() {
         Some(entry) => Some((entry.number, entry.length, entry.events.len(), entry.begun)),
         None => None,
-    };
-    Ok(EngineState {
-        records: engine.records(),
-        entry,
-        packet: engine.packet().to_vec(alloc)?,
-        connections: engine.connections(alloc)?,
-    })
+    }
 }
 
-fn is_same(one: &EngineState, other: &EngineState) -> bool {
-    one.records == other.records
-        && one.entry == other.entry
-        && one.packet == other.packet
-        && one.connections == other.connections
+fn connections_of<R: Abort + AllocGlobal>(rt: &R, engine: &Engine<AgedTracker>) -> Vec<Connection> {
+    engine.connections(rt.alloc()).expect(rt, "memory")
+}
+
+fn state_of<R: Abort + AllocGlobal>(rt: &R, engine: &Engine<AgedTracker>) -> EngineState {
+    EngineState {
+        records: engine.records(),
+        entry: last_record(engine),
+        packet: engine.packet().to_vec(rt.alloc()).expect(rt, "memory"),
+        connections: connections_of(rt, engine),
+    }
+}
+
+fn open_file<R: Abort + AllocGlobal + Files>(rt: &R) {
+    fs::open(rt, "/dev/null").expect(rt, "a file");
 }
 
 /// Steps the record; whether there was memory for it. A file is opened before and after the step,
@@ -62,9 +64,9 @@ fn try_step<R: Abort + AllocGlobal + Files>(
 ) -> bool
     requires few { engine.old.records < 4294967296 }
 {
-    fs::open(rt, "/dev/null").expect(rt, "a file");
+    open_file(rt);
     let is_taken = engine.step(record).is_ok();
-    fs::open(rt, "/dev/null").expect(rt, "a file");
+    open_file(rt);
     is_taken
 }
 
@@ -74,8 +76,10 @@ fn has_not_changed<R: Abort + AllocGlobal>(
     engine: &Engine<AgedTracker>,
     before: &EngineState,
 ) {
-    let after = state_of(rt.alloc(), engine).expect(rt, "memory");
-    assert!(rt; is_same(before, &after));
+    assert!(rt; engine.records() == before.records);
+    assert!(rt; last_record(engine) == before.entry);
+    assert!(rt; engine.packet() == before.packet.as_slice());
+    assert!(rt; connections_of(rt, engine) == before.connections);
 }
 
 /// Steps the record, and once more if there was no memory for it; between the two the engine's
@@ -87,7 +91,7 @@ fn step_again<R: Abort + AllocGlobal + Files>(
 )
     requires few { engine.old.records < 4294967296 }
 {
-    let before = state_of(rt.alloc(), engine).expect(rt, "memory");
+    let before = state_of(rt, engine);
     if try_step(rt, engine, record) {
         return;
     }
@@ -114,6 +118,12 @@ impl Outputs {
             sink: Sink::open(rt.alloc(), &mut sent).expect(rt, "a write"),
             sent,
         }
+    }
+
+    /// Writes the packets that the sink still holds.
+    fn finish<R: Abort>(&mut self, rt: &R) {
+        let finished = self.sink.finish(&mut self.sent);
+        finished.expect(rt, "a write");
     }
 
     /// The packets written.
@@ -167,8 +177,7 @@ impl Replayed {
 
     /// The report of the whole run.
     fn report_bytes<R: Abort + AllocGlobal>(&mut self, rt: &R, torn: bool) -> Vec<u8> {
-        let finished = self.outputs.sink.finish(&mut self.outputs.sent);
-        finished.expect(rt, "a write");
+        self.outputs.finish(rt);
         let mut report_bytes = Counted::new(Vec::new(rt.alloc()));
         let live = self.engine.live() as u64;
         let rules = self.engine.rules();
@@ -192,22 +201,13 @@ impl Replayed {
     }
 }
 
-/// The engine with the row's rules, before its first record.
-fn started<R: Abort + AllocGlobal>(rt: &R, row: &Row) -> Engine<AgedTracker> {
-    let hasher = hasher().expect(rt, "keys");
-    let tree = parse(rt.alloc(), row.rules).expect(rt, "rules");
-    let plant = Plant::read(rt.alloc(), BOX).expect(rt, "a box");
-    let checked = check(rt.alloc(), tree, plant).expect(rt, "an accepted ruleset");
-    Engine::new(rt.alloc(), hasher, checked).expect(rt, "memory")
-}
-
 /// The packets and the report of the row, stepped so.
 fn packets_and_report<R: Abort + AllocGlobal + Files>(
     rt: &R,
     row: &Row,
     capture: &[u8],
 ) -> (Vec<u8>, Vec<u8>) {
-    let mut replayed = Replayed::new(rt, started(rt, row), row.trace);
+    let mut replayed = Replayed::new(rt, started(rt, row.rules), row.trace);
     let report_bytes = replayed.replay(rt, capture);
     (replayed.packets(), report_bytes)
 }

@@ -1,10 +1,7 @@
 //! The statements that an engine counts, record by record.
-use crate::support::{BOX, bytes, hasher};
-use box_file::Plant;
+use crate::support::{bytes, started, take};
 use conntrack::ListTracker;
-use nft_parser::parse;
-use pcap_io::{LinkType, Record};
-use rule_check::check;
+use pcap_io::LinkType;
 use std::process::Abort;
 use stepping::Engine;
 
@@ -61,16 +58,7 @@ static STARTED: [(&str, u64); 6] = [
     ("45", 0),
 ];
 
-/// The engine before its first record.
-fn started<R: Abort + AllocGlobal>(rt: &R) -> Engine<ListTracker> {
-    let hasher = hasher().expect(rt, "keys");
-    let tree = parse(rt.alloc(), RULES).expect(rt, "rules");
-    let plant = Plant::read(rt.alloc(), BOX).expect(rt, "a box");
-    let checked = check(rt.alloc(), tree, plant).expect(rt, "an accepted ruleset");
-    Engine::new(rt.alloc(), hasher, checked).expect(rt, "memory")
-}
-
-/// Steps a record of this packet, as long as there may be more; how many statements it started.
+/// Steps a record of this packet; how many statements it started.
 fn started_by<R: Abort + AllocGlobal>(
     rt: &R,
     engine: &mut Engine<ListTracker>,
@@ -78,20 +66,13 @@ fn started_by<R: Abort + AllocGlobal>(
 ) -> u64 {
     let before = engine.ticks();
     let bytes = bytes(rt.alloc(), &[packet]).expect(rt, "a packet");
-    if engine.records() < 4_294_967_296 {
-        let record = Record {
-            moment: 0,
-            link_type: LinkType::Raw,
-            bytes: &bytes,
-        };
-        engine.step(&record).expect(rt, "memory");
-    }
+    take(rt, engine, 0, LinkType::Raw, &bytes);
     engine.ticks().saturating_sub(before)
 }
 
 #[test]
 fn each_statement_is_counted_once(rt: HostRuntime) {
-    let mut engine = started(&rt);
+    let mut engine = started(&rt, RULES);
     assert!(&rt; engine.ticks() == 0);
     for (packet, statements) in &STARTED {
         assert!(&rt; started_by(&rt, &mut engine, packet) == *statements);

@@ -1,15 +1,20 @@
-//! Shared by the tests: a packet and its records, runs with slow and failing calls, and the line of
-//! a status.
+//! Shared by the tests: a packet and its records, engines and their steps, runs with slow and
+//! failing calls, and the line of a status.
+use box_file::Plant;
+use conntrack::Tracker;
 use engine::{RunFault, run};
 use hex::FromHexError;
-use pcap_io::{Calls, Counted, Slow};
+use nft_parser::parse;
+use pcap_io::{Calls, Counted, LinkType, Record, Slow};
 use program::Status;
+use rule_check::{Checked, check};
 use std::alloc::Global;
 use std::hash::RandomState;
 use std::io;
 use std::io::{ErrorKind, Read, Write};
 use std::process::Abort;
 use std::random::RandomSource;
+use stepping::Engine;
 
 pub const BOX: &[u8] = b"interface 2 lan 192.168.1.1/24
 interface 3 wan 203.0.113.1/24
@@ -59,6 +64,40 @@ impl RandomSource for Fixed {
 /// The hash keys of the tests. No result depends on them.
 pub fn hasher() -> io::Result<RandomState> {
     RandomState::new(&Fixed)
+}
+
+/// The rules, checked for `BOX`; `None` if they are refused, or there was no memory.
+fn checked(alloc: Global, rules: &[u8]) -> Option<Checked> {
+    let plant = Plant::read(alloc, BOX).ok()?;
+    match parse(alloc, rules) {
+        Ok(tree) => check(alloc, tree, plant).ok(),
+        Err(_) => None,
+    }
+}
+
+/// An engine with these rules, before its first record.
+pub fn started<R: Abort + AllocGlobal, T: Tracker>(rt: &R, rules: &[u8]) -> Engine<T> {
+    let hasher = hasher().expect(rt, "keys");
+    let checked = checked(rt.alloc(), rules).expect(rt, "an accepted ruleset");
+    Engine::new(rt.alloc(), hasher, checked).expect(rt, "memory")
+}
+
+/// Steps a record of these bytes at this time in nanoseconds, as long as there may be more.
+pub fn take<R: Abort, T: Tracker>(
+    rt: &R,
+    engine: &mut Engine<T>,
+    moment: u64,
+    link_type: LinkType,
+    bytes: &[u8],
+) {
+    if engine.records() < 4_294_967_296 && moment < 4_294_967_296_000_000_000 {
+        let record = Record {
+            moment,
+            link_type,
+            bytes,
+        };
+        engine.step(&record).expect(rt, "memory");
+    }
 }
 
 /// How a call fails.
