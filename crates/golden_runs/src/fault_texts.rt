@@ -42,18 +42,33 @@ fn diagnostics(rt: &HostRuntime, name: &str) -> Result<String> {
         return capture_fault_location(rt, name);
     }
     let paths = paths_of(name);
-    let rules = if name == LONG {
-        vec![in rt.alloc(); b' '; LONG_BYTES]?
-    } else {
-        fs::read(rt, path(rt.alloc(), paths.rules)?.as_str())?
-    };
-    let plant = fs::read(rt, path(rt.alloc(), paths.plant)?.as_str())?;
+    let rules = ruleset(rt, paths.rules)?;
+    diagnostics_of_rules(rt, paths, &rules)
+}
+
+/// The diagnostics of this ruleset on the box of these paths.
+fn diagnostics_of_rules(rt: &HostRuntime, paths: SourcePaths<'_>, rules: &[u8]) -> Result<String> {
+    let plant = read(rt, paths.plant)?;
     let sources = Sources {
         paths,
-        rules: &rules,
+        rules,
         plant: &plant,
     };
     Ok(diagnostics_of_texts(rt.alloc(), sources)?)
+}
+
+/// The ruleset of this name.
+fn ruleset(rt: &HostRuntime, name: &str) -> Result<Vec<u8>> {
+    if name == LONG {
+        return Ok(vec![in rt.alloc(); b' '; LONG_BYTES]?);
+    }
+    read(rt, name)
+}
+
+/// The bytes of the file of this name.
+fn read(rt: &HostRuntime, name: &str) -> Result<Vec<u8>> {
+    let path = path(rt.alloc(), name)?;
+    Ok(fs::read(rt, path.as_str())?)
 }
 
 /// The ruleset and the box that are judged for this name.
@@ -78,13 +93,24 @@ fn path(alloc: Global, name: &str) -> Result<String, AllocError> {
 
 /// The diagnostics of a ruleset on a box.
 fn diagnostics_of_texts(alloc: Global, sources: Sources<'_>) -> Result<String, AllocError> {
-    let fault = match judge(alloc, sources.rules, sources.plant) {
-        Ok(counts) => return accepted(alloc, counts),
-        Err(fault) => fault,
-    };
-    let lines = explanation(alloc, fault, sources)?;
+    match judge(alloc, sources.rules, sources.plant) {
+        Ok(counts) => accepted(alloc, counts),
+        Err(fault) => {
+            let lines = explanation(alloc, fault, sources)?;
+            refused(alloc, fault, lines.as_str(), sources)
+        }
+    }
+}
+
+/// The line of a fault, what `--explain` prints of it, and what `--all` prints.
+fn refused(
+    alloc: Global,
+    fault: RunFault,
+    lines: &str,
+    sources: Sources<'_>,
+) -> Result<String, AllocError> {
     let faults = all_faults(alloc, sources)?;
-    format!(in alloc; "nftrun: {fault}\n{}\n{}", lines.as_str(), faults.as_str())
+    format!(in alloc; "nftrun: {fault}\n{lines}\n{}", faults.as_str())
 }
 
 /// What `--explain` prints of a fault of a text; nothing of another one.

@@ -17,7 +17,7 @@ use stepping::Engine;
 /// The greatest number of records in a capture.
 const MOST_RECORDS: u64 = 4_294_967_296;
 
-/// The outputs of a run.
+/// The outputs of a run in progress.
 #[derive(Drop)]
 struct Outputs {
     numbers: Report,
@@ -45,31 +45,16 @@ impl Outputs {
             report: self.report.into_inner(),
         }
     }
-}
-
-/// A run in progress, with its outputs.
-#[derive(Drop)]
-struct ListRun {
-    engine: Engine<ListTracker>,
-    outputs: Outputs,
-}
-
-impl ListRun {
-    /// Before the first record.
-    fn new(alloc: Global, engine: Engine<ListTracker>, trace: bool) -> Result<Self> {
-        let outputs = Outputs::open(alloc, engine.rules(), trace)?;
-        Ok(ListRun { engine, outputs })
-    }
 
     /// Steps a record; no capture has more than this many.
-    fn take(&mut self, record: &Record) -> Result<()> {
-        if self.engine.records() < MOST_RECORDS && self.outputs.numbers.records() < MOST_RECORDS {
-            self.engine.step(record)?;
-            if let Some(entry) = self.engine.entry() {
-                self.outputs.numbers.note(&entry)?;
+    fn take(&mut self, engine: &mut Engine<ListTracker>, record: &Record) -> Result<()> {
+        if engine.records() < MOST_RECORDS && self.numbers.records() < MOST_RECORDS {
+            engine.step(record)?;
+            if let Some(entry) = engine.entry() {
+                self.numbers.note(&entry)?;
             }
-            if let Some(leaving) = self.engine.leaving() {
-                self.outputs.sink.put(&mut self.outputs.sent, &leaving)?;
+            if let Some(leaving) = engine.leaving() {
+                self.sink.put(&mut self.sent, &leaving)?;
             }
         }
         Ok(())
@@ -78,6 +63,7 @@ impl ListRun {
     /// Steps the records; the fault at which they stop, `None` at their end.
     fn play<R: Read>(
         &mut self,
+        engine: &mut Engine<ListTracker>,
         records: &mut Capture,
         reader: &mut Counted<R>,
     ) -> Result<Option<CaptureError>> {
@@ -88,42 +74,37 @@ impl ListRun {
                 Err(stop) => return Ok(Some(stop)),
             }
             if let Some(record) = records.record() {
-                self.take(&record)?;
+                self.take(engine, &record)?;
             }
         }
         Ok(None)
     }
 
     /// Steps the capture's records.
-    fn run(&mut self, alloc: Global, input: Input<'_>) -> Result<()> {
+    fn run(
+        &mut self,
+        alloc: Global,
+        engine: &mut Engine<ListTracker>,
+        input: Input<'_>,
+    ) -> Result<()> {
         let mut reader = input.reader();
         let mut records = Capture::open(alloc, &mut reader)?;
-        let stop = self.play(&mut records, &mut reader)?;
-        self.finish(stop)
-    }
-
-    /// The outputs of the whole run.
-    fn written(mut self, alloc: Global, input: Input<'_>) -> Result<Written> {
-        self.run(alloc, input)?;
-        Ok(self.outputs.written())
+        let stop = self.play(engine, &mut records, &mut reader)?;
+        self.finish(engine, stop)
     }
 
     /// Writes what is left. The totals follow unless the records stop at a fault; a torn end is
     /// none.
-    fn finish(&mut self, stop: Option<CaptureError>) -> Result<()> {
-        self.outputs.sink.finish(&mut self.outputs.sent)?;
-        let rules = self.engine.rules();
+    fn finish(&mut self, engine: &Engine<ListTracker>, stop: Option<CaptureError>) -> Result<()> {
+        self.sink.finish(&mut self.sent)?;
+        let rules = engine.rules();
         let torn = match stop {
             None => false,
             Some(CaptureError::Refused(CaptureFault::TornEnd)) => true,
-            Some(_) => return Ok(self.outputs.numbers.drain(rules, &mut self.outputs.report)?),
+            Some(_) => return Ok(self.numbers.drain(rules, &mut self.report)?),
         };
-        let live = self.engine.live() as u64;
-        Ok(
-            self.outputs
-                .numbers
-                .lines(rules, live, torn, &mut self.outputs.report)?,
-        )
+        let live = engine.live() as u64;
+        Ok(self.numbers.lines(rules, live, torn, &mut self.report)?)
     }
 }
 
@@ -140,6 +121,18 @@ fn engine_of(
     Ok(Engine::new(alloc, hasher, checked)?)
 }
 
+/// The outputs of the engine's run.
+fn written_by(
+    alloc: Global,
+    engine: &mut Engine<ListTracker>,
+    trace: bool,
+    input: Input<'_>,
+) -> Result<Written> {
+    let mut outputs = Outputs::open(alloc, engine.rules(), trace)?;
+    outputs.run(alloc, engine, input)?;
+    Ok(outputs.written())
+}
+
 /// The outputs of the row's run; nothing is refused before the first record.
 pub fn run_listed(
     alloc: Global,
@@ -149,7 +142,6 @@ pub fn run_listed(
     plant: &[u8],
     input: Input<'_>,
 ) -> Result<Written> {
-    let engine = engine_of(alloc, hasher, rules, plant)?;
-    let listed = ListRun::new(alloc, engine, row.trace)?;
-    listed.written(alloc, input)
+    let mut engine = engine_of(alloc, hasher, rules, plant)?;
+    written_by(alloc, &mut engine, row.trace, input)
 }

@@ -49,7 +49,7 @@ use fault_texts::FaultTexts;
 use list_runs::run_listed;
 use mistakes::Mistakes;
 use parts::compare_parts;
-use rows::{Row, RunResult, run_over};
+use rows::{Input, Row, RunResult, Written, run_over};
 use std::hash::RandomState;
 use std::process::ExitCode;
 use std::{fs, str};
@@ -126,6 +126,14 @@ struct RowReader<'t> {
 }
 
 impl<'t> RowReader<'t> {
+    /// Takes the lines of a file, and runs the last row.
+    fn take_all(&mut self, rt: &HostRuntime, text: &'t str) -> Result<()> {
+        for line in text.lines() {
+            self.take(rt, line)?;
+        }
+        self.run(rt)
+    }
+
     /// Runs the row that was read.
     fn run(&mut self, rt: &HostRuntime) -> Result<()> {
         if let Some(row) = &self.open {
@@ -174,25 +182,26 @@ impl<'t> RowReader<'t> {
 fn run_all(rt: &HostRuntime, text: &str) -> Result<Counts> {
     let counts = Counts { runs: 0, listed: 0 };
     let mut reader = RowReader { counts, open: None };
-    for line in text.lines() {
-        reader.take(rt, line)?;
-    }
-    reader.run(rt)?;
+    reader.take_all(rt, text)?;
     Ok(reader.counts)
 }
 
-/// Runs a row, with each of its rulesets.
+/// Runs a row on its box.
 fn try_row(rt: &HostRuntime, row: &Row<'_>) -> Result<()> {
     let plant = fs::read(rt, row.plant)?;
+    try_on(rt, row, &plant)
+}
+
+/// Runs a row on this box, with each of its rulesets.
+fn try_on(rt: &HostRuntime, row: &Row<'_>, plant: &[u8]) -> Result<()> {
     for rules in &row.rulesets {
-        try_rules(rt, row, rules.as_bytes(), &plant)?;
+        try_rules(rt, row, rules.as_bytes(), plant)?;
     }
-    if let Some(file) = row.rules {
-        try_rules(rt, row, &fs::read(rt, file)?, &plant)?;
-    } else if row.rulesets.is_empty() {
-        try_rules(rt, row, b"", &plant)?;
+    match row.rules {
+        Some(file) => try_rules(rt, row, &fs::read(rt, file)?, plant),
+        None if row.rulesets.is_empty() => try_rules(rt, row, b"", plant),
+        None => Ok(()),
     }
-    Ok(())
 }
 
 /// The most bytes of a call in each slow run: of the reader, and of a writer. Not all pairs, which
@@ -202,30 +211,44 @@ static PACES: [(usize, usize); 4] = [(1, 1), (2, 5), (3, 1), (7, 5)];
 /// Runs a row with these rules, on both trackers and at each pace.
 fn try_rules(rt: &HostRuntime, row: &Row<'_>, rules: &[u8], plant: &[u8]) -> Result<()> {
     let capture = row.capture(rt.alloc())?;
-    let whole = run_on_both_trackers(rt, row, rules, plant, &capture)?;
-    try_slowly(rt, row, rules, plant, &capture, &whole)
+    try_capture(rt, row, rules, plant, &capture)
 }
 
-/// Runs a row with these rules, with both trackers unless it is refused.
-fn run_on_both_trackers(
+/// Runs a row with these rules over its capture, with both trackers unless it is refused, and at
+/// each pace.
+fn try_capture(
     rt: &HostRuntime,
     row: &Row<'_>,
     rules: &[u8],
     plant: &[u8],
     capture: &[u8],
-) -> Result<RunResult> {
+) -> Result<()> {
     // New keys for each row: no result depends on them.
     let hasher = RandomState::new(rt)?;
     let input = row.input(capture);
-    let given = run_over(rt.alloc(), hasher, row, rules, plant, input, row.pace);
-    compare(rt, row, &given)?;
+    let whole = run_over(rt.alloc(), hasher, row, rules, plant, input, row.pace);
+    compare(rt, row, &whole)?;
     if !row.is_refused() {
-        let written = run_listed(rt.alloc(), hasher, row, rules, plant, input)?;
-        if written != given.written {
-            println!(rt; "{}: the list tracker gives another output", row.name)?;
-        }
+        try_list(rt, hasher, row, rules, plant, input, &whole.written)?;
     }
-    Ok(given)
+    try_slowly(rt, row, rules, plant, capture, &whole)
+}
+
+/// Runs a row with these rules with the list tracker, which must write the same.
+fn try_list(
+    rt: &HostRuntime,
+    hasher: RandomState,
+    row: &Row<'_>,
+    rules: &[u8],
+    plant: &[u8],
+    input: Input<'_>,
+    wanted: &Written,
+) -> Result<()> {
+    let written = run_listed(rt.alloc(), hasher, row, rules, plant, input)?;
+    if !written.is(wanted) {
+        println!(rt; "{}: the list tracker gives another output", row.name)?;
+    }
+    Ok(())
 }
 
 /// Runs a row with these rules at each pace.
@@ -254,7 +277,13 @@ fn try_slowly(
 /// Whether two runs have the same status and outputs.
 fn is_same(rt: &HostRuntime, one: &RunResult, other: &RunResult) -> Result<bool> {
     let status = one.status.to_string(rt.alloc())?;
-    Ok(status == other.status.to_string(rt.alloc())? && one.written == other.written)
+    Ok(has_status(rt, other, status.as_str())? && one.written.is(&other.written))
+}
+
+/// Whether a run has this status.
+fn has_status(rt: &HostRuntime, given: &RunResult, wanted: &str) -> Result<bool> {
+    let status = given.status.to_string(rt.alloc())?;
+    Ok(status.as_str() == wanted)
 }
 
 /// Prints the differences of a run from its row.

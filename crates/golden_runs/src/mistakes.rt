@@ -26,6 +26,15 @@ impl Mistakes {
         let plant = fs::read(rt, BOX)?;
         Ok(Mistakes { plant })
     }
+
+    /// Prints what is told of a ruleset if it isn't what is stored.
+    fn compare_told(&self, rt: &HostRuntime, name: &str, rules: &str, told: &str) -> Result<()> {
+        let actual = told_of(rt.alloc(), rules, &self.plant)?;
+        if actual.as_str().strip_suffix('\n') != Some(told) {
+            println!(rt; "{name}: told is\n{}instead of\n{told}", actual.as_str())?;
+        }
+        Ok(())
+    }
 }
 
 impl Comparison for Mistakes {
@@ -33,10 +42,7 @@ impl Comparison for Mistakes {
     fn compare(&self, rt: &HostRuntime, name: &str, part: &str) -> Result<()> {
         let (rules, rest) = part.split_once(TOLD).unwrap_or((part, ""));
         let (told, mended) = rest.split_once(MENDED).unwrap_or((rest, ""));
-        let actual = told_of(rt.alloc(), rules, &self.plant)?;
-        if actual.as_str().strip_suffix('\n') != Some(told) {
-            println!(rt; "{name}: told is\n{}instead of\n{told}", actual.as_str())?;
-        }
+        self.compare_told(rt, name, rules, told)?;
         if let Err(fault) = judge(rt.alloc(), mended.as_bytes(), &self.plant) {
             println!(rt; "{name}: mended it is {fault}")?;
         }

@@ -161,14 +161,18 @@ fn end(word: &str) -> Option<PacketEndpoint> {
     }
 }
 
+fn octet(group: Option<&str>) -> Option<u8> {
+    group?.parse::<u8>().ok()
+}
+
 /// A dotted quad, the first octet the most significant.
 fn address(word: &str) -> Option<u32> {
     let mut groups = word.split('.');
     let bytes = [
-        groups.next()?.parse::<u8>().ok()?,
-        groups.next()?.parse::<u8>().ok()?,
-        groups.next()?.parse::<u8>().ok()?,
-        groups.next()?.parse::<u8>().ok()?,
+        octet(groups.next())?,
+        octet(groups.next())?,
+        octet(groups.next())?,
+        octet(groups.next())?,
     ];
     match groups.next() {
         Some(_) => None,

@@ -63,12 +63,13 @@ impl Payload {
 impl Packet {
     /// The packet's bytes, with valid checksums.
     pub fn bytes(&self, alloc: Global) -> Result<Vec<u8>, AllocError> {
-        let behind = match &self.about {
-            Some(about) => about.bytes(alloc)?,
-            None => Vec::new(alloc),
-        };
-        let carried = carried(alloc, &self.flow, &behind)?;
-        datagram(alloc, &self.flow, self.ttl, &carried)
+        match &self.about {
+            Some(about) => {
+                let behind = about.bytes(alloc)?;
+                datagram_with(alloc, &self.flow, self.ttl, &behind)
+            }
+            None => datagram_with(alloc, &self.flow, self.ttl, &[]),
+        }
     }
 }
 
@@ -76,8 +77,7 @@ impl EmbeddedDatagram {
     /// The bytes of an embedded datagram, which has TTL 1. A protocol without ports or an
     /// identifier has 8 bytes of data.
     fn bytes(&self, alloc: Global) -> Result<Vec<u8>, AllocError> {
-        let carried = carried(alloc, &self.flow, &[0; 8])?;
-        let mut all = datagram(alloc, &self.flow, 1, &carried)?;
+        let mut all = datagram_with(alloc, &self.flow, 1, &[0; 8])?;
         all.truncate(self.kept);
         Ok(all)
     }
@@ -103,25 +103,39 @@ fn datagram(alloc: Global, flow: &Flow, ttl: u8, carried: &[u8]) -> Result<Vec<u
     let [high, low] = (0xffff - ones_sum(&header)).to_be_bytes();
     header[10] = high;
     header[11] = low;
+    headed(alloc, &header, carried)
+}
+
+/// A header, and the bytes after it.
+fn headed(alloc: Global, header: &[u8], behind: &[u8]) -> Result<Vec<u8>, AllocError> {
     let mut all = Vec::new(alloc);
-    all.extend_from_slice(&header)?;
-    all.extend_from_slice(carried)?;
+    all.extend_from_slice(header)?;
+    all.extend_from_slice(behind)?;
     Ok(all)
+}
+
+/// An IPv4 datagram with the payload of `carried`.
+fn datagram_with(
+    alloc: Global,
+    flow: &Flow,
+    ttl: u8,
+    behind: &[u8],
+) -> Result<Vec<u8>, AllocError> {
+    let carried = carried(alloc, flow, behind)?;
+    datagram(alloc, flow, ttl, &carried)
 }
 
 /// The payload's bytes; `behind` comes after the 8 bytes of an ICMP error, or is all of another
 /// protocol's payload.
 fn carried(alloc: Global, flow: &Flow, behind: &[u8]) -> Result<Vec<u8>, AllocError> {
-    let mut all = Vec::new(alloc);
     match flow.payload {
-        Payload::Udp => all.extend_from_slice(&udp(flow.from, flow.to)[12..])?,
-        Payload::Tcp(flags) => all.extend_from_slice(&tcp(flow.from, flow.to, flags)[12..])?,
-        Payload::EchoRequest => all.extend_from_slice(&echo(8, flow.from.port))?,
-        Payload::EchoReply => all.extend_from_slice(&echo(0, flow.to.port))?,
-        Payload::Error(message) => put_error(alloc, &mut all, message, behind)?,
-        Payload::Other(_) => all.extend_from_slice(behind)?,
+        Payload::Udp => udp(flow.from, flow.to)[12..].to_vec(alloc),
+        Payload::Tcp(flags) => tcp(flow.from, flow.to, flags)[12..].to_vec(alloc),
+        Payload::EchoRequest => echo(8, flow.from.port).to_vec(alloc),
+        Payload::EchoReply => echo(0, flow.to.port).to_vec(alloc),
+        Payload::Error(message) => icmp_error(alloc, message, behind),
+        Payload::Other(_) => behind.to_vec(alloc),
     }
-    Ok(all)
 }
 
 /// The UDP header after its pseudo header: addresses, protocol and length (RFC 768).
@@ -168,17 +182,9 @@ fn echo(message: u8, identifier: u16) -> [u8; 8] {
     all
 }
 
-/// Appends an ICMP error with this datagram after its 8 bytes (RFC 792).
-fn put_error(
-    alloc: Global,
-    all: &mut Vec<u8>,
-    message: u8,
-    behind: &[u8],
-) -> Result<(), AllocError> {
-    let mut covered = Vec::new(alloc);
-    covered.extend_from_slice(&[message, 0, 0, 0, 0, 0, 0, 0])?;
-    covered.extend_from_slice(behind)?;
+/// An ICMP error with this datagram after its 8 bytes (RFC 792).
+fn icmp_error(alloc: Global, message: u8, behind: &[u8]) -> Result<Vec<u8>, AllocError> {
+    let covered = headed(alloc, &[message, 0, 0, 0, 0, 0, 0, 0], behind)?;
     let [high, low] = (0xffff - ones_sum(&covered)).to_be_bytes();
-    all.extend_from_slice(&[message, 0, high, low, 0, 0, 0, 0])?;
-    all.extend_from_slice(behind)
+    headed(alloc, &[message, 0, high, low, 0, 0, 0, 0], behind)
 }

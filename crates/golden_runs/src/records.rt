@@ -82,23 +82,33 @@ impl InputRecord {
         let Some(packet) = self.packet else {
             return Ok(());
         };
-        let other = Packet {
-            flow: between(packet.flow, output_packet.endpoints),
-            ttl: packet.ttl.saturating_sub(1),
-            about: match packet.about {
-                Some(about) => Some(EmbeddedDatagram {
-                    flow: between(about.flow, output_packet.about),
-                    ..about
-                }),
-                None => None,
-            },
-        };
+        let other = forwarded(&packet, output_packet);
         let bytes = other.bytes(alloc)?;
-        self.put_header(all, &bytes)?;
+        self.put_leaving(all, other.flow.to.address, &bytes)
+    }
+
+    /// Appends the record of a packet that leaves to this address.
+    fn put_leaving(&self, all: &mut Vec<u8>, to: u32, packet: &[u8]) -> Result<(), AllocError> {
+        self.put_header(all, packet)?;
         all.extend_from_slice(&[8, 0, 0, 0])?;
-        all.extend_from_slice(&output_interface(other.flow.to.address).to_be_bytes())?;
+        all.extend_from_slice(&output_interface(to).to_be_bytes())?;
         all.extend_from_slice(&[0, 1, 4, 0, 0, 0, 0, 0, 0, 0, 0, 0])?;
-        all.extend_from_slice(&bytes)
+        all.extend_from_slice(packet)
+    }
+}
+
+/// The packet as it leaves.
+fn forwarded(packet: &Packet, output_packet: &OutputPacket) -> Packet {
+    Packet {
+        flow: between(packet.flow, output_packet.endpoints),
+        ttl: packet.ttl.saturating_sub(1),
+        about: match packet.about {
+            Some(about) => Some(EmbeddedDatagram {
+                flow: between(about.flow, output_packet.about),
+                ..about
+            }),
+            None => None,
+        },
     }
 }
 

@@ -99,10 +99,17 @@ impl<'c> Input<'c> {
 }
 
 /// The outputs of a run.
-#[derive(Drop, PartialEq)]
+#[derive(Drop)]
 pub struct Written {
     pub sent: Vec<u8>,
     pub report: Vec<u8>,
+}
+
+impl Written {
+    /// Whether the other run wrote the same.
+    pub fn is(&self, other: &Written) -> bool {
+        self.sent == other.sent && self.report == other.report
+    }
 }
 
 /// The result of a run.
@@ -274,20 +281,35 @@ impl<'t> Row<'t> {
     /// Takes a line of a word and bytes; `false` if it can't be read.
     fn take_bytes(&mut self, alloc: Global, line: &str) -> Result<bool, AllocError> {
         let (word, digits) = line.split_once(' ').unwrap_or((line, ""));
-        let bytes = match hex::decode(alloc, digits) {
-            Ok(bytes) => bytes,
-            Err(_) => return Ok(false),
-        };
-        if word == "header" && !self.is_first("header")? {
-            return Ok(false);
-        }
         match word {
-            "header" => self.header = Some(bytes),
-            "captured" => self.captured.extend_from_slice(&bytes)?,
-            "written" => self.written.extend_from_slice(&bytes)?,
-            _ => self.leaving.push(bytes)?,
+            "header" => self.take_header(alloc, digits),
+            "captured" => append(alloc, &mut self.captured, digits),
+            "written" => append(alloc, &mut self.written, digits),
+            _ => self.take_leaving(alloc, digits),
         }
-        Ok(true)
+    }
+
+    /// Takes the capture's header; `false` if it can't be read, or is given twice.
+    fn take_header(&mut self, alloc: Global, digits: &str) -> Result<bool, AllocError> {
+        let Ok(header) = hex::decode(alloc, digits) else {
+            return Ok(false);
+        };
+        let is_first = self.is_first("header")?;
+        if is_first {
+            self.header = Some(header);
+        }
+        Ok(is_first)
+    }
+
+    /// Takes a packet's record as it leaves.
+    fn take_leaving(&mut self, alloc: Global, digits: &str) -> Result<bool, AllocError> {
+        match hex::decode(alloc, digits) {
+            Ok(bytes) => {
+                self.leaving.push(bytes)?;
+                Ok(true)
+            }
+            Err(_) => Ok(false),
+        }
     }
 
     /// The packets of these numbers leave; `false` if there is no such packet.
@@ -369,15 +391,20 @@ impl<'t> Row<'t> {
     fn with_totals(&self, alloc: Global) -> Result<String, AllocError> {
         let mut text = self.lines.clone()?;
         for &name in &TOTALS {
-            text.push_str(name)?;
-            text.push(' ')?;
-            match self.total(name) {
-                Some(number) => text.push_str(number)?,
-                None => self.push_count(alloc, &mut text, name)?,
-            }
-            text.push('\n')?;
+            self.push_total(alloc, &mut text, name)?;
         }
         Ok(text)
+    }
+
+    /// Appends the line of a total.
+    fn push_total(&self, alloc: Global, text: &mut String, name: &str) -> Result<(), AllocError> {
+        text.push_str(name)?;
+        text.push(' ')?;
+        match self.total(name) {
+            Some(number) => text.push_str(number)?,
+            None => self.push_count(alloc, text, name)?,
+        }
+        text.push('\n')
     }
 
     /// Appends a default total: the number of records or of forwarded packets, or 0.
@@ -409,6 +436,17 @@ fn is_total(name: &str) -> bool {
         }
     }
     false
+}
+
+/// Appends the bytes that the digits spell; `false` if they spell none.
+fn append(alloc: Global, all: &mut Vec<u8>, digits: &str) -> Result<bool, AllocError> {
+    match hex::decode(alloc, digits) {
+        Ok(bytes) => {
+            all.extend_from_slice(&bytes)?;
+            Ok(true)
+        }
+        Err(_) => Ok(false),
+    }
 }
 
 /// Sets the number that the word spells; `false` if it spells none.

@@ -27,6 +27,18 @@ impl Warned {
         let plant = fs::read(rt, BOX)?;
         Ok(Warned { plant })
     }
+
+    /// Compares what is told of a ruleset, which has to be accepted, with what is stored.
+    fn compare_told(&self, rt: &HostRuntime, name: &str, rules: &str, stored: &str) -> Result<()> {
+        if judge(rt.alloc(), rules.as_bytes(), &self.plant).is_err() {
+            println!(rt; "{name}: refused here")?;
+        }
+        let told = warnings(rt.alloc(), "rules", rules.as_bytes())?;
+        if told.as_str().trim_end() != stored.trim_end() {
+            println!(rt; "{name}: told is\n{}instead of\n{stored}", told.as_str())?;
+        }
+        Ok(())
+    }
 }
 
 impl Comparison for Warned {
@@ -35,14 +47,7 @@ impl Comparison for Warned {
         let (ruleset, foot) = part.split_once(FOOT).unwrap_or((part, ""));
         let (_, stored) = foot.split_once('\n').unwrap_or((foot, ""));
         let text = with_returns(rt, ruleset)?;
-        if judge(rt.alloc(), text.as_bytes(), &self.plant).is_err() {
-            println!(rt; "{name}: refused here")?;
-        }
-        let told = warnings(rt.alloc(), "rules", text.as_bytes())?;
-        if told.as_str().trim_end() != stored.trim_end() {
-            println!(rt; "{name}: told is\n{}instead of\n{stored}", told.as_str())?;
-        }
-        Ok(())
+        self.compare_told(rt, name, text.as_str(), stored)
     }
 }
 
