@@ -1,6 +1,9 @@
 -- Updates of checksums.
-use Rattle.std.proofs.Common.{◌≡◌, ℕ, ◌+◌, List, [], ◌∷◌, Bool, true, false, refl, sym, ap, arith, ◌≢◌, ◌%◌}
-use Rattle.std.proofs.Common.{◌<◌, length, zero, suc, ◌*◌, ◌/◌, ◌≤◌, length-drop, get_or, set, drop, ◌∙◌}
+use Rattle.std.proofs.Math.Bool.{or-false}
+use Rattle.std.proofs.Common.{inl, ◌&&◌, ◌-◌, ◌++◌, take, length-take, length-append, inr, ◌≡◌, ℕ, ◌+◌, List, [], ◌∷◌, Bool, true, false, refl, sym, ap, arith}
+use Rattle.std.proofs.Common.{◌≢◌, ◌%◌, ◌<◌, length, ◌*◌, ◌/◌, ◌≤◌, length-drop, get_or, set, drop, ◌∙◌}
+use Rattle.rewrite.proofs.Words.{at_place, even_of, odd_of, byte_in, byte_after, byte_apart, high_at, words_sum-set}
+use Rattle.std.proofs.lemmas.List.{length-set, set-append_left, set-append_right, drop-set-lt, get_or-set_other, drop-set-add, get_or-set_same, set-get_or}
 use Rattle.std.specs.Prelude.{◌==◌, ◌||◌, if◌then◌else◌}
 use Rattle.std.proofs.lemmas.Bool.{eqb-true, eq-eqb, and_parts, cond_both, ne_eqb, and_from}
 use Rattle.list_laws.specs.Tests.{same-tests}
@@ -8,13 +11,7 @@ use Rattle.ip_headers.specs.Sum.{words_sum}
 use Rattle.ip_headers.specs.Bytes.{u16_at, with_u16, u32_at, with_u32}
 use Rattle.rewrite.specs.declared.checksum.ChecksumDelta.{ChecksumDelta}
 use Rattle.rewrite.specs.Rewritten.{corrected, or_all_ones, update_checksum, update_udp_checksum, same_bytes}
-use Rattle.rewrite.specs.steps.Fields.{updated_checksum, updated_udp_checksum, combined, u32_change}
-use Rattle.rewrite.specs.steps.Fields.{u16_change}
-use Rattle.rewrite.proofs.Words.{words_sum-word, IsEven, high_at, words_sum-set, Bytes4, number_kept}
-use Rattle.rewrite.proofs.Words.{number_same, number_written, rest_in, word_kept, word_of_rest, word_written}
-use Rattle.rewrite.proofs.Words.{words_sum-number}
-use Rattle.std.proofs.lemmas.List.{drop-set-add, get_or-drop, get_or-set_same, set-get_or}
-use Rattle.ip_headers.specs.Header.{header_len}
+use Rattle.rewrite.specs.steps.Fields.{updated_checksum, updated_udp_checksum, combined, u32_change, u16_change}
 
 -- ==== An update for the changed words alone is an update for all bytes under the checksum.
 
@@ -80,6 +77,200 @@ update_udp_checksum-is over offset old now words c kept =
     (ap or_all_ones (corrected-by (u16_at old offset) (words_sum (over old))
     (words_sum (over now)) words.old words.new c.sum)))
 
+-- ==== Bytes written one after another, and the words that they change under a checksum.
+
+-- ---- one byte
+
+-- a high or a low byte
+abbrev byte_change : Bool → ℕ → ℕ → ChecksumDelta
+byte_change high old new = record { old = at_place high old; new = at_place high new; is_same = old == new }
+
+byte_kept : (ys : List ℕ) (i v : ℕ) → v ≡ get_or ys i 0 → set ys i v ≡ ys
+byte_kept ys i v is = ap (λ w. set ys i w) is ∙ set-get_or ys i 0
+
+byte_covered : (w : ChecksumDelta) (high : Bool) (xs ys : List ℕ) (i v old : ℕ) → high_at true i ≡ high → i < length ys
+    → get_or xs i 0 ≡ old → get_or ys i 0 ≡ old → Covers w xs ys → Covers (combined w (byte_change high old v)) xs (set ys i v)
+byte_covered w high xs ys i v old side lt was is c = record {
+  same = λ h.
+      let parts = and_parts _ _ h in
+      c.same parts.0 ∙ sym (byte_kept ys i v (sym (eqb-true _ _ parts.1) ∙ sym is));
+  other = λ e.
+      let kept : v ≡ old = sym (get_or-set_same ys i v 0 lt) ∙ ap (λ l. get_or l i 0) (sym e) ∙ was in
+      and_from _ _ (c.other (e ∙ byte_kept ys i v (kept ∙ sym is))) (eq-eqb _ _ (sym kept));
+  sum = omega (arith, c.sum, rw (side, is) at (words_sum-set ys i v lt));
+}
+
+-- ---- the same change, said otherwise
+
+pub counted_as : (v w : ChecksumDelta) {xs ys : List ℕ} → v.is_same ≡ w.is_same → v.old + w.new ≡ w.old + v.new → Covers v xs ys
+    → Covers w xs ys
+counted_as v w same sums c = record {
+  same = λ h. c.same (same ∙ h);
+  other = λ e. sym same ∙ c.other e;
+  sum = omega (arith, sums, c.sum);
+}
+
+word_digits : (b : Bool) (x y v : ℕ) → y < 256 → (b && x == v / 256 && y == v % 256) ≡ (b && x * 256 + y == v)
+word_digits b x y v small = grind arith
+
+number_digits : (b : Bool) (x y v : ℕ) → y < 65536 → (b && x == v / 65536 && y == v % 65536) ≡ (b && x * 65536 + y == v)
+number_digits b x y v small = grind arith
+
+high_digit : (b : Bool) (x v : ℕ) → (b && x == v) ≡ (b && x * 256 == v * 256)
+high_digit b x v = grind arith
+
+-- ---- what a checksum covers, of lists of one length
+
+-- the bytes from an offset on stand under it from `base` on
+pub record Shows (over : List ℕ → List ℕ) (size low n base : ℕ) : Type 0 where
+  pub written : (q : List ℕ) (v i j : ℕ) → length q ≡ size → j ≡ low + i → i < n → over (set q j v) ≡ set (over q) (base + i) v
+  pub room : (q : List ℕ) (i : ℕ) → length q ≡ size → i < n → base + i < length (over q)
+
+none_before : (i : ℕ) → 0 + i ≡ i
+none_before i = omega arith
+
+pub rest_shows : (size a : ℕ) → Shows (drop a) size a (size - a) 0
+rest_shows size a = record {
+  written = λ q v i j len is lt. rw (is, none_before i) (drop-set-add a q i v);
+  room = λ q i len lt. omega (arith, length-drop a q, len, lt);
+}
+
+abbrev pub head_of : ℕ → ℕ → List ℕ → List ℕ
+head_of start n p = take n (drop start p)
+
+pub head_shows : (size start n : ℕ) → start + n ≤ size → Shows (head_of start n) size start n 0
+head_shows size start n room = record {
+  written = λ q v i j len is lt. rw (none_before i) (byte_in q start n i j v is lt);
+  room = λ q i len lt. omega (arith, length-take n (drop start q), length-drop start q, len, lt, room);
+}
+
+-- the addresses, and all from an offset on
+abbrev pub pseudo : ℕ → ℕ → List ℕ → List ℕ
+pseudo start offset p = take 8 (drop (start + 12) p) ++ drop offset p
+
+pub length_addresses : (q : List ℕ) (start : ℕ) → start + 20 ≤ length q → length (take 8 (drop (start + 12) q)) ≡ 8
+length_addresses q start room = omega (arith, length-take 8 (drop (start + 12) q), length-drop (start + 12) q, room)
+
+pub append_byte : (xs ys : List ℕ) (k v : ℕ) → length xs ≡ 8 → set (xs ++ ys) (8 + k) v ≡ xs ++ set ys k v
+append_byte xs ys k v len =
+    let back : 8 + k - 8 ≡ k = omega arith in
+    set-append_right xs ys 8 (8 + k) v len (omega arith) ∙ ap (λ j. xs ++ set ys j v) back
+
+module _ (size start offset : ℕ) (past : start + 20 ≤ offset) (room : offset ≤ size) where
+  pub pair_shows : Shows (pseudo start offset) size (start + 12) 8 0
+  pair_shows = record {
+    written = λ q v i j len is lt.
+        rw (none_before i, byte_in q (start + 12) 8 i j v is lt, drop-set-lt offset q j v (omega (arith, is, lt, past)))
+        (sym (set-append_left _ (drop offset q) i v (omega (arith, length_addresses q start (omega (arith, past, room, len)), lt))));
+    room = λ q i len lt. omega (
+      arith,
+      length-append (take 8 (drop (start + 12) q)) (drop offset q),
+      length_addresses q start (omega (arith, past, room, len)),
+      lt,
+    );
+  }
+
+  pub payload_shows : Shows (pseudo start offset) size offset (size - offset) 8
+  payload_shows = record {
+    written = λ q v i j len is lt.
+        rw (byte_after q (start + 12) 8 j v (omega (arith, is, past)), is, drop-set-add offset q i v)
+        (sym (append_byte _ (drop offset q) i v (length_addresses q start (omega (arith, past, room, len)))));
+    room = λ q i len lt. omega (
+      arith,
+      length-append (take 8 (drop (start + 12) q)) (drop offset q),
+      length_addresses q start (omega (arith, past, room, len)),
+      length-drop offset q,
+      len,
+      lt,
+    );
+  }
+
+-- ---- bytes written into `p`, and the words that they change under a checksum
+
+pub record Writes (over : List ℕ → List ℕ) (p : List ℕ) (w : ChecksumDelta) (q : List ℕ) : Type 0 where
+  pub len : length q ≡ length p
+  pub covers : Covers w (over p) (over q)
+
+abbrev pub no_change : ChecksumDelta
+no_change = record { old = 0; new = 0; is_same = true }
+
+pub nothing_written : (over : List ℕ → List ℕ) (p : List ℕ) → Writes over p no_change p
+nothing_written over p = record { len = refl; covers = record { same = λ _. refl; other = λ _. refl; sum = refl } }
+
+pub alone : {over : List ℕ → List ℕ} {p q : List ℕ} {w : ChecksumDelta} → Writes over p (combined no_change w) q → Writes over p w q
+alone {over} {p} {q} {w} c = record { len = c.len; covers = counted_as (combined no_change w) w refl (omega arith) c.covers }
+
+-- a write beside what the checksum covers
+pub hidden : (over : List ℕ → List ℕ) (p : List ℕ) {w : ChecksumDelta} (q r : List ℕ) → length r ≡ length q → over r ≡ over q
+    → Writes over p w q → Writes over p w r
+hidden over p q r len is c = record { len = len ∙ c.len; covers = rw is c.covers }
+
+-- an unchanged byte
+abbrev pub Stays : List ℕ → List ℕ → ℕ → Type 0
+Stays p q j = get_or q j 0 ≡ get_or p j 0
+
+module _ (over : List ℕ → List ℕ) (p : List ℕ) {low n base : ℕ} (s : Shows over (length p) low n base) where
+  shown : (q : List ℕ) (i j : ℕ) → length q ≡ length p → j ≡ low + i → i < n → get_or (over q) (base + i) 0 ≡ get_or q j 0
+  shown q i j len is lt =
+      ap (λ l. get_or l (base + i) 0) (ap over (sym (set-get_or q j 0)) ∙ s.written q (get_or q j 0) i j len is lt)
+      ∙ get_or-set_same (over q) (base + i) (get_or q j 0) 0 (s.room q i len lt)
+
+  byte_more : (high : Bool) (i j v : ℕ) {w : ChecksumDelta} (q : List ℕ) → high_at true (base + i) ≡ high → j ≡ low + i → i < n
+      → Stays p q j → Writes over p w q → Writes over p (combined w (byte_change high (get_or p j 0) v)) (set q j v)
+  byte_more high i j v {w} q side is lt stays c = record {
+    len = length-set q j v ∙ c.len;
+    covers = rw (s.written q v i j c.len is lt) (byte_covered w high (over p) (over q) (base + i) v (get_or p j 0) side
+        (s.room q i c.len lt) (shown p i j refl is lt) (shown q i j c.len is lt ∙ stays) c.covers);
+  }
+
+  -- the high byte of a word
+  pub high_byte_more : (i j v : ℕ) {w : ChecksumDelta} (q : List ℕ) → (base + i) % 2 ≡ 0 → j ≡ low + i → i < n → Stays p q j
+      → Writes over p w q → Writes over p (combined w (u16_change (get_or p j 0 * 256) (v * 256))) (set q j v)
+  high_byte_more i j v {w} q even is lt stays c =
+      let one = byte_more true i j v q (even_of _ even) is lt stays c in
+      record { len = one.len; covers = counted_as _ _ (high_digit w.is_same (get_or p j 0) v) refl one.covers }
+
+  -- both bytes of a word
+  bytes_more : (i j v : ℕ) {w : ChecksumDelta} (q : List ℕ) → (base + i) % 2 ≡ 0 → j ≡ low + i → i + 1 < n
+      → ((k : ℕ) → j ≤ k → k < j + 2 → Stays p q k) → Writes over p w q
+      → Writes over p (combined (combined w (byte_change true (get_or p j 0) (v / 256)))
+      (byte_change false (get_or p (j + 1) 0) (v % 256))) (with_u16 q j v)
+  bytes_more i j v q even is lt stays c =
+      byte_more false (i + 1) (j + 1) (v % 256) (set q j (v / 256)) (odd_of (base + (i + 1)) (omega (arith, even))) (omega (arith, is)) lt
+      (get_or-set_other q j (j + 1) (v / 256) 0 (omega arith) ∙ stays (j + 1) (omega arith) (omega arith))
+      (byte_more true i j (v / 256) q (even_of _ even) is (omega (arith, lt)) (stays j (omega arith) (omega arith)) c)
+
+  word_sum : (i j v : ℕ) → (base + i) % 2 ≡ 0 → j ≡ low + i → i + 1 < n
+      → words_sum (over (with_u16 p j v)) + u16_at p j ≡ words_sum (over p) + v
+  word_sum i j v even is lt =
+      omega (arith, (bytes_more i j v p even is lt (λ _ _ _. refl) (nothing_written over p)).covers.sum)
+
+module _ (over : List ℕ → List ℕ) (p : List ℕ) (small : (k : ℕ) → get_or p k 0 < 256) {low n base : ℕ}
+    (s : Shows over (length p) low n base) where
+  pub word_more : (i j v : ℕ) {w : ChecksumDelta} (q : List ℕ) → (base + i) % 2 ≡ 0 → j ≡ low + i → i + 1 < n
+      → ((k : ℕ) → j ≤ k → k < j + 2 → Stays p q k) → Writes over p w q
+      → Writes over p (combined w (u16_change (u16_at p j) v)) (with_u16 q j v)
+  word_more i j v {w} q even is lt stays c =
+      let both = bytes_more over p s i j v q even is lt stays c in
+      record {
+        len = both.len;
+        covers = counted_as _ _ (word_digits w.is_same (get_or p j 0) (get_or p (j + 1) 0) v (small (j + 1))) (omega arith) both.covers;
+      }
+
+  pub number_more : (i j v : ℕ) {w : ChecksumDelta} (q : List ℕ) → (base + i) % 2 ≡ 0 → j ≡ low + i → i + 3 < n
+      → ((k : ℕ) → j ≤ k → k < j + 4 → Stays p q k) → Writes over p w q
+      → Writes over p (combined w (u32_change (u32_at p j) v)) (with_u32 q j v)
+  number_more i j v {w} q even is lt stays c =
+      let one = word_more i j (v / 65536) q even is (omega (arith, lt)) (λ k le lt. stays k le (omega (arith, lt))) c in
+      let two = word_more (i + 2) (j + 2) (v % 65536) (with_u16 q j (v / 65536)) (omega (arith, even)) (omega (arith, is))
+      (omega (arith, lt)) (λ k le lt. byte_apart q j (v / 65536) k (inr (omega (arith, le)))
+      ∙ stays k (omega (arith, le)) (omega (arith, lt))) one in
+      let below : u16_at p (j + 2) < 65536 = omega (arith, small (j + 2), small (j + 2 + 1)) in
+      record {
+        len = two.len;
+        covers = counted_as _ _ (number_digits w.is_same (u16_at p j) (u16_at p (j + 2)) v below) (omega (arith, below)) two.covers;
+      }
+
 -- ==== A checksum update keeps the sum of what it covers, modulo 65535.
 
 corrected-keeps : (before after checksum now : ℕ) → now + checksum ≡ after + corrected checksum before after → now % 65535 ≡ before % 65535
@@ -89,206 +280,25 @@ all_ones-keeps : (before after checksum now : ℕ)
     → now + checksum ≡ after + or_all_ones (corrected checksum before after) → now % 65535 ≡ before % 65535
 all_ones-keeps before after checksum now e = grind (arith, e)
 
--- the position of the checksum in what it covers
-pub record IsChecksumWord (over : List ℕ → List ℕ) (offset i : ℕ) (old now : List ℕ) : Type 0 where
-  pub written : (w : ℕ) → over (with_u16 now offset w) ≡ with_u16 (over now) i w
-  pub word : u16_at (over now) i ≡ u16_at old offset
-  pub room : i + 1 < length (over now)
-  pub even : IsEven i
+-- the checksum's word stands under it, at an offset that the first byte determines
+module _ (over view : List ℕ → List ℕ) (old now : List ℕ) (fixed : (q : List ℕ) → get_or q 0 0 ≡ get_or old 0 0 → over q ≡ view q)
+    {low n base : ℕ} (s : Shows view (length now) low n base) (i offset : ℕ) (even : (base + i) % 2 ≡ 0) (is : offset ≡ low + i)
+    (room : i + 1 < n) (past : 0 < offset) (first : get_or now 0 0 ≡ get_or old 0 0) (same : u16_at now offset ≡ u16_at old offset) where
+  written_sum : (w : ℕ) → words_sum (over (with_u16 now offset w)) + u16_at old offset ≡ words_sum (over now) + w
+  written_sum w = rw (fixed (with_u16 now offset w) (byte_apart now offset w 0 (inl past) ∙ first), fixed now first, sym same)
+      (word_sum view now s i offset w even is room)
 
-written_sum : (over : List ℕ → List ℕ) (offset i : ℕ) (old now : List ℕ) (w : ℕ) → IsChecksumWord over offset i old now
-    → words_sum (over (with_u16 now offset w)) + u16_at old offset ≡ words_sum (over now) + w
-written_sum over offset i old now w s = rw (s.written w, sym s.word) (words_sum-word (over now) i w s.room s.even.0 s.even.1)
+  by_same : (w : ℕ) → words_sum (over (with_u16 now offset w)) % 65535 ≡ words_sum (over old) % 65535
+      → words_sum (over (if same_bytes (over old) (over now) then now else with_u16 now offset w)) % 65535
+      ≡ words_sum (over old) % 65535
+  by_same w keeps = cond_both (same_bytes (over old) (over now)) now (with_u16 now offset w)
+      (λ l. words_sum (over l) % 65535 ≡ words_sum (over old) % 65535)
+      (λ e. ap (λ l. words_sum l % 65535) (sym (same_bytes-true (over old) (over now) e))) (λ _. keeps)
 
-by_same : (over : List ℕ → List ℕ) (old now later : List ℕ)
-    → words_sum (over later) % 65535 ≡ words_sum (over old) % 65535
-    → words_sum (over (if same_bytes (over old) (over now) then now else later)) % 65535
-    ≡ words_sum (over old) % 65535
-by_same over old now later keeps =
-    cond_both (same_bytes (over old) (over now)) now later (λ l. words_sum (over l) % 65535 ≡ words_sum (over old) % 65535)
-    (λ e. ap (λ l. words_sum l % 65535) (sym (same_bytes-true (over old) (over now) e))) (λ _. keeps)
+  pub update_keeps_sum : words_sum (over (update_checksum over offset old now)) % 65535 ≡ words_sum (over old) % 65535
+  update_keeps_sum = by_same _ (corrected-keeps (words_sum (over old)) (words_sum (over now)) (u16_at old offset) _ (written_sum _))
 
-pub update_keeps_sum : (over : List ℕ → List ℕ) (offset i : ℕ) (old now : List ℕ) → IsChecksumWord over offset i old now
-    → words_sum (over (update_checksum over offset old now)) % 65535 ≡ words_sum (over old) % 65535
-update_keeps_sum over offset i old now s =
-    let w = corrected (u16_at old offset) (words_sum (over old)) (words_sum (over now)) in
-    by_same over old now (with_u16 now offset w)
-    (corrected-keeps (words_sum (over old)) (words_sum (over now)) (u16_at old offset) _ (written_sum over offset i old now w s))
-
-or-false : (b c : Bool) → c ≡ false → (b || c) ≡ b
-or-false true c e = refl
-or-false false c e = e
-
-pub udp_update_keeps_sum : (over : List ℕ → List ℕ) (offset i : ℕ) (old now : List ℕ) → u16_at old offset ≢ 0
-    → IsChecksumWord over offset i old now → words_sum (over (update_udp_checksum over offset old now)) % 65535
-    ≡ words_sum (over old) % 65535
-udp_update_keeps_sum over offset i old now made s =
-    let w = or_all_ones (corrected (u16_at old offset) (words_sum (over old)) (words_sum (over now))) in
-    rw (or-false (same_bytes (over old) (over now)) (u16_at old offset == 0) (ne_eqb _ _ made))
-    (by_same over old now (with_u16 now offset w)
-    (all_ones-keeps (words_sum (over old)) (words_sum (over now)) (u16_at old offset) _ (written_sum over offset i old now w s)))
-
--- ==== Words exchanged one after another under a checksum, among the bytes from an offset on.
-
--- ---- even offsets
-
-pub even_of : (j : ℕ) → j % 2 ≡ 0 → high_at true j ≡ true
-even_of zero e = refl
-even_of (suc zero) e = absurd (omega (arith, e))
-even_of (suc (suc j)) e = even_of j (omega (arith, e))
-
-pub odd_of : (j : ℕ) → j % 2 ≡ 1 → high_at true j ≡ false
-odd_of zero e = absurd (omega (arith, e))
-odd_of (suc zero) e = refl
-odd_of (suc (suc j)) e = odd_of j (omega (arith, e))
-
-pub is_even : (j : ℕ) → j % 2 ≡ 0 → IsEven j
-is_even j e = (even_of j e, odd_of (j + 1) (omega (arith, e)))
-
-pub even_len : (bytes : List ℕ) → header_len bytes % 2 ≡ 0
-even_len bytes = omega arith
-
--- ---- words exchanged one after another
-
-pub covers_to : (words : ChecksumDelta) (before after later : List ℕ) → later ≡ after → Covers words before after
-    → Covers words before later
-covers_to words before after later e c = record {
-  same = λ h. c.same h ∙ sym e;
-  other = λ same. c.other (same ∙ e);
-  sum = ap (λ l. words_sum l + words.old) e ∙ c.sum;
-}
-
-pub scaled : (a b : ℕ) → a * 256 ≡ b * 256 → a ≡ b
-scaled a b e = omega (arith, e)
-
-pub more : (w v : ChecksumDelta) (xs ys zs : List ℕ) → Covers w xs ys → Covers v ys zs → (xs ≡ zs → ys ≡ zs) → Covers (combined w v) xs zs
-more w v xs ys zs c d back = record {
-  same = λ h.
-      let parts = and_parts _ _ h in
-      c.same parts.0 ∙ d.same parts.1;
-  other = λ e. and_from _ _ (c.other (e ∙ sym (back e))) (d.other (back e));
-  sum = omega (arith, c.sum, d.sum);
-}
-
--- the order of the words is free
-pub swapped : (w v : ChecksumDelta) (xs ys : List ℕ) → Covers (combined w v) xs ys → Covers (combined v w) xs ys
-swapped w v xs ys c = record {
-  same = λ h.
-      let parts = and_parts v.is_same w.is_same h in
-      c.same (and_from w.is_same v.is_same parts.1 parts.0);
-  other = λ e.
-      let parts = and_parts w.is_same v.is_same (c.other e) in
-      and_from v.is_same w.is_same parts.1 parts.0;
-  sum = omega (arith, c.sum);
-}
-
--- no word more
-pub none_more : (w : ChecksumDelta) (xs ys : List ℕ) → Covers w xs ys → Covers (combined w (u16_change 0 0)) xs ys
-none_more w xs ys c = record {
-  same = λ h. c.same (and_parts _ _ h).0;
-  other = λ e. and_from _ _ (c.other e) refl;
-  sum = omega (arith, c.sum);
-}
-
-pub word_here : (ys : List ℕ) (i n old : ℕ) → old ≡ u16_at ys i → i + 1 < length ys → IsEven i → get_or ys i 0 < 256
-    → get_or ys (i + 1) 0 < 256 → Covers (u16_change old n) ys (with_u16 ys i n)
-word_here ys i n old is lt even high low = record {
-  same = λ h. sym (word_kept ys i n high low (sym (eqb-true old n h) ∙ is));
-  other = λ e. eq-eqb old n (is ∙ ap (λ l. u16_at l i) e ∙ word_written ys i n lt);
-  sum = rw is (words_sum-word ys i n lt even.0 even.1);
-}
-
-pub number_here : (ys : List ℕ) (i n old : ℕ) → old ≡ u32_at ys i → i + 3 < length ys → IsEven i → IsEven (i + 2)
-    → Bytes4 ys i → Covers (u32_change old n) ys (with_u32 ys i n)
-number_here ys i n old is lt even next small = record {
-  same = λ h. sym (number_kept ys i n small (sym (eqb-true old n h) ∙ is));
-  other = λ e. eq-eqb old n (is ∙ ap (λ l. u32_at l i) e ∙ number_written ys i n lt);
-  sum = rw is (words_sum-number ys i n lt even next small);
-}
-
-pub byte_kept : (ys : List ℕ) (i n : ℕ) → n ≡ get_or ys i 0 → set ys i n ≡ ys
-byte_kept ys i n is = ap (λ v. set ys i v) is ∙ set-get_or ys i 0
-
--- the high byte of a word
-pub byte_here : (ys : List ℕ) (i n old : ℕ) → old ≡ get_or ys i 0 → i < length ys → high_at true i ≡ true
-    → Covers (u16_change (old * 256) (n * 256)) ys (set ys i n)
-byte_here ys i n old is lt high = record {
-  same = λ h. sym (byte_kept ys i n (sym (scaled old n (eqb-true _ _ h)) ∙ is));
-  other = λ e. eq-eqb _ _ (ap (λ v. v * 256) (is ∙ ap (λ l. get_or l i 0) e ∙ get_or-set_same ys i n 0 lt));
-  sum = rw is (rw high at (words_sum-set ys i n lt));
-}
-
--- ---- among the bytes from an offset on
-
--- reads from the bytes from an offset on
-number_of_rest : (xs : List ℕ) (a i j : ℕ) → j ≡ a + i → u32_at (drop a xs) i ≡ u32_at xs j
-number_of_rest xs a i j is =
-    let high = word_of_rest xs a i j is in
-    let low = word_of_rest xs a (i + 2) (j + 2) (omega (arith, is)) in
-    rw (high, low) refl
-
-number_rest_in : (xs : List ℕ) (a i j n : ℕ) → j ≡ a + i → drop a (with_u32 xs j n) ≡ with_u32 (drop a xs) i n
-number_rest_in xs a i j n is = rest_in (with_u16 xs j (n / 65536)) a (i + 2) (j + 2) (n % 65536) (omega (arith, is))
-    ∙ ap (λ l. with_u16 l (i + 2) (n % 65536)) (rest_in xs a i j (n / 65536) is)
-
-pub byte_of_rest : (xs : List ℕ) (a i j : ℕ) → j ≡ a + i → get_or (drop a xs) i 0 ≡ get_or xs j 0
-byte_of_rest xs a i j is = rw is (get_or-drop a xs i 0)
-
--- unchanged bytes
-abbrev pub Stays : List ℕ → List ℕ → ℕ → Type 0
-Stays p q j = get_or q j 0 ≡ get_or p j 0
-
-small_rest : (p q : List ℕ) (a i j : ℕ) → j ≡ a + i → Stays p q j → get_or p j 0 < 256 → get_or (drop a q) i 0 < 256
-small_rest p q a i j is stays small = rw (byte_of_rest q a i j is ∙ stays) small
-
-pub word_more : (a i j n : ℕ) (w : ChecksumDelta) (p q : List ℕ) → j ≡ a + i → i % 2 ≡ 0 → j + 1 < length q → Stays p q j
-    → Stays p q (j + 1) → ((k : ℕ) → get_or p k 0 < 256)
-    → Covers w (drop a p) (drop a q) → Covers (combined w (u16_change (u16_at p j) n)) (drop a p) (drop a (with_u16 q j n))
-word_more a i j n w p q is even room high low small c =
-    let ys = drop a q in
-    let old : u16_at p j ≡ u16_at ys i = sym (word_of_rest q a i j is ∙ rw (high, low) refl) in
-    let long : i + 1 < length ys = omega (arith, room, is, length-drop a q) in
-    let one = small_rest p q a i j is high (small j) in
-    let two = small_rest p q a (i + 1) (j + 1) (omega (arith, is)) low (small (j + 1)) in
-    covers_to _ (drop a p) (with_u16 ys i n) _ (rest_in q a i j n is)
-    (more w (u16_change (u16_at p j) n) (drop a p) ys (with_u16 ys i n) c (word_here ys i n (u16_at p j) old long (is_even i even) one two)
-    (λ e. sym (word_kept ys i n one two (sym (word_written ys i n long) ∙ ap (λ l. u16_at l i) (sym e) ∙ word_of_rest p a i j is ∙ old))))
-
-pub bytes4_rest : (p q : List ℕ) (a i j : ℕ) → j ≡ a + i → ((k : ℕ) → j ≤ k → k < j + 4 → Stays p q k)
-    → ((k : ℕ) → get_or p k 0 < 256) → Bytes4 (drop a q) i
-bytes4_rest p q a i j is stays small = λ k le lt.
-    small_rest p q a k (a + k) refl (stays (a + k) (omega (arith, is, le)) (omega (arith, is, lt))) (small (a + k))
-
-pub number_first : (a i j n : ℕ) (p : List ℕ) → j ≡ a + i → i % 2 ≡ 0 → j + 3 < length p → ((k : ℕ) → get_or p k 0 < 256)
-    → Covers (u32_change (u32_at p j) n) (drop a p) (drop a (with_u32 p j n))
-number_first a i j n p is even room small =
-    let ys = drop a p in
-    covers_to _ ys (with_u32 ys i n) _ (number_rest_in p a i j n is)
-    (number_here ys i n (u32_at p j) (sym (number_of_rest p a i j is)) (omega (arith, room, is, length-drop a p))
-    (is_even i even) (is_even (i + 2) (omega (arith, even))) (bytes4_rest p p a i j is (λ k le lt. refl) small))
-
-pub number_more : (a i j n : ℕ) (w : ChecksumDelta) (p q : List ℕ) → j ≡ a + i → i % 2 ≡ 0 → j + 3 < length q
-    → ((k : ℕ) → j ≤ k → k < j + 4 → Stays p q k) → ((k : ℕ) → get_or p k 0 < 256)
-    → Covers w (drop a p) (drop a q) → Covers (combined w (u32_change (u32_at p j) n)) (drop a p) (drop a (with_u32 q j n))
-number_more a i j n w p q is even room stays small c =
-    let ys = drop a q in
-    let old : u32_at p j ≡ u32_at ys i = sym (number_of_rest q a i j is ∙ number_same q p j stays) in
-    let long : i + 3 < length ys = omega (arith, room, is, length-drop a q) in
-    let four = bytes4_rest p q a i j is stays small in
-    covers_to _ (drop a p) (with_u32 ys i n) _ (number_rest_in q a i j n is)
-    (more w (u32_change (u32_at p j) n) (drop a p) ys (with_u32 ys i n) c
-    (number_here ys i n (u32_at p j) old long (is_even i even) (is_even (i + 2) (omega (arith, even))) four)
-    (λ e. sym (number_kept ys i n four (sym (number_written ys i n long) ∙ ap (λ l. u32_at l i) (sym e)
-    ∙ number_of_rest p a i j is ∙ old))))
-
-pub byte_more : (a i j n : ℕ) (w : ChecksumDelta) (p q : List ℕ) → j ≡ a + i → i % 2 ≡ 0 → j < length q → Stays p q j
-    → Covers w (drop a p) (drop a q) → Covers (combined w (u16_change (get_or p j 0 * 256) (n * 256))) (drop a p) (drop a (set q j n))
-byte_more a i j n w p q is even room stays c =
-    let ys = drop a q in
-    let old : get_or p j 0 ≡ get_or ys i 0 = sym (byte_of_rest q a i j is ∙ stays) in
-    let long : i < length ys = omega (arith, room, is, length-drop a q) in
-    let rest : drop a (set q j n) ≡ set ys i n = rw is (drop-set-add a q i n) in
-    covers_to _ (drop a p) (set ys i n) _ rest
-    (more w (u16_change (get_or p j 0 * 256) (n * 256)) (drop a p) ys (set ys i n) c
-    (byte_here ys i n (get_or p j 0) old long (is_even i even).0)
-    (λ e. sym (byte_kept ys i n (sym (get_or-set_same ys i n 0 long) ∙ ap (λ l. get_or l i 0) (sym e) ∙ byte_of_rest p a i j is ∙ old))))
+  pub udp_update_keeps_sum : u16_at old offset ≢ 0
+      → words_sum (over (update_udp_checksum over offset old now)) % 65535 ≡ words_sum (over old) % 65535
+  udp_update_keeps_sum made = rw (ne_eqb _ _ made, or-false (same_bytes (over old) (over now)))
+      (by_same _ (all_ones-keeps (words_sum (over old)) (words_sum (over now)) (u16_at old offset) _ (written_sum _)))

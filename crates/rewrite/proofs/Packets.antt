@@ -1,32 +1,24 @@
 -- A rewritten packet passes the tests that the original passed, and keeps the error of its checksum.
-use Rattle.std.proofs.Common.{◌≡◌, ◌≢◌, ℕ, ◌+◌, ◌*◌, ◌%◌, ◌<◌, ◌≤◌, ◌⊎◌, inl, inr, Option, Some, None, List}
-use Rattle.std.proofs.Common.{length, suc, get_or, false, refl, ap, ◌∙◌, arith, drop, take, length-take}
-use Rattle.std.proofs.Common.{length-drop, ◌/◌, ⊎_elim, sym, ◌-◌, ◌++◌, set, length-append}
+use Rattle.rewrite.specs.Rewritten.{corrected, payload_in, header_in, write_if_some, pseudo_header_and_payload, update_checksum, update_udp_checksum, replaced}
+use Rattle.rewrite.specs.Rewritten.{update_transport_checksum, update_checksums, same_bytes, with_destination, with_numbers, with_ports, with_source, with_ttl}
+use Rattle.rewrite.proofs.Checksums.{Shows, payload_shows, rest_shows, head_shows, pseudo, head_of, update_keeps_sum, udp_update_keeps_sum}
+use Rattle.std.proofs.Common.{◌≡◌, ◌≢◌, ℕ, ◌+◌, ◌*◌, ◌%◌, ◌<◌, ◌≤◌, ◌⊎◌, inl, inr, Option, Some, None, List, length, suc, get_or, false, refl, ap, ◌∙◌, arith}
+use Rattle.std.proofs.Common.{drop, take, length-take, length-drop, ◌/◌, ⊎_elim, sym, ◌-◌}
 use Rattle.std.specs.Prelude.{◌==◌, ◌||◌}
-use Rattle.std.proofs.lemmas.List.{get_or-set_other, get_or-take, get_or-drop, set-append_right}
+use Rattle.std.proofs.lemmas.List.{get_or-set_other, get_or-take, get_or-drop}
 use Rattle.ip_headers.specs.Bytes.{u16_at, with_u16, byte_at}
-use Rattle.ip_headers.specs.Header.{payload_at, protocol_at, header_len, payload_of, protocol, total_len}
-use Rattle.ip_headers.specs.Header.{header}
+use Rattle.ip_headers.specs.Header.{payload_at, protocol_at, header_len, payload_of, protocol, total_len, header}
 use Rattle.rewrite.specs.declared.change.Change.{Change}
 use Rattle.rewrite.specs.declared.change.PortsOrIdentifier.{PortsOrIdentifier}
 use Rattle.rewrite.specs.declared.change.PortsOrIdentifier.TheVariants.{Ports, Identifier}
-use Rattle.rewrite.specs.Rewritten.{payload_in, header_in, write_if_some, pseudo_header_and_payload}
-use Rattle.rewrite.specs.Rewritten.{update_checksum, update_udp_checksum, replaced, update_transport_checksum}
-use Rattle.rewrite.specs.Rewritten.{update_checksums, same_bytes, with_destination, with_numbers, with_ports}
-use Rattle.rewrite.specs.Rewritten.{with_source, with_ttl}
-use Rattle.rewrite.proofs.Words.{byte_apart, number_byte_apart, SameAt, either_by, named_by, numbers_by}
-use Rattle.rewrite.proofs.Words.{same_at, transport_by, AsLong, as_long, replaced_by, update_by, still_ones}
-use Rattle.rewrite.proofs.Words.{word_in, word_of_part, word_same, word_after, word_before, rest_before}
-use Rattle.rewrite.proofs.Words.{rest_in, word_of_rest, IsEven}
+use Rattle.rewrite.proofs.Words.{byte_apart, number_byte_apart, SameAt, either_by, named_by, numbers_by, same_at, transport_by, AsLong, as_long, replaced_by}
+use Rattle.rewrite.proofs.Words.{update_by, still_ones, word_same, word_before, rest_before}
 use Rattle.rewrite.proofs.Datagrams.{by_icmp, by_tcp, by_udp, by_protocol, is_icmp}
 use Rattle.ip_headers.specs.Passing.{Passes}
-use Rattle.ip_headers.specs.Transport.{tcp_is_malformed, transport_is_malformed}
-use Rattle.ip_headers.specs.Transport.{udp_is_malformed}
+use Rattle.ip_headers.specs.Transport.{tcp_is_malformed, transport_is_malformed, udp_is_malformed}
 use Rattle.rewrite.specs.steps.Fields.{HasFields, len_of}
 use Rattle.std.proofs.lemmas.Bool.{ne_eqb, cases_eq}
 use Rattle.ip_headers.specs.Sum.{ones_sum_of, words_sum}
-use Rattle.rewrite.proofs.Checksums.{IsChecksumWord, update_keeps_sum, udp_update_keeps_sum}
-use Rattle.std.proofs.lemmas.Grind.{common_steps}
 
 -- ==== The rewritten packet, byte by byte; the list's elements may be any numbers.
 
@@ -104,30 +96,24 @@ sent_byte p change k lt apart other past = sent_header p change k lt apart ∙ t
 
 -- ---- the payload, by protocol
 
-sent_past : (p : List ℕ) (change : Change) (k : ℕ) → 12 ≤ payload_at 0 p → payload_at 0 p ≤ k
-    → get_or (sent p change) k 0 ≡ get_or (checksum_updated p change) k 0
-sent_past p change k long past = update_byte (header_in 0) 10 p (checksum_updated p change) k (inr (omega (arith, long, past)))
+module _ (p : List ℕ) (change : Change) (k : ℕ) (long : 20 ≤ header_len p) (past : payload_at 0 p ≤ k) where
+  sent_past : get_or (sent p change) k 0 ≡ get_or (checksum_updated p change) k 0
+  sent_past = update_byte (header_in 0) 10 p (checksum_updated p change) k (inr (omega (arith, long, past)))
 
-pub sent_tcp : (p : List ℕ) (change : Change) (k : ℕ) → 12 ≤ payload_at 0 p → protocol_at 0 p ≡ 6
-    → payload_at 0 p + 18 ≤ length p → payload_at 0 p ≤ k → (k < payload_at 0 p + 16) ⊎ (payload_at 0 p + 17 < k)
-    → get_or (sent p change) k 0 ≡ get_or (replaced 0 p change) k 0
-sent_tcp p change k long is room past apart =
-    sent_past p change k long past ∙ ap (λ l. get_or l k 0) (by_tcp 0 p (replaced 0 p change) is room)
-    ∙ update_byte (pseudo_header_and_payload 0) (payload_at 0 p + 16) p (replaced 0 p change) k (grind arith)
+  pub sent_tcp : protocol_at 0 p ≡ 6 → payload_at 0 p + 18 ≤ length p → (k < payload_at 0 p + 16) ⊎ (payload_at 0 p + 17 < k)
+      → get_or (sent p change) k 0 ≡ get_or (replaced 0 p change) k 0
+  sent_tcp is room apart = sent_past ∙ ap (λ l. get_or l k 0) (by_tcp 0 p (replaced 0 p change) is room)
+      ∙ update_byte (pseudo_header_and_payload 0) (payload_at 0 p + 16) p (replaced 0 p change) k (grind arith)
 
-pub sent_udp : (p : List ℕ) (change : Change) (k : ℕ) → 12 ≤ payload_at 0 p → protocol_at 0 p ≡ 17 → payload_at 0 p ≤ k
-    → (k < payload_at 0 p + 6) ⊎ (payload_at 0 p + 7 < k)
-    → get_or (sent p change) k 0 ≡ get_or (replaced 0 p change) k 0
-sent_udp p change k long is past apart =
-    sent_past p change k long past ∙ ap (λ l. get_or l k 0) (by_udp 0 p (replaced 0 p change) is)
-    ∙ udp_update_byte (pseudo_header_and_payload 0) (payload_at 0 p + 6) p (replaced 0 p change) k (grind arith)
+  pub sent_udp : protocol_at 0 p ≡ 17 → (k < payload_at 0 p + 6) ⊎ (payload_at 0 p + 7 < k)
+      → get_or (sent p change) k 0 ≡ get_or (replaced 0 p change) k 0
+  sent_udp is apart = sent_past ∙ ap (λ l. get_or l k 0) (by_udp 0 p (replaced 0 p change) is)
+      ∙ udp_update_byte (pseudo_header_and_payload 0) (payload_at 0 p + 6) p (replaced 0 p change) k (grind arith)
 
-pub sent_icmp : (p : List ℕ) (change : Change) (k : ℕ) → 12 ≤ payload_at 0 p → protocol_at 0 p ≡ 1 → payload_at 0 p ≤ k
-    → (k < payload_at 0 p + 2) ⊎ (payload_at 0 p + 3 < k)
-    → get_or (sent p change) k 0 ≡ get_or (replaced 0 p change) k 0
-sent_icmp p change k long is past apart =
-    sent_past p change k long past ∙ ap (λ l. get_or l k 0) (by_icmp 0 p (replaced 0 p change) is)
-    ∙ update_byte (payload_in 0) (payload_at 0 p + 2) p (replaced 0 p change) k (grind arith)
+  pub sent_icmp : protocol_at 0 p ≡ 1 → (k < payload_at 0 p + 2) ⊎ (payload_at 0 p + 3 < k)
+      → get_or (sent p change) k 0 ≡ get_or (replaced 0 p change) k 0
+  sent_icmp is apart = sent_past ∙ ap (λ l. get_or l k 0) (by_icmp 0 p (replaced 0 p change) is)
+      ∙ update_byte (payload_in 0) (payload_at 0 p + 2) p (replaced 0 p change) k (grind arith)
 
 -- the written ports or identifier, by protocol
 pub ports_byte : (t : List ℕ) (numbers : Option PortsOrIdentifier) (number offset k : ℕ) → protocol_at 0 t ≡ number
@@ -148,30 +134,18 @@ icmp_byte t (Some (Ports from to)) number offset k is here none before = rw (is,
 icmp_byte t (Some (Identifier other)) number offset k is here none before =
     either_by (SameAt k t) _ _ t (byte_apart t (payload_at 0 t + 4) other k (inl (omega (arith, here, before)))) refl
 
-pub sent_tcp_byte : (p : List ℕ) (change : Change) (k : ℕ) → 20 ≤ payload_at 0 p → protocol_at 0 p ≡ 6
-    → payload_at 0 p + 18 ≤ length p → payload_at 0 p + 4 ≤ k → (k < payload_at 0 p + 16) ⊎ (payload_at 0 p + 17 < k)
-    → get_or (sent p change) k 0 ≡ get_or p k 0
-sent_tcp_byte p change k long is room past apart =
-    sent_tcp p change k (omega (arith, long)) is room (omega (arith, past)) apart
-    ∙ ports_byte (timed p change) change.numbers 6 (payload_at 0 p) k (timed_protocol p change ∙ is) (timed_payload p change) refl past
-    ∙ timed_byte p change k (omega (arith, long, past)) (inr (omega (arith, long, past)))
+module _ (p : List ℕ) (change : Change) (k : ℕ) (long : 20 ≤ header_len p) where
+  past_ports : (number : ℕ) → protocol_at 0 p ≡ number → (number == 1) ≡ false → payload_at 0 p + 4 ≤ k
+      → get_or (replaced 0 p change) k 0 ≡ get_or p k 0
+  past_ports number is none past =
+      ports_byte (timed p change) change.numbers number (payload_at 0 p) k (timed_protocol p change ∙ is) (timed_payload p change) none past
+      ∙ timed_byte p change k (omega (arith, long, past)) (inr (omega (arith, long, past)))
 
-pub sent_udp_byte : (p : List ℕ) (change : Change) (k : ℕ) → 20 ≤ payload_at 0 p → protocol_at 0 p ≡ 17
-    → payload_at 0 p + 4 ≤ k → (k < payload_at 0 p + 6) ⊎ (payload_at 0 p + 7 < k)
-    → get_or (sent p change) k 0 ≡ get_or p k 0
-sent_udp_byte p change k long is past apart =
-    sent_udp p change k (omega (arith, long)) is (omega (arith, past)) apart
-    ∙ ports_byte (timed p change) change.numbers 17 (payload_at 0 p) k (timed_protocol p change ∙ is) (timed_payload p change) refl past
-    ∙ timed_byte p change k (omega (arith, long, past)) (inr (omega (arith, long, past)))
-
--- type and code
-pub sent_icmp_byte : (p : List ℕ) (change : Change) (k : ℕ) → 20 ≤ payload_at 0 p → protocol_at 0 p ≡ 1
-    → payload_at 0 p ≤ k → k < payload_at 0 p + 2 → get_or (sent p change) k 0 ≡ get_or p k 0
-sent_icmp_byte p change k long is past before =
-    sent_icmp p change k (omega (arith, long)) is past (inl before)
-    ∙ icmp_byte (timed p change) change.numbers 1 (payload_at 0 p) k (timed_protocol p change ∙ is)
-    (timed_payload p change) refl (omega (arith, before))
-    ∙ timed_byte p change k (omega (arith, long, past)) (inr (omega (arith, long, past)))
+  -- type, code and checksum
+  pub before_identifier : protocol_at 0 p ≡ 1 → payload_at 0 p ≤ k → k < payload_at 0 p + 4 → get_or (replaced 0 p change) k 0 ≡ get_or p k 0
+  before_identifier is past before =
+      icmp_byte (timed p change) change.numbers 1 (payload_at 0 p) k (timed_protocol p change ∙ is) (timed_payload p change) refl before
+      ∙ timed_byte p change k (omega (arith, long, past)) (inr (omega (arith, long, past)))
 
 -- ==== Lengths of packets, and that their fields are there.
 
@@ -220,29 +194,16 @@ length-carried start old now = transport_by (AsLong now) 0 (as_long now) start o
 
 -- ---- the sum of the header
 
-header_checksum_word : (p : List ℕ) (change : Change) → Passes p → IsChecksumWord (header_in 0) 10 10 p (checksum_updated p change)
-header_checksum_word p change ok =
-    let n = header_len p in
-    let now = checksum_updated p change in
-    let long : 20 ≤ n = ok.head.long in
-    let len : length now ≡ length p = length-carried 0 p (replaced 0 p change) ∙ length-replaced 0 p change in
-    let same : (k : ℕ) → k < n → get_or now k 0 ≡ get_or (timed p change) k 0 =
-    λ k lt. checksum_updated_header p change k (omega (arith, lt)) in
-    let first : header_len now ≡ n =
-    ap (λ b. b % 16 * 4) (same 0 (omega (arith, long)) ∙ timed_byte p change 0 (omega arith) (inl (omega arith))) in
-    let high : get_or now 10 0 ≡ get_or p 10 0 = same 10 (omega (arith, long)) ∙ timed_byte p change 10 (omega arith) (inl (omega arith)) in
-    let low : get_or now 11 0 ≡ get_or p 11 0 = same 11 (omega (arith, long)) ∙ timed_byte p change 11 (omega arith) (inl (omega arith)) in
-    record {
-      written = λ w.
-          let kept : header_len (with_u16 now 10 w) ≡ header_len now = ap (λ b. b % 16 * 4) (byte_apart now 10 w 0 (inl (omega arith))) in
-          ap (λ k. take k (with_u16 now 10 w)) kept ∙ word_in now 0 (header_len now) 10 10 w refl (omega (arith, first, long));
-      word = word_of_part now 0 (header_len now) 10 10 refl (omega (arith, first, long)) ∙ rw (high, low) refl;
-      room = omega (arith, length-take (header_len now) now, first, len, long, ok.head.head, ok.head.whole);
-      even = (refl, refl);
-    }
-
 pub header_keeps : (p : List ℕ) (change : Change) → Passes p → words_sum (header (sent p change)) % 65535 ≡ words_sum (header p) % 65535
-header_keeps p change ok = update_keeps_sum (header_in 0) 10 10 p (checksum_updated p change) (header_checksum_word p change ok)
+header_keeps p change ok =
+    let now = checksum_updated p change in
+    let len : length now ≡ length p = length-carried 0 p (replaced 0 p change) ∙ length-replaced 0 p change in
+    let same : (k : ℕ) → k ≢ 8 → k < 12 → get_or now k 0 ≡ get_or p k 0 = λ k other lt.
+    checksum_updated_header p change k (omega (arith, lt, ok.head.long)) ∙ timed_byte p change k other (inl lt) in
+    update_keeps_sum (header_in 0) (head_of 0 (header_len p)) p now (λ q e. ap (λ b. take (b % 16 * 4) q) e)
+    (head_shows (length now) 0 (header_len p) (omega (arith, len, ok.head.head, ok.head.whole))) 10 10 refl refl
+    (omega (arith, ok.head.long)) (omega arith) (same 0 (omega arith) (omega arith))
+    (word_same now p 10 (λ k le lt. same k (omega (arith, le)) (omega (arith, lt))))
 
 -- ---- the tests on the payload
 
@@ -328,13 +289,14 @@ sent_passes p change ok =
     let tcp : protocol p ≡ 6 → get_or (drop h (take n q)) 12 0 ≡ get_or (drop h (take n p)) 12 0 = λ six.
     let enough = tcp_long (payload_of p) (rw six at ok.transport) in
     payload_byte q h n 12 (omega (arith, enough, room))
-    ∙ sent_tcp_byte p change (h + 12) (omega (arith, long)) six (tcp_room p ok six) (omega arith)
-    (inl (omega arith)) ∙ sym (payload_byte p h n 12 (omega (arith, enough, room))) in
+    ∙ sent_tcp p change (h + 12) long (omega arith) six (tcp_room p ok six) (inl (omega arith))
+    ∙ past_ports p change (h + 12) long 6 six refl (omega arith) ∙ sym (payload_byte p h n 12 (omega (arith, enough, room))) in
     let udp : protocol p ≡ 17 → u16_at (drop h (take n q)) 4 ≡ u16_at (drop h (take n p)) 4 = λ seventeen.
     let enough = udp_long (payload_of p) (rw seventeen at ok.transport) in
     word_same (drop h (take n q)) (drop h (take n p)) 4 (λ k past lt.
     payload_byte q h n k (omega (arith, enough, room, lt))
-    ∙ sent_udp_byte p change (h + k) (omega (arith, long)) seventeen (omega (arith, past)) (inl (omega (arith, lt)))
+    ∙ sent_udp p change (h + k) long (omega arith) seventeen (inl (omega (arith, lt)))
+    ∙ past_ports p change (h + k) long 17 seventeen refl (omega (arith, past))
     ∙ sym (payload_byte p h n k (omega (arith, enough, room, lt)))) in
     passes_by p q ok same len
     (still_ones (header p) (header q) (header_keeps p change ok) ok.head.sum
@@ -353,149 +315,67 @@ replaced_front : (p : List ℕ) (change : Change) (k : ℕ) → k < payload_at 0
 replaced_front p change k lt = named_byte (with_numbers 0) (timed p change) change.numbers k
     (λ n. numbers_byte 0 (timed p change) n k (rw (timed_payload p change) lt))
 
-replaced_payload : (p : List ℕ) (change : Change) → 20 ≤ payload_at 0 p → payload_at 0 (replaced 0 p change) ≡ payload_at 0 p
-replaced_payload p change long = payload_same (replaced 0 p change) p
-    (replaced_front p change 0 (omega (arith, long)) ∙ timed_byte p change 0 (omega arith) (inl (omega arith)))
+module _ (p : List ℕ) (change : Change) (ok : Passes p) where
+  abbrev offset : ℕ
+  offset = payload_at 0 p
 
--- ---- the header checksum isn't under the transport checksum
+  abbrev r : List ℕ
+  r = replaced 0 p change
 
-payload_beside : (bytes : List ℕ) (w : ℕ) → 20 ≤ payload_at 0 bytes
-    → payload_in 0 (with_u16 bytes 10 w) ≡ payload_in 0 bytes
-payload_beside bytes w long =
-    let here : payload_at 0 (with_u16 bytes 10 w) ≡ payload_at 0 bytes =
-    payload_same (with_u16 bytes 10 w) bytes (byte_apart bytes 10 w 0 (inl (omega arith))) in
-    ap (λ n. drop n (with_u16 bytes 10 w)) here ∙ rest_before bytes (payload_at 0 bytes) 10 w (omega (arith, long))
+  long : 20 ≤ offset
+  long = omega (arith, ok.head.long)
 
-pseudo_beside : (bytes : List ℕ) (w : ℕ) → 20 ≤ payload_at 0 bytes
-    → pseudo_header_and_payload 0 (with_u16 bytes 10 w) ≡ pseudo_header_and_payload 0 bytes
-pseudo_beside bytes w long =
-    ap (λ l. l ++ payload_in 0 (with_u16 bytes 10 w)) (word_before bytes 12 8 10 w (omega arith))
-    ∙ ap (λ l. take 8 (drop 12 bytes) ++ l) (payload_beside bytes w long)
+  first : get_or r 0 0 ≡ get_or p 0 0
+  first = replaced_front p change 0 (omega (arith, long)) ∙ timed_byte p change 0 (omega arith) (inl (omega arith))
 
-checksum_updated_payload : (p : List ℕ) (change : Change) → 20 ≤ payload_at 0 p → payload_at 0 (checksum_updated p change) ≡ payload_at 0 p
-checksum_updated_payload p change long = payload_same (checksum_updated p change) p
-    (checksum_updated_header p change 0 (omega (arith, long)) ∙ timed_byte p change 0 (omega arith) (inl (omega arith)))
+  -- the header checksum isn't under the transport checksum
+  beside_header : (over view : List ℕ → List ℕ) → ((q : List ℕ) → get_or q 0 0 ≡ get_or p 0 0 → over q ≡ view q)
+      → ((q : List ℕ) (w : ℕ) → view (with_u16 q 10 w) ≡ view q) → over (sent p change) ≡ over (checksum_updated p change)
+  beside_header over view fixed beside =
+      let now = checksum_updated p change in
+      let w = corrected (u16_at p 10) (words_sum (header_in 0 p)) (words_sum (header_in 0 now)) in
+      let byte : get_or now 0 0 ≡ get_or p 0 0 =
+      checksum_updated_header p change 0 (omega (arith, long)) ∙ timed_byte p change 0 (omega arith) (inl (omega arith)) in
+      either_by (λ q. over q ≡ over now) (same_bytes (header_in 0 p) (header_in 0 now)) now (with_u16 now 10 w) refl
+      (fixed (with_u16 now 10 w) (byte_apart now 10 w 0 (inl (omega arith)) ∙ byte) ∙ beside now w ∙ sym (fixed now byte))
 
-sent_pseudo : (p : List ℕ) (change : Change) → 20 ≤ payload_at 0 p
-    → pseudo_header_and_payload 0 (sent p change) ≡ pseudo_header_and_payload 0 (checksum_updated p change)
-sent_pseudo p change long =
-    let now = checksum_updated p change in
-    either_by (λ q. pseudo_header_and_payload 0 q ≡ pseudo_header_and_payload 0 now)
-    (same_bytes (header_in 0 p) (header_in 0 now)) now _ refl
-    (pseudo_beside now _ (omega (arith, long, checksum_updated_payload p change long)))
+  pseudo_fixed : (q : List ℕ) → get_or q 0 0 ≡ get_or p 0 0 → pseudo_header_and_payload 0 q ≡ pseudo 0 offset q
+  pseudo_fixed q e = ap (λ b. pseudo 0 (0 + b % 16 * 4) q) e
 
-sent_carried : (p : List ℕ) (change : Change) → 20 ≤ payload_at 0 p
-    → payload_in 0 (sent p change) ≡ payload_in 0 (checksum_updated p change)
-sent_carried p change long =
-    let now = checksum_updated p change in
-    either_by (λ q. payload_in 0 q ≡ payload_in 0 now) (same_bytes (header_in 0 p) (header_in 0 now)) now _ refl
-    (payload_beside now _ (omega (arith, long, checksum_updated_payload p change long)))
+  sent_pseudo : pseudo_header_and_payload 0 (sent p change) ≡ pseudo_header_and_payload 0 (checksum_updated p change)
+  sent_pseudo = beside_header (pseudo_header_and_payload 0) (pseudo 0 offset) pseudo_fixed
+      (λ q w. rw (word_before q 12 8 10 w (omega arith), rest_before q offset 10 w (omega (arith, long))) refl)
 
--- ---- the position of the checksum in what it covers
+  pseudo_shown : Shows (pseudo 0 offset) (length r) offset (length r - offset) 8
+  pseudo_shown = payload_shows (length r) 0 offset long (omega (arith, length-replaced 0 p change, ok.head.head, ok.head.whole))
 
-append_byte : (xs ys : List ℕ) (k v : ℕ) → length xs ≡ 8 → set (xs ++ ys) (8 + k) v ≡ xs ++ set ys k v
-append_byte xs ys k v len =
-    let back : 8 + k - 8 ≡ k = omega arith in
-    set-append_right xs ys 8 (8 + k) v len (omega arith) ∙ ap (λ j. xs ++ set ys j v) back
+  word_past_ports : (number k : ℕ) → protocol p ≡ number → (number == 1) ≡ false → 4 ≤ k → u16_at r (offset + k) ≡ u16_at p (offset + k)
+  word_past_ports number k is none past =
+      word_same r p (offset + k) (λ j le _. past_ports p change j ok.head.long number is none (omega (arith, past, le)))
 
-append_word : (xs ys : List ℕ) (k w : ℕ) → length xs ≡ 8 → with_u16 (xs ++ ys) (8 + k) w ≡ xs ++ with_u16 ys k w
-append_word xs ys k w len =
-    let next : 8 + k + 1 ≡ 8 + (k + 1) = omega arith in
-    ap (λ l. set l (8 + k + 1) (w % 256)) (append_byte xs ys k (w / 256) len)
-    ∙ rw next (append_byte xs (set ys k (w / 256)) (k + 1) (w % 256) len)
+  pub tcp_sum_kept : protocol p ≡ 6
+      → words_sum (pseudo_header_and_payload 0 (sent p change)) % 65535 ≡ words_sum (pseudo_header_and_payload 0 p) % 65535
+  tcp_sum_kept six =
+      let room = tcp_room p ok six in
+      ap (λ l. words_sum l % 65535) (sent_pseudo ∙ ap (λ l. pseudo_header_and_payload 0 l) (by_tcp 0 p r six room))
+      ∙ update_keeps_sum (pseudo_header_and_payload 0) (pseudo 0 offset) p r pseudo_fixed pseudo_shown 16 (offset + 16) refl refl
+      (omega (arith, room, length-replaced 0 p change)) (omega arith) first (word_past_ports 6 16 six refl (omega arith))
 
-pseudo_word : (xs ys : List ℕ) (k : ℕ) → length xs ≡ 8 → u16_at (xs ++ ys) (8 + k) ≡ u16_at ys k
-pseudo_word xs ys k len = grind (arith, common_steps, len)
+  pub udp_sum_kept : protocol p ≡ 17 → u16_at p (offset + 6) ≢ 0
+      → words_sum (pseudo_header_and_payload 0 (sent p change)) % 65535 ≡ words_sum (pseudo_header_and_payload 0 p) % 65535
+  udp_sum_kept seventeen made =
+      let enough = udp_long (payload_of p) (rw seventeen at ok.transport) in
+      ap (λ l. words_sum l % 65535) (sent_pseudo ∙ ap (λ l. pseudo_header_and_payload 0 l) (by_udp 0 p r seventeen))
+      ∙ udp_update_keeps_sum (pseudo_header_and_payload 0) (pseudo 0 offset) p r pseudo_fixed pseudo_shown 6 (offset + 6) refl refl
+      (omega (arith, enough, within p ok, ok.head.whole, length-replaced 0 p change)) (omega arith) first
+      (word_past_ports 17 6 seventeen refl (omega arith)) made
 
-pub payload_checksum_word : (p now : List ℕ) (k : ℕ) → payload_at 0 p + (k + 2) ≤ length now → 20 ≤ payload_at 0 p
-    → payload_at 0 now ≡ payload_at 0 p → IsEven k → u16_at now (payload_at 0 p + k) ≡ u16_at p (payload_at 0 p + k)
-    → IsChecksumWord (payload_in 0) (payload_at 0 p + k) k p now
-payload_checksum_word p now k room long here even same =
-    let offset = payload_at 0 p in
-    let now_is : payload_in 0 now ≡ drop offset now = ap (λ n. drop n now) here in
-    record {
-      written = λ w.
-          let later = with_u16 now (offset + k) w in
-          let first : payload_at 0 later ≡ offset =
-          payload_same later now (byte_apart now (offset + k) w 0 (inl (omega (arith, long)))) ∙ here in
-          ap (λ n. drop n later) first ∙ rest_in now offset k (offset + k) w refl
-          ∙ ap (λ l. with_u16 l k w) (sym now_is);
-      word = ap (λ l. u16_at l k) now_is ∙ word_of_rest now offset k (offset + k) refl ∙ same;
-      room = rw now_is (omega (arith, length-drop offset now, room));
-      even = even;
-    }
-
--- behind the two addresses
-pseudo_checksum_word : (p now : List ℕ) (k : ℕ) → 20 ≤ payload_at 0 p → IsEven (8 + k)
-    → payload_at 0 p + (k + 2) ≤ length now → IsChecksumWord (payload_in 0) (payload_at 0 p + k) k p now
-    → IsChecksumWord (pseudo_header_and_payload 0) (payload_at 0 p + k) (8 + k) p now
-pseudo_checksum_word p now k long even room c =
-    let offset = payload_at 0 p in
-    let pair = take 8 (drop 12 now) in
-    let rest = payload_in 0 now in
-    let len : length pair ≡ 8 = omega (arith, length-take 8 (drop 12 now), length-drop 12 now, room, long) in
-    record {
-      written = λ w.
-          ap (λ l. l ++ payload_in 0 (with_u16 now (offset + k) w)) (word_after now 12 8 (offset + k) w (omega (arith, long)))
-          ∙ ap (λ l. pair ++ l) (c.written w) ∙ sym (append_word pair rest k w len);
-      word = pseudo_word pair rest k len ∙ c.word;
-      room = omega (arith, length-append pair rest, len, c.room);
-      even = even;
-    }
-
--- ---- by the protocol
-
-past_ports : (p : List ℕ) (change : Change) (number k : ℕ) → 20 ≤ payload_at 0 p → protocol_at 0 p ≡ number
-    → (number == 1) ≡ false → payload_at 0 p + 4 ≤ k → get_or (replaced 0 p change) k 0 ≡ get_or p k 0
-past_ports p change number k long is none past =
-    ports_byte (timed p change) change.numbers number (payload_at 0 p) k (timed_protocol p change ∙ is) (timed_payload p change) none past
-    ∙ timed_byte p change k (omega (arith, long, past)) (inr (omega (arith, long, past)))
-
-checksum_past_ports : (p : List ℕ) (change : Change) (number k : ℕ) → Passes p → protocol p ≡ number → (number == 1) ≡ false
-    → 4 ≤ k → IsEven k → IsEven (8 + k) → payload_at 0 p + (k + 2) ≤ length p
-    → IsChecksumWord (pseudo_header_and_payload 0) (payload_at 0 p + k) (8 + k) p (replaced 0 p change)
-checksum_past_ports p change number k ok is none past even even_too room =
-    let q = replaced 0 p change in
-    let long : 20 ≤ payload_at 0 p = omega (arith, ok.head.long) in
-    let room_now : payload_at 0 p + (k + 2) ≤ length q = omega (arith, room, length-replaced 0 p change) in
-    pseudo_checksum_word p q k long even_too room_now
-    (payload_checksum_word p q k room_now long (replaced_payload p change long) even
-    (word_same q p (payload_at 0 p + k) (λ j le _. past_ports p change number j long is none (omega (arith, past, le)))))
-
-pub tcp_sum_kept : (p : List ℕ) (change : Change) → Passes p → protocol p ≡ 6
-    → words_sum (pseudo_header_and_payload 0 (sent p change)) % 65535
-    ≡ words_sum (pseudo_header_and_payload 0 p) % 65535
-tcp_sum_kept p change ok six =
-    ap (λ l. words_sum l % 65535) (sent_pseudo p change (omega (arith, ok.head.long))
-    ∙ ap (λ l. pseudo_header_and_payload 0 l) (by_tcp 0 p (replaced 0 p change) six (tcp_room p ok six)))
-    ∙ update_keeps_sum (pseudo_header_and_payload 0) (payload_at 0 p + 16) 24 p (replaced 0 p change)
-    (checksum_past_ports p change 6 16 ok six refl (omega arith) (refl, refl) (refl, refl) (tcp_room p ok six))
-
-pub udp_sum_kept : (p : List ℕ) (change : Change) → Passes p → protocol p ≡ 17 → u16_at p (payload_at 0 p + 6) ≢ 0
-    → words_sum (pseudo_header_and_payload 0 (sent p change)) % 65535
-    ≡ words_sum (pseudo_header_and_payload 0 p) % 65535
-udp_sum_kept p change ok seventeen made =
-    let enough = udp_long (payload_of p) (rw seventeen at ok.transport) in
-    ap (λ l. words_sum l % 65535) (sent_pseudo p change (omega (arith, ok.head.long))
-    ∙ ap (λ l. pseudo_header_and_payload 0 l) (by_udp 0 p (replaced 0 p change) seventeen))
-    ∙ udp_update_keeps_sum (pseudo_header_and_payload 0) (payload_at 0 p + 6) 14 p (replaced 0 p change) made
-    (checksum_past_ports p change 17 6 ok seventeen refl (omega arith) (refl, refl) (refl, refl)
-    (omega (arith, enough, within p ok, ok.head.whole)))
-
-pub icmp_sum_kept : (p : List ℕ) (change : Change) → Passes p → protocol p ≡ 1
-    → words_sum (payload_in 0 (sent p change)) % 65535 ≡ words_sum (payload_in 0 p) % 65535
-icmp_sum_kept p change ok one =
-    let r = replaced 0 p change in
-    let t = timed p change in
-    let offset = payload_at 0 p in
-    let long : 20 ≤ offset = omega (arith, ok.head.long) in
-    let enough = icmp_long (payload_of p) (rw one at ok.transport) in
-    let same : (k : ℕ) → offset ≤ k → k < offset + 4 → get_or r k 0 ≡ get_or p k 0 = λ k past lt.
-    icmp_byte t change.numbers 1 offset k (timed_protocol p change ∙ one) (timed_payload p change) refl lt
-    ∙ timed_byte p change k (omega (arith, long, past)) (inr (omega (arith, long, past))) in
-    let checksum_word = payload_checksum_word p r 2
-    (omega (arith, enough, within p ok, ok.head.whole, length-replaced 0 p change)) long
-    (replaced_payload p change long) (refl, refl)
-    (word_same r p (offset + 2) (λ k le lt. same k (omega (arith, le)) (omega (arith, lt)))) in
-    ap (λ l. words_sum l % 65535) (sent_carried p change long ∙ ap (λ l. payload_in 0 l) (by_icmp 0 p r one))
-    ∙ update_keeps_sum (payload_in 0) (offset + 2) 2 p r checksum_word
+  pub icmp_sum_kept : protocol p ≡ 1 → words_sum (payload_in 0 (sent p change)) % 65535 ≡ words_sum (payload_in 0 p) % 65535
+  icmp_sum_kept one =
+      let enough = icmp_long (payload_of p) (rw one at ok.transport) in
+      let fixed : (q : List ℕ) → get_or q 0 0 ≡ get_or p 0 0 → payload_in 0 q ≡ drop offset q = λ q e. ap (λ b. drop (0 + b % 16 * 4) q) e in
+      ap (λ l. words_sum l % 65535) (beside_header (payload_in 0) (drop offset) fixed
+      (λ q w. rest_before q offset 10 w (omega (arith, long))) ∙ ap (λ l. payload_in 0 l) (by_icmp 0 p r one))
+      ∙ update_keeps_sum (payload_in 0) (drop offset) p r fixed (rest_shows (length r) offset) 2 (offset + 2) refl refl
+      (omega (arith, enough, within p ok, ok.head.whole, length-replaced 0 p change)) (omega arith) first
+      (word_same r p (offset + 2) (λ k le lt. before_identifier p change k ok.head.long one (omega (arith, le)) (omega (arith, lt))))

@@ -1,8 +1,12 @@
 -- The laws of rewritten packets: with a rewritten quoted datagram, and the tuple of one that was given endpoints.
 -- To be read before it: Words, Checksums, Datagrams, Packets.
-use Rattle.std.proofs.Common.{◌≡◌, ◌≢◌, ℕ, suc, ◌+◌, ◌*◌, ◌%◌, ◌<◌, ◌≤◌, inl, Option, Some, None, List}
-use Rattle.std.proofs.Common.{length, get_or, take, drop, length-take, length-drop, Bool, true, false, refl}
-use Rattle.std.proofs.Common.{sym, ap, ◌∙◌, arith, inr, ⊎_elim, subst}
+use Rattle.rewrite.proofs.Packets.{before_identifier, update_byte, sent, head_by, length-sent, passes_by, payload_byte, sent_passes, within, icmp_long}
+use Rattle.rewrite.proofs.Packets.{icmp_sum_kept, payload_same, tcp_long, udp_long, named_byte, sent_header, sent_icmp, sent_tcp, sent_udp, timed, timed_byte}
+use Rattle.rewrite.proofs.Packets.{timed_payload, timed_protocol, SameHead, same_head, tcp_room}
+use Rattle.rewrite.proofs.Datagrams.{first_of_rest, IsDatagram, carried_at, whole_is, fields_exchanged, fields_room, is_icmp}
+use Rattle.rewrite.proofs.Checksums.{Covers, rest_shows, update_checksum-is, update_keeps_sum}
+use Rattle.std.proofs.Common.{◌≡◌, ◌≢◌, ℕ, suc, ◌+◌, ◌*◌, ◌%◌, ◌<◌, ◌≤◌, inl, Option, Some, None, List, length, get_or, take, drop, length-take, length-drop}
+use Rattle.std.proofs.Common.{Bool, true, false, refl, sym, ap, ◌∙◌, arith, inr, ⊎_elim, subst}
 use Rattle.std.specs.Prelude.{◌==◌, is_some, if◌then◌else◌, ◌||◌}
 use Rattle.std.specs.Option.{option_and, option_map}
 use Rattle.std.proofs.lemmas.Bool.{cond_both, eqb-true, and_parts, leb-true, ne_eqb, cases_eq}
@@ -10,29 +14,18 @@ use Rattle.std.proofs.lemmas.List.{ext_get_or, get_or-take, get_or-drop, get_or-
 use Rattle.ip_headers.specs.declared.tuple.Tuple.{Tuple}
 use Rattle.ip_headers.specs.Sum.{ones_sum_of, words_sum}
 use Rattle.ip_headers.specs.Bytes.{u16_at, with_u16, byte_at, with_u32}
-use Rattle.ip_headers.specs.Header.{header_len, payload_at, payload_of, protocol, total_len, protocol_at}
-use Rattle.ip_headers.specs.Header.{source, destination}
+use Rattle.ip_headers.specs.Header.{header_len, payload_at, payload_of, protocol, total_len, protocol_at, source, destination}
 use Rattle.ip_headers.specs.Passing.{Passes}
 use Rattle.ip_headers.specs.Transport.{icmp_type, transport_is_malformed}
-use Rattle.ip_headers.specs.Tuple.{inner_of, inner_tuple, inner_tuple_of, is_error, is_error_type}
-use Rattle.ip_headers.specs.Tuple.{is_readable, tuple_in, kind_of, port_from, port_to, tuple_of, tuple_with}
+use Rattle.ip_headers.specs.Tuple.{inner_of, inner_tuple, inner_tuple_of, is_error, is_error_type, is_readable, tuple_in, kind_of, port_from, port_to, tuple_of}
+use Rattle.ip_headers.specs.Tuple.{tuple_with}
 use Rattle.rewrite.specs.declared.change.Change.{Change}
 use Rattle.rewrite.specs.Endpoints.{between, PortsMatchKind, ports_or_identifier}
-use Rattle.rewrite.specs.Rewritten.{payload_in, write_if_some, inner_start, update_checksum, rewritten}
-use Rattle.rewrite.specs.Rewritten.{with_endpoints, with_inner, has_identifier, replaced, with_numbers}
-use Rattle.rewrite.specs.Rewritten.{with_ports, with_ttl}
-use Rattle.rewrite.specs.steps.Fields.{HasFields, changed_fields, fields_at, fields_change, len_of}
-use Rattle.rewrite.specs.steps.Fields.{updated_checksum, with_fields}
-use Rattle.rewrite.proofs.Words.{word_same, word_stays, AsLong, SameAt, as_long, either_by, ends_by, named_by}
-use Rattle.rewrite.proofs.Words.{same_at, update_by, length-word, length-number, number_apart, number_same}
-use Rattle.rewrite.proofs.Words.{number_written, word_apart, word_written, timed_by}
-use Rattle.rewrite.proofs.Checksums.{update_checksum-is, byte_of_rest, covers_to, update_keeps_sum}
-use Rattle.rewrite.proofs.Datagrams.{IsDatagram, carried_at, whole_is, fields_exchanged, fields_room, is_icmp}
-use Rattle.rewrite.proofs.Packets.{update_byte, sent, head_by, length-sent, passes_by, payload_byte}
-use Rattle.rewrite.proofs.Packets.{sent_passes, within, icmp_long, payload_checksum_word, icmp_sum_kept}
-use Rattle.rewrite.proofs.Packets.{payload_same, tcp_long, udp_long, named_byte, sent_header, sent_icmp}
-use Rattle.rewrite.proofs.Packets.{sent_icmp_byte, sent_tcp, sent_udp, timed, timed_byte, timed_payload}
-use Rattle.rewrite.proofs.Packets.{timed_protocol, SameHead, same_head, tcp_room}
+use Rattle.rewrite.specs.Rewritten.{payload_in, write_if_some, inner_start, update_checksum, rewritten, with_endpoints, with_inner, has_identifier, replaced}
+use Rattle.rewrite.specs.Rewritten.{with_numbers, with_ports, with_ttl}
+use Rattle.rewrite.specs.steps.Fields.{HasFields, changed_fields, fields_at, fields_change, len_of, updated_checksum, with_fields}
+use Rattle.rewrite.proofs.Words.{word_same, word_stays, AsLong, SameAt, as_long, either_by, ends_by, named_by, same_at, update_by, length-word, length-number}
+use Rattle.rewrite.proofs.Words.{number_apart, number_same, number_written, word_apart, word_written, timed_by}
 use Rattle.ip_headers.specs.declared.tuple.Kind.{Kind}
 use Rattle.ip_headers.specs.declared.tuple.Kind.TheVariants.{Tcp, Udp, EchoRequest, EchoReply, Other}
 use Rattle.rewrite.specs.declared.change.PortsOrIdentifier.TheVariants.{Ports, Identifier}
@@ -140,11 +133,10 @@ inner_sum_kept p t ok one =
     let enough = icmp_long (payload_of p) (rw one at ok.transport) in
     let same : (k : ℕ) → k < offset + 8 → get_or now k 0 ≡ get_or p k 0 = λ k lt. ends_byte (inner_start p) p t k lt in (
       quote_rewritten_byte p t 9 (omega (arith, long)) ∙ one,
-      update_keeps_sum (payload_in 0) (offset + 2) 2 p now
-          (payload_checksum_word p now 2
-          (omega (arith, enough, within p ok, ok.head.whole, length-ends (inner_start p) p t)) long
-          (payload_same now p (same 0 (omega (arith, long)))) (refl, refl)
-          (word_same now p (offset + 2) (λ k _ lt. same k (omega (arith, lt))))),
+      update_keeps_sum (payload_in 0) (drop offset) p now (λ q e. ap (λ b. drop (0 + b % 16 * 4) q) e) (rest_shows (length now) offset)
+          2 (offset + 2) refl refl
+          (omega (arith, enough, within p ok, ok.head.whole, length-ends (inner_start p) p t)) (omega arith)
+          (same 0 (omega (arith, long))) (word_same now p (offset + 2) (λ k _ lt. same k (omega (arith, lt)))),
     )
 
 inner_rewritten_sum_kept : (p : List ℕ) (change : Change) → Passes p → protocol p ≡ 1 → SameBut 1 p (inner_rewritten p change)
@@ -193,9 +185,10 @@ inner_fields p ok h =
     let head = header_len p in
     let room : length inner + (head + 8) ≤ n =
     omega (arith, is.whole, length-drop 8 (payload_of p), length-drop head (take n p), length-take n p) in
+    let place : head + 8 ≡ inner_start p = omega arith in
     let first : get_or inner 0 0 ≡ get_or (drop (inner_start p) p) 0 0 = get_or-drop 8 (payload_of p) 0 0
-    ∙ payload_byte p head n 8 (omega (arith, is.whole, room))
-    ∙ sym (byte_of_rest p (inner_start p) 0 (head + 8) (omega arith)) in
+    ∙ payload_byte p head n 8 (omega (arith, is.whole, room)) ∙ ap (λ k. get_or p k 0) place
+    ∙ sym (first_of_rest p (inner_start p)) in
     let same : header_len inner ≡ header_len (drop (inner_start p) p) = ap (λ b. b % 16 * 4) first in
     record {
       long = omega (arith, same, is.long);
@@ -216,9 +209,8 @@ quote_rewritten_is p t long d room =
     let now = with_endpoints start p t in
     let is : with_fields start p new ≡ now = whole_is start p (between t None) d room in
     let same : (k : ℕ) → k < start → get_or now k 0 ≡ get_or p k 0 = λ k lt. ends_byte start p t k lt in
-    let covers = covers_to words (payload_in 0 p) (drop offset (with_fields start p new)) (payload_in 0 now)
-    (ap (λ k. drop k now) (payload_same now p (same 0 (omega (arith, long)))) ∙ ap (λ l. drop offset l) (sym is))
-    (fields_exchanged offset start p (between t None) refl d room) in
+    let covers : Covers words (payload_in 0 p) (payload_in 0 now) =
+    rw (payload_same now p (same 0 (omega (arith, long))), sym is) (fields_exchanged offset start p (between t None) refl d room) in
     sym (update_checksum-is (payload_in 0) (offset + 2) p now words covers
     (word_stays now p (offset + 2) d.small (λ k _ lt. same k (omega (arith, lt)))))
 
@@ -351,7 +343,6 @@ icmp_identifier p change id ok there e =
     let same = same_head p change ok in
     let one = is_icmp (protocol p) (icmp_type (payload_of p)) there in
     let enough = icmp_long (payload_of p) (rw one at ok.transport) in
-    let long : 12 ≤ offset = omega (arith, ok.head.long) in
     let first : byte_at t offset ≡ icmp_type (payload_of p) =
     timed_byte p change offset (omega (arith, ok.head.long)) (inr (omega (arith, ok.head.long)))
     ∙ sym (first_of_payload p (header_len p) (total_len p) offset (omega arith) (omega (arith, enough, within p ok))) in
@@ -363,7 +354,7 @@ icmp_identifier p change id ok there e =
     rw (same.header, same.total)
     (word_of_payload q (header_len p) (total_len p) 4 (offset + 4) (omega arith) (omega (arith, enough, within p ok))
     ∙ word_same q (replaced 0 p change) (offset + 4)
-    (λ k le _. sent_icmp p change k long one (omega (arith, le)) (inr (omega (arith, le))))
+    (λ k le _. sent_icmp p change k ok.head.long (omega (arith, le)) one (inr (omega (arith, le))))
     ∙ ap (λ l. u16_at l (offset + 4)) r
     ∙ word_written t (offset + 4) id (omega (arith, length-timed p change, enough, within p ok, ok.head.whole)))
 
@@ -398,12 +389,12 @@ suits Tcp p change from to ok is e h =
     let six = tcp_kind (protocol p) (payload_of p) is in
     ports_shown p change 6 from to ok six refl e
     (omega (arith, tcp_long (payload_of p) (rw six at ok.transport), within p ok))
-    (λ k past lt. sent_tcp p change k (omega (arith, ok.head.long)) six (tcp_room p ok six) past (inl (omega (arith, lt))))
+    (λ k past lt. sent_tcp p change k ok.head.long past six (tcp_room p ok six) (inl (omega (arith, lt))))
 suits Udp p change from to ok is e h =
     let seventeen = udp_kind (protocol p) (payload_of p) is in
     ports_shown p change 17 from to ok seventeen refl e
     (omega (arith, udp_long (payload_of p) (rw seventeen at ok.transport), within p ok))
-    (λ k past lt. sent_udp p change k (omega (arith, ok.head.long)) seventeen past (inl (omega (arith, lt))))
+    (λ k past lt. sent_udp p change k ok.head.long past seventeen (inl (omega (arith, lt))))
 suits EchoRequest p change from to ok is e h =
     (icmp_identifier p change from ok (request_kind (protocol p) (payload_of p) is) e, sym h)
 suits EchoReply p change from to ok is e h =
@@ -421,7 +412,8 @@ sent_kind p change ok =
     (kind_same (protocol p) (drop h (take n q)) (drop h (take n p)) (λ one.
     let enough = icmp_long (payload_of p) (rw one at ok.transport) in
     payload_byte q h n 0 (omega (arith, enough, within p ok))
-    ∙ sent_icmp_byte p change (h + 0) (omega (arith, ok.head.long)) one (omega arith) (omega arith)
+    ∙ sent_icmp p change (h + 0) ok.head.long (omega arith) one (inl (omega arith))
+    ∙ before_identifier p change (h + 0) ok.head.long one (omega arith) (omega arith)
     ∙ sym (payload_byte p h n 0 (omega (arith, enough, within p ok)))))
 
 pub rewritten_has_tuple : (p : List ℕ) (t : Tuple) (ttl : Option ℕ) → Passes p

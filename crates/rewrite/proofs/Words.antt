@@ -1,19 +1,16 @@
 -- Bytes, words and numbers: what is written, read and summed.
-use Rattle.std.proofs.Common.{◌≡◌, ℕ, ◌+◌, ◌-◌, ◌/◌, ◌%◌, ◌<◌, ◌≤◌, ◌⊎◌, List, length, get_or, set, take}
-use Rattle.std.proofs.Common.{drop, ap, refl, sym, ◌∙◌, arith, zero, suc, ◌*◌, [], ◌∷◌, ◌++◌, Bool, true}
-use Rattle.std.proofs.Common.{false, inr, None, Option, Some}
-use Rattle.std.proofs.lemmas.List.{set-get_or, drop-set-lt, drop-set-add, take-set-le, get_or-take}
-use Rattle.std.proofs.lemmas.List.{get_or-drop, get_or-set_other, length-set}
+use Rattle.std.proofs.Common.{◌≡◌, ℕ, ◌+◌, ◌-◌, ◌/◌, ◌%◌, ◌<◌, ◌≤◌, ◌⊎◌, List, length, get_or, set, take, drop, ap, refl, sym, ◌∙◌, arith, zero, suc, ◌*◌, []}
+use Rattle.std.proofs.Common.{◌∷◌, Bool, true, false, None, Option, Some}
+use Rattle.std.proofs.lemmas.List.{set-get_or, drop-set-lt, drop-set-add, take-set-le, get_or-take, get_or-drop, get_or-set_other, length-set}
 use Rattle.std.proofs.Math.Seq.{take-set-lt}
 use Rattle.std.proofs.lemmas.Grind.{common_steps}
 use Rattle.byteorder.specs.Endian.{big_number}
 use Rattle.ip_headers.specs.Bytes.{u16_at, u32_at, with_u16, with_u32}
 use mathlib.Core.Bool.{not}
 use Rattle.ip_headers.specs.Sum.{words_sum, ones_sum_of}
-use Rattle.rewrite.specs.Rewritten.{with_ports, header_in, payload_in, pseudo_header_and_payload, replaced}
-use Rattle.rewrite.specs.Rewritten.{same_bytes, update_checksum, update_checksums, update_transport_checksum}
-use Rattle.rewrite.specs.Rewritten.{update_udp_checksum, with_destination, with_endpoints, with_numbers}
-use Rattle.rewrite.specs.Rewritten.{with_source, with_ttl, write_if_some}
+use Rattle.rewrite.specs.Rewritten.{with_ports, header_in, payload_in, pseudo_header_and_payload, replaced, same_bytes, update_checksum, update_checksums}
+use Rattle.rewrite.specs.Rewritten.{update_transport_checksum, update_udp_checksum, with_destination, with_endpoints, with_numbers, with_source, with_ttl}
+use Rattle.rewrite.specs.Rewritten.{write_if_some}
 use Rattle.std.specs.Prelude.{◌==◌, ◌||◌, if◌then◌else◌}
 use Rattle.ip_headers.specs.declared.tuple.Tuple.{Tuple}
 use Rattle.ip_headers.specs.Header.{payload_at, protocol_at}
@@ -90,6 +87,9 @@ word_stays xs p k small same =
 abbrev pub Bytes4 : List ℕ → ℕ → Type 0
 Bytes4 xs i = (k : ℕ) → i ≤ k → k < i + 4 → get_or xs k 0 < 256
 
+pub bytes4 : (xs : List ℕ) (i : ℕ) → ((k : ℕ) → get_or xs k 0 < 256) → Bytes4 xs i
+bytes4 xs i small = λ k le lt. small k
+
 pub number_kept : (xs : List ℕ) (i n : ℕ) → Bytes4 xs i → n ≡ u32_at xs i → with_u32 xs i n ≡ xs
 number_kept xs i n small is =
     let third = small (i + 2) (omega arith) (omega arith) in
@@ -125,32 +125,10 @@ byte_after xs a n j v le = byte_after_by xs a n (j - a) j v (omega (arith, le)) 
 
 -- ---- of a 16-bit word
 
-pub word_in : (xs : List ℕ) (a n i j w : ℕ) → j ≡ a + i → i + 1 < n → take n (drop a (with_u16 xs j w)) ≡ with_u16 (take n (drop a xs)) i w
-word_in xs a n i j w is lt =
-    byte_in (set xs j (w / 256)) a n (i + 1) (j + 1) (w % 256) (omega (arith, is)) lt
-    ∙ ap (λ l. set l (i + 1) (w % 256)) (byte_in xs a n i j (w / 256) is (omega (arith, lt)))
-
 pub word_before : (xs : List ℕ) (a n j w : ℕ) → j + 1 < a → take n (drop a (with_u16 xs j w)) ≡ take n (drop a xs)
 word_before xs a n j w lt = byte_before (set xs j (w / 256)) a n (j + 1) (w % 256) lt ∙ byte_before xs a n j (w / 256) (omega (arith, lt))
 
-pub word_after : (xs : List ℕ) (a n j w : ℕ) → a + n ≤ j → take n (drop a (with_u16 xs j w)) ≡ take n (drop a xs)
-word_after xs a n j w le = byte_after (set xs j (w / 256)) a n (j + 1) (w % 256) (omega (arith, le)) ∙ byte_after xs a n j (w / 256) le
-
--- ---- of a 32-bit number
-
-pub number_in : (xs : List ℕ) (a n i j w : ℕ) → j ≡ a + i → i + 3 < n
-    → take n (drop a (with_u32 xs j w)) ≡ with_u32 (take n (drop a xs)) i w
-number_in xs a n i j w is lt =
-    word_in (with_u16 xs j (w / 65536)) a n (i + 2) (j + 2) (w % 65536) (omega (arith, is)) (omega (arith, lt))
-    ∙ ap (λ l. with_u16 l (i + 2) (w % 65536)) (word_in xs a n i j (w / 65536) is (omega (arith, lt)))
-
 -- ---- the bytes from an offset on
-
-pub rest_in : (xs : List ℕ) (a i j w : ℕ) → j ≡ a + i → drop a (with_u16 xs j w) ≡ with_u16 (drop a xs) i w
-rest_in xs a i j w is =
-    let next : j + 1 ≡ a + (i + 1) = omega (arith, is) in
-    rw (next, is) (drop-set-add a (set xs (a + i) (w / 256)) (i + 1) (w % 256)
-    ∙ ap (λ l. set l (i + 1) (w % 256)) (drop-set-add a xs i (w / 256)))
 
 pub rest_before : (xs : List ℕ) (a j w : ℕ) → j + 1 < a → drop a (with_u16 xs j w) ≡ drop a xs
 rest_before xs a j w lt = drop-set-lt a (set xs j (w / 256)) (j + 1) (w % 256) lt ∙ drop-set-lt a xs j (w / 256) (omega (arith, lt))
@@ -163,18 +141,6 @@ number_rest_before xs a j w lt = rest_before (with_u16 xs j (w / 65536)) a (j + 
 
 pub byte_of_part : (xs : List ℕ) (a n i j : ℕ) → j ≡ a + i → i < n → get_or (take n (drop a xs)) i 0 ≡ get_or xs j 0
 byte_of_part xs a n i j is lt = rw is (get_or-take n (drop a xs) i 0 lt ∙ get_or-drop a xs i 0)
-
-pub word_of_part : (xs : List ℕ) (a n i j : ℕ) → j ≡ a + i → i + 1 < n → u16_at (take n (drop a xs)) i ≡ u16_at xs j
-word_of_part xs a n i j is lt =
-    let high = byte_of_part xs a n i j is (omega (arith, lt)) in
-    let low = byte_of_part xs a n (i + 1) (j + 1) (omega (arith, is)) lt in
-    omega (arith, high, low)
-
-pub number_of_part : (xs : List ℕ) (a n i j : ℕ) → j ≡ a + i → i + 3 < n → u32_at (take n (drop a xs)) i ≡ u32_at xs j
-number_of_part xs a n i j is lt =
-    let high = word_of_part xs a n i j is (omega (arith, lt)) in
-    let low = word_of_part xs a n (i + 2) (j + 2) (omega (arith, is)) (omega (arith, lt)) in
-    omega (arith, high, low)
 
 pub word_of_rest : (xs : List ℕ) (a i j : ℕ) → j ≡ a + i → u16_at (drop a xs) i ≡ u16_at xs j
 word_of_rest xs a i j is =
@@ -224,20 +190,15 @@ pub words_sum-set : (xs : List ℕ) (i v : ℕ) → i < length xs
     → words_sum (set xs i v) + at_place (high_at true i) (get_or xs i 0) ≡ words_sum xs + at_place (high_at true i) v
 words_sum-set xs i v lt = omega (arith, placed-set true xs i v lt, placed_is xs, placed_is (set xs i v))
 
--- a word in place of another
-pub words_sum-word : (xs : List ℕ) (i w : ℕ) → i + 1 < length xs → high_at true i ≡ true → high_at true (i + 1) ≡ false
-    → words_sum (with_u16 xs i w) + u16_at xs i ≡ words_sum xs + w
-words_sum-word xs i w lt high low =
-    let one = rw high at (words_sum-set xs i (w / 256) (omega arith)) in
-    let two = rw low at (words_sum-set (set xs i (w / 256)) (i + 1) (w % 256) (grind (arith, common_steps))) in
-    let same : get_or (set xs i (w / 256)) (i + 1) 0 ≡ get_or xs (i + 1) 0 = grind (arith, common_steps) in
-    omega (arith, one, two, same)
+pub even_of : (j : ℕ) → j % 2 ≡ 0 → high_at true j ≡ true
+even_of zero e = refl
+even_of (suc zero) e = absurd (omega (arith, e))
+even_of (suc (suc j)) e = even_of j (omega (arith, e))
 
--- what is appended to whole words
-pub words_sum-append : (xs ys : List ℕ) → length xs % 2 ≡ 0 → words_sum (xs ++ ys) ≡ words_sum xs + words_sum ys
-words_sum-append [] ys even = omega arith
-words_sum-append (x ∷ []) ys even = absurd (omega (arith, even))
-words_sum-append (x ∷ y ∷ xs) ys even = omega (arith, words_sum-append xs ys (omega (arith, even)))
+pub odd_of : (j : ℕ) → j % 2 ≡ 1 → high_at true j ≡ false
+odd_of zero e = absurd (omega (arith, e))
+odd_of (suc zero) e = refl
+odd_of (suc (suc j)) e = odd_of j (omega (arith, e))
 
 first_counts : (xs : List ℕ) → get_or xs 0 0 ≤ words_sum xs
 first_counts [] = omega arith
@@ -248,57 +209,6 @@ first_counts (x ∷ y ∷ xs) = omega arith
 pub still_ones : (xs ys : List ℕ) → words_sum ys % 65535 ≡ words_sum xs % 65535 → ones_sum_of xs ≡ 65535
     → 0 < get_or ys 0 0 → ones_sum_of ys ≡ 65535
 still_ones xs ys same ones some = grind (arith, first_counts ys)
-
--- ==== The parts of a packet with other fields: its header, its addresses and its payload.
-
--- ---- sums
-
--- the two words of a 32-bit number
-abbrev pub halves : ℕ → ℕ
-halves n = n / 65536 + n % 65536
-
-abbrev pub IsEven : ℕ → Type 0
-IsEven i = (high_at true i ≡ true) × (high_at true (i + 1) ≡ false)
-
-two_more : (a b c o n p m : ℕ) → b + o ≡ a + n → c + p ≡ b + m → c + (o + p) ≡ a + (n + m)
-two_more a b c o n p m one two = omega (arith, one, two)
-
-pub words_sum-number : (xs : List ℕ) (i n : ℕ) → i + 3 < length xs → IsEven i → IsEven (i + 2) → Bytes4 xs i
-    → words_sum (with_u32 xs i n) + halves (u32_at xs i) ≡ words_sum xs + halves n
-words_sum-number xs i n lt even next small =
-    let one = with_u16 xs i (n / 65536) in
-    let len : length one ≡ length xs = length-word xs i (n / 65536) in
-    let high = words_sum-word xs i (n / 65536) (omega (arith, lt)) even.0 even.1 in
-    let low = words_sum-word one (i + 2) (n % 65536) (omega (arith, lt, len)) next.0 next.1 in
-    let same : u16_at one (i + 2) ≡ u16_at xs (i + 2) = word_apart xs i (n / 65536) (i + 2) (inr (omega arith)) in
-    let third = small (i + 2) (omega arith) (omega arith) in
-    let fourth = small (i + 2 + 1) (omega arith) (omega arith) in
-    let split : halves (u32_at xs i) ≡ u16_at xs i + u16_at xs (i + 2) = omega (arith, third, fourth) in
-    rw split (two_more (words_sum xs) (words_sum one) _ (u16_at xs i) (n / 65536) (u16_at xs (i + 2)) (n % 65536) high (rw same at low))
-
--- ---- the header
-
-abbrev pub head_with : List ℕ → ℕ → ℕ → ℕ → List ℕ
-head_with head from to ttl = set (with_u32 (with_u32 head 12 from) 16 to) 8 ttl
-
-pub record IsHead (head : List ℕ) : Type 0 where
-  pub long : 20 ≤ length head
-  pub small : (i : ℕ) → get_or head i 0 < 256
-
-pub bytes4 : (xs : List ℕ) (i : ℕ) → ((k : ℕ) → get_or xs k 0 < 256) → Bytes4 xs i
-bytes4 xs i small = λ k le lt. small k
-
--- ---- the two addresses
-
-abbrev pub pair_with : List ℕ → ℕ → ℕ → List ℕ
-pair_with pair from to = with_u32 (with_u32 pair 0 from) 4 to
-
-pub record IsPair (pair : List ℕ) : Type 0 where
-  pub long : length pair ≡ 8
-  pub small : (i : ℕ) → get_or pair i 0 < 256
-
-pub length-pair : (pair : List ℕ) (from to : ℕ) → length (pair_with pair from to) ≡ length pair
-length-pair pair from to = length-number (with_u32 pair 0 from) 4 to ∙ length-number pair 0 from
 
 -- ==== What holds of a packet, and stays when a byte from an offset on is written, holds of the rewritten packet.
 

@@ -6,10 +6,9 @@ use Rattle.ip_headers.specs.declared.tuple.Tuple.{Tuple}
 use Rattle.rewrite.specs.Rewritten.{replaced, update_checksums}
 use Rattle.rewrite.specs.steps.Fields.{HasFields}
 use Rattle.rewrite.proofs.Packets.{has_fields}
-use Rattle.rewrite.proofs.Rewritten.{inner_fields, inner_rewritten, inner_rewritten_none}
-use Rattle.rewrite.proofs.Rewritten.{inner_rewritten_passes, inner_rewritten_some, read_some, rewritten_is}
-use Rattle.rewrite.proofs.sending.rewrite_packet.Goals as goal
+use Rattle.rewrite.proofs.Rewritten.{inner_fields, inner_rewritten, inner_rewritten_none, inner_rewritten_passes, inner_rewritten_some, read_some, rewritten_is}
 use Rattle.rewrite.proofs.sending.rewrite_packet.Goals.{Joined-quoted_endpoints, in-Some, in_default}
+use Rattle.rewrite.proofs.sending.rewrite_packet.Goals as goal
 
 -- the requested endpoints, where the packet quotes a datagram that can be translated
 asked : (p q : List ℕ) (inner combined : Option Tuple) → p ≡ q → combined ≡ option_and (inner_tuple_of q) inner
