@@ -2,11 +2,11 @@
 -- To be read before it: Words, Checksums, Datagrams, Packets.
 use Rattle.rewrite.proofs.Packets.{before_identifier, update_byte, sent, head_by, length-sent, passes_by, payload_byte, sent_passes, within, icmp_long}
 use Rattle.rewrite.proofs.Packets.{icmp_sum_kept, payload_same, tcp_long, udp_long, named_byte, sent_header, sent_icmp, sent_tcp, sent_udp, timed, timed_byte}
-use Rattle.rewrite.proofs.Packets.{timed_payload, timed_protocol, SameHead, same_head, tcp_room}
+use Rattle.rewrite.proofs.Packets.{timed_payload, timed_protocol, same_head, tcp_room}
 use Rattle.rewrite.proofs.Datagrams.{first_of_rest, IsDatagram, carried_at, whole_is, fields_exchanged, fields_room, is_icmp}
 use Rattle.rewrite.proofs.Checksums.{Covers, rest_shows, update_checksum-is, update_keeps_sum}
 use Rattle.std.proofs.Common.{◌≡◌, ◌≢◌, ℕ, suc, ◌+◌, ◌*◌, ◌%◌, ◌<◌, ◌≤◌, inl, Option, Some, None, List, length, get_or, take, drop, length-take, length-drop}
-use Rattle.std.proofs.Common.{Bool, true, false, refl, sym, ap, ◌∙◌, arith, inr, ⊎_elim, subst}
+use Rattle.std.proofs.Common.{Bool, true, false, refl, sym, ap, ◌∙◌, arith, inr, ⊎_elim}
 use Rattle.std.specs.Prelude.{◌==◌, is_some, if◌then◌else◌, ◌||◌}
 use Rattle.std.specs.Option.{option_and, option_map}
 use Rattle.std.proofs.lemmas.Bool.{cond_both, eqb-true, and_parts, leb-true, ne_eqb, cases_eq}
@@ -24,7 +24,7 @@ use Rattle.rewrite.specs.Endpoints.{between, PortsMatchKind, ports_or_identifier
 use Rattle.rewrite.specs.Rewritten.{payload_in, write_if_some, inner_start, update_checksum, rewritten, with_endpoints, with_inner, has_identifier, replaced}
 use Rattle.rewrite.specs.Rewritten.{with_numbers, with_ports, with_ttl}
 use Rattle.rewrite.specs.steps.Fields.{HasFields, changed_fields, fields_at, fields_change, len_of, updated_checksum, with_fields}
-use Rattle.rewrite.proofs.Words.{word_same, word_stays, AsLong, SameAt, as_long, either_by, ends_by, named_by, same_at, update_by, length-word, length-number}
+use Rattle.rewrite.proofs.Words.{word_same, word_stays, AsLong, SameAt, as_long, ends_by, named_by, same_at, update_by, length-word, length-number}
 use Rattle.rewrite.proofs.Words.{number_apart, number_same, number_written, word_apart, word_written, timed_by}
 use Rattle.ip_headers.specs.declared.tuple.Kind.{Kind}
 use Rattle.ip_headers.specs.declared.tuple.Kind.TheVariants.{Tcp, Udp, EchoRequest, EchoReply, Other}
@@ -98,12 +98,14 @@ quote_rewritten_passes p t ok one =
     passes_by p q ok head len (ap ones_sum_of (ap (λ k. take k q) head.header ∙ same_part h q p len same) ∙ ok.head.sum)
     (rw one (icmp_right (drop h (take n q)) room))
 
-inner_passes : (p : List ℕ) (t : Tuple) → Passes p → Passes (with_inner p t)
-inner_passes p t ok = cond_both (is_some (inner_tuple_of p)) (quote_rewritten p t) p Passes
-    (λ h. quote_rewritten_passes p t ok (error_is_icmp p h)) (λ _. ok)
+-- what holds of the packet, and of an error with the rewritten quoted datagram, holds after the first step
+inner_by : (P : List ℕ → Type 0) (p : List ℕ) (change : Change) → ((t : Tuple) → protocol p ≡ 1 → P (quote_rewritten p t)) → P p
+    → P (inner_rewritten p change)
+inner_by P p change some none = named_by P with_inner p change.inner
+    (λ t. cond_both (is_some (inner_tuple_of p)) (quote_rewritten p t) p P (λ h. some t (error_is_icmp p h)) (λ _. none)) none
 
 pub inner_rewritten_passes : (p : List ℕ) (change : Change) → Passes p → Passes (inner_rewritten p change)
-inner_rewritten_passes p change ok = named_by Passes with_inner p change.inner (λ t. inner_passes p t ok) ok
+inner_rewritten_passes p change ok = inner_by Passes p change (λ t one. quote_rewritten_passes p t ok one) ok
 
 pub rewritten_passes : (p : List ℕ) (change : Change) → Passes p → Passes (rewritten p change)
 unfolding rewritten
@@ -111,13 +113,10 @@ rewritten_passes p change ok = sent_passes (inner_rewritten p change) change (in
 
 -- ---- its length
 
-length-inner_rewritten : (p : List ℕ) (change : Change) → length (inner_rewritten p change) ≡ length p
-length-inner_rewritten p change = named_by (AsLong p) with_inner p change.inner
-    (λ t. either_by (AsLong p) (is_some (inner_tuple_of p)) (quote_rewritten p t) p (length-quote_rewritten p t) refl) refl
-
 pub length-rewritten : (p : List ℕ) (change : Change) → length (rewritten p change) ≡ length p
 unfolding rewritten
-length-rewritten p change = length-sent (inner_rewritten p change) change ∙ length-inner_rewritten p change
+length-rewritten p change = length-sent (inner_rewritten p change) change
+    ∙ inner_by (AsLong p) p change (λ t _. length-quote_rewritten p t) refl
 
 -- ---- the sum under its checksum
 
@@ -139,28 +138,18 @@ inner_sum_kept p t ok one =
           (same 0 (omega (arith, long))) (word_same now p (offset + 2) (λ k _ lt. same k (omega (arith, lt)))),
     )
 
-inner_rewritten_sum_kept : (p : List ℕ) (change : Change) → Passes p → protocol p ≡ 1 → SameBut 1 p (inner_rewritten p change)
-inner_rewritten_sum_kept p change ok one =
-    named_by (SameBut 1 p) with_inner p change.inner
-    (λ t. cond_both (is_some (inner_tuple_of p)) (quote_rewritten p t) p (SameBut 1 p)
-    (λ h. inner_sum_kept p t ok one) (λ _. (one, refl))) (one, refl)
-
 pub icmp_sum_kept_with_inner : (p : List ℕ) (change : Change) → Passes p → protocol p ≡ 1
     → words_sum (payload_in 0 (rewritten p change)) % 65535 ≡ words_sum (payload_in 0 p) % 65535
 unfolding rewritten
 icmp_sum_kept_with_inner p change ok one =
-    let w = inner_rewritten_sum_kept p change ok one in
+    let w = inner_by (SameBut 1 p) p change (λ t _. inner_sum_kept p t ok one) (one, refl) in
     icmp_sum_kept (inner_rewritten p change) change (inner_rewritten_passes p change ok) w.0 ∙ w.1
 
 -- a packet of another protocol stays
-inner_rewritten_other : (p : List ℕ) (change : Change) → protocol p ≢ 1 → inner_rewritten p change ≡ p
-inner_rewritten_other p change other = named_by (λ q. q ≡ p) with_inner p change.inner
-    (λ t. cond_both (is_some (inner_tuple_of p)) (quote_rewritten p t) p (λ q. q ≡ p)
-    (λ h. absurd (other (error_is_icmp p h))) (λ _. refl)) refl
-
 pub rewritten_other : (p : List ℕ) (change : Change) → protocol p ≢ 1 → rewritten p change ≡ sent p change
 unfolding rewritten
-rewritten_other p change other = ap (λ q. sent q change) (inner_rewritten_other p change other)
+rewritten_other p change other =
+    ap (λ q. sent q change) (inner_by (λ q. q ≡ p) p change (λ t one. absurd (other one)) refl)
 
 -- ---- the quoted datagram's fields are there, and only its words change under the error's checksum
 
@@ -216,30 +205,20 @@ quote_rewritten_is p t long d room =
 
 -- ---- the packet after the first step
 
-and_some : (o r : Option Tuple) (t : Tuple) → option_and o r ≡ Some t → (is_some o ≡ true) × (r ≡ Some t)
-and_some None r t e = cc
-and_some (Some x) r t e = (refl, e)
+pub read_some : (o r : Option Tuple) (t : Tuple) → option_and o r ≡ Some t → is_some o ≡ true
+read_some None r t e = cc
+read_some (Some x) r t e = refl
 
-none_named : (o r : Option Tuple) (p : List ℕ) → o ≡ inner_tuple_of p → option_and o r ≡ None → write_if_some with_inner p r ≡ p
-none_named o None p is e = refl
-none_named None (Some t) p is e = ap (λ o. if is_some o then quote_rewritten p t else p) (sym is)
-none_named (Some x) (Some t) p is e = cc
+inner_of_both : (o r : Option Tuple) (p : List ℕ) → inner_tuple_of p ≡ o
+    → write_if_some quote_rewritten p (option_and o r) ≡ write_if_some with_inner p r
+inner_of_both None None p is = refl
+inner_of_both None (Some t) p is = ap (λ o. if is_some o then quote_rewritten p t else p) (sym is)
+inner_of_both (Some x) None p is = refl
+inner_of_both (Some x) (Some t) p is = ap (λ o. if is_some o then quote_rewritten p t else p) (sym is)
 
-pub read_some : (p : List ℕ) (o : Option Tuple) (t : Tuple) → option_and (inner_tuple_of p) o ≡ Some t → is_some (inner_tuple_of p) ≡ true
-read_some p o t e = (and_some (inner_tuple_of p) o t e).0
-
-pub inner_rewritten_some : (p : List ℕ) (change : Change) (t : Tuple) → option_and (inner_tuple_of p) change.inner ≡ Some t
-    → inner_rewritten p change ≡ quote_rewritten p t
-inner_rewritten_some p change t e =
-    let combined = and_some (inner_tuple_of p) change.inner t e in
-    ap (λ o. write_if_some with_inner p o) combined.1 ∙ ap (λ b. if b then quote_rewritten p t else p) combined.0
-
-pub inner_rewritten_none : (p : List ℕ) (change : Change) → option_and (inner_tuple_of p) change.inner ≡ None → inner_rewritten p change ≡ p
-inner_rewritten_none p change e = none_named (inner_tuple_of p) change.inner p refl e
-
-pub rewritten_is : (p : List ℕ) (change : Change) → rewritten p change ≡ sent (inner_rewritten p change) change
-unfolding rewritten
-rewritten_is p change = refl
+pub inner_rewritten_is : (p : List ℕ) (change : Change)
+    → write_if_some quote_rewritten p (option_and (inner_tuple_of p) change.inner) ≡ inner_rewritten p change
+inner_rewritten_is p change = inner_of_both (inner_tuple_of p) change.inner p refl
 
 -- ==== A packet rewritten to the endpoints of a tuple has that tuple.
 
@@ -263,12 +242,6 @@ named_to p change from to k a b past =
     rw (a, b) (named_byte (with_ttl 0) (with_u32 (with_u32 p 12 from) 16 to) change.ttl k
     (λ n. get_or-set_other (with_u32 (with_u32 p 12 from) 16 to) 8 k n 0 (omega (arith, past))))
 
-sent_to : (p : List ℕ) (change : Change) (from to k : ℕ) → Passes p → change.source ≡ Some from
-    → change.destination ≡ Some to → 11 < k → k < 20
-    → get_or (sent p change) k 0 ≡ get_or (with_u32 (with_u32 p 12 from) 16 to) k 0
-sent_to p change from to k ok a b past lt = sent_header p change k (omega (arith, ok.head.long, lt)) (inr past)
-    ∙ named_to p change from to k a b (omega (arith, past))
-
 addressed : (p : List ℕ) (change : Change) (from to : ℕ) → Passes p → change.source ≡ Some from
     → change.destination ≡ Some to → (source (sent p change) ≡ from) × (destination (sent p change) ≡ to)
 addressed p change from to ok a b =
@@ -276,7 +249,8 @@ addressed p change from to ok a b =
     let one = with_u32 p 12 from in
     let two = with_u32 one 16 to in
     let room : 20 ≤ length p = omega (arith, ok.head.long, ok.head.head, ok.head.whole) in
-    let same : (k : ℕ) → 11 < k → k < 20 → get_or q k 0 ≡ get_or two k 0 = λ k past lt. sent_to p change from to k ok a b past lt in (
+    let same : (k : ℕ) → 11 < k → k < 20 → get_or q k 0 ≡ get_or two k 0 = λ k past lt.
+    sent_header p change k (omega (arith, ok.head.long, lt)) (inr past) ∙ named_to p change from to k a b (omega (arith, past)) in (
       number_same q two 12 (λ k le lt. same k le (omega (arith, lt)))
           ∙ number_apart one 16 to 12 (inl (omega arith)) ∙ number_written p 12 from (omega (arith, room)),
       number_same q two 16 (λ k le lt. same k (omega (arith, le)) lt)
@@ -285,10 +259,6 @@ addressed p change from to ok a b =
 
 -- ---- ports and identifiers
 
-ports_there : (t : List ℕ) (number offset from to : ℕ) → protocol_at 0 t ≡ number → payload_at 0 t ≡ offset
-    → (number == 6 || number == 17) ≡ true → with_numbers 0 t (Ports from to) ≡ with_ports offset t from to
-ports_there t number offset from to is here some = rw (is, some, here) refl
-
 identifier_there : (t : List ℕ) (number offset id : ℕ) → protocol_at 0 t ≡ number → payload_at 0 t ≡ offset
     → has_identifier number (byte_at t offset) ≡ true → with_numbers 0 t (Identifier id) ≡ with_u16 t (offset + 4) id
 identifier_there t number offset id is here some = rw (is, here, some) refl
@@ -296,83 +266,53 @@ identifier_there t number offset id is here some = rw (is, here, some) refl
 length-timed : (p : List ℕ) (change : Change) → length (timed p change) ≡ length p
 length-timed p change = timed_by (AsLong p) 0 (as_long p) 0 p change (omega arith) refl
 
--- the words at the front of the payload
-abbrev Fronts : List ℕ → List ℕ → ℕ → ℕ → Type 0
-Fronts p q from to = (u16_at q (payload_at 0 p) ≡ from) × (u16_at q (payload_at 0 p + 2) ≡ to)
+module _ (p : List ℕ) (change : Change) (ok : Passes p) where
+  -- a word of the payload, as it was written
+  word_sent : (i j : ℕ) (now : List ℕ) → j ≡ payload_at 0 p + i → j + 2 ≤ total_len p → replaced 0 p change ≡ now
+      → ((k : ℕ) → j ≤ k → k < j + 2 → get_or (sent p change) k 0 ≡ get_or (replaced 0 p change) k 0)
+      → u16_at (payload_of (sent p change)) i ≡ u16_at now j
+  word_sent i j now at room is same =
+      let head = same_head p change ok in
+      rw (head.header, head.total)
+      (word_of_payload (sent p change) (header_len p) (total_len p) i j (omega (arith, at)) (omega (arith, room))
+      ∙ word_same (sent p change) (replaced 0 p change) j same ∙ ap (λ l. u16_at l j) is)
 
-ported : (p t r q : List ℕ) (from to : ℕ) → r ≡ with_ports (payload_at 0 p) t from to → payload_at 0 p + 4 ≤ length t
-    → ((k : ℕ) → payload_at 0 p ≤ k → k < payload_at 0 p + 4 → get_or q k 0 ≡ get_or r k 0) → Fronts p q from to
-ported p t r q from to is room same =
-    let offset = payload_at 0 p in
-    let one = with_u16 t offset from in (
-      word_same q r offset (λ k le lt. same k le (omega (arith, lt)))
-          ∙ ap (λ l. u16_at l offset) is ∙ word_apart one (offset + 2) to offset (inl (omega arith))
-          ∙ word_written t offset from (omega (arith, room)),
-      word_same q r (offset + 2) (λ k le lt. same k (omega (arith, le)) (omega (arith, lt))) ∙ ap (λ l. u16_at l (offset + 2)) is
-          ∙ word_written one (offset + 2) to (omega (arith, room, length-word t offset from)),
-    )
+  ports_shown : (number from to : ℕ) → protocol p ≡ number → (number == 6 || number == 17) ≡ true
+      → change.numbers ≡ Some (Ports from to) → payload_at 0 p + 4 ≤ total_len p
+      → ((k : ℕ) → payload_at 0 p ≤ k → k < payload_at 0 p + 4 → get_or (sent p change) k 0 ≡ get_or (replaced 0 p change) k 0)
+      → (u16_at (payload_of (sent p change)) 0 ≡ from) × (u16_at (payload_of (sent p change)) 2 ≡ to)
+  ports_shown number from to is some e room same =
+      let t = timed p change in
+      let place = payload_at 0 p in
+      let one = with_u16 t place from in
+      let long : place + 4 ≤ length t = omega (arith, length-timed p change, room, ok.head.whole) in
+      let r : replaced 0 p change ≡ with_ports place t from to =
+      rw (e, timed_protocol p change ∙ is, some, timed_payload p change) refl in (
+        word_sent 0 place (with_ports place t from to) (omega arith) (omega (arith, room)) r (λ k le lt. same k le (omega (arith, lt)))
+            ∙ word_apart one (place + 2) to place (inl (omega arith)) ∙ word_written t place from (omega (arith, long)),
+        word_sent 2 (place + 2) (with_ports place t from to) refl (omega (arith, room)) r
+            (λ k le lt. same k (omega (arith, le)) (omega (arith, lt)))
+            ∙ word_written one (place + 2) to (omega (arith, long, length-word t place from)),
+      )
 
--- as read from the payload
-shown : (p q : List ℕ) (from to : ℕ) → SameHead p q → payload_at 0 p + 4 ≤ total_len p → Fronts p q from to
-    → (u16_at (payload_of q) 0 ≡ from) × (u16_at (payload_of q) 2 ≡ to)
-shown p q from to same room fronts = (
-  rw (same.header, same.total) (word_of_payload q (header_len p) (total_len p) 0 (payload_at 0 p) (omega arith)
-      (omega (arith, room)) ∙ fronts.0),
-  rw (same.header, same.total) (word_of_payload q (header_len p) (total_len p) 2 (payload_at 0 p + 2) (omega arith)
-      (omega (arith, room)) ∙ fronts.1),
-)
-
-ports_shown : (p : List ℕ) (change : Change) (number from to : ℕ) → Passes p → protocol p ≡ number
-    → (number == 6 || number == 17) ≡ true → change.numbers ≡ Some (Ports from to) → payload_at 0 p + 4 ≤ total_len p
-    → ((k : ℕ) → payload_at 0 p ≤ k → k < payload_at 0 p + 4 → get_or (sent p change) k 0 ≡ get_or (replaced 0 p change) k 0)
-    → (u16_at (payload_of (sent p change)) 0 ≡ from) × (u16_at (payload_of (sent p change)) 2 ≡ to)
-ports_shown p change number from to ok is some e room same =
-    let t = timed p change in
-    let r : replaced 0 p change ≡ with_ports (payload_at 0 p) t from to = ap (λ o. write_if_some (with_numbers 0) t o) e
-    ∙ ports_there t number (payload_at 0 p) from to (timed_protocol p change ∙ is) (timed_payload p change) some in
-    shown p (sent p change) from to (same_head p change ok) room
-    (ported p t (replaced 0 p change) (sent p change) from to r (omega (arith, length-timed p change, room, ok.head.whole)) same)
-
-icmp_identifier : (p : List ℕ) (change : Change) (id : ℕ) → Passes p
-    → has_identifier (protocol p) (icmp_type (payload_of p)) ≡ true
-    → change.numbers ≡ Some (Identifier id) → u16_at (payload_of (sent p change)) 4 ≡ id
-icmp_identifier p change id ok there e =
-    let t = timed p change in
-    let q = sent p change in
-    let offset = payload_at 0 p in
-    let same = same_head p change ok in
-    let one = is_icmp (protocol p) (icmp_type (payload_of p)) there in
-    let enough = icmp_long (payload_of p) (rw one at ok.transport) in
-    let first : byte_at t offset ≡ icmp_type (payload_of p) =
-    timed_byte p change offset (omega (arith, ok.head.long)) (inr (omega (arith, ok.head.long)))
-    ∙ sym (first_of_payload p (header_len p) (total_len p) offset (omega arith) (omega (arith, enough, within p ok))) in
-    let echo : has_identifier 1 (byte_at t offset) ≡ true =
-    subst (λ (m : ℕ). has_identifier 1 m ≡ true) (sym first)
-    (subst (λ (n : ℕ). has_identifier n (icmp_type (payload_of p)) ≡ true) one there) in
-    let r : replaced 0 p change ≡ with_u16 t (offset + 4) id = ap (λ o. write_if_some (with_numbers 0) t o) e
-    ∙ identifier_there t 1 offset id (timed_protocol p change ∙ one) (timed_payload p change) echo in
-    rw (same.header, same.total)
-    (word_of_payload q (header_len p) (total_len p) 4 (offset + 4) (omega arith) (omega (arith, enough, within p ok))
-    ∙ word_same q (replaced 0 p change) (offset + 4)
-    (λ k le _. sent_icmp p change k ok.head.long (omega (arith, le)) one (inr (omega (arith, le))))
-    ∙ ap (λ l. u16_at l (offset + 4)) r
-    ∙ word_written t (offset + 4) id (omega (arith, length-timed p change, enough, within p ok, ok.head.whole)))
+  icmp_identifier : (id : ℕ) → has_identifier (protocol p) (icmp_type (payload_of p)) ≡ true
+      → change.numbers ≡ Some (Identifier id) → u16_at (payload_of (sent p change)) 4 ≡ id
+  icmp_identifier id there e =
+      let t = timed p change in
+      let place = payload_at 0 p in
+      let one = is_icmp (protocol p) (icmp_type (payload_of p)) there in
+      let enough = icmp_long (payload_of p) (rw one at ok.transport) in
+      let first : byte_at t place ≡ icmp_type (payload_of p) =
+      timed_byte p change place (omega (arith, ok.head.long)) (inr (omega (arith, ok.head.long)))
+      ∙ sym (first_of_payload p (header_len p) (total_len p) place (omega arith) (omega (arith, enough, within p ok))) in
+      let echo : has_identifier 1 (byte_at t place) ≡ true = rw first (rw one at there) in
+      let r : replaced 0 p change ≡ with_u16 t (place + 4) id =
+      ap (λ o. write_if_some (with_numbers 0) t o) e ∙ identifier_there t 1 place id (timed_protocol p change ∙ one) (timed_payload p change) echo in
+      word_sent 4 (place + 4) (with_u16 t (place + 4) id) refl (omega (arith, enough, within p ok)) r
+      (λ k le _. sent_icmp p change k ok.head.long (omega (arith, le)) one (inr (omega (arith, le))))
+      ∙ word_written t (place + 4) id (omega (arith, length-timed p change, enough, within p ok, ok.head.whole))
 
 -- ---- kinds
-
-tcp_kind : (number : ℕ) (payload : List ℕ) → kind_of number payload ≡ Some Tcp → number ≡ 6
-tcp_kind number payload e = grind (arith, e)
-
-udp_kind : (number : ℕ) (payload : List ℕ) → kind_of number payload ≡ Some Udp → number ≡ 17
-udp_kind number payload e = grind (arith, e)
-
-request_kind : (number : ℕ) (payload : List ℕ) → kind_of number payload ≡ Some EchoRequest
-    → has_identifier number (icmp_type payload) ≡ true
-request_kind number payload e = grind (arith, e)
-
-reply_kind : (number : ℕ) (payload : List ℕ) → kind_of number payload ≡ Some EchoReply
-    → has_identifier number (icmp_type payload) ≡ true
-reply_kind number payload e = grind (arith, e)
 
 kind_same : (number : ℕ) (x y : List ℕ) → (number ≡ 1 → get_or x 0 0 ≡ get_or y 0 0) → kind_of number x ≡ kind_of number y
 kind_same number x y same =
@@ -386,19 +326,19 @@ suits : (kind : Kind) (p : List ℕ) (change : Change) (from to : ℕ) → Passe
     → PortsMatchKind kind from to
     → (port_from kind (payload_of (sent p change)) ≡ from) × (port_to kind (payload_of (sent p change)) ≡ to)
 suits Tcp p change from to ok is e h =
-    let six = tcp_kind (protocol p) (payload_of p) is in
-    ports_shown p change 6 from to ok six refl e
+    let six : protocol p ≡ 6 = grind (arith, is) in
+    ports_shown p change ok 6 from to six refl e
     (omega (arith, tcp_long (payload_of p) (rw six at ok.transport), within p ok))
     (λ k past lt. sent_tcp p change k ok.head.long past six (tcp_room p ok six) (inl (omega (arith, lt))))
 suits Udp p change from to ok is e h =
-    let seventeen = udp_kind (protocol p) (payload_of p) is in
-    ports_shown p change 17 from to ok seventeen refl e
+    let seventeen : protocol p ≡ 17 = grind (arith, is) in
+    ports_shown p change ok 17 from to seventeen refl e
     (omega (arith, udp_long (payload_of p) (rw seventeen at ok.transport), within p ok))
     (λ k past lt. sent_udp p change k ok.head.long past seventeen (inl (omega (arith, lt))))
 suits EchoRequest p change from to ok is e h =
-    (icmp_identifier p change from ok (request_kind (protocol p) (payload_of p) is) e, sym h)
+    (icmp_identifier p change ok from (grind (arith, is)) e, sym h)
 suits EchoReply p change from to ok is e h =
-    (sym h, icmp_identifier p change to ok (reply_kind (protocol p) (payload_of p) is) e)
+    (sym h, icmp_identifier p change ok to (grind (arith, is)) e)
 suits (Other number) p change from to ok is e h = (sym h.0, sym h.1)
 
 sent_kind : (p : List ℕ) (change : Change) → Passes p

@@ -1,12 +1,12 @@
+use Rattle.rewrite.specs.Rewritten.{rewritten, write_if_some, replaced, update_checksums}
+use Rattle.rewrite.proofs.Rewritten.{inner_rewritten_is, quote_rewritten, inner_fields, inner_rewritten, inner_rewritten_passes, read_some}
 use Rattle.std.proofs.Common.{◌≡◌, ℕ, List, Option, sym, ap, subst, ◌∙◌}
 use Rattle.std.specs.Option.{option_and}
 use Rattle.ip_headers.specs.Passing.{Passes}
 use Rattle.ip_headers.specs.Tuple.{inner_tuple_of}
 use Rattle.ip_headers.specs.declared.tuple.Tuple.{Tuple}
-use Rattle.rewrite.specs.Rewritten.{replaced, update_checksums}
 use Rattle.rewrite.specs.steps.Fields.{HasFields}
 use Rattle.rewrite.proofs.Packets.{has_fields}
-use Rattle.rewrite.proofs.Rewritten.{inner_fields, inner_rewritten, inner_rewritten_none, inner_rewritten_passes, inner_rewritten_some, read_some, rewritten_is}
 use Rattle.rewrite.proofs.sending.rewrite_packet.Goals.{Joined-quoted_endpoints, in-Some, in_default}
 use Rattle.rewrite.proofs.sending.rewrite_packet.Goals as goal
 
@@ -19,7 +19,7 @@ pub rewrite_inner-requires-clause-fields : goal.rewrite_inner-requires-clause-fi
 rewrite_inner-requires-clause-fields c =
     let p = c.args.packet.now in
     let ok : Passes p = subst Passes (sym c.requires) (c.no_fault.ensures.passes _ c.args.view.now.whole) in
-    inner_fields p ok (read_some p c.args.change.now.inner c.in-Some.tuple
+    inner_fields p ok (read_some (inner_tuple_of p) c.args.change.now.inner c.in-Some.tuple
     (asked p _ _ _ c.requires c.quoted_endpoints.ensures ∙ c.in-Some.is))
 
 -- the packet after the first step
@@ -27,10 +27,12 @@ inner_is : (c : Joined-quoted_endpoints) → c.match-quoted_endpoints.packet ≡
 inner_is c =
     let p = c.args.packet.now in
     let change = c.args.change.now in
-    let combined = asked p _ change.inner _ c.requires c.quoted_endpoints.ensures in
+    let written = λ (o : Option Tuple). write_if_some quote_rewritten p o in
+    let whole : written c.quoted_endpoints.result ≡ inner_rewritten p change =
+    ap written (sym (asked p _ change.inner _ c.requires c.quoted_endpoints.ensures)) ∙ inner_rewritten_is p change in
     elim c.match-quoted_endpoints.branch [
-      | in-Some w ↦ w.packet-is ∙ w.rewrite_inner.ensures ∙ sym (inner_rewritten_some p change w.in-Some.tuple (combined ∙ w.in-Some.is))
-      | in_default w ↦ w.packet-is ∙ sym (inner_rewritten_none p change (combined ∙ w.in_default.is))
+      | in-Some w ↦ w.packet-is ∙ w.rewrite_inner.ensures ∙ ap written (sym w.in-Some.is) ∙ whole
+      | in_default w ↦ w.packet-is ∙ ap written (sym w.in_default.is) ∙ whole
     ]
 
 pub rewrite-requires : goal.rewrite-requires
@@ -41,6 +43,6 @@ rewrite-requires c =
     (has_fields (inner_rewritten p c.args.change.now) (inner_rewritten_passes p c.args.change.now ok))
 
 pub returns : goal.returns
+unfolding rewritten
 returns c =
     c.rewrite.ensures ∙ ap (λ l. update_checksums 0 l (replaced 0 l c.args.change.now)) (inner_is (goal.at.returns c).Joined-quoted_endpoints)
-    ∙ sym (rewritten_is c.args.packet.now c.args.change.now)
