@@ -55,27 +55,24 @@ chosen : (b : Bool) (bytes : List ℕ) (offset checksum x y : ℕ) → with_u16 
 chosen true bytes offset checksum x y kept e = sym kept
 chosen false bytes offset checksum x y kept e = ap (λ w. with_u16 bytes offset w) e
 
-pub update_checksum-is : (over : List ℕ → List ℕ) (offset : ℕ) (old now : List ℕ) (words : ChecksumDelta)
-    → Covers words (over old) (over now) → with_u16 now offset (u16_at old offset) ≡ now
-    → update_checksum over offset old now ≡ with_u16 now offset (updated_checksum words (u16_at old offset))
-update_checksum-is over offset old now words c kept =
-    rw (same_is words (over old) (over now) c)
-    (chosen words.is_same now offset (u16_at old offset) _ _ kept
-    (corrected-by (u16_at old offset) (words_sum (over old)) (words_sum (over now)) words.old words.new c.sum))
+module _ (over : List ℕ → List ℕ) (offset : ℕ) (old now : List ℕ) (words : ChecksumDelta) (c : Covers words (over old) (over now))
+    (kept : with_u16 now offset (u16_at old offset) ≡ now) where
+  corrected_is : corrected (u16_at old offset) (words_sum (over old)) (words_sum (over now)) ≡ corrected (u16_at old offset) words.old words.new
+  corrected_is = corrected-by (u16_at old offset) (words_sum (over old)) (words_sum (over now)) words.old words.new c.sum
+
+  pub update_checksum-is : update_checksum over offset old now ≡ with_u16 now offset (updated_checksum words (u16_at old offset))
+  update_checksum-is = rw (same_is words (over old) (over now) c)
+      (chosen words.is_same now offset (u16_at old offset) _ _ kept corrected_is)
+
+  pub update_udp_checksum-is : update_udp_checksum over offset old now
+      ≡ with_u16 now offset (updated_udp_checksum words (u16_at old offset))
+  update_udp_checksum-is = rw (same_is words (over old) (over now) c)
+      (chosen (words.is_same || u16_at old offset == 0) now offset (u16_at old offset) _ _ kept (ap or_all_ones corrected_is))
 
 -- it stays where none of the covered bytes changed
 pub update_checksum-kept : (over : List ℕ → List ℕ) (offset : ℕ) (old now : List ℕ) → over old ≡ over now
     → update_checksum over offset old now ≡ now
 update_checksum-kept over offset old now e = rw (same_bytes-from (over old) (over now) e) refl
-
-pub update_udp_checksum-is : (over : List ℕ → List ℕ) (offset : ℕ) (old now : List ℕ) (words : ChecksumDelta)
-    → Covers words (over old) (over now) → with_u16 now offset (u16_at old offset) ≡ now
-    → update_udp_checksum over offset old now ≡ with_u16 now offset (updated_udp_checksum words (u16_at old offset))
-update_udp_checksum-is over offset old now words c kept =
-    rw (same_is words (over old) (over now) c)
-    (chosen (words.is_same || u16_at old offset == 0) now offset (u16_at old offset) _ _ kept
-    (ap or_all_ones (corrected-by (u16_at old offset) (words_sum (over old))
-    (words_sum (over now)) words.old words.new c.sum)))
 
 -- ==== Bytes written one after another, and the words that they change under a checksum.
 

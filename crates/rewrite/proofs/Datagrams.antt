@@ -1,10 +1,13 @@
 -- Writing the changed fields gives the rewritten datagram, and the changed words of its fields are those of its bytes.
+use Rattle.rewrite.specs.steps.Fields.{updated_udp_checksum, combined, u32_change, u16_change, transport_fields_of, changed_transport_fields, changed_fields}
+use Rattle.rewrite.specs.steps.Fields.{fields_at, identifier_named, len_of, ports_named, updated_checksum, with_transport_fields, with_fields, keeps_endpoints}
+use Rattle.rewrite.specs.steps.Fields.{keeps_numbers, with_ttl_field, and_transport_words, transport_words, fields_change}
 use Rattle.rewrite.proofs.Checksums.{alone, Shows, Writes, hidden, nothing_written, number_more, word_more, high_byte_more, pair_shows, payload_shows}
 use Rattle.rewrite.proofs.Checksums.{rest_shows, head_shows, counted_as, pseudo, head_of, Covers, update_checksum-is, update_checksum-kept}
 use Rattle.rewrite.proofs.Checksums.{update_udp_checksum-is}
 use Rattle.std.proofs.Math.Bool.{and_assoc, and_comm, and-true}
 use Rattle.std.proofs.Common.{◌≡◌, ℕ, ◌+◌, ◌*◌, ◌%◌, ◌<◌, ◌≤◌, ◌⊎◌, inl, inr, ⊎_elim, List, length, get_or, set, take, drop, refl, sym, ap, ◌∙◌, arith, ◌-◌}
-use Rattle.std.proofs.Common.{Option, Some, None, length-drop, true, false, subst, suc}
+use Rattle.std.proofs.Common.{Option, Some, None, length-drop, true, false, suc}
 use Rattle.std.proofs.lemmas.Bool.{and_parts, cond_both, leb-true, leb-false, ne_eqb, eqb-true, le-leb, lt-leb, cases_eq, or_from}
 use Rattle.std.proofs.lemmas.List.{length-set, get_or-drop, get_or-set_other, drop-set-lt, set-get_or}
 use Rattle.std.proofs.lemmas.Grind.{common_steps}
@@ -13,9 +16,6 @@ use Rattle.ip_headers.specs.Header.{header_len, payload_at, protocol_at}
 use Rattle.rewrite.specs.declared.checksum.ChecksumDelta.{ChecksumDelta}
 use Rattle.rewrite.specs.Rewritten.{header_in, payload_in, pseudo_header_and_payload, with_ports, write_if_some, update_checksum, update_udp_checksum, replaced}
 use Rattle.rewrite.specs.Rewritten.{update_transport_checksum, update_checksums, has_identifier, update_header_checksum, with_numbers, with_ttl}
-use Rattle.rewrite.specs.steps.Fields.{combined, u32_change, u16_change, transport_fields_of, changed_transport_fields, changed_fields, fields_at}
-use Rattle.rewrite.specs.steps.Fields.{identifier_named, len_of, ports_named, updated_checksum, with_transport_fields, with_fields, keeps_endpoints}
-use Rattle.rewrite.specs.steps.Fields.{keeps_numbers, port_change, updated_udp_checksum, with_ttl_field, and_transport_words, transport_words, fields_change}
 use Rattle.rewrite.proofs.Words.{byte_apart, number_byte_apart, byte_before, number_rest_before, byte_of_part, word_of_rest, Bytes4, number_apart, number_kept}
 use Rattle.rewrite.proofs.Words.{byte_after, word_stays, fields_by, bytes4, SameAt, same_at}
 use Rattle.std.specs.Prelude.{◌==◌, ◌||◌, nat_le, unwrap_or}
@@ -24,15 +24,11 @@ use Rattle.rewrite.specs.declared.change.PortsOrIdentifier.{PortsOrIdentifier}
 use Rattle.rewrite.specs.declared.change.PortsOrIdentifier.TheVariants.{Ports, Identifier}
 use Rattle.rewrite.specs.declared.fields.TransportFields.{TransportFields}
 use Rattle.rewrite.specs.declared.fields.TransportFields.TheVariants.{Tcp, Udp, Echo, Other}
-use Rattle.std.specs.Option.{option_map}
 use Rattle.rewrite.specs.declared.fields.Fields.{Fields}
 
 -- ==== The words that change under each checksum of a datagram.
 
 -- ---- the datagram with another header
-
-abbrev pub timed : ℕ → List ℕ → ℕ → ℕ → ℕ → List ℕ
-timed start p from to ttl = set (with_u32 (with_u32 p (start + 12) from) (start + 16) to) (start + 8) ttl
 
 -- bytes that have a datagram's header and more
 pub record IsDatagram (start : ℕ) (p : List ℕ) : Type 0 where
@@ -40,26 +36,30 @@ pub record IsDatagram (start : ℕ) (p : List ℕ) : Type 0 where
   pub long : 20 ≤ header_len (drop start p)
   pub whole : payload_at start p ≤ length p
 
-pub timed_rest : (start a : ℕ) (p : List ℕ) (from to ttl : ℕ) → start + 20 ≤ a → drop a (timed start p from to ttl) ≡ drop a p
-timed_rest start a p from to ttl past =
-    let one = with_u32 p (start + 12) from in
-    let two = with_u32 one (start + 16) to in
-    drop-set-lt a two (start + 8) ttl (omega (arith, past))
-    ∙ number_rest_before one a (start + 16) to (omega (arith, past))
-    ∙ number_rest_before p a (start + 12) from (omega (arith, past))
+module _ (start : ℕ) (p : List ℕ) (from to ttl : ℕ) where
+  abbrev sourced : List ℕ
+  sourced = with_u32 p (start + 12) from
 
--- a byte beside the fields
-pub timed_byte : (start : ℕ) (p : List ℕ) (from to ttl k : ℕ) → (k < start + 8) ⊎ (start + 8 < k)
-    → (k < start + 12) ⊎ (start + 19 < k) → get_or (timed start p from to ttl) k 0 ≡ get_or p k 0
-timed_byte start p from to ttl k apart past =
-    let one = with_u32 p (start + 12) from in
-    let two = with_u32 one (start + 16) to in
-    get_or-set_other two (start + 8) k ttl 0 (grind arith)
-    ∙ number_byte_apart one (start + 16) to k (grind arith)
-    ∙ number_byte_apart p (start + 12) from k (grind arith)
+  abbrev addressed : List ℕ
+  addressed = with_u32 sourced (start + 16) to
 
-timed_len : (start : ℕ) (p : List ℕ) (from to ttl : ℕ) → length (timed start p from to ttl) ≡ length p
-timed_len start p from to ttl = simp length-set
+  abbrev pub timed : List ℕ
+  timed = set addressed (start + 8) ttl
+
+  timed_rest : (a : ℕ) → start + 20 ≤ a → drop a timed ≡ drop a p
+  timed_rest a past = drop-set-lt a addressed (start + 8) ttl (omega (arith, past))
+      ∙ number_rest_before sourced a (start + 16) to (omega (arith, past)) ∙ number_rest_before p a (start + 12) from (omega (arith, past))
+
+  -- a byte beside the fields
+  timed_byte : (k : ℕ) → (k < start + 8) ⊎ (start + 8 < k) → (k < start + 12) ⊎ (start + 19 < k) → get_or timed k 0 ≡ get_or p k 0
+  timed_byte k apart past = get_or-set_other addressed (start + 8) k ttl 0 (grind arith)
+      ∙ number_byte_apart sourced (start + 16) to k (grind arith) ∙ number_byte_apart p (start + 12) from k (grind arith)
+
+  timed_first : get_or timed start 0 ≡ get_or p start 0
+  timed_first = timed_byte start (inl (omega arith)) (inl (omega arith))
+
+  timed_len : length timed ≡ length p
+  timed_len = simp length-set
 
 -- the payload's offset stays, whatever is written after the first byte
 pub first_of_rest : (xs : List ℕ) (start : ℕ) → get_or (drop start xs) 0 0 ≡ get_or xs start 0
@@ -82,39 +82,36 @@ timed_behind start p from to ttl d =
     record {
       protocol = get_or-drop start t 9 0 ∙ timed_byte start p from to ttl (start + 9) (inr (omega arith))
           (inl (omega arith)) ∙ sym (get_or-drop start p 9 0);
-      payload = ap (λ n. start + n) (same_byte-len start p t
-          (timed_byte start p from to ttl start (inl (omega arith)) (inl (omega arith))));
-      bytes = λ k le. timed_byte start p from to ttl k (inr (omega (arith, le, d.long)))
-          (inr (omega (arith, le, d.long)));
+      payload = ap (λ n. start + n) (same_byte-len start p t (timed_first start p from to ttl));
+      bytes = λ k le. timed_byte start p from to ttl k (inr (omega (arith, le, d.long))) (inr (omega (arith, le, d.long)));
       small = d.small;
     }
 
--- a word that stays is as if it were written
-pub kept_behind : (start : ℕ) (p t : List ℕ) (k : ℕ) → Behind start p t → payload_at start p ≤ k
-    → with_u16 t k (u16_at p k) ≡ t
-kept_behind start p t k b le = word_stays t p k b.small (λ j past lt. b.bytes j (omega (arith, le, past)))
+module _ (start : ℕ) (p t : List ℕ) (b : Behind start p t) where
+  abbrev behind_at : ℕ
+  behind_at = payload_at start p
 
-pub ports_kept_behind : (start : ℕ) (p t : List ℕ) → Behind start p t
-    → with_ports (payload_at start p) t (u16_at p (payload_at start p)) (u16_at p (payload_at start p + 2)) ≡ t
-ports_kept_behind start p t b = rw (kept_behind start p t (payload_at start p) b (omega arith))
-    (kept_behind start p t (payload_at start p + 2) b (omega arith))
+  -- a word that stays is as if it were written
+  kept_in : (now : List ℕ) (k : ℕ) → behind_at ≤ k → ((j : ℕ) → k ≤ j → j < k + 2 → get_or now j 0 ≡ get_or t j 0)
+      → with_u16 now k (u16_at p k) ≡ now
+  kept_in now k le same = word_stays now p k b.small (λ j past lt. same j past lt ∙ b.bytes j (omega (arith, le, past)))
 
--- a word past two ports that were written
-pub kept_past_ports : (start : ℕ) (p t : List ℕ) (from to k : ℕ) → Behind start p t → payload_at start p + 4 ≤ k
-    → with_u16 (with_ports (payload_at start p) t from to) k (u16_at p k) ≡ with_ports (payload_at start p) t from to
-kept_past_ports start p t from to k b le =
-    let offset = payload_at start p in
-    word_stays (with_ports offset t from to) p k b.small (λ j past lt.
-    byte_apart (with_u16 t offset from) (offset + 2) to j (inr (omega (arith, le, past)))
-    ∙ byte_apart t offset from j (inr (omega (arith, le, past))) ∙ b.bytes j (omega (arith, le, past)))
+  kept_behind : (k : ℕ) → behind_at ≤ k → with_u16 t k (u16_at p k) ≡ t
+  kept_behind k le = kept_in t k le (λ _ _ _. refl)
 
-pub kept_past_identifier : (start : ℕ) (p t : List ℕ) (number : ℕ) → Behind start p t
-    → with_u16 (with_u16 t (payload_at start p + 4) number) (payload_at start p + 2) (u16_at p (payload_at start p + 2))
-    ≡ with_u16 t (payload_at start p + 4) number
-kept_past_identifier start p t number b =
-    let offset = payload_at start p in
-    word_stays (with_u16 t (offset + 4) number) p (offset + 2) b.small (λ j past lt.
-    byte_apart t (offset + 4) number j (inl (omega (arith, lt))) ∙ b.bytes j (omega (arith, past)))
+  ports_kept_behind : with_ports behind_at t (u16_at p behind_at) (u16_at p (behind_at + 2)) ≡ t
+  ports_kept_behind = rw (kept_behind behind_at (omega arith)) (kept_behind (behind_at + 2) (omega arith))
+
+  -- past two ports that were written
+  kept_past_ports : (from to k : ℕ) → behind_at + 4 ≤ k → with_u16 (with_ports behind_at t from to) k (u16_at p k) ≡ with_ports behind_at t from to
+  kept_past_ports from to k le = kept_in (with_ports behind_at t from to) k (omega (arith, le)) (λ j past _.
+      byte_apart (with_u16 t behind_at from) (behind_at + 2) to j (inr (omega (arith, le, past)))
+      ∙ byte_apart t behind_at from j (inr (omega (arith, le, past))))
+
+  kept_past_identifier : (number : ℕ) → with_u16 (with_u16 t (behind_at + 4) number) (behind_at + 2) (u16_at p (behind_at + 2))
+      ≡ with_u16 t (behind_at + 4) number
+  kept_past_identifier number = kept_in (with_u16 t (behind_at + 4) number) (behind_at + 2) (omega arith)
+      (λ j _ lt. byte_apart t (behind_at + 4) number j (inl (omega (arith, lt))))
 
 -- ---- the header
 
@@ -155,43 +152,40 @@ abbrev pub carried_at : ℕ → List ℕ → TransportFields
 carried_at start p = transport_fields_of (protocol_at start p) (drop (payload_at start p) p)
 
 -- which checksum is updated
-pub by_tcp : (start : ℕ) (old now : List ℕ) → protocol_at start old ≡ 6 → payload_at start old + 18 ≤ length old
-    → update_transport_checksum start old now
-    ≡ update_checksum (pseudo_header_and_payload start) (payload_at start old + 16) old now
-by_tcp start old now is room = rw (is, le-leb _ _ room) refl
+module _ (start : ℕ) (old now : List ℕ) where
+  pub by_tcp : protocol_at start old ≡ 6 → payload_at start old + 18 ≤ length old → update_transport_checksum start old now
+      ≡ update_checksum (pseudo_header_and_payload start) (payload_at start old + 16) old now
+  by_tcp is room = rw (is, le-leb _ _ room) refl
 
-pub by_cut_tcp : (start : ℕ) (old now : List ℕ) → protocol_at start old ≡ 6 → length old < payload_at start old + 18
-    → update_transport_checksum start old now ≡ now
-by_cut_tcp start old now is cut = rw (is, lt-leb _ _ cut) refl
+  by_cut_tcp : protocol_at start old ≡ 6 → length old < payload_at start old + 18 → update_transport_checksum start old now ≡ now
+  by_cut_tcp is cut = rw (is, lt-leb _ _ cut) refl
 
-pub by_udp : (start : ℕ) (old now : List ℕ) → protocol_at start old ≡ 17
-    → update_transport_checksum start old now
-    ≡ update_udp_checksum (pseudo_header_and_payload start) (payload_at start old + 6) old now
-by_udp start old now is = rw is refl
+  pub by_udp : protocol_at start old ≡ 17 → update_transport_checksum start old now
+      ≡ update_udp_checksum (pseudo_header_and_payload start) (payload_at start old + 6) old now
+  by_udp is = rw is refl
 
-pub by_icmp : (start : ℕ) (old now : List ℕ) → protocol_at start old ≡ 1
-    → update_transport_checksum start old now ≡ update_checksum (payload_in start) (payload_at start old + 2) old now
-by_icmp start old now is = rw is refl
+  pub by_icmp : protocol_at start old ≡ 1
+      → update_transport_checksum start old now ≡ update_checksum (payload_in start) (payload_at start old + 2) old now
+  by_icmp is = rw is refl
 
-pub by_other : (start : ℕ) (old now : List ℕ) → (protocol_at start old == 6) ≡ false
-    → (protocol_at start old == 17) ≡ false → (protocol_at start old == 1) ≡ false
-    → update_transport_checksum start old now ≡ now
-by_other start old now a b c = rw (a, b, c) refl
+  by_other : (protocol_at start old == 6) ≡ false → (protocol_at start old == 17) ≡ false → (protocol_at start old == 1) ≡ false
+      → update_transport_checksum start old now ≡ now
+  by_other a b c = rw (a, b, c) refl
 
 -- an identifier stands in ICMP messages alone
 pub is_icmp : (number message : ℕ) → has_identifier number message ≡ true → number ≡ 1
 is_icmp number message is = eqb-true number 1 (and_parts (number == 1) (message == 8 || message == 0) is).0
 
+abbrev word_at : ℕ → List ℕ → ℕ → ℕ
+word_at start p i = u16_at p (payload_at start p + i)
+
 -- what is shown for each protocol holds of the fields of a datagram
 pub by_protocol : (start : ℕ) (p : List ℕ) (P : TransportFields → Type 0)
-    → (protocol_at start p ≡ 6 → length p < payload_at start p + 18
-    → P (Tcp (u16_at p (payload_at start p)) (u16_at p (payload_at start p + 2)) None))
-    → (protocol_at start p ≡ 6 → payload_at start p + 18 ≤ length p → P (Tcp (u16_at p (payload_at start p))
-    (u16_at p (payload_at start p + 2)) (Some (u16_at p (payload_at start p + 16)))))
-    → (protocol_at start p ≡ 17 → P (Udp (u16_at p (payload_at start p)) (u16_at p (payload_at start p + 2))
-    (u16_at p (payload_at start p + 6))))
-    → (has_identifier (protocol_at start p) (byte_at p (payload_at start p)) ≡ true
-    → P (Echo (u16_at p (payload_at start p + 4)) (u16_at p (payload_at start p + 2))))
+    → (protocol_at start p ≡ 6 → length p < payload_at start p + 18 → P (Tcp (u16_at p (payload_at start p)) (word_at start p 2) None))
+    → (protocol_at start p ≡ 6 → payload_at start p + 18 ≤ length p
+    → P (Tcp (u16_at p (payload_at start p)) (word_at start p 2) (Some (word_at start p 16))))
+    → (protocol_at start p ≡ 17 → P (Udp (u16_at p (payload_at start p)) (word_at start p 2) (word_at start p 6)))
+    → (has_identifier (protocol_at start p) (byte_at p (payload_at start p)) ≡ true → P (Echo (word_at start p 4) (word_at start p 2)))
     → ((protocol_at start p == 6) ≡ false → (protocol_at start p == 17) ≡ false
     → has_identifier (protocol_at start p) (byte_at p (payload_at start p)) ≡ false → P Other)
     → P (carried_at start p)
@@ -272,28 +266,26 @@ named_ttl : (o : Option ℕ) (start : ℕ) (xs p : List ℕ) → get_or xs (star
 named_ttl None start xs p e = sym (ap (λ v. set xs (start + 8) v) (sym e) ∙ set-get_or xs (start + 8) 0)
 named_ttl (Some n) start xs p e = refl
 
-write_ports : (numbers : Option PortsOrIdentifier) (start : ℕ) (t : List ℕ) (number offset from to : ℕ)
-    → protocol_at start t ≡ number → payload_at start t ≡ offset → (number == 6 || number == 17) ≡ true
-    → (number == 1) ≡ false → with_ports offset t from to ≡ t
-    → write_if_some (with_numbers start) t numbers ≡ with_ports offset t (ports_named numbers from to).0 (ports_named numbers from to).1
-write_ports None start t number offset from to is at_place some none kept = sym kept
-write_ports (Some (Ports one other)) start t number offset from to is at_place some none kept = rw (is, some, at_place) refl
-write_ports (Some (Identifier other)) start t number offset from to is at_place some none kept = rw (is, none) (sym kept)
+module _ (start : ℕ) (t : List ℕ) (number offset : ℕ) (is : protocol_at start t ≡ number) (here : payload_at start t ≡ offset) where
+  write_ports : (numbers : Option PortsOrIdentifier) (from to : ℕ) → (number == 6 || number == 17) ≡ true → (number == 1) ≡ false
+      → with_ports offset t from to ≡ t
+      → write_if_some (with_numbers start) t numbers ≡ with_ports offset t (ports_named numbers from to).0 (ports_named numbers from to).1
+  write_ports None from to some none kept = sym kept
+  write_ports (Some (Ports one other)) from to some none kept = rw (is, some, here) refl
+  write_ports (Some (Identifier other)) from to some none kept = rw (is, none) (sym kept)
 
-write_identifier : (numbers : Option PortsOrIdentifier) (start : ℕ) (t : List ℕ) (number offset old : ℕ)
-    → protocol_at start t ≡ number → payload_at start t ≡ offset → (number == 6 || number == 17) ≡ false
-    → has_identifier number (byte_at t offset) ≡ true → with_u16 t (offset + 4) old ≡ t
-    → write_if_some (with_numbers start) t numbers ≡ with_u16 t (offset + 4) (identifier_named numbers old)
-write_identifier None start t number offset old is at_place none some kept = sym kept
-write_identifier (Some (Ports one other)) start t number offset old is at_place none some kept = rw (is, none) (sym kept)
-write_identifier (Some (Identifier other)) start t number offset old is at_place none some kept = rw (is, at_place, some) refl
+  write_identifier : (numbers : Option PortsOrIdentifier) (old : ℕ) → (number == 6 || number == 17) ≡ false
+      → has_identifier number (byte_at t offset) ≡ true → with_u16 t (offset + 4) old ≡ t
+      → write_if_some (with_numbers start) t numbers ≡ with_u16 t (offset + 4) (identifier_named numbers old)
+  write_identifier None old none some kept = sym kept
+  write_identifier (Some (Ports one other)) old none some kept = rw (is, none) (sym kept)
+  write_identifier (Some (Identifier other)) old none some kept = rw (is, here, some) refl
 
-write_none : (numbers : Option PortsOrIdentifier) (start : ℕ) (t : List ℕ) (number offset : ℕ)
-    → protocol_at start t ≡ number → payload_at start t ≡ offset → (number == 6 || number == 17) ≡ false
-    → has_identifier number (byte_at t offset) ≡ false → write_if_some (with_numbers start) t numbers ≡ t
-write_none None start t number offset is at_place a b = refl
-write_none (Some (Ports one other)) start t number offset is at_place a b = rw (is, a) refl
-write_none (Some (Identifier other)) start t number offset is at_place a b = rw (is, at_place, b) refl
+  write_none : (numbers : Option PortsOrIdentifier) → (number == 6 || number == 17) ≡ false
+      → has_identifier number (byte_at t offset) ≡ false → write_if_some (with_numbers start) t numbers ≡ t
+  write_none None a b = refl
+  write_none (Some (Ports one other)) a b = rw (is, a) refl
+  write_none (Some (Identifier other)) a b = rw (is, here, b) refl
 
 -- ---- the header's fields
 
@@ -307,19 +299,14 @@ replaced_header start p change d =
     let to = unwrap_or change.destination (u32_at p (start + 16)) in
     let one = with_u32 p (start + 12) from in
     let two = with_u32 one (start + 16) to in
-    let apart : (k : ℕ) → start + 12 + 3 < k → get_or one k 0 ≡ get_or p k 0 = λ k lt. number_byte_apart p (start + 12) from k (inr lt) in
-    let first = named_number change.source p p (start + 12) (bytes4 p (start + 12) d.small) refl in
-    let second = named_number change.destination one p (start + 16)
-    (λ k le lt. rw (apart k (omega (arith, le))) (d.small k))
-    (number_apart p (start + 12) from (start + 16) (inr (omega arith))) in
-    let third = named_ttl change.ttl start two p
-    (number_byte_apart one (start + 16) to (start + 8) (inl (omega arith))
-    ∙ number_byte_apart p (start + 12) from (start + 8) (inl (omega arith))) in
-    ap (λ l. write_if_some (with_numbers start)
-    (write_if_some (with_ttl start) (write_if_some (λ bytes n. with_u32 bytes (start + 16) n) l change.destination)
-    change.ttl) change.numbers) first
-    ∙ ap (λ l. write_if_some (with_numbers start) (write_if_some (with_ttl start) l change.ttl) change.numbers) second
-    ∙ ap (λ l. write_if_some (with_numbers start) l change.numbers) third
+    rw (
+      named_number change.source p p (start + 12) (bytes4 p (start + 12) d.small) refl,
+      named_number change.destination one p (start + 16)
+          (λ k le lt. rw (number_byte_apart p (start + 12) from k (inr (omega (arith, le)))) (d.small k))
+          (number_apart p (start + 12) from (start + 16) (inr (omega arith))),
+      named_ttl change.ttl start two p (number_byte_apart one (start + 16) to (start + 8) (inl (omega arith))
+          ∙ number_byte_apart p (start + 12) from (start + 8) (inl (omega arith))),
+    ) refl
 
 -- ---- The header checksum.
 
@@ -342,8 +329,7 @@ header_right start p x from to ttl d same =
     let n = header_len (drop start p) in
     let t = timed start p from to ttl in
     let first : get_or x start 0 ≡ get_or p start 0 =
-    in_head start n 0 start x t same (omega arith) (omega (arith, d.long))
-    ∙ timed_byte start p from to ttl start (inl (omega arith)) (inl (omega arith)) in
+    in_head start n 0 start x t same (omega arith) (omega (arith, d.long)) ∙ timed_first start p from to ttl in
     let written = timed_written (head_of start n) start p from to ttl d (head_shows (length p) start n d.whole) 0 refl (omega arith) d.long in
     update_checksum-is (header_in start) (start + 10) p x (combined (ttl_words start p ttl) (pair_words start p from to))
     (rw (ap (λ k. take k (drop start x)) (same_byte-len start p x first) ∙ same)
@@ -376,7 +362,7 @@ module _ (start : ℕ) (p : List ℕ) (from to ttl : ℕ) (numbers : Option Port
 
   -- the payload's offset stays
   payload_stays : (q : List ℕ) → get_or q start 0 ≡ get_or t start 0 → payload_at start q ≡ offset
-  payload_stays q e = ap (λ n. start + n) (same_byte-len start p q (e ∙ timed_byte start p from to ttl start (inl (omega arith)) (inl (omega arith))))
+  payload_stays q e = ap (λ n. start + n) (same_byte-len start p q (e ∙ timed_first start p from to ttl))
 
   pseudo_covered : offset + 4 ≤ length p → Covers (combined (pair_words start p from to) (port_words offset p ports.0 ports.1))
       (pseudo_header_and_payload start p) (pseudo_header_and_payload start (with_ports offset t ports.0 ports.1))
@@ -401,7 +387,7 @@ module _ (start : ℕ) (p : List ℕ) (from to ttl : ℕ) (numbers : Option Port
       (payload_in start (with_u16 t (offset + 4) number))
   carried_covered number room =
       let past : start + 20 ≤ offset = omega (arith, d.long) in
-      let none = hidden (drop offset) p p t (timed_len start p from to ttl) (timed_rest start offset p from to ttl past)
+      let none = hidden (drop offset) p p t (timed_len start p from to ttl) (timed_rest start p from to ttl offset past)
       (nothing_written (drop offset) p) in
       rw (payload_stays (with_u16 t (offset + 4) number) (byte_apart t (offset + 4) number start (inl (omega (arith, past)))))
       (alone (identifier_written (drop offset) start p t behind none (rest_shows (length p) offset) 0 (omega arith) refl
@@ -409,8 +395,8 @@ module _ (start : ℕ) (p : List ℕ) (from to ttl : ℕ) (numbers : Option Port
 
   ports_written_there : (number : ℕ) → protocol_at start p ≡ number → (number == 6 || number == 17) ≡ true → (number == 1) ≡ false
       → write_if_some (with_numbers start) t numbers ≡ with_ports offset t ports.0 ports.1
-  ports_written_there number is some none = write_ports numbers start t number offset (u16_at p offset) (u16_at p (offset + 2))
-      (behind.protocol ∙ is) behind.payload some none (ports_kept_behind start p t behind)
+  ports_written_there number is some none = write_ports start t number offset (behind.protocol ∙ is) behind.payload numbers
+      (u16_at p offset) (u16_at p (offset + 2)) some none (ports_kept_behind start p t behind)
 
   carried_tcp : protocol_at start p ≡ 6 → offset + 18 ≤ length p
       → IsCarried start p from to ttl numbers (Tcp (u16_at p offset) (u16_at p (offset + 2)) (Some (u16_at p (offset + 16))))
@@ -418,7 +404,7 @@ module _ (start : ℕ) (p : List ℕ) (from to ttl : ℕ) (numbers : Option Port
       ap (λ l. update_transport_checksum start p l) (ports_written_there 6 is refl refl) ∙ by_tcp start p _ is room
       ∙ update_checksum-is (pseudo_header_and_payload start) (offset + 16) p (with_ports offset t ports.0 ports.1) _
       (pseudo_covered (omega (arith, room)))
-      (kept_past_ports start p t ports.0 ports.1 (offset + 16) behind (omega arith))
+      (kept_past_ports start p t behind ports.0 ports.1 (offset + 16) (omega arith))
 
   carried_udp : protocol_at start p ≡ 17
       → IsCarried start p from to ttl numbers (Udp (u16_at p offset) (u16_at p (offset + 2)) (u16_at p (offset + 6)))
@@ -426,22 +412,20 @@ module _ (start : ℕ) (p : List ℕ) (from to ttl : ℕ) (numbers : Option Port
       ap (λ l. update_transport_checksum start p l) (ports_written_there 17 is refl refl) ∙ by_udp start p _ is
       ∙ update_udp_checksum-is (pseudo_header_and_payload start) (offset + 6) p (with_ports offset t ports.0 ports.1) _
       (pseudo_covered (omega (arith, room)))
-      (kept_past_ports start p t ports.0 ports.1 (offset + 6) behind (omega arith))
+      (kept_past_ports start p t behind ports.0 ports.1 (offset + 6) (omega arith))
 
   carried_echo : has_identifier (protocol_at start p) (byte_at p offset) ≡ true
       → IsCarried start p from to ttl numbers (Echo (u16_at p (offset + 4)) (u16_at p (offset + 2)))
   carried_echo there room =
       let is : protocol_at start p ≡ 1 = is_icmp (protocol_at start p) (byte_at p offset) there in
-      let type_there : has_identifier 1 (byte_at t offset) ≡ true =
-      subst (λ (m : ℕ). has_identifier 1 m ≡ true) (sym (behind.bytes offset (omega arith)))
-      (subst (λ (n : ℕ). has_identifier n (byte_at p offset) ≡ true) is there) in
+      let type_there : has_identifier 1 (byte_at t offset) ≡ true = rw (behind.bytes offset (omega arith)) (rw is at there) in
       let number = identifier_named numbers (u16_at p (offset + 4)) in
       let written : write_if_some (with_numbers start) t numbers ≡ with_u16 t (offset + 4) number =
-      write_identifier numbers start t 1 offset (u16_at p (offset + 4)) (behind.protocol ∙ is) behind.payload refl type_there
-      (kept_behind start p t (offset + 4) behind (omega arith)) in
+      write_identifier start t 1 offset (behind.protocol ∙ is) behind.payload numbers (u16_at p (offset + 4)) refl type_there
+      (kept_behind start p t behind (offset + 4) (omega arith)) in
       ap (λ l. update_transport_checksum start p l) written ∙ by_icmp start p _ is
       ∙ update_checksum-is (payload_in start) (offset + 2) p (with_u16 t (offset + 4) number) _
-      (carried_covered number room) (kept_past_identifier start p t number behind)
+      (carried_covered number room) (kept_past_identifier start p t behind number)
 
   -- the payload stays, and so does its checksum
   carried_other : (protocol_at start p == 6) ≡ false → (protocol_at start p == 17) ≡ false
@@ -449,9 +433,9 @@ module _ (start : ℕ) (p : List ℕ) (from to ttl : ℕ) (numbers : Option Port
   carried_other x y z _ =
       let none : has_identifier (protocol_at start p) (byte_at t offset) ≡ false = rw (behind.bytes offset (omega arith)) z in
       let rest : payload_in start t ≡ payload_in start p =
-      ap (λ n. drop n t) behind.payload ∙ timed_rest start offset p from to ttl (omega (arith, d.long)) in
+      ap (λ n. drop n t) behind.payload ∙ timed_rest start p from to ttl offset (omega (arith, d.long)) in
       ap (λ l. update_transport_checksum start p l)
-      (write_none numbers start t (protocol_at start p) offset behind.protocol behind.payload (or_from _ _ x y) none)
+      (write_none start t (protocol_at start p) offset behind.protocol behind.payload numbers (or_from _ _ x y) none)
       ∙ ⊎_elim
       (λ one. by_icmp start p t one ∙ update_checksum-kept (payload_in start) (offset + 2) p t (sym rest))
       (λ not_one. by_other start p t x y (ne_eqb _ _ not_one))
@@ -489,22 +473,14 @@ header_kept : (old new from to checksum : ℕ)
     ≡ updated_checksum (u16_change old new) checksum
 header_kept old new from to checksum = grind arith
 
-tcp_kept : (from to one other : ℕ) (checksum : Option ℕ)
-    → Tcp one other (option_map (updated_checksum (combined (combined (u32_change from from) (u32_change to to))
-    (port_change (one, other) (one, other)))) checksum) ≡ Tcp one other checksum
-tcp_kept from to one other None = refl
-tcp_kept from to one other (Some checksum) = grind arith
-
 udp_kept : (words : ChecksumDelta) (checksum : ℕ) → words.is_same ≡ true → updated_udp_checksum words checksum ≡ checksum
 udp_kept words checksum same = rw same refl
 
 numbers_kept : (numbers : Option PortsOrIdentifier) (from to : ℕ) (fields : TransportFields)
     → keeps_numbers numbers fields ≡ true
     → changed_transport_fields numbers (combined (u32_change from from) (u32_change to to)) fields ≡ fields
-numbers_kept numbers from to (Tcp one other checksum) keeps =
-    let same = and_parts _ _ keeps in
-    rw (eqb-true (ports_named numbers one other).0 one same.0, eqb-true (ports_named numbers one other).1 other same.1)
-    (tcp_kept from to one other checksum)
+numbers_kept numbers from to (Tcp one other None) keeps = grind (arith, keeps)
+numbers_kept numbers from to (Tcp one other (Some checksum)) keeps = grind (arith, keeps)
 numbers_kept numbers from to (Udp one other checksum) keeps =
     let same = and_parts _ _ keeps in
     rw (eqb-true (ports_named numbers one other).0 one same.0, eqb-true (ports_named numbers one other).1 other same.1)
@@ -522,9 +498,9 @@ carried_kept start p ttl d room =
     let b = timed_behind start p (u32_at p (start + 12)) (u32_at p (start + 16)) ttl d in
     let ports = ports_kept_behind start p t b in
     by_protocol start p (λ c. with_transport_fields offset t c ≡ t) (λ _ _. ports)
-    (λ _ _. kept_past_ports start p t _ _ (offset + 16) b (omega arith) ∙ ports)
-    (λ _. kept_past_ports start p t _ _ (offset + 6) b (omega arith) ∙ ports)
-    (λ _. kept_past_identifier start p t _ b ∙ kept_behind start p t (offset + 4) b (omega arith)) (λ _ _ _. refl)
+    (λ _ _. kept_past_ports start p t b _ _ (offset + 16) (omega arith) ∙ ports)
+    (λ _. kept_past_ports start p t b _ _ (offset + 6) (omega arith) ∙ ports)
+    (λ _. kept_past_identifier start p t b _ ∙ kept_behind start p t b (offset + 4) (omega arith)) (λ _ _ _. refl)
 
 timed_kept : (start : ℕ) (p : List ℕ) (ttl : ℕ) → IsDatagram start p
     → timed start p (u32_at p (start + 12)) (u32_at p (start + 16)) ttl ≡ set p (start + 8) ttl

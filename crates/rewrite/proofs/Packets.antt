@@ -1,9 +1,11 @@
 -- A rewritten packet passes the tests that the original passed, and keeps the error of its checksum.
-use Rattle.rewrite.specs.Rewritten.{corrected, payload_in, header_in, write_if_some, pseudo_header_and_payload, update_checksum, update_udp_checksum, replaced}
-use Rattle.rewrite.specs.Rewritten.{update_transport_checksum, update_checksums, same_bytes, with_destination, with_numbers, with_ports, with_source, with_ttl}
+use Rattle.rewrite.specs.Rewritten.{has_identifier, corrected, payload_in, header_in, write_if_some, pseudo_header_and_payload, update_checksum}
+use Rattle.rewrite.specs.Rewritten.{update_udp_checksum, replaced, update_transport_checksum, update_checksums, same_bytes, with_destination, with_numbers}
+use Rattle.rewrite.specs.Rewritten.{with_ports, with_source, with_ttl}
+use Rattle.std.proofs.lemmas.Bool.{cond_both, ne_eqb, cases_eq}
 use Rattle.rewrite.proofs.Checksums.{Shows, payload_shows, rest_shows, head_shows, pseudo, head_of, update_keeps_sum, udp_update_keeps_sum}
-use Rattle.std.proofs.Common.{◌≡◌, ◌≢◌, ℕ, ◌+◌, ◌*◌, ◌%◌, ◌<◌, ◌≤◌, ◌⊎◌, inl, inr, Option, Some, None, List, length, suc, get_or, false, refl, ap, ◌∙◌, arith}
-use Rattle.std.proofs.Common.{drop, take, length-take, length-drop, ◌/◌, ⊎_elim, sym, ◌-◌}
+use Rattle.std.proofs.Common.{◌≡◌, ◌≢◌, ℕ, ◌+◌, ◌*◌, ◌%◌, ◌<◌, ◌≤◌, ◌⊎◌, inl, inr, Option, List, length, suc, get_or, false, refl, ap, ◌∙◌, arith, drop, take}
+use Rattle.std.proofs.Common.{length-take, length-drop, ◌/◌, ⊎_elim, sym, ◌-◌}
 use Rattle.std.specs.Prelude.{◌==◌, ◌||◌}
 use Rattle.std.proofs.lemmas.List.{get_or-set_other, get_or-take, get_or-drop}
 use Rattle.ip_headers.specs.Bytes.{u16_at, with_u16, byte_at}
@@ -15,9 +17,8 @@ use Rattle.rewrite.proofs.Words.{byte_apart, number_byte_apart, SameAt, either_b
 use Rattle.rewrite.proofs.Words.{update_by, still_ones, word_same, word_before, rest_before}
 use Rattle.rewrite.proofs.Datagrams.{by_icmp, by_tcp, by_udp, by_protocol, is_icmp}
 use Rattle.ip_headers.specs.Passing.{Passes}
-use Rattle.ip_headers.specs.Transport.{tcp_is_malformed, transport_is_malformed, udp_is_malformed}
+use Rattle.ip_headers.specs.Transport.{transport_is_malformed}
 use Rattle.rewrite.specs.steps.Fields.{HasFields, len_of}
-use Rattle.std.proofs.lemmas.Bool.{ne_eqb, cases_eq}
 use Rattle.ip_headers.specs.Sum.{ones_sum_of, words_sum}
 
 -- ==== The rewritten packet, byte by byte; the list's elements may be any numbers.
@@ -115,37 +116,29 @@ module _ (p : List ℕ) (change : Change) (k : ℕ) (long : 20 ≤ header_len p)
   sent_icmp is apart = sent_past ∙ ap (λ l. get_or l k 0) (by_icmp 0 p (replaced 0 p change) is)
       ∙ update_byte (payload_in 0) (payload_at 0 p + 2) p (replaced 0 p change) k (grind arith)
 
--- the written ports or identifier, by protocol
-pub ports_byte : (t : List ℕ) (numbers : Option PortsOrIdentifier) (number offset k : ℕ) → protocol_at 0 t ≡ number
-    → payload_at 0 t ≡ offset → (number == 1) ≡ false → offset + 4 ≤ k
-    → get_or (write_if_some (with_numbers 0) t numbers) k 0 ≡ get_or t k 0
-ports_byte t None number offset k is here none past = refl
-ports_byte t (Some (Ports from to)) number offset k is here none past =
-    either_by (SameAt k t) _ (with_ports (payload_at 0 t) t from to) t
-    (byte_apart (with_u16 t (payload_at 0 t) from) (payload_at 0 t + 2) to k (inr (omega (arith, here, past)))
-    ∙ byte_apart t (payload_at 0 t) from k (inr (omega (arith, here, past)))) refl
-ports_byte t (Some (Identifier other)) number offset k is here none past = rw (is, none) refl
+-- ports are the first four bytes, and the identifier stands after them
+numbers_beside : (t : List ℕ) (numbers : PortsOrIdentifier) (k : ℕ) → (protocol_at 0 t ≢ 1 → payload_at 0 t + 4 ≤ k)
+    → (protocol_at 0 t ≡ 1 → k < payload_at 0 t + 4) → get_or (with_numbers 0 t numbers) k 0 ≡ get_or t k 0
+numbers_beside t (Ports from to) k past before =
+    cond_both (protocol_at 0 t == 6 || protocol_at 0 t == 17) (with_ports (payload_at 0 t) t from to) t (SameAt k t)
+    (λ h.
+    let beyond = past (λ one. let e = rw one at h in cc) in
+    byte_apart (with_u16 t (payload_at 0 t) from) (payload_at 0 t + 2) to k (inr (omega (arith, beyond)))
+    ∙ byte_apart t (payload_at 0 t) from k (inr (omega (arith, beyond)))) (λ _. refl)
+numbers_beside t (Identifier number) k past before =
+    cond_both (has_identifier (protocol_at 0 t) (byte_at t (payload_at 0 t))) (with_u16 t (payload_at 0 t + 4) number) t (SameAt k t)
+    (λ h. byte_apart t (payload_at 0 t + 4) number k (inl (before (is_icmp (protocol_at 0 t) (byte_at t (payload_at 0 t)) h)))) (λ _. refl)
 
-pub icmp_byte : (t : List ℕ) (numbers : Option PortsOrIdentifier) (number offset k : ℕ) → protocol_at 0 t ≡ number
-    → payload_at 0 t ≡ offset → (number == 6 || number == 17) ≡ false → k < offset + 4
-    → get_or (write_if_some (with_numbers 0) t numbers) k 0 ≡ get_or t k 0
-icmp_byte t None number offset k is here none before = refl
-icmp_byte t (Some (Ports from to)) number offset k is here none before = rw (is, none) refl
-icmp_byte t (Some (Identifier other)) number offset k is here none before =
-    either_by (SameAt k t) _ _ t (byte_apart t (payload_at 0 t + 4) other k (inl (omega (arith, here, before)))) refl
-
-module _ (p : List ℕ) (change : Change) (k : ℕ) (long : 20 ≤ header_len p) where
-  past_ports : (number : ℕ) → protocol_at 0 p ≡ number → (number == 1) ≡ false → payload_at 0 p + 4 ≤ k
-      → get_or (replaced 0 p change) k 0 ≡ get_or p k 0
-  past_ports number is none past =
-      ports_byte (timed p change) change.numbers number (payload_at 0 p) k (timed_protocol p change ∙ is) (timed_payload p change) none past
-      ∙ timed_byte p change k (omega (arith, long, past)) (inr (omega (arith, long, past)))
-
-  -- type, code and checksum
-  pub before_identifier : protocol_at 0 p ≡ 1 → payload_at 0 p ≤ k → k < payload_at 0 p + 4 → get_or (replaced 0 p change) k 0 ≡ get_or p k 0
-  before_identifier is past before =
-      icmp_byte (timed p change) change.numbers 1 (payload_at 0 p) k (timed_protocol p change ∙ is) (timed_payload p change) refl before
-      ∙ timed_byte p change k (omega (arith, long, past)) (inr (omega (arith, long, past)))
+pub replaced_beside : (p : List ℕ) (change : Change) (k : ℕ) → 20 ≤ header_len p → payload_at 0 p ≤ k
+    → (protocol_at 0 p ≢ 1 → payload_at 0 p + 4 ≤ k) → (protocol_at 0 p ≡ 1 → k < payload_at 0 p + 4)
+    → get_or (replaced 0 p change) k 0 ≡ get_or p k 0
+replaced_beside p change k long le past before =
+    let t = timed p change in
+    let protocol = timed_protocol p change in
+    named_byte (with_numbers 0) t change.numbers k (λ n. numbers_beside t n k
+    (λ other. rw (timed_payload p change) (past (λ one. other (protocol ∙ one))))
+    (λ one. rw (timed_payload p change) (before (sym protocol ∙ one))))
+    ∙ timed_byte p change k (omega (arith, long, le)) (inr (omega (arith, long, le)))
 
 -- ==== Lengths of packets, and that their fields are there.
 
@@ -207,28 +200,19 @@ header_keeps p change ok =
 
 -- ---- the tests on the payload
 
-tcp_same : (x y : List ℕ) → length x ≡ length y → get_or x 12 0 ≡ get_or y 12 0 → tcp_is_malformed x ≡ tcp_is_malformed y
-tcp_same x y len data_offset_same = rw (len, data_offset_same) refl
-
-udp_same : (x y : List ℕ) → length x ≡ length y → u16_at x 4 ≡ u16_at y 4 → udp_is_malformed x ≡ udp_is_malformed y
-udp_same x y len length_same = rw (len, length_same) refl
-
 wrong_same : (number : ℕ) (x y : List ℕ) → length x ≡ length y → (number ≡ 6 → get_or x 12 0 ≡ get_or y 12 0)
     → (number ≡ 17 → u16_at x 4 ≡ u16_at y 4) → transport_is_malformed number x ≡ transport_is_malformed number y
 wrong_same number x y len tcp udp =
     ⊎_elim
-    (λ six. rw six (tcp_same x y len (tcp six)))
+    (λ six. rw six (rw (len, tcp six) refl))
     (λ not_six. ⊎_elim
-    (λ seventeen. rw seventeen (udp_same x y len (udp seventeen)))
+    (λ seventeen. rw seventeen (rw (len, udp seventeen) refl))
     (λ not_seventeen. rw (ne_eqb number 6 not_six, ne_eqb number 17 not_seventeen, len) refl)
     (cases_eq number 17))
     (cases_eq number 6)
 
 pub payload_byte : (xs : List ℕ) (h n i : ℕ) → h + i < n → get_or (drop h (take n xs)) i 0 ≡ get_or xs (h + i) 0
 payload_byte xs h n i lt = get_or-drop h (take n xs) i 0 ∙ get_or-take n xs (h + i) 0 lt
-
-payload_len : (xs ys : List ℕ) (h n : ℕ) → length xs ≡ length ys → length (drop h (take n xs)) ≡ length (drop h (take n ys))
-payload_len xs ys h n e = omega (arith, e, length-drop h (take n xs), length-drop h (take n ys), length-take n xs, length-take n ys)
 
 pub within : (p : List ℕ) → Passes p → length (payload_of p) + header_len p ≤ total_len p
 within p ok = omega (arith, length-drop (header_len p) (take (total_len p) p), length-take (total_len p) p, ok.head.head, ok.head.whole)
@@ -290,18 +274,19 @@ sent_passes p change ok =
     let enough = tcp_long (payload_of p) (rw six at ok.transport) in
     payload_byte q h n 12 (omega (arith, enough, room))
     ∙ sent_tcp p change (h + 12) long (omega arith) six (tcp_room p ok six) (inl (omega arith))
-    ∙ past_ports p change (h + 12) long 6 six refl (omega arith) ∙ sym (payload_byte p h n 12 (omega (arith, enough, room))) in
+    ∙ replaced_beside p change (h + 12) long (omega arith) (λ _. omega arith) (λ one. absurd (omega (arith, six, one))) ∙ sym (payload_byte p h n 12 (omega (arith, enough, room))) in
     let udp : protocol p ≡ 17 → u16_at (drop h (take n q)) 4 ≡ u16_at (drop h (take n p)) 4 = λ seventeen.
     let enough = udp_long (payload_of p) (rw seventeen at ok.transport) in
     word_same (drop h (take n q)) (drop h (take n p)) 4 (λ k past lt.
     payload_byte q h n k (omega (arith, enough, room, lt))
     ∙ sent_udp p change (h + k) long (omega arith) seventeen (inl (omega (arith, lt)))
-    ∙ past_ports p change (h + k) long 17 seventeen refl (omega (arith, past))
+    ∙ replaced_beside p change (h + k) long (omega arith) (λ _. omega (arith, past)) (λ one. absurd (omega (arith, seventeen, one)))
     ∙ sym (payload_byte p h n k (omega (arith, enough, room, lt)))) in
     passes_by p q ok same len
     (still_ones (header p) (header q) (header_keeps p change ok) ok.head.sum
     (rw (get_or-take (header_len q) q 0 0 (omega (arith, same.header, long)), same.byte 0 (omega arith)) (omega (arith, ok.head.four))))
-    (wrong_same (protocol p) (drop h (take n q)) (drop h (take n p)) (payload_len q p h n len) tcp udp ∙ ok.transport)
+    (wrong_same (protocol p) (drop h (take n q)) (drop h (take n p))
+    (omega (arith, len, length-drop h (take n q), length-drop h (take n p), length-take n q, length-take n p)) tcp udp ∙ ok.transport)
 
 -- ==== The error of the transport checksum doesn't change.
 
@@ -349,9 +334,9 @@ module _ (p : List ℕ) (change : Change) (ok : Passes p) where
   pseudo_shown : Shows (pseudo 0 offset) (length r) offset (length r - offset) 8
   pseudo_shown = payload_shows (length r) 0 offset long (omega (arith, length-replaced 0 p change, ok.head.head, ok.head.whole))
 
-  word_past_ports : (number k : ℕ) → protocol p ≡ number → (number == 1) ≡ false → 4 ≤ k → u16_at r (offset + k) ≡ u16_at p (offset + k)
-  word_past_ports number k is none past =
-      word_same r p (offset + k) (λ j le _. past_ports p change j ok.head.long number is none (omega (arith, past, le)))
+  word_past_ports : (k : ℕ) → protocol p ≢ 1 → 4 ≤ k → u16_at r (offset + k) ≡ u16_at p (offset + k)
+  word_past_ports k other past = word_same r p (offset + k) (λ j le _.
+      replaced_beside p change j ok.head.long (omega (arith, le)) (λ _. omega (arith, past, le)) (λ one. absurd (other one)))
 
   pub tcp_sum_kept : protocol p ≡ 6
       → words_sum (pseudo_header_and_payload 0 (sent p change)) % 65535 ≡ words_sum (pseudo_header_and_payload 0 p) % 65535
@@ -359,7 +344,7 @@ module _ (p : List ℕ) (change : Change) (ok : Passes p) where
       let room = tcp_room p ok six in
       ap (λ l. words_sum l % 65535) (sent_pseudo ∙ ap (λ l. pseudo_header_and_payload 0 l) (by_tcp 0 p r six room))
       ∙ update_keeps_sum (pseudo_header_and_payload 0) (pseudo 0 offset) p r pseudo_fixed pseudo_shown 16 (offset + 16) refl refl
-      (omega (arith, room, length-replaced 0 p change)) (omega arith) first (word_past_ports 6 16 six refl (omega arith))
+      (omega (arith, room, length-replaced 0 p change)) (omega arith) first (word_past_ports 16 (λ one. omega (arith, six, one)) (omega arith))
 
   pub udp_sum_kept : protocol p ≡ 17 → u16_at p (offset + 6) ≢ 0
       → words_sum (pseudo_header_and_payload 0 (sent p change)) % 65535 ≡ words_sum (pseudo_header_and_payload 0 p) % 65535
@@ -368,7 +353,7 @@ module _ (p : List ℕ) (change : Change) (ok : Passes p) where
       ap (λ l. words_sum l % 65535) (sent_pseudo ∙ ap (λ l. pseudo_header_and_payload 0 l) (by_udp 0 p r seventeen))
       ∙ udp_update_keeps_sum (pseudo_header_and_payload 0) (pseudo 0 offset) p r pseudo_fixed pseudo_shown 6 (offset + 6) refl refl
       (omega (arith, enough, within p ok, ok.head.whole, length-replaced 0 p change)) (omega arith) first
-      (word_past_ports 17 6 seventeen refl (omega arith)) made
+      (word_past_ports 6 (λ one. omega (arith, seventeen, one)) (omega arith)) made
 
   pub icmp_sum_kept : protocol p ≡ 1 → words_sum (payload_in 0 (sent p change)) % 65535 ≡ words_sum (payload_in 0 p) % 65535
   icmp_sum_kept one =
@@ -378,4 +363,5 @@ module _ (p : List ℕ) (change : Change) (ok : Passes p) where
       (λ q w. rest_before q offset 10 w (omega (arith, long))) ∙ ap (λ l. payload_in 0 l) (by_icmp 0 p r one))
       ∙ update_keeps_sum (payload_in 0) (drop offset) p r fixed (rest_shows (length r) offset) 2 (offset + 2) refl refl
       (omega (arith, enough, within p ok, ok.head.whole, length-replaced 0 p change)) (omega arith) first
-      (word_same r p (offset + 2) (λ k le lt. before_identifier p change k ok.head.long one (omega (arith, le)) (omega (arith, lt))))
+      (word_same r p (offset + 2) (λ k le lt. replaced_beside p change k ok.head.long (omega (arith, le))
+      (λ other. absurd (other one)) (λ _. omega (arith, lt))))

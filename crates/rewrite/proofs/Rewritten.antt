@@ -1,6 +1,6 @@
 -- The laws of rewritten packets: with a rewritten quoted datagram, and the tuple of one that was given endpoints.
 -- To be read before it: Words, Checksums, Datagrams, Packets.
-use Rattle.rewrite.proofs.Packets.{before_identifier, update_byte, sent, head_by, length-sent, passes_by, payload_byte, sent_passes, within, icmp_long}
+use Rattle.rewrite.proofs.Packets.{replaced_beside, update_byte, sent, head_by, length-sent, passes_by, payload_byte, sent_passes, within, icmp_long}
 use Rattle.rewrite.proofs.Packets.{icmp_sum_kept, payload_same, tcp_long, udp_long, named_byte, sent_header, sent_icmp, sent_tcp, sent_udp, timed, timed_byte}
 use Rattle.rewrite.proofs.Packets.{timed_payload, timed_protocol, same_head, tcp_room}
 use Rattle.rewrite.proofs.Datagrams.{first_of_rest, IsDatagram, carried_at, whole_is, fields_exchanged, fields_room, is_icmp}
@@ -353,7 +353,7 @@ sent_kind p change ok =
     let enough = icmp_long (payload_of p) (rw one at ok.transport) in
     payload_byte q h n 0 (omega (arith, enough, within p ok))
     ∙ sent_icmp p change (h + 0) ok.head.long (omega arith) one (inl (omega arith))
-    ∙ before_identifier p change (h + 0) ok.head.long one (omega arith) (omega arith)
+    ∙ replaced_beside p change (h + 0) ok.head.long (omega arith) (λ other. absurd (other one)) (λ _. omega arith)
     ∙ sym (payload_byte p h n 0 (omega (arith, enough, within p ok)))))
 
 pub rewritten_has_tuple : (p : List ℕ) (t : Tuple) (ttl : Option ℕ) → Passes p

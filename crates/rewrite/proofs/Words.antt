@@ -8,7 +8,7 @@ use Rattle.byteorder.specs.Endian.{big_number}
 use Rattle.ip_headers.specs.Bytes.{u16_at, u32_at, with_u16, with_u32}
 use mathlib.Core.Bool.{not}
 use Rattle.ip_headers.specs.Sum.{words_sum, ones_sum_of}
-use Rattle.rewrite.specs.Rewritten.{with_ports, header_in, payload_in, pseudo_header_and_payload, replaced, same_bytes, update_checksum, update_checksums}
+use Rattle.rewrite.specs.Rewritten.{with_ports, header_in, payload_in, pseudo_header_and_payload, replaced, same_bytes, update_checksum}
 use Rattle.rewrite.specs.Rewritten.{update_transport_checksum, update_udp_checksum, with_destination, with_endpoints, with_numbers, with_source, with_ttl}
 use Rattle.rewrite.specs.Rewritten.{write_if_some}
 use Rattle.std.specs.Prelude.{◌==◌, ◌||◌, if◌then◌else◌}
@@ -282,12 +282,9 @@ module _ (P : List ℕ → Type 0) where
         (udp_update_by (pseudo_header_and_payload start) (offset + 6) old now (omega (arith, le)) h)
         (either_by (protocol_at start old == 1) _ now (update_by (payload_in start) (offset + 2) old now (omega (arith, le)) h) h))
 
-    pub datagram_by : (start : ℕ) (old now : List ℕ) → low ≤ start → P now → P (update_checksums start old now)
-    datagram_by start old now le h = update_by (header_in start) (start + 10) old _ (omega (arith, le))
-        (transport_by start old now (omega (arith, le)) h)
-
     pub ends_by : (start : ℕ) (p : List ℕ) (t : Tuple) → low ≤ start → P p → P (with_endpoints start p t)
-    ends_by start p t le h = datagram_by start p _ le (replaced_by start p (between t None) le h)
+    ends_by start p t le h = update_by (header_in start) (start + 10) p _ (omega (arith, le))
+        (transport_by start p _ (omega (arith, le)) (replaced_by start p (between t None) le h))
 
 -- as its length
 abbrev pub AsLong : List ℕ → List ℕ → Type 0
