@@ -145,41 +145,32 @@ head_shows size start n room = record {
 abbrev pub pseudo : ℕ → ℕ → List ℕ → List ℕ
 pseudo start offset p = take 8 (drop (start + 12) p) ++ drop offset p
 
-pub length_addresses : (q : List ℕ) (start : ℕ) → start + 20 ≤ length q → length (take 8 (drop (start + 12) q)) ≡ 8
-length_addresses q start room = omega (arith, length-take 8 (drop (start + 12) q), length-drop (start + 12) q, room)
-
 pub append_byte : (xs ys : List ℕ) (k v : ℕ) → length xs ≡ 8 → set (xs ++ ys) (8 + k) v ≡ xs ++ set ys k v
 append_byte xs ys k v len =
     let back : 8 + k - 8 ≡ k = omega arith in
     set-append_right xs ys 8 (8 + k) v len (omega arith) ∙ ap (λ j. xs ++ set ys j v) back
 
 module _ (size start offset : ℕ) (past : start + 20 ≤ offset) (room : offset ≤ size) where
+  addresses_len : (q : List ℕ) → length q ≡ size → length (take 8 (drop (start + 12) q)) ≡ 8
+  addresses_len q len = omega (arith, length-take 8 (drop (start + 12) q), length-drop (start + 12) q, past, room, len)
+
+  pseudo_len : (q : List ℕ) → length q ≡ size → length (pseudo start offset q) ≡ 8 + (size - offset)
+  pseudo_len q len = omega (arith, length-append (take 8 (drop (start + 12) q)) (drop offset q), addresses_len q len, length-drop offset q, len)
+
   pub pair_shows : Shows (pseudo start offset) size (start + 12) 8 0
   pair_shows = record {
     written = λ q v i j len is lt.
         rw (none_before i, byte_in q (start + 12) 8 i j v is lt, drop-set-lt offset q j v (omega (arith, is, lt, past)))
-        (sym (set-append_left _ (drop offset q) i v (omega (arith, length_addresses q start (omega (arith, past, room, len)), lt))));
-    room = λ q i len lt. omega (
-      arith,
-      length-append (take 8 (drop (start + 12) q)) (drop offset q),
-      length_addresses q start (omega (arith, past, room, len)),
-      lt,
-    );
+        (sym (set-append_left _ (drop offset q) i v (omega (arith, addresses_len q len, lt))));
+    room = λ q i len lt. omega (arith, pseudo_len q len, lt);
   }
 
   pub payload_shows : Shows (pseudo start offset) size offset (size - offset) 8
   payload_shows = record {
     written = λ q v i j len is lt.
         rw (byte_after q (start + 12) 8 j v (omega (arith, is, past)), is, drop-set-add offset q i v)
-        (sym (append_byte _ (drop offset q) i v (length_addresses q start (omega (arith, past, room, len)))));
-    room = λ q i len lt. omega (
-      arith,
-      length-append (take 8 (drop (start + 12) q)) (drop offset q),
-      length_addresses q start (omega (arith, past, room, len)),
-      length-drop offset q,
-      len,
-      lt,
-    );
+        (sym (append_byte _ (drop offset q) i v (addresses_len q len)));
+    room = λ q i len lt. omega (arith, pseudo_len q len, lt);
   }
 
 -- ---- bytes written into `p`, and the words that they change under a checksum

@@ -55,15 +55,6 @@ udp_update_byte over offset old now k apart =
     either_by (SameAt k now) (same_bytes (over old) (over now) || u16_at old offset == 0) now _ refl
     (byte_apart now offset _ k apart)
 
--- ports and identifier are after the header
-pub numbers_byte : (start : ℕ) (bytes : List ℕ) (numbers : PortsOrIdentifier) (k : ℕ) → k < payload_at start bytes
-    → get_or (with_numbers start bytes numbers) k 0 ≡ get_or bytes k 0
-numbers_byte start bytes numbers k lt = numbers_by (SameAt k bytes) (suc k) (same_at k bytes) start bytes numbers (omega (arith, lt)) refl
-
-carried_byte : (start : ℕ) (old now : List ℕ) (k : ℕ) → k < payload_at start old
-    → get_or (update_transport_checksum start old now) k 0 ≡ get_or now k 0
-carried_byte start old now k lt = transport_by (SameAt k now) (suc k) (same_at k now) start old now (omega (arith, lt)) refl
-
 -- ---- the header: its bytes but its checksum's are those of the datagram with another header
 
 pub timed_payload : (p : List ℕ) (change : Change) → payload_at 0 (timed p change) ≡ payload_at 0 p
@@ -79,12 +70,18 @@ sent p change = update_checksums 0 p (replaced 0 p change)
 abbrev pub checksum_updated : List ℕ → Change → List ℕ
 checksum_updated p change = update_transport_checksum 0 p (replaced 0 p change)
 
-pub checksum_updated_header : (p : List ℕ) (change : Change) (k : ℕ) → k < payload_at 0 p
-    → get_or (checksum_updated p change) k 0 ≡ get_or (timed p change) k 0
-checksum_updated_header p change k lt =
+-- ports and identifier are after the header
+replaced_front : (p : List ℕ) (change : Change) (k : ℕ) → k < payload_at 0 p
+    → get_or (replaced 0 p change) k 0 ≡ get_or (timed p change) k 0
+replaced_front p change k lt =
     let t = timed p change in
-    carried_byte 0 p (replaced 0 p change) k lt
-    ∙ named_byte (with_numbers 0) t change.numbers k (λ n. numbers_byte 0 t n k (rw (timed_payload p change) lt))
+    named_byte (with_numbers 0) t change.numbers k
+    (λ n. numbers_by (SameAt k t) (suc k) (same_at k t) 0 t n (rw (timed_payload p change) (omega (arith, lt))) refl)
+
+checksum_updated_header : (p : List ℕ) (change : Change) (k : ℕ) → k < payload_at 0 p
+    → get_or (checksum_updated p change) k 0 ≡ get_or (timed p change) k 0
+checksum_updated_header p change k lt = transport_by (SameAt k (timed p change)) (suc k) (same_at k (timed p change)) 0 p
+    (replaced 0 p change) (omega (arith, lt)) (replaced_front p change k lt)
 
 pub sent_header : (p : List ℕ) (change : Change) (k : ℕ) → k < payload_at 0 p → (k < 10) ⊎ (11 < k)
     → get_or (sent p change) k 0 ≡ get_or (timed p change) k 0
@@ -153,16 +150,13 @@ udp_long payload right = grind (arith, right)
 pub icmp_long : (payload : List ℕ) → transport_is_malformed 1 payload ≡ false → 8 ≤ length payload
 icmp_long payload right = grind (arith, right)
 
+pub within : (p : List ℕ) → Passes p → length (payload_of p) + header_len p ≤ total_len p
+within p ok = omega (arith, length-drop (header_len p) (take (total_len p) p), length-take (total_len p) p, ok.head.head, ok.head.whole)
+
 pub has_fields : (p : List ℕ) → Passes p → HasFields 0 p
 has_fields p ok =
     let payload = payload_of p in
-    let len : length payload + header_len p ≤ length p = omega (
-      arith,
-      length-drop (header_len p) (take (total_len p) p),
-      length-take (total_len p) p,
-      ok.head.head,
-      ok.head.whole,
-    ) in
+    let len : length payload + header_len p ≤ length p = omega (arith, within p ok, ok.head.whole) in
     record {
       long = ok.head.long;
       whole = by_protocol 0 p (λ f. payload_at 0 p + len_of f ≤ length p)
@@ -176,9 +170,6 @@ has_fields p ok =
 
 pub length-replaced : (start : ℕ) (p : List ℕ) (change : Change) → length (replaced start p change) ≡ length p
 length-replaced start p change = replaced_by (AsLong p) 0 (as_long p) start p change (omega arith) refl
-
-pub length-put : (over : List ℕ → List ℕ) (offset : ℕ) (old now : List ℕ) → length (update_checksum over offset old now) ≡ length now
-length-put over offset old now = update_by (AsLong now) 0 (as_long now) over offset old now (omega arith) refl
 
 pub length-carried : (start : ℕ) (old now : List ℕ) → length (update_transport_checksum start old now) ≡ length now
 length-carried start old now = transport_by (AsLong now) 0 (as_long now) start old now (omega arith) refl
@@ -211,18 +202,18 @@ wrong_same number x y len tcp udp =
     (cases_eq number 17))
     (cases_eq number 6)
 
-pub payload_byte : (xs : List ℕ) (h n i : ℕ) → h + i < n → get_or (drop h (take n xs)) i 0 ≡ get_or xs (h + i) 0
-payload_byte xs h n i lt = get_or-drop h (take n xs) i 0 ∙ get_or-take n xs (h + i) 0 lt
+pub payload_byte : (xs : List ℕ) (h n i j : ℕ) → j ≡ h + i → j < n → get_or (drop h (take n xs)) i 0 ≡ get_or xs j 0
+payload_byte xs h n i j is lt = rw is (get_or-drop h (take n xs) i 0 ∙ get_or-take n xs (h + i) 0 (omega (arith, is, lt)))
 
-pub within : (p : List ℕ) → Passes p → length (payload_of p) + header_len p ≤ total_len p
-within p ok = omega (arith, length-drop (header_len p) (take (total_len p) p), length-take (total_len p) p, ok.head.head, ok.head.whole)
+pub payload_len : (xs ys : List ℕ) (h n : ℕ) → length xs ≡ length ys → length (drop h (take n xs)) ≡ length (drop h (take n ys))
+payload_len xs ys h n e = omega (arith, e, length-drop h (take n xs), length-drop h (take n ys), length-take n xs, length-take n ys)
 
 pub tcp_room : (p : List ℕ) → Passes p → protocol p ≡ 6 → payload_at 0 p + 18 ≤ length p
 tcp_room p ok six = omega (arith, tcp_long (payload_of p) (rw six at ok.transport), within p ok, ok.head.whole)
 
 pub length-sent : (p : List ℕ) (change : Change) → length (sent p change) ≡ length p
-length-sent p change = length-put (header_in 0) 10 p (checksum_updated p change)
-    ∙ length-carried 0 p (replaced 0 p change) ∙ length-replaced 0 p change
+length-sent p change = update_by (AsLong p) 0 (as_long p) (header_in 0) 10 p (checksum_updated p change) (omega arith)
+    (length-carried 0 p (replaced 0 p change) ∙ length-replaced 0 p change)
 
 -- ---- the header, but for its TTL, its checksum and its addresses
 
@@ -272,21 +263,20 @@ sent_passes p change ok =
     let room = within p ok in
     let tcp : protocol p ≡ 6 → get_or (drop h (take n q)) 12 0 ≡ get_or (drop h (take n p)) 12 0 = λ six.
     let enough = tcp_long (payload_of p) (rw six at ok.transport) in
-    payload_byte q h n 12 (omega (arith, enough, room))
+    payload_byte q h n 12 (h + 12) refl (omega (arith, enough, room))
     ∙ sent_tcp p change (h + 12) long (omega arith) six (tcp_room p ok six) (inl (omega arith))
-    ∙ replaced_beside p change (h + 12) long (omega arith) (λ _. omega arith) (λ one. absurd (omega (arith, six, one))) ∙ sym (payload_byte p h n 12 (omega (arith, enough, room))) in
+    ∙ replaced_beside p change (h + 12) long (omega arith) (λ _. omega arith) (λ one. absurd (omega (arith, six, one))) ∙ sym (payload_byte p h n 12 (h + 12) refl (omega (arith, enough, room))) in
     let udp : protocol p ≡ 17 → u16_at (drop h (take n q)) 4 ≡ u16_at (drop h (take n p)) 4 = λ seventeen.
     let enough = udp_long (payload_of p) (rw seventeen at ok.transport) in
     word_same (drop h (take n q)) (drop h (take n p)) 4 (λ k past lt.
-    payload_byte q h n k (omega (arith, enough, room, lt))
+    payload_byte q h n k (h + k) refl (omega (arith, enough, room, lt))
     ∙ sent_udp p change (h + k) long (omega arith) seventeen (inl (omega (arith, lt)))
     ∙ replaced_beside p change (h + k) long (omega arith) (λ _. omega (arith, past)) (λ one. absurd (omega (arith, seventeen, one)))
-    ∙ sym (payload_byte p h n k (omega (arith, enough, room, lt)))) in
+    ∙ sym (payload_byte p h n k (h + k) refl (omega (arith, enough, room, lt)))) in
     passes_by p q ok same len
     (still_ones (header p) (header q) (header_keeps p change ok) ok.head.sum
     (rw (get_or-take (header_len q) q 0 0 (omega (arith, same.header, long)), same.byte 0 (omega arith)) (omega (arith, ok.head.four))))
-    (wrong_same (protocol p) (drop h (take n q)) (drop h (take n p))
-    (omega (arith, len, length-drop h (take n q), length-drop h (take n p), length-take n q, length-take n p)) tcp udp ∙ ok.transport)
+    (wrong_same (protocol p) (drop h (take n q)) (drop h (take n p)) (payload_len q p h n len) tcp udp ∙ ok.transport)
 
 -- ==== The error of the transport checksum doesn't change.
 
@@ -294,11 +284,6 @@ sent_passes p change ok =
 
 pub payload_same : (xs ys : List ℕ) → get_or xs 0 0 ≡ get_or ys 0 0 → payload_at 0 xs ≡ payload_at 0 ys
 payload_same xs ys e = ap (λ b. 0 + b % 16 * 4) e
-
-replaced_front : (p : List ℕ) (change : Change) (k : ℕ) → k < payload_at 0 p
-    → get_or (replaced 0 p change) k 0 ≡ get_or (timed p change) k 0
-replaced_front p change k lt = named_byte (with_numbers 0) (timed p change) change.numbers k
-    (λ n. numbers_byte 0 (timed p change) n k (rw (timed_payload p change) lt))
 
 module _ (p : List ℕ) (change : Change) (ok : Passes p) where
   abbrev offset : ℕ

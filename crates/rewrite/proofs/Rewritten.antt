@@ -1,8 +1,8 @@
 -- The laws of rewritten packets: with a rewritten quoted datagram, and the tuple of one that was given endpoints.
 -- To be read before it: Words, Checksums, Datagrams, Packets.
-use Rattle.rewrite.proofs.Packets.{replaced_beside, update_byte, sent, head_by, length-sent, passes_by, payload_byte, sent_passes, within, icmp_long}
-use Rattle.rewrite.proofs.Packets.{icmp_sum_kept, payload_same, tcp_long, udp_long, named_byte, sent_header, sent_icmp, sent_tcp, sent_udp, timed, timed_byte}
-use Rattle.rewrite.proofs.Packets.{timed_payload, timed_protocol, same_head, tcp_room}
+use Rattle.rewrite.proofs.Packets.{payload_len, replaced_beside, update_byte, sent, head_by, length-sent, passes_by, payload_byte, sent_passes, within}
+use Rattle.rewrite.proofs.Packets.{icmp_long, icmp_sum_kept, payload_same, tcp_long, udp_long, named_byte, sent_header, sent_icmp, sent_tcp, sent_udp, timed}
+use Rattle.rewrite.proofs.Packets.{timed_byte, timed_payload, timed_protocol, same_head, tcp_room}
 use Rattle.rewrite.proofs.Datagrams.{first_of_rest, IsDatagram, carried_at, whole_is, fields_exchanged, fields_room, is_icmp}
 use Rattle.rewrite.proofs.Checksums.{Covers, rest_shows, update_checksum-is, update_keeps_sum}
 use Rattle.std.proofs.Common.{◌≡◌, ◌≢◌, ℕ, suc, ◌+◌, ◌*◌, ◌%◌, ◌<◌, ◌≤◌, inl, Option, Some, None, List, length, get_or, take, drop, length-take, length-drop}
@@ -85,18 +85,8 @@ quote_rewritten_passes p t ok one =
     let head = head_by p q (λ k lt. same k (omega (arith, ok.head.long, lt))) (same 9 (omega (arith, ok.head.long))) in
     let len : length q ≡ length p = length-quote_rewritten p t in
     let enough : 8 ≤ length (payload_of p) = icmp_long (payload_of p) (rw one at ok.transport) in
-    let room : 8 ≤ length (drop h (take n q)) =
-    omega (
-      arith,
-      enough,
-      len,
-      length-drop h (take n q),
-      length-take n q,
-      length-drop h (take n p),
-      length-take n p,
-    ) in
     passes_by p q ok head len (ap ones_sum_of (ap (λ k. take k q) head.header ∙ same_part h q p len same) ∙ ok.head.sum)
-    (rw one (icmp_right (drop h (take n q)) room))
+    (rw one (icmp_right (drop h (take n q)) (rw (payload_len q p h n len) enough)))
 
 -- what holds of the packet, and of an error with the rewritten quoted datagram, holds after the first step
 inner_by : (P : List ℕ → Type 0) (p : List ℕ) (change : Change) → ((t : Tuple) → protocol p ≡ 1 → P (quote_rewritten p t)) → P p
@@ -153,17 +143,10 @@ rewritten_other p change other =
 
 -- ---- the quoted datagram's fields are there, and only its words change under the error's checksum
 
--- facts about a quoted datagram that can be translated
-record IsReadable (inner : List ℕ) : Type 0 where
-  long : 20 ≤ header_len inner
-  whole : header_len inner + 8 ≤ length inner
-
-readable : (inner : List ℕ) → is_readable inner ≡ true → IsReadable inner
+readable : (inner : List ℕ) → is_readable inner ≡ true → (20 ≤ header_len inner) × (header_len inner + 8 ≤ length inner)
 readable inner h =
     let one = and_parts _ _ h in
-    let two = and_parts _ _ one.0 in
-    let three = and_parts _ _ two.0 in
-    record { long = leb-true _ _ three.1; whole = leb-true _ _ one.1 }
+    (leb-true _ _ (and_parts _ _ (and_parts _ _ one.0).0).1, leb-true _ _ one.1)
 
 pub inner_fields : (p : List ℕ) → Passes p → is_some (inner_tuple_of p) ≡ true → HasFields (inner_start p) p
 inner_fields p ok h =
@@ -173,15 +156,13 @@ inner_fields p ok h =
     let n = total_len p in
     let head = header_len p in
     let room : length inner + (head + 8) ≤ n =
-    omega (arith, is.whole, length-drop 8 (payload_of p), length-drop head (take n p), length-take n p) in
-    let place : head + 8 ≡ inner_start p = omega arith in
+    omega (arith, is.1, length-drop 8 (payload_of p), length-drop head (take n p), length-take n p) in
     let first : get_or inner 0 0 ≡ get_or (drop (inner_start p) p) 0 0 = get_or-drop 8 (payload_of p) 0 0
-    ∙ payload_byte p head n 8 (omega (arith, is.whole, room)) ∙ ap (λ k. get_or p k 0) place
-    ∙ sym (first_of_rest p (inner_start p)) in
+    ∙ payload_byte p head n 8 (inner_start p) (omega arith) (omega (arith, is.1, room)) ∙ sym (first_of_rest p (inner_start p)) in
     let same : header_len inner ≡ header_len (drop (inner_start p) p) = ap (λ b. b % 16 * 4) first in
     record {
-      long = omega (arith, same, is.long);
-      whole = fields_room (inner_start p) p (omega (arith, same, is.whole, room, ok.head.whole));
+      long = omega (arith, same, is.0);
+      whole = fields_room (inner_start p) p (omega (arith, same, is.1, room, ok.head.whole));
     }
 
 pub quote_rewritten_is : (p : List ℕ) (t : Tuple) → 20 ≤ payload_at 0 p → IsDatagram (inner_start p) p
@@ -226,13 +207,7 @@ inner_rewritten_is p change = inner_of_both (inner_tuple_of p) change.inner p re
 
 word_of_payload : (xs : List ℕ) (h n i j : ℕ) → j ≡ h + i → j + 1 < n → u16_at (drop h (take n xs)) i ≡ u16_at xs j
 word_of_payload xs h n i j is lt =
-    let next : j + 1 ≡ h + (i + 1) = omega (arith, is) in
-    let high : get_or (drop h (take n xs)) i 0 ≡ get_or xs j 0 = rw is (payload_byte xs h n i (omega (arith, is, lt))) in
-    let low : get_or (drop h (take n xs)) (i + 1) 0 ≡ get_or xs (j + 1) 0 = rw next (payload_byte xs h n (i + 1) (omega (arith, is, lt))) in
-    rw (high, low) refl
-
-first_of_payload : (xs : List ℕ) (h n j : ℕ) → j ≡ h + 0 → j < n → get_or (drop h (take n xs)) 0 0 ≡ get_or xs j 0
-first_of_payload xs h n j is lt = rw is (payload_byte xs h n 0 (omega (arith, is, lt)))
+    rw (payload_byte xs h n i j is (omega (arith, lt)), payload_byte xs h n (i + 1) (j + 1) (omega (arith, is)) lt) refl
 
 -- ---- addresses
 
@@ -304,7 +279,7 @@ module _ (p : List ℕ) (change : Change) (ok : Passes p) where
       let enough = icmp_long (payload_of p) (rw one at ok.transport) in
       let first : byte_at t place ≡ icmp_type (payload_of p) =
       timed_byte p change place (omega (arith, ok.head.long)) (inr (omega (arith, ok.head.long)))
-      ∙ sym (first_of_payload p (header_len p) (total_len p) place (omega arith) (omega (arith, enough, within p ok))) in
+      ∙ sym (payload_byte p (header_len p) (total_len p) 0 place (omega arith) (omega (arith, enough, within p ok))) in
       let echo : has_identifier 1 (byte_at t place) ≡ true = rw first (rw one at there) in
       let r : replaced 0 p change ≡ with_u16 t (place + 4) id =
       ap (λ o. write_if_some (with_numbers 0) t o) e ∙ identifier_there t 1 place id (timed_protocol p change ∙ one) (timed_payload p change) echo in
@@ -351,10 +326,10 @@ sent_kind p change ok =
     rw (same.protocol, same.header, same.total)
     (kind_same (protocol p) (drop h (take n q)) (drop h (take n p)) (λ one.
     let enough = icmp_long (payload_of p) (rw one at ok.transport) in
-    payload_byte q h n 0 (omega (arith, enough, within p ok))
+    payload_byte q h n 0 (h + 0) refl (omega (arith, enough, within p ok))
     ∙ sent_icmp p change (h + 0) ok.head.long (omega arith) one (inl (omega arith))
     ∙ replaced_beside p change (h + 0) ok.head.long (omega arith) (λ other. absurd (other one)) (λ _. omega arith)
-    ∙ sym (payload_byte p h n 0 (omega (arith, enough, within p ok)))))
+    ∙ sym (payload_byte p h n 0 (h + 0) refl (omega (arith, enough, within p ok)))))
 
 pub rewritten_has_tuple : (p : List ℕ) (t : Tuple) (ttl : Option ℕ) → Passes p
     → kind_of (protocol p) (payload_of p) ≡ Some t.kind → PortsMatchKind t.kind t.source.port t.destination.port

@@ -102,12 +102,7 @@ number_kept xs i n small is =
 -- ---- numbers apart from what is written
 
 pub number_apart : (xs : List ℕ) (i n k : ℕ) → (k + 3 < i) ⊎ (i + 3 < k) → u32_at (with_u32 xs i n) k ≡ u32_at xs k
-number_apart xs i n k apart =
-    let a = number_byte_apart xs i n k (grind arith) in
-    let b = number_byte_apart xs i n (k + 1) (grind arith) in
-    let c = number_byte_apart xs i n (k + 2) (grind arith) in
-    let d = number_byte_apart xs i n (k + 2 + 1) (grind arith) in
-    omega (arith, a, b, c, d)
+number_apart xs i n k apart = number_same (with_u32 xs i n) xs k (λ j le lt. number_byte_apart xs i n j (grind arith))
 
 -- ---- a part of the bytes after a write within it, before it or after it
 
