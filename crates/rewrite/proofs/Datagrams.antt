@@ -1,7 +1,7 @@
 -- Writing the changed fields gives the rewritten datagram, and the changed words of its fields are those of its bytes.
-use Rattle.rewrite.specs.steps.Fields.{updated_udp_checksum, combined, u32_change, u16_change, transport_fields_of, changed_transport_fields, changed_fields}
-use Rattle.rewrite.specs.steps.Fields.{fields_at, identifier_named, len_of, ports_named, updated_checksum, with_transport_fields, with_fields, keeps_endpoints}
-use Rattle.rewrite.specs.steps.Fields.{keeps_numbers, with_ttl_field, and_transport_words, transport_words, fields_change}
+use Rattle.rewrite.specs.steps.Fields.{fields_at, updated_udp_checksum, combined, u32_change, u16_change, transport_fields_of, changed_transport_fields}
+use Rattle.rewrite.specs.steps.Fields.{changed_fields, identifier_named, len_of, ports_named, updated_checksum, with_transport_fields, with_fields}
+use Rattle.rewrite.specs.steps.Fields.{keeps_endpoints, keeps_numbers, with_ttl_field, and_transport_words, transport_words, fields_change}
 use Rattle.rewrite.proofs.Checksums.{alone, Shows, Writes, hidden, nothing_written, number_more, word_more, high_byte_more, pair_shows, payload_shows}
 use Rattle.rewrite.proofs.Checksums.{rest_shows, head_shows, counted_as, pseudo, head_of, Covers, update_checksum-is, update_checksum-kept}
 use Rattle.rewrite.proofs.Checksums.{update_udp_checksum-is}
@@ -30,11 +30,11 @@ use Rattle.rewrite.specs.declared.fields.Fields.{Fields}
 
 -- ---- the datagram with another header
 
--- bytes that have a datagram's header and more
+-- bytes that have all fields of a datagram
 pub record IsDatagram (start : ℕ) (p : List ℕ) : Type 0 where
   pub small : (i : ℕ) → get_or p i 0 < 256
   pub long : 20 ≤ header_len (drop start p)
-  pub whole : payload_at start p ≤ length p
+  pub whole : payload_at start p + len_of (fields_at start p).transport ≤ length p
 
 module _ (start : ℕ) (p : List ℕ) (from to ttl : ℕ) where
   abbrev sourced : List ℕ
@@ -330,7 +330,7 @@ header_right start p x from to ttl d same =
     let t = timed start p from to ttl in
     let first : get_or x start 0 ≡ get_or p start 0 =
     in_head start n 0 start x t same (omega arith) (omega (arith, d.long)) ∙ timed_first start p from to ttl in
-    let written = timed_written (head_of start n) start p from to ttl d (head_shows (length p) start n d.whole) 0 refl (omega arith) d.long in
+    let written = timed_written (head_of start n) start p from to ttl d (head_shows (length p) start n (omega (arith, d.whole))) 0 refl (omega arith) d.long in
     update_checksum-is (header_in start) (start + 10) p x (combined (ttl_words start p ttl) (pair_words start p from to))
     (rw (ap (λ k. take k (drop start x)) (same_byte-len start p x first) ∙ same)
     (counted_as _ _ (and_comm (pair_words start p from to).is_same (ttl_words start p ttl).is_same) (omega arith) written.covers))
@@ -370,12 +370,12 @@ module _ (start : ℕ) (p : List ℕ) (from to ttl : ℕ) (numbers : Option Port
       let over = pseudo start offset in
       let two = with_u32 (with_u32 p (start + 12) from) (start + 16) to in
       let past : start + 20 ≤ offset = omega (arith, d.long) in
-      let addresses = addresses_written over start p from to d (pair_shows (length p) start offset past d.whole) 0 refl (omega arith)
+      let addresses = addresses_written over start p from to d (pair_shows (length p) start offset past (omega (arith, d.whole))) 0 refl (omega arith)
       (omega arith) in
       let timed_too = hidden over p two t (length-set two (start + 8) ttl)
       (rw (byte_before two (start + 12) 8 (start + 8) ttl (omega arith), drop-set-lt offset two (start + 8) ttl (omega (arith, past))) refl)
       addresses in
-      let all = ports_written over start p t behind timed_too (payload_shows (length p) start offset past d.whole) 0 (omega arith) refl
+      let all = ports_written over start p t behind timed_too (payload_shows (length p) start offset past (omega (arith, d.whole))) 0 (omega arith) refl
       (omega (arith, d.whole)) ports.0 ports.1 room in
       rw (payload_stays (with_ports offset t ports.0 ports.1)
       (byte_apart (with_u16 t offset ports.0) (offset + 2) ports.1 start (inl (omega (arith, past)))
@@ -448,9 +448,9 @@ module _ (start : ℕ) (p : List ℕ) (from to ttl : ℕ) (numbers : Option Port
 
 -- ---- the whole
 
-pub whole_is : (start : ℕ) (p : List ℕ) (change : Change) → IsDatagram start p → payload_at start p + len_of (carried_at start p) ≤ length p
+pub whole_is : (start : ℕ) (p : List ℕ) (change : Change) → IsDatagram start p
     → with_fields start p (changed_fields change (fields_at start p)) ≡ update_checksums start p (replaced start p change)
-whole_is start p change d room =
+whole_is start p change d =
     let from = unwrap_or change.source (u32_at p (start + 12)) in
     let to = unwrap_or change.destination (u32_at p (start + 16)) in
     let ttl = unwrap_or change.ttl (byte_at p (start + 8)) in
@@ -460,7 +460,7 @@ whole_is start p change d room =
     let x = with_transport_fields offset t c in
     let fields : update_transport_checksum start p (replaced start p change) ≡ x =
     ap (λ l. update_transport_checksum start p l) (replaced_header start p change d)
-    ∙ is_carried start p from to ttl change.numbers d room in
+    ∙ is_carried start p from to ttl change.numbers d d.whole in
     sym (ap (λ l. update_header_checksum start p l) fields
     ∙ header_right start p x from to ttl d (carried_head start (header_len (drop start p)) offset t c
     (omega arith)))
@@ -489,10 +489,10 @@ numbers_kept numbers from to (Echo number checksum) keeps = grind (arith, keeps)
 numbers_kept numbers from to Other keeps = refl
 
 -- the payload's fields, written as they are, where only the TTL is another
-carried_kept : (start : ℕ) (p : List ℕ) (ttl : ℕ) → IsDatagram start p → payload_at start p + len_of (carried_at start p) ≤ length p
+carried_kept : (start : ℕ) (p : List ℕ) (ttl : ℕ) → IsDatagram start p
     → with_transport_fields (payload_at start p) (timed start p (u32_at p (start + 12)) (u32_at p (start + 16)) ttl)
     (carried_at start p) ≡ timed start p (u32_at p (start + 12)) (u32_at p (start + 16)) ttl
-carried_kept start p ttl d room =
+carried_kept start p ttl d =
     let offset = payload_at start p in
     let t = timed start p (u32_at p (start + 12)) (u32_at p (start + 16)) ttl in
     let b = timed_behind start p (u32_at p (start + 12)) (u32_at p (start + 16)) ttl d in
@@ -509,10 +509,9 @@ timed_kept start p ttl d = rw (
   number_kept p (start + 16) (u32_at p (start + 16)) (bytes4 p (start + 16) d.small) refl,
 ) refl
 
-pub own_endpoints : (start : ℕ) (p : List ℕ) (change : Change) → IsDatagram start p
-    → payload_at start p + len_of (carried_at start p) ≤ length p → keeps_endpoints change (fields_at start p) ≡ true
+pub own_endpoints : (start : ℕ) (p : List ℕ) (change : Change) → IsDatagram start p → keeps_endpoints change (fields_at start p) ≡ true
     → with_ttl_field start p (fields_at start p) change.ttl ≡ with_fields start p (changed_fields change (fields_at start p))
-own_endpoints start p change d room keeps =
+own_endpoints start p change d keeps =
     let f = fields_at start p in
     let one = and_parts _ _ keeps in
     let two = and_parts _ _ one.1 in
@@ -522,7 +521,7 @@ own_endpoints start p change d room keeps =
       eqb-true (unwrap_or change.destination f.destination) f.destination two.0,
       header_kept (f.ttl * 256) (ttl * 256) f.source f.destination f.checksum,
       numbers_kept change.numbers f.source f.destination f.transport two.1,
-      carried_kept start p ttl d room,
+      carried_kept start p ttl d,
       timed_kept start p ttl d,
     ) refl
 
@@ -552,10 +551,9 @@ fields_before start p fields k lt =
     ∙ number_byte_apart p (start + 12) fields.source k (inl (omega (arith, lt)))
 
 pub fields_exchanged : (a start : ℕ) (p : List ℕ) (change : Change) → start ≡ a + 8 → IsDatagram start p
-    → payload_at start p + len_of (carried_at start p) ≤ length p
     → Covers (fields_change (fields_at start p) (changed_fields change (fields_at start p))) (drop a p)
     (drop a (with_fields start p (changed_fields change (fields_at start p))))
-fields_exchanged a start p change is d room =
+fields_exchanged a start p change is d =
     let from = unwrap_or change.source (u32_at p (start + 12)) in
     let to = unwrap_or change.destination (u32_at p (start + 16)) in
     let ttl = unwrap_or change.ttl (byte_at p (start + 8)) in
@@ -565,7 +563,7 @@ fields_exchanged a start p change is d room =
     let timed_too = timed_written (drop a) start p from to ttl d s 8 refl (omega (arith, is)) (omega (arith, is, d.long, d.whole)) in
     let carried = carried_exchanged (drop a) start p t (timed_behind start p from to ttl d) timed_too s
     (8 + header_len (drop start p)) (omega (arith, is)) (omega arith) (omega (arith, is, d.whole)) change.numbers
-    (pair_words start p from to) room in
+    (pair_words start p from to) d.whole in
     (word_more (drop a) p d.small s 18 (start + 10) _ (with_transport_fields (payload_at start p) t new) refl (omega (arith, is))
     (omega (arith, is, d.long, d.whole)) (λ k past lt. carried_byte (payload_at start p) t new k (omega (arith, lt, d.long))
     ∙ timed_byte start p from to ttl k (inr (omega (arith, past))) (inl (omega (arith, lt)))) carried).covers

@@ -3,7 +3,7 @@
 use Rattle.rewrite.proofs.Packets.{payload_len, replaced_beside, update_byte, sent, head_by, length-sent, passes_by, payload_byte, sent_passes, within}
 use Rattle.rewrite.proofs.Packets.{icmp_long, icmp_sum_kept, payload_same, tcp_long, udp_long, named_byte, sent_header, sent_icmp, sent_tcp, sent_udp, timed}
 use Rattle.rewrite.proofs.Packets.{timed_byte, timed_payload, timed_protocol, same_head, tcp_room}
-use Rattle.rewrite.proofs.Datagrams.{first_of_rest, IsDatagram, carried_at, whole_is, fields_exchanged, fields_room, is_icmp}
+use Rattle.rewrite.proofs.Datagrams.{first_of_rest, IsDatagram, whole_is, fields_exchanged, fields_room, is_icmp}
 use Rattle.rewrite.proofs.Checksums.{Covers, rest_shows, update_checksum-is, update_keeps_sum}
 use Rattle.std.proofs.Common.{◌≡◌, ◌≢◌, ℕ, suc, ◌+◌, ◌*◌, ◌%◌, ◌<◌, ◌≤◌, inl, Option, Some, None, List, length, get_or, take, drop, length-take, length-drop}
 use Rattle.std.proofs.Common.{Bool, true, false, refl, sym, ap, ◌∙◌, arith, inr, ⊎_elim}
@@ -23,7 +23,7 @@ use Rattle.rewrite.specs.declared.change.Change.{Change}
 use Rattle.rewrite.specs.Endpoints.{between, PortsMatchKind, ports_or_identifier}
 use Rattle.rewrite.specs.Rewritten.{payload_in, write_if_some, inner_start, update_checksum, rewritten, with_endpoints, with_inner, has_identifier, replaced}
 use Rattle.rewrite.specs.Rewritten.{with_numbers, with_ports, with_ttl}
-use Rattle.rewrite.specs.steps.Fields.{HasFields, changed_fields, fields_at, fields_change, len_of, updated_checksum, with_fields}
+use Rattle.rewrite.specs.steps.Fields.{HasFields, changed_fields, fields_at, fields_change, updated_checksum, with_fields}
 use Rattle.rewrite.proofs.Words.{word_same, word_stays, AsLong, SameAt, as_long, ends_by, named_by, same_at, update_by, length-word, length-number}
 use Rattle.rewrite.proofs.Words.{number_apart, number_same, number_written, word_apart, word_written, timed_by}
 use Rattle.ip_headers.specs.declared.tuple.Kind.{Kind}
@@ -166,21 +166,20 @@ inner_fields p ok h =
     }
 
 pub quote_rewritten_is : (p : List ℕ) (t : Tuple) → 20 ≤ payload_at 0 p → IsDatagram (inner_start p) p
-    → payload_at (inner_start p) p + len_of (carried_at (inner_start p) p) ≤ length p
     → with_u16 (with_endpoints (inner_start p) p t) (payload_at 0 p + 2)
     (updated_checksum (fields_change (fields_at (inner_start p) p)
     (changed_fields (between t None) (fields_at (inner_start p) p))) (u16_at p (payload_at 0 p + 2)))
     ≡ quote_rewritten p t
-quote_rewritten_is p t long d room =
+quote_rewritten_is p t long d =
     let start = inner_start p in
     let offset = payload_at 0 p in
     let new = changed_fields (between t None) (fields_at start p) in
     let words = fields_change (fields_at start p) new in
     let now = with_endpoints start p t in
-    let is : with_fields start p new ≡ now = whole_is start p (between t None) d room in
+    let is : with_fields start p new ≡ now = whole_is start p (between t None) d in
     let same : (k : ℕ) → k < start → get_or now k 0 ≡ get_or p k 0 = λ k lt. ends_byte start p t k lt in
     let covers : Covers words (payload_in 0 p) (payload_in 0 now) =
-    rw (payload_same now p (same 0 (omega (arith, long))), sym is) (fields_exchanged offset start p (between t None) refl d room) in
+    rw (payload_same now p (same 0 (omega (arith, long))), sym is) (fields_exchanged offset start p (between t None) refl d) in
     sym (update_checksum-is (payload_in 0) (offset + 2) p now words covers
     (word_stays now p (offset + 2) d.small (λ k _ lt. same k (omega (arith, lt)))))
 

@@ -27,10 +27,7 @@ use Rattle.rewrite.specs.steps.Fields.{with_transport_fields}
 -- ---- reads give what was written, and else what was there
 
 pub word_written : (xs : List ℕ) (i w : ℕ) → i + 1 < length xs → u16_at (with_u16 xs i w) i ≡ w
-word_written xs i w lt =
-    let high : get_or (with_u16 xs i w) i 0 ≡ w / 256 = grind (arith, common_steps) in
-    let low : get_or (with_u16 xs i w) (i + 1) 0 ≡ w % 256 = grind (arith, common_steps) in
-    omega (arith, high, low)
+word_written xs i w lt = grind (arith, common_steps)
 
 pub byte_apart : (xs : List ℕ) (i w k : ℕ) → (k < i) ⊎ (i + 1 < k) → get_or (with_u16 xs i w) k 0 ≡ get_or xs k 0
 byte_apart xs i w k apart = grind (arith, common_steps)
@@ -138,11 +135,7 @@ pub byte_of_part : (xs : List ℕ) (a n i j : ℕ) → j ≡ a + i → i < n →
 byte_of_part xs a n i j is lt = rw is (get_or-take n (drop a xs) i 0 lt ∙ get_or-drop a xs i 0)
 
 pub word_of_rest : (xs : List ℕ) (a i j : ℕ) → j ≡ a + i → u16_at (drop a xs) i ≡ u16_at xs j
-word_of_rest xs a i j is =
-    let next : j + 1 ≡ a + (i + 1) = omega (arith, is) in
-    let high : get_or (drop a xs) i 0 ≡ get_or xs j 0 = rw is (get_or-drop a xs i 0) in
-    let low : get_or (drop a xs) (i + 1) 0 ≡ get_or xs (j + 1) 0 = rw next (get_or-drop a xs (i + 1) 0) in
-    omega (arith, high, low)
+word_of_rest xs a i j is = rw is (grind (arith, common_steps))
 
 -- a word read from the bytes from an offset on
 pub word_read : (bytes : List ℕ) (i word : ℕ) → i + 2 ≤ length bytes

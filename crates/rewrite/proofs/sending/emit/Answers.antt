@@ -4,6 +4,7 @@ use Rattle.std.proofs.lemmas.List.{take_at}
 use borrow.Rule.Slice.PartMut.{post_of}
 use Rattle.rewrite.specs.Rewritten.{rewritten}
 use Rattle.rewrite.proofs.Rewritten.{length-rewritten}
+use Rattle.rewrite.proofs.sending.emit.Goals.{After-deref_mut}
 use Rattle.rewrite.proofs.sending.emit.Goals as goal
 
 patched : (old packet d new items : List ℕ) (n s k : ℕ) → d ≡ old ++ packet → s ≡ length old
@@ -15,32 +16,27 @@ patched old packet d new items n s k is start same len =
     let whole : length (old ++ new) ≡ n = grind (arith, common_steps) in
     rw (front, back) (grind (arith, common_steps, take_at (old ++ new) (drop k items) n whole))
 
--- the slice of the extended vector that is passed on
-lent : (old packet d : List ℕ) (s : ℕ) → d ≡ old ++ packet → s ≡ length old → take (length d - s) (drop s d) ≡ packet
-lent old packet d s is start = grind (arith, common_steps)
+-- the vector with the packet appended, of which the slice behind the old length is passed on
+extended : (c : After-deref_mut) → c.deref_mut.result.now ≡ c.args.out.now.items ++ c.args.view.now.packet.now
+extended c = grind (arith, common_steps)
 
 pub rewrite_packet-requires : goal.rewrite_packet-requires
 rewrite_packet-requires c =
-    let old = c.args.out.now.items in
-    let packet = c.args.view.now.packet.now in
-    let d = c.deref_mut.result.now in
-    let s = c.len-before.result in
-    let is : d ≡ old ++ packet = grind (arith, common_steps) in
-    let start : s ≡ length old = omega arith in
-    lent old packet d s is start
+    let is = extended (goal.at.rewrite_packet-requires c).After-deref_mut in
+    grind (arith, common_steps, is)
 
 pub returns-clause-ok : goal.returns-clause-ok
 returns-clause-ok c =
     let old = c.args.out.now.items in
     let packet = c.args.view.now.packet.now in
-    let change = c.args.change.now in
     let d = c.deref_mut.result.now in
     let s = c.len-before.result in
-    let is : d ≡ old ++ packet = grind (arith, common_steps) in
+    let is = extended (goal.at.returns-clause-ok c).After-deref_mut in
     let start : s ≡ length old = omega arith in
-    let part : take (length d - s) (drop s d) ≡ packet = lent old packet d s is start in
-    let sent : c.rewrite_packet.new.packet ≡ rewritten packet change = c.rewrite_packet.ensures ∙ ap (λ l. rewritten l change) part in
-    let same : length c.rewrite_packet.new.packet ≡ length packet = ap (λ l. length l) sent ∙ length-rewritten packet change in
+    let part : take (length d - s) (drop s d) ≡ packet = grind (arith, common_steps, is) in
+    let sent : c.rewrite_packet.new.packet ≡ rewritten packet c.args.change.now =
+    c.rewrite_packet.ensures ∙ ap (λ l. rewritten l c.args.change.now) part in
+    let same : length c.rewrite_packet.new.packet ≡ length packet = ap (λ l. length l) sent ∙ length-rewritten packet c.args.change.now in
     patched old packet d c.rewrite_packet.new.packet c.extend_from_slice.new.self.items _ s _ is start same
     (omega (arith, c.deref_mut.ensures.len)) ∙ ap (λ l. old ++ l) sent
 

@@ -37,14 +37,14 @@ returns c =
     let d : IsDatagram (inner_start p) p = record {
       small = c.read-old.ensures.bytes;
       long = c.requires.fields.long;
-      whole = omega (arith, c.requires.fields.whole);
+      whole = c.requires.fields.whole;
     } in
     let old : c.read-old.result ≡ fields = c.read-old.ensures.fields ∙ ap (λ n. fields_at (n + 8) p) here in
     let new : c.changed-new.result ≡ changed_fields (between t None) fields = c.changed-new.ensures
     ∙ ap (λ x. changed_fields x c.read-old.result) c.between.ensures ∙ ap (λ f. changed_fields (between t None) f) old in
     let is : c.write.new.packet ≡ with_endpoints (inner_start p) p t =
     c.write.ensures ∙ ap (λ n. with_fields (n + 8) p c.changed-new.result) here ∙ ap (λ f. with_fields (inner_start p) p f) new
-    ∙ whole_is (inner_start p) p (between t None) d c.requires.fields.whole in
+    ∙ whole_is (inner_start p) p (between t None) d in
     let offset : c.new-parts.result.payload ≡ payload_at 0 p =
     c.new-parts.ensures.payload ∙ place_kept p c.write.new.packet c.args.payload _ here c.write.ensures in
     let words : c.words_to.result ≡ fields_change fields (changed_fields (between t None) fields) =
@@ -55,5 +55,5 @@ returns c =
     let all =
     c.set_icmp_checksum.ensures.bytes
     ∙ word_same _ _ _ _ _ _ (c.new-parts.ensures.bytes ∙ is) (ap (λ n. n + 2) offset) (c.update.ensures ∙ rw (words, sum) refl)
-    ∙ quote_rewritten_is p t (omega (arith, c.requires.long, here)) d c.requires.fields.whole in
+    ∙ quote_rewritten_is p t (omega (arith, c.requires.long, here)) d in
     grind (arith, all)
