@@ -1,4 +1,6 @@
 -- Writing the changed fields gives the rewritten datagram, and the changed words of its fields are those of its bytes.
+use Rattle.rewrite.proofs.Words.{number_stays, byte_apart, number_byte_apart, byte_before, number_rest_before, byte_of_part, word_of_rest, byte_after}
+use Rattle.rewrite.proofs.Words.{word_stays, fields_by, SameAt, same_at}
 use Rattle.rewrite.specs.steps.Fields.{fields_at, updated_udp_checksum, combined, u32_change, u16_change, transport_fields_of, changed_transport_fields}
 use Rattle.rewrite.specs.steps.Fields.{changed_fields, identifier_named, len_of, ports_named, updated_checksum, with_transport_fields, with_fields}
 use Rattle.rewrite.specs.steps.Fields.{keeps_endpoints, keeps_numbers, with_ttl_field, and_transport_words, transport_words, fields_change}
@@ -16,15 +18,12 @@ use Rattle.ip_headers.specs.Header.{header_len, payload_at, protocol_at}
 use Rattle.rewrite.specs.declared.checksum.ChecksumDelta.{ChecksumDelta}
 use Rattle.rewrite.specs.Rewritten.{header_in, payload_in, pseudo_header_and_payload, with_ports, write_if_some, update_checksum, update_udp_checksum, replaced}
 use Rattle.rewrite.specs.Rewritten.{update_transport_checksum, update_checksums, has_identifier, update_header_checksum, with_numbers, with_ttl}
-use Rattle.rewrite.proofs.Words.{byte_apart, number_byte_apart, byte_before, number_rest_before, byte_of_part, word_of_rest, Bytes4, number_apart, number_kept}
-use Rattle.rewrite.proofs.Words.{byte_after, word_stays, fields_by, bytes4, SameAt, same_at}
 use Rattle.std.specs.Prelude.{◌==◌, ◌||◌, nat_le, unwrap_or}
 use Rattle.rewrite.specs.declared.change.Change.{Change}
 use Rattle.rewrite.specs.declared.change.PortsOrIdentifier.{PortsOrIdentifier}
 use Rattle.rewrite.specs.declared.change.PortsOrIdentifier.TheVariants.{Ports, Identifier}
 use Rattle.rewrite.specs.declared.fields.TransportFields.{TransportFields}
 use Rattle.rewrite.specs.declared.fields.TransportFields.TheVariants.{Tcp, Udp, Echo, Other}
-use Rattle.rewrite.specs.declared.fields.Fields.{Fields}
 
 -- ==== The words that change under each checksum of a datagram.
 
@@ -256,10 +255,11 @@ module _ (over : List ℕ → List ℕ) (start : ℕ) (p t : List ℕ) (b : Behi
 
 -- ---- a field without a new value is written as it was
 
-named_number : (o : Option ℕ) (xs p : List ℕ) (i : ℕ) → Bytes4 xs i → u32_at xs i ≡ u32_at p i
+named_number : (o : Option ℕ) (xs p : List ℕ) (i : ℕ) → ((k : ℕ) → get_or p k 0 < 256)
+    → ((k : ℕ) → i ≤ k → k < i + 4 → get_or xs k 0 ≡ get_or p k 0)
     → write_if_some (λ bytes n. with_u32 bytes i n) xs o ≡ with_u32 xs i (unwrap_or o (u32_at p i))
-named_number None xs p i small e = sym (number_kept xs i (u32_at p i) small (sym e))
-named_number (Some n) xs p i small e = refl
+named_number None xs p i small same = sym (number_stays xs p i small same)
+named_number (Some n) xs p i small same = refl
 
 named_ttl : (o : Option ℕ) (start : ℕ) (xs p : List ℕ) → get_or xs (start + 8) 0 ≡ byte_at p (start + 8)
     → write_if_some (with_ttl start) xs o ≡ set xs (start + 8) (unwrap_or o (byte_at p (start + 8)))
@@ -300,10 +300,9 @@ replaced_header start p change d =
     let one = with_u32 p (start + 12) from in
     let two = with_u32 one (start + 16) to in
     rw (
-      named_number change.source p p (start + 12) (bytes4 p (start + 12) d.small) refl,
-      named_number change.destination one p (start + 16)
-          (λ k le lt. rw (number_byte_apart p (start + 12) from k (inr (omega (arith, le)))) (d.small k))
-          (number_apart p (start + 12) from (start + 16) (inr (omega arith))),
+      named_number change.source p p (start + 12) d.small (λ _ _ _. refl),
+      named_number change.destination one p (start + 16) d.small
+          (λ k le _. number_byte_apart p (start + 12) from k (inr (omega (arith, le)))),
       named_ttl change.ttl start two p (number_byte_apart one (start + 16) to (start + 8) (inl (omega arith))
           ∙ number_byte_apart p (start + 12) from (start + 8) (inl (omega arith))),
     ) refl
@@ -505,8 +504,8 @@ carried_kept start p ttl d =
 timed_kept : (start : ℕ) (p : List ℕ) (ttl : ℕ) → IsDatagram start p
     → timed start p (u32_at p (start + 12)) (u32_at p (start + 16)) ttl ≡ set p (start + 8) ttl
 timed_kept start p ttl d = rw (
-  number_kept p (start + 12) (u32_at p (start + 12)) (bytes4 p (start + 12) d.small) refl,
-  number_kept p (start + 16) (u32_at p (start + 16)) (bytes4 p (start + 16) d.small) refl,
+  number_stays p p (start + 12) d.small (λ _ _ _. refl),
+  number_stays p p (start + 16) d.small (λ _ _ _. refl),
 ) refl
 
 pub own_endpoints : (start : ℕ) (p : List ℕ) (change : Change) → IsDatagram start p → keeps_endpoints change (fields_at start p) ≡ true
@@ -536,19 +535,6 @@ fields_room start p room =
 carried_byte : (offset : ℕ) (t : List ℕ) (c : TransportFields) (k : ℕ) → k < offset
     → get_or (with_transport_fields offset t c) k 0 ≡ get_or t k 0
 carried_byte offset t c k lt = fields_by (SameAt k t) (suc k) (same_at k t) offset t c (omega (arith, lt)) refl
-
--- the bytes before the datagram stay
-pub fields_before : (start : ℕ) (p : List ℕ) (fields : Fields) (k : ℕ) → k < start → get_or (with_fields start p fields) k 0 ≡ get_or p k 0
-fields_before start p fields k lt =
-    let one = with_u32 p (start + 12) fields.source in
-    let two = with_u32 one (start + 16) fields.destination in
-    let t = set two (start + 8) fields.ttl in
-    let offset = payload_at start p in
-    byte_apart (with_transport_fields offset t fields.transport) (start + 10) fields.checksum k (inl (omega (arith, lt)))
-    ∙ carried_byte offset t fields.transport k (omega (arith, lt))
-    ∙ get_or-set_other two (start + 8) k fields.ttl 0 (omega (arith, lt))
-    ∙ number_byte_apart one (start + 16) fields.destination k (inl (omega (arith, lt)))
-    ∙ number_byte_apart p (start + 12) fields.source k (inl (omega (arith, lt)))
 
 pub fields_exchanged : (a start : ℕ) (p : List ℕ) (change : Change) → start ≡ a + 8 → IsDatagram start p
     → Covers (fields_change (fields_at start p) (changed_fields change (fields_at start p))) (drop a p)

@@ -1,5 +1,7 @@
 -- The laws of rewritten packets: with a rewritten quoted datagram, and the tuple of one that was given endpoints.
 -- To be read before it: Words, Checksums, Datagrams, Packets.
+use Rattle.rewrite.proofs.Words.{number_byte_apart, number_same, word_same, word_stays, AsLong, SameAt, as_long, ends_by, named_by, same_at, update_by}
+use Rattle.rewrite.proofs.Words.{length-word, length-number, number_written, word_apart, word_written, timed_by}
 use Rattle.rewrite.proofs.Packets.{payload_len, replaced_beside, update_byte, sent, head_by, length-sent, passes_by, payload_byte, sent_passes, within}
 use Rattle.rewrite.proofs.Packets.{icmp_long, icmp_sum_kept, payload_same, tcp_long, udp_long, named_byte, sent_header, sent_icmp, sent_tcp, sent_udp, timed}
 use Rattle.rewrite.proofs.Packets.{timed_byte, timed_payload, timed_protocol, same_head, tcp_room}
@@ -24,8 +26,6 @@ use Rattle.rewrite.specs.Endpoints.{between, PortsMatchKind, ports_or_identifier
 use Rattle.rewrite.specs.Rewritten.{payload_in, write_if_some, inner_start, update_checksum, rewritten, with_endpoints, with_inner, has_identifier, replaced}
 use Rattle.rewrite.specs.Rewritten.{with_numbers, with_ports, with_ttl}
 use Rattle.rewrite.specs.steps.Fields.{HasFields, changed_fields, fields_at, fields_change, updated_checksum, with_fields}
-use Rattle.rewrite.proofs.Words.{word_same, word_stays, AsLong, SameAt, as_long, ends_by, named_by, same_at, update_by, length-word, length-number}
-use Rattle.rewrite.proofs.Words.{number_apart, number_same, number_written, word_apart, word_written, timed_by}
 use Rattle.ip_headers.specs.declared.tuple.Kind.{Kind}
 use Rattle.ip_headers.specs.declared.tuple.Kind.TheVariants.{Tcp, Udp, EchoRequest, EchoReply, Other}
 use Rattle.rewrite.specs.declared.change.PortsOrIdentifier.TheVariants.{Ports, Identifier}
@@ -226,7 +226,7 @@ addressed p change from to ok a b =
     let same : (k : ℕ) → 11 < k → k < 20 → get_or q k 0 ≡ get_or two k 0 = λ k past lt.
     sent_header p change k (omega (arith, ok.head.long, lt)) (inr past) ∙ named_to p change from to k a b (omega (arith, past)) in (
       number_same q two 12 (λ k le lt. same k le (omega (arith, lt)))
-          ∙ number_apart one 16 to 12 (inl (omega arith)) ∙ number_written p 12 from (omega (arith, room)),
+          ∙ number_same (with_u32 one 16 to) one 12 (λ k _ lt. number_byte_apart one 16 to k (inl (omega (arith, lt)))) ∙ number_written p 12 from (omega (arith, room)),
       number_same q two 16 (λ k le lt. same k (omega (arith, le)) lt)
           ∙ number_written one 16 to (omega (arith, room, length-number p 12 from)),
     )

@@ -1,6 +1,8 @@
 -- Bytes, words and numbers: what is written, read and summed.
-use Rattle.std.proofs.Common.{◌≡◌, ℕ, ◌+◌, ◌-◌, ◌/◌, ◌%◌, ◌<◌, ◌≤◌, ◌⊎◌, List, length, get_or, set, take, drop, ap, refl, sym, ◌∙◌, arith, zero, suc, ◌*◌, []}
-use Rattle.std.proofs.Common.{◌∷◌, Bool, true, false, None, Option, Some}
+use Rattle.rewrite.specs.declared.fields.Fields.{Fields}
+use Rattle.rewrite.specs.steps.Fields.{with_fields, with_transport_fields}
+use Rattle.std.proofs.Common.{◌≡◌, ℕ, ◌+◌, ◌-◌, ◌/◌, ◌%◌, ◌<◌, ◌≤◌, ◌⊎◌, List, length, get_or, set, take, drop, ap, refl, ◌∙◌, arith, zero, suc, ◌*◌, [], ◌∷◌}
+use Rattle.std.proofs.Common.{Bool, true, false, None, Option, Some}
 use Rattle.std.proofs.lemmas.List.{set-get_or, drop-set-lt, drop-set-add, take-set-le, get_or-take, get_or-drop, get_or-set_other, length-set}
 use Rattle.std.proofs.Math.Seq.{take-set-lt}
 use Rattle.std.proofs.lemmas.Grind.{common_steps}
@@ -20,7 +22,6 @@ use Rattle.rewrite.specs.declared.change.PortsOrIdentifier.{PortsOrIdentifier}
 use Rattle.rewrite.specs.declared.change.PortsOrIdentifier.TheVariants.{Ports, Identifier}
 use Rattle.rewrite.specs.declared.fields.TransportFields.{TransportFields}
 use Rattle.rewrite.specs.declared.fields.TransportFields.TheVariants.{Tcp, Udp, Echo, Other}
-use Rattle.rewrite.specs.steps.Fields.{with_transport_fields}
 
 -- ==== Writes at offsets, and reads afterwards.
 
@@ -55,12 +56,6 @@ number_written xs i n lt =
 
 -- ---- writing what is there
 
-pub word_kept : (xs : List ℕ) (i w : ℕ) → get_or xs i 0 < 256 → get_or xs (i + 1) 0 < 256 → w ≡ u16_at xs i → with_u16 xs i w ≡ xs
-word_kept xs i w high low is =
-    let one : w / 256 ≡ get_or xs i 0 = omega (arith, is, high, low) in
-    let two : w % 256 ≡ get_or xs (i + 1) 0 = omega (arith, is, high, low) in
-    rw (one, two, set-get_or xs i 0) (set-get_or xs (i + 1) 0)
-
 -- a word and a number are as their bytes
 pub word_same : (xs ys : List ℕ) (k : ℕ) → ((j : ℕ) → k ≤ j → j < k + 2 → get_or xs j 0 ≡ get_or ys j 0)
     → u16_at xs k ≡ u16_at ys k
@@ -77,29 +72,18 @@ number_same xs ys k same =
 pub word_stays : (xs p : List ℕ) (k : ℕ) → ((j : ℕ) → get_or p j 0 < 256)
     → ((j : ℕ) → k ≤ j → j < k + 2 → get_or xs j 0 ≡ get_or p j 0) → with_u16 xs k (u16_at p k) ≡ xs
 word_stays xs p k small same =
-    word_kept xs k (u16_at p k) (rw (same k (omega arith) (omega arith)) (small k))
-    (rw (same (k + 1) (omega arith) (omega arith)) (small (k + 1))) (sym (word_same xs p k same))
+    let high : u16_at p k / 256 ≡ get_or xs k 0 = omega (arith, same k (omega arith) (omega arith), small (k + 1)) in
+    let low : u16_at p k % 256 ≡ get_or xs (k + 1) 0 = omega (arith, same (k + 1) (omega arith) (omega arith), small (k + 1)) in
+    rw (high, low, set-get_or xs k 0) (set-get_or xs (k + 1) 0)
 
--- the four bytes of a 32-bit number
-abbrev pub Bytes4 : List ℕ → ℕ → Type 0
-Bytes4 xs i = (k : ℕ) → i ≤ k → k < i + 4 → get_or xs k 0 < 256
-
-pub bytes4 : (xs : List ℕ) (i : ℕ) → ((k : ℕ) → get_or xs k 0 < 256) → Bytes4 xs i
-bytes4 xs i small = λ k le lt. small k
-
-pub number_kept : (xs : List ℕ) (i n : ℕ) → Bytes4 xs i → n ≡ u32_at xs i → with_u32 xs i n ≡ xs
-number_kept xs i n small is =
-    let third = small (i + 2) (omega arith) (omega arith) in
-    let fourth = small (i + 2 + 1) (omega arith) (omega arith) in
-    let high = word_kept xs i (n / 65536) (small i (omega arith) (omega arith))
-    (small (i + 1) (omega arith) (omega arith)) (omega (arith, is, third, fourth)) in
-    let word : n % 65536 ≡ u16_at xs (i + 2) = omega (arith, is, third, fourth) in
-    rw high (word_kept xs (i + 2) (n % 65536) third fourth word)
-
--- ---- numbers apart from what is written
-
-pub number_apart : (xs : List ℕ) (i n k : ℕ) → (k + 3 < i) ⊎ (i + 3 < k) → u32_at (with_u32 xs i n) k ≡ u32_at xs k
-number_apart xs i n k apart = number_same (with_u32 xs i n) xs k (λ j le lt. number_byte_apart xs i n j (grind arith))
+pub number_stays : (xs p : List ℕ) (k : ℕ) → ((j : ℕ) → get_or p j 0 < 256)
+    → ((j : ℕ) → k ≤ j → j < k + 4 → get_or xs j 0 ≡ get_or p j 0) → with_u32 xs k (u32_at p k) ≡ xs
+number_stays xs p k small same =
+    let below : u16_at p (k + 2) < 65536 = omega (arith, small (k + 2), small (k + 2 + 1)) in
+    let high : u32_at p k / 65536 ≡ u16_at p k = omega (arith, below) in
+    let low : u32_at p k % 65536 ≡ u16_at p (k + 2) = omega (arith, below) in
+    rw (high, low, word_stays xs p k small (λ j le lt. same j le (omega (arith, lt))))
+    (word_stays xs p (k + 2) small (λ j le lt. same j (omega (arith, le)) (omega (arith, lt))))
 
 -- ---- a part of the bytes after a write within it, before it or after it
 
@@ -231,6 +215,12 @@ module _ (P : List ℕ → Type 0) where
         word_by (with_u16 t (offset + 4) number) (offset + 2) sum (omega (arith, le))
         (word_by t (offset + 4) number (omega (arith, le)) h)
     fields_by offset t Other le h = h
+
+    pub all_fields_by : (start : ℕ) (p : List ℕ) (fields : Fields) → low ≤ start → P p → P (with_fields start p fields)
+    all_fields_by start p fields le h = word_by _ (start + 10) fields.checksum (omega (arith, le))
+        (fields_by (payload_at start p) _ fields.transport (omega (arith, le))
+        (byte _ (start + 8) fields.ttl (omega (arith, le)) (number_by _ (start + 16) fields.destination (omega (arith, le))
+        (number_by p (start + 12) fields.source (omega (arith, le)) h))))
 
     pub numbers_by : (start : ℕ) (bytes : List ℕ) (numbers : PortsOrIdentifier) → low ≤ payload_at start bytes → P bytes
         → P (with_numbers start bytes numbers)

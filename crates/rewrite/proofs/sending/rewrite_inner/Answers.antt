@@ -1,30 +1,30 @@
+use Rattle.rewrite.proofs.Words.{all_fields_by, SameAt, same_at, word_read}
 use Rattle.std.proofs.Common.{◌≡◌, ℕ, ◌+◌, List, length, get_or, None, refl, ap, ◌∙◌, arith}
 use Rattle.ip_headers.specs.Bytes.{u16_at, with_u16}
 use Rattle.ip_headers.specs.Header.{payload_at}
-use Rattle.rewrite.specs.declared.fields.Fields.{Fields}
 use Rattle.rewrite.specs.Endpoints.{between}
 use Rattle.rewrite.specs.Rewritten.{inner_start, with_endpoints}
 use Rattle.rewrite.specs.steps.Fields.{changed_fields, fields_at, fields_change, with_fields}
-use Rattle.rewrite.proofs.Words.{word_read}
-use Rattle.rewrite.proofs.Datagrams.{IsDatagram, whole_is, fields_before}
+use Rattle.rewrite.proofs.Datagrams.{IsDatagram, whole_is}
 use Rattle.rewrite.proofs.Packets.{payload_same}
 use Rattle.rewrite.proofs.Rewritten.{quote_rewritten_is}
+use Rattle.rewrite.proofs.sending.rewrite_inner.Goals.{After-new-parts}
 use Rattle.rewrite.proofs.sending.rewrite_inner.Goals as goal
 
 word_same : (a b : List ℕ) (i j v w : ℕ) → a ≡ b → i ≡ j → v ≡ w → with_u16 a i v ≡ with_u16 b j w
 word_same a b i j v w p q r = rw (p, q, r) refl
 
--- the payload's offset stays, whatever fields are written
-place_kept : (p later : List ℕ) (payload : ℕ) (fields : Fields) → payload ≡ payload_at 0 p
-    → later ≡ with_fields (payload + 8) p fields → payload_at 0 later ≡ payload_at 0 p
-place_kept p later payload fields here wrote =
-    payload_same later p (ap (λ l. get_or l 0 0) wrote ∙ fields_before (payload + 8) p fields 0 (omega arith))
+-- the payload's offset stays
+place_kept : (c : After-new-parts) → c.new-parts.result.payload ≡ payload_at 0 c.args.packet.now
+place_kept c =
+    let p = c.args.packet.now in
+    c.new-parts.ensures.payload ∙ payload_same c.write.new.packet p (ap (λ l. get_or l 0 0) c.write.ensures
+    ∙ all_fields_by (SameAt 0 p) 1 (same_at 0 p) (c.args.payload + 8) p c.changed-new.result (omega arith) refl)
 
 pub set_icmp_checksum-requires : goal.set_icmp_checksum-requires
 set_icmp_checksum-requires c =
     let p = c.args.packet.now in
-    let offset : c.new-parts.result.payload ≡ payload_at 0 p = c.new-parts.ensures.payload
-    ∙ place_kept p c.write.new.packet c.args.payload _ c.requires.payload c.write.ensures in
+    let offset = place_kept (goal.at.set_icmp_checksum-requires c).After-new-parts in
     let len : length c.new-parts.result.packet.now ≡ length p = ap (λ l. length l) c.new-parts.ensures.bytes ∙ c.write.auto.packet in
     omega (arith, offset, len, c.requires.fields.whole)
 
@@ -45,10 +45,8 @@ returns c =
     let is : c.write.new.packet ≡ with_endpoints (inner_start p) p t =
     c.write.ensures ∙ ap (λ n. with_fields (n + 8) p c.changed-new.result) here ∙ ap (λ f. with_fields (inner_start p) p f) new
     ∙ whole_is (inner_start p) p (between t None) d in
-    let offset : c.new-parts.result.payload ≡ payload_at 0 p =
-    c.new-parts.ensures.payload ∙ place_kept p c.write.new.packet c.args.payload _ here c.write.ensures in
-    let words : c.words_to.result ≡ fields_change fields (changed_fields (between t None) fields) =
-    c.words_to.ensures ∙ rw (old, new) refl in
+    let offset = place_kept (goal.at.returns c).After-new-parts in
+    let words : c.words_to.result ≡ fields_change fields (changed_fields (between t None) fields) = c.words_to.ensures ∙ rw (old, new) refl in
     let sum : c.read_u16-checksum.result ≡ u16_at p (payload_at 0 p + 2) =
     word_read p (c.args.payload + 2) c.read_u16-checksum.result (omega (arith, d.whole, here)) c.read_u16-checksum.ensures
     ∙ ap (λ n. u16_at p (n + 2)) here in
