@@ -309,12 +309,6 @@ replaced_header start p change d =
 
 -- ---- The header checksum.
 
-carried_head : (start n offset : ℕ) (t : List ℕ) (c : TransportFields) → start + n ≤ offset
-    → head_of start n (with_transport_fields offset t c) ≡ head_of start n t
-carried_head start n offset t c le =
-    fields_by (λ q. head_of start n q ≡ head_of start n t) (start + n) (λ q k v past h. byte_after q start n k v past ∙ h) offset t c le
-    refl
-
 in_head : (start n i j : ℕ) (xs ys : List ℕ) → head_of start n xs ≡ head_of start n ys → j ≡ start + i → i < n
     → get_or xs j 0 ≡ get_or ys j 0
 in_head start n i j xs ys e is lt = sym (byte_of_part xs start n i j is lt) ∙ ap (λ l. get_or l i 0) e ∙ byte_of_part ys start n i j is lt
@@ -457,12 +451,13 @@ whole_is start p change d =
     let offset = payload_at start p in
     let c = changed_transport_fields change.numbers (pair_words start p from to) (carried_at start p) in
     let x = with_transport_fields offset t c in
+    let n = header_len (drop start p) in
     let fields : update_transport_checksum start p (replaced start p change) ≡ x =
     ap (λ l. update_transport_checksum start p l) (replaced_header start p change d)
     ∙ is_carried start p from to ttl change.numbers d d.whole in
     sym (ap (λ l. update_header_checksum start p l) fields
-    ∙ header_right start p x from to ttl d (carried_head start (header_len (drop start p)) offset t c
-    (omega arith)))
+    ∙ header_right start p x from to ttl d (fields_by (λ q. head_of start n q ≡ head_of start n t) (start + n)
+    (λ q k v past h. byte_after q start n k v past ∙ h) offset t c (omega arith) refl))
 
 -- ==== A change that leaves the endpoints as they are writes the TTL and the header checksum alone.
 
@@ -532,10 +527,6 @@ fields_room start p room =
     by_protocol start p (λ c. payload_at start p + len_of c ≤ length p) (λ _ _. omega (arith, room)) (λ _ long. long) (λ _. room)
     (λ _. omega (arith, room)) (λ _ _ _. omega (arith, room))
 
-carried_byte : (offset : ℕ) (t : List ℕ) (c : TransportFields) (k : ℕ) → k < offset
-    → get_or (with_transport_fields offset t c) k 0 ≡ get_or t k 0
-carried_byte offset t c k lt = fields_by (SameAt k t) (suc k) (same_at k t) offset t c (omega (arith, lt)) refl
-
 pub fields_exchanged : (a start : ℕ) (p : List ℕ) (change : Change) → start ≡ a + 8 → IsDatagram start p
     → Covers (fields_change (fields_at start p) (changed_fields change (fields_at start p))) (drop a p)
     (drop a (with_fields start p (changed_fields change (fields_at start p))))
@@ -551,5 +542,5 @@ fields_exchanged a start p change is d =
     (8 + header_len (drop start p)) (omega (arith, is)) (omega arith) (omega (arith, is, d.whole)) change.numbers
     (pair_words start p from to) d.whole in
     (word_more (drop a) p d.small s 18 (start + 10) _ (with_transport_fields (payload_at start p) t new) refl (omega (arith, is))
-    (omega (arith, is, d.long, d.whole)) (λ k past lt. carried_byte (payload_at start p) t new k (omega (arith, lt, d.long))
+    (omega (arith, is, d.long, d.whole)) (λ k past lt. fields_by (SameAt k t) (suc k) (same_at k t) (payload_at start p) t new (omega (arith, lt, d.long)) refl
     ∙ timed_byte start p from to ttl k (inr (omega (arith, past))) (inl (omega (arith, lt)))) carried).covers

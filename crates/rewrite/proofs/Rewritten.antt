@@ -16,7 +16,7 @@ use Rattle.std.proofs.lemmas.List.{ext_get_or, get_or-take, get_or-drop, get_or-
 use Rattle.ip_headers.specs.declared.tuple.Tuple.{Tuple}
 use Rattle.ip_headers.specs.Sum.{ones_sum_of, words_sum}
 use Rattle.ip_headers.specs.Bytes.{u16_at, with_u16, byte_at, with_u32}
-use Rattle.ip_headers.specs.Header.{header_len, payload_at, payload_of, protocol, total_len, protocol_at, source, destination}
+use Rattle.ip_headers.specs.Header.{header_len, payload_at, payload_of, protocol, total_len, source, destination}
 use Rattle.ip_headers.specs.Passing.{Passes}
 use Rattle.ip_headers.specs.Transport.{icmp_type, transport_is_malformed}
 use Rattle.ip_headers.specs.Tuple.{inner_of, inner_tuple, inner_tuple_of, is_error, is_error_type, is_readable, tuple_in, kind_of, port_from, port_to, tuple_of}
@@ -24,7 +24,7 @@ use Rattle.ip_headers.specs.Tuple.{tuple_with}
 use Rattle.rewrite.specs.declared.change.Change.{Change}
 use Rattle.rewrite.specs.Endpoints.{between, PortsMatchKind, ports_or_identifier}
 use Rattle.rewrite.specs.Rewritten.{payload_in, write_if_some, inner_start, update_checksum, rewritten, with_endpoints, with_inner, has_identifier, replaced}
-use Rattle.rewrite.specs.Rewritten.{with_numbers, with_ports, with_ttl}
+use Rattle.rewrite.specs.Rewritten.{with_ports, with_ttl}
 use Rattle.rewrite.specs.steps.Fields.{HasFields, changed_fields, fields_at, fields_change, updated_checksum, with_fields}
 use Rattle.ip_headers.specs.declared.tuple.Kind.{Kind}
 use Rattle.ip_headers.specs.declared.tuple.Kind.TheVariants.{Tcp, Udp, EchoRequest, EchoReply, Other}
@@ -103,9 +103,9 @@ rewritten_passes p change ok = sent_passes (inner_rewritten p change) change (in
 
 -- ---- its length
 
-pub length-rewritten : (p : List ℕ) (change : Change) → length (rewritten p change) ≡ length p
+pub length_rewritten : (p : List ℕ) (change : Change) → length (rewritten p change) ≡ length p
 unfolding rewritten
-length-rewritten p change = length-sent (inner_rewritten p change) change
+length_rewritten p change = length-sent (inner_rewritten p change) change
     ∙ inner_by (AsLong p) p change (λ t _. length-quote_rewritten p t) refl
 
 -- ---- the sum under its checksum
@@ -233,10 +233,6 @@ addressed p change from to ok a b =
 
 -- ---- ports and identifiers
 
-identifier_there : (t : List ℕ) (number offset id : ℕ) → protocol_at 0 t ≡ number → payload_at 0 t ≡ offset
-    → has_identifier number (byte_at t offset) ≡ true → with_numbers 0 t (Identifier id) ≡ with_u16 t (offset + 4) id
-identifier_there t number offset id is here some = rw (is, here, some) refl
-
 length-timed : (p : List ℕ) (change : Change) → length (timed p change) ≡ length p
 length-timed p change = timed_by (AsLong p) 0 (as_long p) 0 p change (omega arith) refl
 
@@ -281,7 +277,7 @@ module _ (p : List ℕ) (change : Change) (ok : Passes p) where
       ∙ sym (payload_byte p (header_len p) (total_len p) 0 place (omega arith) (omega (arith, enough, within p ok))) in
       let echo : has_identifier 1 (byte_at t place) ≡ true = rw first (rw one at there) in
       let r : replaced 0 p change ≡ with_u16 t (place + 4) id =
-      ap (λ o. write_if_some (with_numbers 0) t o) e ∙ identifier_there t 1 place id (timed_protocol p change ∙ one) (timed_payload p change) echo in
+      rw (e, timed_protocol p change ∙ one, timed_payload p change, echo) refl in
       word_sent 4 (place + 4) (with_u16 t (place + 4) id) refl (omega (arith, enough, within p ok)) r
       (λ k le _. sent_icmp p change k ok.head.long (omega (arith, le)) one (inr (omega (arith, le))))
       ∙ word_written t (place + 4) id (omega (arith, length-timed p change, enough, within p ok, ok.head.whole))

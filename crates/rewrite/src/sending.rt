@@ -20,6 +20,7 @@ use std::alloc::AllocError;
 /// # Errors
 ///
 /// Where the buffer had no room for the packet and memory ran out; then its bytes are unchanged.
+#[tactic(auto, using(crate::proofs::Rewritten::length_rewritten))]
 pub fn emit(view: &View, change: &Change, out: &mut Vec<u8>) -> Result<(), AllocError>
     ensures ok { OnOk result (out.new.items
         ≡ out.old.items ++ rewritten view.now.packet.now change.now) }

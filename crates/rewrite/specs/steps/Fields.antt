@@ -1,6 +1,6 @@
 -- The fields of a datagram that a change may replace, as numbers; the updates of the checksums over them.
-use Rattle.std.specs.Prelude.{Bool, true, ℕ, ◌+◌, ◌*◌, ◌/◌, ◌%◌, ◌≤◌, ◌==◌, ◌&&◌, ◌||◌, nat_le, List, length, drop}
-use Rattle.std.specs.Prelude.{slice_set, Option, Some, None, unwrap_or, if◌then◌else◌}
+use Rattle.std.specs.Prelude.{Bool, true, ℕ, ◌+◌, ◌*◌, ◌/◌, ◌%◌, ◌≤◌, ◌==◌, ◌&&◌, ◌||◌, nat_le, List, length, drop, slice_set, Option, Some, None, unwrap_or}
+use Rattle.std.specs.Prelude.{if◌then◌else◌}
 use Rattle.std.specs.Option.{option_map}
 use Rattle.ip_headers.specs.Bytes.{byte_at, u16_at, u32_at, with_u16, with_u32}
 use Rattle.ip_headers.specs.Header.{header_len, protocol_at, payload_at}
@@ -179,13 +179,8 @@ with_transport_fields offset bytes (Echo identifier checksum) =
     with_u16 (with_u16 bytes (offset + 4) identifier) (offset + 2) checksum
 with_transport_fields offset bytes Other = bytes
 
-abbrev pub with_header : ℕ → List ℕ → Fields → List ℕ
-with_header start bytes fields =
-    slice_set (with_u32 (with_u32 bytes (start + 12) fields.source) (start + 16) fields.destination)
-    (start + 8) fields.ttl
-
 abbrev pub with_fields : ℕ → List ℕ → Fields → List ℕ
 with_fields start bytes fields =
-    with_u16
-    (with_transport_fields (payload_at start bytes) (with_header start bytes fields) fields.transport)
-    (start + 10) fields.checksum
+    let numbers = with_u32 (with_u32 bytes (start + 12) fields.source) (start + 16) fields.destination in
+    let timed = slice_set numbers (start + 8) fields.ttl in
+    with_u16 (with_transport_fields (payload_at start bytes) timed fields.transport) (start + 10) fields.checksum

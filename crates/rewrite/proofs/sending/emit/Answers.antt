@@ -3,7 +3,7 @@ use Rattle.std.proofs.lemmas.Grind.{common_steps}
 use Rattle.std.proofs.lemmas.List.{take_at}
 use borrow.Rule.Slice.PartMut.{post_of}
 use Rattle.rewrite.specs.Rewritten.{rewritten}
-use Rattle.rewrite.proofs.Rewritten.{length-rewritten}
+use Rattle.rewrite.proofs.Rewritten.{length_rewritten}
 use Rattle.rewrite.proofs.sending.emit.Goals.{After-deref_mut}
 use Rattle.rewrite.proofs.sending.emit.Goals as goal
 
@@ -36,12 +36,6 @@ returns-clause-ok c =
     let part : take (length d - s) (drop s d) ≡ packet = grind (arith, common_steps, is) in
     let sent : c.rewrite_packet.new.packet ≡ rewritten packet c.args.change.now =
     c.rewrite_packet.ensures ∙ ap (λ l. rewritten l c.args.change.now) part in
-    let same : length c.rewrite_packet.new.packet ≡ length packet = ap (λ l. length l) sent ∙ length-rewritten packet c.args.change.now in
+    let same : length c.rewrite_packet.new.packet ≡ length packet = ap (λ l. length l) sent ∙ length_rewritten packet c.args.change.now in
     patched old packet d c.rewrite_packet.new.packet c.extend_from_slice.new.self.items _ s _ is start same
     (omega (arith, c.deref_mut.ensures.len)) ∙ ap (λ l. old ++ l) sent
-
-pub returns-in_err-extend_from_slice-clause-same_length : goal.returns-in_err-extend_from_slice-clause-same_length
-returns-in_err-extend_from_slice-clause-same_length c = length-rewritten c.args.view.now.packet.now c.args.change.now
-
-pub returns-clause-same_length : goal.returns-clause-same_length
-returns-clause-same_length c = length-rewritten c.args.view.now.packet.now c.args.change.now
