@@ -265,7 +265,8 @@ sent_passes p change ok =
     let enough = tcp_long (payload_of p) (rw six at ok.transport) in
     payload_byte q h n 12 (h + 12) refl (omega (arith, enough, room))
     ∙ sent_tcp p change (h + 12) long (omega arith) six (tcp_room p ok six) (inl (omega arith))
-    ∙ replaced_beside p change (h + 12) long (omega arith) (λ _. omega arith) (λ one. absurd (omega (arith, six, one))) ∙ sym (payload_byte p h n 12 (h + 12) refl (omega (arith, enough, room))) in
+    ∙ replaced_beside p change (h + 12) long (omega arith) (λ _. omega arith) (λ one. absurd (omega (arith, six, one)))
+    ∙ sym (payload_byte p h n 12 (h + 12) refl (omega (arith, enough, room))) in
     let udp : protocol p ≡ 17 → u16_at (drop h (take n q)) 4 ≡ u16_at (drop h (take n p)) 4 = λ seventeen.
     let enough = udp_long (payload_of p) (rw seventeen at ok.transport) in
     word_same (drop h (take n q)) (drop h (take n p)) 4 (λ k past lt.

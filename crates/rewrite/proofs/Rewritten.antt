@@ -226,7 +226,8 @@ addressed p change from to ok a b =
     let same : (k : ℕ) → 11 < k → k < 20 → get_or q k 0 ≡ get_or two k 0 = λ k past lt.
     sent_header p change k (omega (arith, ok.head.long, lt)) (inr past) ∙ named_to p change from to k a b (omega (arith, past)) in (
       number_same q two 12 (λ k le lt. same k le (omega (arith, lt)))
-          ∙ number_same (with_u32 one 16 to) one 12 (λ k _ lt. number_byte_apart one 16 to k (inl (omega (arith, lt)))) ∙ number_written p 12 from (omega (arith, room)),
+          ∙ number_same (with_u32 one 16 to) one 12 (λ k _ lt. number_byte_apart one 16 to k (inl (omega (arith, lt))))
+          ∙ number_written p 12 from (omega (arith, room)),
       number_same q two 16 (λ k le lt. same k (omega (arith, le)) lt)
           ∙ number_written one 16 to (omega (arith, room, length-number p 12 from)),
     )
