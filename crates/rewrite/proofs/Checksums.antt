@@ -36,10 +36,6 @@ same_bytes-from xs ys e = rw e (same_bytes-itself ys)
 
 -- ---- the incremental update
 
-corrected-by : (checksum before after old new : ℕ) → after + old ≡ before + new
-    → corrected checksum before after ≡ corrected checksum old new
-corrected-by checksum before after old new e = omega (arith, e)
-
 -- the relation between the changed words and the bytes that the checksum covers
 pub record Covers (words : ChecksumDelta) (before after : List ℕ) : Type 0 where
   pub same : words.is_same ≡ true → before ≡ after
@@ -58,7 +54,7 @@ chosen false bytes offset checksum x y kept e = ap (λ w. with_u16 bytes offset 
 module _ (over : List ℕ → List ℕ) (offset : ℕ) (old now : List ℕ) (words : ChecksumDelta) (c : Covers words (over old) (over now))
     (kept : with_u16 now offset (u16_at old offset) ≡ now) where
   corrected_is : corrected (u16_at old offset) (words_sum (over old)) (words_sum (over now)) ≡ corrected (u16_at old offset) words.old words.new
-  corrected_is = corrected-by (u16_at old offset) (words_sum (over old)) (words_sum (over now)) words.old words.new c.sum
+  corrected_is = omega (arith, c.sum)
 
   pub update_checksum-is : update_checksum over offset old now ≡ with_u16 now offset (updated_checksum words (u16_at old offset))
   update_checksum-is = rw (same_is words (over old) (over now) c)

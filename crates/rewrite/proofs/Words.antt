@@ -48,11 +48,11 @@ length-number xs i n = length-word (with_u16 xs i (n / 65536)) (i + 2) (n % 6553
 pub number_written : (xs : List ℕ) (i n : ℕ) → i + 3 < length xs → u32_at (with_u32 xs i n) i ≡ n
 number_written xs i n lt =
     let one = with_u16 xs i (n / 65536) in
-    let len : length one ≡ length xs = length-word xs i (n / 65536) in
-    let high : u16_at (with_u32 xs i n) i ≡ n / 65536 =
-    word_apart one (i + 2) (n % 65536) i (grind arith) ∙ word_written xs i (n / 65536) (omega arith) in
-    let low : u16_at (with_u32 xs i n) (i + 2) ≡ n % 65536 = word_written one (i + 2) (n % 65536) (omega (arith, len)) in
-    omega (arith, high, low)
+    rw (
+      word_apart one (i + 2) (n % 65536) i (grind arith),
+      word_written xs i (n / 65536) (omega arith),
+      word_written one (i + 2) (n % 65536) (omega (arith, length-word xs i (n / 65536))),
+    ) (omega arith)
 
 -- ---- writing what is there
 
@@ -63,10 +63,10 @@ word_same xs ys k same = rw (same k (omega arith) (omega arith), same (k + 1) (o
 
 pub number_same : (xs ys : List ℕ) (k : ℕ) → ((j : ℕ) → k ≤ j → j < k + 4 → get_or xs j 0 ≡ get_or ys j 0)
     → u32_at xs k ≡ u32_at ys k
-number_same xs ys k same =
-    let high = word_same xs ys k (λ j le lt. same j le (omega (arith, lt))) in
-    let low = word_same xs ys (k + 2) (λ j le lt. same j (omega (arith, le)) (omega (arith, lt))) in
-    omega (arith, high, low)
+number_same xs ys k same = rw (
+  word_same xs ys k (λ j le lt. same j le (omega (arith, lt))),
+  word_same xs ys (k + 2) (λ j le lt. same j (omega (arith, le)) (omega (arith, lt))),
+) refl
 
 -- a word that stays is as if it were written
 pub word_stays : (xs p : List ℕ) (k : ℕ) → ((j : ℕ) → get_or p j 0 < 256)
@@ -93,13 +93,10 @@ byte_in xs a n i j v is lt = rw is (ap (λ l. take n l) (drop-set-add a xs i v) 
 pub byte_before : (xs : List ℕ) (a n j v : ℕ) → j < a → take n (drop a (set xs j v)) ≡ take n (drop a xs)
 byte_before xs a n j v lt = ap (λ l. take n l) (drop-set-lt a xs j v lt)
 
-byte_after_by : (xs : List ℕ) (a n i j v : ℕ) → j ≡ a + i → n ≤ i → take n (drop a (set xs j v)) ≡ take n (drop a xs)
-byte_after_by xs a n i j v is le = rw is (ap (λ l. take n l) (drop-set-add a xs i v) ∙ take-set-le n (drop a xs) i v le)
-
 pub byte_after : (xs : List ℕ) (a n j v : ℕ) → a + n ≤ j → take n (drop a (set xs j v)) ≡ take n (drop a xs)
-byte_after xs a n j v le = byte_after_by xs a n (j - a) j v (omega (arith, le)) (omega (arith, le))
-
--- ---- of a 16-bit word
+byte_after xs a n j v le =
+    let is : j ≡ a + (j - a) = omega (arith, le) in
+    rw is (ap (λ l. take n l) (drop-set-add a xs (j - a) v) ∙ take-set-le n (drop a xs) (j - a) v (omega (arith, le)))
 
 pub word_before : (xs : List ℕ) (a n j w : ℕ) → j + 1 < a → take n (drop a (with_u16 xs j w)) ≡ take n (drop a xs)
 word_before xs a n j w lt = byte_before (set xs j (w / 256)) a n (j + 1) (w % 256) lt ∙ byte_before xs a n j (w / 256) (omega (arith, lt))
