@@ -1,4 +1,4 @@
--- Updates of checksums.
+-- Updates of checksums, and what written bytes change under them.
 use Rattle.std.proofs.Math.Bool.{or-false}
 use Rattle.std.proofs.Common.{inl, ◌&&◌, ◌-◌, ◌++◌, take, length-take, length-append, inr, ◌≡◌, ℕ, ◌+◌, List, [], ◌∷◌, Bool, true, false, refl, sym, ap, arith}
 use Rattle.std.proofs.Common.{◌≢◌, ◌%◌, ◌<◌, length, ◌*◌, ◌/◌, ◌≤◌, length-drop, get_or, set, drop, ◌∙◌}
@@ -93,15 +93,7 @@ byte_covered w high xs ys i v old side lt was is c = record {
   sum = omega (arith, c.sum, rw (side, is) at (words_sum-set ys i v lt));
 }
 
--- ---- the same change, said otherwise
-
-pub counted_as : (v w : ChecksumDelta) {xs ys : List ℕ} → v.is_same ≡ w.is_same → v.old + w.new ≡ w.old + v.new → Covers v xs ys
-    → Covers w xs ys
-counted_as v w same sums c = record {
-  same = λ h. c.same (same ∙ h);
-  other = λ e. sym same ∙ c.other e;
-  sum = omega (arith, sums, c.sum);
-}
+-- ---- two digits are as their number
 
 word_digits : (b : Bool) (x y v : ℕ) → y < 256 → (b && x == v / 256 && y == v % 256) ≡ (b && x * 256 + y == v)
 word_digits b x y v small = grind arith
@@ -181,8 +173,20 @@ no_change = record { old = 0; new = 0; is_same = true }
 pub nothing_written : (over : List ℕ → List ℕ) (p : List ℕ) → Writes over p no_change p
 nothing_written over p = record { len = refl; covers = record { same = λ _. refl; other = λ _. refl; sum = refl } }
 
+-- the same change, said otherwise
+pub counted_as : (v w : ChecksumDelta) {over : List ℕ → List ℕ} {p q : List ℕ} → v.is_same ≡ w.is_same → v.old + w.new ≡ w.old + v.new
+    → Writes over p v q → Writes over p w q
+counted_as v w same sums c = record {
+  len = c.len;
+  covers = record {
+    same = λ h. c.covers.same (same ∙ h);
+    other = λ e. sym same ∙ c.covers.other e;
+    sum = omega (arith, sums, c.covers.sum);
+  };
+}
+
 pub alone : {over : List ℕ → List ℕ} {p q : List ℕ} {w : ChecksumDelta} → Writes over p (combined no_change w) q → Writes over p w q
-alone {over} {p} {q} {w} c = record { len = c.len; covers = counted_as (combined no_change w) w refl (omega arith) c.covers }
+alone {over} {p} {q} {w} c = counted_as (combined no_change w) w refl (omega arith) c
 
 -- a write beside what the checksum covers
 pub hidden : (over : List ℕ → List ℕ) (p : List ℕ) {w : ChecksumDelta} (q r : List ℕ) → length r ≡ length q → over r ≡ over q
@@ -211,8 +215,7 @@ module _ (over : List ℕ → List ℕ) (p : List ℕ) {low n base : ℕ} (s : S
   pub high_byte_more : (i j v : ℕ) {w : ChecksumDelta} (q : List ℕ) → (base + i) % 2 ≡ 0 → j ≡ low + i → i < n → Stays p q j
       → Writes over p w q → Writes over p (combined w (u16_change (get_or p j 0 * 256) (v * 256))) (set q j v)
   high_byte_more i j v {w} q even is lt stays c =
-      let one = byte_more true i j v q (even_of _ even) is lt stays c in
-      record { len = one.len; covers = counted_as _ _ (high_digit w.is_same (get_or p j 0) v) refl one.covers }
+      counted_as _ _ (high_digit w.is_same (get_or p j 0) v) refl (byte_more true i j v q (even_of (base + i) even) is lt stays c)
 
   -- both bytes of a word
   bytes_more : (i j v : ℕ) {w : ChecksumDelta} (q : List ℕ) → (base + i) % 2 ≡ 0 → j ≡ low + i → i + 1 < n
@@ -235,11 +238,8 @@ module _ (over : List ℕ → List ℕ) (p : List ℕ) (small : (k : ℕ) → ge
       → ((k : ℕ) → j ≤ k → k < j + 2 → Stays p q k) → Writes over p w q
       → Writes over p (combined w (u16_change (u16_at p j) v)) (with_u16 q j v)
   word_more i j v {w} q even is lt stays c =
-      let both = bytes_more over p s i j v q even is lt stays c in
-      record {
-        len = both.len;
-        covers = counted_as _ _ (word_digits w.is_same (get_or p j 0) (get_or p (j + 1) 0) v (small (j + 1))) (omega arith) both.covers;
-      }
+      counted_as _ _ (word_digits w.is_same (get_or p j 0) (get_or p (j + 1) 0) v (small (j + 1))) (omega arith)
+      (bytes_more over p s i j v q even is lt stays c)
 
   pub number_more : (i j v : ℕ) {w : ChecksumDelta} (q : List ℕ) → (base + i) % 2 ≡ 0 → j ≡ low + i → i + 3 < n
       → ((k : ℕ) → j ≤ k → k < j + 4 → Stays p q k) → Writes over p w q
@@ -250,10 +250,7 @@ module _ (over : List ℕ → List ℕ) (p : List ℕ) (small : (k : ℕ) → ge
       (omega (arith, lt)) (λ k le lt. byte_apart q j (v / 65536) k (inr (omega (arith, le)))
       ∙ stays k (omega (arith, le)) (omega (arith, lt))) one in
       let below : u16_at p (j + 2) < 65536 = omega (arith, small (j + 2), small (j + 2 + 1)) in
-      record {
-        len = two.len;
-        covers = counted_as _ _ (number_digits w.is_same (u16_at p j) (u16_at p (j + 2)) v below) (omega (arith, below)) two.covers;
-      }
+      counted_as _ _ (number_digits w.is_same (u16_at p j) (u16_at p (j + 2)) v below) (omega (arith, below)) two
 
 -- ==== A checksum update keeps the sum of what it covers, modulo 65535.
 

@@ -145,7 +145,7 @@ abbrev pub port_words : ℕ → List ℕ → ℕ → ℕ → ChecksumDelta
 port_words offset p from to = combined (u16_change (u16_at p offset) from) (u16_change (u16_at p (offset + 2)) to)
 
 none_more : {over : List ℕ → List ℕ} {p q : List ℕ} {w : ChecksumDelta} → Writes over p w q → Writes over p (combined w (u16_change 0 0)) q
-none_more {over} {p} {q} {w} c = record { len = c.len; covers = counted_as w _ (sym (and-true w.is_same)) (omega arith) c.covers }
+none_more {over} {p} {q} {w} c = counted_as w _ (sym (and-true w.is_same)) (omega arith) c
 
 abbrev pub carried_at : ℕ → List ℕ → TransportFields
 carried_at start p = transport_fields_of (protocol_at start p) (drop (payload_at start p) p)
@@ -326,7 +326,8 @@ header_right start p x from to ttl d same =
     let written = timed_written (head_of start n) start p from to ttl d (head_shows (length p) start n (omega (arith, d.whole))) 0 refl (omega arith) d.long in
     update_checksum-is (header_in start) (start + 10) p x (combined (ttl_words start p ttl) (pair_words start p from to))
     (rw (ap (λ k. take k (drop start x)) (same_byte-len start p x first) ∙ same)
-    (counted_as _ _ (and_comm (pair_words start p from to).is_same (ttl_words start p ttl).is_same) (omega arith) written.covers))
+    (counted_as _ (combined (ttl_words start p ttl) (pair_words start p from to))
+    (and_comm (pair_words start p from to).is_same (ttl_words start p ttl).is_same) (omega arith) written).covers)
     (word_stays x p (start + 10) d.small (λ k le lt.
     in_head start n (k - start) k x t same (omega (arith, le)) (omega (arith, d.long, lt))
     ∙ timed_byte start p from to ttl k (inr (omega (arith, le))) (inl (omega (arith, lt)))))
@@ -373,8 +374,8 @@ module _ (start : ℕ) (p : List ℕ) (from to ttl : ℕ) (numbers : Option Port
       rw (payload_stays (with_ports offset t ports.0 ports.1)
       (byte_apart (with_u16 t offset ports.0) (offset + 2) ports.1 start (inl (omega (arith, past)))
       ∙ byte_apart t offset ports.0 start (inl (omega (arith, past)))))
-      (counted_as _ _ (and_assoc (pair_words start p from to).is_same (u16_at p offset == ports.0) (u16_at p (offset + 2) == ports.1))
-      (omega arith) all.covers)
+      (counted_as _ (combined (pair_words start p from to) (port_words offset p ports.0 ports.1))
+      (and_assoc (pair_words start p from to).is_same (u16_at p offset == ports.0) (u16_at p (offset + 2) == ports.1)) (omega arith) all).covers
 
   carried_covered : (number : ℕ) → offset + 6 ≤ length p → Covers (u16_change (u16_at p (offset + 4)) number) (payload_in start p)
       (payload_in start (with_u16 t (offset + 4) number))
