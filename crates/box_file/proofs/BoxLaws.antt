@@ -1,13 +1,15 @@
 -- A text describes one box or has one fault.
-use Rattle.std.proofs.Common.{◌≡◌, ℕ, Bool, true, false, cond, List, Option, Some, None, ◌⊎◌, refl, inl, inr, sym, ap, subst, ◌∙◌}
-use Rattle.std.proofs.lemmas.Option.{same_Some}
+use Rattle.std.proofs.Common.{◌≡◌, ℕ, false, List, [], ◌∷◌, Option, Some, None, ◌⊎◌, refl, inl, inr, sym, ap, ◌∙◌}
+use Rattle.std.specs.Prelude.{is_some}
+use Rattle.std.proofs.lemmas.Option.{none-some, same_Some}
 use Rattle.box_file.specs.declared.fault.BoxFault.{BoxFault}
 use Rattle.box_file.specs.declared.fault.BoxFault.TheVariants.{Form, Repeated, UnknownName, TooLarge, OutOfRange}
 use Rattle.box_file.specs.steps.Reading.{lines_in}
-use Rattle.box_file.specs.Box.{Line, each_is_line, Reads, HasBoxFault, IsBox, PlantTree, least_fault}
+use Rattle.box_file.specs.Box.{Line, Reads, HasBoxFault, IsBox, PlantTree, has_fault, least_fault}
 use Rattle.box_file.specs.Box.{plant_of, idles_in, idle_for, is_out_of_range}
 use Rattle.std.specs.List.{list_any}
 use Rattle.box_file.proofs.IdleLaws.{same_limits, limits_of, are_limits}
+use Rattle.box_file.proofs.ListLaws.{each_fails, some-found}
 use Rattle.box_file.proofs.LineLaws.{lines_found, lines_only}
 
 -- a text is parsed in one way only
@@ -25,8 +27,7 @@ pub box_or_fault : (text : List ℕ) (p : PlantTree) (fault : BoxFault) → IsBo
 box_or_fault text p fault b (inl f) = f.0 b.lines b.read
 box_or_fault text p fault b (inr f) =
     let same = one_reading_of_box text b.lines f.0 b.read f.1 in
-    let none : ◌≡◌ {A = Option BoxFault} None (Some fault) = sym b.faultless ∙ ap (least_fault text) same ∙ f.2 in
-    absurd cc
+    none-some fault (sym b.faultless ∙ ap (least_fault text) same ∙ f.2)
 
 pub one_fault : (text : List ℕ) (fault other : BoxFault) → HasBoxFault text fault → HasBoxFault text other → fault ≡ other
 one_fault text fault other (inl f) (inl g) = f.1 ∙ sym g.1
@@ -36,38 +37,28 @@ one_fault text fault other (inr f) (inr g) =
     let same = one_reading_of_box text f.0 g.0 f.1 g.1 in
     same_Some fault other (sym f.2 ∙ ap (least_fault text) same ∙ g.2)
 
-all_right : (a b c d e : Bool) → cond a (Some Form)
-    (cond b (Some Repeated) (cond c (Some UnknownName) (cond d (Some TooLarge) (cond e (Some OutOfRange) None)))) ≡ None
-    → e ≡ false
-all_right true b c d e h = absurd cc
-all_right false true c d e h = absurd cc
-all_right false false true d e h = absurd cc
-all_right false false false true e h = absurd cc
-all_right false false false false true h = absurd cc
-all_right false false false false false h = refl
-
 -- the idle timeouts of a faultless text are in range
 pub idle_right : (text : List ℕ) (ls : List Line) → least_fault text ls ≡ None → list_any is_out_of_range (idles_in ls) ≡ false
-idle_right text ls e = all_right _ _ _ _ (list_any is_out_of_range (idles_in ls)) e
+idle_right text ls e =
+    let faults = Form ∷ Repeated ∷ UnknownName ∷ TooLarge ∷ OutOfRange ∷ [] in
+    (each_fails (has_fault text ls) faults (sym (some-found (has_fault text ls) faults) ∙ ap is_some e)).1.1.1.1.0
 
-judged : (text : List ℕ) (ls : List Line) → Reads text ls → (o : Option BoxFault) → least_fault text ls ≡ o
-    → ((plant : PlantTree) × IsBox text plant) ⊎ ((fault : BoxFault) × HasBoxFault text fault)
+pub none_read : (text : List ℕ) (ls : List Line) → lines_in text ≡ None → Reads text ls → ⊥
+none_read text ls e r = none-some ls (sym e ∙ lines_only text ls r)
+
+abbrev Answer : List ℕ → Type 0
+Answer text = ((plant : PlantTree) × IsBox text plant) ⊎ ((fault : BoxFault) × HasBoxFault text fault)
+
+judged : (text : List ℕ) (ls : List Line) → Reads text ls → (o : Option BoxFault) → least_fault text ls ≡ o → Answer text
 judged text ls r None e =
     let right = idle_right text ls e in
     let idle = limits_of (idles_in ls) right in
     inl (plant_of ls idle, record { lines = ls; read = r; faultless = e; limits = are_limits (idles_in ls) right; meant = refl })
 judged text ls r (Some fault) e = inr (fault, inr (ls, r, e))
 
-pub none_read : (text : List ℕ) (ls : List Line) → lines_in text ≡ None → Reads text ls → ⊥
-none_read text ls e r = let none : ◌≡◌ {A = Option (List Line)} None (Some ls) = sym e ∙ lines_only text ls r in absurd cc
-
-read_or_not : (text : List ℕ) (o : Option (List Line)) → lines_in text ≡ o
-    → ((plant : PlantTree) × IsBox text plant) ⊎ ((fault : BoxFault) × HasBoxFault text fault)
+read_or_not : (text : List ℕ) (o : Option (List Line)) → lines_in text ≡ o → Answer text
 read_or_not text None e = inr (Form, inl (λ ls r. none_read text ls e r, refl))
 read_or_not text (Some ls) e = judged text ls (lines_found text ls e) (least_fault text ls) refl
 
-pub some_answer : (text : List ℕ) → ((plant : PlantTree) × IsBox text plant) ⊎ ((fault : BoxFault) × HasBoxFault text fault)
+pub some_answer : (text : List ℕ) → Answer text
 some_answer text = read_or_not text (lines_in text) refl
-
-pub lines_as : (ls ms : List Line) → ls ≡ ms → each_is_line ms → each_is_line ls
-lines_as ls ms e h = let P : List Line → Type 0 = λ ks. each_is_line ks in subst P (sym e) h

@@ -1,20 +1,17 @@
 -- The checks on keys agree with the checks on lines.
 use Rattle.std.proofs.Common.{◌≡◌, ℕ, ◌+◌, ◌<◌, Bool, true, ◌==◌, ◌&&◌, not, cond, nat_eq, List, [], ◌∷◌, length}
-use Rattle.std.proofs.Common.{take, get_or, Option, Result, refl, ap, ◌∙◌}
-use Rattle.std.specs.Prelude.{map, IfOk}
+use Rattle.std.proofs.Common.{take, get_or, refl, ap, ◌∙◌}
+use Rattle.std.specs.Prelude.{map}
 use Rattle.std.specs.List.{list_any}
 use Rattle.std.specs.Borrow.{Bor}
 use Rattle.std.specs.Cmp.Lexicographic.{pointwise}
 use Rattle.std.specs.HashSet.{HashSet, contains}
 use Rattle.std.proofs.lemmas.List.{get_or_default}
-use Rattle.std.proofs.lemmas.Result.{IfOk-weaker}
-use Rattle.box_file.specs.declared.fault.BoxFault.{BoxFault}
-use Rattle.box_file.specs.Box.{Interface, NamedRoute, Idle, Line, interfaces_in, routes_in, defaults_in, idles_in}
-use Rattle.box_file.specs.Box.{any_pair, two_names, two_indexes, is_named, is_unknown, least_fault}
+use Rattle.box_file.specs.Box.{Interface, any_pair, two_names, two_indexes, is_named, is_unknown}
 use Rattle.box_file.specs.declared.line.InterfaceLine.{InterfaceLine}
 use Rattle.box_file.specs.declared.line.RouteLine.{RouteLine}
 use Rattle.box_file.specs.steps.Reading.{interface_tree, route_tree}
-use Rattle.box_file.specs.steps.Tests.{two_values, Knows, least_fault_of}
+use Rattle.box_file.specs.steps.Tests.{two_values, Knows}
 use Rattle.box_file.proofs.NumberLaws.{same_text-pointwise}
 use Rattle.box_file.proofs.RepeatLaws.{seen_more}
 
@@ -68,18 +65,3 @@ module _ {S : Type 0} (known : HashSet (Bor (List ℕ)) S) (is : List Interface)
   pub unknown_defaults : (ns : List (Bor (List ℕ)))
       → list_any (λ n. not (has n)) ns ≡ list_any (is_unknown is) (map (λ n. n.now) ns)
   unknown_defaults ns = any-mapped (λ n. n.now) (λ n. not (has n)) (is_unknown is) (λ n. ap not (knows n)) ns
-
--- ---- all checks
-
--- the lines split by kind have the same first fault
-pub least_fault_as : {E : Type 0} (text : List ℕ) (ls : List Line)
-    (found : Result (Option BoxFault) E) {is : List Interface} {rs : List NamedRoute} {ns : List
-    (List ℕ)} {js : List Idle} → is ≡ interfaces_in ls → rs ≡ routes_in ls → ns ≡ defaults_in ls → js ≡ idles_in ls
-    → IfOk found (λ o. o ≡ least_fault_of text is rs ns js) → IfOk found (λ o. o ≡ least_fault text ls)
-least_fault_as text ls found {is} {rs} {ns} {js} ei er en ej decided =
-    let same : least_fault_of text is rs ns js ≡ least_fault text ls =
-    ap (λ x. least_fault_of text x rs ns js) ei
-    ∙ ap (λ x. least_fault_of text (interfaces_in ls) x ns js) er
-    ∙ ap (λ x. least_fault_of text (interfaces_in ls) (routes_in ls) x js) en
-    ∙ ap (least_fault_of text (interfaces_in ls) (routes_in ls) (defaults_in ls)) ej in
-    IfOk-weaker found _ _ (λ o is. is ∙ same) decided

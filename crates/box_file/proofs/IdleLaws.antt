@@ -5,9 +5,10 @@ use Rattle.std.specs.Prelude.{nat_lt, find, unwrap_or, IfSome, IsTrue}
 use Rattle.std.specs.List.{list_any}
 use Rattle.std.specs.Option.{option_map}
 use Rattle.std.specs.Str.Parse.{digits_value}
-use Rattle.std.proofs.lemmas.Bool.{lt-ltb, or_parts}
-use Rattle.std.proofs.lemmas.Bool.Decides.{nat_tests}
+use Rattle.std.proofs.lemmas.Bool.{le-ltb, lt-ltb, ltb-false, or_parts}
+use Rattle.list_laws.specs.Options.{IfSome_at}
 use Rattle.std.proofs.Math.Bool.{Bool-set}
+use Rattle.box_file.proofs.ListLaws.{each_fails, found_all}
 use Rattle.box_file.specs.declared.idle_line.IdleKind.{IdleKind}
 use Rattle.box_file.specs.declared.idle_line.IdleKind.TheVariants as kinds
 use Rattle.box_file.specs.declared.limits.Limits.{Limits}
@@ -46,64 +47,29 @@ same_limits l m same =
 
 -- ---- lines in range
 
-some_minimum : (k : IdleKind) → 0 < minimum_for k
-some_minimum kinds.Udp = omega arith
-some_minimum kinds.Established = omega arith
-some_minimum kinds.Transitory = omega arith
-some_minimum kinds.Echo = omega arith
-some_minimum kinds.Other = omega arith
+pub some_limit : (k : IdleKind) → (0 < minimum_for k) × (0 < limit_for usual_limits k)
+some_limit kinds.Udp = (omega arith, omega arith)
+some_limit kinds.Established = (omega arith, omega arith)
+some_limit kinds.Transitory = (omega arith, omega arith)
+some_limit kinds.Echo = (omega arith, omega arith)
+some_limit kinds.Other = (omega arith, omega arith)
 
-not_below : (n minimum : ℕ) → 0 < minimum → nat_lt n minimum ≡ false → 0 < n
-not_below n minimum some e = grind (arith, nat_tests, some, e)
-
-not_above : (n : ℕ) → nat_lt max_idle_seconds n ≡ false → n < 2 ^ 32
-not_above n e = grind (arith, nat_tests, e)
-
--- a second at least, and no more than a `u32` holds
-pub in_range : (i : Idle) → is_out_of_range i ≡ false → (0 < seconds_of i) × (seconds_of i < 2 ^ 32)
-in_range i e =
-    let p = or_parts (nat_lt (seconds_of i) (minimum_for i.kind)) (nat_lt max_idle_seconds (seconds_of i)) e in
-    (not_below (seconds_of i) (minimum_for i.kind) (some_minimum i.kind) p.0, not_above (seconds_of i) p.1)
-
-found_step : (p : Idle → Bool) (i : Idle) (is : List Idle) (v : Bool) → is_out_of_range i ≡ false
-    → IfSome (find p is) (λ j. is_out_of_range j ≡ false)
-    → IfSome (cond v (Some i) (find p is)) (λ j. is_out_of_range j ≡ false)
-found_step p i is true h k = h
-found_step p i is false h k = k
-
-found_in_range : (p : Idle → Bool) (is : List Idle) → list_any is_out_of_range is ≡ false
-    → IfSome (find p is) (λ j. is_out_of_range j ≡ false)
-found_in_range p [] e = tt
-found_in_range p (i ∷ is) e =
-    let q = or_parts (is_out_of_range i) (list_any is_out_of_range is) e in
-    found_step p i is (p i) q.0 (found_in_range p is q.1)
-
--- the line for a kind sets at least one second
+-- the line for a kind sets a second at least, and no more than a `u32` holds
 pub found : (k : IdleKind) (i : Idle) (is : List Idle) → list_any is_out_of_range is ≡ false
     → Some i ≡ find (is_of_kind k) is → (0 < seconds_of i) × (seconds_of i < 2 ^ 32)
 found k i is e there =
-    let P : Option Idle → Type 0 = λ o. IfSome o (λ j. is_out_of_range j ≡ false) in
-    in_range i (subst P (sym there) (found_in_range (is_of_kind k) is e))
-
--- it sets the timeout of the kind
-pub found_limit : (k : IdleKind) (i : Idle) (is : List Idle) → Some i ≡ find (is_of_kind k) is → seconds_of i ≡ idle_for is k
-found_limit k i is there = ap (λ o. unwrap_or (option_map seconds_of o) (limit_for usual_limits k)) there
-
--- a kind without a line has the default
-pub usual_limit : (k : IdleKind) (is : List Idle) → None ≡ find (is_of_kind k) is → limit_for usual_limits k ≡ idle_for is k
-usual_limit k is none = ap (λ o. unwrap_or (option_map seconds_of o) (limit_for usual_limits k)) none
-
-pub usual_positive : (k : IdleKind) → 0 < limit_for usual_limits k
-usual_positive kinds.Udp = omega arith
-usual_positive kinds.Established = omega arith
-usual_positive kinds.Transitory = omega arith
-usual_positive kinds.Echo = omega arith
-usual_positive kinds.Other = omega arith
+    let right = IfSome_at (find (is_of_kind k) is) (λ j. is_out_of_range j ≡ false) i (sym there)
+    (found_all (λ j. is_out_of_range j ≡ false) (is_of_kind k) is (each_fails is_out_of_range is e)) in
+    let p = or_parts (nat_lt (seconds_of i) (minimum_for i.kind)) (nat_lt max_idle_seconds (seconds_of i)) right in
+    let some = (some_limit i.kind).0 in
+    let low = ltb-false _ _ p.0 in
+    let high = ltb-false _ _ p.1 in
+    (omega arith, omega arith)
 
 limit_at_least_one : (k : IdleKind) (is : List Idle) → list_any is_out_of_range is ≡ false → (o : Option Idle)
     → o ≡ find (is_of_kind k) is → 0 < idle_for is k
-limit_at_least_one k is e None there = subst (λ (n : ℕ). 0 < n) (usual_limit k is there) (usual_positive k)
-limit_at_least_one k is e (Some i) there = subst (λ (n : ℕ). 0 < n) (found_limit k i is there) (found k i is e there).0
+limit_at_least_one k is e None there = rw (← there) (some_limit k).1
+limit_at_least_one k is e (Some i) there = rw (← there) (found k i is e there).0
 
 limit_positive : (k : IdleKind) (is : List Idle) → list_any is_out_of_range is ≡ false → nat_lt 0 (idle_for is k) ≡ true
 limit_positive k is e = lt-ltb _ _ (limit_at_least_one k is e (find (is_of_kind k) is) refl)
@@ -140,16 +106,9 @@ are_limits is e kinds.Other = refl
 pub number_small : (ds : List ℕ) → is_numeral ds ≡ true → digits_value 10 ds < 2 ^ 32
     → unwrap_or (number_in ds) 4294967295 ≡ digits_value 10 ds
 unfolding number_in
-number_small ds e small =
-    let fits : nat_lt (digits_value 10 ds) 4294967296 ≡ true = lt-ltb _ _ small in
-    rw (e, fits) refl
-
-not_less : (n m : ℕ) → m ≤ n → nat_lt n m ≡ false
-not_less n m le = grind (arith, nat_tests, le)
+number_small ds e small = rw (e, lt-ltb (digits_value 10 ds) 4294967296 small) refl
 
 -- a greater number isn't parsed
 pub number_large : (ds : List ℕ) → is_numeral ds ≡ true → 2 ^ 32 ≤ digits_value 10 ds → unwrap_or (number_in ds) 4294967295 ≡ 4294967295
 unfolding number_in
-number_large ds e large =
-    let beyond : nat_lt (digits_value 10 ds) 4294967296 ≡ false = not_less (digits_value 10 ds) 4294967296 large in
-    rw (e, beyond) refl
+number_large ds e large = rw (e, le-ltb (digits_value 10 ds) 4294967296 large) refl

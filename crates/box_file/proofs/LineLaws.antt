@@ -1,14 +1,17 @@
 -- The parsers accept exactly the lines that the words spell.
 use Rattle.std.proofs.Common.{◌≡◌, ◌≢◌, ℕ, zero, suc, ◌+◌, ◌-◌, ◌*◌, ◌/◌, ◌%◌, ◌^◌, ◌<◌, Bool, true, false, ◌&&◌}
 use Rattle.std.proofs.Common.{◌||◌, not, cond, List, [], ◌∷◌, ◌++◌, map, length, get_or, Option, Some, None, ◌⊎◌}
-use Rattle.std.proofs.Common.{inl, inr, refl, sym, ap, ◌∙◌, append_assoc, arith}
+use Rattle.std.proofs.Common.{inl, inr, refl, sym, ap, ◌∙◌, add-one, append_assoc, take, drop, arith}
 use Rattle.std.specs.Prelude.{◌==◌, nat_lt, IfSome, codes, filter}
-use Rattle.std.specs.List.{list_all}
+use Rattle.std.specs.List.{list_all, position_or_len}
 use Rattle.std.specs.Char.{is_ascii_digit}
 use Rattle.std.specs.Fmt.{decimal}
 use Rattle.std.specs.Str.Parse.{digits_value}
-use Rattle.std.proofs.lemmas.Bool.{ltb-true, lt-ltb, eqb-true, false≢true, and_parts}
-use Rattle.std.proofs.lemmas.Bool.Decides.{nat_tests}
+use Rattle.std.proofs.lemmas.Bool.{and_from, and_parts, cond_both, eq-eqb, eqb-true, false≢true, lt-ltb, ltb-true}
+use Rattle.std.proofs.lemmas.Bool.{ne_eqb, not_from_false, or_left, or_right}
+use Rattle.std.proofs.lemmas.List.{length-append, take_at}
+use Rattle.std.proofs.lemmas.List.Sums.{passes_at_first, split_at_first}
+use Rattle.std.proofs.lemmas.Slice.Eq.{bytes_eq-Decides}
 use Rattle.std.proofs.lemmas.Fmt.{digits_decimal, digits_value-decimal, decimal-digits_value}
 use Rattle.std.proofs.lemmas.Fmt.{decimal_nonempty, first_decimal, length-decimal-le}
 use Rattle.std.specs.Option.{option_map}
@@ -19,55 +22,48 @@ use Rattle.box_file.specs.Text.{is_nonempty, words_of, lines_of, dotted, dotted_
 use Rattle.box_file.specs.Idle.{word_of}
 use Rattle.box_file.specs.Box.{Interface, NamedRoute, Idle, Line, interface_line, route_line, default_line, idle_line}
 use Rattle.box_file.specs.Box.{words_in, is_name_byte, IsName, IsLine, each_is_line, same_text, Reads}
-use Rattle.box_file.specs.steps.Reading.{uncons, has_none, onto, cut, number_in, is_name, name_in, octet_in}
+use Rattle.box_file.specs.steps.Reading.{uncons, has_none, cut, number_in, is_name, name_in, octet_in}
 use Rattle.box_file.specs.steps.Reading.{address_in, prefixed_in, interface_words, route_words, default_words}
 use Rattle.box_file.specs.steps.Reading.{kind_in, idle_words, line_of, line_in, all_in, lines_in}
-use Rattle.box_file.proofs.NumberLaws.{digits, numeral_digits}
-
--- ---- basic parsers
-
-choice_found : {A : Type 0} (Q : A → Type 0) (b : Bool) (o p : Option A) → (b ≡ true → IfSome o Q) → IfSome p Q → IfSome (cond b o p) Q
-choice_found Q true o p h k = h refl
-choice_found Q false o p h k = k
+use Rattle.box_file.proofs.NumberLaws.{digits, numeral_digits, same_text-pointwise}
 
 -- ---- splitting
 
-cut_step : (at b : ℕ) (bs : List ℕ) (v : Bool) (o : Option (List ℕ × List ℕ)) → (b == at) ≡ v
-    → IfSome o (λ x. bs ≡ x.0 ++ at ∷ x.1) → IfSome {T = List ℕ × List ℕ}
-    (cond v (Some ([], bs)) (option_map (onto b) o)) (λ x. b ∷ bs ≡ x.0 ++ at ∷ x.1)
-cut_step at b bs true o e h = ap (λ (y : ℕ). y ∷ bs) (eqb-true _ _ e)
-cut_step at b bs false None e h = tt
-cut_step at b bs false (Some x) e h = ap (λ (ys : List ℕ). b ∷ ys) h
-
 cut_found : (at : ℕ) (ts : List ℕ) → IfSome (cut at ts) (λ x. ts ≡ x.0 ++ at ∷ x.1)
-cut_found at [] = tt
-cut_found at (b ∷ bs) = cut_step at b bs (b == at) (cut at bs) refl (cut_found at bs)
+cut_found at ts =
+    let n = position_or_len (λ (b : ℕ). b == at) ts in
+    cond_both (nat_lt n (length ts)) (Some n) None
+    (λ o. IfSome {T = List ℕ × List ℕ} (option_map (λ k. (take k ts, drop (suc k) ts)) o) (λ x. ts ≡ x.0 ++ at ∷ x.1))
+    (λ e. let within = ltb-true n (length ts) e in
+    let here : get_or ts n 0 ≡ at = eqb-true _ _ (passes_at_first (λ b. b == at) ts 0 within) in
+    split_at_first (λ b. b == at) ts 0 within ∙ rw (here, add-one) refl)
+    (λ e. tt)
 
 -- this byte doesn't occur
 abbrev Lacks : ℕ → List ℕ → Type 0
 Lacks at [] = Unit {0}
 Lacks at (b ∷ bs) = ((b == at) ≡ false) × Lacks at bs
 
-same_byte : (at : ℕ) → (at == at) ≡ true
-same_byte at = grind (arith, nat_tests)
+place_only : (at : ℕ) (xs ys : List ℕ) → Lacks at xs
+    → (position_or_len (λ b. b == at) (xs ++ at ∷ ys) ≡ length xs) × (drop (suc (length xs)) (xs ++ at ∷ ys) ≡ ys)
+place_only at [] ys l = (rw (eq-eqb at at refl) refl, refl)
+place_only at (x ∷ xs) ys l = let h = place_only at xs ys l.1 in (rw (l.0, h.0) (omega arith), h.1)
 
 cut_only : (at : ℕ) (xs ys : List ℕ) → Lacks at xs → cut at (xs ++ at ∷ ys) ≡ Some (xs, ys)
-cut_only at [] ys l = rw (same_byte at) refl
-cut_only at (x ∷ xs) ys l = rw (l.0, cut_only at xs ys l.1) refl
+cut_only at xs ys l =
+    let h = place_only at xs ys l in
+    let within : length xs < length (xs ++ at ∷ ys) = omega (arith, length-append xs (at ∷ ys)) in
+    rw (h.0, lt-ltb _ _ within, take_at xs (at ∷ ys) (length xs) refl, h.1) refl
 
 lacks-append : (at : ℕ) (xs ys : List ℕ) → Lacks at xs → Lacks at ys → Lacks at (xs ++ ys)
 lacks-append at [] ys l k = k
 lacks-append at (x ∷ xs) ys l k = (l.0, lacks-append at xs ys l.1 k)
 
-other_byte : (test : ℕ → Bool) (at b : ℕ) (v : Bool) → (b == at) ≡ v → test at ≡ false → test b ≡ true → v ≡ false
-other_byte test at b true e f t = let same : b ≡ at = eqb-true _ _ e in absurd (false≢true (sym f ∙ ap test (sym same) ∙ t))
-other_byte test at b false e f t = refl
-
 lacks_all : (test : ℕ → Bool) (at : ℕ) → test at ≡ false → (bs : List ℕ) → list_all test bs ≡ true → Lacks at bs
 lacks_all test at f [] e = tt
 lacks_all test at f (b ∷ bs) e =
     let p = and_parts (test b) (list_all test bs) e in
-    (other_byte test at b (b == at) refl f p.0, lacks_all test at f bs p.1)
+    (ne_eqb b at (λ same. false≢true (sym f ∙ ap test (sym same) ∙ p.0)), lacks_all test at f bs p.1)
 
 -- ---- numbers
 
@@ -86,19 +82,11 @@ number_found ds = IfSome_cond _ (is_numeral ds && nat_lt (digits_value 10 ds) 42
     let small : digits_value 10 ds < 4294967296 = ltb-true _ _ p.1 in
     (decimal-digits_value digits ds plain.0 plain.1 (lone_zero ds p.0) (omega arith), small))
 
-or_true : (b : Bool) → b || true ≡ true
-or_true true = refl
-or_true false = refl
-
 numeral_from : (ds : List ℕ) → list_all is_ascii_digit ds ≡ true → 0 < length ds
     → (get_or ds 0 0 ≢ 48) ⊎ (length ds ≡ 1) → is_numeral ds ≡ true
 numeral_from [] all some first = absurd (omega arith)
-numeral_from (d ∷ ds) all some (inl other) =
-    let e : (d == 48) ≡ false = grind (arith, nat_tests) in
-    rw (all, e) refl
-numeral_from (d ∷ ds) all some (inr one) =
-    let e : (length ds == 0) ≡ true = grind (arith, nat_tests) in
-    rw (all, e) (or_true (not (d == 48)))
+numeral_from (d ∷ ds) all some (inl other) = and_from _ _ all (or_left _ _ (not_from_false _ (ne_eqb d 48 other)))
+numeral_from (d ∷ ds) all some (inr one) = and_from _ _ all (or_right (not (d == 48)) _ (eq-eqb (length ds) 0 (omega arith)))
 
 -- a lone zero, or a first digit that is none
 first_is : (n : ℕ) → n < 2 ^ 64 → (get_or (decimal n) 0 0 ≢ 48) ⊎ (length (decimal n) ≡ 1)
@@ -293,25 +281,16 @@ default_only : (n : List ℕ) → IsName n → default_words (n ∷ []) ≡ Some
 unfolding default_words
 default_only n h = rw (name_only n h) refl
 
-same_text-true : (v w : List ℕ) → same_text v w ≡ true → v ≡ w
-same_text-true [] [] e = refl
-same_text-true [] (y ∷ ys) e = absurd cc
-same_text-true (x ∷ xs) [] e = absurd cc
-same_text-true (x ∷ xs) (y ∷ ys) e =
-    let p = and_parts (x == y) (same_text xs ys) e in
-    let head : x ≡ y = eqb-true _ _ p.0 in
-    let tail : xs ≡ ys = same_text-true xs ys p.1 in
-    cc
-
-kind_by : (word : List ℕ) (k : IdleKind) (o : Option IdleKind) → IfSome o (λ l. word_of l ≡ word)
-    → IfSome (cond (same_text word (word_of k)) (Some k) o) (λ l. word_of l ≡ word)
-kind_by word k o h = choice_found (λ l. word_of l ≡ word) (same_text word (word_of k)) (Some k) o
-    (λ e. sym (same_text-true word (word_of k) e)) h
+-- a choice by a word
+named : {A : Type 0} (Q : A → Type 0) (text word : List ℕ) (o p : Option A) → (text ≡ word → IfSome o Q) → IfSome p Q
+    → IfSome (cond (same_text text word) o p) Q
+named Q text word o p h k = cond_both (same_text text word) o p (λ r. IfSome r Q)
+    (λ e. h ((bytes_eq-Decides text word).0 (same_text-pointwise text word ∙ e))) (λ e. k)
 
 kind_found : (word : List ℕ) → IfSome (kind_in word) (λ k. word_of k ≡ word)
 kind_found word =
-    kind_by word kinds.Udp _ (kind_by word kinds.Established _
-    (kind_by word kinds.Transitory _ (kind_by word kinds.Echo _ (kind_by word kinds.Other None tt))))
+    let by = λ (k : IdleKind) (o : Option IdleKind). named (λ l. word_of l ≡ word) word (word_of k) (Some k) o (λ e. sym e) in
+    by kinds.Udp _ (by kinds.Established _ (by kinds.Transitory _ (by kinds.Echo _ (by kinds.Other None tt))))
 
 kind_only : (k : IdleKind) → kind_in (word_of k) ≡ Some k
 kind_only kinds.Udp = refl
@@ -334,19 +313,12 @@ idle_only : (i : Idle) → IsLine (idle_line i) → idle_words (word_of i.kind �
 unfolding idle_words
 idle_only i h = rw (kind_only i.kind, h) refl
 
--- the first word is this one, and its parser accepts the rest
-after_word : (word w : List ℕ) (ws : List (List ℕ)) (o : Option Line) → same_text word w ≡ true
-    → IfSome o (λ l. IsLine l × (words_in l ≡ w ∷ ws)) → IfSome o (λ l. IsLine l × (words_in l ≡ word ∷ ws))
-after_word word w ws o e h = rw (same_text-true word w e) h
-
 line_of_found : (word : List ℕ) (ws : List (List ℕ)) → IfSome (line_of word ws) (λ l. IsLine l × (words_in l ≡ word ∷ ws))
 line_of_found word ws =
-    choice_found _ (same_text word (codes "interface")) (interface_words ws) _
-    (λ e. after_word word (codes "interface") ws _ e (interface_found ws))
-    (choice_found _ (same_text word (codes "route")) (route_words ws) _ (λ e. after_word word (codes "route") ws _ e (route_found ws))
-    (choice_found _ (same_text word (codes "default")) (default_words ws) _
-    (λ e. after_word word (codes "default") ws _ e (default_found ws))
-    (choice_found _ (same_text word (codes "idle")) (idle_words ws) None (λ e. after_word word (codes "idle") ws _ e (idle_found ws)) tt)))
+    named _ word (codes "interface") (interface_words ws) _ (λ e. rw e (interface_found ws))
+    (named _ word (codes "route") (route_words ws) _ (λ e. rw e (route_found ws))
+    (named _ word (codes "default") (default_words ws) _ (λ e. rw e (default_found ws))
+    (named _ word (codes "idle") (idle_words ws) None (λ e. rw e (idle_found ws)) tt)))
 
 line_found : (ws : List (List ℕ)) → IfSome (line_in ws) (λ l. IsLine l × (words_in l ≡ ws))
 unfolding line_in

@@ -1,66 +1,20 @@
--- The results of std's calls in terms of the parsers: splits, texts, numbers.
-use Rattle.std.proofs.Common.{◌≡◌, ℕ, suc, ◌+◌, ◌-◌, ◌^◌, ◌<◌, Bool, true, false, ◌&&◌, not, cond, eqb, ltb}
-use Rattle.std.proofs.Common.{List, [], ◌∷◌, length, take, drop, Option, Some, None, Result, Ok, Err, refl, sym}
-use Rattle.std.proofs.Common.{ap, subst, add-one, length-drop, ◌∙◌, arith, rules}
-use Rattle.std.specs.Prelude.{◌==◌, nat_lt, MatchResult}
-use Rattle.std.specs.List.{position_or_len, list_all}
+-- The results of std's calls in terms of the parsers: texts, numbers.
+use Rattle.std.proofs.Common.{◌≡◌, ℕ, ◌^◌, ◌<◌, true, false, ◌&&◌, cond, eqb, List, [], ◌∷◌, length, Some, None}
+use Rattle.std.proofs.Common.{Result, Ok, Err, refl, sym, ap, subst, ◌∙◌, arith, rules}
+use Rattle.std.specs.Prelude.{nat_lt, MatchResult}
+use Rattle.std.specs.List.{list_all}
 use Rattle.std.specs.Char.{is_ascii_digit}
 use Rattle.std.specs.Cmp.Lexicographic.{pointwise}
 use Rattle.std.specs.Result.{result_ok, OkIff}
 use Rattle.std.specs.Str.{IsUtf8}
 use Rattle.std.specs.Str.Parse.{digits_value, ParsesUnsigned}
-use Rattle.std.proofs.lemmas.Bool.{ltb-true, lt-ltb, and_parts}
-use Rattle.std.proofs.lemmas.Bool.Decides.{nat_tests}
-use Rattle.std.proofs.lemmas.List.{take_all}
+use Rattle.std.proofs.lemmas.Bool.{ltb-true, lt-ltb, and_parts, cond-false, false_from_ne_true}
 use Rattle.std.proofs.lemmas.Fmt.{IsAscii-from_digits}
 use Rattle.std.proofs.lemmas.Str.{IsUtf8-from_ascii}
 use Rattle.std.proofs.lemmas.Str.Parse.{IsNumeralModel, numerals_by_value, parse_digits}
-use Rattle.std.specs.Option.{option_map}
 use Rattle.box_file.specs.Box.{same_text}
-use Rattle.box_file.specs.steps.Reading.{onto, cut, number_in}
+use Rattle.box_file.specs.steps.Reading.{number_in}
 use Rattle.box_file.specs.Text.{is_numeral}
-
--- ---- splitting
-
-abbrev pub parts_at : ℕ → List ℕ → Option (List ℕ × List ℕ)
-parts_at n ts = cond (ltb n (length ts)) (Some (take n ts, drop (suc n) ts)) None
-
-suc_ltb : (m n : ℕ) → ltb (suc m) (suc n) ≡ ltb m n
-suc_ltb m n = grind (arith, nat_tests)
-
-parts_next : (b : ℕ) (bs : List ℕ) (n : ℕ) → option_map (onto b) (parts_at n bs) ≡ parts_at (suc n) (b ∷ bs)
-parts_next b bs n = rw (suc_ltb n (length bs))
-    (elim (ltb n (length bs)) as (λ v. option_map (onto b) (cond v (Some (take n bs, drop (suc n) bs)) None)
-    ≡ cond v (Some (b ∷ take n bs, drop (suc n) bs)) None) [ true ↦ refl | false ↦ refl ])
-
-parts_here : (b : ℕ) (bs : List ℕ) → Some ([], bs) ≡ parts_at 0 (b ∷ bs)
-parts_here b bs = let e : ltb 0 (suc (length bs)) ≡ true = lt-ltb 0 (suc (length bs)) (omega arith) in rw e refl
-
-pub cut_place : (at : ℕ) (ts : List ℕ) → cut at ts ≡ parts_at (position_or_len (λ b. b == at) ts) ts
-cut_place at [] = refl
-cut_place at (b ∷ bs) =
-    let p = position_or_len (λ (b : ℕ). b == at) bs in
-    let one : 1 + p ≡ suc p = omega arith in
-    let next : option_map (onto b) (cut at bs) ≡ parts_at (1 + p) (b ∷ bs) = rw (cut_place at bs, one) (parts_next b bs p) in
-    elim (b == at) as (λ v. cond v (Some ([], bs)) (option_map (onto b) (cut at bs))
-    ≡ parts_at (cond (not v) (1 + p) 0) (b ∷ bs)) [ true ↦ parts_here b bs | false ↦ next ]
-
-abbrev pub around : List ℕ → ℕ → List ℕ × List ℕ
-around ts n = (take n ts, drop (suc n) ts)
-
-place_parts : (v : Bool) (n : ℕ) (ts : List ℕ) (r : Option ℕ) → r ≡ cond v (Some n) None
-    → option_map (around ts) r ≡ cond v (Some (take n ts, drop (suc n) ts)) None
-place_parts true n ts r e = rw e refl
-place_parts false n ts r e = rw e refl
-
--- splitting at the index that `position` gave
-pub cut_from : (at : ℕ) (ts : List ℕ) (r : Option ℕ)
-    → r ≡ cond (ltb (position_or_len (λ b. b == at) ts) (length ts)) (Some (position_or_len (λ b. b == at) ts)) None
-    → option_map (around ts) r ≡ cut at ts
-cut_from at ts r e = place_parts _ _ ts r e ∙ sym (cut_place at ts)
-
-pub after_place : (ts : List ℕ) (n : ℕ) → take (length ts - (n + 1)) (drop (n + 1) ts) ≡ drop (suc n) ts
-after_place ts n = rw add-one (take_all (length ts - suc n) (drop (suc n) ts) (omega (arith, length-drop (suc n) ts)))
 
 -- ---- texts
 
@@ -79,14 +33,14 @@ same_text-pointwise [] (y ∷ ys) = refl
 same_text-pointwise (x ∷ xs) [] = refl
 same_text-pointwise (x ∷ xs) (y ∷ ys) = ap (λ v. eqb x y && v) (same_text-pointwise xs ys)
 
+-- a text isn't this word, whose bytes are given
+pub differ : (text word : List ℕ) {bytes : List ℕ} → bytes ≡ word → false ≡ pointwise eqb text bytes → same_text text word ≡ false
+differ text word same other = sym (same_text-pointwise text word) ∙ sym (rw same at other)
+
 -- ---- numbers
 
 pub digits : IsNumeralModel (λ ds. list_all is_ascii_digit ds ≡ true) (digits_value 10)
 digits = numerals_by_value _ (search rules)
-
-pub when_none : {A : Type 0} (b : Bool) (x : A) → (b ≡ true → ⊥) → cond b (Some x) None ≡ None
-when_none true x h = absurd (h refl)
-when_none false x h = refl
 
 pub numeral_digits : (ds : List ℕ) → is_numeral ds ≡ true → (list_all is_ascii_digit ds ≡ true) × (0 < length ds)
 numeral_digits [] e = absurd cc
@@ -103,7 +57,7 @@ number_is ds (Ok x) e h =
     rw (e, small, h.1) refl
 number_is ds (Err x) e h =
     let plain = numeral_digits ds e in
-    sym (when_none _ (digits_value 10 ds) (λ k. h (plain.1, ltb-true _ _ (and_parts (is_numeral ds) _ k).1)))
+    sym (cond-false _ _ _ (false_from_ne_true _ (λ k. h (plain.1, ltb-true _ _ (and_parts (is_numeral ds) _ k).1))))
 
 pub number_parsed : {E : Type 0} (ds : List ℕ) (r : Result ℕ E) → is_numeral ds ≡ true → ParsesUnsigned 32 10 ds r
     → result_ok r ≡ number_in ds

@@ -1,15 +1,16 @@
 -- The lines of a text, one after another.
-use Rattle.std.proofs.Common.{◌≡◌, ℕ, suc, ◌<◌, Bool, true, false, cond, List, [], ◌∷◌, length, ◌++◌}
-use Rattle.std.proofs.Common.{append_assoc, Option, Some, None, refl, sym, ap, eqb-true, ◌∙◌, arith}
-use Rattle.std.specs.Prelude.{◌==◌, unwrap_or}
+use Rattle.std.proofs.Common.{◌≡◌, ℕ, suc, ◌+◌, ◌<◌, ◌≤◌, Bool, true, false, not, cond, List, [], ◌∷◌, length, ◌++◌, take, drop}
+use Rattle.std.proofs.Common.{append_assoc, Option, Some, None, ⊎_elim, refl, ap, one-add, eqb-true, length-drop, ◌∙◌, sym, arith}
+use Rattle.std.specs.Prelude.{◌==◌, filter, map}
+use Rattle.std.specs.List.{position_or_len}
 use Rattle.std.specs.Option.{option_map}
+use Rattle.std.proofs.lemmas.Bool.{cases_lt, le-ltb, lt-ltb}
 use Rattle.std.proofs.lemmas.Bool.Decides.{nat_tests}
-use Rattle.std.proofs.lemmas.List.{nil_from_length, append-nil}
-use Rattle.std.proofs.lemmas.Option.{some_pair_parts}
-use Rattle.box_file.specs.Text.{onto_first, words_of, lines_of}
+use Rattle.std.proofs.lemmas.List.{nil_from_length, append-nil, drop_all, take_all}
+use Rattle.box_file.specs.Text.{is_newline, is_nonempty, onto_first, parts_of, words_of, lines_of}
 use Rattle.box_file.specs.Box.{Line}
 use Rattle.list_laws.specs.Options.{◌>>=◌}
-use Rattle.box_file.specs.steps.Reading.{uncons, onto, cut, first_line, line_of, line_in, all_in, lines_in}
+use Rattle.box_file.specs.steps.Reading.{uncons, first_line, line_of, line_in, all_in, lines_in}
 
 pub some_left : (ts : List ℕ) (r : Bool) → r ≡ (length ts == 0) → r ≡ false → 0 < length ts
 some_left ts r e f = grind (arith, nat_tests)
@@ -17,69 +18,51 @@ some_left ts r e f = grind (arith, nat_tests)
 pub none_left : (ts : List ℕ) (r : Bool) → r ≡ (length ts == 0) → r ≡ true → ts ≡ []
 none_left ts r e f = nil_from_length ts (eqb-true _ _ (sym e ∙ f))
 
-else_onto : (b : ℕ) (bs : List ℕ) (o : Option (List ℕ × List ℕ))
-    → unwrap_or (option_map (onto b) o) (b ∷ bs, []) ≡ onto b (unwrap_or o (bs, []))
-else_onto b bs None = refl
-else_onto b bs (Some x) = refl
+-- ---- the first line
 
-onto_lines : (b : ℕ) (bs : List ℕ) → (0 < length bs → lines_of bs ≡ (first_line bs).0 ∷ lines_of (first_line bs).1)
-    → onto_first b (lines_of bs) ≡ (onto b (first_line bs)).0 ∷ lines_of (onto b (first_line bs)).1
-onto_lines b [] h = refl
-onto_lines b (c ∷ cs) h = ap (onto_first b) (h (omega arith))
-
-lines_first : (ts : List ℕ) → 0 < length ts → lines_of ts ≡ (first_line ts).0 ∷ lines_of (first_line ts).1
-lines_first [] some = absurd (omega arith)
-lines_first (b ∷ bs) some =
-    let d : List ℕ × List ℕ = (b ∷ bs, []) in
-    let more : onto_first b (lines_of bs) ≡ (unwrap_or {T = List ℕ × List ℕ} (option_map (onto b) (cut 10 bs)) d).0
-    ∷ lines_of (unwrap_or {T = List ℕ × List ℕ} (option_map (onto b) (cut 10 bs)) d).1 =
-    rw (else_onto b bs (cut 10 bs)) (onto_lines b bs (lines_first bs)) in
-    elim (b == 10) as (λ v. cond v ([] ∷ lines_of bs) (onto_first b (lines_of bs))
-    ≡ (unwrap_or {T = List ℕ × List ℕ} (cond v (Some ([], bs)) (option_map (onto b) (cut 10 bs))) d).0
-    ∷ lines_of (unwrap_or {T = List ℕ × List ℕ}
-    (cond v (Some ([], bs)) (option_map (onto b) (cut 10 bs))) d).1) [ true ↦ refl | false ↦ more ]
-
-shorter_tail : (bs : List ℕ) → (0 < length bs → length (first_line bs).1 < length bs) → length (first_line bs).1 < suc (length bs)
-shorter_tail [] h = omega arith
-shorter_tail (c ∷ cs) h = let l = h (omega arith) in omega arith
-
-first_shorter : (ts : List ℕ) → 0 < length ts → length (first_line ts).1 < length ts
-first_shorter [] some = absurd (omega arith)
-first_shorter (b ∷ bs) some =
-    let d : List ℕ × List ℕ = (b ∷ bs, []) in
-    let more : length (unwrap_or {T = List ℕ × List ℕ} (option_map (onto b) (cut 10 bs)) d).1 < suc (length bs) =
-    rw (else_onto b bs (cut 10 bs)) (shorter_tail bs (first_shorter bs)) in
-    elim (b == 10) as (λ v. length (unwrap_or {T = List ℕ × List ℕ}
-    (cond v (Some ([], bs)) (option_map (onto b) (cut 10 bs))) d).1 < suc (length bs)) [
-      | true ↦
-          omega arith
+parts_first : (ends : ℕ → Bool) (b : ℕ) (bs : List ℕ) → parts_of ends (b ∷ bs)
+    ≡ take (position_or_len ends (b ∷ bs)) (b ∷ bs) ∷ parts_of ends (drop (suc (position_or_len ends (b ∷ bs))) (b ∷ bs))
+parts_first ends b [] =
+    elim (ends b) as (λ v. cond v ([] ∷ []) ((b ∷ []) ∷ []) ≡ take (cond (not v) (1 + 0) 0) (b ∷ [])
+    ∷ parts_of ends (drop (suc (cond (not v) (1 + 0) 0)) (b ∷ []))) [ true ↦ refl | false ↦ refl ]
+parts_first ends b (c ∷ cs) =
+    let n = position_or_len ends (c ∷ cs) in
+    let more : onto_first b (parts_of ends (c ∷ cs)) ≡ take (1 + n) (b ∷ c ∷ cs) ∷ parts_of ends (drop (1 + n) (c ∷ cs)) =
+    rw one-add (ap (onto_first b) (parts_first ends c cs)) in
+    elim (ends b) as (λ v. cond v ([] ∷ parts_of ends (c ∷ cs)) (onto_first b (parts_of ends (c ∷ cs)))
+    ≡ take (cond (not v) (1 + n) 0) (b ∷ c ∷ cs) ∷ parts_of ends (drop (suc (cond (not v) (1 + n) 0)) (b ∷ c ∷ cs))) [
+      | true ↦ refl
       | false ↦ more
     ]
 
--- the lines that were parsed, before the rest
+first_parts : (ts : List ℕ) → first_line ts
+    ≡ (take (position_or_len is_newline ts) ts, drop (suc (position_or_len is_newline ts)) ts)
+first_parts ts =
+    let n = position_or_len is_newline ts in
+    ⊎_elim
+    (λ less. rw (lt-ltb n (length ts) less) refl)
+    (λ more. rw (le-ltb n (length ts) more, take_all n ts more, drop_all (suc n) ts (omega arith)) refl)
+    (cases_lt n (length ts))
+
+lines_next : (ts : List ℕ) (f : List ℕ × List ℕ) → f ≡ first_line ts → 0 < length ts → lines_of ts ≡ f.0 ∷ lines_of f.1
+lines_next [] f cut some = absurd (omega arith)
+lines_next (b ∷ bs) f cut some = rw (cut ∙ first_parts (b ∷ bs)) (parts_first is_newline b bs)
+
+-- ---- the lines that were parsed, before the rest
+
 abbrev pub before : List Line → Option (List Line) → Option (List Line)
 before front o = option_map (λ ls. front ++ ls) o
 
-uncons_some : {A : Type 0} (xs : List A) (x : A) (rest : List A) → uncons xs ≡ Some (x, rest) → xs ≡ x ∷ rest
-uncons_some [] x rest e = absurd cc
-uncons_some (y ∷ ys) x rest e = let p = some_pair_parts y x ys rest e in cc (p.0, p.1)
+-- the line of these words, if there are any, before the others
+abbrev one_more : Option (List ℕ × List (List ℕ)) → Option (List Line) → Option (List Line)
+one_more None rest = rest
+one_more (Some x) rest = line_of x.0 x.1 >>= λ l. option_map (λ ls. l ∷ ls) rest
 
-uncons_none : {A : Type 0} (xs : List A) → uncons xs ≡ None → xs ≡ []
-uncons_none [] e = refl
-uncons_none (y ∷ ys) e = absurd cc
-
-lines_next : (ts : List ℕ) (f : List ℕ × List ℕ) → f ≡ first_line ts → 0 < length ts → lines_of ts ≡ f.0 ∷ lines_of f.1
-lines_next ts f cut some = rw cut (lines_first ts some)
-
-skip_blank : (ts : List ℕ) (f : List ℕ × List ℕ) → f ≡ first_line ts → 0 < length ts → uncons (words_of f.0) ≡ None
-    → lines_in ts ≡ lines_in f.1
-skip_blank ts f cut some blank = rw (lines_next ts f cut some, uncons_none (words_of f.0) blank) refl
-
-with_line : (ts : List ℕ) (f : List ℕ × List ℕ) (w : List ℕ) (ws : List (List ℕ)) → f ≡ first_line ts → 0 < length ts
-    → uncons (words_of f.0) ≡ Some (w, ws) → lines_in ts
-    ≡ line_of w ws >>= λ l. option_map (λ ls. l ∷ ls) (lines_in f.1)
+next_words : (ws : List (List ℕ)) (rest : List (List (List ℕ)))
+    → all_in (filter is_nonempty (ws ∷ rest)) ≡ one_more (uncons ws) (all_in (filter is_nonempty rest))
 unfolding all_in line_in
-with_line ts f w ws cut some here = rw (lines_next ts f cut some, uncons_some (words_of f.0) w ws here) refl
+next_words [] rest = refl
+next_words (w ∷ ws) rest = refl
 
 before_next : (front : List Line) (l : Line) (o : Option (List Line))
     → before (front ++ l ∷ []) o ≡ before front (option_map (λ ls. l ∷ ls) o)
@@ -87,29 +70,31 @@ before_next front l None = refl
 before_next front l (Some ls) = ap Some (append_assoc front (l ∷ []) ls)
 
 -- an iteration of the loop over the lines
-pub line_taken : (front : List Line) (ts : List ℕ) (f : List ℕ × List ℕ) (w : List ℕ) (ws : List (List ℕ)) (l : Line)
-    (total : Option (List Line)) → f ≡ first_line ts → 0 < length ts → uncons (words_of f.0) ≡ Some (w, ws)
-    → line_of w ws ≡ Some l → before front (lines_in ts) ≡ total → before (front ++ l ∷ []) (lines_in f.1) ≡ total
-line_taken front ts f w ws l total cut some here e so_far =
-    let at : lines_in ts ≡ line_of w ws >>= λ l. option_map (λ ls. l ∷ ls) (lines_in f.1) = with_line ts f w ws cut some here in
-    before_next front l (lines_in f.1) ∙ ap (before front) (sym (rw e at at)) ∙ so_far
+pub record Turn (front : List Line) (ts : List ℕ) (f : List ℕ × List ℕ) (total : Option (List Line)) : Type 0 where
+  pub cut : f ≡ first_line ts
+  pub some : 0 < length ts
+  pub so_far : before front (lines_in ts) ≡ total
 
-pub no_line : (front : List Line) (ts : List ℕ) (f : List ℕ × List ℕ) (w : List ℕ) (ws : List (List ℕ))
-    (total : Option (List Line)) → f ≡ first_line ts → 0 < length ts → uncons (words_of f.0) ≡ Some (w, ws)
-    → line_of w ws ≡ None → before front (lines_in ts) ≡ total → None ≡ total
-no_line front ts f w ws total cut some here e so_far =
-    let whole : lines_in ts ≡ None = rw e at (with_line ts f w ws cut some here) in
-    rw whole at so_far
+module _ {front : List Line} {ts : List ℕ} {f : List ℕ × List ℕ} {total : Option (List Line)} (t : Turn front ts f total) where
+  step : lines_in ts ≡ one_more (uncons (words_of f.0)) (lines_in f.1)
+  step = rw (lines_next ts f t.cut t.some) (next_words (words_of f.0) (map words_of (lines_of f.1)))
 
-pub blank_skipped : (front : List Line) (ts : List ℕ) (f : List ℕ × List ℕ) (total : Option (List Line))
-    → f ≡ first_line ts → 0 < length ts → uncons (words_of f.0) ≡ None → before front (lines_in ts) ≡ total
-    → before front (lines_in f.1) ≡ total
-blank_skipped front ts f total cut some blank so_far = ap (before front) (sym (skip_blank ts f cut some blank)) ∙ so_far
+  pub line_taken : (w : List ℕ) (ws : List (List ℕ)) (l : Line) → uncons (words_of f.0) ≡ Some (w, ws) → line_of w ws ≡ Some l
+      → before (front ++ l ∷ []) (lines_in f.1) ≡ total
+  line_taken w ws l here e = before_next front l (lines_in f.1) ∙ (rw (step, here, e) at t.so_far)
+
+  pub no_line : (w : List ℕ) (ws : List (List ℕ)) → uncons (words_of f.0) ≡ Some (w, ws) → line_of w ws ≡ None → None ≡ total
+  no_line w ws here e = rw (step, here, e) at t.so_far
+
+  pub blank_skipped : uncons (words_of f.0) ≡ None → before front (lines_in f.1) ≡ total
+  blank_skipped blank = rw (step, blank) at t.so_far
+
+  pub rest_shorter : length f.1 < length ts
+  rest_shorter =
+      let some = t.some in
+      rw (t.cut ∙ first_parts ts) (omega (arith, length-drop (suc (position_or_len is_newline ts)) ts))
 
 pub no_more : (front : List Line) (ts : List ℕ) (total : Option (List Line)) → ts ≡ []
     → before front (lines_in ts) ≡ total → Some front ≡ total
 unfolding all_in
 no_more front ts total none so_far = rw append-nil at (rw none at so_far)
-
-pub rest_shorter : (ts : List ℕ) (f : List ℕ × List ℕ) → f ≡ first_line ts → 0 < length ts → length f.1 < length ts
-rest_shorter ts f cut some = rw cut (first_shorter ts some)

@@ -1,5 +1,6 @@
 -- The representation of a `Plant`.
-use Rattle.std.specs.Prelude.{◌≡◌, false, List, [], ◌∷◌, map, ℕ}
+use Rattle.std.specs.Prelude.{◌≡◌, false, List, map, ℕ}
+use Rattle.std.specs.List.{AllByRecursion}
 use Rattle.box_file.specs.declared.plant.Interface as kept
 use Rattle.set_intervals.specs.declared.range.Range.{Range}
 use Rattle.box_file.specs.declared.routes.Route.{Route}
@@ -21,12 +22,10 @@ plant_tree interfaces routes entering idle =
     }
 
 abbrev pub EachIndexed : List Interface → Type 0
-EachIndexed [] = Unit {0}
-EachIndexed (i ∷ is) = IsIndex i.index × EachIndexed is
+EachIndexed = AllByRecursion (λ i. IsIndex i.index)
 
 abbrev pub EachRouteIndexed : List RouteEntry → Type 0
-EachRouteIndexed [] = Unit {0}
-EachRouteIndexed (r ∷ rs) = IsIndex r.interface × EachRouteIndexed rs
+EachRouteIndexed = AllByRecursion (λ r. IsIndex r.interface)
 
 -- the lookup table agrees with longest prefix match, and each interface index that is kept is a valid one
 pub record IsSound (interfaces : List kept.Interface) (routes : List Route) (table : List (Range × ℕ))

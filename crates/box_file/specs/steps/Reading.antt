@@ -2,7 +2,8 @@
 use Rattle.std.specs.Prelude.{ℕ, ◌+◌, ◌*◌, ◌-◌, ◌^◌, ◌%◌, ◌==◌, ◌&&◌, ◌||◌, not, nat_lt, Bool}
 use Rattle.std.specs.Prelude.{true, false, List, [], ◌∷◌, length, map, filter, Option, Some, None}
 use Rattle.std.specs.Prelude.{unwrap_or, if◌then◌else◌, codes}
-use Rattle.std.specs.List.{list_all}
+use Rattle.std.specs.List.{list_all, position}
+use Rattle.std.proofs.Common.{suc, take, drop}
 use Rattle.std.specs.Option.{option_map}
 use Rattle.std.specs.Str.Parse.{digits_value}
 use Rattle.list_laws.specs.Options.{◌>>=◌}
@@ -46,14 +47,9 @@ abbrev pub has_none : {A : Type 0} → List A → Bool
 has_none [] = true
 has_none (x ∷ xs) = false
 
--- a byte put at the front of the first part
-abbrev pub onto : ℕ → List ℕ × List ℕ → List ℕ × List ℕ
-onto b x = (b ∷ x.0, x.1)
-
 -- the bytes before the first such byte, and those after it
 abbrev pub cut : ℕ → List ℕ → Option (List ℕ × List ℕ)
-cut at [] = None
-cut at (b ∷ bs) = if b == at then Some ([], bs) else option_map (onto b) (cut at bs)
+cut at bs = option_map (λ n. (take n bs, drop (suc n) bs)) (position (λ b. b == at) bs)
 
 -- the first line of a text, and the text after it
 abbrev pub first_line : List ℕ → List ℕ × List ℕ

@@ -1,5 +1,4 @@
 use Rattle.std.proofs.Common.{map, ap, ◌∙◌}
-use Rattle.std.specs.Prelude.{find}
 use Rattle.std.specs.Borrow.{Bor}
 use Rattle.box_file.specs.declared.plant.Interface.{Interface}
 use Rattle.box_file.specs.Box.{has_address, is_own}
@@ -11,6 +10,5 @@ pub returns : goal.returns
 returns c =
     is_there (λ (i : Bor Interface). interface_of i.now) (has_address c.args.address)
     (map interface_of c.self.inside.interfaces.items) c.find_by_address.result c.is_some.result
-    (c.find_by_address.ensures ∙ ap (λ xs. find (has_address c.args.address) (map interface_of xs))
-    c.deref.ensures.value) c.is_some.ensures
+    (rw c.deref.ensures.value at c.find_by_address.ensures) c.is_some.ensures
     ∙ ap (λ p. is_own p c.args.address) c.self.view_is

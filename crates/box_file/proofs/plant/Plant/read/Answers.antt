@@ -1,25 +1,22 @@
-use Rattle.std.proofs.Common.{map, ap, inl, inr, refl, sym}
+use Rattle.std.proofs.Common.{map, inl, inr, refl, sym}
 use Rattle.box_file.specs.steps.Reading.{line_tree}
 use Rattle.box_file.proofs.LineLaws.{lines_found}
-use Rattle.box_file.proofs.BoxLaws.{none_read, lines_as, idle_right}
+use Rattle.box_file.proofs.BoxLaws.{none_read, idle_right}
 use Rattle.box_file.proofs.plant.Plant.read.Goals as goal
 
 pub returns-in_default-clause-refused : goal.returns-in_default-clause-refused
 returns-in_default-clause-refused c = inl (λ ls r. none_read c.args.text.now ls (sym (rw c.in_default.is at c.in_ok-lines.ensures)) r, refl)
 
 pub returns-in-Some-2-clause-refused : goal.returns-in-Some-2-clause-refused
-returns-in-Some-2-clause-refused c =
-    let lines = map line_tree c.in-Some.lines.items in
-    inr (
-      lines,
-      lines_found c.args.text.now lines (sym (rw c.in-Some.is at c.in_ok-lines.ensures)),
-      sym (rw (c.deref.ensures.value, c.in-Some-2.is) at c.in_ok-fault.ensures),
-    )
+returns-in-Some-2-clause-refused c = inr (
+  map line_tree c.in-Some.lines.items,
+  lines_found c.args.text.now _ (sym (rw c.in-Some.is at c.in_ok-lines.ensures)),
+  sym (rw (c.deref.ensures.value, c.in-Some-2.is) at c.in_ok-fault.ensures),
+)
 
 pub plant_of-requires-clause-lines : goal.plant_of-requires-clause-lines
-plant_of-requires-clause-lines c = lines_as _ _ (ap (map line_tree) c.deref-2.ensures.value)
-    (lines_found c.args.text.now (map line_tree c.in-Some.lines.items)
-    (sym (rw c.in-Some.is at c.in_ok-lines.ensures))).each
+plant_of-requires-clause-lines c = rw c.deref-2.ensures.value
+    (lines_found c.args.text.now (map line_tree c.in-Some.lines.items) (sym (rw c.in-Some.is at c.in_ok-lines.ensures))).each
 
 pub plant_of-requires-clause-range : goal.plant_of-requires-clause-range
 plant_of-requires-clause-range c =
@@ -27,12 +24,10 @@ plant_of-requires-clause-range c =
     (sym (rw (c.deref.ensures.value, c.in_default-2.is) at c.in_ok-fault.ensures)))
 
 pub returns-clause-ok : goal.returns-clause-ok
-returns-clause-ok c =
-    let lines = map line_tree c.in-Some.lines.items in
-    record {
-      lines = lines;
-      read = lines_found c.args.text.now lines (sym (rw c.in-Some.is at c.in_ok-lines.ensures));
-      faultless = sym (rw (c.deref.ensures.value, c.in_default-2.is) at c.in_ok-fault.ensures);
-      limits = rw c.deref-2.ensures.value at c.in_ok-plant_of.ensures.limits;
-      meant = rw c.deref-2.ensures.value at c.in_ok-plant_of.ensures.value;
-    }
+returns-clause-ok c = record {
+  lines = map line_tree c.in-Some.lines.items;
+  read = lines_found c.args.text.now _ (sym (rw c.in-Some.is at c.in_ok-lines.ensures));
+  faultless = sym (rw (c.deref.ensures.value, c.in_default-2.is) at c.in_ok-fault.ensures);
+  limits = rw c.deref-2.ensures.value at c.in_ok-plant_of.ensures.limits;
+  meant = rw c.deref-2.ensures.value at c.in_ok-plant_of.ensures.value;
+}
