@@ -7,6 +7,7 @@ use Rattle.std.specs.Borrow.{Bor}
 use Rattle.std.specs.Cmp.Lexicographic.{pointwise}
 use Rattle.std.specs.HashSet.{HashSet, contains}
 use Rattle.std.proofs.lemmas.List.{get_or_default}
+use Rattle.list_laws.specs.Lists.{any_of_map}
 use Rattle.box_file.specs.Box.{Interface, any_pair, two_names, two_indexes, is_named, is_unknown}
 use Rattle.box_file.specs.declared.line.InterfaceLine.{InterfaceLine}
 use Rattle.box_file.specs.declared.line.RouteLine.{RouteLine}
@@ -17,17 +18,18 @@ use Rattle.box_file.proofs.RepeatLaws.{seen_more}
 
 -- ---- repeats
 
-any-keys : {L K T : Type 0} (f : L → K) (h : L → T) (u : K → Bool) (t : T → Bool) → ((l : L) → u (f l) ≡ t (h l))
-    → (ls : List L) → list_any u (map f ls) ≡ list_any t (map h ls)
-any-keys f h u t same [] = refl
-any-keys f h u t same (l ∷ ls) = rw (same l, any-keys f h u t same ls) refl
+-- a test of lines as a test of what they mean
+any-mapped : {L T : Type 0} (h : L → T) (u : L → Bool) (t : T → Bool) → ((l : L) → u l ≡ t (h l)) → (ls : List L)
+    → list_any u ls ≡ list_any t (map h ls)
+any-mapped h u t same [] = refl
+any-mapped h u t same (l ∷ ls) = rw (same l, any-mapped h u t same ls) refl
 
 -- a test of lines as a test of their keys
 pub pair-keys : {L K T : Type 0} (f : L → K) (h : L → T) (u : K → K → Bool) (t : T → T → Bool)
     → ((l m : L) → u (f l) (f m) ≡ t (h l) (h m)) → (ls : List L) → any_pair u (map f ls) ≡ any_pair t (map h ls)
 pair-keys f h u t same [] = refl
 pair-keys f h u t same (l ∷ ls) =
-    rw (any-keys f h (u (f l)) (t (h l)) (same l) ls, pair-keys f h u t same ls) refl
+    rw (← any_of_map (u (f l)) f ls, any-mapped h (λ m. u (f l) (f m)) (t (h l)) (same l) ls, pair-keys f h u t same ls) refl
 
 pub names_differ : (l m : InterfaceLine) → two_values nat_eq (λ (x y : Bor (List ℕ)). pointwise nat_eq x.now y.now) (l.index, l.name) (m.index, m.name)
     ≡ two_names (interface_tree l) (interface_tree m)
@@ -47,12 +49,6 @@ pub name_more : (n : List ℕ) (is : List InterfaceLine) (i : ℕ) (e : Interfac
 name_more n is i e old new lt was now =
     seen_more interface_tree is i (get_or is i e) lt (get_or_default is i e (get_or is i e) lt) (is_named n) old new was
     (now ∙ ap (λ v. cond v true old) (same_text-pointwise (get_or is i e).name.now n))
-
--- a test of lines as a test of what they mean
-any-mapped : {L T : Type 0} (h : L → T) (u : L → Bool) (t : T → Bool) → ((l : L) → u l ≡ t (h l)) → (ls : List L)
-    → list_any u ls ≡ list_any t (map h ls)
-any-mapped h u t same [] = refl
-any-mapped h u t same (l ∷ ls) = rw (same l, any-mapped h u t same ls) refl
 
 module _ {S : Type 0} (known : HashSet (Bor (List ℕ)) S) (is : List Interface) (knows : Knows known is) where
   abbrev pub has : Bor (List ℕ) → Bool

@@ -1,18 +1,15 @@
 -- Keys of the lines at the beginning of a list, line by line: which of them occurred, and with which values.
 use Rattle.std.proofs.Common.{◌≡◌, ℕ, ◌+◌, ◌<◌, Bool, true, false, ◌&&◌, ◌||◌, not, cond, List, [], ◌∷◌, ◌++◌, map, length}
-use Rattle.std.proofs.Common.{take, drop, get_or, Option, Some, None, refl, sym, ap, ◌∙◌}
+use Rattle.std.proofs.Common.{take, drop, get_or, Option, Some, None, ⊎_elim, refl, sym, ap, ◌∙◌}
 use Rattle.std.specs.List.{list_any}
 use Rattle.std.specs.Cmp.{IsEquivalence}
-use Rattle.std.proofs.lemmas.Bool.{or_right}
+use Rattle.std.proofs.lemmas.Bool.{or_cases, or_left, or_right}
 use Rattle.std.proofs.lemmas.List.{take-append-drop, map-append}
-use Rattle.std.proofs.Math.Bool.{or-false}
+use Rattle.std.proofs.lemmas.List.Folds.{list_any-append}
+use Rattle.std.proofs.Math.Bool.{not-not, or-false, or_self}
 use Rattle.list_laws.specs.Lists.{map-more}
 use Rattle.box_file.specs.Box.{any_pair}
 use Rattle.box_file.specs.steps.Tests.{two_values}
-
-or_assoc : (a b c : Bool) → (a || b) || c ≡ a || (b || c)
-or_assoc true b c = refl
-or_assoc false b c = refl
 
 or_swap : (a b c d : Bool) → (a || b) || (c || d) ≡ (a || c) || (b || d)
 or_swap true b c d = refl
@@ -22,44 +19,31 @@ or_swap false false true d = refl
 or_swap false false false d = refl
 
 or_once : (a b : Bool) → cond a true b ≡ b || a
-or_once true true = refl
-or_once true false = refl
-or_once false true = refl
-or_once false false = refl
-
-or_same : (a : Bool) → a || a ≡ a
-or_same true = refl
-or_same false = refl
+or_once true b = sym (or_right b true refl)
+or_once false b = sym (or-false b)
 
 pub not_is : (b v : Bool) → not b ≡ v → b ≡ not v
-not_is true v e = ap not e
-not_is false v e = ap not e
+not_is b v e = sym (not-not b) ∙ ap not e
 
 pub no_some : {A : Type 0} (o : Option A) → ((x : A) → o ≡ Some x → ⊥) → o ≡ None
 no_some None h = refl
 no_some (Some x) h = absurd (h x refl)
 
-any-append : {A : Type 0} (p : A → Bool) (xs ys : List A) → list_any p (xs ++ ys) ≡ list_any p xs || list_any p ys
-any-append p [] ys = refl
-any-append p (x ∷ xs) ys = ap (λ v. p x || v) (any-append p xs ys) ∙ sym (or_assoc (p x) (list_any p xs) (list_any p ys))
-
 any-push : {A : Type 0} (p : A → Bool) (xs : List A) (y : A) → list_any p (xs ++ y ∷ []) ≡ list_any p xs || p y
-any-push p xs y = any-append p xs (y ∷ []) ∙ ap (λ v. list_any p xs || v) (or-false (p y))
+any-push p xs y = list_any-append p xs (y ∷ []) ∙ ap (λ v. list_any p xs || v) (or-false (p y))
 
 two-push : {A : Type 0} (t : A → A → Bool) (xs : List A) (y : A) → any_pair t (xs ++ y ∷ []) ≡ any_pair t xs || list_any (λ x. t x y) xs
 two-push t [] y = refl
 two-push t (x ∷ xs) y =
     rw (any-push (t x) xs y, two-push t xs y) (or_swap (list_any (t x) xs) (t x y) (any_pair t xs) (list_any (λ z. t z y) xs))
 
-front_step : (a b c d f : Bool) → a || b ≡ true → f ≡ a || c → (b ≡ true → d ≡ true) → f || d ≡ true
-front_step true b c d f e g h = rw g refl
-front_step false b c d f e g h = or_right f d (h e)
-
 -- a pair at the beginning of a list is one of the list
 two_in_front : {A : Type 0} (t : A → A → Bool) (xs ys : List A) → any_pair t xs ≡ true → any_pair t (xs ++ ys) ≡ true
 two_in_front t [] ys e = absurd cc
-two_in_front t (x ∷ xs) ys e = front_step (list_any (t x) xs) (any_pair t xs) (list_any (t x) ys)
-    (any_pair t (xs ++ ys)) (list_any (t x) (xs ++ ys)) e (any-append (t x) xs ys) (two_in_front t xs ys)
+two_in_front t (x ∷ xs) ys e = ⊎_elim
+    (λ h. or_left _ _ (list_any-append (t x) xs ys ∙ or_left _ _ h))
+    (λ h. or_right _ _ (two_in_front t xs ys h))
+    (or_cases (list_any (t x) xs) (any_pair t xs) e)
 
 -- ---- one line more
 
@@ -96,7 +80,7 @@ replaced : {V : Type 0} (same : V → V → Bool) → IsEquivalence same → (o 
     → differs same o v || not (same u v) ≡ not (same u v)
 replaced same laws None u v agrees = refl
 replaced same laws (Some w) u v agrees =
-    ap (λ b. not b || not (same u v)) (laws.congr w u v (not_is (same w u) false agrees)) ∙ or_same (not (same u v))
+    ap (λ b. not b || not (same u v)) (laws.congr w u v (not_is (same w u) false agrees)) ∙ or_self (not (same u v))
 
 kept_step : {V : Type 0} (same : V → V → Bool) → IsEquivalence same → (b : Bool) (o p : Option V) (u v : V)
     → (b ≡ true → o ≡ p) → differs same p u ≡ false
