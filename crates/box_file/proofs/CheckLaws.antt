@@ -47,7 +47,7 @@ pub name_more : (n : List ℕ) (is : List InterfaceLine) (i : ℕ) (e : Interfac
     → new ≡ cond (pointwise nat_eq (get_or is i e).name.now n) true old
     → new ≡ list_any (is_named n) (map interface_tree (take (i + 1) is))
 name_more n is i e old new lt was now =
-    seen_more interface_tree is i (get_or is i e) lt (get_or_default is i e (get_or is i e) lt) (is_named n) old new was
+    seen_more interface_tree (record { within = lt; item = get_or_default is i e (get_or is i e) lt }) (is_named n) old new was
     (now ∙ ap (λ v. cond v true old) (same_text-pointwise (get_or is i e).name.now n))
 
 module _ {S : Type 0} (known : HashSet (Bor (List ℕ)) S) (is : List Interface) (knows : Knows known is) where

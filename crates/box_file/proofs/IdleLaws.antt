@@ -77,20 +77,9 @@ limit_positive k is e = lt-ltb _ _ (limit_at_least_one k is e (find (is_of_kind 
 -- lines in range set all timeouts
 pub limits_of : (is : List Idle) → list_any is_out_of_range is ≡ false → Limits
 limits_of is e =
-    made (
-      idle_for is kinds.Established,
-      idle_for is kinds.Transitory,
-      idle_for is kinds.Udp,
-      idle_for is kinds.Echo,
-      idle_for is kinds.Other,
-    )
-    (rw (
-      limit_positive kinds.Established is e,
-      limit_positive kinds.Transitory is e,
-      limit_positive kinds.Udp is e,
-      limit_positive kinds.Echo is e,
-      limit_positive kinds.Other is e,
-    ) refl)
+    let some = λ (k : IdleKind). limit_positive k is e in
+    made (idle_for is kinds.Established, idle_for is kinds.Transitory, idle_for is kinds.Udp, idle_for is kinds.Echo, idle_for is kinds.Other)
+    (rw (some kinds.Established, some kinds.Transitory, some kinds.Udp, some kinds.Echo, some kinds.Other) refl)
 
 pub are_limits : (is : List Idle) (e : list_any is_out_of_range is ≡ false) → AreLimits is (limits_of is e)
 unfolding limits_of

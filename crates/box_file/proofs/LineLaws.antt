@@ -97,11 +97,8 @@ number_only : (n : ℕ) → n < 2 ^ 32 → number_in (decimal n) ≡ Some n
 unfolding number_in
 number_only n small =
     let wide : n < 2 ^ 64 = omega arith in
-    let all = digits_decimal digits n wide in
-    let value = digits_value-decimal digits n wide in
-    let numeral : is_numeral (decimal n) ≡ true = numeral_from (decimal n) all (decimal_nonempty n wide) (first_is n wide) in
-    let fits : nat_lt n 4294967296 ≡ true = lt-ltb _ _ small in
-    rw (numeral, value, fits) refl
+    rw (numeral_from (decimal n) (digits_decimal digits n wide) (decimal_nonempty n wide) (first_is n wide),
+    digits_value-decimal digits n wide, lt-ltb n 4294967296 small) refl
 
 decimal_lacks : (at n : ℕ) → is_ascii_digit at ≡ false → n < 2 ^ 32 → Lacks at (decimal n)
 decimal_lacks at n other small = lacks_all is_ascii_digit at other (decimal n) (digits_decimal digits n (omega arith))
@@ -114,7 +111,7 @@ octet_found ds = IfSome_bind _ (number_in ds) _ (number_found ds) (λ n en. IfSo
 
 octet_only : (n : ℕ) → n < 256 → octet_in (decimal n) ≡ Some n
 unfolding octet_in
-octet_only n small = let fits : nat_lt n 256 ≡ true = lt-ltb _ _ small in rw (number_only n (omega arith), fits) refl
+octet_only n small = rw (number_only n (omega arith), lt-ltb n 256 small) refl
 
 -- four parts separated by dots
 abbrev quad : List ℕ → List ℕ → List ℕ → List ℕ → List ℕ
@@ -157,29 +154,21 @@ address_only a small =
     let x = a / 65536 % 256 in
     let y = a / 256 % 256 in
     let z = a % 256 in
-    let hw : w < 256 = omega arith in
-    let hx : x < 256 = omega arith in
-    let hy : y < 256 = omega arith in
-    let hz : z < 256 = omega arith in
     let back : joined w x y z ≡ a = omega arith in
-    let first = cut_only 46 (decimal w) (decimal x ++ 46 ∷ (decimal y ++ 46 ∷ decimal z)) (decimal_lacks 46 w refl (omega arith)) in
-    let second = cut_only 46 (decimal x) (decimal y ++ 46 ∷ decimal z) (decimal_lacks 46 x refl (omega arith)) in
-    let third = cut_only 46 (decimal y) (decimal z) (decimal_lacks 46 y refl (omega arith)) in
-    rw (dotted_is a, first, second, third, octet_only w hw, octet_only x hx, octet_only y hy, octet_only z hz, back) refl
+    rw (
+      dotted_is a,
+      cut_only 46 (decimal w) (decimal x ++ 46 ∷ (decimal y ++ 46 ∷ decimal z)) (decimal_lacks 46 w refl (omega arith)),
+      cut_only 46 (decimal x) (decimal y ++ 46 ∷ decimal z) (decimal_lacks 46 x refl (omega arith)),
+      cut_only 46 (decimal y) (decimal z) (decimal_lacks 46 y refl (omega arith)),
+      octet_only w (omega arith), octet_only x (omega arith), octet_only y (omega arith), octet_only z (omega arith), back,
+    ) refl
 
 dotted_lacks : (at a : ℕ) → is_ascii_digit at ≡ false → (46 == at) ≡ false → a < 2 ^ 32 → Lacks at (dotted a)
 dotted_lacks at a other dot small =
-    rw (dotted_is a)
-    (lacks-append at _ _ (decimal_lacks at (a / 16777216) other (omega arith)) (
-      dot,
-      lacks-append at _ _ (decimal_lacks at (a / 65536 % 256) other (omega arith)) (
-        dot,
-        lacks-append at _ _ (decimal_lacks at (a / 256 % 256) other (omega arith)) (
-          dot,
-          decimal_lacks at (a % 256) other (omega arith),
-        ),
-      ),
-    ))
+    let join = λ (n : ℕ) (less : n < 2 ^ 32) (ys : List ℕ) (l : Lacks at ys).
+    lacks-append at (decimal n) (46 ∷ ys) (decimal_lacks at n other less) (dot, l) in
+    rw (dotted_is a) (join (a / 16777216) (omega arith) _ (join (a / 65536 % 256) (omega arith) _
+    (join (a / 256 % 256) (omega arith) _ (decimal_lacks at (a % 256) other (omega arith)))))
 
 prefixed_found : (bs : List ℕ) → IfSome (prefixed_in bs) (λ p. (bs ≡ dotted_prefix p.0 p.1) × (p.0 < 2 ^ 32) × (p.1 < 33))
 unfolding prefixed_in
@@ -192,13 +181,8 @@ prefixed_found bs =
 prefixed_only : (a p : ℕ) → a < 2 ^ 32 → p < 33 → prefixed_in (dotted_prefix a p) ≡ Some (a, p)
 unfolding prefixed_in
 prefixed_only a p small short =
-    let fits : nat_lt p 33 ≡ true = lt-ltb _ _ short in
-    rw (
-      cut_only 47 (dotted a) (decimal p) (dotted_lacks 47 a refl refl small),
-      address_only a small,
-      number_only p (omega arith),
-      fits,
-    ) refl
+    rw (cut_only 47 (dotted a) (decimal p) (dotted_lacks 47 a refl refl small), address_only a small, number_only p (omega arith),
+    lt-ltb p 33 short) refl
 
 -- ---- names
 
@@ -211,10 +195,7 @@ name_found bs = IfSome_cond _ (is_name bs) bs (λ e.
 
 name_only : (n : List ℕ) → IsName n → name_in n ≡ Some n
 unfolding name_in
-name_only n h =
-    let some : nat_lt 0 (length n) ≡ true = lt-ltb _ _ h.0 in
-    let short : nat_lt (length n) 16 ≡ true = lt-ltb _ _ h.1 in
-    rw (some, short, h.2) refl
+name_only n h = rw (lt-ltb 0 (length n) h.0, lt-ltb (length n) 16 h.1, h.2) refl
 
 -- ---- lines
 
@@ -248,10 +229,8 @@ interface_only : (i : Interface) → IsLine (interface_line i)
     → interface_words (decimal i.index ∷ i.name ∷ dotted_prefix i.address i.prefix ∷ []) ≡ Some (interface_line i)
 unfolding interface_words
 interface_only i h =
-    let some : nat_lt 0 i.index ≡ true = lt-ltb _ _ h.0 in
-    let small : nat_lt i.index 2147483648 ≡ true = lt-ltb _ _ h.1 in
-    let one : nat_lt 0 i.prefix ≡ true = lt-ltb _ _ h.4 in
-    rw (number_only i.index (omega arith), name_only i.name h.2, prefixed_only i.address i.prefix h.3 h.5, some, small, one) refl
+    rw (number_only i.index (omega arith), name_only i.name h.2, prefixed_only i.address i.prefix h.3 h.5,
+    lt-ltb 0 i.index h.0, lt-ltb i.index 2147483648 h.1, lt-ltb 0 i.prefix h.4) refl
 
 route_found : (ws : List (List ℕ)) → IfSome (route_words ws) (λ l. IsLine l × (words_in l ≡ codes "route" ∷ ws))
 unfolding route_words
@@ -266,9 +245,7 @@ route_found ws =
 
 route_only : (r : NamedRoute) → IsLine (route_line r) → route_words (dotted_prefix r.address r.prefix ∷ r.name ∷ []) ≡ Some (route_line r)
 unfolding route_words
-route_only r h =
-    let zeros : (r.address % 2 ^ (32 - r.prefix) == 0) ≡ true = rw h.2 refl in
-    rw (prefixed_only r.address r.prefix h.0 h.1, name_only r.name h.3, zeros) refl
+route_only r h = rw (prefixed_only r.address r.prefix h.0 h.1, name_only r.name h.3, h.2) refl
 
 default_found : (ws : List (List ℕ)) → IfSome (default_words ws) (λ l. IsLine l × (words_in l ≡ codes "default" ∷ ws))
 unfolding default_words

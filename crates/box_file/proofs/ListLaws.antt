@@ -22,8 +22,13 @@ some-found p (x ∷ xs) =
     let rest = some-found p xs in
     elim (p x) as (λ v. is_some (cond v (Some x) (find p xs)) ≡ v || list_any p xs) [ true ↦ refl | false ↦ rest ]
 
-pub taken_if : {X Y B : Type 0} (t : X → Y) (f : Y → Option B) (xs : List X) (i : ℕ) (d : X) (before after : List B)
-    → i < length xs → d ≡ get_or xs i d → before ≡ filter_map f (map t (take i xs))
-    → after ≡ before ++ cons_option (f (t d)) [] → after ≡ filter_map f (map t (take (i + 1) xs))
-taken_if t f xs i d before after lt item so_far added = rw (added, so_far, item)
-    (sym (ap (filter_map f) (map_more t xs i d lt) ∙ filter_map-append f (map t (take i xs)) (t (get_or xs i d) ∷ [])))
+-- a loop over the list is at this index, with this element
+pub record IsAt {X : Type 0} (xs : List X) (i : ℕ) (x : X) : Type 0 where
+  pub within : i < length xs
+  pub item : x ≡ get_or xs i x
+
+pub taken_if : {X Y B : Type 0} (t : X → Y) (f : Y → Option B) {xs : List X} {i : ℕ} {x : X} {before after : List B} → IsAt xs i x
+    → before ≡ filter_map f (map t (take i xs)) → after ≡ before ++ cons_option (f (t x)) []
+    → after ≡ filter_map f (map t (take (i + 1) xs))
+taken_if t f {xs} {i} {x} here so_far added = rw (added, so_far, here.item)
+    (sym (ap (filter_map f) (map_more t xs i x here.within) ∙ filter_map-append f (map t (take i xs)) (t (get_or xs i x) ∷ [])))

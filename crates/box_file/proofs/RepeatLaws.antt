@@ -8,6 +8,7 @@ use Rattle.std.proofs.lemmas.List.{take-append-drop, map-append}
 use Rattle.std.proofs.lemmas.List.Folds.{list_any-append}
 use Rattle.std.proofs.Math.Bool.{not-not, or-false, or_self}
 use Rattle.list_laws.specs.Lists.{map-more}
+use Rattle.box_file.proofs.ListLaws.{IsAt}
 use Rattle.box_file.specs.Box.{any_pair}
 use Rattle.box_file.specs.steps.Tests.{two_values}
 
@@ -47,21 +48,23 @@ two_in_front t (x ∷ xs) ys e = ⊎_elim
 
 -- ---- one line more
 
-module _ {L K : Type 0} (f : L → K) (ls : List L) (i : ℕ) (d : L) (lt : i < length ls) (item : d ≡ get_or ls i d) where
+module _ {L K : Type 0} (f : L → K) {ls : List L} {i : ℕ} {d : L} (here : IsAt ls i d) where
+  mapped : map f (take (i + 1) ls) ≡ map f (take i ls) ++ f d ∷ []
+  mapped = map-more f ls i d here.within here.item
+
   any_more : (p : K → Bool) → list_any p (map f (take (i + 1) ls)) ≡ list_any p (map f (take i ls)) || p (f d)
-  any_more p = ap (list_any p) (map-more f ls i d lt item) ∙ any-push p (map f (take i ls)) (f d)
+  any_more p = ap (list_any p) mapped ∙ any-push p (map f (take i ls)) (f d)
 
   pub two_more : (t : K → K → Bool) (v : Bool) → any_pair t (map f (take i ls)) ≡ false
       → list_any (λ x. t x (f d)) (map f (take i ls)) ≡ v → any_pair t (map f (take (i + 1) ls)) ≡ v
-  two_more t v none here = ap (any_pair t) (map-more f ls i d lt item) ∙ two-push t (map f (take i ls)) (f d)
-      ∙ ap (λ w. w || list_any (λ x. t x (f d)) (map f (take i ls))) none ∙ here
+  two_more t v none found = rw (mapped, two-push t (map f (take i ls)) (f d), none) found
 
   pub two_found : (t : K → K → Bool) → any_pair t (map f (take i ls)) ≡ false
       → list_any (λ x. t x (f d)) (map f (take i ls)) ≡ true → any_pair t (map f ls) ≡ true
-  two_found t none here =
+  two_found t none found =
       ap (λ ms. any_pair t (map f ms)) (sym (take-append-drop (i + 1) ls))
       ∙ ap (any_pair t) (map-append f (take (i + 1) ls) (drop (i + 1) ls))
-      ∙ two_in_front t (map f (take (i + 1) ls)) (map f (drop (i + 1) ls)) (two_more t true none here)
+      ∙ two_in_front t (map f (take (i + 1) ls)) (map f (drop (i + 1) ls)) (two_more t true none found)
 
   -- what a set of the keys so far has, with this line's key
   pub seen_more : (p : K → Bool) (old new : Bool) → old ≡ list_any p (map f (take i ls)) → new ≡ cond (p (f d)) true old
@@ -90,7 +93,7 @@ kept_step same laws true o p u v alike agrees =
     ap (λ x. differs same x v || not (same u v)) (alike refl) ∙ replaced same laws p u v agrees
 
 module _ {L K V : Type 0} (same_key : K → K → Bool) (same_value : V → V → Bool) (laws : IsEquivalence same_value)
-    (f : L → K × V) (ls : List L) (i : ℕ) (d : L) (lt : i < length ls) (item : d ≡ get_or ls i d) where
+    (f : L → K × V) {ls : List L} {i : ℕ} {d : L} (here : IsAt ls i d) where
   -- the map tells which values the keys so far have
   abbrev pub Tells : (K → Option V) → List L → Type 0
   Tells get ms = (q : K) (v : V)
@@ -101,7 +104,7 @@ module _ {L K V : Type 0} (same_key : K → K → Bool) (same_value : V → V �
       → ((q : K) → same_key k q ≡ true → old q ≡ old k) → Tells old (take i ls) → differs same_value (old k) u ≡ false
       → ((q : K) → new q ≡ cond (same_key k q) (Some u) (old q)) → Tells new (take (i + 1) ls)
   tells_more k u old new is alike told agrees now = λ q v.
-      any_more f ls i d lt item (λ x. two_values same_key same_value x (q, v))
+      any_more f here (λ x. two_values same_key same_value x (q, v))
       ∙ ap (λ b. b || two_values same_key same_value (f d) (q, v)) (told q v)
       ∙ ap (λ x. differs same_value (old q) v || two_values same_key same_value x (q, v)) (sym is)
       ∙ kept_step same_value laws (same_key k q) (old q) (old k) u v (alike q) agrees

@@ -3,8 +3,7 @@ use Rattle.std.proofs.Common.{◌≡◌, ℕ, suc, ◌+◌, ◌-◌, ◌<◌, �
 use Rattle.std.proofs.Common.{take, drop, Option, Some, None, refl, sym, ap, one-add, ◌∙◌, arith}
 use Rattle.std.specs.Prelude.{◌==◌, filter, unwrap_or}
 use Rattle.std.specs.List.{position_or_len}
-use Rattle.std.proofs.lemmas.Bool.{false≢true, false_from_ne_true, true_from_ne_false, not-true, ne_eqb, or_parts}
-use Rattle.std.proofs.lemmas.Bool.Decides.{nat_tests}
+use Rattle.std.proofs.lemmas.Bool.{cond_both, false≢true, false_from_ne_true, true_from_ne_false, not-true, ltb-false, ne_eqb, or_parts}
 use Rattle.list_laws.specs.Lists.{rest_from}
 use Rattle.box_file.specs.Text.{onto_first, parts_of, is_blank, is_nonempty, before_comment, words_of}
 use Rattle.box_file.specs.steps.Reading.{begins_word, ends_word, uncons}
@@ -17,15 +16,15 @@ place_within p (b ∷ bs) =
     let next = place_within p bs in
     elim (p b) as (λ v. cond (not v) (1 + position_or_len p bs) 0 ≤ suc (length bs)) [ true ↦ omega arith | false ↦ omega arith ]
 
-place_cases : (n m : ℕ) (v : Bool) → ltb n m ≡ v → n ≤ m → (r : Option ℕ) → r ≡ cond v (Some n) None → unwrap_or r m ≡ n
-place_cases n m true t within r e = rw e refl
-place_cases n m false t within r e = rw e (grind (arith, nat_tests))
-
 -- the index that `position` gave, or the end
 pub place_or_end : (p : ℕ → Bool) (ts : List ℕ) (r : Option ℕ)
     → r ≡ cond (ltb (position_or_len p ts) (length ts)) (Some (position_or_len p ts)) None
     → unwrap_or r (length ts) ≡ position_or_len p ts
-place_or_end p ts r e = place_cases (position_or_len p ts) (length ts) _ refl (place_within p ts) r e
+place_or_end p ts r e =
+    let n = position_or_len p ts in
+    let within : n ≤ length ts = place_within p ts in
+    rw e (cond_both (ltb n (length ts)) (Some n) None (λ o. unwrap_or o (length ts) ≡ n) (λ t. refl)
+    (λ t. let past = ltb-false n (length ts) t in omega arith))
 
 first_fails : (p : ℕ → Bool) (b : ℕ) (bs : List ℕ) → 0 < position_or_len p (b ∷ bs) → p b ≡ false
 first_fails p b bs some = false_from_ne_true (p b) (λ e. let none : 0 < 0 = rw e at some in omega arith)

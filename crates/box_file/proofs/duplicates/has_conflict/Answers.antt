@@ -6,6 +6,7 @@ use Rattle.std.specs.Map.{lookup}
 use Rattle.std.proofs.lemmas.List.{take_all}
 use Rattle.box_file.specs.Box.{any_pair}
 use Rattle.box_file.specs.steps.Tests.{two_values}
+use Rattle.box_file.proofs.ListLaws.{IsAt}
 use Rattle.box_file.proofs.RepeatLaws.{two_found, two_more, told_here, tells_more, differs, no_some}
 use Rattle.box_file.proofs.duplicates.has_conflict.Goals as goal
 use Rattle.box_file.proofs.duplicates.has_conflict.Goals.{in-Some+else-ne, in_default}
@@ -17,27 +18,23 @@ pub returns-then-ne : goal.returns-then-ne
 returns-then-ne g c = λ f computes.
     let same_key = g.K.PartialEq.eq in
     let same_value = g.V.PartialEq.eq in
-    let ls = c.args.lines.now in
-    let i = c.loop-line.line-index in
-    let d = c.line-item.result in
-    let lt = c.loop-line-test.true in
+    let here : IsAt c.args.lines.now c.loop-line.line-index c.line-item.result =
+    record { within = c.loop-line-test.true; item = c.line-item.is } in
     let x = c.entry-key.result in
-    let is = computes d x (says_at g.F.Fn c.entry-key.ensures refl) in
+    let is = computes c.line-item.result x (says_at g.F.Fn c.entry-key.ensures refl) in
     let so_far = c.loop-line.invariant f computes in
-    sym (two_found f ls i d lt c.line-item.is (two_values same_key same_value) so_far.0
-    (told_here same_key same_value g.met.V.Eq.laws f ls i d lt c.line-item.is x.0 x.1 (get same_key c.loop-line.values) is so_far.1
+    sym (two_found f here (two_values same_key same_value) so_far.0
+    (told_here same_key same_value g.met.V.Eq.laws f here x.0 x.1 (get same_key c.loop-line.values) is so_far.1
     ∙ ap (λ o. differs same_value o x.1) (sym c.in_ok-before.ensures.old ∙ c.in-Some.is) ∙ sym c.ne.ensures ∙ c.if-ne.true))
 
 pub loop-line-preserved : goal.loop-line-preserved
 loop-line-preserved g c = λ f computes.
     let same_key = g.K.PartialEq.eq in
     let same_value = g.V.PartialEq.eq in
-    let ls = c.args.lines.now in
-    let i = c.loop-line.line-index in
-    let d = c.line-item.result in
-    let lt = c.loop-line-test.true in
+    let here : IsAt c.args.lines.now c.loop-line.line-index c.line-item.result =
+    record { within = c.loop-line-test.true; item = c.line-item.is } in
     let x = c.entry-key.result in
-    let is = computes d x (says_at g.F.Fn c.entry-key.ensures refl) in
+    let is = computes c.line-item.result x (says_at g.F.Fn c.entry-key.ensures refl) in
     let so_far = c.loop-line.invariant f computes in
     let known = get same_key c.loop-line.values in
     let agrees : differs same_value (known x.0) x.1 ≡ false =
@@ -46,9 +43,9 @@ loop-line-preserved g c = λ f computes.
           ∙ sym w.ne.ensures ∙ w.if-ne.false
       | in_default w ↦ ap (λ o. differs same_value o x.1) (sym c.in_ok-before.ensures.old ∙ no_some _ w.in_default.not-Some)
     ] in (
-      two_more f ls i d lt c.line-item.is (two_values same_key same_value) false so_far.0
-          (told_here same_key same_value g.met.V.Eq.laws f ls i d lt c.line-item.is x.0 x.1 known is so_far.1 ∙ agrees),
-      tells_more same_key same_value g.met.V.Eq.laws f ls i d lt c.line-item.is x.0 x.1 known (get same_key c.insert.new.self) is
+      two_more f here (two_values same_key same_value) false so_far.0
+          (told_here same_key same_value g.met.V.Eq.laws f here x.0 x.1 known is so_far.1 ∙ agrees),
+      tells_more same_key same_value g.met.V.Eq.laws f here x.0 x.1 known (get same_key c.insert.new.self) is
           (λ q e. sym (lookup_congr same_key g.met.K.Eq.laws.congr c.loop-line.values.entries x.0 q e)) so_far.1 agrees
           c.in_ok-before.ensures.updates.0,
     )

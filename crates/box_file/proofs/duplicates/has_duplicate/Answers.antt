@@ -4,6 +4,7 @@ use Rattle.std.specs.HashSet.{contains}
 use Rattle.std.specs.List.{list_any}
 use Rattle.std.proofs.lemmas.List.{take_all}
 use Rattle.box_file.specs.Box.{any_pair}
+use Rattle.box_file.proofs.ListLaws.{IsAt}
 use Rattle.box_file.proofs.RepeatLaws.{not_is, two_more, two_found, seen_more}
 use Rattle.box_file.proofs.duplicates.has_duplicate.Goals as goal
 
@@ -13,26 +14,26 @@ loop-line-init g c = λ f computes. (refl, λ q. ap (list_any (g.K.PartialEq.eq 
 pub loop-line-preserved : goal.loop-line-preserved
 loop-line-preserved g c = λ f computes.
     let eq = g.K.PartialEq.eq in
-    let ls = c.args.lines.now in
-    let i = c.loop-line.line-index in
-    let d = c.line-item.result in
+    let here : IsAt c.args.lines.now c.loop-line.line-index c.line-item.result =
+    record { within = c.loop-line-test.true; item = c.line-item.is } in
     let so_far = c.loop-line.invariant f computes in
-    let is = computes d c.key.result (says_at g.F.Fn c.key.ensures refl) in (
-      two_more f ls i d c.loop-line-test.true c.line-item.is eq false so_far.0
-          (sym (so_far.1 (f d)) ∙ ap (contains eq c.loop-line.seen) (sym is)
+    let is = computes c.line-item.result c.key.result (says_at g.F.Fn c.key.ensures refl) in (
+      two_more f here eq false so_far.0
+          (sym (so_far.1 (f c.line-item.result)) ∙ ap (contains eq c.loop-line.seen) (sym is)
           ∙ not_is _ true (sym c.in_ok-insert.ensures.added ∙ c.if-not-branch.false)),
-      λ q. seen_more f ls i d c.loop-line-test.true c.line-item.is (λ k. eq k q) _ _ (so_far.1 q)
+      λ q. seen_more f here (λ k. eq k q) _ _ (so_far.1 q)
           (c.in_ok-insert.ensures.updates.0 q ∙ ap (λ k. cond (eq k q) true (contains eq c.loop-line.seen q)) is),
     )
 
 pub returns-then-not-branch : goal.returns-then-not-branch
 returns-then-not-branch g c = λ f computes.
     let eq = g.K.PartialEq.eq in
-    let d = c.line-item.result in
+    let here : IsAt c.args.lines.now c.loop-line.line-index c.line-item.result =
+    record { within = c.loop-line-test.true; item = c.line-item.is } in
     let so_far = c.loop-line.invariant f computes in
-    let is = computes d c.key.result (says_at g.F.Fn c.key.ensures refl) in
-    sym (two_found f c.args.lines.now c.loop-line.line-index d c.loop-line-test.true c.line-item.is eq so_far.0
-    (sym (so_far.1 (f d)) ∙ ap (contains eq c.loop-line.seen) (sym is)
+    let is = computes c.line-item.result c.key.result (says_at g.F.Fn c.key.ensures refl) in
+    sym (two_found f here eq so_far.0
+    (sym (so_far.1 (f c.line-item.result)) ∙ ap (contains eq c.loop-line.seen) (sym is)
     ∙ not_is _ false (sym c.in_ok-insert.ensures.added ∙ c.if-not-branch.true)))
 
 pub returns : goal.returns

@@ -3,16 +3,16 @@ use Rattle.std.proofs.lemmas.List.{append-nil, map_push}
 use Rattle.box_file.specs.Box.{route_of_line}
 use Rattle.box_file.specs.steps.Reading.{interface_tree, line_tree}
 use Rattle.box_file.specs.steps.Best.{route_entry}
-use Rattle.box_file.proofs.ListLaws.{taken_if}
+use Rattle.box_file.proofs.ListLaws.{IsAt, taken_if}
 use Rattle.box_file.proofs.plant.routes.Goals as goal
 use Rattle.box_file.proofs.plant.routes.Goals.{in-Some+in_ok-push, in_default}
 
 pub loop-line-preserved : goal.loop-line-preserved
 loop-line-preserved c =
     let old = c.loop-line.found.items in
-    taken_if line_tree (route_of_line (map interface_tree c.args.interfaces.now)) c.args.lines.now
-    c.loop-line.line-index c.line-item.result (map route_entry old) (map route_entry c.match-route_of_line.found.items)
-    c.loop-line-test.true c.line-item.is c.loop-line.invariant
+    let here : IsAt c.args.lines.now c.loop-line.line-index c.line-item.result =
+    record { within = c.loop-line-test.true; item = c.line-item.is } in
+    taken_if line_tree (route_of_line (map interface_tree c.args.interfaces.now)) here c.loop-line.invariant
     (elim c.match-route_of_line.branch [
       | in-Some+in_ok-push w ↦ rw (← c.route_of_line.ensures, w.in-Some.is, w.found-is, w.in_ok-push.ensures.items)
           (map_push route_entry old w.in-Some.route)
