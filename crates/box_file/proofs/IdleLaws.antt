@@ -88,16 +88,3 @@ are_limits is e kinds.Established = refl
 are_limits is e kinds.Transitory = refl
 are_limits is e kinds.Echo = refl
 are_limits is e kinds.Other = refl
-
--- ---- the code's seconds
-
--- a number that a `u32` holds is read as it is
-pub number_small : (ds : List ℕ) → is_numeral ds ≡ true → digits_value 10 ds < 2 ^ 32
-    → unwrap_or (number_in ds) 4294967295 ≡ digits_value 10 ds
-unfolding number_in
-number_small ds e small = rw (e, lt-ltb (digits_value 10 ds) 4294967296 small) refl
-
--- a greater number isn't parsed
-pub number_large : (ds : List ℕ) → is_numeral ds ≡ true → 2 ^ 32 ≤ digits_value 10 ds → unwrap_or (number_in ds) 4294967295 ≡ 4294967295
-unfolding number_in
-number_large ds e large = rw (e, le-ltb (digits_value 10 ds) 4294967296 large) refl

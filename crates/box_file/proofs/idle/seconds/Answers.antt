@@ -1,12 +1,14 @@
-use Rattle.std.proofs.Common.{ap, ◌∙◌}
-use Rattle.std.specs.Prelude.{unwrap_or}
-use Rattle.box_file.proofs.IdleLaws.{number_small, number_large}
+use Rattle.std.proofs.Common.{refl}
+use Rattle.std.proofs.lemmas.Bool.{le-ltb, lt-ltb}
+use Rattle.box_file.specs.steps.Reading.{number_in}
 use Rattle.box_file.proofs.idle.seconds.Goals as goal
 
 pub returns-clause-small : goal.returns-clause-small
-returns-clause-small c small = c.unwrap_or.ensures ∙ ap (λ o. unwrap_or o 4294967295) c.number.ensures
-    ∙ number_small c.args.line.now.seconds.now c.args.line.now.numeral small
+unfolding number_in
+returns-clause-small c small =
+    rw (c.unwrap_or.ensures, c.number.ensures, c.args.line.now.numeral, lt-ltb _ 4294967296 small) refl
 
 pub returns-clause-large : goal.returns-clause-large
-returns-clause-large c large = c.unwrap_or.ensures ∙ ap (λ o. unwrap_or o 4294967295) c.number.ensures
-    ∙ number_large c.args.line.now.seconds.now c.args.line.now.numeral large
+unfolding number_in
+returns-clause-large c large =
+    rw (c.unwrap_or.ensures, c.number.ensures, c.args.line.now.numeral, le-ltb _ 4294967296 large) refl
