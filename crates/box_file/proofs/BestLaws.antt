@@ -1,27 +1,17 @@
 -- The first match in the sorted routes is the longest prefix match.
-use Rattle.std.proofs.Common.{◌≡◌, ℕ, suc, ◌+◌, ◌-◌, ◌*◌, ◌/◌, ◌%◌, ◌^◌, ◌<◌, ◌≤◌, Bool, true, false, cond}
-use Rattle.std.proofs.Common.{List, [], ◌∷◌, ◌++◌, ◌&&◌, leb, map, length, take, get_or, Option, Some, None, inl}
-use Rattle.std.proofs.Common.{inr, ⊎_elim, refl, sym, subst, ap, ◌∙◌, arith, ltb}
-use Rattle.std.specs.Prelude.{◌==◌, max, filter, find, if◌then◌else◌}
-use Rattle.std.specs.Option.{option_or, option_map}
-use Rattle.std.specs.List.Sorted.{IsSortedBy, IsStableBy, ties}
-use Rattle.std.specs.Cmp.{IsStrictWeakOrder}
+use Rattle.box_file.proofs.Names.{Bool, GivesFirst, IsLongestFirst, IsSortedBy, IsStableBy, IsStrictWeakOrder, List, None, Option, RouteEntry, Some, []}
+use Rattle.box_file.proofs.Names.{and_from, and_parts, ap, arith, begin_of, best_interface, best_of, cases_eq, cases_lt, cond, covers, end_of, eq-eqb, eqb-true}
+use Rattle.box_file.proofs.Names.{false, filter, filter_agree, find, find-append, find-filter, first_interface, first_value, get_or, get_or-map, greatest}
+use Rattle.box_file.proofs.Names.{if◌then◌else◌, in_range, inl, inr, le-leb, leb, leb-true, length, length-map, ltb, ltb-false, map, map_more, max, nat_tests}
+use Rattle.box_file.proofs.Names.{ne_eqb, option_map, option_or, refl, route_entry, suc, sym, take, ties, true, ℕ, ⊎_elim, ◌%◌, ◌&&◌, ◌*◌, ◌++◌, ◌+◌, ◌-◌, ◌/◌}
+use Rattle.box_file.proofs.Names.{◌<◌, ◌==◌, ◌^◌, ◌∙◌, ◌∷◌, ◌≡◌, ◌≤◌}
 use Rattle.std.proofs.Math.Nat.{div-eq_of_lt-le, div-mul-le_self, lt-div-mul-add}
 use Rattle.std.proofs.Math.Pow.{pow_pos, pow_mono}
 use Rattle.std.proofs.lemmas.Nat.{div-add-mod'}
-use Rattle.std.proofs.lemmas.Bool.{cases_eq, cases_lt, and_from, and_parts, eq-eqb, eqb-true, le-leb, leb-true, ltb-false, ne_eqb}
-use Rattle.list_laws.specs.Lists.{find-filter}
 use Rattle.list_laws.specs.Tests.{and-flip, same-tests}
-use Rattle.std.proofs.lemmas.Bool.Decides.{nat_tests}
-use Rattle.std.proofs.lemmas.List.{map_more, get_or-map, length-map}
-use Rattle.std.proofs.lemmas.List.Elements.{filter_agree}
-use Rattle.std.proofs.lemmas.List.Folds.{find-append}
 use Rattle.std.proofs.lemmas.List.Sorted.{sorted_far, IsStrictWeakOrder-flip, IsStrictWeakOrder-by_number}
 use Rattle.set_intervals.specs.declared.range.Range.{Range}
-use Rattle.set_intervals.specs.Pairs.{in_range, first_value}
 use Rattle.box_file.specs.declared.routes.Route.{Route}
-use Rattle.box_file.specs.Box.{RouteEntry, greatest, covers, best_of, best_interface}
-use Rattle.box_file.specs.steps.Best.{route_entry, begin_of, end_of, IsLongestFirst, GivesFirst, first_interface}
 
 -- ---- the addresses that a route covers
 

@@ -1,13 +1,9 @@
 -- A text describes one box or has one fault.
-use Rattle.std.proofs.Common.{◌≡◌, ℕ, false, List, [], ◌∷◌, Option, Some, None, ◌⊎◌, refl, inl, inr, sym, ap, ◌∙◌}
-use Rattle.std.specs.Prelude.{is_some}
+use Rattle.box_file.proofs.Names.{HasBoxFault, IsBox, Line, List, None, Option, PlantTree, Reads, Some, [], ap, false, has_fault, idle_for, idles_in, inl, inr}
+use Rattle.box_file.proofs.Names.{is_out_of_range, is_some, least_fault, lines_in, list_any, plant_of, refl, sym, ℕ, ◌∙◌, ◌∷◌, ◌≡◌, ◌⊎◌}
 use Rattle.std.proofs.lemmas.Option.{none-some, same_Some}
 use Rattle.box_file.specs.declared.fault.BoxFault.{BoxFault}
 use Rattle.box_file.specs.declared.fault.BoxFault.TheVariants.{Form, Repeated, UnknownName, TooLarge, OutOfRange}
-use Rattle.box_file.specs.steps.Reading.{lines_in}
-use Rattle.box_file.specs.Box.{Line, Reads, HasBoxFault, IsBox, PlantTree, has_fault, least_fault}
-use Rattle.box_file.specs.Box.{plant_of, idles_in, idle_for, is_out_of_range}
-use Rattle.std.specs.List.{list_any}
 use Rattle.box_file.proofs.IdleLaws.{same_limits, limits_of, are_limits}
 use Rattle.box_file.proofs.ListLaws.{each_fails, some-found}
 use Rattle.box_file.proofs.LineLaws.{lines_found, lines_only}

@@ -1,18 +1,9 @@
 -- The checks on keys agree with the checks on lines.
-use Rattle.std.proofs.Common.{◌≡◌, ℕ, ◌+◌, ◌<◌, Bool, true, ◌==◌, ◌&&◌, not, cond, nat_eq, List, [], ◌∷◌, length}
-use Rattle.std.proofs.Common.{take, get_or, refl, ap, ◌∙◌}
-use Rattle.std.specs.Prelude.{map}
-use Rattle.std.specs.List.{list_any}
-use Rattle.std.specs.Borrow.{Bor}
-use Rattle.std.specs.Cmp.Lexicographic.{pointwise}
-use Rattle.std.specs.HashSet.{HashSet, contains}
-use Rattle.std.proofs.lemmas.List.{get_or_default}
-use Rattle.list_laws.specs.Lists.{any_of_map}
-use Rattle.box_file.specs.Box.{Interface, any_pair, two_names, two_indexes, is_named, is_unknown}
+use Rattle.box_file.proofs.Names.{Bool, Bor, HashSet, Interface, Knows, List, [], any_of_map, any_pair, ap, cond, contains, get_or, get_or_default}
+use Rattle.box_file.proofs.Names.{interface_tree, is_named, is_unknown, length, list_any, map, nat_eq, not, pointwise, refl, route_tree, take, true}
+use Rattle.box_file.proofs.Names.{two_indexes, two_names, two_values, ℕ, ◌&&◌, ◌+◌, ◌<◌, ◌==◌, ◌∙◌, ◌∷◌, ◌≡◌}
 use Rattle.box_file.specs.declared.line.InterfaceLine.{InterfaceLine}
 use Rattle.box_file.specs.declared.line.RouteLine.{RouteLine}
-use Rattle.box_file.specs.steps.Reading.{interface_tree, route_tree}
-use Rattle.box_file.specs.steps.Tests.{two_values, Knows}
 use Rattle.box_file.proofs.NumberLaws.{same_text-pointwise}
 use Rattle.box_file.proofs.RepeatLaws.{seen_more}
 

@@ -1,21 +1,10 @@
 -- Lines in range set one value for each timeout.
-use Rattle.std.proofs.Common.{◌≡◌, ℕ, ◌^◌, ◌<◌, ◌≤◌, Bool, true, false, ◌&&◌, cond, List, [], ◌∷◌}
-use Rattle.std.proofs.Common.{Option, Some, None, refl, sym, ap, subst, arith}
-use Rattle.std.specs.Prelude.{nat_lt, find, unwrap_or, IfSome, IsTrue}
-use Rattle.std.specs.List.{list_any}
-use Rattle.std.specs.Option.{option_map}
-use Rattle.std.specs.Str.Parse.{digits_value}
-use Rattle.std.proofs.lemmas.Bool.{le-ltb, lt-ltb, ltb-false, or_parts}
-use Rattle.list_laws.specs.Options.{IfSome_at}
-use Rattle.std.proofs.Math.Bool.{Bool-set}
+use Rattle.box_file.proofs.Names.{AreLimits, Bool, Bool-set, Idle, IdleKind, IfSome_at, IsTrue, List, None, Option, Some, ap, arith, false, find, idle_for}
+use Rattle.box_file.proofs.Names.{is_of_kind, is_out_of_range, limit_for, list_any, lt-ltb, ltb-false, max_idle_seconds, minimum_for, nat_lt, or_parts, refl}
+use Rattle.box_file.proofs.Names.{seconds_of, subst, sym, true, usual_limits, ℕ, ◌&&◌, ◌<◌, ◌^◌, ◌≡◌}
 use Rattle.box_file.proofs.ListLaws.{each_fails, found_all}
-use Rattle.box_file.specs.declared.idle_line.IdleKind.{IdleKind}
 use Rattle.box_file.specs.declared.idle_line.IdleKind.TheVariants as kinds
 use Rattle.box_file.specs.declared.limits.Limits.{Limits}
-use Rattle.box_file.specs.Text.{is_numeral}
-use Rattle.box_file.specs.steps.Reading.{number_in}
-use Rattle.box_file.specs.Idle.{max_idle_seconds, minimum_for, limit_for, usual_limits}
-use Rattle.box_file.specs.Box.{AreLimits, Idle, idle_for, is_of_kind, is_out_of_range, seconds_of}
 
 -- ---- timeouts by their values
 

@@ -1,3 +1,4 @@
+pub mod Names
 pub mod NumberLaws
 pub mod WordLaws
 pub mod TextLaws

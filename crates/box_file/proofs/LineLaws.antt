@@ -1,30 +1,17 @@
 -- The parsers accept exactly the lines that the words spell.
-use Rattle.std.proofs.Common.{◌≡◌, ◌≢◌, ℕ, zero, suc, ◌+◌, ◌-◌, ◌*◌, ◌/◌, ◌%◌, ◌^◌, ◌<◌, Bool, true, false, ◌&&◌}
-use Rattle.std.proofs.Common.{◌||◌, not, cond, List, [], ◌∷◌, ◌++◌, map, length, get_or, Option, Some, None, ◌⊎◌}
-use Rattle.std.proofs.Common.{inl, inr, refl, sym, ap, ◌∙◌, add-one, append_assoc, take, drop, arith}
-use Rattle.std.specs.Prelude.{◌==◌, nat_lt, IfSome, codes, filter}
-use Rattle.std.specs.List.{list_all, position_or_len}
-use Rattle.std.specs.Char.{is_ascii_digit}
+use Rattle.box_file.proofs.Names.{Bool, Idle, IdleKind, IfSome, IfSome_bind, IfSome_cond, Interface, IsLine, IsName, Line, List, NamedRoute, None, Option}
+use Rattle.box_file.proofs.Names.{Reads, Some, [], add-one, address_in, all_in, and_from, and_parts, ap, append_assoc, arith, codes, cond, cond_both, cut}
+use Rattle.box_file.proofs.Names.{decimal-digits_value, decimal_nonempty, default_line, default_words, digits_decimal, digits_value, digits_value-decimal}
+use Rattle.box_file.proofs.Names.{dotted, dotted_prefix, drop, each_is_line, eq-eqb, eqb-true, false, false≢true, filter, first_decimal, get_or, has_none}
+use Rattle.box_file.proofs.Names.{idle_line, idle_words, inl, inr, interface_line, interface_words, is_ascii_digit, is_name, is_name_byte, is_nonempty}
+use Rattle.box_file.proofs.Names.{is_numeral, kind_in, length, length-append, length-decimal-le, line_in, line_of, lines_in, lines_of, list_all, lt-ltb}
+use Rattle.box_file.proofs.Names.{ltb-true, map, name_in, nat_lt, ne_eqb, not, not_from_false, number_in, octet_in, option_map, or_left, or_right}
+use Rattle.box_file.proofs.Names.{position_or_len, prefixed_in, refl, route_line, route_words, same_text, suc, sym, take, take_at, true, uncons, word_of}
+use Rattle.box_file.proofs.Names.{words_in, words_of, zero, ℕ, ◌%◌, ◌&&◌, ◌*◌, ◌++◌, ◌+◌, ◌-◌, ◌/◌, ◌<◌, ◌==◌, ◌^◌, ◌||◌, ◌∙◌, ◌∷◌, ◌≡◌, ◌≢◌, ◌⊎◌}
 use Rattle.std.specs.Fmt.{decimal}
-use Rattle.std.specs.Str.Parse.{digits_value}
-use Rattle.std.proofs.lemmas.Bool.{and_from, and_parts, cond_both, eq-eqb, eqb-true, false≢true, lt-ltb, ltb-true}
-use Rattle.std.proofs.lemmas.Bool.{ne_eqb, not_from_false, or_left, or_right}
-use Rattle.std.proofs.lemmas.List.{length-append, take_at}
 use Rattle.std.proofs.lemmas.List.Sums.{passes_at_first, split_at_first}
 use Rattle.std.proofs.lemmas.Slice.Eq.{bytes_eq-Decides}
-use Rattle.std.proofs.lemmas.Fmt.{digits_decimal, digits_value-decimal, decimal-digits_value}
-use Rattle.std.proofs.lemmas.Fmt.{decimal_nonempty, first_decimal, length-decimal-le}
-use Rattle.std.specs.Option.{option_map}
-use Rattle.list_laws.specs.Options.{IfSome_cond, IfSome_bind}
-use Rattle.box_file.specs.declared.idle_line.IdleKind.{IdleKind}
 use Rattle.box_file.specs.declared.idle_line.IdleKind.TheVariants as kinds
-use Rattle.box_file.specs.Text.{is_nonempty, words_of, lines_of, dotted, dotted_prefix, is_numeral}
-use Rattle.box_file.specs.Idle.{word_of}
-use Rattle.box_file.specs.Box.{Interface, NamedRoute, Idle, Line, interface_line, route_line, default_line, idle_line}
-use Rattle.box_file.specs.Box.{words_in, is_name_byte, IsName, IsLine, each_is_line, same_text, Reads}
-use Rattle.box_file.specs.steps.Reading.{uncons, has_none, cut, number_in, is_name, name_in, octet_in}
-use Rattle.box_file.specs.steps.Reading.{address_in, prefixed_in, interface_words, route_words, default_words}
-use Rattle.box_file.specs.steps.Reading.{kind_in, idle_words, line_of, line_in, all_in, lines_in}
 use Rattle.box_file.proofs.NumberLaws.{digits, numeral_digits, same_text-pointwise}
 
 -- ---- splitting
@@ -97,8 +84,8 @@ number_only : (n : ℕ) → n < 2 ^ 32 → number_in (decimal n) ≡ Some n
 unfolding number_in
 number_only n small =
     let wide : n < 2 ^ 64 = omega arith in
-    rw (numeral_from (decimal n) (digits_decimal digits n wide) (decimal_nonempty n wide) (first_is n wide),
-    digits_value-decimal digits n wide, lt-ltb n 4294967296 small) refl
+    let numeral = numeral_from (decimal n) (digits_decimal digits n wide) (decimal_nonempty n wide) (first_is n wide) in
+    rw (numeral, digits_value-decimal digits n wide, lt-ltb n 4294967296 small) refl
 
 decimal_lacks : (at n : ℕ) → is_ascii_digit at ≡ false → n < 2 ^ 32 → Lacks at (decimal n)
 decimal_lacks at n other small = lacks_all is_ascii_digit at other (decimal n) (digits_decimal digits n (omega arith))
@@ -155,13 +142,10 @@ address_only a small =
     let y = a / 256 % 256 in
     let z = a % 256 in
     let back : joined w x y z ≡ a = omega arith in
-    rw (
-      dotted_is a,
-      cut_only 46 (decimal w) (decimal x ++ 46 ∷ (decimal y ++ 46 ∷ decimal z)) (decimal_lacks 46 w refl (omega arith)),
-      cut_only 46 (decimal x) (decimal y ++ 46 ∷ decimal z) (decimal_lacks 46 x refl (omega arith)),
-      cut_only 46 (decimal y) (decimal z) (decimal_lacks 46 y refl (omega arith)),
-      octet_only w (omega arith), octet_only x (omega arith), octet_only y (omega arith), octet_only z (omega arith), back,
-    ) refl
+    let p = cut_only 46 (decimal w) (decimal x ++ 46 ∷ (decimal y ++ 46 ∷ decimal z)) (decimal_lacks 46 w refl (omega arith)) in
+    let q = cut_only 46 (decimal x) (decimal y ++ 46 ∷ decimal z) (decimal_lacks 46 x refl (omega arith)) in
+    let r = cut_only 46 (decimal y) (decimal z) (decimal_lacks 46 y refl (omega arith)) in
+    rw (dotted_is a, p, q, r, octet_only w (omega arith), octet_only x (omega arith), octet_only y (omega arith), octet_only z (omega arith), back) refl
 
 dotted_lacks : (at a : ℕ) → is_ascii_digit at ≡ false → (46 == at) ≡ false → a < 2 ^ 32 → Lacks at (dotted a)
 dotted_lacks at a other dot small =
@@ -181,8 +165,8 @@ prefixed_found bs =
 prefixed_only : (a p : ℕ) → a < 2 ^ 32 → p < 33 → prefixed_in (dotted_prefix a p) ≡ Some (a, p)
 unfolding prefixed_in
 prefixed_only a p small short =
-    rw (cut_only 47 (dotted a) (decimal p) (dotted_lacks 47 a refl refl small), address_only a small, number_only p (omega arith),
-    lt-ltb p 33 short) refl
+    let parts = cut_only 47 (dotted a) (decimal p) (dotted_lacks 47 a refl refl small) in
+    rw (parts, address_only a small, number_only p (omega arith), lt-ltb p 33 short) refl
 
 -- ---- names
 
@@ -229,8 +213,9 @@ interface_only : (i : Interface) → IsLine (interface_line i)
     → interface_words (decimal i.index ∷ i.name ∷ dotted_prefix i.address i.prefix ∷ []) ≡ Some (interface_line i)
 unfolding interface_words
 interface_only i h =
-    rw (number_only i.index (omega arith), name_only i.name h.2, prefixed_only i.address i.prefix h.3 h.5,
-    lt-ltb 0 i.index h.0, lt-ltb i.index 2147483648 h.1, lt-ltb 0 i.prefix h.4) refl
+    let index = number_only i.index (omega arith) in
+    let prefix = prefixed_only i.address i.prefix h.3 h.5 in
+    rw (index, name_only i.name h.2, prefix, lt-ltb 0 i.index h.0, lt-ltb i.index 2147483648 h.1, lt-ltb 0 i.prefix h.4) refl
 
 route_found : (ws : List (List ℕ)) → IfSome (route_words ws) (λ l. IsLine l × (words_in l ≡ codes "route" ∷ ws))
 unfolding route_words

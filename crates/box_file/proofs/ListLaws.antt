@@ -1,11 +1,7 @@
 -- Searches in lists, and one more line, as in an iteration of a loop.
-use Rattle.std.proofs.Common.{◌≡◌, ℕ, ◌+◌, ◌<◌, Bool, true, false, cond, ◌||◌, List, [], ◌∷◌, ◌++◌, map, length, take, get_or, Option}
-use Rattle.std.proofs.Common.{Some, None, refl, sym, ap, ◌∙◌}
-use Rattle.std.specs.Prelude.{find, is_some, IfSome}
-use Rattle.std.specs.List.{AllByRecursion, list_any, filter_map, cons_option}
-use Rattle.std.proofs.lemmas.Bool.{cond_both, or_parts}
-use Rattle.std.proofs.lemmas.List.{map_more}
-use Rattle.std.proofs.lemmas.List.Elements.{filter_map-append}
+use Rattle.box_file.proofs.Names.{AllByRecursion, Bool, IfSome, List, Option, Some, [], ap, cond, cond_both, cons_option, false, filter_map, filter_map-append}
+use Rattle.box_file.proofs.Names.{find, get_or, is_some, length, list_any, map, map_more, or_parts, refl, sym, take, true, ℕ, ◌++◌, ◌+◌, ◌<◌, ◌||◌, ◌∙◌, ◌∷◌}
+use Rattle.box_file.proofs.Names.{◌≡◌}
 
 -- what holds of each element holds of the one that a search finds
 pub found_all : {A : Type 0} (P : A → Type 0) (p : A → Bool) (xs : List A) → AllByRecursion P xs → IfSome (find p xs) P

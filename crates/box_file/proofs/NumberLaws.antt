@@ -1,20 +1,11 @@
 -- The results of std's calls in terms of the parsers: texts, numbers.
-use Rattle.std.proofs.Common.{◌≡◌, ℕ, ◌^◌, ◌<◌, true, false, ◌&&◌, cond, eqb, List, [], ◌∷◌, length, Some, None}
-use Rattle.std.proofs.Common.{Result, Ok, Err, refl, sym, ap, subst, ◌∙◌, arith, rules}
-use Rattle.std.specs.Prelude.{nat_lt, MatchResult}
-use Rattle.std.specs.List.{list_all}
-use Rattle.std.specs.Char.{is_ascii_digit}
-use Rattle.std.specs.Cmp.Lexicographic.{pointwise}
+use Rattle.box_file.proofs.Names.{Err, IsAscii-from_digits, List, MatchResult, None, Ok, ParsesUnsigned, Result, Some, [], and_parts, ap, arith, cond-false}
+use Rattle.box_file.proofs.Names.{digits_value, eqb, false, false_from_ne_true, is_ascii_digit, is_numeral, length, list_all, lt-ltb, ltb-true, nat_lt}
+use Rattle.box_file.proofs.Names.{number_in, pointwise, refl, rules, same_text, subst, sym, true, ℕ, ◌&&◌, ◌<◌, ◌^◌, ◌∙◌, ◌∷◌, ◌≡◌}
 use Rattle.std.specs.Result.{result_ok, OkIff}
 use Rattle.std.specs.Str.{IsUtf8}
-use Rattle.std.specs.Str.Parse.{digits_value, ParsesUnsigned}
-use Rattle.std.proofs.lemmas.Bool.{ltb-true, lt-ltb, and_parts, cond-false, false_from_ne_true}
-use Rattle.std.proofs.lemmas.Fmt.{IsAscii-from_digits}
 use Rattle.std.proofs.lemmas.Str.{IsUtf8-from_ascii}
 use Rattle.std.proofs.lemmas.Str.Parse.{IsNumeralModel, numerals_by_value, parse_digits}
-use Rattle.box_file.specs.Box.{same_text}
-use Rattle.box_file.specs.steps.Reading.{number_in}
-use Rattle.box_file.specs.Text.{is_numeral}
 
 -- ---- texts
 

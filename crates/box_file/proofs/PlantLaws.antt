@@ -1,18 +1,10 @@
 -- The invariant of a `Plant`: its interface indexes are valid, and its lookup table is right.
-use Rattle.std.proofs.Common.{◌≡◌, ℕ, ◌==◌, Bool, true, false, ◌&&◌, ◌||◌, not, cond, List, [], ◌∷◌}
-use Rattle.std.proofs.Common.{Option, Some, None, refl, sym, ap, subst, ◌∙◌}
-use Rattle.std.specs.Prelude.{filter, find, unwrap_or, IfSome, is_some}
-use Rattle.std.specs.List.{list_any, filter_map}
-use Rattle.std.specs.Option.{option_map}
-use Rattle.std.proofs.lemmas.Bool.{not-false, or_parts}
-use Rattle.list_laws.specs.Lists.{find-filter}
-use Rattle.list_laws.specs.Options.{IfSome_at}
+use Rattle.box_file.proofs.Names.{Bool, EachIndexed, EachRouteIndexed, IfSome, IfSome_at, Interface, IsIndex, KnowsNames, Line, List, NamedRoute, None, Option}
+use Rattle.box_file.proofs.Names.{RouteEntry, Some, [], ap, best_interface, covers, default_line, defaults_in, each_is_line, entering_of, false, filter}
+use Rattle.box_file.proofs.Names.{filter_map, find, find-filter, greatest, idle_line, interface_line, interfaces_in, is_malformed, is_named, is_some}
+use Rattle.box_file.proofs.Names.{is_unknown, known_index, list_any, not-false, option_map, or_parts, refl, route_line, route_of_line, routes_in, sym, true}
+use Rattle.box_file.proofs.Names.{unwrap_or, ℕ, ◌&&◌, ◌==◌, ◌∙◌, ◌∷◌, ◌≡◌}
 use Rattle.box_file.proofs.ListLaws.{found_all, some-found}
-use Rattle.box_file.specs.Box.{Interface, NamedRoute, RouteEntry, Line, interface_line, route_line}
-use Rattle.box_file.specs.Box.{default_line, idle_line, each_is_line, IsIndex, interfaces_in, routes_in}
-use Rattle.box_file.specs.Box.{defaults_in, route_of_line, is_named, is_unknown, is_malformed, known_index}
-use Rattle.box_file.specs.Box.{entering_of, covers, greatest, best_interface}
-use Rattle.box_file.specs.steps.Plant.{EachIndexed, EachRouteIndexed, KnowsNames}
 
 -- ---- interface indexes
 

@@ -1,16 +1,8 @@
 -- Keys of the lines at the beginning of a list, line by line: which of them occurred, and with which values.
-use Rattle.std.proofs.Common.{◌≡◌, ℕ, ◌+◌, ◌<◌, Bool, true, false, ◌&&◌, ◌||◌, not, cond, List, [], ◌∷◌, ◌++◌, map, length}
-use Rattle.std.proofs.Common.{take, drop, get_or, Option, Some, None, ⊎_elim, refl, sym, ap, ◌∙◌}
-use Rattle.std.specs.List.{list_any}
-use Rattle.std.specs.Cmp.{IsEquivalence}
-use Rattle.std.proofs.lemmas.Bool.{or_cases, or_left, or_right}
-use Rattle.std.proofs.lemmas.List.{take-append-drop, map-append}
-use Rattle.std.proofs.lemmas.List.Folds.{list_any-append}
-use Rattle.std.proofs.Math.Bool.{not-not, or-false, or_self}
-use Rattle.list_laws.specs.Lists.{map-more}
+use Rattle.box_file.proofs.Names.{Bool, IsEquivalence, List, None, Option, Some, [], any_pair, ap, cond, drop, false, list_any, list_any-append, map}
+use Rattle.box_file.proofs.Names.{map-append, map-more, not, not-not, or-false, or_cases, or_left, or_right, or_self, refl, sym, take, take-append-drop, true}
+use Rattle.box_file.proofs.Names.{two_values, ℕ, ⊎_elim, ◌&&◌, ◌++◌, ◌+◌, ◌||◌, ◌∙◌, ◌∷◌, ◌≡◌}
 use Rattle.box_file.proofs.ListLaws.{IsAt}
-use Rattle.box_file.specs.Box.{any_pair}
-use Rattle.box_file.specs.steps.Tests.{two_values}
 
 or_swap : (a b c d : Bool) → (a || b) || (c || d) ≡ (a || c) || (b || d)
 or_swap true b c d = refl

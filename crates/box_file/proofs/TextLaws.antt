@@ -1,16 +1,8 @@
 -- The lines of a text, one after another.
-use Rattle.std.proofs.Common.{◌≡◌, ℕ, suc, ◌+◌, ◌<◌, ◌≤◌, Bool, true, false, not, cond, List, [], ◌∷◌, length, ◌++◌, take, drop}
-use Rattle.std.proofs.Common.{append_assoc, Option, Some, None, ⊎_elim, refl, ap, one-add, eqb-true, length-drop, ◌∙◌, sym, arith}
-use Rattle.std.specs.Prelude.{◌==◌, filter, map}
-use Rattle.std.specs.List.{position_or_len}
-use Rattle.std.specs.Option.{option_map}
-use Rattle.std.proofs.lemmas.Bool.{cases_lt, le-ltb, lt-ltb}
-use Rattle.std.proofs.lemmas.Bool.Decides.{nat_tests}
-use Rattle.std.proofs.lemmas.List.{nil_from_length, append-nil, drop_all, take_all}
-use Rattle.box_file.specs.Text.{is_newline, is_nonempty, onto_first, parts_of, words_of, lines_of}
-use Rattle.box_file.specs.Box.{Line}
-use Rattle.list_laws.specs.Options.{◌>>=◌}
-use Rattle.box_file.specs.steps.Reading.{uncons, first_line, line_of, line_in, all_in, lines_in}
+use Rattle.box_file.proofs.Names.{Bool, Line, List, None, Option, Some, [], all_in, ap, append-nil, append_assoc, arith, cases_lt, cond, drop, drop_all}
+use Rattle.box_file.proofs.Names.{eqb-true, false, filter, first_line, is_newline, is_nonempty, le-ltb, length, length-drop, line_in, line_of, lines_in}
+use Rattle.box_file.proofs.Names.{lines_of, lt-ltb, map, nat_tests, nil_from_length, not, one-add, onto_first, option_map, parts_of, position_or_len, refl, suc}
+use Rattle.box_file.proofs.Names.{sym, take, take_all, true, uncons, words_of, ℕ, ⊎_elim, ◌++◌, ◌+◌, ◌<◌, ◌==◌, ◌>>=◌, ◌∙◌, ◌∷◌, ◌≡◌}
 
 pub some_left : (ts : List ℕ) (r : Bool) → r ≡ (length ts == 0) → r ≡ false → 0 < length ts
 some_left ts r e f = grind (arith, nat_tests)

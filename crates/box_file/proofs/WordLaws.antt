@@ -1,12 +1,8 @@
 -- The first word of a line, and the rest.
-use Rattle.std.proofs.Common.{◌≡◌, ℕ, suc, ◌+◌, ◌-◌, ◌<◌, ◌≤◌, Bool, true, false, not, cond, ltb, List, [], ◌∷◌, length}
-use Rattle.std.proofs.Common.{take, drop, Option, Some, None, refl, sym, ap, one-add, ◌∙◌, arith}
-use Rattle.std.specs.Prelude.{◌==◌, filter, unwrap_or}
-use Rattle.std.specs.List.{position_or_len}
-use Rattle.std.proofs.lemmas.Bool.{cond_both, false≢true, false_from_ne_true, true_from_ne_false, not-true, ltb-false, ne_eqb, or_parts}
-use Rattle.list_laws.specs.Lists.{rest_from}
-use Rattle.box_file.specs.Text.{onto_first, parts_of, is_blank, is_nonempty, before_comment, words_of}
-use Rattle.box_file.specs.steps.Reading.{begins_word, ends_word, uncons}
+use Rattle.box_file.proofs.Names.{Bool, List, None, Option, Some, [], ap, arith, before_comment, begins_word, cond, cond_both, drop, ends_word, false}
+use Rattle.box_file.proofs.Names.{false_from_ne_true, false≢true, filter, is_blank, is_nonempty, length, ltb, ltb-false, ne_eqb, not, not-true, one-add}
+use Rattle.box_file.proofs.Names.{onto_first, or_parts, parts_of, position_or_len, refl, rest_from, suc, sym, take, true, true_from_ne_false, uncons, unwrap_or}
+use Rattle.box_file.proofs.Names.{words_of, ℕ, ◌+◌, ◌-◌, ◌<◌, ◌==◌, ◌∙◌, ◌∷◌, ◌≡◌, ◌≤◌}
 
 -- ---- indexes
 

@@ -1,5 +1,4 @@
-use Rattle.box_file.specs.Box.{interface_in, route_in, default_in, idle_in}
-use Rattle.box_file.specs.steps.Reading.{line_tree}
+use Rattle.box_file.proofs.Names.{default_in, idle_in, interface_in, line_tree, route_in}
 use Rattle.box_file.proofs.ListLaws.{IsAt, taken_if}
 use Rattle.box_file.proofs.by_kind.lines_by_kind.Goals as goal
 

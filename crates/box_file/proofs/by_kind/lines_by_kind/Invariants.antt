@@ -1,6 +1,4 @@
-use Rattle.std.proofs.Common.{map, take}
-use Rattle.box_file.specs.steps.Reading.{interface_tree, route_tree, idle_tree, line_tree}
-use Rattle.box_file.specs.steps.Tests.{AreLinesByKind}
+use Rattle.box_file.proofs.Names.{AreLinesByKind, idle_tree, interface_tree, line_tree, map, route_tree, take}
 use Rattle.box_file.proofs.by_kind.lines_by_kind.Given as goal
 
 abbrev pub invariant-loop-line : goal.invariant-loop-line

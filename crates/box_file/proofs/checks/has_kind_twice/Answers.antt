@@ -1,6 +1,4 @@
-use Rattle.std.proofs.Common.{rules, tests, ◌∙◌}
-use Rattle.std.proofs.lemmas.Result.{IfOk-weaker}
-use Rattle.box_file.specs.steps.Reading.{idle_tree}
+use Rattle.box_file.proofs.Names.{IfOk-weaker, idle_tree, rules, tests, ◌∙◌}
 use Rattle.box_file.proofs.CheckLaws.{pair-keys}
 use Rattle.box_file.proofs.checks.has_kind_twice.Goals as goal
 

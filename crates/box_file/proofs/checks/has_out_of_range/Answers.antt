@@ -1,9 +1,4 @@
-use Rattle.std.proofs.Common.{rules, tests, ◌∙◌}
-use Rattle.std.proofs.lemmas.Iterator.{YieldsList-from_slice}
-use Rattle.std.proofs.lemmas.Iterator.Search.{any_from_yields_List}
-use Rattle.list_laws.specs.Lists.{any_of_map}
-use Rattle.box_file.specs.Box.{is_out_of_range}
-use Rattle.box_file.specs.steps.Reading.{idle_tree}
+use Rattle.box_file.proofs.Names.{YieldsList-from_slice, any_from_yields_List, any_of_map, idle_tree, is_out_of_range, rules, tests, ◌∙◌}
 use Rattle.box_file.proofs.checks.has_out_of_range.Goals as goal
 
 pub returns : goal.returns

@@ -1,6 +1,4 @@
-use Rattle.std.proofs.Common.{rules, refl, ◌∙◌}
-use Rattle.std.proofs.lemmas.Result.{IfOk-weaker}
-use Rattle.box_file.specs.steps.Reading.{route_tree}
+use Rattle.box_file.proofs.Names.{IfOk-weaker, refl, route_tree, rules, ◌∙◌}
 use Rattle.box_file.proofs.CheckLaws.{pair-keys}
 use Rattle.box_file.proofs.checks.has_prefix_twice.Goals as goal
 

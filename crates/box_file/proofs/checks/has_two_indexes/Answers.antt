@@ -1,6 +1,4 @@
-use Rattle.std.proofs.Common.{rules, ◌∙◌}
-use Rattle.std.proofs.lemmas.Result.{IfOk-weaker}
-use Rattle.box_file.specs.steps.Reading.{interface_tree}
+use Rattle.box_file.proofs.Names.{IfOk-weaker, interface_tree, rules, ◌∙◌}
 use Rattle.box_file.proofs.CheckLaws.{pair-keys, indexes_differ}
 use Rattle.box_file.proofs.checks.has_two_indexes.Goals as goal
 

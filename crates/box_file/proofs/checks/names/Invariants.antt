@@ -1,6 +1,4 @@
-use Rattle.std.proofs.Common.{map, take}
-use Rattle.box_file.specs.steps.Reading.{interface_tree}
-use Rattle.box_file.specs.steps.Tests.{Knows}
+use Rattle.box_file.proofs.Names.{Knows, interface_tree, map, take}
 use Rattle.box_file.proofs.checks.names.Given as goal
 
 abbrev pub invariant-loop-interface : goal.invariant-loop-interface

@@ -1,9 +1,5 @@
-use Rattle.std.proofs.Common.{◌≡◌, rules, tests, ◌||◌, not, map, sym, ap, ◌∙◌}
-use Rattle.std.specs.List.{list_any}
-use Rattle.std.proofs.lemmas.Iterator.{YieldsList-from_slice}
-use Rattle.std.proofs.lemmas.Iterator.Search.{any_from_yields_List}
-use Rattle.box_file.specs.Box.{is_unknown}
-use Rattle.box_file.specs.steps.Reading.{interface_tree, route_tree}
+use Rattle.box_file.proofs.Names.{YieldsList-from_slice, any_from_yields_List, ap, interface_tree, is_unknown, list_any, map, not, route_tree, rules, sym}
+use Rattle.box_file.proofs.Names.{tests, ◌||◌, ◌∙◌, ◌≡◌}
 use Rattle.box_file.proofs.CheckLaws.{has, unknown_routes, unknown_defaults}
 use Rattle.box_file.proofs.checks.names_unknown_interface.Goals as goal
 use Rattle.box_file.proofs.checks.names_unknown_interface.Goals.{then-any, else-any}

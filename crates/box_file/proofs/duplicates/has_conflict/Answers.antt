@@ -1,11 +1,6 @@
-use Rattle.std.proofs.Common.{◌≡◌, false, map, refl, sym, ap, ◌∙◌}
-use Rattle.std.proofs.iter.Next.{says_at}
-use Rattle.std.specs.HashMap.{get}
+use Rattle.box_file.proofs.Names.{any_pair, ap, false, get, map, refl, says_at, sym, take_all, two_values, ◌∙◌, ◌≡◌}
 use Rattle.std.specs.HashMap.Eq.{lookup_congr}
 use Rattle.std.specs.Map.{lookup}
-use Rattle.std.proofs.lemmas.List.{take_all}
-use Rattle.box_file.specs.Box.{any_pair}
-use Rattle.box_file.specs.steps.Tests.{two_values}
 use Rattle.box_file.proofs.ListLaws.{IsAt}
 use Rattle.box_file.proofs.RepeatLaws.{two_found, two_more, told_here, tells_more, differs, no_some}
 use Rattle.box_file.proofs.duplicates.has_conflict.Goals as goal

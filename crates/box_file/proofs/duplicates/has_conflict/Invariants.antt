@@ -1,9 +1,4 @@
-use Rattle.std.proofs.Common.{◌≡◌, false, map, take}
-use Rattle.std.specs.Fn.{FnReturnsAt}
-use Rattle.std.specs.List.{list_any}
-use Rattle.std.specs.HashMap.{get}
-use Rattle.box_file.specs.Box.{any_pair}
-use Rattle.box_file.specs.steps.Tests.{two_values, Computes}
+use Rattle.box_file.proofs.Names.{Computes, FnReturnsAt, any_pair, false, get, list_any, map, take, two_values, ◌≡◌}
 use Rattle.box_file.proofs.RepeatLaws.{differs}
 use Rattle.box_file.proofs.duplicates.has_conflict.Given as goal
 

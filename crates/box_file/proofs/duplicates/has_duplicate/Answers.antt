@@ -1,9 +1,4 @@
-use Rattle.std.proofs.Common.{true, false, cond, map, refl, sym, ap, ◌∙◌}
-use Rattle.std.proofs.iter.Next.{says_at}
-use Rattle.std.specs.HashSet.{contains}
-use Rattle.std.specs.List.{list_any}
-use Rattle.std.proofs.lemmas.List.{take_all}
-use Rattle.box_file.specs.Box.{any_pair}
+use Rattle.box_file.proofs.Names.{any_pair, ap, cond, contains, false, list_any, map, refl, says_at, sym, take_all, true, ◌∙◌}
 use Rattle.box_file.proofs.ListLaws.{IsAt}
 use Rattle.box_file.proofs.RepeatLaws.{not_is, two_more, two_found, seen_more}
 use Rattle.box_file.proofs.duplicates.has_duplicate.Goals as goal

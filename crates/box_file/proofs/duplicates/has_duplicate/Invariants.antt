@@ -1,9 +1,4 @@
-use Rattle.std.proofs.Common.{◌≡◌, false, map, take}
-use Rattle.std.specs.Fn.{FnReturnsAt}
-use Rattle.std.specs.List.{list_any}
-use Rattle.std.specs.HashSet.{contains}
-use Rattle.box_file.specs.Box.{any_pair}
-use Rattle.box_file.specs.steps.Tests.{Computes}
+use Rattle.box_file.proofs.Names.{Computes, FnReturnsAt, any_pair, contains, false, list_any, map, take, ◌≡◌}
 use Rattle.box_file.proofs.duplicates.has_duplicate.Given as goal
 
 abbrev pub invariant-loop-line : goal.invariant-loop-line

@@ -1,7 +1,4 @@
-use Rattle.std.proofs.Common.{◌≡◌, map, length}
-use Rattle.std.specs.Prelude.{find}
-use Rattle.box_file.specs.Box.{is_of_kind}
-use Rattle.box_file.specs.steps.Reading.{idle_tree}
+use Rattle.box_file.proofs.Names.{find, idle_tree, is_of_kind, length, map, ◌≡◌}
 use Rattle.box_file.proofs.idle.find_by_kind.Given as goal
 
 abbrev pub invariant-loop-rest : goal.invariant-loop-rest

@@ -1,7 +1,4 @@
-use Rattle.std.proofs.Common.{◌≡◌, Some, None, map, refl}
-use Rattle.std.specs.Prelude.{find}
-use Rattle.box_file.specs.Box.{is_of_kind}
-use Rattle.box_file.specs.steps.Reading.{idle_tree}
+use Rattle.box_file.proofs.Names.{None, Some, find, idle_tree, is_of_kind, map, refl, ◌≡◌}
 use Rattle.box_file.proofs.IdleLaws.{found, some_limit}
 use Rattle.box_file.proofs.idle.limit.Goals as goal
 

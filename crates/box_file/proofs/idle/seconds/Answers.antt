@@ -1,6 +1,4 @@
-use Rattle.std.proofs.Common.{refl}
-use Rattle.std.proofs.lemmas.Bool.{le-ltb, lt-ltb}
-use Rattle.box_file.specs.steps.Reading.{number_in}
+use Rattle.box_file.proofs.Names.{le-ltb, lt-ltb, number_in, refl}
 use Rattle.box_file.proofs.idle.seconds.Goals as goal
 
 pub returns-clause-small : goal.returns-clause-small

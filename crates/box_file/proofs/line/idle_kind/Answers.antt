@@ -1,5 +1,4 @@
-use Rattle.std.proofs.Common.{refl}
-use Rattle.std.specs.Prelude.{codes}
+use Rattle.box_file.proofs.Names.{codes, refl}
 use Rattle.box_file.proofs.NumberLaws.{differ}
 use Rattle.box_file.proofs.line.idle_kind.Goals as goal
 

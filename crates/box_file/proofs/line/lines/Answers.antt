@@ -1,6 +1,4 @@
-use Rattle.std.proofs.Common.{◌≡◌, map, ◌++◌, ◌∷◌, [], sym}
-use Rattle.std.proofs.lemmas.List.{map_push}
-use Rattle.box_file.specs.steps.Reading.{line_tree, lines_in}
+use Rattle.box_file.proofs.Names.{line_tree, lines_in, map, map_push, sym}
 use Rattle.box_file.proofs.TextLaws.{Turn, some_left, none_left, rest_shorter, blank_skipped, line_taken, no_line, no_more}
 use Rattle.box_file.proofs.line.lines.Goals as goal
 use Rattle.box_file.proofs.line.lines.Goals.{After-first_line}

@@ -1,6 +1,4 @@
-use Rattle.std.proofs.Common.{◌≡◌, map, length, ◌++◌}
-use Rattle.std.specs.Option.{option_map}
-use Rattle.box_file.specs.steps.Reading.{lines_in, line_tree}
+use Rattle.box_file.proofs.Names.{length, line_tree, lines_in, map, option_map, ◌++◌, ◌≡◌}
 use Rattle.box_file.proofs.line.lines.Given as goal
 
 abbrev pub invariant-loop-rest : goal.invariant-loop-rest

@@ -1,6 +1,4 @@
-use Rattle.std.proofs.Common.{◌≡◌, map, take}
-use Rattle.box_file.specs.steps.Reading.{interface_tree}
-use Rattle.box_file.specs.steps.Plant.{interface_of}
+use Rattle.box_file.proofs.Names.{interface_of, interface_tree, map, take, ◌≡◌}
 use Rattle.box_file.proofs.plant.copied.Given as goal
 
 abbrev pub invariant-loop-line : goal.invariant-loop-line

@@ -1,7 +1,4 @@
-use Rattle.std.proofs.Common.{◌≡◌, map, length}
-use Rattle.std.specs.Prelude.{find}
-use Rattle.box_file.specs.Box.{is_named}
-use Rattle.box_file.specs.steps.Plant.{interface_of}
+use Rattle.box_file.proofs.Names.{find, interface_of, is_named, length, map, ◌≡◌}
 use Rattle.box_file.proofs.plant.find_by_name.Given as goal
 
 abbrev pub invariant-loop-rest : goal.invariant-loop-rest

@@ -1,6 +1,4 @@
-use Rattle.std.proofs.Common.{◌≡◌, map, length}
-use Rattle.box_file.specs.Box.{index_of}
-use Rattle.box_file.specs.steps.Reading.{interface_tree}
+use Rattle.box_file.proofs.Names.{index_of, interface_tree, length, map, ◌≡◌}
 use Rattle.box_file.proofs.plant.index_of.Given as goal
 
 abbrev pub invariant-loop-rest : goal.invariant-loop-rest

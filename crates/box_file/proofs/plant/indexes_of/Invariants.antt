@@ -1,5 +1,4 @@
-use Rattle.std.proofs.Common.{◌≡◌, map, take}
-use Rattle.box_file.specs.steps.Plant.{interface_of}
+use Rattle.box_file.proofs.Names.{interface_of, map, take, ◌≡◌}
 use Rattle.box_file.proofs.plant.indexes_of.Given as goal
 
 abbrev pub invariant-loop-interface : goal.invariant-loop-interface

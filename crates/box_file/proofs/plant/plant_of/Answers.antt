@@ -1,5 +1,4 @@
-use Rattle.std.proofs.Common.{map}
-use Rattle.box_file.specs.steps.Reading.{line_tree}
+use Rattle.box_file.proofs.Names.{line_tree, map}
 use Rattle.box_file.proofs.PlantLaws.{each_indexed, each_route_indexed, entry_is_index}
 use Rattle.box_file.proofs.plant.plant_of.Goals as goal
 
@@ -15,6 +14,6 @@ invariant_of-result c =
       indexes = rw (c.in_ok-interfaces.ensures, c.deref-3.ensures.value, sorted.interfaces_are) (each_indexed ls c.requires.lines);
       routes_indexed = rw (c.in_ok-routes.ensures, c.deref-4.ensures.value, sorted.interfaces_are)
           (each_route_indexed ls c.requires.lines c.requires.names);
-      entry = rw (c.entering-entering.ensures, c.deref.ensures.value, c.deref-2.ensures.value, sorted.interfaces_are,
-      sorted.defaults_are) (entry_is_index ls c.requires.lines c.requires.names);
+      entry = rw (c.entering-entering.ensures, c.deref.ensures.value, c.deref-2.ensures.value, sorted.interfaces_are, sorted.defaults_are)
+          (entry_is_index ls c.requires.lines c.requires.names);
     }

@@ -1,8 +1,4 @@
-use Rattle.std.proofs.Common.{map, sym}
-use Rattle.std.proofs.lemmas.List.{append-nil, map_push}
-use Rattle.box_file.specs.Box.{route_of_line}
-use Rattle.box_file.specs.steps.Reading.{interface_tree, line_tree}
-use Rattle.box_file.specs.steps.Best.{route_entry}
+use Rattle.box_file.proofs.Names.{append-nil, interface_tree, line_tree, map, map_push, route_entry, route_of_line, sym}
 use Rattle.box_file.proofs.ListLaws.{IsAt, taken_if}
 use Rattle.box_file.proofs.plant.routes.Goals as goal
 use Rattle.box_file.proofs.plant.routes.Goals.{in-Some+in_ok-push, in_default}

@@ -1,8 +1,4 @@
-use Rattle.std.proofs.Common.{◌≡◌, map, take}
-use Rattle.std.specs.List.{filter_map}
-use Rattle.box_file.specs.Box.{route_of_line}
-use Rattle.box_file.specs.steps.Reading.{interface_tree, line_tree}
-use Rattle.box_file.specs.steps.Best.{route_entry}
+use Rattle.box_file.proofs.Names.{filter_map, interface_tree, line_tree, map, route_entry, route_of_line, take, ◌≡◌}
 use Rattle.box_file.proofs.plant.routes.Given as goal
 
 abbrev pub invariant-loop-line : goal.invariant-loop-line

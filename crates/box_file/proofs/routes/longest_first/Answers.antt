@@ -1,5 +1,4 @@
-use Rattle.std.proofs.Common.{rules, tests, subst}
-use Rattle.std.specs.List.Sorted.{IsStableBy}
+use Rattle.box_file.proofs.Names.{IsStableBy, rules, subst, tests}
 use Rattle.std.proofs.lemmas.Fn.{always_returns_same}
 use Rattle.box_file.proofs.BestLaws.{is_longer, longer_ranks, longest_first}
 use Rattle.box_file.proofs.routes.longest_first.Goals as goal

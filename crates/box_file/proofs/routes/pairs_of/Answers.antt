@@ -1,5 +1,4 @@
-use Rattle.std.proofs.Common.{◌+◌, map, take, subst, sym}
-use Rattle.box_file.specs.steps.Best.{route_entry, GivesFirst}
+use Rattle.box_file.proofs.Names.{GivesFirst, map, route_entry, subst, sym, take, ◌+◌}
 use Rattle.box_file.proofs.BestLaws.{gives_more}
 use Rattle.box_file.proofs.routes.pairs_of.Goals as goal
 

@@ -1,5 +1,4 @@
-use Rattle.std.proofs.Common.{map, take}
-use Rattle.box_file.specs.steps.Best.{route_entry, GivesFirst}
+use Rattle.box_file.proofs.Names.{GivesFirst, map, route_entry, take}
 use Rattle.box_file.proofs.routes.pairs_of.Given as goal
 
 abbrev pub invariant-loop-route : goal.invariant-loop-route

@@ -1,7 +1,4 @@
-use Rattle.std.proofs.Common.{◌∙◌, ap, map}
-use Rattle.std.proofs.lemmas.Result.{IfOk-weaker}
-use Rattle.set_intervals.specs.Pairs.{first_value}
-use Rattle.box_file.specs.steps.Best.{first_interface, route_entry}
+use Rattle.box_file.proofs.Names.{IfOk-weaker, ap, first_interface, first_value, map, route_entry, ◌∙◌}
 use Rattle.box_file.proofs.BestLaws.{first_is_best_interface}
 use Rattle.box_file.proofs.routes.table.Goals as goal
 

@@ -1,7 +1,4 @@
-use Rattle.std.proofs.Common.{rules, tests, ◌∙◌}
-use Rattle.std.proofs.lemmas.Iterator.{YieldsList-from_slice}
-use Rattle.std.proofs.lemmas.Iterator.Search.{position_from_yields_List}
-use Rattle.box_file.specs.steps.Reading.{begins_word}
+use Rattle.box_file.proofs.Names.{YieldsList-from_slice, begins_word, position_from_yields_List, rules, tests, ◌∙◌}
 use Rattle.box_file.proofs.WordLaws.{place_or_end}
 use Rattle.box_file.proofs.words.blanks.Goals as goal
 

@@ -1,9 +1,4 @@
-use Rattle.std.proofs.Common.{◌≡◌, ◌+◌, rules, tests, add-one, refl}
-use Rattle.std.specs.Prelude.{◌==◌}
-use Rattle.std.specs.List.{position}
-use Rattle.std.proofs.lemmas.Iterator.{YieldsList-from_slice}
-use Rattle.std.proofs.lemmas.Iterator.Search.{position_from_yields_List}
-use Rattle.list_laws.specs.Lists.{rest_from}
+use Rattle.box_file.proofs.Names.{YieldsList-from_slice, add-one, position, position_from_yields_List, refl, rest_from, rules, tests, ◌+◌, ◌==◌, ◌≡◌}
 use Rattle.box_file.proofs.words.cut.Goals as goal
 use Rattle.box_file.proofs.words.cut.Goals.{After-position}
 

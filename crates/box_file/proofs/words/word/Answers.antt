@@ -1,5 +1,4 @@
-use Rattle.std.proofs.Common.{◌<◌, arith}
-use Rattle.box_file.specs.steps.Reading.{ends_word}
+use Rattle.box_file.proofs.Names.{arith, ends_word, ◌<◌}
 use Rattle.box_file.proofs.WordLaws.{place_within, rest_at, no_word_in, word_in}
 use Rattle.box_file.proofs.words.word.Goals as goal
 

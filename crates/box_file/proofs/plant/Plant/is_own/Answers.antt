@@ -1,8 +1,5 @@
-use Rattle.std.proofs.Common.{map, ap, ◌∙◌}
-use Rattle.std.specs.Borrow.{Bor}
+use Rattle.box_file.proofs.Names.{Bor, ap, has_address, interface_of, is_own, map, ◌∙◌}
 use Rattle.box_file.specs.declared.plant.Interface.{Interface}
-use Rattle.box_file.specs.Box.{has_address, is_own}
-use Rattle.box_file.specs.steps.Plant.{interface_of}
 use Rattle.box_file.proofs.PlantLaws.{is_there}
 use Rattle.box_file.proofs.plant.Plant.is_own.Goals as goal
 

@@ -1,6 +1,4 @@
-use Rattle.std.proofs.Common.{map}
-use Rattle.box_file.specs.Box.{is_named}
-use Rattle.box_file.specs.steps.Plant.{interface_of}
+use Rattle.box_file.proofs.Names.{interface_of, is_named, map}
 use Rattle.box_file.proofs.PlantLaws.{number_found}
 use Rattle.box_file.proofs.plant.Plant.named.Goals as goal
 

@@ -1,6 +1,4 @@
-use Rattle.std.proofs.Common.{map}
-use Rattle.box_file.specs.Box.{has_address}
-use Rattle.box_file.specs.steps.Plant.{interface_of}
+use Rattle.box_file.proofs.Names.{has_address, interface_of, map}
 use Rattle.box_file.proofs.PlantLaws.{number_found}
 use Rattle.box_file.proofs.plant.Plant.owner.Goals as goal
 

@@ -1,5 +1,4 @@
-use Rattle.std.proofs.Common.{map, inl, inr, refl, sym}
-use Rattle.box_file.specs.steps.Reading.{line_tree}
+use Rattle.box_file.proofs.Names.{inl, inr, line_tree, map, refl, sym}
 use Rattle.box_file.proofs.LineLaws.{lines_found}
 use Rattle.box_file.proofs.BoxLaws.{none_read, idle_right}
 use Rattle.box_file.proofs.plant.Plant.read.Goals as goal

@@ -1,6 +1,4 @@
-use Rattle.std.proofs.Common.{◌∙◌, ap, map}
-use Rattle.set_intervals.specs.Pairs.{first_value}
-use Rattle.box_file.specs.steps.Best.{route_entry}
+use Rattle.box_file.proofs.Names.{ap, first_value, map, route_entry, ◌∙◌}
 use Rattle.box_file.proofs.PlantLaws.{route_found_index}
 use Rattle.box_file.proofs.plant.Plant.route.Goals as goal
 
