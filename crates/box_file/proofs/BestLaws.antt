@@ -1,10 +1,10 @@
 -- The first match in the sorted routes is the longest prefix match.
 use Rattle.box_file.proofs.Names.{Bool, GivesFirst, IsLongestFirst, IsSortedBy, IsStableBy, IsStrictWeakOrder, List, None, Option, RouteEntry, Some, []}
-use Rattle.box_file.proofs.Names.{and_from, and_parts, ap, arith, begin_of, best_interface, best_of, cases_eq, cases_lt, cond, covers, end_of, eq-eqb, eqb-true}
-use Rattle.box_file.proofs.Names.{false, filter, filter_agree, find, find-append, find-filter, first_interface, first_value, get_or, get_or-map, greatest}
-use Rattle.box_file.proofs.Names.{if◌then◌else◌, in_range, inl, inr, le-leb, leb, leb-true, length, length-map, ltb, ltb-false, map, map_more, max, nat_tests}
-use Rattle.box_file.proofs.Names.{ne_eqb, option_map, option_or, refl, route_entry, suc, sym, take, ties, true, ℕ, ⊎_elim, ◌%◌, ◌&&◌, ◌*◌, ◌++◌, ◌+◌, ◌-◌, ◌/◌}
-use Rattle.box_file.proofs.Names.{◌<◌, ◌==◌, ◌^◌, ◌∙◌, ◌∷◌, ◌≡◌, ◌≤◌}
+use Rattle.box_file.proofs.Names.{and_from, and_parts, ap, arith, begin_of, best_interface, best_of, cases_Bool, cases_eq, cases_lt, cond, covers, end_of}
+use Rattle.box_file.proofs.Names.{eq-eqb, eqb-true, false, filter, filter_agree, find, find-append, find-filter, first_interface, first_value, get_or}
+use Rattle.box_file.proofs.Names.{get_or-map, greatest, if◌then◌else◌, in_range, inl, inr, le-leb, leb, leb-true, length, length-map, ltb, ltb-false, map}
+use Rattle.box_file.proofs.Names.{map_more, max, nat_tests, ne_eqb, option_map, option_or, refl, route_entry, suc, sym, take, ties, true, ℕ, ⊎_elim, ◌%◌, ◌&&◌}
+use Rattle.box_file.proofs.Names.{◌*◌, ◌++◌, ◌+◌, ◌-◌, ◌/◌, ◌<◌, ◌==◌, ◌^◌, ◌∙◌, ◌∷◌, ◌≡◌, ◌≤◌}
 use Rattle.std.proofs.Math.Nat.{div-eq_of_lt-le, div-mul-le_self, lt-div-mul-add}
 use Rattle.std.proofs.Math.Pow.{pow_pos, pow_mono}
 use Rattle.std.proofs.lemmas.Nat.{div-add-mod'}
@@ -40,33 +40,21 @@ covered r w a low high =
 
 -- ---- one more route
 
-look_step : (b : Bool) (v : ℕ) (o p q : Option ℕ) → o ≡ option_or p q → (if b then Some v else o) ≡ option_or (if b then Some v else p) q
-look_step true v o p q e = refl
-look_step false v o p q e = e
-
 first_value-push : (xs : List (Range × ℕ)) (r : Range) (v a : ℕ)
     → first_value (xs ++ (r, v) ∷ []) a ≡ option_or (first_value xs a) (if in_range r a then Some v else None)
 first_value-push [] r v a = refl
-first_value-push (x ∷ xs) r v a = look_step (in_range x.0 a) x.1 (first_value (xs ++ (r, v) ∷ []) a) (first_value xs a)
-    (if in_range r a then Some v else None) (first_value-push xs r v a)
+first_value-push (x ∷ xs) r v a =
+    elim (cases_Bool (in_range x.0 a)) [ inl e ↦ rw e refl | inr e ↦ rw e (first_value-push xs r v a) ]
 
-interfaces_or : (o p : Option RouteEntry)
-    → option_map (λ r. r.interface) (option_or o p)
-    ≡ option_or (option_map (λ r. r.interface) o) (option_map (λ r. r.interface) p)
-interfaces_or None p = refl
-interfaces_or (Some r) p = refl
-
-only : (b : Bool) (w : RouteEntry) → option_map (λ r. r.interface) (if b then Some w else None) ≡ (if b then Some w.interface else None)
-only true w = refl
-only false w = refl
+interface_or : (o : Option RouteEntry) (b : Bool) (w : RouteEntry) → option_map (λ r. r.interface) (option_or o (if b then Some w else None))
+    ≡ option_or (option_map (λ r. r.interface) o) (if b then Some w.interface else None)
+interface_or None true w = refl
+interface_or None false w = refl
+interface_or (Some r) b w = refl
 
 first_interface-push : (ws : List RouteEntry) (w : RouteEntry) (a : ℕ)
-    → first_interface (ws ++ w ∷ []) a ≡ option_or (first_interface ws a)
-    (if covers a w then Some w.interface else None)
-first_interface-push ws w a =
-    ap (option_map (λ (r : RouteEntry). r.interface)) (find-append (covers a) ws (w ∷ []))
-    ∙ interfaces_or (find (covers a) ws) (if covers a w then Some w else None)
-    ∙ ap (λ o. option_or (first_interface ws a) o) (only (covers a w) w)
+    → first_interface (ws ++ w ∷ []) a ≡ option_or (first_interface ws a) (if covers a w then Some w.interface else None)
+first_interface-push ws w a = rw (find-append (covers a) ws (w ∷ [])) (interface_or (find (covers a) ws) (covers a w) w)
 
 pub gives_more : (pairs : List (Range × ℕ)) (routes : List Route) (i : ℕ) (d : Route) (r : Range) → i < length routes
     → r.low ≡ begin_of (route_entry (get_or routes i d)) → r.high + 1 ≡ end_of (route_entry (get_or routes i d))
@@ -74,12 +62,8 @@ pub gives_more : (pairs : List (Range × ℕ)) (routes : List Route) (i : ℕ) (
     → GivesFirst (pairs ++ (r, (get_or routes i d).interface) ∷ []) (map route_entry (take (i + 1) routes))
 gives_more pairs routes i d r lt low high gives a =
     let w = route_entry (get_or routes i d) in
-    first_value-push pairs r w.interface a
-    ∙ ap (λ o. option_or o (if in_range r a then Some w.interface else None)) (gives a)
-    ∙ ap (λ b. option_or (first_interface (map route_entry (take i routes)) a) (if b then Some w.interface else None))
-    (covered r w a low high)
-    ∙ sym (first_interface-push (map route_entry (take i routes)) w a)
-    ∙ ap (λ ws. first_interface ws a) (sym (map_more route_entry routes i d lt))
+    rw (first_value-push pairs r w.interface a, gives a, covered r w a low high, map_more route_entry routes i d lt)
+    (sym (first_interface-push (map route_entry (take i routes)) w a))
 
 -- ---- the greatest prefix
 
@@ -142,10 +126,7 @@ first_is_best p (r ∷ rs) falling =
     let most = filtered p r.prefix rs (λ j d lt. falling 0 (suc j) d (omega arith) (omega arith)) in
     let rest = first_is_best p rs (λ i j d le lt. falling (suc i) (suc j) d (omega arith) (omega arith)) in
     let longest : (r.prefix == max r.prefix (greatest (filter p rs))) ≡ true = eq-eqb _ _ (omega arith) in
-    elim (p r) as (λ b. cond b (Some r) (find p rs) ≡ best_of (cond b (r ∷ filter p rs) (filter p rs))) [
-      | true ↦ rw longest refl
-      | false ↦ rest
-    ]
+    elim (cases_Bool (p r)) [ inl e ↦ rw (e, longest) refl | inr e ↦ rw e rest ]
 
 pub first_is_best_interface : (routes sorted : List RouteEntry) → IsLongestFirst routes sorted → (a : ℕ)
     → first_interface sorted a ≡ best_interface routes a
@@ -171,9 +152,7 @@ mapped_filter : (p : RouteEntry → Bool) (rs : List Route)
 mapped_filter p [] = refl
 mapped_filter p (r ∷ rs) =
     let rest = mapped_filter p rs in
-    let kept = filter (λ x. p (route_entry x)) rs in
-    elim (p (route_entry r)) as (λ b. cond b (route_entry r ∷ filter p (map route_entry rs)) (filter p (map route_entry rs))
-    ≡ map route_entry (cond b (r ∷ kept) kept)) [ true ↦ ap (λ l. route_entry r ∷ l) rest | false ↦ rest ]
+    elim (cases_Bool (p (route_entry r))) [ inl e ↦ rw e (ap (λ l. route_entry r ∷ l) rest) | inr e ↦ rw e rest ]
 
 tie_is : (n : ℕ) (r : Route) → (r.prefix == n) ≡ ties is_longer (record { address = 0; prefix = n; interface = 0 }) r
 tie_is n r = grind (arith, nat_tests)

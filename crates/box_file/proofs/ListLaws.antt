@@ -1,7 +1,7 @@
 -- Searches in lists, and one more line, as in an iteration of a loop.
-use Rattle.box_file.proofs.Names.{AllByRecursion, Bool, IfSome, List, Option, Some, [], ap, cond, cond_both, cons_option, false, filter_map, filter_map-append}
-use Rattle.box_file.proofs.Names.{find, get_or, is_some, length, list_any, map, map_more, or_parts, refl, sym, take, true, ℕ, ◌++◌, ◌+◌, ◌<◌, ◌||◌, ◌∙◌, ◌∷◌}
-use Rattle.box_file.proofs.Names.{◌≡◌}
+use Rattle.box_file.proofs.Names.{AllByRecursion, Bool, IfSome, List, Option, Some, [], ap, cases_Bool, cond, cond_both, cons_option, false, filter_map}
+use Rattle.box_file.proofs.Names.{filter_map-append, find, get_or, inl, inr, is_some, length, list_any, map, map_more, or_parts, refl, sym, take, true, ℕ, ◌++◌}
+use Rattle.box_file.proofs.Names.{◌+◌, ◌<◌, ◌||◌, ◌∙◌, ◌∷◌, ◌≡◌}
 
 -- what holds of each element holds of the one that a search finds
 pub found_all : {A : Type 0} (P : A → Type 0) (p : A → Bool) (xs : List A) → AllByRecursion P xs → IfSome (find p xs) P
@@ -14,9 +14,7 @@ each_fails p (x ∷ xs) e = let h = or_parts (p x) (list_any p xs) e in (h.0, ea
 
 pub some-found : {A : Type 0} (p : A → Bool) (xs : List A) → is_some (find p xs) ≡ list_any p xs
 some-found p [] = refl
-some-found p (x ∷ xs) =
-    let rest = some-found p xs in
-    elim (p x) as (λ v. is_some (cond v (Some x) (find p xs)) ≡ v || list_any p xs) [ true ↦ refl | false ↦ rest ]
+some-found p (x ∷ xs) = elim (cases_Bool (p x)) [ inl e ↦ rw e refl | inr e ↦ rw e (some-found p xs) ]
 
 -- a loop over the list is at this index, with this element
 pub record IsAt {X : Type 0} (xs : List X) (i : ℕ) (x : X) : Type 0 where

@@ -1,8 +1,9 @@
 -- The lines of a text, one after another.
-use Rattle.box_file.proofs.Names.{Bool, Line, List, None, Option, Some, [], all_in, ap, append-nil, append_assoc, arith, cases_lt, cond, drop, drop_all}
-use Rattle.box_file.proofs.Names.{eqb-true, false, filter, first_line, is_newline, is_nonempty, le-ltb, length, length-drop, line_in, line_of, lines_in}
-use Rattle.box_file.proofs.Names.{lines_of, lt-ltb, map, nat_tests, nil_from_length, not, one-add, onto_first, option_map, parts_of, position_or_len, refl, suc}
-use Rattle.box_file.proofs.Names.{sym, take, take_all, true, uncons, words_of, ℕ, ⊎_elim, ◌++◌, ◌+◌, ◌<◌, ◌==◌, ◌>>=◌, ◌∙◌, ◌∷◌, ◌≡◌}
+use Rattle.box_file.proofs.Names.{Bool, Line, List, None, Option, Some, [], all_in, ap, append-nil, append_assoc, arith, cases_Bool, cases_lt, cond, drop}
+use Rattle.box_file.proofs.Names.{drop_all, eqb-true, false, filter, first_line, inl, inr, is_newline, is_nonempty, le-ltb, length, length-drop, line_in}
+use Rattle.box_file.proofs.Names.{line_of, lines_in, lines_of, lt-ltb, map, nat_tests, nil_from_length, not, one-add, onto_first, option_map, parts_of}
+use Rattle.box_file.proofs.Names.{position_or_len, refl, suc, sym, take, take_all, true, uncons, words_of, ℕ, ⊎_elim, ◌++◌, ◌+◌, ◌<◌, ◌==◌, ◌>>=◌, ◌∙◌, ◌∷◌}
+use Rattle.box_file.proofs.Names.{◌≡◌}
 
 pub some_left : (ts : List ℕ) (r : Bool) → r ≡ (length ts == 0) → r ≡ false → 0 < length ts
 some_left ts r e f = grind (arith, nat_tests)
@@ -14,18 +15,11 @@ none_left ts r e f = nil_from_length ts (eqb-true _ _ (sym e ∙ f))
 
 parts_first : (ends : ℕ → Bool) (b : ℕ) (bs : List ℕ) → parts_of ends (b ∷ bs)
     ≡ take (position_or_len ends (b ∷ bs)) (b ∷ bs) ∷ parts_of ends (drop (suc (position_or_len ends (b ∷ bs))) (b ∷ bs))
-parts_first ends b [] =
-    elim (ends b) as (λ v. cond v ([] ∷ []) ((b ∷ []) ∷ []) ≡ take (cond (not v) (1 + 0) 0) (b ∷ [])
-    ∷ parts_of ends (drop (suc (cond (not v) (1 + 0) 0)) (b ∷ []))) [ true ↦ refl | false ↦ refl ]
-parts_first ends b (c ∷ cs) =
-    let n = position_or_len ends (c ∷ cs) in
-    let more : onto_first b (parts_of ends (c ∷ cs)) ≡ take (1 + n) (b ∷ c ∷ cs) ∷ parts_of ends (drop (1 + n) (c ∷ cs)) =
-    rw one-add (ap (onto_first b) (parts_first ends c cs)) in
-    elim (ends b) as (λ v. cond v ([] ∷ parts_of ends (c ∷ cs)) (onto_first b (parts_of ends (c ∷ cs)))
-    ≡ take (cond (not v) (1 + n) 0) (b ∷ c ∷ cs) ∷ parts_of ends (drop (suc (cond (not v) (1 + n) 0)) (b ∷ c ∷ cs))) [
-      | true ↦ refl
-      | false ↦ more
-    ]
+parts_first ends b [] = elim (cases_Bool (ends b)) [ inl e ↦ rw e refl | inr e ↦ rw e refl ]
+parts_first ends b (c ∷ cs) = elim (cases_Bool (ends b)) [
+  | inl e ↦ rw e refl
+  | inr e ↦ rw (e, one-add) (ap (onto_first b) (parts_first ends c cs))
+]
 
 first_parts : (ts : List ℕ) → first_line ts
     ≡ (take (position_or_len is_newline ts) ts, drop (suc (position_or_len is_newline ts)) ts)

@@ -1,8 +1,8 @@
 -- The first word of a line, and the rest.
-use Rattle.box_file.proofs.Names.{Bool, List, None, Option, Some, [], ap, arith, before_comment, begins_word, cond, cond_both, drop, ends_word, false}
-use Rattle.box_file.proofs.Names.{false_from_ne_true, false≢true, filter, is_blank, is_nonempty, length, ltb, ltb-false, ne_eqb, not, not-true, one-add}
-use Rattle.box_file.proofs.Names.{onto_first, or_parts, parts_of, position_or_len, refl, rest_from, suc, sym, take, true, true_from_ne_false, uncons, unwrap_or}
-use Rattle.box_file.proofs.Names.{words_of, ℕ, ◌+◌, ◌-◌, ◌<◌, ◌==◌, ◌∙◌, ◌∷◌, ◌≡◌, ◌≤◌}
+use Rattle.box_file.proofs.Names.{Bool, List, None, Option, Some, [], ap, arith, before_comment, begins_word, cases_Bool, cond, cond_both, drop, ends_word}
+use Rattle.box_file.proofs.Names.{eqb-true, false, false_from_ne_true, false≢true, filter, inl, inr, is_blank, is_nonempty, length, ltb, ltb-false, ne_eqb, not}
+use Rattle.box_file.proofs.Names.{not-true, one-add, onto_first, or_parts, parts_of, position_or_len, refl, rest_from, suc, sym, take, true, true_from_ne_false}
+use Rattle.box_file.proofs.Names.{uncons, unwrap_or, words_of, ℕ, ◌+◌, ◌-◌, ◌<◌, ◌==◌, ◌∙◌, ◌∷◌, ◌≡◌, ◌≤◌}
 
 -- ---- indexes
 
@@ -33,21 +33,15 @@ first_passes p b bs none = true_from_ne_false (p b) (λ e. let some : 1 + positi
 -- leading blanks make no word
 skip_blanks : (ts : List ℕ) → words_of (drop (position_or_len begins_word ts) ts) ≡ words_of ts
 skip_blanks [] = refl
-skip_blanks (b ∷ bs) = step (is_blank b) refl (skip_blanks bs)
-  where
-    step : (v : Bool) → is_blank b ≡ v → words_of (drop (position_or_len begins_word bs) bs) ≡ words_of bs
-        → words_of (drop (position_or_len begins_word (b ∷ bs)) (b ∷ bs)) ≡ words_of (b ∷ bs)
-    step true e h = rw (e, one-add, ne_eqb b 35 (λ same. false≢true (rw same at e)), e) h
-    step false e h = rw e refl
+skip_blanks (b ∷ bs) = elim (cases_Bool (is_blank b)) [
+  | inl e ↦ rw (e, one-add, ne_eqb b 35 (λ same. false≢true (rw same at e)), e) (skip_blanks bs)
+  | inr e ↦ rw e refl
+]
 
 no_blank_left : (ts : List ℕ) → position_or_len begins_word (drop (position_or_len begins_word ts) ts) ≡ 0
 no_blank_left [] = refl
-no_blank_left (b ∷ bs) = step (is_blank b) refl (no_blank_left bs)
-  where
-    step : (v : Bool) → is_blank b ≡ v → position_or_len begins_word (drop (position_or_len begins_word bs) bs) ≡ 0
-        → position_or_len begins_word (drop (position_or_len begins_word (b ∷ bs)) (b ∷ bs)) ≡ 0
-    step true e h = rw (e, one-add) h
-    step false e h = rw e (rw e refl)
+no_blank_left (b ∷ bs) =
+    elim (cases_Bool (is_blank b)) [ inl e ↦ rw (e, one-add) (no_blank_left bs) | inr e ↦ rw e (rw e refl) ]
 
 -- ---- the first word
 
@@ -62,8 +56,7 @@ WordFront b ts = filter is_nonempty (onto_first b (parts_of is_blank (before_com
     ≡ (b ∷ take (position_or_len ends_word ts) ts) ∷ words_of (drop (position_or_len ends_word ts) ts)
 
 front_step : (b c : ℕ) (cs : List ℕ) (s v : Bool) → (c == 35) ≡ s → is_blank c ≡ v → WordFront c cs → WordFront b (c ∷ cs)
-front_step b c cs true true es ev h = rw (ev, es) refl
-front_step b c cs true false es ev h = rw (ev, es, es) refl
+front_step b c cs true v es ev h = let same : c ≡ 35 = eqb-true c 35 es in rw same refl
 front_step b c cs false true es ev h = rw (ev, es, ev) refl
 front_step b c cs false false es ev h =
     rw (es, ev, one-add) (onto_words b c (parts_of is_blank (before_comment cs)) ∙ ap (onto_first b) h)

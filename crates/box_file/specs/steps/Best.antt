@@ -1,6 +1,5 @@
 -- Longest prefix match as the first match in the routes sorted by the length of their prefixes.
-use Rattle.std.specs.Prelude.{◌≡◌, ℕ, ◌+◌, ◌-◌, ◌*◌, ◌/◌, ◌^◌, ◌<◌, ◌≤◌, ◌==◌, List, length}
-use Rattle.std.specs.Prelude.{filter, find, Option, slice_index_or}
+use Rattle.std.specs.Prelude.{◌≡◌, ℕ, ◌+◌, ◌-◌, ◌*◌, ◌/◌, ◌^◌, ◌<◌, ◌≤◌, ◌==◌, List, length, filter, find, Option, slice_index_or}
 use Rattle.std.specs.Option.{option_map}
 use Rattle.set_intervals.specs.declared.range.Range.{Range}
 use Rattle.set_intervals.specs.Pairs.{first_value}

@@ -5,8 +5,7 @@ use Rattle.box_file.specs.declared.plant.Interface as kept
 use Rattle.set_intervals.specs.declared.range.Range.{Range}
 use Rattle.box_file.specs.declared.routes.Route.{Route}
 use Rattle.box_file.specs.declared.limits.Limits.{Limits}
-use Rattle.box_file.specs.Box.{Interface, RouteEntry, PlantTree, Line, IsIndex, interfaces_in}
-use Rattle.box_file.specs.Box.{routes_in, defaults_in, is_malformed, has_unknown}
+use Rattle.box_file.specs.Box.{Interface, RouteEntry, PlantTree, Line, IsIndex, interfaces_in, routes_in, defaults_in, is_malformed, has_unknown}
 use Rattle.box_file.specs.steps.Best.{route_entry, GivesBest}
 
 abbrev pub interface_of : kept.Interface → Interface

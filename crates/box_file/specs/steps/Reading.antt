@@ -1,7 +1,6 @@
 -- Parsing a box file from left to right: what the code computes, as functions on lists.
-use Rattle.std.specs.Prelude.{ℕ, ◌+◌, ◌*◌, ◌-◌, ◌^◌, ◌%◌, ◌==◌, ◌&&◌, ◌||◌, not, nat_lt, Bool}
-use Rattle.std.specs.Prelude.{true, false, List, [], ◌∷◌, length, map, filter, Option, Some, None}
-use Rattle.std.specs.Prelude.{unwrap_or, if◌then◌else◌, codes}
+use Rattle.std.specs.Prelude.{ℕ, ◌+◌, ◌*◌, ◌-◌, ◌^◌, ◌%◌, ◌==◌, ◌&&◌, ◌||◌, not, nat_lt, Bool, true, false, List, [], ◌∷◌, length, map, filter, Option, Some}
+use Rattle.std.specs.Prelude.{None, unwrap_or, if◌then◌else◌, codes}
 use Rattle.std.specs.List.{list_all, position}
 use Rattle.std.proofs.Common.{suc, take, drop}
 use Rattle.std.specs.Option.{option_map}
@@ -16,8 +15,7 @@ use Rattle.box_file.specs.declared.line.Line as kept
 use Rattle.box_file.specs.declared.line.Line.TheVariants as lines
 use Rattle.box_file.specs.Text.{is_blank, is_numeral, is_nonempty, words_of, lines_of}
 use Rattle.box_file.specs.Idle.{word_of}
-use Rattle.box_file.specs.Box.{Interface, NamedRoute, Idle, Line, interface_line, route_line}
-use Rattle.box_file.specs.Box.{default_line, idle_line, is_name_byte, same_text}
+use Rattle.box_file.specs.Box.{Interface, NamedRoute, Idle, Line, interface_line, route_line, default_line, idle_line, is_name_byte, same_text}
 
 -- ---- lines without their borrows
 

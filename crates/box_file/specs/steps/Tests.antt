@@ -4,8 +4,7 @@ use Rattle.std.specs.List.{list_any}
 use Rattle.std.specs.Borrow.{Bor}
 use Rattle.std.specs.Cmp.Lexicographic.{pointwise}
 use Rattle.std.specs.HashSet.{HashSet, contains}
-use Rattle.box_file.specs.Box.{Interface, NamedRoute, Idle, Line, interfaces_in, is_named}
-use Rattle.box_file.specs.Box.{routes_in, defaults_in, idles_in, is_malformed, is_repeated}
+use Rattle.box_file.specs.Box.{Interface, NamedRoute, Idle, Line, interfaces_in, is_named, routes_in, defaults_in, idles_in, is_malformed, is_repeated}
 use Rattle.box_file.specs.Box.{has_unknown, is_too_large, is_out_of_range}
 use Rattle.box_file.specs.declared.fault.BoxFault.{BoxFault}
 use Rattle.box_file.specs.declared.fault.BoxFault.TheVariants as faults
