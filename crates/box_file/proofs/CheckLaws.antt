@@ -10,7 +10,7 @@ use Rattle.box_file.proofs.RepeatLaws.{seen_more}
 -- ---- repeats
 
 -- a test of lines as a test of what they mean
-any-mapped : {L T : Type 0} (h : L → T) (u : L → Bool) (t : T → Bool) → ((l : L) → u l ≡ t (h l)) → (ls : List L)
+pub any-mapped : {L T : Type 0} (h : L → T) (u : L → Bool) (t : T → Bool) → ((l : L) → u l ≡ t (h l)) → (ls : List L)
     → list_any u ls ≡ list_any t (map h ls)
 any-mapped h u t same [] = refl
 any-mapped h u t same (l ∷ ls) = rw (same l, any-mapped h u t same ls) refl
@@ -41,14 +41,5 @@ name_more n is i e old new lt was now =
     seen_more interface_tree (record { within = lt; item = get_or_default is i e (get_or is i e) lt }) (is_named n) old new was
     (now ∙ ap (λ v. cond v true old) (same_text-pointwise (get_or is i e).name.now n))
 
-module _ {S : Type 0} (known : HashSet (Bor (List ℕ)) S) (is : List Interface) (knows : Knows known is) where
-  abbrev pub has : Bor (List ℕ) → Bool
-  has n = contains (λ x y. pointwise nat_eq x.now y.now) known n
-
-  pub unknown_routes : (ls : List RouteLine)
-      → list_any (λ l. not (has l.name)) ls ≡ list_any (λ r. is_unknown is r.name) (map route_tree ls)
-  unknown_routes ls = any-mapped route_tree (λ l. not (has l.name)) (λ r. is_unknown is r.name) (λ l. ap not (knows l.name)) ls
-
-  pub unknown_defaults : (ns : List (Bor (List ℕ)))
-      → list_any (λ n. not (has n)) ns ≡ list_any (is_unknown is) (map (λ n. n.now) ns)
-  unknown_defaults ns = any-mapped (λ n. n.now) (λ n. not (has n)) (is_unknown is) (λ n. ap not (knows n)) ns
+abbrev pub has : {S : Type 0} → HashSet (Bor (List ℕ)) S → Bor (List ℕ) → Bool
+has known n = contains (λ x y. pointwise nat_eq x.now y.now) known n

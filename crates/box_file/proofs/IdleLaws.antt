@@ -22,17 +22,14 @@ same_made m n e p =
     let P : Numbers → Type 0 = λ k. (q : IsTrue (are_positive k)) → made m p ≡ made k q in
     subst P e (λ q. ap (made m) (Bool-set _ _ p q))
 
+abbrev numbers : Limits → Numbers
+numbers l = (l.established, l.transitory, l.udp, l.echo, l.other)
+
 pub same_limits : (l m : Limits) → ((k : IdleKind) → limit_for l k ≡ limit_for m k) → l ≡ m
 same_limits l m same =
-    let e = same kinds.Established in
-    let t = same kinds.Transitory in
-    let u = same kinds.Udp in
-    let a = same kinds.Echo in
-    let o = same kinds.Other in
-    let all : ◌≡◌ {A = Numbers} (l.established, l.transitory, l.udp, l.echo, l.other)
-    (m.established, m.transitory, m.udp, m.echo, m.other) = cc in
-    same_made (l.established, l.transitory, l.udp, l.echo, l.other)
-    (m.established, m.transitory, m.udp, m.echo, m.other) all l.positive m.positive
+    let all : numbers l ≡ numbers m =
+    cc (same kinds.Established, same kinds.Transitory, same kinds.Udp, same kinds.Echo, same kinds.Other) in
+    same_made (numbers l) (numbers m) all l.positive m.positive
 
 -- ---- lines in range
 

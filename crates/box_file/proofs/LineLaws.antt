@@ -209,14 +209,6 @@ interface_found ws =
       rw (ea, eb, ec, none_left c.1 h.0, ei.0, en.0, ep.0) refl,
     ))))))))
 
-interface_only : (i : Interface) → IsLine (interface_line i)
-    → interface_words (decimal i.index ∷ i.name ∷ dotted_prefix i.address i.prefix ∷ []) ≡ Some (interface_line i)
-unfolding interface_words
-interface_only i h =
-    let index = number_only i.index (omega arith) in
-    let prefix = prefixed_only i.address i.prefix h.3 h.5 in
-    rw (index, name_only i.name h.2, prefix, lt-ltb 0 i.index h.0, lt-ltb i.index 2147483648 h.1, lt-ltb 0 i.prefix h.4) refl
-
 route_found : (ws : List (List ℕ)) → IfSome (route_words ws) (λ l. IsLine l × (words_in l ≡ codes "route" ∷ ws))
 unfolding route_words
 route_found ws =
@@ -228,20 +220,12 @@ route_found ws =
     let f = and_parts (has_none b.1) (p.0 % 2 ^ (32 - p.1) == 0) e in
     ((ep.1, ep.2, eqb-true _ _ f.1, en.1), rw (ea, eb, none_left b.1 f.0, en.0, ep.0) refl))))))
 
-route_only : (r : NamedRoute) → IsLine (route_line r) → route_words (dotted_prefix r.address r.prefix ∷ r.name ∷ []) ≡ Some (route_line r)
-unfolding route_words
-route_only r h = rw (prefixed_only r.address r.prefix h.0 h.1, name_only r.name h.3, h.2) refl
-
 default_found : (ws : List (List ℕ)) → IfSome (default_words ws) (λ l. IsLine l × (words_in l ≡ codes "default" ∷ ws))
 unfolding default_words
 default_found ws =
     IfSome_bind _ (uncons ws) _ (uncons_found ws) (λ a ea.
     IfSome_bind _ (name_in a.0) _ (name_found a.0) (λ n en.
     IfSome_cond _ (has_none a.1) (default_line n) (λ e. (en.1, rw (ea, none_left a.1 e, en.0) refl))))
-
-default_only : (n : List ℕ) → IsName n → default_words (n ∷ []) ≡ Some (default_line n)
-unfolding default_words
-default_only n h = rw (name_only n h) refl
 
 -- a choice by a word
 named : {A : Type 0} (Q : A → Type 0) (text word : List ℕ) (o p : Option A) → (text ≡ word → IfSome o Q) → IfSome p Q
@@ -271,10 +255,6 @@ idle_found ws =
     let f = and_parts (has_none b.1) (is_numeral b.0) e in
     (f.1, rw (ea, eb, none_left b.1 f.0, ek) refl)))))
 
-idle_only : (i : Idle) → IsLine (idle_line i) → idle_words (word_of i.kind ∷ i.digits ∷ []) ≡ Some (idle_line i)
-unfolding idle_words
-idle_only i h = rw (kind_only i.kind, h) refl
-
 line_of_found : (word : List ℕ) (ws : List (List ℕ)) → IfSome (line_of word ws) (λ l. IsLine l × (words_in l ≡ word ∷ ws))
 line_of_found word ws =
     named _ word (codes "interface") (interface_words ws) _ (λ e. rw e (interface_found ws))
@@ -287,11 +267,14 @@ unfolding line_in
 line_found ws = IfSome_bind _ (uncons ws) _ (uncons_found ws) (λ a ea. rw ea (line_of_found a.0 a.1))
 
 line_only : (l : Line) → IsLine l → line_in (words_in l) ≡ Some l
-unfolding line_in
-line_only (interface_line i) h = interface_only i h
-line_only (route_line r) h = route_only r h
-line_only (default_line n) h = default_only n h
-line_only (idle_line i) h = idle_only i h
+unfolding line_in interface_words route_words default_words idle_words
+line_only (interface_line i) h =
+    let index = number_only i.index (omega arith) in
+    let prefix = prefixed_only i.address i.prefix h.3 h.5 in
+    rw (index, name_only i.name h.2, prefix, lt-ltb 0 i.index h.0, lt-ltb i.index 2147483648 h.1, lt-ltb 0 i.prefix h.4) refl
+line_only (route_line r) h = rw (prefixed_only r.address r.prefix h.0 h.1, name_only r.name h.3, h.2) refl
+line_only (default_line n) h = rw (name_only n h) refl
+line_only (idle_line i) h = rw (kind_only i.kind, h) refl
 
 -- ---- texts
 

@@ -1,11 +1,11 @@
 -- The results of std's calls in terms of the parsers: texts, numbers.
-use Rattle.box_file.proofs.Names.{Err, IsAscii-from_digits, List, MatchResult, None, Ok, ParsesUnsigned, Result, Some, [], and_parts, ap, arith, cond-false}
-use Rattle.box_file.proofs.Names.{digits_value, eqb, false, false_from_ne_true, is_ascii_digit, is_numeral, length, list_all, lt-ltb, ltb-true, nat_lt}
-use Rattle.box_file.proofs.Names.{number_in, pointwise, refl, rules, same_text, subst, sym, true, ℕ, ◌&&◌, ◌<◌, ◌^◌, ◌∙◌, ◌∷◌, ◌≡◌}
+use Rattle.box_file.proofs.Names.{Err, IsAscii-from_digits, List, MatchResult, None, Ok, Result, Some, [], and_parts, ap, arith, cond-false, digits_value, eqb}
+use Rattle.box_file.proofs.Names.{false, false_from_ne_true, is_ascii_digit, is_numeral, length, list_all, lt-ltb, ltb-true, nat_lt, number_in, pointwise, refl}
+use Rattle.box_file.proofs.Names.{rules, same_text, subst, sym, true, ℕ, ◌&&◌, ◌<◌, ◌^◌, ◌∙◌, ◌∷◌, ◌≡◌}
 use Rattle.std.specs.Result.{result_ok, OkIff}
 use Rattle.std.specs.Str.{IsUtf8}
 use Rattle.std.proofs.lemmas.Str.{IsUtf8-from_ascii}
-use Rattle.std.proofs.lemmas.Str.Parse.{IsNumeralModel, numerals_by_value, parse_digits}
+use Rattle.std.proofs.lemmas.Str.Parse.{IsNumeralModel, numerals_by_value}
 
 -- ---- texts
 
@@ -43,15 +43,9 @@ numeral_is_text ds e = IsUtf8-from_ascii ds (IsAscii-from_digits ds (digits.to d
 pub number_is : {E : Type 0} (ds : List ℕ) (r : Result ℕ E) → is_numeral ds ≡ true
     → OkIff r ((0 < length ds) × (digits_value 10 ds < 2 ^ 32)) (digits_value 10 ds) → result_ok r ≡ number_in ds
 unfolding number_in
-number_is ds (Ok x) e h =
-    let small : nat_lt (digits_value 10 ds) 4294967296 ≡ true = lt-ltb _ _ h.0.1 in
-    rw (e, small, h.1) refl
+number_is ds (Ok x) e h = rw (e, lt-ltb (digits_value 10 ds) 4294967296 h.0.1, h.1) refl
 number_is ds (Err x) e h =
     let plain = numeral_digits ds e in
     sym (cond-false _ _ _ (false_from_ne_true _ (λ k. h (plain.1, ltb-true _ _ (and_parts (is_numeral ds) _ k).1))))
-
-pub number_parsed : {E : Type 0} (ds : List ℕ) (r : Result ℕ E) → is_numeral ds ≡ true → ParsesUnsigned 32 10 ds r
-    → result_ok r ≡ number_in ds
-number_parsed ds r e h = number_is ds r e (parse_digits digits 32 ds r h (numeral_digits ds e).0)
 
 pub ruleset text_tests = (same_text-pointwise)

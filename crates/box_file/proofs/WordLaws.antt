@@ -10,7 +10,7 @@ pub place_within : (p : ℕ → Bool) (ts : List ℕ) → position_or_len p ts �
 place_within p [] = omega arith
 place_within p (b ∷ bs) =
     let next = place_within p bs in
-    elim (p b) as (λ v. cond (not v) (1 + position_or_len p bs) 0 ≤ suc (length bs)) [ true ↦ omega arith | false ↦ omega arith ]
+    elim (cases_Bool (p b)) [ inl e ↦ rw e (omega arith) | inr e ↦ rw e (omega arith) ]
 
 -- the index that `position` gave, or the end
 pub place_or_end : (p : ℕ → Bool) (ts : List ℕ) (r : Option ℕ)

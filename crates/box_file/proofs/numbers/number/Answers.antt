@@ -1,5 +1,6 @@
-use Rattle.std.proofs.Common.{sym, ◌∙◌}
-use Rattle.box_file.proofs.NumberLaws.{number_parsed, numeral_is_text, ok_holds, err_holds}
+use Rattle.box_file.proofs.Names.{sym, ◌∙◌}
+use Rattle.std.proofs.lemmas.Str.Parse.{parse_digits}
+use Rattle.box_file.proofs.NumberLaws.{digits, number_is, numeral_digits, numeral_is_text, ok_holds, err_holds}
 use Rattle.box_file.proofs.numbers.number.Goals as goal
 
 pub returns-in_err-ok : goal.returns-in_err-ok
@@ -10,5 +11,6 @@ returns-in_err-ok c =
 pub returns : goal.returns
 returns c =
     let same = ok_holds _ _ c.from_utf8.result c.in_ok-ok.field-0 c.from_utf8.ensures.cases (sym c.ok.ensures.value ∙ c.in_ok-ok.was) in
-    c.ok-2.ensures.value ∙ number_parsed c.args.bytes.now c.parse.result
-    (sym c.is_numeral.ensures ∙ c.if-not-is_numeral.false) (rw same.0 at c.parse.ensures.value.0)
+    let numeral = sym c.is_numeral.ensures ∙ c.if-not-is_numeral.false in
+    c.ok-2.ensures.value ∙ number_is c.args.bytes.now c.parse.result numeral (parse_digits digits 32 c.args.bytes.now c.parse.result
+    (rw same.0 at c.parse.ensures.value.0) (numeral_digits c.args.bytes.now numeral).0)
