@@ -278,16 +278,15 @@ line_only (idle_line i) h = rw (kind_only i.kind, h) refl
 
 -- ---- texts
 
-next_found : (t : List (List ℕ)) (l : Line) (ts : List (List (List ℕ))) (o : Option (List Line))
-    → IsLine l × (words_in l ≡ t) → IfSome o (λ ls. each_is_line ls × (ts ≡ map words_in ls))
-    → IfSome {T = List Line} (option_map (λ ls. l ∷ ls) o) (λ ls. each_is_line ls × (t ∷ ts ≡ map words_in ls))
-next_found t l ts None h k = tt
-next_found t l ts (Some ls) h k = let head = sym h.1 in let tail = k.1 in ((h.0, k.0), cc)
-
 each_found : (ts : List (List (List ℕ))) → IfSome (all_in ts) (λ ls. each_is_line ls × (ts ≡ map words_in ls))
 unfolding all_in
 each_found [] = (tt, refl)
-each_found (t ∷ ts) = IfSome_bind _ (line_in t) _ (line_found t) (λ l el. next_found t l ts (all_in ts) el (each_found ts))
+each_found (t ∷ ts) =
+    IfSome_bind _ (line_in t) _ (line_found t) (λ l el.
+    IfSome_bind _ (all_in ts) _ (each_found ts) (λ ls els.
+    let head = sym el.1 in
+    let tail = els.1 in
+    ((el.0, els.0), cc)))
 
 each_only : (ls : List Line) → each_is_line ls → all_in (map words_in ls) ≡ Some ls
 unfolding all_in

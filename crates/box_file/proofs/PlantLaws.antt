@@ -65,10 +65,6 @@ pub number_found : (p : Interface → Bool) (is : List Interface) (i : Interface
 number_found p is i h e =
     IfSome_at (find p is) (λ j. IsIndex j.index) i (sym e) (found_all (λ j. IsIndex j.index) p is h)
 
-some-map : {A B : Type 0} (f : A → B) (o : Option A) → is_some (option_map f o) ≡ is_some o
+pub some-map : {A B : Type 0} (f : A → B) (o : Option A) → is_some (option_map f o) ≡ is_some o
 some-map f None = refl
 some-map f (Some x) = refl
-
-pub is_there : {A : Type 0} (f : A → Interface) (p : Interface → Bool) (is : List Interface) (o : Option A) (b : Bool)
-    → option_map f o ≡ find p is → b ≡ is_some o → b ≡ list_any p is
-is_there f p is o b e decided = decided ∙ sym (some-map f o) ∙ ap is_some e ∙ some-found p is

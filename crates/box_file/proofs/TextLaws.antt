@@ -42,7 +42,7 @@ before front o = option_map (λ ls. front ++ ls) o
 -- the line of these words, if there are any, before the others
 abbrev one_more : Option (List ℕ × List (List ℕ)) → Option (List Line) → Option (List Line)
 one_more None rest = rest
-one_more (Some x) rest = line_of x.0 x.1 >>= λ l. option_map (λ ls. l ∷ ls) rest
+one_more (Some x) rest = line_of x.0 x.1 >>= λ l. rest >>= λ ls. Some (l ∷ ls)
 
 next_words : (ws : List (List ℕ)) (rest : List (List (List ℕ)))
     → all_in (filter is_nonempty (ws ∷ rest)) ≡ one_more (uncons ws) (all_in (filter is_nonempty rest))
@@ -51,7 +51,7 @@ next_words [] rest = refl
 next_words (w ∷ ws) rest = refl
 
 before_next : (front : List Line) (l : Line) (o : Option (List Line))
-    → before (front ++ l ∷ []) o ≡ before front (option_map (λ ls. l ∷ ls) o)
+    → before (front ++ l ∷ []) o ≡ before front (o >>= λ ls. Some (l ∷ ls))
 before_next front l None = refl
 before_next front l (Some ls) = ap Some (append_assoc front (l ∷ []) ls)
 

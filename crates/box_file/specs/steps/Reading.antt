@@ -161,7 +161,7 @@ line_in ws = uncons ws >>= λ a. line_of a.0 a.1
 -- the lines of these lists of words, if each is one
 unfoldable pub all_in : List (List (List ℕ)) → Option (List Line)
 all_in [] = Some []
-all_in (t ∷ ts) = line_in t >>= λ l. option_map (λ ls. l ∷ ls) (all_in ts)
+all_in (t ∷ ts) = line_in t >>= λ l. all_in ts >>= λ ls. Some (l ∷ ls)
 
 -- the lines of a text
 abbrev pub lines_in : List ℕ → Option (List Line)
