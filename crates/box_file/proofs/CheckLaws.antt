@@ -1,9 +1,8 @@
 -- The checks on keys agree with the checks on lines.
-use Rattle.box_file.proofs.Names.{Bool, Bor, HashSet, Interface, Knows, List, [], any_of_map, any_pair, ap, cond, contains, get_or, get_or_default}
-use Rattle.box_file.proofs.Names.{interface_tree, is_named, is_unknown, length, list_any, map, nat_eq, not, pointwise, refl, route_tree, take, true}
-use Rattle.box_file.proofs.Names.{two_indexes, two_names, two_values, ℕ, ◌&&◌, ◌+◌, ◌<◌, ◌==◌, ◌∙◌, ◌∷◌, ◌≡◌}
+use Rattle.box_file.proofs.Names.{Bool, Bor, HashSet, List, [], any_of_map, any_pair, ap, cond, contains, get_or, get_or_default, interface_tree, is_named}
+use Rattle.box_file.proofs.Names.{length, list_any, map, nat_eq, not, pointwise, refl, take, true, two_indexes, two_names, two_values, ℕ, ◌&&◌, ◌+◌, ◌<◌, ◌==◌}
+use Rattle.box_file.proofs.Names.{◌∙◌, ◌∷◌, ◌≡◌}
 use Rattle.box_file.specs.declared.line.InterfaceLine.{InterfaceLine}
-use Rattle.box_file.specs.declared.line.RouteLine.{RouteLine}
 use Rattle.box_file.proofs.NumberLaws.{same_text-pointwise}
 use Rattle.box_file.proofs.RepeatLaws.{seen_more}
 

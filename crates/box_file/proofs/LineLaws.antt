@@ -1,13 +1,13 @@
 -- The parsers accept exactly the lines that the words spell.
-use Rattle.box_file.proofs.Names.{Bool, Idle, IdleKind, IfSome, IfSome_bind, IfSome_cond, Interface, IsLine, IsName, Line, List, NamedRoute, None, Option}
-use Rattle.box_file.proofs.Names.{Reads, Some, [], add-one, address_in, all_in, and_from, and_parts, ap, append_assoc, arith, codes, cond, cond_both, cut}
-use Rattle.box_file.proofs.Names.{decimal-digits_value, decimal_nonempty, default_line, default_words, digits_decimal, digits_value, digits_value-decimal}
-use Rattle.box_file.proofs.Names.{dotted, dotted_prefix, drop, each_is_line, eq-eqb, eqb-true, false, false≢true, filter, first_decimal, get_or, has_none}
-use Rattle.box_file.proofs.Names.{idle_line, idle_words, inl, inr, interface_line, interface_words, is_ascii_digit, is_name, is_name_byte, is_nonempty}
-use Rattle.box_file.proofs.Names.{is_numeral, kind_in, length, length-append, length-decimal-le, line_in, line_of, lines_in, lines_of, list_all, lt-ltb}
-use Rattle.box_file.proofs.Names.{ltb-true, map, name_in, nat_lt, ne_eqb, not, not_from_false, number_in, octet_in, option_map, or_left, or_right}
-use Rattle.box_file.proofs.Names.{position_or_len, prefixed_in, refl, route_line, route_words, same_text, suc, sym, take, take_at, true, uncons, word_of}
-use Rattle.box_file.proofs.Names.{words_in, words_of, zero, ℕ, ◌%◌, ◌&&◌, ◌*◌, ◌++◌, ◌+◌, ◌-◌, ◌/◌, ◌<◌, ◌==◌, ◌^◌, ◌||◌, ◌∙◌, ◌∷◌, ◌≡◌, ◌≢◌, ◌⊎◌}
+use Rattle.box_file.proofs.Names.{Bool, IdleKind, IfSome, IfSome_bind, IfSome_cond, IsLine, IsName, Line, List, None, Option, Reads, Some, [], add-one}
+use Rattle.box_file.proofs.Names.{address_in, all_in, and_from, and_parts, ap, append_assoc, arith, codes, cond, cond_both, cut, decimal-digits_value}
+use Rattle.box_file.proofs.Names.{decimal_nonempty, default_line, default_words, digits_decimal, digits_value, digits_value-decimal, dotted, dotted_prefix}
+use Rattle.box_file.proofs.Names.{drop, each_is_line, eq-eqb, eqb-true, false, false≢true, filter, first_decimal, get_or, has_none, idle_line, idle_words, inl}
+use Rattle.box_file.proofs.Names.{inr, interface_line, interface_words, is_ascii_digit, is_name, is_name_byte, is_nonempty, is_numeral, kind_in, length}
+use Rattle.box_file.proofs.Names.{length-append, length-decimal-le, line_in, line_of, lines_in, lines_of, list_all, lt-ltb, ltb-true, map, name_in, nat_lt}
+use Rattle.box_file.proofs.Names.{ne_eqb, not, not_from_false, number_in, octet_in, option_map, or_left, or_right, position_or_len, prefixed_in, refl}
+use Rattle.box_file.proofs.Names.{route_line, route_words, same_text, suc, sym, take, take_at, true, uncons, word_of, words_in, words_of, zero, ℕ, ◌%◌, ◌&&◌}
+use Rattle.box_file.proofs.Names.{◌*◌, ◌++◌, ◌+◌, ◌-◌, ◌/◌, ◌<◌, ◌==◌, ◌^◌, ◌||◌, ◌∙◌, ◌∷◌, ◌≡◌, ◌≢◌, ◌⊎◌}
 use Rattle.std.specs.Fmt.{decimal}
 use Rattle.std.proofs.lemmas.List.Sums.{passes_at_first, split_at_first}
 use Rattle.std.proofs.lemmas.Slice.Eq.{bytes_eq-Decides}

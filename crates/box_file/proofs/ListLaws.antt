@@ -1,7 +1,7 @@
 -- Searches in lists, and one more line, as in an iteration of a loop.
-use Rattle.box_file.proofs.Names.{AllByRecursion, Bool, IfSome, List, Option, Some, [], ap, cases_Bool, cond, cond_both, cons_option, false, filter_map}
-use Rattle.box_file.proofs.Names.{filter_map-append, find, get_or, inl, inr, is_some, length, list_any, map, map_more, or_parts, refl, sym, take, true, ℕ, ◌++◌}
-use Rattle.box_file.proofs.Names.{◌+◌, ◌<◌, ◌||◌, ◌∙◌, ◌∷◌, ◌≡◌}
+use Rattle.box_file.proofs.Names.{AllByRecursion, Bool, IfSome, List, Option, Some, [], ap, cases_Bool, cond_both, cons_option, false, filter_map}
+use Rattle.box_file.proofs.Names.{filter_map-append, find, get_or, inl, inr, is_some, length, list_any, map, map_more, or_parts, refl, sym, take, ℕ, ◌++◌, ◌+◌}
+use Rattle.box_file.proofs.Names.{◌<◌, ◌∙◌, ◌∷◌, ◌≡◌}
 
 -- what holds of each element holds of the one that a search finds
 pub found_all : {A : Type 0} (P : A → Type 0) (p : A → Bool) (xs : List A) → AllByRecursion P xs → IfSome (find p xs) P

@@ -48,4 +48,4 @@ pub use Rattle.std.specs.List.{AllByRecursion, cons_option, filter_map, list_all
 pub use Rattle.std.specs.List.Sorted.{IsSortedBy, IsStableBy, ties}
 pub use Rattle.std.specs.Option.{option_map, option_or}
 pub use Rattle.std.specs.Prelude.{IfSome, IsTrue, MatchResult, codes, filter, find, if◌then◌else◌, is_some, max, nat_lt, unwrap_or}
-pub use Rattle.std.specs.Str.Parse.{ParsesUnsigned, digits_value}
+pub use Rattle.std.specs.Str.Parse.{digits_value}

@@ -1,7 +1,7 @@
 -- The results of std's calls in terms of the parsers: texts, numbers.
 use Rattle.box_file.proofs.Names.{Err, IsAscii-from_digits, List, MatchResult, None, Ok, Result, Some, [], and_parts, ap, arith, cond-false, digits_value, eqb}
-use Rattle.box_file.proofs.Names.{false, false_from_ne_true, is_ascii_digit, is_numeral, length, list_all, lt-ltb, ltb-true, nat_lt, number_in, pointwise, refl}
-use Rattle.box_file.proofs.Names.{rules, same_text, subst, sym, true, ℕ, ◌&&◌, ◌<◌, ◌^◌, ◌∙◌, ◌∷◌, ◌≡◌}
+use Rattle.box_file.proofs.Names.{false, false_from_ne_true, is_ascii_digit, is_numeral, length, list_all, lt-ltb, ltb-true, number_in, pointwise, refl, rules}
+use Rattle.box_file.proofs.Names.{same_text, subst, sym, true, ℕ, ◌&&◌, ◌<◌, ◌^◌, ◌∙◌, ◌∷◌, ◌≡◌}
 use Rattle.std.specs.Result.{result_ok, OkIff}
 use Rattle.std.specs.Str.{IsUtf8}
 use Rattle.std.proofs.lemmas.Str.{IsUtf8-from_ascii}

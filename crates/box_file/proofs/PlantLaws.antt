@@ -1,9 +1,9 @@
 -- The invariant of a `Plant`: its interface indexes are valid, and its lookup table is right.
 use Rattle.box_file.proofs.Names.{Bool, EachIndexed, EachRouteIndexed, IfSome, IfSome_at, Interface, IsIndex, KnowsNames, Line, List, NamedRoute, None, Option}
-use Rattle.box_file.proofs.Names.{RouteEntry, Some, [], ap, best_interface, covers, default_line, defaults_in, each_is_line, entering_of, false, filter}
-use Rattle.box_file.proofs.Names.{filter_map, find, find-filter, greatest, idle_line, interface_line, interfaces_in, is_malformed, is_named, is_some}
-use Rattle.box_file.proofs.Names.{is_unknown, known_index, list_any, not-false, option_map, or_parts, refl, route_line, route_of_line, routes_in, sym, true}
-use Rattle.box_file.proofs.Names.{unwrap_or, ℕ, ◌&&◌, ◌==◌, ◌∙◌, ◌∷◌, ◌≡◌}
+use Rattle.box_file.proofs.Names.{RouteEntry, Some, [], best_interface, covers, default_line, defaults_in, each_is_line, entering_of, false, filter, filter_map}
+use Rattle.box_file.proofs.Names.{find, find-filter, greatest, idle_line, interface_line, interfaces_in, is_malformed, is_named, is_some, is_unknown}
+use Rattle.box_file.proofs.Names.{known_index, list_any, not-false, option_map, or_parts, refl, route_line, route_of_line, routes_in, sym, true, unwrap_or, ℕ}
+use Rattle.box_file.proofs.Names.{◌&&◌, ◌==◌, ◌∙◌, ◌∷◌, ◌≡◌}
 use Rattle.box_file.proofs.ListLaws.{found_all, some-found}
 
 -- ---- interface indexes

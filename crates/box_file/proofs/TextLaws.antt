@@ -1,9 +1,8 @@
 -- The lines of a text, one after another.
-use Rattle.box_file.proofs.Names.{Bool, Line, List, None, Option, Some, [], all_in, ap, append-nil, append_assoc, arith, cases_Bool, cases_lt, cond, drop}
-use Rattle.box_file.proofs.Names.{drop_all, eqb-true, false, filter, first_line, inl, inr, is_newline, is_nonempty, le-ltb, length, length-drop, line_in}
-use Rattle.box_file.proofs.Names.{line_of, lines_in, lines_of, lt-ltb, map, nat_tests, nil_from_length, not, one-add, onto_first, option_map, parts_of}
-use Rattle.box_file.proofs.Names.{position_or_len, refl, suc, sym, take, take_all, true, uncons, words_of, ℕ, ⊎_elim, ◌++◌, ◌+◌, ◌<◌, ◌==◌, ◌>>=◌, ◌∙◌, ◌∷◌}
-use Rattle.box_file.proofs.Names.{◌≡◌}
+use Rattle.box_file.proofs.Names.{Bool, Line, List, None, Option, Some, [], all_in, ap, append-nil, append_assoc, arith, cases_Bool, cases_lt, drop, drop_all}
+use Rattle.box_file.proofs.Names.{eqb-true, false, filter, first_line, inl, inr, is_newline, is_nonempty, le-ltb, length, length-drop, line_in, line_of}
+use Rattle.box_file.proofs.Names.{lines_in, lines_of, lt-ltb, map, nat_tests, nil_from_length, one-add, onto_first, option_map, parts_of, position_or_len, refl}
+use Rattle.box_file.proofs.Names.{suc, sym, take, take_all, true, uncons, words_of, ℕ, ⊎_elim, ◌++◌, ◌<◌, ◌==◌, ◌>>=◌, ◌∙◌, ◌∷◌, ◌≡◌}
 
 pub some_left : (ts : List ℕ) (r : Bool) → r ≡ (length ts == 0) → r ≡ false → 0 < length ts
 some_left ts r e f = grind (arith, nat_tests)

@@ -1,7 +1,7 @@
 -- The first word of a line, and the rest.
 use Rattle.box_file.proofs.Names.{Bool, List, None, Option, Some, [], ap, arith, before_comment, begins_word, cases_Bool, cond, cond_both, drop, ends_word}
-use Rattle.box_file.proofs.Names.{eqb-true, false, false_from_ne_true, false≢true, filter, inl, inr, is_blank, is_nonempty, length, ltb, ltb-false, ne_eqb, not}
-use Rattle.box_file.proofs.Names.{not-true, one-add, onto_first, or_parts, parts_of, position_or_len, refl, rest_from, suc, sym, take, true, true_from_ne_false}
+use Rattle.box_file.proofs.Names.{eqb-true, false, false_from_ne_true, false≢true, filter, inl, inr, is_blank, is_nonempty, length, ltb, ltb-false, ne_eqb}
+use Rattle.box_file.proofs.Names.{not-true, one-add, onto_first, or_parts, parts_of, position_or_len, refl, rest_from, sym, take, true, true_from_ne_false}
 use Rattle.box_file.proofs.Names.{uncons, unwrap_or, words_of, ℕ, ◌+◌, ◌-◌, ◌<◌, ◌==◌, ◌∙◌, ◌∷◌, ◌≡◌, ◌≤◌}
 
 -- ---- indexes

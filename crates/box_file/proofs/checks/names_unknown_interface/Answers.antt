@@ -1,4 +1,4 @@
-use Rattle.box_file.proofs.Names.{YieldsList-from_slice, any_from_yields_List, ap, interface_tree, is_unknown, list_any, map, not, refl, route_tree, rules, sym}
+use Rattle.box_file.proofs.Names.{YieldsList-from_slice, any_from_yields_List, ap, interface_tree, is_unknown, list_any, map, not, refl, route_tree, rules}
 use Rattle.box_file.proofs.Names.{tests, ◌∙◌, ◌≡◌}
 use Rattle.box_file.proofs.CheckLaws.{any-mapped, has}
 use Rattle.box_file.proofs.checks.names_unknown_interface.Goals as goal
