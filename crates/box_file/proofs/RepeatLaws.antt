@@ -6,10 +6,8 @@ use Rattle.box_file.proofs.ListLaws.{IsAt}
 
 or_swap : (a b c d : Bool) → (a || b) || (c || d) ≡ (a || c) || (b || d)
 or_swap true b c d = refl
-or_swap false true true d = refl
-or_swap false true false d = refl
-or_swap false false true d = refl
-or_swap false false false d = refl
+or_swap false true c d = sym (or_right c true refl)
+or_swap false false c d = refl
 
 or_once : (a b : Bool) → cond a true b ≡ b || a
 or_once true b = sym (or_right b true refl)

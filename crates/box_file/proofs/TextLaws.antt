@@ -7,9 +7,6 @@ use Rattle.box_file.proofs.Names.{suc, sym, take, take_all, true, uncons, words_
 pub some_left : (ts : List ℕ) (r : Bool) → r ≡ (length ts == 0) → r ≡ false → 0 < length ts
 some_left ts r e f = grind (arith, nat_tests)
 
-pub none_left : (ts : List ℕ) (r : Bool) → r ≡ (length ts == 0) → r ≡ true → ts ≡ []
-none_left ts r e f = nil_from_length ts (eqb-true _ _ (sym e ∙ f))
-
 -- ---- the first line
 
 parts_first : (ends : ℕ → Bool) (b : ℕ) (bs : List ℕ) → parts_of ends (b ∷ bs)
@@ -79,7 +76,7 @@ module _ {front : List Line} {ts : List ℕ} {f : List ℕ × List ℕ} {total :
       let some = t.some in
       rw (t.cut ∙ first_parts ts) (omega (arith, length-drop (suc (position_or_len is_newline ts)) ts))
 
-pub no_more : (front : List Line) (ts : List ℕ) (total : Option (List Line)) → ts ≡ []
+pub no_more : (front : List Line) (ts : List ℕ) (total : Option (List Line)) (r : Bool) → r ≡ (length ts == 0) → r ≡ true
     → before front (lines_in ts) ≡ total → Some front ≡ total
 unfolding all_in
-no_more front ts total none so_far = rw append-nil at (rw none at so_far)
+no_more front ts total r e f so_far = rw append-nil at (rw (nil_from_length ts (eqb-true _ _ (sym e ∙ f))) at so_far)

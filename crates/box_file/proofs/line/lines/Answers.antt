@@ -1,5 +1,5 @@
 use Rattle.box_file.proofs.Names.{line_tree, lines_in, map, map_push, sym}
-use Rattle.box_file.proofs.TextLaws.{Turn, some_left, none_left, rest_shorter, blank_skipped, line_taken, no_line, no_more}
+use Rattle.box_file.proofs.TextLaws.{Turn, some_left, rest_shorter, blank_skipped, line_taken, no_line, no_more}
 use Rattle.box_file.proofs.line.lines.Goals as goal
 use Rattle.box_file.proofs.line.lines.Goals.{After-first_line}
 
@@ -33,5 +33,5 @@ loop-rest-preserved c =
     blank_skipped (turn (goal.at.loop-rest-preserved c).After-first_line) (sym (rw c.in_default.is at c.word.ensures))
 
 pub returns : goal.returns
-returns c = no_more (map line_tree c.loop-rest.found.items) c.loop-rest.rest.now _
-    (none_left _ _ c.is_empty.ensures c.loop-rest-test.false) c.loop-rest.invariant
+returns c = no_more (map line_tree c.loop-rest.found.items) c.loop-rest.rest.now _ _ c.is_empty.ensures
+    c.loop-rest-test.false c.loop-rest.invariant
