@@ -1,4 +1,3 @@
-pub mod ReadLaws
-pub mod Graphs
 pub mod Callers
+pub mod ReadLaws
 pub mod PathFindings

@@ -34,24 +34,14 @@ fn translates(stmt: &Stmt, kind: NatKind) -> bool
 fn rule_translates(rule: &Rule, kind: NatKind) -> bool
     ensures { result ≡ list_any (translates kind) (rule_tree rule.now).statements }
 {
-    for stmt in &rule.statements {
-        if translates(stmt, kind) {
-            return true;
-        }
-    }
-    false
+    rule.statements.iter().any(|stmt| translates(stmt, kind))
 }
 
 /// Whether the chain has a NAT statement of this kind.
 fn chain_translates(chain: &Chain, kind: NatKind) -> bool
     ensures { result ≡ chain_has (translates kind) (Some (chain_tree chain.now)) }
 {
-    for rule in &chain.rules {
-        if rule_translates(rule, kind) {
-            return true;
-        }
-    }
-    false
+    chain.rules.iter().any(|rule| rule_translates(rule, kind))
 }
 
 /// For each of `nodes` nodes, whether it has a NAT statement of this kind. Only chains have.

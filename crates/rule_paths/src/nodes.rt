@@ -4,8 +4,7 @@ ghost use Rattle.std.specs.Option.{option_map};
 ghost use Rattle.nft_tree.specs.Tree.{chain_tree, map_tree, pair_tree, rule_tree, statement, verdict_tree};
 ghost use Rattle.chain_graph.specs.Nodes.{call_of, graph_of, node_of as node_tree, statements_of};
 ghost use Rattle.rule_paths.specs.Paths.{a_chain, pair_calls, statement_calls, verdict_calls};
-ghost use Rattle.rule_paths.specs.steps.Numbers.{numbered_call};
-ghost use Rattle.rule_paths.specs.steps.Index.{call_if, chain_at, index_of, map_at, IsTableGraph};
+ghost use Rattle.rule_paths.specs.steps.Index.{call_if, chain_at, index_of, map_at, numbered_call, IsTableGraph};
 
 use crate::numbers::{chain_number, map_number};
 use chain_graph::{Edge, Node};

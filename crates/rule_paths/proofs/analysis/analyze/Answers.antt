@@ -4,17 +4,20 @@ use Rattle.std.proofs.lemmas.Option.{MatchOption-at_none, MatchOption-at_some}
 use Rattle.chain_graph.specs.Graph.{HasCycle}
 use Rattle.rule_paths.specs.Paths.{CallsOf}
 use Rattle.rule_paths.specs.steps.Tables.{AreTableFindings, AreFindingsSoFar}
-use Rattle.rule_paths.proofs.PathFindings.{none-at, more-at, all-found, cycle-found}
+use Rattle.rule_paths.proofs.PathFindings.{none-so-far, more-at, all-found}
 use Rattle.rule_paths.proofs.analysis.analyze.Goals as goal
 
 pub loop-table-init : goal.loop-table-init
-loop-table-init c = none-at c.in_ok-costs.costs.items c.in_ok-depths.depths.items c.in_ok-costs.ensures.items c.in_ok-depths.ensures.items
+loop-table-init c = rw (c.in_ok-costs.ensures.items, c.in_ok-depths.ensures.items) none-so-far
 
 pub returns-in_default : goal.returns-in_default
 returns-in_default c =
     let t = c.table-item.result in
-    cycle-found c.args.names.now t (c.loop-table.table-index, c.loop-table-test.true, sym c.table-item.is)
-    (MatchOption-at_none (HasCycle (CallsOf t)) (λ found. AreTableFindings t found) c.in_default.is c.in_ok-found.ensures)
+    record {
+      table = t;
+      member = (c.loop-table.table-index, c.loop-table-test.true, sym c.table-item.is);
+      cycle = MatchOption-at_none (HasCycle (CallsOf t)) (λ found. AreTableFindings t found) c.in_default.is c.in_ok-found.ensures;
+    }
 
 pub loop-table-preserved : goal.loop-table-preserved
 loop-table-preserved c =

@@ -2,16 +2,13 @@ use Rattle.std.proofs.Common.{◌≡◌, ℕ, ◌<◌, ◌∙◌, Bool, List, Is
 use Rattle.std.proofs.lemmas.List.{length-map}
 use Rattle.chain_graph.specs.Nodes.{graph_of, node_of as node_tree}
 use Rattle.chain_graph.specs.Measures.{ReachesMarked}
-use Rattle.rule_paths.specs.Paths.{node_of}
-use Rattle.rule_paths.specs.steps.Index.{index_of, ReachesMisplaced, marks_of, translates}
-use Rattle.rule_paths.proofs.Graphs.{in-range}
-use Rattle.rule_paths.proofs.PathFindings.{misplaced}
+use Rattle.rule_paths.specs.steps.Index.{ReachesMisplaced, marks_of, translates}
+use Rattle.rule_paths.proofs.PathFindings.{in-range, misplaced, through}
 use Rattle.rule_paths.proofs.misplaced.misplaces.Goals as goal
 
 pub reaches_marked-requires-clause-range : goal.reaches_marked-requires-clause-range
-reaches_marked-requires-clause-range c = in-range (node_of c.args.names.now) (index_of c.args.names.now)
-    (graph_of c.args.nodes.now) c.requires.graph.represents (length c.args.nodes.now)
-    (sym (length-map c.args.nodes.now node_tree))
+reaches_marked-requires-clause-range c = in-range c.args.names.now (graph_of c.args.nodes.now) c.requires.graph
+    (length c.args.nodes.now) (sym (length-map c.args.nodes.now node_tree))
 
 pub returns : goal.returns
 returns c =
@@ -24,6 +21,6 @@ returns c =
     λ k h. subst (λ (xs : List Bool). IsTrue (get_or c.deref-2.result.now k false) ↔ ReachesMarked g xs k) marks
     (subst (λ (xs : List Bool). IsTrue (get_or xs k false) ↔ ReachesMarked g c.deref.result.now k)
     (sym c.deref-2.ensures.value) (c.in_ok-reaching.ensures.reaching k h)) in
-    misplaced c.args.kind t g c.requires.graph (length c.args.nodes.now) c.deref-2.result.now n known c.reaches_misplaced.result
-    (subst (λ cs. IsTrue c.reaches_misplaced.result ↔ ReachesMisplaced c.args.kind cs c.deref-2.result.now)
+    through (subst (λ cs. IsTrue c.reaches_misplaced.result ↔ ReachesMisplaced c.args.kind cs c.deref-2.result.now)
     c.chains-chains.ensures.all c.reaches_misplaced.ensures)
+    (misplaced t g c.requires.graph c.args.kind (length c.args.nodes.now) c.deref-2.result.now n known)

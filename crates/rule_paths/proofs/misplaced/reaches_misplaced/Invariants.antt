@@ -4,6 +4,5 @@ use Rattle.rule_paths.specs.steps.Index.{may_not_translate}
 use Rattle.rule_paths.proofs.misplaced.reaches_misplaced.Given as goal
 
 abbrev pub invariant-loop-index : goal.invariant-loop-index
-invariant-loop-index l = (k : ℕ) → k < l.index → (base : ChainTree) → base
-    ≡ get_or (map (λ c. chain_tree c.now) l.chains) k base → may_not_translate l.kind base.head ≡ true
-    → get_or l.reaching k false ≡ true → ⊥
+invariant-loop-index l = (k : ℕ) → k < l.index → (c : ChainTree) → get_or (map (λ c. chain_tree c.now) l.chains) k c ≡ c
+    → may_not_translate l.kind c.head ≡ true → get_or l.reaching k false ≡ true → ⊥

@@ -2,8 +2,7 @@ use Rattle.std.proofs.Common.{◌≡◌, ◌++◌, map, take}
 use Rattle.nft_tree.specs.Tree.{statement}
 use Rattle.chain_graph.specs.Nodes.{statements_of}
 use Rattle.rule_paths.specs.Paths.{statement_calls}
-use Rattle.rule_paths.specs.steps.Numbers.{numbered_call}
-use Rattle.rule_paths.specs.steps.Index.{index_of}
+use Rattle.rule_paths.specs.steps.Index.{index_of, numbered_call}
 use Rattle.rule_paths.proofs.nodes.add_rule.Given as goal
 
 abbrev pub invariant-loop-stmt : goal.invariant-loop-stmt

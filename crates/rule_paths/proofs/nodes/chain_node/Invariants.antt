@@ -3,8 +3,7 @@ use Rattle.std.specs.Prelude.{flat_map}
 use Rattle.nft_tree.specs.Tree.{rule_tree}
 use Rattle.chain_graph.specs.Nodes.{statements_of}
 use Rattle.rule_paths.specs.Paths.{statement_calls}
-use Rattle.rule_paths.specs.steps.Numbers.{numbered_call}
-use Rattle.rule_paths.specs.steps.Index.{index_of}
+use Rattle.rule_paths.specs.steps.Index.{index_of, numbered_call}
 use Rattle.rule_paths.proofs.nodes.chain_node.Given as goal
 
 abbrev pub invariant-loop-rule : goal.invariant-loop-rule

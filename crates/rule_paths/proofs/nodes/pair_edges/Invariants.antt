@@ -2,8 +2,7 @@ use Rattle.std.proofs.Common.{◌≡◌, map, take}
 use Rattle.nft_tree.specs.Tree.{pair_tree}
 use Rattle.chain_graph.specs.Nodes.{call_of}
 use Rattle.rule_paths.specs.Paths.{pair_calls}
-use Rattle.rule_paths.specs.steps.Numbers.{numbered_call}
-use Rattle.rule_paths.specs.steps.Index.{index_of}
+use Rattle.rule_paths.specs.steps.Index.{index_of, numbered_call}
 use Rattle.rule_paths.proofs.nodes.pair_edges.Given as goal
 
 abbrev pub invariant-loop-pair : goal.invariant-loop-pair

@@ -5,7 +5,7 @@ use Rattle.chain_graph.specs.declared.node.Node.TheVariants.{Chain, Map}
 use Rattle.chain_graph.specs.Graph.{NodeTree, chain, verdict_map}
 use Rattle.chain_graph.specs.Nodes.{Graph, node_of, graph_of, statements_of, call_of}
 use Rattle.rule_paths.specs.steps.Index.{index_graph, chain_at, map_at}
-use Rattle.rule_paths.proofs.PathFindings.{table-graph}
+use Rattle.rule_paths.proofs.Callers.{table-graph}
 use Rattle.rule_paths.proofs.ReadLaws.{two-more}
 use Rattle.rule_paths.proofs.nodes.table_nodes.Goals as goal
 
@@ -24,4 +24,4 @@ returns c =
     ∙ ap₂ (λ (x : NodeTree ℕ) (y : NodeTree ℕ). map (chain_at t) (chains_of t) ++ (map (map_at t) (maps_of t) ++ x ∷ y ∷ []))
     (ap (λ (v : List (Vec Edge Global)). chain (statements_of v)) c.new.ensures.items)
     (ap (λ (v : List Edge). verdict_map (map call_of v)) c.new-2.ensures.items) in
-    table-graph t (graph_of c.push-2.new.self.items) all c.chains.ensures.apart c.maps.ensures.apart
+    table-graph t c.chains.ensures.apart c.maps.ensures.apart (graph_of c.push-2.new.self.items) all

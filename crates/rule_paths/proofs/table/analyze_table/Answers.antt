@@ -4,22 +4,21 @@ use Rattle.std.proofs.lemmas.Option.{MatchOption-at_none}
 use Rattle.chain_graph.specs.Graph.{HasCycle}
 use Rattle.chain_graph.specs.Nodes.{graph_of, Calls, node_of as node_tree}
 use Rattle.chain_graph.specs.Measures.{IsAnalysisOf}
-use Rattle.rule_paths.specs.Paths.{node_of}
-use Rattle.rule_paths.specs.steps.Index.{index_of, IsTableGraph}
-use Rattle.rule_paths.proofs.Graphs.{in-range, cycle-up}
+use Rattle.rule_paths.specs.steps.Index.{IsTableGraph}
+use Rattle.rule_paths.proofs.PathFindings.{in-range, cycle-up}
 use Rattle.rule_paths.proofs.table.analyze_table.Goals as goal
 
 pub analyze-requires : goal.analyze-requires
 analyze-requires c =
     let s = subst (λ ns. IsTableGraph c.args.names.now (graph_of ns)) (sym c.deref.ensures.value) c.in_ok-nodes.ensures in
     record {
-      range = in-range (node_of c.args.names.now) (index_of c.args.names.now) (graph_of c.deref.result.now)
-          s.represents (length c.deref.result.now) (sym (length-map c.deref.result.now node_tree));
+      range = in-range c.args.names.now (graph_of c.deref.result.now) s (length c.deref.result.now)
+          (sym (length-map c.deref.result.now node_tree));
     }
 
 pub returns-in_default : goal.returns-in_default
 returns-in_default c =
     let s = subst (λ ns. IsTableGraph c.args.names.now (graph_of ns)) (sym c.deref.ensures.value) c.in_ok-nodes.ensures in
-    cycle-up (node_of c.args.names.now) (index_of c.args.names.now) (graph_of c.deref.result.now) s.represents
+    cycle-up c.args.names.now (graph_of c.deref.result.now) s
     (MatchOption-at_none (HasCycle (Calls (graph_of c.deref.result.now)))
     (λ j. IsAnalysisOf (graph_of c.deref.result.now) j) c.in_default.is c.in_ok-analysis.ensures)
