@@ -1,89 +1,73 @@
 -- What is put, one after another.
-use Rattle.std.proofs.Common.{◌≡◌, refl, ℕ, ◌+◌, ◌<◌, List, [], ◌∷◌, ◌++◌, length, drop, get_or, append_assoc}
-use Rattle.std.proofs.Common.{append-nil, add-one, ap, sym, subst, ◌∙◌, Result, Ok, Err, OnOk, OnErr}
+use Rattle.std.proofs.Common.{◌≡◌, refl, ℕ, ◌+◌, ◌<◌, Bool, true, false, List, [], ◌∷◌, ◌++◌, length, drop, get_or, append_assoc}
+use Rattle.std.proofs.Common.{append-nil, add-one, ap, sym, subst, ◌∙◌, Result, Ok, Err}
 use Rattle.std.specs.declared.option.Option.{Option}
 use Rattle.std.specs.List.{flat_map}
 use Rattle.std.specs.Io.KnownBytes.{Appends}
-use Rattle.std.proofs.KnownBytes.{Appends-trans, Appends-nil}
+use Rattle.std.proofs.KnownBytes.{Appends-trans}
 use Rattle.std.proofs.Math.Seq.{drop-cons}
+use Rattle.nft_tree.specs.Tree.{Text}
+use Rattle.pcap_io.specs.declared.counted.Counted.{Counted}
 use Rattle.pcap_io.specs.steps.Written.{part_same, part_first, part_after, gets_none, gets_more, gets_part}
-use Rattle.pcap_io.specs.Counting.{AppendsPrefix}
-use Rattle.pcap_io.specs.Buffering.{AppendsBuffered}
-use Rattle.report.specs.steps.Paging.{Puts, PutsAllBut, WroteText}
+use Rattle.pcap_io.specs.Counting.{AppendsPrefix, one_more}
+use Rattle.report.specs.declared.page.Page.{Page}
+use Rattle.report.specs.steps.Paging.{Goes, Puts, PutsAllBut, CountsFailure, WroteText, Sends, IsSent}
 
--- ---- a beginning
+goes_none : (f : Bool) (u : Text) (a : Option Text) (k : ℕ) → Goes f f u a u a k k []
+goes_none false u a k = (gets_none u a, refl)
+goes_none true u a k = (refl, refl, refl)
 
--- ---- with buffered bytes
-
-pub gets_as : (u v : List ℕ) (a b : Option (List ℕ)) (xs ys : List ℕ) → AppendsBuffered u a b v xs → xs ≡ ys
-    → AppendsBuffered u a b v ys
-gets_as u v a b xs ys g e = subst (AppendsBuffered u a b v) e g
-
--- all buffered bytes are written, and then a prefix of more
-pub puts_past : {T E : Type 0} (r : Result T E) (u v : List ℕ) (a b c : Option (List ℕ)) (xs : List ℕ) → Appends a b u
-    → v ≡ [] → OnOk r (Appends b c xs) → OnErr r (AppendsPrefix b c xs) → Puts r u a v c xs
-puts_past (Ok x) u v a b c xs w none ok part = (
-  u ++ xs,
-  sym (append-nil (u ++ xs)) ∙ ap (λ ys. (u ++ xs) ++ ys) (sym none),
-  Appends-trans a b c u xs w ok,
+goes_on : (f g h : Bool) (u v w : Text) (a b c : Option Text) (k m n : ℕ) (xs ys : Text) → Goes f g u a v b k m xs
+    → Goes g h v b w c m n ys → Goes f h u a w c k n (xs ++ ys)
+goes_on false false false u v w a b c k m n xs ys (x, l) (y, r) = (gets_more u v w a b c xs ys x y, r ∙ l)
+goes_on false false true u v w a b c k m n xs ys (x, l) (y, r) = (gets_part u v a b c xs ys x y, r ∙ ap one_more l)
+goes_on false true false u v w a b c k m n xs ys x y = let q = y.0 in absurd cc
+goes_on false true true u v w a b c k m n xs ys (x, l) (y, is, r) = (
+  subst (λ o. AppendsPrefix a o (u ++ (xs ++ ys))) (sym is)
+      (part_same a b ((u ++ xs) ++ ys) (u ++ (xs ++ ys)) (part_first a b (u ++ xs) ys x) (append_assoc u xs ys)),
+  r ∙ l,
 )
-puts_past (Err x) u v a b c xs w none ok part = part_after a b c u xs w part
+goes_on true false h u v w a b c k m n xs ys x y = let q = x.0 in absurd cc
+goes_on true true h u v w a b c k m n xs ys (x, is, l) (y, js, r) = (y, js ∙ is, r ∙ l)
 
--- more is buffered behind the buffered bytes
-pub gets_behind : (u v : List ℕ) (a : Option (List ℕ)) (xs : List ℕ) → v ≡ u ++ xs → AppendsBuffered u a a v xs
-gets_behind u v a xs is = ([], sym is, Appends-nil a)
+module _ {W : Type 0} {contents : W → Option Text} where
+  pub puts_none : (p : Page) (w : Counted W) → Puts contents p w p w []
+  puts_none p w = record { goes = goes_none p.failed p.text.items (contents w.inner) w.failures; flushes = refl }
 
--- ---- what is left of a whole
+  pub puts_on : {p q r : Page} {w x y : Counted W} {xs ys : Text} → Puts contents p w q x xs → Puts contents q x r y ys
+      → Puts contents p w r y (xs ++ ys)
+  puts_on {p} {q} {r} {w} {x} {y} {xs} {ys} s t = record {
+    goes = goes_on p.failed q.failed r.failed p.text.items q.text.items r.text.items (contents w.inner) (contents x.inner) (contents y.inner)
+        w.failures x.failures y.failures xs ys s.goes t.goes;
+    flushes = t.flushes ∙ s.flushes;
+  }
 
--- all
-pub left_start : (u : List ℕ) (a : Option (List ℕ)) (whole : List ℕ) → PutsAllBut u a u a whole whole
-left_start u a whole = ([], refl, gets_none u a)
+  pub puts_as : {p q : Page} {w x : Counted W} {xs ys : Text} → Puts contents p w q x xs → xs ≡ ys → Puts contents p w q x ys
+  puts_as {p} {q} {w} {x} s e = subst (λ zs. Puts contents p w q x zs) e s
 
--- none
-pub left_none : (u v : List ℕ) (a b : Option (List ℕ)) (rest whole : List ℕ) → PutsAllBut u a v b rest whole → rest ≡ []
-    → AppendsBuffered u a b v whole
-left_none u v a b rest whole (part, e, g) none =
-    let all : part ≡ whole = sym (append-nil part) ∙ ap (λ ys. part ++ ys) (sym none) ∙ e in
-    subst (AppendsBuffered u a b v) all g
+  -- ---- what is left of a whole
 
-pub left_as : (u v : List ℕ) (a b : Option (List ℕ)) (rest whole more : List ℕ) → PutsAllBut u a v b rest whole
-    → rest ≡ more → PutsAllBut u a v b more whole
-left_as u v a b rest whole more (part, e, g) is = (part, ap (λ ys. part ++ ys) (sym is) ∙ e, g)
+  pub left_start : (p : Page) (w : Counted W) (whole : Text) → PutsAllBut contents p w p w whole whole
+  left_start p w whole = record { part = []; is = refl; puts = puts_none p w }
 
--- the front of the rest is put
-pub left_more : (u v w : List ℕ) (a b c : Option (List ℕ)) (all front rest whole : List ℕ)
-    → PutsAllBut u a v b all whole → all ≡ front ++ rest → AppendsBuffered v b c w front → PutsAllBut u a w c rest whole
-left_more u v w a b c all front rest whole (part, e, g) is more = (
-  part ++ front,
-  append_assoc part front rest ∙ ap (λ ys. part ++ ys) (sym is) ∙ e,
-  gets_more u v w a b c part front g more,
-)
+  pub left_none : {p q : Page} {w x : Counted W} {rest whole : Text} → PutsAllBut contents p w q x rest whole → rest ≡ []
+      → Puts contents p w q x whole
+  left_none s none = puts_as s.puts (sym (append-nil s.part) ∙ ap (λ ys. s.part ++ ys) (sym none) ∙ s.is)
 
--- a beginning of the front of the rest is written
-pub left_part : (u v : List ℕ) (a b c : Option (List ℕ)) (all front rest whole : List ℕ) → PutsAllBut u a v b all whole
-    → all ≡ front ++ rest → AppendsPrefix b c (v ++ front) → AppendsPrefix a c (u ++ whole)
-left_part u v a b c all front rest whole (part, e, g) is some =
-    let joined : (u ++ (part ++ front)) ++ rest ≡ u ++ whole =
-    append_assoc u (part ++ front) rest
-    ∙ ap (λ ys. u ++ ys) (append_assoc part front rest ∙ ap (λ ys. part ++ ys) (sym is) ∙ e) in
-    part_same a c ((u ++ (part ++ front)) ++ rest) (u ++ whole)
-    (part_first a c (u ++ (part ++ front)) rest (gets_part u v a b c part front g some)) joined
+  pub left_as : {p q : Page} {w x : Counted W} {rest more whole : Text} → PutsAllBut contents p w q x rest whole → rest ≡ more
+      → PutsAllBut contents p w q x more whole
+  left_as {p} {q} {w} {x} {rest} {more} {whole} s e = subst (λ ys. PutsAllBut contents p w q x ys whole) e s
 
--- a last call puts the rest
-pub left_last : {T E : Type 0} (r : Result T E) (u v w : List ℕ) (a b c : Option (List ℕ)) (rest whole : List ℕ)
-    → PutsAllBut u a v b rest whole → Puts r v b w c rest → Puts r u a w c whole
-left_last (Ok x) u v w a b c rest whole left more =
-    left_none u w a c [] whole (left_more u v w a b c rest rest [] whole left (sym (append-nil rest)) more) refl
-left_last (Err x) u v w a b c rest whole left some =
-    left_part u v a b c rest rest [] whole left (sym (append-nil rest)) some
+  -- the front of the rest is put
+  pub left_more : {p q r : Page} {w x y : Counted W} {all front rest whole : Text} → PutsAllBut contents p w q x all whole
+      → all ≡ front ++ rest → Puts contents q x r y front → PutsAllBut contents p w r y rest whole
+  left_more {front = front} {rest = rest} s e t = record {
+    part = s.part ++ front;
+    is = append_assoc s.part front rest ∙ ap (λ ys. s.part ++ ys) (sym e) ∙ s.is;
+    puts = puts_on s.puts t;
+  }
 
 -- the lines of a list from an item on are its lines and those of the items after it
-pub written_on : {A : Type 0} (f : A → List ℕ) (xs : List A) (i : ℕ) (x : A) → i < length xs → x ≡ get_or xs i x
-    → flat_map f (drop i xs) ≡ f x ++ flat_map f (drop (i + 1) xs)
-written_on f xs i x h is =
-    let e : drop i xs ≡ x ∷ drop (i + 1) xs = cc (drop-cons xs i x h, add-one i) in
-    ap (flat_map f) e
-
 pub written_at : {A : Type 0} (f : A → List ℕ) (xs : List A) (i : ℕ) (d : A) → i < length xs
     → flat_map f (drop i xs) ≡ f (get_or xs i d) ++ flat_map f (drop (i + 1) xs)
 written_at f xs i d h =
@@ -92,14 +76,22 @@ written_at f xs i d h =
 
 -- ---- the last page
 
--- all that was put on a page that was empty is written, or as much as a call wrote
-pub sent_all : {T E : Type 0} (r : Result T E) (u v : List ℕ) (a b c : Option (List ℕ)) (xs : List ℕ) → u ≡ []
-    → AppendsBuffered u a b v xs → OnOk r (Appends b c v) → OnErr r (AppendsPrefix b c v) → WroteText r a c xs
-sent_all (Ok x) u v a b c xs none (p, e, g) ok part =
-    subst (Appends a c) (sym e ∙ ap (λ ys. ys ++ xs) none) (Appends-trans a b c p v g ok)
-sent_all (Err x) u v a b c xs none (p, e, g) ok part =
-    part_same a c (p ++ v) xs (part_after a b c p v g part) (sym e ∙ ap (λ ys. ys ++ xs) none)
+sent : {T E : Type 0} (f g : Bool) (r : Result T E) (u v : Text) (a b c : Option Text) (k m n : ℕ) (xs : Text) → f ≡ false → u ≡ []
+    → Goes f g u a v b k m xs → Sends g r v b c m n → WroteText r a c xs × CountsFailure r k n
+sent true g r u v a b c k m n xs e none x y = absurd cc
+sent false false (Ok t) u v a b c k m n xs e none ((p, is, x), l) (y, s) =
+    (subst (λ zs. Appends a c zs) (sym is ∙ ap (λ ys. ys ++ xs) none) (Appends-trans a b c p v x y), s ∙ l)
+sent false false (Err t) u v a b c k m n xs e none ((p, is, x), l) (y, s) =
+    (part_same a c (p ++ v) xs (part_after a b c p v x y) (sym is ∙ ap (λ ys. ys ++ xs) none), s ∙ ap one_more l)
+sent false true (Ok t) u v a b c k m n xs e none x y = absurd y
+sent false true (Err t) u v a b c k m n xs e none (x, l) (is, s) =
+    (subst (λ o. AppendsPrefix a o xs) (sym is) (part_same a b (u ++ xs) xs x (ap (λ ys. ys ++ xs) none)), s ∙ l)
 
-pub part_empty : (u : List ℕ) (a b : Option (List ℕ)) (xs : List ℕ) → u ≡ [] → AppendsPrefix a b (u ++ xs)
-    → AppendsPrefix a b xs
-part_empty u a b xs none some = part_same a b (u ++ xs) xs some (ap (λ ys. ys ++ xs) none)
+-- what was put on a page that was empty is written, or as much as a call wrote
+pub sent_all : {W T E : Type 0} {contents : W → Option Text} {r : Result T E} {p q : Page} {w x y : Counted W} {xs : Text}
+    → p.failed ≡ false → p.text.items ≡ [] → Puts contents p w q x xs → IsSent contents r q x y
+    → WroteText r (contents w.inner) (contents y.inner) xs × CountsFailure r w.failures y.failures × (y.flushes ≡ w.flushes)
+sent_all {contents = contents} {r} {p} {q} {w} {x} {y} {xs} e none s t =
+    let done = sent p.failed q.failed r p.text.items q.text.items (contents w.inner) (contents x.inner) (contents y.inner)
+    w.failures x.failures y.failures xs e none s.goes t.sends in
+    (done.0, done.1, t.flushes ∙ s.flushes)

@@ -1,15 +1,8 @@
 -- The texts of lines, by their parts.
-use Rattle.std.proofs.Common.{◌≡◌, ℕ, List, [], ◌∷◌, ◌++◌, append_assoc, ap, sym, subst, ◌∙◌, Result}
-use Rattle.std.specs.declared.option.Option.{Option}
+use Rattle.std.proofs.Common.{◌≡◌, ℕ, List, [], ◌∷◌, ◌++◌, append_assoc, ap, sym, ◌∙◌}
 use Rattle.std.specs.Fmt.{decimal}
 use Rattle.nft_tree.specs.Tree.{TableTree, ChainTree}
 use Rattle.report.specs.Report.{chain_line, family_word}
-use Rattle.report.specs.steps.Paging.{Puts}
-
--- the same text is put
-pub puts_as : {T E : Type 0} (r : Result T E) (u v : List ℕ) (a b : Option (List ℕ)) (xs ys : List ℕ)
-    → Puts r u a v b xs → xs ≡ ys → Puts r u a v b ys
-puts_as r u v a b xs ys p e = subst (λ zs. Puts r u a v b zs) e p
 
 -- a line's kind, its number, its chain, and more
 line_front : (kind n f tn cn rest : List ℕ)

@@ -2,7 +2,7 @@
 ghost use Rattle.std.specs.Prelude.{◌≡◌};
 ghost use Rattle.nft_tree.specs.Tree.{chain_tree, rule_tree, table_tree, tables_of};
 ghost use Rattle.nft_tree.specs.TableItems.{chains_of};
-ghost use Rattle.report.specs.steps.Paging.{CountsFailure, Puts};
+ghost use Rattle.report.specs.steps.Paging.{Puts};
 ghost use Rattle.report.specs.steps.TallyLines.{position_of, tally_or_zero, tally_line, chains_text, rules_text, statements_text, tables_text};
 
 use crate::names::{ChainInTable, family_word};
@@ -10,7 +10,7 @@ use crate::page::Page;
 use crate::piece::Piece;
 use crate::tallies::{Location, RulesetTallies, Tally};
 use nft_tree::{Rule, Ruleset, Table};
-use pcap_io::{Counted, DeviceFailed};
+use pcap_io::Counted;
 use std::io::Write;
 
 /// Appends the lines of all counters, in the ruleset's order.
@@ -19,16 +19,13 @@ pub fn put_counters<W: Write>(
     writer: &mut Counted<W>,
     rules: &Ruleset,
     tallies: &RulesetTallies,
-) -> Result<(), DeviceFailed>
-    ensures puts { Puts result page.old.text.items (W.contents writer.old.inner) page.new.text.items
-        (W.contents writer.new.inner) (tables_text tallies.now 0 (tables_of rules.now)) }
-    ensures counts { CountsFailure result writer.old.failures writer.new.failures }
-    ensures flushes { writer.new.flushes ≡ writer.old.flushes }
+)
+    ensures { Puts W.contents page.old writer.old page.new writer.new
+        (tables_text tallies.now 0 (tables_of rules.now)) }
 {
     for (number, table) in rules.tables.iter().enumerate() {
-        put_table(page, writer, tallies, number, table)?;
+        put_table(page, writer, tallies, number, table);
     }
-    Ok(())
 }
 
 /// Appends those of one table; `number` is from 0.
@@ -38,22 +35,19 @@ fn put_table<W: Write>(
     tallies: &RulesetTallies,
     number: usize,
     table: &Table,
-) -> Result<(), DeviceFailed>
-    ensures puts { Puts result page.old.text.items (W.contents writer.old.inner) page.new.text.items
-        (W.contents writer.new.inner) (chains_text tallies.now (table_tree table.now) number 0
+)
+    ensures { Puts W.contents page.old writer.old page.new writer.new
+        (chains_text tallies.now (table_tree table.now) number 0
         (chains_of (table_tree table.now))) }
-    ensures counts { CountsFailure result writer.old.failures writer.new.failures }
-    ensures flushes { writer.new.flushes ≡ writer.old.flushes }
 {
     let mut chain_number = 0;
     for item in &table.items {
         if let Some(chain) = item.chain() {
             let found = ChainInTable { table, chain };
-            put_chain(page, writer, tallies, found, number, chain_number)?;
+            put_chain(page, writer, tallies, found, number, chain_number);
             chain_number += 1;
         }
     }
-    Ok(())
 }
 
 /// Appends those of one chain; both numbers are from 0.
@@ -64,12 +58,10 @@ fn put_chain<W: Write>(
     found: ChainInTable,
     table: usize,
     chain: usize,
-) -> Result<(), DeviceFailed>
-    ensures puts { Puts result page.old.text.items (W.contents writer.old.inner) page.new.text.items
-        (W.contents writer.new.inner) (rules_text tallies.now (table_tree found.entry.table.now)
+)
+    ensures { Puts W.contents page.old writer.old page.new writer.new
+        (rules_text tallies.now (table_tree found.entry.table.now)
         (chain_tree found.entry.chain.now) table chain 1 (chain_tree found.entry.chain.now).rules) }
-    ensures counts { CountsFailure result writer.old.failures writer.new.failures }
-    ensures flushes { writer.new.flushes ≡ writer.old.flushes }
 {
     for (before, rule) in found.chain.rules.iter().enumerate() {
         let first = Location {
@@ -78,9 +70,8 @@ fn put_chain<W: Write>(
             rule: before + 1,
             statement: 1,
         };
-        put_rule(page, writer, tallies, found, first, rule)?;
+        put_rule(page, writer, tallies, found, first, rule);
     }
-    Ok(())
 }
 
 /// Appends those of the rule whose first statement is at `first`.
@@ -91,14 +82,12 @@ fn put_rule<W: Write>(
     found: ChainInTable,
     first: Location,
     rule: &Rule,
-) -> Result<(), DeviceFailed>
+)
     requires { first.statement ≡ 1 }
-    ensures puts { Puts result page.old.text.items (W.contents writer.old.inner) page.new.text.items
-        (W.contents writer.new.inner) (statements_text tallies.now
+    ensures { Puts W.contents page.old writer.old page.new writer.new
+        (statements_text tallies.now
         (table_tree found.entry.table.now) (chain_tree found.entry.chain.now) (position_of first) 1
         (rule_tree rule.now).statements) }
-    ensures counts { CountsFailure result writer.old.failures writer.new.failures }
-    ensures flushes { writer.new.flushes ≡ writer.old.flushes }
 {
     let mut number = 1;
     for (before, statement) in rule.statements.iter().enumerate() {
@@ -107,11 +96,10 @@ fn put_rule<W: Write>(
                 statement: before + 1,
                 ..first
             };
-            put_counter(page, writer, tallies, found, position, number)?;
+            put_counter(page, writer, tallies, found, position, number);
             number += 1;
         }
     }
-    Ok(())
 }
 
 /// Appends the line of the counter at a position, the rule's counter of this number.
@@ -122,13 +110,11 @@ fn put_counter<W: Write>(
     found: ChainInTable,
     position: Location,
     number: u128,
-) -> Result<(), DeviceFailed>
-    ensures puts { Puts result page.old.text.items (W.contents writer.old.inner) page.new.text.items
-        (W.contents writer.new.inner) (tally_line (table_tree found.entry.table.now)
+)
+    ensures { Puts W.contents page.old writer.old page.new writer.new
+        (tally_line (table_tree found.entry.table.now)
         (chain_tree found.entry.chain.now) position.rule number
         (tally_or_zero tallies.now (position_of position))) }
-    ensures counts { CountsFailure result writer.old.failures writer.new.failures }
-    ensures flushes { writer.new.flushes ≡ writer.old.flushes }
 {
     let tally = tallies.at(position).unwrap_or(Tally {
         packets: 0,

@@ -5,7 +5,7 @@ ghost use Rattle.nft_tree.specs.Tree.{tables_of};
 ghost use Rattle.report.specs.Report.{event_line, outcome_line};
 ghost use Rattle.report.specs.Representing.{note_line};
 ghost use Rattle.report.specs.steps.NoteLines.{line_text};
-ghost use Rattle.report.specs.steps.Paging.{CountsFailure, Puts};
+ghost use Rattle.report.specs.steps.Paging.{Puts};
 
 use crate::names::{
     ChainInTable, family_word, find, outcome_word, policy_word, prefix, verdict_pieces,
@@ -15,7 +15,7 @@ use crate::page::Page;
 use crate::piece::Piece;
 use history::Outcome;
 use nft_tree::Ruleset;
-use pcap_io::{Counted, DeviceFailed};
+use pcap_io::Counted;
 use rule_meaning::Event;
 use std::io::Write;
 
@@ -25,28 +25,18 @@ pub fn put_notes<W: Write>(
     writer: &mut Counted<W>,
     rules: &Ruleset,
     notes: &[Note],
-) -> Result<(), DeviceFailed>
-    ensures puts { Puts result page.old.text.items (W.contents writer.old.inner) page.new.text.items
-        (W.contents writer.new.inner) (flat_map (note_line (tables_of rules.now)) notes.now) }
-    ensures counts { CountsFailure result writer.old.failures writer.new.failures }
-    ensures flushes { writer.new.flushes ≡ writer.old.flushes }
+)
+    ensures { Puts W.contents page.old writer.old page.new writer.new
+        (flat_map (note_line (tables_of rules.now)) notes.now) }
 {
     for note in notes {
-        put_note(page, writer, rules, *note)?;
+        put_note(page, writer, rules, *note);
     }
-    Ok(())
 }
 
-fn put_note<W: Write>(
-    page: &mut Page,
-    writer: &mut Counted<W>,
-    rules: &Ruleset,
-    note: Note,
-) -> Result<(), DeviceFailed>
-    ensures puts { Puts result page.old.text.items (W.contents writer.old.inner) page.new.text.items
-        (W.contents writer.new.inner) (note_line (tables_of rules.now) note) }
-    ensures counts { CountsFailure result writer.old.failures writer.new.failures }
-    ensures flushes { writer.new.flushes ≡ writer.old.flushes }
+fn put_note<W: Write>(page: &mut Page, writer: &mut Counted<W>, rules: &Ruleset, note: Note)
+    ensures { Puts W.contents page.old writer.old page.new writer.new
+        (note_line (tables_of rules.now) note) }
 {
     match note {
         Note::Event(number, event) => put_event(page, writer, number, chain_line(rules, event)),
@@ -108,14 +98,12 @@ fn put_event<W: Write>(
     writer: &mut Counted<W>,
     number: u64,
     line: Option<ChainLine>,
-) -> Result<(), DeviceFailed>
-    ensures puts { Puts result page.old.text.items (W.contents writer.old.inner) page.new.text.items
-        (W.contents writer.new.inner) (line_text number line.entry) }
-    ensures counts { CountsFailure result writer.old.failures writer.new.failures }
-    ensures flushes { writer.new.flushes ≡ writer.old.flushes }
+)
+    ensures { Puts W.contents page.old writer.old page.new writer.new
+        (line_text number line.entry) }
 {
     let Some(line) = line else {
-        return Ok(());
+        return;
     };
     let family = family_word(line.chain.table.family);
     page.put_all(
@@ -134,16 +122,9 @@ fn put_event<W: Write>(
     )
 }
 
-fn put_outcome<W: Write>(
-    page: &mut Page,
-    writer: &mut Counted<W>,
-    number: u64,
-    outcome: Outcome,
-) -> Result<(), DeviceFailed>
-    ensures puts { Puts result page.old.text.items (W.contents writer.old.inner) page.new.text.items
-        (W.contents writer.new.inner) (outcome_line true number outcome) }
-    ensures counts { CountsFailure result writer.old.failures writer.new.failures }
-    ensures flushes { writer.new.flushes ≡ writer.old.flushes }
+fn put_outcome<W: Write>(page: &mut Page, writer: &mut Counted<W>, number: u64, outcome: Outcome)
+    ensures { Puts W.contents page.old writer.old page.new writer.new
+        (outcome_line true number outcome) }
 {
     let word = outcome_word(outcome);
     page.put_all(

@@ -267,8 +267,8 @@ fn write_notes<W: Write>(
     ensures flushes { writer.new.flushes ≡ writer.old.flushes }
 {
     let mut page = Page::new();
-    put_notes(&mut page, writer, rules, notes)?;
-    page.send(writer)
+    put_notes(&mut page, writer, rules, notes);
+    page.finish(writer)
 }
 
 /// Writes the lines of notes, the counters and the totals.
@@ -287,8 +287,8 @@ fn write_rest<W: Write>(
     ensures flushes { writer.new.flushes ≡ writer.old.flushes }
 {
     let mut page = Page::new();
-    put_notes(&mut page, writer, rules, notes)?;
-    put_counters(&mut page, writer, rules, tallies)?;
-    put_totals(&mut page, writer, totals)?;
-    page.send(writer)
+    put_notes(&mut page, writer, rules, notes);
+    put_counters(&mut page, writer, rules, tallies);
+    put_totals(&mut page, writer, totals);
+    page.finish(writer)
 }

@@ -2,13 +2,13 @@
 ghost use Rattle.std.specs.Prelude.{◌≡◌};
 ghost use Rattle.std.specs.List.{flat_map};
 ghost use Rattle.report.specs.Report.{drop_line, number_lines};
-ghost use Rattle.report.specs.steps.Paging.{CountsFailure, Puts};
+ghost use Rattle.report.specs.steps.Paging.{Puts};
 ghost use Rattle.report.specs.steps.Totals.{drops_in};
 
 use crate::page::Page;
 use crate::piece::Piece;
 use history::Cause;
-use pcap_io::{Counted, DeviceFailed};
+use pcap_io::Counted;
 use std::io::Write;
 
 /// The totals of a run.
@@ -28,17 +28,11 @@ pub struct Totals<'a> {
 }
 
 /// Appends the lines of the totals.
-pub fn put_totals<W: Write>(
-    page: &mut Page,
-    writer: &mut Counted<W>,
-    totals: &Totals,
-) -> Result<(), DeviceFailed>
-    ensures puts { Puts result page.old.text.items (W.contents writer.old.inner) page.new.text.items
-        (W.contents writer.new.inner) (number_lines totals.now.records totals.now.passed
+pub fn put_totals<W: Write>(page: &mut Page, writer: &mut Counted<W>, totals: &Totals)
+    ensures { Puts W.contents page.old writer.old page.new writer.new
+        (number_lines totals.now.records totals.now.passed
         totals.now.local (drops_in totals.now.dropped.now) totals.now.begun totals.now.live
         totals.now.torn) }
-    ensures counts { CountsFailure result writer.old.failures writer.new.failures }
-    ensures flushes { writer.new.flushes ≡ writer.old.flushes }
 {
     page.put_all(
         writer,
@@ -51,8 +45,8 @@ pub fn put_totals<W: Write>(
             Piece::Number(u128::from(totals.local)),
             Piece::Text(b"\n"),
         ],
-    )?;
-    put_drops(page, writer, totals.dropped, &Cause::ALL)?;
+    );
+    put_drops(page, writer, totals.dropped, &Cause::ALL);
     page.put_all(
         writer,
         &[
@@ -73,29 +67,19 @@ fn put_drops<W: Write>(
     writer: &mut Counted<W>,
     dropped: &[u64; 17],
     causes: &[Cause],
-) -> Result<(), DeviceFailed>
-    ensures puts { Puts result page.old.text.items (W.contents writer.old.inner) page.new.text.items
-        (W.contents writer.new.inner) (flat_map (drop_line (drops_in dropped.now)) causes.now) }
-    ensures counts { CountsFailure result writer.old.failures writer.new.failures }
-    ensures flushes { writer.new.flushes ≡ writer.old.flushes }
+)
+    ensures { Puts W.contents page.old writer.old page.new writer.new
+        (flat_map (drop_line (drops_in dropped.now)) causes.now) }
 {
     for cause in causes {
-        put_drop(page, writer, *cause, dropped[cause.report_index()])?;
+        put_drop(page, writer, *cause, dropped[cause.report_index()]);
     }
-    Ok(())
 }
 
 /// Appends the line of one cause, which `lost` records have.
-fn put_drop<W: Write>(
-    page: &mut Page,
-    writer: &mut Counted<W>,
-    cause: Cause,
-    lost: u64,
-) -> Result<(), DeviceFailed>
-    ensures puts { Puts result page.old.text.items (W.contents writer.old.inner) page.new.text.items
-        (W.contents writer.new.inner) (drop_line (λ _. lost) cause) }
-    ensures counts { CountsFailure result writer.old.failures writer.new.failures }
-    ensures flushes { writer.new.flushes ≡ writer.old.flushes }
+fn put_drop<W: Write>(page: &mut Page, writer: &mut Counted<W>, cause: Cause, lost: u64)
+    ensures { Puts W.contents page.old writer.old page.new writer.new
+        (drop_line (λ _. lost) cause) }
 {
     let word = cause.report_word().as_bytes();
     page.put_all(

@@ -1,18 +1,13 @@
 -- the rules whose counters are left to put
-use Rattle.std.proofs.Common.{◌≡◌, ◌+◌, drop, map}
+use Rattle.std.proofs.Common.{◌+◌, drop, map}
 use Rattle.nft_tree.specs.Tree.{rule_tree, chain_tree, table_tree}
 use Rattle.report.specs.steps.Paging.{PutsAllBut}
 use Rattle.report.specs.steps.TallyLines.{rules_text}
 use Rattle.report.proofs.counter_lines.put_chain.Given as goal
 
 abbrev pub invariant-loop-before : goal.invariant-loop-before
-invariant-loop-before g l = record {
-  left : PutsAllBut l.initial.page.text.items (g.W.Write.contents l.initial.writer.inner) l.page.text.items
-      (g.W.Write.contents l.writer.inner)
-      (rules_text l.tallies (table_tree l.found.table.now) (chain_tree l.found.chain.now) l.table l.chain (l.before + 1)
-      (map rule_tree (drop l.before l.found.chain.now.rules.items)))
-      (rules_text l.tallies (table_tree l.found.table.now) (chain_tree l.found.chain.now) l.table l.chain 1
-      (chain_tree l.found.chain.now).rules);
-  no_failure : l.writer.failures ≡ l.initial.writer.failures;
-  flushes : l.writer.flushes ≡ l.initial.writer.flushes;
-}
+invariant-loop-before g l = PutsAllBut g.W.Write.contents l.initial.page l.initial.writer l.page l.writer
+    (rules_text l.tallies (table_tree l.found.table.now) (chain_tree l.found.chain.now) l.table l.chain (l.before + 1)
+    (map rule_tree (drop l.before l.found.chain.now.rules.items)))
+    (rules_text l.tallies (table_tree l.found.table.now) (chain_tree l.found.chain.now) l.table l.chain 1
+    (chain_tree l.found.chain.now).rules)

@@ -1,5 +1,5 @@
 -- the statements whose counters are left to put
-use Rattle.std.proofs.Common.{◌≡◌, ◌≤◌, ◌+◌, drop, map}
+use Rattle.std.proofs.Common.{◌≤◌, ◌+◌, drop, map}
 use Rattle.nft_tree.specs.Tree.{rule_tree, chain_tree, table_tree, statement}
 use Rattle.report.specs.steps.Paging.{PutsAllBut}
 use Rattle.report.specs.steps.TallyLines.{statements_text, position_of}
@@ -7,14 +7,11 @@ use Rattle.report.proofs.counter_lines.put_rule.Given as goal
 
 abbrev pub invariant-loop-before : goal.invariant-loop-before
 invariant-loop-before g l = record {
-  left : PutsAllBut l.initial.page.text.items (g.W.Write.contents l.initial.writer.inner) l.page.text.items
-      (g.W.Write.contents l.writer.inner)
+  left : PutsAllBut g.W.Write.contents l.initial.page l.initial.writer l.page l.writer
       (statements_text l.tallies (table_tree l.found.table.now) (chain_tree l.found.chain.now)
       (record { rule = (position_of l.first).rule; statement = l.before + 1 }) l.number
       (map statement (drop l.before l.rule.statements.items)))
       (statements_text l.tallies (table_tree l.found.table.now) (chain_tree l.found.chain.now) (position_of l.first) 1
       (rule_tree l.rule).statements);
-  no_failure : l.writer.failures ≡ l.initial.writer.failures;
-  flushes : l.writer.flushes ≡ l.initial.writer.flushes;
   few : l.number ≤ l.before + 1;
 }

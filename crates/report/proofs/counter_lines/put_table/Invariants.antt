@@ -1,5 +1,5 @@
 -- the chains whose counters are left to put
-use Rattle.std.proofs.Common.{◌≡◌, ◌≤◌, drop}
+use Rattle.std.proofs.Common.{◌≤◌, drop}
 use Rattle.nft_tree.specs.Tree.{table_tree}
 use Rattle.nft_tree.specs.TableItems.{chains_of}
 use Rattle.nft_tree.proofs.Chains.{chains_among}
@@ -9,12 +9,8 @@ use Rattle.report.proofs.counter_lines.put_table.Given as goal
 
 abbrev pub invariant-loop-item : goal.invariant-loop-item
 invariant-loop-item g l = record {
-  left : PutsAllBut l.initial.page.text.items (g.W.Write.contents l.initial.writer.inner) l.page.text.items
-      (g.W.Write.contents l.writer.inner)
-      (chains_text l.tallies (table_tree l.table) l.number l.chain_number
-      (chains_among (drop l.item-index l.table.items.items)))
+  left : PutsAllBut g.W.Write.contents l.initial.page l.initial.writer l.page l.writer
+      (chains_text l.tallies (table_tree l.table) l.number l.chain_number (chains_among (drop l.item-index l.table.items.items)))
       (chains_text l.tallies (table_tree l.table) l.number 0 (chains_of (table_tree l.table)));
-  no_failure : l.writer.failures ≡ l.initial.writer.failures;
-  flushes : l.writer.flushes ≡ l.initial.writer.flushes;
   few : l.chain_number ≤ l.item-index;
 }

@@ -1,4 +1,4 @@
-use Rattle.std.proofs.Common.{◌≡◌, ◌<◌, ◌≤◌, length, ap, sym, inl, inr, ◌∙◌, arith}
+use Rattle.std.proofs.Common.{inl, inr, arith}
 use Rattle.report.proofs.Counting.{set_from_one, none_from_one}
 use Rattle.report.proofs.tallies.ChainTallies.count.Goals as goal
 use Rattle.report.proofs.tallies.ChainTallies.count.Goals.{else-number-gt0-via-then-number-gt0+else-number-len}

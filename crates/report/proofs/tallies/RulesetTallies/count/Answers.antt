@@ -1,4 +1,4 @@
-use Rattle.std.proofs.Common.{◌≡◌, ◌<◌, ◌≤◌, length, ap, sym, ◌∙◌, arith}
+use Rattle.std.proofs.Common.{arith}
 use Rattle.report.proofs.Counting.{set_there, none_there}
 use Rattle.report.proofs.tallies.RulesetTallies.count.Goals as goal
 
