@@ -21,9 +21,7 @@ event_written rules true n (events.TookVerdict rule verdict) = append-nil _
 event_written rules false n (events.TookVerdict rule verdict) = refl
 event_written rules true n (events.TookPolicy chain policy) = append-nil _
 event_written rules false n (events.TookPolicy chain policy) = refl
-event_written rules trace n (events.Counted at) = refl
-event_written rules trace n (events.Marked field value) = refl
-event_written rules trace n events.Untracked = refl
+event_written rules trace n _ = refl
 
 events_written : (rules : List TableTree) (trace : Bool) (n : ℕ) (es : List Event)
     → flat_map (note_line rules) (noted_events trace n es) ≡ flat_map (event_line rules trace n) es

@@ -1,6 +1,6 @@
 -- What is put, one after another.
 use Rattle.std.proofs.Common.{◌≡◌, refl, ℕ, ◌+◌, ◌<◌, Bool, true, false, List, [], ◌∷◌, ◌++◌, length, drop, get_or, append_assoc}
-use Rattle.std.proofs.Common.{append-nil, add-one, ap, sym, subst, ◌∙◌, Result, Ok, Err}
+use Rattle.std.proofs.Common.{add-one, ap, sym, subst, ◌∙◌, Result, Ok, Err}
 use Rattle.std.specs.declared.option.Option.{Option}
 use Rattle.std.specs.List.{flat_map}
 use Rattle.std.specs.Io.KnownBytes.{Appends}
@@ -49,10 +49,6 @@ module _ {W : Type 0} {contents : W → Option Text} where
 
   pub left_start : (p : Page) (w : Counted W) (whole : Text) → PutsAllBut contents p w p w whole whole
   left_start p w whole = record { part = []; is = refl; puts = puts_none p w }
-
-  pub left_none : {p q : Page} {w x : Counted W} {rest whole : Text} → PutsAllBut contents p w q x rest whole → rest ≡ []
-      → Puts contents p w q x whole
-  left_none s none = puts_as s.puts (sym (append-nil s.part) ∙ ap (λ ys. s.part ++ ys) (sym none) ∙ s.is)
 
   pub left_as : {p q : Page} {w x : Counted W} {rest more whole : Text} → PutsAllBut contents p w q x rest whole → rest ≡ more
       → PutsAllBut contents p w q x more whole

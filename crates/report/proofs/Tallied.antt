@@ -1,9 +1,9 @@
 -- Counters after the events of one more record.
 use Rattle.std.proofs.Common.{◌≡◌, ℕ, zero, suc, ◌+◌, ◌*◌, ◌≤◌, ◌==◌, ◌&&◌, Bool, true, false, cond, List, [], ◌∷◌}
-use Rattle.std.proofs.Common.{length, slice_get, Option, Some, None, refl, sym, ap, subst, ◌∙◌, arith}
+use Rattle.std.proofs.Common.{length, slice_get, Option, Some, None, refl, sym, ap, ◌∙◌, arith}
 use Rattle.std.specs.Prelude.{min, count_by}
 use Rattle.std.specs.Option.{option_map, option_and_then}
-use Rattle.std.proofs.lemmas.Bool.{eqb-true, eqb-false}
+use Rattle.std.proofs.Math.Dec.{eqb-zero-suc, eqb-suc-zero, eqb-suc-suc}
 use Rattle.std.proofs.lemmas.Option.{none-some, same_Some}
 use Rattle.std.proofs.lemmas.List.Sums.{sum_by-cons}
 use Rattle.nft_tree.specs.declared.statement.CounterStart.{CounterStart}
@@ -26,46 +26,22 @@ use Rattle.report.specs.steps.Tallying.{table_counted, counted, counted_event, c
 abbrev pub changed_if : {A : Type 0} → Bool → (A → A) → Option A → Option A
 changed_if same f o = cond same (option_map f o) o
 
-there : {A : Type 0} (f : A → A) (n : ℕ) (xs : List A) → slice_get (changed f n xs) n ≡ option_map f (slice_get xs n)
-there f n [] = refl
-there f zero (x ∷ xs) = refl
-there f (suc n) (x ∷ xs) = there f n xs
-
-elsewhere : {A : Type 0} (f : A → A) (n m : ℕ) (xs : List A) → (n ≡ m → ⊥)
-    → slice_get (changed f n xs) m ≡ slice_get xs m
-elsewhere f n m [] other = refl
-elsewhere f zero zero (x ∷ xs) other = absurd (other refl)
-elsewhere f zero (suc m) (x ∷ xs) other = refl
-elsewhere f (suc n) zero (x ∷ xs) other = refl
-elsewhere f (suc n) (suc m) (x ∷ xs) other = elsewhere f n m xs (λ e. other (ap suc e))
-
-there_from_one : {A : Type 0} (f : A → A) (n : ℕ) (xs : List A)
-    → numbered_from_one (changed_from_one f n xs) n ≡ option_map f (numbered_from_one xs n)
-there_from_one f zero xs = refl
-there_from_one f (suc n) xs = there f n xs
-
-elsewhere_from_one : {A : Type 0} (f : A → A) (n m : ℕ) (xs : List A) → (n ≡ m → ⊥)
-    → numbered_from_one (changed_from_one f n xs) m ≡ numbered_from_one xs m
-elsewhere_from_one f zero m xs other = refl
-elsewhere_from_one f (suc n) zero xs other = refl
-elsewhere_from_one f (suc n) (suc m) xs other = elsewhere f n m xs (λ e. other (ap suc e))
-
-changed_at : {A : Type 0} (f : A → A) (n m : ℕ) (xs : List A) (same : Bool) → (n == m) ≡ same
-    → slice_get (changed f n xs) m ≡ changed_if same f (slice_get xs m)
-changed_at f n m xs true e = subst (λ k. slice_get (changed f n xs) k ≡ option_map f (slice_get xs k)) (eqb-true n m e)
-    (there f n xs)
-changed_at f n m xs false e = elsewhere f n m xs (eqb-false n m e)
-
-changed_from_one_at : {A : Type 0} (f : A → A) (n m : ℕ) (xs : List A) (same : Bool) → (n == m) ≡ same
-    → numbered_from_one (changed_from_one f n xs) m ≡ changed_if same f (numbered_from_one xs m)
-changed_from_one_at f n m xs true e =
-    subst (λ k. numbered_from_one (changed_from_one f n xs) k ≡ option_map f (numbered_from_one xs k)) (eqb-true n m e)
-    (there_from_one f n xs)
-changed_from_one_at f n m xs false e = elsewhere_from_one f n m xs (eqb-false n m e)
-
 none_changed : {A : Type 0} (same : Bool) (f : A → A) → None ≡ changed_if same f None
 none_changed true f = refl
 none_changed false f = refl
+
+changed_at : {A : Type 0} (f : A → A) (n m : ℕ) (xs : List A) → slice_get (changed f n xs) m ≡ changed_if (n == m) f (slice_get xs m)
+changed_at f n m [] = none_changed (n == m) f
+changed_at f zero zero (x ∷ xs) = refl
+changed_at f zero (suc m) (x ∷ xs) = rw eqb-zero-suc refl
+changed_at f (suc n) zero (x ∷ xs) = rw eqb-suc-zero refl
+changed_at f (suc n) (suc m) (x ∷ xs) = rw eqb-suc-suc (changed_at f n m xs)
+
+changed_from_one_at : {A : Type 0} (f : A → A) (n m : ℕ) (xs : List A)
+    → numbered_from_one (changed_from_one f n xs) m ≡ changed_if (n == m) f (numbered_from_one xs m)
+changed_from_one_at f n zero xs = none_changed (n == zero) f
+changed_from_one_at f zero (suc m) xs = rw eqb-zero-suc refl
+changed_from_one_at f (suc n) (suc m) xs = rw eqb-suc-suc (changed_at f n m xs)
 
 -- a part of it is changed where both are meant
 part_changed : {A B : Type 0} (get : A → Option B) (outer : A → A) (f : B → B) (same inside : Bool)
@@ -91,23 +67,19 @@ counted_at size p at ts =
     let r : Bool = p.rule.rule == at.rule.rule in
     let s : Bool = p.statement == at.statement in
     part_changed (λ xs. numbered_from_one xs at.statement) rule (raised size) ((t && c) && r) s _ _ (λ xs.
-    changed_from_one_at (raised size) p.statement at.statement xs s refl)
+    changed_from_one_at (raised size) p.statement at.statement xs)
     (part_changed (λ xs. numbered_from_one xs at.rule.rule) chain rule (t && c) r _ _ (λ xs.
-    changed_from_one_at rule p.rule.rule at.rule.rule xs r refl)
+    changed_from_one_at rule p.rule.rule at.rule.rule xs)
     (part_changed (λ xs. slice_get xs at.rule.chain) table chain t c _ _ (λ xs.
-    changed_at chain p.rule.chain at.rule.chain xs c refl)
-    (changed_at table p.rule.table at.rule.table ts t refl)))
+    changed_at chain p.rule.chain at.rule.chain xs)
+    (changed_at table p.rule.table at.rule.table ts)))
     ∙ ap (λ same. changed_if same (raised size) (tally_at ts at)) (grouped (t && c) r s)
 
 -- an event changes the counter that it counts
 event_at : (size : ℕ) (e : Event) (at : StatementPosition) (ts : Tallies)
     → tally_at (counted_event size e ts) at ≡ changed_if (is_counted_at at e) (raised size) (tally_at ts at)
 event_at size (events.Counted p) at ts = counted_at size p at ts
-event_at size (events.Logged p) at ts = refl
-event_at size (events.Marked field value) at ts = refl
-event_at size events.Untracked at ts = refl
-event_at size (events.TookVerdict rule verdict) at ts = refl
-event_at size (events.TookPolicy chain policy) at ts = refl
+event_at size _ at ts = refl
 
 -- ---- as many packets more as the events say
 

@@ -1,10 +1,10 @@
-use Rattle.std.proofs.Common.{◌+◌, ap, sym, ◌∙◌, arith}
+use Rattle.std.proofs.Common.{true, false, ◌+◌, ap, sym, ◌∙◌, arith}
 use Rattle.std.specs.Prelude.{is_some}
 use Rattle.nft_tree.specs.Tree.{table_tree, chain_tree}
 use Rattle.rule_meaning.specs.declared.event.StatementPosition.{StatementPosition}
 use Rattle.report.specs.steps.TallyLines.{position_of}
 use Rattle.report.proofs.Putting.{left_start, left_as, left_more}
-use Rattle.report.proofs.Listing.{statements_on, statements_past}
+use Rattle.report.proofs.Listing.{statements_on}
 use Rattle.report.proofs.counter_lines.put_rule.Goals as goal
 use Rattle.report.proofs.counter_lines.put_rule.Goals.{then-is_some, else-is_some}
 
@@ -22,14 +22,14 @@ loop-before-preserved g c =
       | then-is_some w ↦ rw (w.page-is, w.writer-is, w.number-is) (record {
         left = left_more c.loop-before.invariant.left
             (statements_on c.args.tallies.now (table_tree c.args.found.table.now) (chain_tree c.args.found.chain.now) pos
-            c.loop-before.number c.args.rule.now.statements.items i c.statement-item.result h is (counts ∙ w.if-is_some.true))
+            c.loop-before.number c.args.rule.now.statements.items i c.statement-item.result true h is (counts ∙ w.if-is_some.true))
             w.put_counter.ensures;
         few = omega arith;
       })
       | else-is_some w ↦ rw (w.page-is, w.writer-is, w.number-is) (record {
         left = left_as c.loop-before.invariant.left
-            (statements_past c.args.tallies.now (table_tree c.args.found.table.now) (chain_tree c.args.found.chain.now) pos
-            c.loop-before.number c.args.rule.now.statements.items i c.statement-item.result h is (counts ∙ w.if-is_some.false));
+            (statements_on c.args.tallies.now (table_tree c.args.found.table.now) (chain_tree c.args.found.chain.now) pos
+            c.loop-before.number c.args.rule.now.statements.items i c.statement-item.result false h is (counts ∙ w.if-is_some.false));
         few = omega arith;
       })
     ]

@@ -1,7 +1,7 @@
-use Rattle.std.proofs.Common.{arith}
+use Rattle.std.proofs.Common.{Some, None, arith}
 use Rattle.nft_tree.specs.Tree.{table_tree, chain_tree}
 use Rattle.report.proofs.Putting.{left_start, left_as, left_more}
-use Rattle.report.proofs.Listing.{chains_on, chains_past}
+use Rattle.report.proofs.Listing.{chains_on}
 use Rattle.report.proofs.counter_lines.put_table.Goals as goal
 use Rattle.report.proofs.counter_lines.put_table.Goals.{in-Some, in_default}
 
@@ -16,14 +16,14 @@ loop-item-preserved g c =
       | in-Some w ↦ rw (w.page-is, w.writer-is, w.chain_number-is) (record {
         left = left_more c.loop-item.invariant.left
             (chains_on c.args.tallies.now (table_tree c.args.table.now) c.args.number c.loop-item.chain_number c.args.table.now.items.items
-            c.loop-item.item-index c.item-item.result (chain_tree w.in-Some.chain.now) h is w.in-Some.ensures)
+            c.loop-item.item-index c.item-item.result (Some (chain_tree w.in-Some.chain.now)) h is w.in-Some.ensures)
             w.put_chain.ensures;
         few = omega arith;
       })
       | in_default w ↦ rw (w.page-is, w.writer-is, w.chain_number-is) (record {
         left = left_as c.loop-item.invariant.left
-            (chains_past c.args.tallies.now (table_tree c.args.table.now) c.args.number c.loop-item.chain_number c.args.table.now.items.items
-            c.loop-item.item-index c.item-item.result h is w.in_default.ensures);
+            (chains_on c.args.tallies.now (table_tree c.args.table.now) c.args.number c.loop-item.chain_number c.args.table.now.items.items
+            c.loop-item.item-index c.item-item.result None h is w.in_default.ensures);
         few = omega arith;
       })
     ]
