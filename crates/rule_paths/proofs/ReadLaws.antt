@@ -2,7 +2,7 @@
 use Rattle.std.proofs.Common.{◌≡◌, ℕ, ◌+◌, ◌<◌, List, [], ◌∷◌, ◌++◌, Option, Some, None, length, get_or, map, take, sym, ap, ap₂, ◌∙◌, arith}
 use Rattle.std.specs.Prelude.{sum_by}
 use Rattle.std.specs.Borrow.{Bor}
-use Rattle.std.proofs.lemmas.List.{length-map, take_more, map-append, append_assoc}
+use Rattle.std.proofs.lemmas.List.{length-map, take_more}
 use Rattle.std.proofs.lemmas.List.Sums.{sum_by_push}
 use Rattle.nft_tree.specs.declared.chain.Chain.{Chain}
 use Rattle.nft_tree.specs.Tree.{Text, HeadTree, ChainTree, TableTree, chain_tree}
@@ -45,11 +45,3 @@ module _ (t : TableTree) (costs : List ℕ) (s : AreChainCosts t costs) (cost : 
       ∙ ap saturated (sym (ap (sum_by base_of)
       (take_more (chains_of t) i c h ∙ ap (λ x. take i (chains_of t) ++ x ∷ []) e)
       ∙ sum_by_push base_of (take i (chains_of t)) c))
-
--- two more nodes
-pub two-more : {X Y : Type 0} (f : X → Y) (xs ys zs : List X) (x y : X) (cs ms : List Y) → map f xs ≡ cs ++ ms → ys
-    ≡ xs ++ x ∷ [] → zs ≡ ys ++ y ∷ [] → map f zs ≡ cs ++ (ms ++ f x ∷ f y ∷ [])
-two-more f xs ys zs x y cs ms e p q =
-    ap (map f) (q ∙ ap (λ l. l ++ y ∷ []) p) ∙ map-append f (xs ++ x ∷ []) (y ∷ [])
-    ∙ ap (λ l. l ++ f y ∷ []) (map-append f xs (x ∷ []) ∙ ap (λ l. l ++ f x ∷ []) e)
-    ∙ simp append_assoc
