@@ -4,7 +4,7 @@ use Rattle.std.proofs.Common.{length, get_or, map, take, replicate, flat_map, sy
 use Rattle.std.proofs.Common.{ltb-true, lt-ltb, get_or-take, Contains}
 use Rattle.std.specs.Prelude.{IsTrue, ◌↔◌}
 use Rattle.std.specs.List.{list_any}
-use Rattle.std.proofs.lemmas.List.{ext_get_or, length-map, length-take-le, get_or_default, get_or_append_left, take_more, length_push}
+use Rattle.std.proofs.lemmas.List.{ext_get_or, length-map, length-take-le, get_or_default, get_or_append_left, length_push}
 use Rattle.std.proofs.lemmas.List.{get_or_push, map-append}
 use Rattle.std.proofs.lemmas.List.Folds.{list_any_at, Any-from_list_any}
 use Rattle.std.proofs.lemmas.List.Elements.{Contains-push_cases, Contains-push, Contains-append_left}
@@ -298,7 +298,7 @@ none-so-far = record {
   rows = λ i t h e. absurd (omega (arith, h));
 }
 
-more-so-far : (ts : List TableTree) (t : TableTree) (deep misplaced : Bool) (cost : ℕ) (costs depths : List (Vec ℕ Global))
+pub more-so-far : (ts : List TableTree) (t : TableTree) (deep misplaced : Bool) (cost : ℕ) (costs depths : List (Vec ℕ Global))
     (found : TableFindings) → AreFindingsSoFar ts deep misplaced cost costs depths → AreTableFindings t found
     → AreFindingsSoFar (ts ++ t ∷ []) (deep || found.is_too_deep) (misplaced || found.misplaces_nat)
     (saturated (cost + found.base_cost)) (costs ++ found.costs ∷ []) (depths ++ found.depths ∷ [])
@@ -321,14 +321,6 @@ more-so-far ts t deep misplaced cost costs depths found s f = record {
         (subst (λ v. AreRows v found.costs.items found.depths.items) (sym (e ∙ get_or_push ts t u i last)) f.rows)
   ];
 }
-
-pub more-at : (tables : List TableTree) (i : ℕ) (t : TableTree) (deep misplaced : Bool) (cost cost' : ℕ)
-    (costs costs' depths depths' : List (Vec ℕ Global)) (found : TableFindings) → i < length tables → t ≡ get_or tables i t
-    → AreFindingsSoFar (take i tables) deep misplaced cost costs depths → AreTableFindings t found
-    → cost' ≡ saturated (cost + found.base_cost) → costs' ≡ costs ++ found.costs ∷ [] → depths' ≡ depths ++ found.depths ∷ []
-    → AreFindingsSoFar (take (i + 1) tables) (deep || found.is_too_deep) (misplaced || found.misplaces_nat) cost' costs' depths'
-more-at tables i t deep misplaced cost cost' costs costs' depths depths' found h e s f p q r =
-    rw (p, q, r, take_more tables i t h, ← e) (more-so-far (take i tables) t deep misplaced cost costs depths found s f)
 
 -- ---- all tables
 

@@ -1,10 +1,11 @@
-use Rattle.std.proofs.Common.{sym, subst, arith, refl}
-use Rattle.std.proofs.lemmas.List.{take_all}
+use Rattle.std.proofs.Common.{◌≡◌, ◌+◌, take, sym, subst, arith, refl}
+use Rattle.std.proofs.lemmas.List.{take_all, take_more}
 use Rattle.std.proofs.lemmas.Option.{MatchOption-at_none, MatchOption-at_some}
 use Rattle.chain_graph.specs.Graph.{HasCycle}
+use Rattle.chain_graph.specs.Measures.{saturated}
 use Rattle.rule_paths.specs.Paths.{CallsOf}
 use Rattle.rule_paths.specs.steps.Tables.{AreTableFindings, AreFindingsSoFar}
-use Rattle.rule_paths.proofs.PathFindings.{none-so-far, more-at, all-found}
+use Rattle.rule_paths.proofs.PathFindings.{none-so-far, more-so-far, all-found}
 use Rattle.rule_paths.proofs.analysis.analyze.Goals as goal
 
 pub loop-table-init : goal.loop-table-init
@@ -22,11 +23,11 @@ returns-in_default c =
 pub loop-table-preserved : goal.loop-table-preserved
 loop-table-preserved c =
     let t = c.table-item.result in
-    more-at c.args.names.now c.loop-table.table-index t c.loop-table.is_too_deep c.loop-table.misplaces_nat c.loop-table.cost c.saturating_add-cost.result
-    c.loop-table.costs.items c.push.new.self.items c.loop-table.depths.items c.push-in-loop-table.new.self.items c.in-Some.found
-    (omega arith) c.table-item.is c.loop-table.invariant
-    (MatchOption-at_some (HasCycle (CallsOf t)) (λ found. AreTableFindings t found) c.in-Some.found c.in-Some.is c.in_ok-found.ensures)
-    (omega arith) c.in_ok-push.ensures.items c.in_ok-push-2.ensures.items
+    let cost : c.saturating_add-cost.result ≡ saturated (c.loop-table.cost + c.in-Some.found.base_cost) = omega arith in
+    rw (cost, c.in_ok-push.ensures.items, c.in_ok-push-2.ensures.items, take_more c.args.names.now c.loop-table.table-index t (omega arith),
+    ← c.table-item.is)
+    (more-so-far (take c.loop-table.table-index c.args.names.now) t _ _ _ _ _ _ c.loop-table.invariant
+    (MatchOption-at_some (HasCycle (CallsOf t)) (λ found. AreTableFindings t found) c.in-Some.found c.in-Some.is c.in_ok-found.ensures))
 
 pub returns : goal.returns
 returns c = all-found c.args.names.now c.loop-table.cost _
