@@ -3,5 +3,5 @@ use Rattle.report.proofs.Putting.{puts_as}
 use Rattle.report.proofs.counter_lines.put_counter.Goals as goal
 
 pub returns : goal.returns
-returns g c = puts_as c.put_all.ensures (rw (c.family_word-family.ensures, c.deref.ensures.value, c.deref-2.ensures.value,
-    c.unwrap_or-tally.ensures, c.at.ensures) (simp append_assoc))
+returns g c = puts_as c.put_all.ensures (rw (c.family_word-family.ensures, c.deref.ensures.value, c.deref-2.ensures.value)
+    (rw (c.unwrap_or-tally.ensures, c.at.ensures) (simp append_assoc)))

@@ -24,10 +24,10 @@ pub loop-table-preserved : goal.loop-table-preserved
 loop-table-preserved c =
     let t = c.table-item.result in
     let cost : c.saturating_add-cost.result ≡ saturated (c.loop-table.cost + c.in-Some.found.base_cost) = omega arith in
-    rw (cost, c.in_ok-push.ensures.items, c.in_ok-push-2.ensures.items, take_more c.args.names.now c.loop-table.table-index t (omega arith),
-    ← c.table-item.is)
+    rw (cost, c.in_ok-push.ensures.items, c.in_ok-push-2.ensures.items)
+    (rw (take_more c.args.names.now c.loop-table.table-index t (omega arith), ← c.table-item.is)
     (more-so-far (take c.loop-table.table-index c.args.names.now) t _ _ _ _ _ _ c.loop-table.invariant
-    (MatchOption-at_some (HasCycle (CallsOf t)) (λ found. AreTableFindings t found) c.in-Some.found c.in-Some.is c.in_ok-found.ensures))
+    (MatchOption-at_some (HasCycle (CallsOf t)) (λ found. AreTableFindings t found) c.in-Some.found c.in-Some.is c.in_ok-found.ensures)))
 
 pub returns : goal.returns
 returns c = all-found c.args.names.now c.loop-table.cost _
