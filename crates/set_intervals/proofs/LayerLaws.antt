@@ -3,7 +3,8 @@ use Rattle.std.proofs.Common.{◌≡◌, ℕ, suc, ◌+◌, ◌<◌, ◌≤◌, 
 use Rattle.std.proofs.Common.{min, Bool, true, false, ◌||◌, zero, ⊎_elim, refl, sym, ap, ◌∙◌, subst, arith, Option}
 use Rattle.std.proofs.Common.{Some, None, if◌then◌else◌, append_assoc}
 use Rattle.std.specs.Option.{option_or}
-use Rattle.std.proofs.lemmas.Bool.{cases_lt, and_from, and_left, and_right, or_from, or_left, le-leb, lt-leb}
+use Rattle.std.proofs.lemmas.Bool.{cases_lt, and_from, and_left, and_right, le-leb, lt-leb}
+use Rattle.std.proofs.lemmas.Bool.Decides.{nat_tests}
 use Rattle.std.proofs.lemmas.List.{append-nil, drop_more, take-append-drop}
 use Rattle.set_intervals.specs.declared.range.Range.{Range}
 use Rattle.set_intervals.specs.Pairs.{in_range, first_value}
@@ -21,22 +22,6 @@ under r key low = and_left _ _ (lt-leb r.low key low)
 
 past : (r : Range) (key : ℕ) → r.high < key → in_range r key ≡ false
 past r key high = and_right _ _ (lt-leb key r.high high)
-
--- ranges with the same low end contain the same numbers up to where one of them ends
-same_below : (r s : Range) (key : ℕ) → r.low ≡ s.low → key ≤ r.high → key ≤ s.high → in_range r key ≡ in_range s key
-same_below r s key low one other =
-    ⊎_elim
-    (λ less. under r key less ∙ sym (under s key (omega arith)))
-    (λ more. within r key more one ∙ sym (within s key (omega arith) other))
-    (cases_lt key r.low)
-
--- ranges with the same high end contain the same numbers from where both have started
-same_above : (r s : Range) (key : ℕ) → r.high ≡ s.high → r.low ≤ key → s.low ≤ key → in_range r key ≡ in_range s key
-same_above r s key high one other =
-    ⊎_elim
-    (λ less. past r key less ∙ sym (past s key (omega arith)))
-    (λ more. within r key one more ∙ sym (within s key other (omega arith)))
-    (cases_lt r.high key)
 
 -- ---- one pair
 
@@ -116,14 +101,7 @@ table_past xs p table ends apart = record {
 
 -- the last piece merged with an adjacent range
 merged_range : (p r q : Range) (key : ℕ) → p.high + 1 ≡ r.low → q.low ≡ p.low → q.high ≡ max p.high r.high → in_range q key ≡ (in_range p key || in_range r key)
-merged_range p r q key touch low high =
-    ⊎_elim
-    (λ before. under q key (omega arith) ∙ sym (or_from _ _ (under p key before) (under r key (omega (arith, p.ordered)))))
-    (λ begun_run. ⊎_elim
-    (λ beyond. same_above q r key (omega (arith, r.ordered)) (omega arith) (omega arith) ∙ ap (λ b. b || in_range r key) (sym (past p key beyond)))
-    (λ inside. within q key (omega arith) (omega arith) ∙ sym (or_left _ _ (within p key begun_run inside)))
-    (cases_lt p.high key))
-    (cases_lt key p.low)
+merged_range p r q key touch low high = grind (arith, nat_tests, p.ordered, r.ordered)
 
 either : {V : Type 0} (a b c : Bool) (v : V) → c ≡ (a || b) → (if c then Some v else None) ≡ (if a then Some v else (if b then Some v else None))
 either true b c v e = ap (λ t. if t then Some v else None) e
@@ -162,10 +140,7 @@ pub adds_part : {V : Type 0} (old new : List (Range × V)) (r part other : Range
     → part.low ≡ r.low → part.high + 1 ≡ min (r.high + 1) other.low → SameFirstValues new (old ++ (part, v) ∷ [])
     → AddsBelow old r v other.low new
 adds_part {V} old new r part other v begins low high same = record {
-  lesser = λ key lt. same key ∙ pushed old part r v key (⊎_elim
-      (λ beyond. past part key (omega arith) ∙ sym (past r key beyond))
-      (λ inside. same_below part r key low (omega arith) inside)
-      (cases_lt r.high key));
+  lesser = λ key lt. same key ∙ pushed old part r v key (grind (arith, nat_tests, low, high, lt));
   others = λ key le. same key ∙ unpushed old part v key (past part key (omega arith));
 }
 
@@ -217,18 +192,11 @@ passed {V} old new newer first others r part v low high rises adds appended key 
     ∙ miss part v [] key (under part key (omega (arith, first.0.ordered)))))
     (λ more. front_at new old (first ∷ others ++ (part, v) ∷ []) key (adds.others key more)
     ∙ same_back old (first ∷ others ++ (part, v) ∷ []) (first ∷ others ++ (r, v) ∷ []) key (⊎_elim
-    (λ beyond. pushed (first ∷ others) part r v key (above key beyond))
+    (λ beyond. pushed (first ∷ others) part r v key (grind (arith, nat_tests, low, high, beyond)))
     (λ inside. let here = within first.0 key more inside in hit first.0 first.1 (others ++ (part, v) ∷ []) key here
     ∙ sym (hit first.0 first.1 (others ++ (r, v) ∷ []) key here))
     (cases_lt first.0.high key)))
     (cases_lt key first.0.low)
-  where
-    above : (key : ℕ) → first.0.high < key → in_range part key ≡ in_range r key
-    above key beyond =
-        ⊎_elim
-        (λ less. under part key (omega arith) ∙ sym (under r key less))
-        (λ begun_run. same_above part r key high (omega arith) begun_run)
-        (cases_lt key r.low)
 
 -- ---- overlaying two lists
 

@@ -42,6 +42,9 @@ place_of (x ∷ xs) key v (inr h) =
     let r = place_of xs key v h in
     record { pair = r.pair; at = suc r.at; in_list = omega (arith, r.in_list); stands = r.stands; covers = r.covers; value = r.value }
 
+pub place_covers : {V : Type 0} (xs : List (Range × V)) (key : ℕ) (v : V) (r : Place xs key v) (d : Range × V) → Covers (get_or xs r.at d).0 key
+place_covers {V} xs key v r d = subst (λ (s : Range × V). Covers s.0 key) (sym (r.stands d)) r.covers
+
 push_forth : {V : Type 0} (xs : List (Range × V)) (r : Range) (v : V) (key : ℕ) (w : V)
     → HasValue (xs ++ (r, v) ∷ []) key w → HasValue xs key w ⊎ (Covers r key × (v ≡ w))
 push_forth [] r v key w (inl h) = inr h

@@ -1,15 +1,15 @@
 -- The invariant of a table's pieces.
-use Rattle.std.proofs.Common.{◌≡◌, ◌≢◌, ℕ, ◌+◌, ◌-◌, ◌<◌, ◌≤◌, List, [], ◌∷◌, ◌++◌, length, get_or, set, ⊎_elim, refl}
+use Rattle.std.proofs.Common.{◌≡◌, ◌≢◌, ℕ, ◌+◌, ◌-◌, ◌<◌, ◌≤◌, List, [], ◌∷◌, ◌++◌, length, get_or, set, ⊎_elim, inl, inr, refl}
 use Rattle.std.proofs.Common.{sym, ap, ◌∙◌, subst, arith, length-append, Option, Some, None}
 use Rattle.std.specs.List.Sorted.{IsNonDecreasing, IsNonDecreasingBy}
 use Rattle.std.proofs.Math.Seq.{get_or-append_seam}
 use Rattle.std.proofs.lemmas.List.{get_or_append_left, get_or_default, get_or-set_same, get_or-set_other, length-set, get_or-map, length-map}
-use Rattle.std.proofs.lemmas.Bool.{cases_lt}
+use Rattle.std.proofs.lemmas.Bool.{cases_lt, cases_eq}
 use Rattle.set_intervals.specs.declared.range.Range.{Range}
 use Rattle.set_intervals.specs.declared.table.Overlap.TheVariants.{Disjoint}
 use Rattle.set_intervals.specs.Pairs.{HasValue, SameValues, HasClash}
 use Rattle.set_intervals.specs.steps.Pieces.{IsSeparate, IsMerged, IsTable, StartsBefore, ClassifiesOverlap, IsLowerBound, highs}
-use Rattle.set_intervals.proofs.PairLaws.{place_of, Says}
+use Rattle.set_intervals.proofs.PairLaws.{place_of, place_covers, Says}
 
 -- the high ends of pieces ascend
 pub highs_rise : {V : Type 0} (xs : List (Range × V)) → IsSeparate xs → IsNonDecreasingBy (λ (p : Range × V). p.0.high) xs
@@ -42,47 +42,31 @@ last_is xs n i d q whole last is =
 
 pub separate_push : {V : Type 0} (xs : List (Range × V)) (p : Range × V) → IsSeparate xs
     → ((i : ℕ) (d : Range × V) → i + 1 ≡ length xs → (get_or xs i d).0.high < p.0.low) → IsSeparate (xs ++ p ∷ [])
-separate_push {V} xs p sep after i j d lt in_range = ⊎_elim old new (cases_lt j (length xs))
-  where
-    len : length (xs ++ p ∷ []) ≡ length xs + 1
-    len = omega (arith, length-append xs (p ∷ []))
-
-    old : j < length xs → (get_or (xs ++ p ∷ []) i d).0.high < (get_or (xs ++ p ∷ []) j d).0.low
-    old in_old =
-        let in_old' : i < length xs = omega arith in
-        rw (get_or_append_left xs (p ∷ []) d i in_old', get_or_append_left xs (p ∷ []) d j in_old) (sep i j d lt in_old)
-
-    new : length xs ≤ j → (get_or (xs ++ p ∷ []) i d).0.high < (get_or (xs ++ p ∷ []) j d).0.low
-    new past =
-        let j_is : j ≡ length xs = omega (arith, len) in
-        let i_in : i < length xs = omega arith in
-        let last_lt : length xs - 1 < length xs = omega arith in
-        let at_end : get_or (xs ++ p ∷ []) j d ≡ p = ap (λ n. get_or (xs ++ p ∷ []) n d) j_is ∙ get_or-append_seam xs p [] d in
-        let rise = highs_rise xs sep i (length xs - 1) d (omega arith) last_lt in
-        let before = after (length xs - 1) d (omega arith) in
-        rw (get_or_append_left xs (p ∷ []) d i i_in, at_end) (omega (arith, rise, before))
+separate_push xs p sep after i j d lt inside =
+    let len = length-append xs (p ∷ []) in
+    let i_in : i < length xs = omega (arith, len) in
+    elim (cases_lt j (length xs)) [
+      | inl old ↦ rw (get_or_append_left xs (p ∷ []) d i i_in, get_or_append_left xs (p ∷ []) d j old) (sep i j d lt old)
+      | inr past ↦
+          let j_is : j ≡ length xs = omega (arith, len) in
+          let at_end : get_or (xs ++ p ∷ []) j d ≡ p = ap (λ n. get_or (xs ++ p ∷ []) n d) j_is ∙ get_or-append_seam xs p [] d in
+          let rise = highs_rise xs sep i (length xs - 1) d (omega arith) (omega arith) in
+          rw (get_or_append_left xs (p ∷ []) d i i_in, at_end) (omega (arith, rise, after (length xs - 1) d (omega arith)))
+    ]
 
 pub merged_push : {V : Type 0} (xs : List (Range × V)) (p : Range × V) → IsMerged xs
     → ((i : ℕ) (d : Range × V) → i + 1 ≡ length xs → (get_or xs i d).0.high + 1 ≡ p.0.low → (get_or xs i d).1 ≢ p.1)
     → IsMerged (xs ++ p ∷ [])
-merged_push {V} xs p merged last i d lt = ⊎_elim old new (cases_lt (i + 1) (length xs))
-  where
-    len : length (xs ++ p ∷ []) ≡ length xs + 1
-    len = omega (arith, length-append xs (p ∷ []))
-
-    in_old : i < length xs
-    in_old = omega (arith, len)
-
-    old : i + 1 < length xs → (get_or (xs ++ p ∷ []) i d).0.high + 1 ≡ (get_or (xs ++ p ∷ []) (i + 1) d).0.low
-        → (get_or (xs ++ p ∷ []) i d).1 ≢ (get_or (xs ++ p ∷ []) (i + 1) d).1
-    old next = rw (get_or_append_left xs (p ∷ []) d i in_old, get_or_append_left xs (p ∷ []) d (i + 1) next) (merged i d next)
-
-    new : length xs ≤ i + 1 → (get_or (xs ++ p ∷ []) i d).0.high + 1 ≡ (get_or (xs ++ p ∷ []) (i + 1) d).0.low
-        → (get_or (xs ++ p ∷ []) i d).1 ≢ (get_or (xs ++ p ∷ []) (i + 1) d).1
-    new past =
-        let j_is : i + 1 ≡ length xs = omega (arith, len) in
-        let at_end : get_or (xs ++ p ∷ []) (i + 1) d ≡ p = ap (λ n. get_or (xs ++ p ∷ []) n d) j_is ∙ get_or-append_seam xs p [] d in
-        rw (get_or_append_left xs (p ∷ []) d i in_old, at_end) (last i d j_is)
+merged_push xs p merged last i d lt =
+    let len = length-append xs (p ∷ []) in
+    let in_old : i < length xs = omega (arith, len) in
+    elim (cases_lt (i + 1) (length xs)) [
+      | inl next ↦ rw (get_or_append_left xs (p ∷ []) d i in_old, get_or_append_left xs (p ∷ []) d (i + 1) next) (merged i d next)
+      | inr past ↦
+          let j_is : i + 1 ≡ length xs = omega (arith, len) in
+          let at_end : get_or (xs ++ p ∷ []) (i + 1) d ≡ p = ap (λ n. get_or (xs ++ p ∷ []) n d) j_is ∙ get_or-append_seam xs p [] d in
+          rw (get_or_append_left xs (p ∷ []) d i in_old, at_end) (last i d j_is)
+    ]
 
 -- a new last piece that can't merge with the one before it
 pub table_push : {V : Type 0} (xs : List (Range × V)) (n : ℕ) (q p : Range × V) → IsTable xs → n ≡ length xs → q
@@ -94,32 +78,23 @@ table_push {V} xs n q p table whole is apart = record {
 }
 
 pub starts_push : {V : Type 0} (xs : List (Range × V)) (p : Range × V) → StartsBefore xs p.0.low → StartsBefore (xs ++ p ∷ []) p.0.low
-starts_push {V} xs p before i d lt =
-    ⊎_elim
-    (λ old. rw (get_or_append_left xs (p ∷ []) d i old) (before i d old))
-    (λ past. let e : i ≡ length xs = omega (arith, length-append xs (p ∷ [])) in omega
-    (arith, ap (λ (s : Range × V). s.0.low) (ap (λ n. get_or (xs ++ p ∷ []) n d) e ∙ get_or-append_seam xs p [] d)))
-    (cases_lt i (length xs))
+starts_push {V} xs p before i d lt = elim (cases_lt i (length xs)) [
+  | inl old ↦ rw (get_or_append_left xs (p ∷ []) d i old) (before i d old)
+  | inr past ↦
+      let e : i ≡ length xs = omega (arith, length-append xs (p ∷ [])) in
+      omega (arith, ap (λ (s : Range × V). s.0.low) (ap (λ n. get_or (xs ++ p ∷ []) n d) e ∙ get_or-append_seam xs p [] d))
+]
 
 -- ---- a wider piece
 
 pub starts_widen : {V : Type 0} (xs : List (Range × V)) (i : ℕ) (p q : Range × V) (n : ℕ) → i < length xs → p
     ≡ get_or xs i p → q.0.low ≡ p.0.low → StartsBefore xs n → StartsBefore (set xs i q) n
-starts_widen {V} xs i p q n lt is same before j d in_list =
-    let j_in : j < length xs = omega (arith, length-set xs i q) in
-    ⊎_elim
-    (λ less. let ne : j ≢ i = omega arith in rw (get_or-set_other xs i j q d ne) (before j d j_in))
-    (λ more. ⊎_elim
-    (λ greater. let ne : j ≢ i = omega arith in rw (get_or-set_other xs i j q d ne) (before j d j_in))
-    (λ le. let e : j ≡ i = omega arith in omega (
-      arith,
-      ap (λ (s : Range × V). s.0.low) (ap (λ m. get_or (set xs i q) m d) e ∙ get_or-set_same xs i q d lt),
-      ap (λ (s : Range × V). s.0.low) is,
-      before i p lt,
-      same,
-    ))
-    (cases_lt i j))
-    (cases_lt j i)
+starts_widen {V} xs i p q n lt is same before j d in_list = elim (cases_eq j i) [
+  | inl e ↦
+      let at = ap (λ m. get_or (set xs i q) m d) e ∙ get_or-set_same xs i q d lt in
+      omega (arith, ap (λ (s : Range × V). s.0.low) at, ap (λ (s : Range × V). s.0.low) is, before i p lt, same)
+  | inr ne ↦ rw (get_or-set_other xs i j q d ne) (before j d (omega (arith, length-set xs i q)))
+]
 
 -- ---- the one value at a number
 
@@ -127,21 +102,14 @@ starts_widen {V} xs i p q n lt is same before j d in_list =
 pub not_held : {V : Type 0} (xs : List (Range × V)) → IsSeparate xs → (key at : ℕ)
     → IsLowerBound xs key at → ((d : Range × V) → at < length xs → key < (get_or xs at d).0.low) → (v : V)
     → HasValue xs key v → ⊥
-not_held {V} xs sep key at reach later v h =
+not_held xs sep key at reach later v h =
     let r = place_of xs key v h in
     let d = r.pair in
-    let i = r.at in
-    let in_list : i < length xs = r.in_list in
-    let low : d.0.low ≤ key = r.covers.above in
-    let high : key ≤ d.0.high = r.covers.below in
-    let here : get_or xs i d ≡ d = r.stands d in
-    ⊎_elim
-    (λ before. omega (arith, (reach i d in_list).0 before, ap (λ (s : Range × V). s.0.high) here))
-    (λ from. ⊎_elim
-    (λ after. omega (arith, sep at i d after in_list, later d (omega arith), (get_or xs at d).0.ordered, ap (λ (s : Range × V). s.0.low) here))
-    (λ le. let e : i ≡ at = omega arith in omega (arith, later d (omega arith), ap (λ (n : ℕ). (get_or xs n d).0.low) e, ap (λ (s : Range × V). s.0.low) here))
-    (cases_lt at i))
-    (cases_lt i at)
+    let here = place_covers xs key v r d in
+    let past : at < r.at → ⊥ = λ after. omega (arith, sep at r.at d after r.in_list, later d, here.above, (get_or xs at d).0.ordered) in
+    let no_less : at ≤ r.at = grind (arith, (reach r.at d r.in_list).0, here.below) in
+    let e : r.at ≡ at = omega (arith, past, no_less) in
+    omega (arith, later d (omega (arith, e, r.in_list)), ap (λ (n : ℕ). (get_or xs n d).0.low) e, here.above)
 
 -- disjoint pieces have at most one value at a key
 one_value : {V : Type 0} (xs : List (Range × V)) → IsSeparate xs → (key : ℕ) (v w : V) → HasValue xs key v → HasValue xs key w → v ≡ w
@@ -149,17 +117,12 @@ one_value {V} xs sep key v w hv hw =
     let a = place_of xs key v hv in
     let b = place_of xs key w hw in
     let d = a.pair in
-    let a_high : key ≤ (get_or xs a.at d).0.high = omega (arith, a.covers.below, ap (λ (s : Range × V). s.0.high) (a.stands d)) in
-    let a_low : (get_or xs a.at d).0.low ≤ key = omega (arith, a.covers.above, ap (λ (s : Range × V). s.0.low) (a.stands d)) in
-    let b_high : key ≤ (get_or xs b.at d).0.high = omega (arith, b.covers.below, ap (λ (s : Range × V). s.0.high) (b.stands d)) in
-    let b_low : (get_or xs b.at d).0.low ≤ key = omega (arith, b.covers.above, ap (λ (s : Range × V). s.0.low) (b.stands d)) in
-    ⊎_elim
-    (λ lt. absurd (omega (arith, a_high, b_low, sep a.at b.at d lt b.in_list)))
-    (λ le. ⊎_elim
-    (λ gt. absurd (omega (arith, b_high, a_low, sep b.at a.at d gt a.in_list)))
-    (λ ge. let e : a.at ≡ b.at = omega arith in sym a.value ∙ ap (λ (s : Range × V). s.1) (sym (a.stands d) ∙ ap (λ n. get_or xs n d) e ∙ b.stands d) ∙ b.value)
-    (cases_lt b.at a.at))
-    (cases_lt a.at b.at)
+    let in_a = place_covers xs key v a d in
+    let in_b = place_covers xs key w b d in
+    let no_less : a.at < b.at → ⊥ = λ lt. omega (arith, in_a.below, in_b.above, sep a.at b.at d lt b.in_list) in
+    let no_more : b.at < a.at → ⊥ = λ gt. omega (arith, in_b.below, in_a.above, sep b.at a.at d gt a.in_list) in
+    let e : a.at ≡ b.at = omega (arith, no_less, no_more) in
+    sym a.value ∙ ap (λ (s : Range × V). s.1) (sym (a.stands d) ∙ ap (λ n. get_or xs n d) e ∙ b.stands d) ∙ b.value
 
 -- the value at a key is unique
 pub one_answer : {V : Type 0} (xs ys : List (Range × V)) → IsSeparate xs → SameValues xs ys → (key : ℕ) (a b : Option V) → Says xs key a → Says ys key b → a ≡ b

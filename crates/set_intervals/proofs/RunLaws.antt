@@ -1,12 +1,12 @@
 -- A table has one piece for each run of consecutive numbers with one value.
-use Rattle.std.proofs.Common.{◌≡◌, ℕ, ◌+◌, ◌-◌, ◌<◌, ◌≤◌, List, [], ◌∷◌, length, map, get_or, ⊎_elim, sym, ap, ◌∙◌, subst, arith, Contains}
+use Rattle.std.proofs.Common.{◌≡◌, ℕ, ◌+◌, ◌-◌, ◌<◌, List, [], ◌∷◌, length, map, get_or, ⊎_elim, sym, ap, ◌∙◌, subst, arith, Contains}
 use Rattle.std.specs.List.Sorted.{IsStrictlyIncreasing}
 use Rattle.std.proofs.lemmas.List.{get_or-map, get_or_default, length-map}
 use Rattle.std.proofs.lemmas.Bool.{cases_lt}
 use Rattle.set_intervals.specs.declared.range.Range.{Range}
 use Rattle.set_intervals.specs.Pairs.{HasValue, BeginsRun, HasRuns}
 use Rattle.set_intervals.specs.steps.Pieces.{IsTable}
-use Rattle.set_intervals.proofs.PairLaws.{holds_read, place_of}
+use Rattle.set_intervals.proofs.PairLaws.{holds_read, place_of, place_covers}
 
 -- the low ends of the pieces
 lows : {V : Type 0} → List (Range × V) → List ℕ
@@ -38,23 +38,21 @@ fresh_at : {V : Type 0} (xs : List (Range × V)) → IsTable xs → (i : ℕ) (d
 fresh_at {V} xs table i d lt before next held =
     let other = place_of xs before (get_or xs i d).1 held in
     let j = other.at in
-    let there : get_or xs j d ≡ other.pair = other.stands d in
-    let low : (get_or xs j d).0.low ≤ before = omega (arith, other.covers.above, ap (λ (s : Range × V). s.0.low) there) in
-    let high : before ≤ (get_or xs j d).0.high = omega (arith, other.covers.below, ap (λ (s : Range × V). s.0.high) there) in
-    ⊎_elim
-    (λ less. ⊎_elim
-    (λ far. omega (arith, high, table.separate j (j + 1) d (omega arith) (omega arith), (get_or xs (j + 1) d).0.ordered, table.separate (j + 1) i d far lt))
-    (λ near.
-    let e : j + 1 ≡ i = omega arith in
+    let here = place_covers xs before (get_or xs i d).1 other d in
+    let no_more : i < j → ⊥ = λ past. omega (arith, here.above, table.separate i j d past other.in_list, (get_or xs i d).0.ordered) in
+    let not_same : j ≡ i → ⊥ = λ e. omega (arith, here.above, ap (λ n. (get_or xs n d).0.low) e) in
+    let near : j + 1 < i → ⊥ = λ far. omega (
+      arith,
+      here.below,
+      table.separate j (j + 1) d (omega arith) (omega (arith, far, lt)),
+      (get_or xs (j + 1) d).0.ordered,
+      table.separate (j + 1) i d far lt,
+    ) in
+    let e : j + 1 ≡ i = omega (arith, no_more, not_same, near) in
     let touch : (get_or xs j d).0.high + 1 ≡ (get_or xs (j + 1) d).0.low =
-    omega (arith, high, table.separate j i d less lt, ap (λ n. (get_or xs n d).0.low) e) in
-    table.merged j d (omega arith) touch (ap (λ (s : Range × V). s.1) there ∙ other.value ∙ ap (λ n. (get_or xs n d).1) (sym e)))
-    (cases_lt (j + 1) i))
-    (λ from. ⊎_elim
-    (λ past. omega (arith, low, table.separate i j d past other.in_list, (get_or xs i d).0.ordered))
-    (λ same. let e : j ≡ i = omega arith in omega (arith, low, ap (λ n. (get_or xs n d).0.low) e))
-    (cases_lt i j))
-    (cases_lt j i)
+    omega (arith, here.below, table.separate j i d (omega (arith, e)) lt, ap (λ n. (get_or xs n d).0.low) e) in
+    table.merged j d (omega (arith, e, lt)) touch
+    (ap (λ (s : Range × V). s.1) (other.stands d) ∙ other.value ∙ ap (λ n. (get_or xs n d).1) (sym e))
 
 begins : {V : Type 0} (xs : List (Range × V)) → IsTable xs → (key : ℕ) → Contains (lows xs) key → BeginsRun xs key
 begins {V} xs table key c =
