@@ -10,6 +10,7 @@ use Rattle.set_intervals.specs.declared.range.Range.{Range}
 use Rattle.set_intervals.specs.Pairs.{in_range, first_value}
 use Rattle.set_intervals.specs.steps.Pieces.{IsTable, IsSeparate}
 use Rattle.set_intervals.specs.steps.Layers.{SameFirstValues, EndsBefore, IsRising, Follows, AddsBelow}
+use Rattle.set_intervals.proofs.PairLaws.{by_last, set_last}
 use Rattle.set_intervals.proofs.PieceLaws.{separate_push, merged_push}
 
 -- ---- `Covers` as a test
@@ -107,22 +108,16 @@ either : {V : Type 0} (a b c : Bool) (v : V) → c ≡ (a || b) → (if c then S
 either true b c v e = ap (λ t. if t then Some v else None) e
 either false b c v e = ap (λ t. if t then Some v else None) e
 
-first_value-widened : {V : Type 0} (xs : List (Range × V)) (i : ℕ) (d : Range × V) (q r : Range) (key : ℕ) → i + 1
-    ≡ length xs → in_range q key ≡ (in_range (get_or xs i d).0 key || in_range r key)
-    → first_value (set xs i (q, (get_or xs i d).1)) key ≡ first_value (xs ++ (r, (get_or xs i d).1) ∷ []) key
-first_value-widened [] i d q r key last e = absurd (omega arith)
-first_value-widened (x ∷ []) zero d q r key last e = either (in_range x.0 key) (in_range r key) (in_range q key) x.1 e
-first_value-widened (x ∷ (y ∷ ys)) zero d q r key last e = absurd (omega arith)
-first_value-widened (x ∷ xs) (suc i) d q r key last e = ap (λ o. if in_range x.0 key then Some x.1 else o) (first_value-widened xs i d q r key (omega arith) e)
-
 pub merged_last : {V : Type 0} (xs : List (Range × V)) (i : ℕ) (p : Range × V) (r q : Range) (v : V) → i + 1
     ≡ length xs → p ≡ get_or xs i p → p.1 ≡ v → p.0.high + 1 ≡ r.low → q.low ≡ p.0.low → q.high ≡ max p.0.high r.high
     → SameFirstValues (set xs i (q, p.1)) (xs ++ (r, v) ∷ [])
 merged_last {V} xs i p r q v last is value touch low high key =
-    let range_is : in_range q key ≡ (in_range (get_or xs i p).0 key || in_range r key) =
-    merged_range p.0 r q key touch low high ∙ ap (λ (s : Range × V). in_range s.0 key || in_range r key) is in
-    ap (λ (s : Range × V). first_value (set xs i (q, s.1)) key) is ∙ first_value-widened xs i p q r key last range_is
-    ∙ ap (λ (s : Range × V). first_value (xs ++ (r, s.1) ∷ []) key) (sym is)
+    let front = take i xs in
+    ap (λ l. first_value l key) (set_last xs i (q, p.1) last)
+    ∙ same_back front ((q, p.1) ∷ []) (p ∷ (r, p.1) ∷ []) key
+    (either (in_range p.0 key) (in_range r key) (in_range q key) p.1 (merged_range p.0 r q key touch low high))
+    ∙ ap (λ l. first_value l key) (sym (append_assoc front (p ∷ []) ((r, p.1) ∷ [])))
+    ∙ ap (λ l. first_value (l ++ (r, p.1) ∷ []) key) (sym (by_last xs i p last is))
     ∙ ap (λ w. first_value (xs ++ (r, w) ∷ []) key) value
 
 -- ---- the part of a range before another one

@@ -5,7 +5,7 @@ use Rattle.std.proofs.Common.{Some, None, MatchOption, if◌then◌else◌}
 use Rattle.std.proofs.lemmas.Bool.{cases_lt}
 use Rattle.std.proofs.lemmas.Bool.Decides.{nat_tests}
 use Rattle.std.specs.List.Sorted.{IsPermutation}
-use Rattle.std.proofs.lemmas.List.{take_more, take_all}
+use Rattle.std.proofs.lemmas.List.{take_more, take_more_set, take_all, length-set}
 use Rattle.std.proofs.lemmas.List.Sorted.{Contains-permutation, IsPermutation-sym}
 use Rattle.set_intervals.specs.declared.range.Range.{Range}
 use Rattle.set_intervals.specs.Pairs.{Covers, HasValue, SameValues, HasClash, in_range, first_value}
@@ -64,40 +64,31 @@ push_back (x ∷ xs) r v key w (inr h) = inr (push_back xs r v key w (inr h))
 pub adds_push : {V : Type 0} (xs : List (Range × V)) (r : Range) (v : V) → Adds xs r v (xs ++ (r, v) ∷ [])
 adds_push xs r v key w = (push_forth xs r v key w, push_back xs r v key w)
 
--- a piece is widened
-widen_forth : {V : Type 0} (xs : List (Range × V)) (i : ℕ) (d : Range × V) (q r : Range) (key : ℕ) (w : V)
-    → i < length xs → (Covers q key → Covers (get_or xs i d).0 key ⊎ Covers r key)
-    → HasValue (set xs i (q, (get_or xs i d).1)) key w → HasValue xs key w ⊎ (Covers r key × ((get_or xs i d).1 ≡ w))
-widen_forth [] i d q r key w lt split h = absurd (omega arith)
-widen_forth (x ∷ xs) zero d q r key w lt split (inl h) = ⊎_elim (λ a. inl (inl (a, h.1))) (λ b. inr (b, h.1)) (split h.0)
-widen_forth (x ∷ xs) zero d q r key w lt split (inr h) = inl (inr h)
-widen_forth (x ∷ xs) (suc i) d q r key w lt split (inl h) = inl (inl h)
-widen_forth (x ∷ xs) (suc i) d q r key w lt split (inr h) = ⊎_elim (λ a. inl (inr a)) (λ b. inr b) (widen_forth xs i d q r key w (omega arith) split h)
+-- a list by its last element, and with another one set there
+pub by_last : {X : Type 0} (xs : List X) (i : ℕ) (p : X) → i + 1 ≡ length xs → p ≡ get_or xs i p → xs ≡ take i xs ++ p ∷ []
+by_last xs i p last is =
+    sym (take_all (i + 1) xs (omega (arith, last))) ∙ take_more xs i p (omega (arith, last)) ∙ ap (λ q. take i xs ++ q ∷ []) (sym is)
 
-widen_back : {V : Type 0} (xs : List (Range × V)) (i : ℕ) (d : Range × V) (q r : Range) (key : ℕ) (w : V)
-    → i < length xs → (Covers (get_or xs i d).0 key ⊎ Covers r key → Covers q key) → HasValue xs key w
-    ⊎ (Covers r key × ((get_or xs i d).1 ≡ w)) → HasValue (set xs i (q, (get_or xs i d).1)) key w
-widen_back [] i d q r key w lt join h = absurd (omega arith)
-widen_back (x ∷ xs) zero d q r key w lt join (inl (inl h)) = inl (join (inl h.0), h.1)
-widen_back (x ∷ xs) zero d q r key w lt join (inl (inr h)) = inr h
-widen_back (x ∷ xs) zero d q r key w lt join (inr h) = inl (join (inr h.0), h.1)
-widen_back (x ∷ xs) (suc i) d q r key w lt join (inl (inl h)) = inl h
-widen_back (x ∷ xs) (suc i) d q r key w lt join (inl (inr h)) = inr (widen_back xs i d q r key w (omega arith) join (inl h))
-widen_back (x ∷ xs) (suc i) d q r key w lt join (inr h) = inr (widen_back xs i d q r key w (omega arith) join (inr h))
+pub set_last : {X : Type 0} (xs : List X) (i : ℕ) (q : X) → i + 1 ≡ length xs → set xs i q ≡ take i xs ++ q ∷ []
+set_last xs i q last = sym (take_all (i + 1) (set xs i q) (omega (arith, last, length-set xs i q))) ∙ take_more_set xs i q (omega (arith, last))
 
--- a piece is replaced by a wider one with the same low end
-pub adds_widen : {V : Type 0} (xs : List (Range × V)) (i : ℕ) (p : Range × V) (q r : Range) (v : V) → i < length xs
+-- the last piece is replaced by a wider one with the same low end
+pub adds_widen : {V : Type 0} (xs : List (Range × V)) (i : ℕ) (p : Range × V) (q r : Range) (v : V) → i + 1 ≡ length xs
     → p ≡ get_or xs i p → p.1 ≡ v → ((key : ℕ) → Covers q key → Covers p.0 key ⊎ Covers r key)
     → ((key : ℕ) → Covers p.0 key ⊎ Covers r key → Covers q key) → Adds xs r v (set xs i (q, p.1))
-adds_widen {V} xs i p q r v lt is same split join key w =
-    let split' = subst (λ (s : Range × V). Covers q key → Covers s.0 key ⊎ Covers r key) is (split key) in
-    let join' = subst (λ (s : Range × V). Covers s.0 key ⊎ Covers r key → Covers q key) is (join key) in
-    let e : (get_or xs i p).1 ≡ v = ap (λ (s : Range × V). s.1) (sym is) ∙ same in
-    let set_is : set xs i (q, p.1) ≡ set xs i (q, (get_or xs i p).1) = ap (λ (s : Range × V). set xs i (q, s.1)) is in (
-      λ h. subst (λ u. HasValue xs key w ⊎ (Covers r key × (u ≡ w))) e (widen_forth xs i p q r key w lt split' (subst (λ l. HasValue l key w) set_is h)),
-      λ h. subst (λ l. HasValue l key w) (sym set_is)
-          (widen_back xs i p q r key w lt join' (subst (λ u. HasValue xs key w ⊎ (Covers r key × (u ≡ w))) (sym e) h)),
-    )
+adds_widen {V} xs i p q r v last is same split join =
+    let front = take i xs in
+    subst (λ l. Adds l r v (set xs i (q, p.1))) (sym (by_last xs i p last is))
+    (subst (λ l. Adds (front ++ p ∷ []) r v l) (sym (set_last xs i (q, p.1) last)) (λ key w. (
+      λ h. elim (push_forth front q p.1 key w h) [
+        | inl old ↦ inl (push_back front p.0 p.1 key w (inl old))
+        | inr now ↦ elim (split key now.0) [ inl a ↦ inl (push_back front p.0 p.1 key w (inr (a, now.1))) | inr b ↦ inr (b, sym same ∙ now.1) ]
+      ],
+      λ h. push_back front q p.1 key w (elim h [
+        | inl old ↦ elim (push_forth front p.0 p.1 key w old) [ inl before ↦ inl before | inr now ↦ inr (join key (inl now.0), now.1) ]
+        | inr now ↦ inr (join key (inr now.0), same ∙ now.1)
+      ]),
+    )))
 
 -- two ranges that overlap or are adjacent, and their merged range
 pub covers_split : (first later both : Range) → later.low ≤ first.high + 1 → both.low ≡ first.low → both.high

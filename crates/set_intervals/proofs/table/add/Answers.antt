@@ -53,6 +53,6 @@ returns-in-Mergeable-clause-adds g c =
     let last = c.index-last.result.now in
     let lt : c.len-len.result - 1 < length xs = omega arith in
     let rising : last.0.low ≤ c.args.range.low = omega (arith, c.requires.after (c.len-len.result - 1) last lt, ap (λ p. p.0.low) c.index-last.ensures) in
-    adds_widen xs (c.len-len.result - 1) last c.merged.result c.args.range c.args.value lt c.index-last.ensures c.in-Mergeable.ensures.1
+    adds_widen xs (c.len-len.result - 1) last c.merged.result c.args.range c.args.value (omega arith) c.index-last.ensures c.in-Mergeable.ensures.1
     (covers_split last.0 c.args.range c.merged.result c.in-Mergeable.ensures.0 c.merged.ensures.low c.merged.ensures.high)
     (covers_merge last.0 c.args.range c.merged.result rising c.merged.ensures.low c.merged.ensures.high)
