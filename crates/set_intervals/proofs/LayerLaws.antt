@@ -1,6 +1,6 @@
 -- The first value at each number, when intervals are overlaid.
 use Rattle.std.proofs.Common.{◌≡◌, ℕ, suc, ◌+◌, ◌<◌, ◌≤◌, List, [], ◌∷◌, ◌++◌, length, get_or, set, take, drop, max}
-use Rattle.std.proofs.Common.{min, Bool, true, false, ◌||◌, zero, ⊎_elim, refl, sym, ap, ◌∙◌, subst, arith, Option}
+use Rattle.std.proofs.Common.{min, Bool, true, false, ◌||◌, inl, inr, refl, sym, ap, ◌∙◌, subst, arith, Option}
 use Rattle.std.proofs.Common.{Some, None, if◌then◌else◌, append_assoc}
 use Rattle.std.specs.Option.{option_or}
 use Rattle.std.proofs.lemmas.Bool.{cases_lt, and_from, and_left, and_right, le-leb, lt-leb}
@@ -147,29 +147,36 @@ adds_nothing old r other v le = record {
 
 -- ---- a range under the first of the upper pieces
 
--- the part below that piece
-beneath : {V : Type 0} (old new tail : List (Range × V)) (first : Range × V) (others : List (Range × V)) (r : Range)
-    (v : V) (key : ℕ) → IsRising (first.0.high + 1) others → AddsBelow old r v first.0.low new → key < first.0.low
-    → first_value tail key ≡ None → first_value (new ++ tail) key ≡ first_value (old ++ (first ∷ others ++ (r, v) ∷ [])) key
-beneath {V} old new tail first others r v key rises adds less silent =
-    same_back new tail [] key silent
-    ∙ ap (λ l. first_value l key) (append-nil new)
-    ∙ adds.lesser key less
-    ∙ same_back old ((r, v) ∷ []) (first ∷ others ++ (r, v) ∷ []) key
-    (sym (skip (first ∷ others) ((r, v) ∷ []) key (none_below first.0.low key (first ∷ others) less (omega arith, rises))))
+-- what is left of the range after that piece has its values above the piece, and none below it
+over : {V : Type 0} (old new tail : List (Range × V)) (first : Range × V) (others : List (Range × V)) (r : Range) (v : V)
+    → IsRising (first.0.high + 1) others → AddsBelow old r v first.0.low new
+    → ((key : ℕ) → key < first.0.low → first_value tail key ≡ None)
+    → ((key : ℕ) → first.0.high < key → first_value tail key ≡ first_value ((r, v) ∷ []) key)
+    → SameFirstValues (new ++ (first ∷ others ++ tail)) (old ++ (first ∷ others ++ (r, v) ∷ []))
+over {V} old new tail first others r v rises adds silent above key = elim (cases_lt key first.0.low) [
+  | inl less ↦
+      let none = none_below first.0.low key (first ∷ others) less (omega arith, rises) in
+      same_back new (first ∷ others ++ tail) [] key (skip (first ∷ others) tail key none ∙ silent key less)
+      ∙ ap (λ l. first_value l key) (append-nil new)
+      ∙ adds.lesser key less
+      ∙ same_back old ((r, v) ∷ []) (first ∷ others ++ (r, v) ∷ []) key (sym (skip (first ∷ others) ((r, v) ∷ []) key none))
+  | inr more ↦
+      front_at new old (first ∷ others ++ tail) key (adds.others key more)
+      ∙ same_back old (first ∷ others ++ tail) (first ∷ others ++ (r, v) ∷ []) key (elim (cases_lt first.0.high key) [
+        | inl beyond ↦ same_back (first ∷ others) tail ((r, v) ∷ []) key (above key beyond)
+        | inr inside ↦
+            let here = within first.0 key more inside in
+            hit first.0 first.1 (others ++ tail) key here ∙ sym (hit first.0 first.1 (others ++ (r, v) ∷ []) key here)
+      ])
+]
 
 -- no part of the range is above that piece
 pub covered : {V : Type 0} (old new : List (Range × V)) (first : Range × V) (others : List (Range × V)) (r : Range)
     (v : V) → r.high ≤ first.0.high → IsRising (first.0.high + 1) others → AddsBelow old r v first.0.low new
     → SameFirstValues (new ++ first ∷ others) (old ++ (first ∷ others ++ (r, v) ∷ []))
 covered {V} old new first others r v ends rises adds key =
-    ⊎_elim
-    (λ less. beneath old new (first ∷ others) first others r v key rises adds less (none_below first.0.low key (first ∷ others) less (omega arith, rises)))
-    (λ more. front_at new old (first ∷ others) key (adds.others key more) ∙ same_back old (first ∷ others) (first ∷ others ++ (r, v) ∷ []) key (⊎_elim
-    (λ beyond. sym (unpushed (first ∷ others) r v key (past r key (omega arith))))
-    (λ inside. let here = within first.0 key more inside in hit first.0 first.1 others key here ∙ sym (hit first.0 first.1 (others ++ (r, v) ∷ []) key here))
-    (cases_lt first.0.high key)))
-    (cases_lt key first.0.low)
+    ap (λ l. first_value (new ++ first ∷ l) key) (sym (append-nil others))
+    ∙ over old new [] first others r v rises adds (λ k less. refl) (λ k beyond. sym (miss r v [] k (past r k (omega (arith, ends, beyond))))) key
 
 -- the rest of the range is above that piece, which is appended
 pub passed : {V : Type 0} (old new newer : List (Range × V)) (first : Range × V) (others : List (Range × V))
@@ -180,18 +187,9 @@ pub passed : {V : Type 0} (old new newer : List (Range × V)) (first : Range × 
 passed {V} old new newer first others r part v low high rises adds appended key =
     same_front newer (new ++ first ∷ []) (others ++ (part, v) ∷ []) appended key
     ∙ ap (λ l. first_value l key) (append_assoc new (first ∷ []) (others ++ (part, v) ∷ []))
-    ∙ ⊎_elim
-    (λ less. beneath old new (first ∷ others ++ (part, v) ∷ []) first others r v key rises adds less
-    (skip (first ∷ others) ((part, v) ∷ []) key
-    (none_below first.0.low key (first ∷ others) less (omega arith, rises))
-    ∙ miss part v [] key (under part key (omega (arith, first.0.ordered)))))
-    (λ more. front_at new old (first ∷ others ++ (part, v) ∷ []) key (adds.others key more)
-    ∙ same_back old (first ∷ others ++ (part, v) ∷ []) (first ∷ others ++ (r, v) ∷ []) key (⊎_elim
-    (λ beyond. pushed (first ∷ others) part r v key (grind (arith, nat_tests, low, high, beyond)))
-    (λ inside. let here = within first.0 key more inside in hit first.0 first.1 (others ++ (part, v) ∷ []) key here
-    ∙ sym (hit first.0 first.1 (others ++ (r, v) ∷ []) key here))
-    (cases_lt first.0.high key)))
-    (cases_lt key first.0.low)
+    ∙ over old new ((part, v) ∷ []) first others r v rises adds
+    (λ k less. miss part v [] k (under part k (omega (arith, first.0.ordered))))
+    (λ k beyond. pushed [] part r v k (grind (arith, nat_tests, low, high, beyond))) key
 
 -- ---- overlaying two lists
 
