@@ -24,12 +24,8 @@ highs_ascend [] sep i j d le lt = absurd (omega (arith, lt))
 highs_ascend (x ∷ xs) sep i j d le lt =
     let ys = x ∷ xs in
     let inside : j < length ys = omega (arith, lt, length-map ys (λ p. p.0.high)) in
-    omega (
-      arith,
-      highs_rise ys sep i j x le inside,
-      get_or-map (λ p. p.0.high) ys i x d (omega (arith, le, inside)),
-      get_or-map (λ p. p.0.high) ys j x d inside,
-    )
+    let read = λ (k : ℕ) (in_list : k < length ys). get_or-map (λ p. p.0.high) ys k x d in_list in
+    omega (arith, highs_rise ys sep i j x le inside, read i (omega (arith, le, inside)), read j inside)
 
 -- ---- a new last piece
 

@@ -41,13 +41,9 @@ fresh_at {V} xs table i d lt before next held =
     let here = place_covers xs before (get_or xs i d).1 other d in
     let no_more : i < j → ⊥ = λ past. omega (arith, here.above, table.separate i j d past other.in_list, (get_or xs i d).0.ordered) in
     let not_same : j ≡ i → ⊥ = λ e. omega (arith, here.above, ap (λ n. (get_or xs n d).0.low) e) in
-    let near : j + 1 < i → ⊥ = λ far. omega (
-      arith,
-      here.below,
-      table.separate j (j + 1) d (omega arith) (omega (arith, far, lt)),
-      (get_or xs (j + 1) d).0.ordered,
-      table.separate (j + 1) i d far lt,
-    ) in
+    let near : j + 1 < i → ⊥ = λ far.
+    let middle = table.separate j (j + 1) d (omega arith) (omega (arith, far, lt)) in
+    omega (arith, here.below, middle, (get_or xs (j + 1) d).0.ordered, table.separate (j + 1) i d far lt) in
     let e : j + 1 ≡ i = omega (arith, no_more, not_same, near) in
     let touch : (get_or xs j d).0.high + 1 ≡ (get_or xs (j + 1) d).0.low =
     omega (arith, here.below, table.separate j i d (omega (arith, e)) lt, ap (λ n. (get_or xs n d).0.low) e) in

@@ -22,21 +22,15 @@ loop-range-preserved g c =
     record {
       table = c.in_ok-left.ensures.table;
       follows = c.in_ok-left.ensures.follows;
-      before = λ d next k e lt. omega (
-        arith,
-        c.in_ok-left.ensures.ends k e lt,
-        c.requires.lower.separate i (i + 1) d (omega arith) next,
-        ap (λ p. p.0.high)
-            (c.loop-range-item.is ∙ get_or_default lower i item d c.loop-range-test.true),
-      );
+      before = λ d next k e lt.
+          let here = ap (λ p. p.0.high) (c.loop-range-item.is ∙ get_or_default lower i item d c.loop-range-test.true) in
+          omega (arith, c.in_ok-left.ensures.ends k e lt, c.requires.lower.separate i (i + 1) d (omega arith) next, here);
       first_values = laid_more c.loop-range.pieces.items c.loop-range.left.now c.append_under.new.pieces.items
           c.in_ok-left.left.now lower (c.args.upper.now ++ lower) i item c.loop-range-test.true c.loop-range-item.is
           c.in_ok-left.ensures.first_values c.loop-range.invariant.first_values;
     }
 
 pub append_under-requires-clause-past : goal.append_under-requires-clause-past
-append_under-requires-clause-past g c = λ k d lt. omega (
-  arith,
-  c.loop-range.invariant.before c.loop-range-item.result c.loop-range-test.true k d lt,
-  ap (λ p. p.0.low) c.loop-range-item.is,
-)
+append_under-requires-clause-past g c = λ k d lt.
+    let before = c.loop-range.invariant.before c.loop-range-item.result c.loop-range-test.true k d lt in
+    omega (arith, before, ap (λ p. p.0.low) c.loop-range-item.is)

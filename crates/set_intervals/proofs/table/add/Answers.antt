@@ -9,19 +9,13 @@ returns-in-Clashes-clause-clash g c = λ _.
     let xs = c.args.pieces.now.items in
     let last = c.index-last.result.now in
     let lt : c.len-len.result - 1 < length xs = omega arith in
+    let before = c.requires.after (c.len-len.result - 1) last lt in
     record {
       key = c.args.range.low;
       other = last.1;
       within = record { above = omega arith; below = c.args.range.ordered };
       has_other = holds_read xs (c.len-len.result - 1) last c.args.range.low lt c.index-last.ensures
-          (record {
-            above = omega (
-              arith,
-              c.requires.after (c.len-len.result - 1) last lt,
-              ap (λ p. p.0.low) c.index-last.ensures,
-            );
-            below = c.in-Clashes.ensures.0;
-          });
+          (record { above = omega (arith, before, ap (λ p. p.0.low) c.index-last.ensures); below = c.in-Clashes.ensures.0 });
       differ = c.in-Clashes.ensures.1;
     }
 

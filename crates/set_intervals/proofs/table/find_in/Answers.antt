@@ -20,12 +20,8 @@ pub returns-in_default : goal.returns-in_default
 returns-in_default g c =
     not_held c.args.pieces.now c.requires.table.separate c.args.key c.lower_bound-at.result c.lower_bound-at.ensures
     (λ d lt. elim c.in_default.branch [
-      | in_default-via-in-Some+else-low-key w ↦ omega (
-        arith,
-        w.low.ensures,
-        w.if-low-key.false,
-        ap (λ p. p.0.low)
-            (w.in-Some.ensures.lookup.1 ∙ get_or_default _ _ w.in-Some.field-0.now d lt),
-      )
+      | in_default-via-in-Some+else-low-key w ↦
+          let here = ap (λ p. p.0.low) (w.in-Some.ensures.lookup.1 ∙ get_or_default _ _ w.in-Some.field-0.now d lt) in
+          omega (arith, w.low.ensures, w.if-low-key.false, here)
       | in_default-via-in_default w ↦ absurd (omega (arith, lt, ltb-false _ _ (sym w.in_default.ensures.lookup.0)))
     ])

@@ -32,12 +32,9 @@ loop-range-preserved g c =
       table = c.in_ok-add.ensures.table;
       same = same_more _ _ (take i xs) (take (i + 1) xs) item.0 item.1 c.loop-range.invariant.same
           c.in_ok-add.ensures.adds (adds_take xs i item.0 item.1 lt c.loop-range-item.is);
-      before = λ d next k e in_new. omega (
-        arith,
-        c.in_ok-add.ensures.after k e in_new,
-        rises i (i + 1) d (omega arith) next,
-        ap (λ p. p.0.low) (c.loop-range-item.is ∙ get_or_default xs i item d lt),
-      );
+      before = λ d next k e in_new.
+          let here = ap (λ p. p.0.low) (c.loop-range-item.is ∙ get_or_default xs i item d lt) in
+          omega (arith, c.in_ok-add.ensures.after k e in_new, rises i (i + 1) d (omega arith) next, here);
     }
 
 pub returns-clause-same : goal.returns-clause-same
