@@ -1,9 +1,9 @@
 -- The list of mappings that entries represent.
 use Rattle.std.specs.Prelude.{◌==◌, ◌&&◌, replicate}
 use Rattle.std.proofs.Common.{◌≡◌, ℕ, ◌+◌, ◌*◌, Bool, true, false, cond, List, [], ◌∷◌, ◌++◌, Option, Some, None, refl, sym, ◌∙◌, ap, subst, arith}
-use Rattle.nat_mapping.proofs.Names.{CountsHolders, IsDistinct, IsDistinct-tail, IsUnique, MappedPort, Mapping, SourceKey, Sources, get}
-use Rattle.nat_mapping.proofs.Names.{held_by, holders_at, holders_of, keys_of, lookup, lookup-none, mapping_at, none_past_head}
-use Rattle.nat_mapping.proofs.Names.{same_endpoint, same_kind, same_mapping, same_source, source_key_of, sum_by, sum_by-append, sum_by-replicate}
+use Rattle.nat_mapping.proofs.Names.{CountsHolders, IsDistinct, IsDistinct-tail, IsUnique, MappedPort, Mapping, SourceKey, Sources, get, held_by, holders_at}
+use Rattle.nat_mapping.proofs.Names.{holders_of, keys_of, lookup, lookup-none, from_internal, none_past_head, same_endpoint, same_kind, same_mapping}
+use Rattle.nat_mapping.proofs.Names.{same_source, source_key_of, sum_by, sum_by-append, sum_by-replicate}
 use Rattle.nat_mapping.proofs.Equal.{source_parts, source_test, equivalence}
 
 regroup : (a b c d : Bool) → (a && (b && (c && d))) ≡ ((a && (b && c)) && d)
@@ -13,7 +13,7 @@ regroup true false c d = refl
 regroup false b c d = refl
 
 pub same_by : (m : Mapping) (key : SourceKey) (h : MappedPort)
-    → same_mapping m (mapping_at key h) ≡ (same_source (source_key_of m) key && m.external.port == h.port)
+    → same_mapping m (from_internal key h.port) ≡ (same_source (source_key_of m) key && m.external.port == h.port)
 same_by m key h = regroup (same_kind m.kind key.kind) (same_endpoint m.internal key.internal)
     (m.external.address == key.address) (m.external.port == h.port)
     ∙ ap (λ b. b && m.external.port == h.port) (sym (source_parts (source_key_of m) key))
@@ -42,7 +42,7 @@ unfolding held_by holders_of
 count_entries [] distinct m = refl
 count_entries (e ∷ es) distinct m =
     let test = same_source (source_key_of m) in
-    head m (mapping_at e.0 e.1) e.1.holders (held_by es)
+    head m (from_internal e.0 e.1.port) e.1.holders (held_by es)
     ∙ (λ i. cond (same_by m e.0 e.1 i) e.1.holders 0 + count_entries es (IsDistinct-tail same_source e.0 (keys_of es) distinct) m i)
     ∙ split (test e.0) e.1 (lookup test es) m.external.port
     (λ t. lookup-none test es (none_past_head (equivalence same_source source_test) (source_key_of m) e es distinct t))

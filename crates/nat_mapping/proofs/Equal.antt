@@ -1,8 +1,8 @@
 -- Equal keys and mappings.
 use Rattle.std.proofs.Common.{◌≡◌, ℕ, ◌&&◌, Bool, true, false, eqb, refl, sym, ◌∙◌, ap, subst, ◌⊎◌, inl, inr, rules}
 use Rattle.list_laws.specs.Tests.{same-tests}
-use Rattle.nat_mapping.proofs.Names.{Endpoint, InboundKey, IsEquivalence, PoolKey, SourceKey, and_from, and_parts, both_ways, cases_Bool, eq-eqb}
-use Rattle.nat_mapping.proofs.Names.{eqb-true, false_from_ne_true, nat_tests, same_endpoint, same_endpoint-refl, same_endpoint-true, same_inbound, same_kind}
+use Rattle.nat_mapping.proofs.Names.{Endpoint, InboundKey, IsEquivalence, PoolKey, SourceKey, and_from, and_parts, both_ways, cases_Bool, eq-eqb, eqb-true}
+use Rattle.nat_mapping.proofs.Names.{false_from_ne_true, nat_tests, same_endpoint, same_endpoint-refl, same_endpoint-true, same_inbound, same_kind}
 use Rattle.nat_mapping.proofs.Names.{same_kind-refl, same_kind-true, same_mapping, same_pool, same_source}
 
 -- a test passes where the two are equal, and only there
@@ -56,22 +56,28 @@ pair_test p q f g make whole one other = record {
 pub source_parts : (a b : SourceKey) → same_source a b ≡ (same_kind a.kind b.kind && (same_endpoint a.internal b.internal && eqb a.address b.address))
 source_parts a b = search (rules, nat_tests)
 
-pub inbound_parts : (a b : InboundKey) → same_inbound a b ≡ (same_kind a.kind b.kind && same_endpoint a.external b.external)
+inbound_parts : (a b : InboundKey) → same_inbound a b ≡ (same_kind a.kind b.kind && same_endpoint a.external b.external)
 inbound_parts a b = search (rules, nat_tests)
 
 pub pool_parts : (a b : PoolKey) → same_pool a b ≡ (same_kind a.kind b.kind && eqb a.address b.address)
 pool_parts a b = search (rules, nat_tests)
 
-pub source_test : IsTest same_source
-source_test = subst IsTest (λ i. λ a b. sym (source_parts a b) i)
-    (pair_test {B = Endpoint × ℕ} same_kind (λ x y. same_endpoint x.0 y.0 && eqb x.1 y.1) (λ k. k.kind) (λ k. (k.internal, k.address))
+pub source_parts_test : IsTest {K = SourceKey} (λ a b. same_kind a.kind b.kind && (same_endpoint a.internal b.internal && eqb a.address b.address))
+source_parts_test =
+    pair_test {B = Endpoint × ℕ} same_kind (λ x y. same_endpoint x.0 y.0 && eqb x.1 y.1) (λ k. k.kind) (λ k. (k.internal, k.address))
     (λ kind rest. record { kind = kind; internal = rest.0; address = rest.1 }) (λ k. refl) kind_test
-    (pair_test {K = Endpoint × ℕ} same_endpoint eqb (λ x. x.0) (λ x. x.1) (λ a b. (a, b)) (λ x. refl) endpoint_test number_test))
+    (pair_test {K = Endpoint × ℕ} same_endpoint eqb (λ x. x.0) (λ x. x.1) (λ a b. (a, b)) (λ x. refl) endpoint_test number_test)
+
+pub source_test : IsTest same_source
+source_test = subst IsTest (λ i. λ a b. sym (source_parts a b) i) source_parts_test
+
+pub inbound_parts_test : IsTest {K = InboundKey} (λ a b. same_kind a.kind b.kind && same_endpoint a.external b.external)
+inbound_parts_test =
+    pair_test same_kind same_endpoint (λ k. k.kind) (λ k. k.external) (λ kind external. record { kind = kind; external = external }) (λ k. refl)
+    kind_test endpoint_test
 
 pub inbound_test : IsTest same_inbound
-inbound_test = subst IsTest (λ i. λ a b. sym (inbound_parts a b) i)
-    (pair_test same_kind same_endpoint (λ k. k.kind) (λ k. k.external) (λ kind external. record { kind = kind; external = external }) (λ k. refl)
-    kind_test endpoint_test)
+inbound_test = subst IsTest (λ i. λ a b. sym (inbound_parts a b) i) inbound_parts_test
 
 pub pool_test : IsTest same_pool
 pool_test = subst IsTest (λ i. λ a b. sym (pool_parts a b) i)

@@ -2,10 +2,8 @@ pub mod Names
 pub mod Equal
 pub mod Sets
 pub mod WhichKinds
-pub mod Bits
 pub mod Lists
 pub mod Lookups
-pub mod OneMore
 pub mod Entries
 pub mod Represented
 pub mod PoolCounts

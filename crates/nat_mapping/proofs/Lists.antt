@@ -1,7 +1,7 @@
 -- What a search of the list finds is in it.
 use Rattle.std.proofs.Common.{◌≡◌, ℕ, ◌<◌, Bool, true, cond, List, [], ◌∷◌, Some, None, sym, ap, ◌∙◌, subst, inl, inr, arith}
 use Rattle.list_laws.specs.Decisions.{Contains-cases, Contains-none, Contains-there}
-use Rattle.nat_mapping.proofs.Names.{Contains, Contains-head, HoldsSame, Mapping, both_ways, cases_Bool, cond-false, cond-true, find, holders_cons}
+use Rattle.nat_mapping.proofs.Names.{Contains, Contains-head, HoldsSame, IsOneToOne, Mapping, both_ways, cases_Bool, cond-false, cond-true, find, holders_cons}
 use Rattle.nat_mapping.proofs.Names.{holders_none, holders_of, none-some, same_Some, same_mapping}
 use Rattle.nat_mapping.proofs.Equal.{apart_false, decide, here_true, mapping_test}
 
@@ -71,5 +71,12 @@ pub members_alike : (one other : List Mapping) → HoldsSame one other → SameM
 members_alike one other same =
     record { there = contains_alike one other same; back = contains_alike other one (λ m. sym (same m)) }
 
-pub members_flip : (one other : List Mapping) → SameMembers one other → SameMembers other one
-members_flip one other same = record { there = same.back; back = same.there }
+-- a part of a one-to-one list is one to one
+pub one_to_one-within : (some all : List Mapping) → ((m : Mapping) → Contains some m → Contains all m) → IsOneToOne all → IsOneToOne some
+one_to_one-within some all within one = record {
+  one_internal = λ m n x y. one.one_internal m n (within m x) (within n y);
+  one_port = λ m n x y. one.one_port m n (within m x) (within n y);
+}
+
+pub one_to_one_alike : (one other : List Mapping) → HoldsSame one other → IsOneToOne other → IsOneToOne one
+one_to_one_alike one other same unique = one_to_one-within one other (contains_alike one other same) unique

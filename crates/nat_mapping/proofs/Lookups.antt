@@ -1,97 +1,191 @@
--- What the lookups of the list find.
-use Rattle.std.proofs.Common.{◌≡◌, ℕ, Bool, true, not, List, Option, Some, None, is_some, refl, sym, ap, subst}
-use Rattle.nat_mapping.proofs.Names.{CandidateRange, Contains, Endpoint, IsOneToOne, Kind, Mapping, and_from, and_parts, candidates, eq-eqb}
-use Rattle.nat_mapping.proofs.Names.{eqb-true, find, has_external, has_internal, inbound_of, none-some, option_map}
-use Rattle.nat_mapping.proofs.Names.{or_else, order_of, port_of, same_Some, source_of}
-use Rattle.nat_mapping.proofs.Equal.{kind_test, endpoint_test}
-use Rattle.nat_mapping.proofs.Lists.{SameMembers, found_among, none_such}
+-- What lookups by key find in a list of mappings, and after one more or one fewer.
+use Rattle.std.proofs.Common.{◌≡◌, ℕ, ◌&&◌, ◌==◌, Bool, true, cond, not, List, ◌∷◌, Option, Some, None, is_some, inl, inr, refl, sym, ap, subst, ◌∙◌}
+use Rattle.list_laws.specs.Decisions.{Contains-cases, Contains-there}
+use Rattle.list_laws.specs.Options.{option_cases, some_of_map}
+use Rattle.nat_mapping.proofs.Names.{CandidateRange, Contains, Contains-head, Endpoint, Finds, InboundKey, IsOneToOne, Kind, Mapping, SourceKey, candidates}
+use Rattle.nat_mapping.proofs.Names.{find, from_external, from_internal, inbound_key_of, inbound_of, is_port_held, none-some, option_map, or_else, order_of}
+use Rattle.nat_mapping.proofs.Names.{port_of, same_Some, same_endpoint, same_kind, source_key_of, source_of}
+use Rattle.nat_mapping.proofs.Equal.{IsTest, here_true, inbound_parts_test, source_parts_test}
+use Rattle.nat_mapping.proofs.Lists.{SameMembers, found_among, none_such, one_to_one-within}
+use Rattle.nat_mapping.proofs.Sets.{Sets, sets_all, sets_by}
 
--- a lookup gives a value of which P holds, or none where it holds of none
-pub record Finds {Y : Type 0} (P : Y → Type 0) (o : Option Y) : Type 0 where
-  pub some : (y : Y) → o ≡ Some y → P y
-  pub none : o ≡ None → (y : Y) → P y → ⊥
+same_options : {Y : Type 0} (o p : Option Y) → ((y : Y) → o ≡ Some y → p ≡ Some y) → ((y : Y) → p ≡ Some y → o ≡ Some y) → o ≡ p
+same_options None None to from = refl
+same_options (Some x) p to from = sym (to x refl)
+same_options None (Some y) to from = from y refl
 
-pub finds_map : {X Y : Type 0} (P : Y → Type 0) (f : X → Y) (o : Option X) → ((x : X) → o ≡ Some x → P (f x))
-    → (o ≡ None → (y : Y) → P y → ⊥) → Finds P (option_map f o)
-finds_map P f None some none = record { some = λ y e. absurd (none-some y e); none = λ e. none refl }
-finds_map P f (Some x) some none =
-    record { some = λ y e. subst P (same_Some (f x) y e) (some x refl); none = λ e y holds. none-some (f x) (sym e) }
+module _ {K Y : Type 0} (make : K → Y → Mapping) where
+  -- in a list with the same mappings, a lookup with the same results
+  pub finds_as : (one other : List Mapping) (f g : K → Option Y) → SameMembers one other → ((k : K) → g k ≡ f k)
+      → Finds make one f → Finds make other g
+  finds_as one other f g members same finds = record {
+    some = λ k y e. members.there _ (finds.some k y (sym (same k) ∙ e));
+    all = λ k y among. same k ∙ finds.all k y (members.back _ among);
+  }
 
--- where it holds of one value at most, two lookups agree
-pub finds_alike : {Y : Type 0} (P Q : Y → Type 0) (o p : Option Y) → Finds P o → Finds Q p → ((y : Y) → P y → Q y)
-    → ((y : Y) → Q y → P y) → ((x y : Y) → Q x → Q y → x ≡ y) → o ≡ p
-finds_alike P Q None None f g to from one = refl
-finds_alike P Q None (Some y) f g to from one = absurd (f.none refl y (from y (g.some y refl)))
-finds_alike P Q (Some x) None f g to from one = absurd (g.none refl x (to x (f.some x refl)))
-finds_alike P Q (Some x) (Some y) f g to from one = ap Some (one x y (to x (f.some x refl)) (g.some y refl))
+  pub finds_alike : (held : List Mapping) (f g : K → Option Y) → Finds make held f → Finds make held g → (k : K) → f k ≡ g k
+  finds_alike held f g one other k =
+      same_options (f k) (g k) (λ y e. other.all k y (one.some k y e)) (λ y e. one.all k y (other.some k y e))
 
--- a search for one part of what has the others
-finds_by : {X Y : Type 0} (p : X → Bool) (f : X → Y) (make : Y → X) → ((x : X) → p x ≡ true → make (f x) ≡ x)
-    → ((y : Y) → p (make y) ≡ true) → (xs : List X) → Finds (λ y. Contains xs (make y)) (option_map f (find p xs))
-finds_by p f make whole passes xs = finds_map (λ y. Contains xs (make y)) f (find p xs)
-    (λ x e. let got = found_among p xs x e in subst (Contains xs) (sym (whole x got.1)) got.0)
-    (λ e y among. none_such p xs (make y) e among (passes y))
+  pub one_value : (held : List Mapping) (look : K → Option Y) → Finds make held look → (k q : K) → k ≡ q → (y z : Y)
+      → Contains held (make k y) → Contains held (make q z) → y ≡ z
+  one_value held look finds k q same y z at also = same_Some y z (sym (finds.all k y at) ∙ ap look same ∙ finds.all q z also)
+
+-- a mapping consists of a key and a value
+pub record Keying {K Y : Type 0} (make : K → Y → Mapping) (e : K → K → Bool) : Type 0 where
+  pub key : Mapping → K
+  pub value : Mapping → Y
+  pub is_key : (k : K) (y : Y) → key (make k y) ≡ k
+  pub is_value : (k : K) (y : Y) → value (make k y) ≡ y
+  pub made : (m : Mapping) → make (key m) (value m) ≡ m
+  pub test : IsTest e
+
+module _ {K Y : Type 0} (make : K → Y → Mapping) (e : K → K → Bool) (by : Keying make e) where
+  abbrev pub look : List Mapping → K → Option Y
+  look held k = option_map by.value (find (λ m. e (by.key m) k) held)
+
+  pub found : (held : List Mapping) (k : K) (y : Y) → look held k ≡ Some y → Contains held (make k y)
+  found held k y is =
+      let x = some_of_map by.value (find (λ m. e (by.key m) k) held) y is in
+      let at = found_among (λ m. e (by.key m) k) held x.0 x.1 in
+      subst (Contains held) (sym (by.made x.0) ∙ (λ i. make (by.test.exact (by.key x.0) k at.1 i) (x.2 i))) at.0
+
+  pub listed : (held : List Mapping) → ((k : K) (y z : Y) → Contains held (make k y) → Contains held (make k z) → y ≡ z)
+      → Finds make held (look held)
+  listed held one = record {
+    some = found held;
+    all = λ k y among. elim (option_cases (find (λ m. e (by.key m) k) held)) [
+      | inl none ↦ absurd (none_such (λ m. e (by.key m) k) held (make k y) none among (here_true e by.test _ _ (by.is_key k y)))
+      | inr some ↦
+          let is : look held k ≡ Some (by.value some.0) = ap (option_map by.value) some.1 in
+          is ∙ ap Some (one k (by.value some.0) y (found held k _ is) among)
+    ];
+  }
+
+  pub more : (held : List Mapping) (f g : K → Option Y) (k : K) (y : Y) → Finds make held f
+      → ((z : Y) → Contains held (make k z) → y ≡ z) → Sets f g k (Some y) → Finds make (make k y ∷ held) g
+  more held f g k y old one sets = record {
+    some = sets_all e by.test f g k (Some y) sets (λ q o. (z : Y) → o ≡ Some z → Contains (make k y ∷ held) (make q z))
+        (λ q apart z is. Contains-there _ _ held (old.some q z is))
+        (λ z is. subst (λ v. Contains (make k y ∷ held) (make k v)) (same_Some y z is) (Contains-head (make k y) held));
+    all = sets_all e by.test f g k (Some y) sets (λ q o. (z : Y) → Contains (make k y ∷ held) (make q z) → o ≡ Some z)
+        (λ q apart z among. elim (Contains-cases _ _ held among) [
+          | inl same ↦ absurd (apart (sym (by.is_key k y) ∙ ap by.key same ∙ by.is_key q z))
+          | inr there ↦ old.all q z there
+        ])
+        (λ z among. ap Some (elim (Contains-cases _ _ held among) [
+          | inl same ↦ sym (by.is_value k y) ∙ ap by.value same ∙ by.is_value k z
+          | inr there ↦ one z there
+        ]));
+  }
+
+  pub more_free : (held : List Mapping) (f : K → Option Y) (k : K) (y : Y) → Finds make held f → f k ≡ None
+      → Finds make (make k y ∷ held) (λ q. cond (e k q) (Some y) (f q))
+  more_free held f k y old free =
+      more held f _ k y old (λ z among. absurd (none-some z (sym free ∙ old.all k z among))) (sets_by e by.test f _ k (Some y) (λ q. refl))
+
+  pub fewer : (left : List Mapping) (f g : K → Option Y) (k : K) (y : Y) → Finds make (make k y ∷ left) f
+      → (Contains left (make k y) → ⊥) → Sets f g k None → Finds make left g
+  fewer left f g k y old absent sets = record {
+    some = sets_all e by.test f g k None sets (λ q o. (z : Y) → o ≡ Some z → Contains left (make q z))
+        (λ q apart z is. elim (Contains-cases _ _ left (old.some q z is)) [
+          | inl same ↦ absurd (apart (sym (by.is_key k y) ∙ ap by.key same ∙ by.is_key q z))
+          | inr there ↦ there
+        ])
+        (λ z no. absurd (none-some z no));
+    all = sets_all e by.test f g k None sets (λ q o. (z : Y) → Contains left (make q z) → o ≡ Some z)
+        (λ q apart z there. old.all q z (Contains-there _ _ left there))
+        (λ z there. absurd (absent (subst (λ v. Contains left (make k v))
+        (one_value make _ f old k k refl z y (Contains-there _ _ left there) (Contains-head _ left)) there)));
+  }
 
 -- ---- the two lookups
 
-abbrev pub from_external : Kind → Endpoint → Endpoint → Mapping
-from_external kind external internal = record { kind = kind; internal = internal; external = external }
+abbrev pub by_external : Keying from_external (λ a b. same_kind a.kind b.kind && same_endpoint a.external b.external)
+by_external = record {
+  key = inbound_key_of;
+  value = λ m. m.internal;
+  is_key = λ k y. refl;
+  is_value = λ k y. refl;
+  made = λ m. refl;
+  test = inbound_parts_test;
+}
 
-abbrev pub from_internal : Kind → Endpoint → ℕ → ℕ → Mapping
-from_internal kind internal address port =
-    record { kind = kind; internal = internal; external = record { address = address; port = port } }
+abbrev pub by_internal : Keying from_internal
+    (λ a b. same_kind a.kind b.kind && (same_endpoint a.internal b.internal && a.address == b.address))
+by_internal = record {
+  key = source_key_of;
+  value = λ m. m.external.port;
+  is_key = λ k y. refl;
+  is_value = λ k y. refl;
+  made = λ m. refl;
+  test = source_parts_test;
+}
 
-pub inbound_finds : (kind : Kind) (external : Endpoint) (held : List Mapping)
-    → Finds (λ i. Contains held (from_external kind external i)) (inbound_of kind external held)
+abbrev pub inbound_in : List Mapping → InboundKey → Option Endpoint
+inbound_in held k = inbound_of k.kind k.external held
+
+abbrev pub port_in : List Mapping → SourceKey → Option ℕ
+port_in held k = port_of k.kind k.internal k.address held
+
+pub inbound_finds : (held : List Mapping) → IsOneToOne held → Finds from_external held (inbound_in held)
 unfolding inbound_of
-inbound_finds kind external held =
-    finds_by (has_external kind external) (λ m. m.internal) (from_external kind external) whole
-    (λ i. and_from _ _ (kind_test.same kind) (endpoint_test.same external)) held
-  where
-    whole : (m : Mapping) → has_external kind external m ≡ true → from_external kind external m.internal ≡ m
-    whole m t =
-        let parts = and_parts _ _ t in
-        let kinds : m.kind ≡ kind = kind_test.exact _ _ parts.0 in
-        let ends : m.external ≡ external = endpoint_test.exact _ _ parts.1 in
-        λ i. record { kind = sym kinds i; internal = m.internal; external = sym ends i }
+inbound_finds held one =
+    listed from_external _ by_external held (λ k y z at also. one.one_internal (from_external k y) (from_external k z) at also refl refl)
 
-pub port_finds : (kind : Kind) (internal : Endpoint) (address : ℕ) (held : List Mapping)
-    → Finds (λ p. Contains held (from_internal kind internal address p)) (port_of kind internal address held)
+pub port_finds : (held : List Mapping) → IsOneToOne held → Finds from_internal held (port_in held)
 unfolding port_of
-port_finds kind internal address held =
-    finds_by (has_internal kind internal address) (λ m. m.external.port) (from_internal kind internal address) whole
-    (λ p. and_from _ _ (kind_test.same kind) (and_from _ _ (endpoint_test.same internal) (eq-eqb address address refl))) held
-  where
-    whole : (m : Mapping) → has_internal kind internal address m ≡ true → from_internal kind internal address m.external.port ≡ m
-    whole m t =
-        let parts = and_parts _ _ t in
-        let ends = and_parts _ _ parts.1 in
-        let kinds : m.kind ≡ kind = kind_test.exact _ _ parts.0 in
-        let internals : m.internal ≡ internal = endpoint_test.exact _ _ ends.0 in
-        let addresses : m.external.address ≡ address = eqb-true _ _ ends.1 in
-        λ i. record {
-          kind = sym kinds i;
-          internal = sym internals i;
-          external = record { address = sym addresses i; port = m.external.port };
-        }
+port_finds held one =
+    listed from_internal _ by_internal held (λ k y z at also. one.one_port (from_internal k y) (from_internal k z) at also refl refl refl)
+
+-- a list with both lookups is one to one
+pub one_to_one_by : (held : List Mapping) (f : InboundKey → Option Endpoint) (g : SourceKey → Option ℕ) → Finds from_external held f
+    → Finds from_internal held g → IsOneToOne held
+one_to_one_by held f g inbound port = record {
+  one_internal = λ m n at also k e. one_value from_external held f inbound (inbound_key_of m) (inbound_key_of n)
+      (λ i. record { kind = k i; external = e i }) m.internal n.internal at also;
+  one_port = λ m n at also k e a. one_value from_internal held g port (source_key_of m) (source_key_of n)
+      (λ i. record { kind = k i; internal = e i; address = a i }) m.external.port n.external.port at also;
+}
+
+not_some : {X : Type 0} (o : Option X) → not (is_some o) ≡ true → o ≡ None
+not_some None h = refl
+not_some (Some x) h = cc
+
+-- the mapping to the port that `source` gives
+pub source_one_to_one : (held : List Mapping) → IsOneToOne held → (key : SourceKey) (range : Option CandidateRange) (port : ℕ)
+    → source_of key.kind key.internal key.address range held ≡ Some port → IsOneToOne (from_internal key port ∷ held)
+source_one_to_one held one key range port is =
+    let ports = port_finds held one in
+    let inbounds = inbound_finds held one in
+    elim (option_cases (port_in held key)) [
+      | inl none ↦
+          let free = found_among (λ p. not (is_port_held key.kind key.address held p)) (candidates (order_of key.kind) key.internal.port range) port
+          (rw none at is) in
+          one_to_one_by (from_internal key port ∷ held) _ _
+          (more_free from_external _ by_external held _ (inbound_key_of (from_internal key port)) key.internal inbounds (not_some _ free.1))
+          (more_free from_internal _ by_internal held _ key port ports none)
+      | inr some ↦
+          let there = ports.some key port (some.1 ∙ (rw some.1 at is)) in
+          one_to_one-within (from_internal key port ∷ held) held (λ n among. elim (Contains-cases _ n held among) [
+            | inl same ↦ subst (Contains held) same there
+            | inr behind ↦ behind
+          ]) one
+    ]
 
 -- ---- lists with the same mappings have the same lookups, where they are one to one
 
 module _ (one other : List Mapping) (same : SameMembers one other) (unique : IsOneToOne other) where
-  pub inbound_alike : (kind : Kind) (external : Endpoint) → inbound_of kind external one ≡ inbound_of kind external other
-  inbound_alike kind external =
-      finds_alike _ _ _ _ (inbound_finds kind external one) (inbound_finds kind external other) (λ i. same.there _) (λ i. same.back _)
-      (λ i j x y. unique.one_internal (from_external kind external i) (from_external kind external j) x y refl refl)
+  pub inbound_alike : (k : InboundKey) → inbound_in one k ≡ inbound_in other k
+  inbound_alike = finds_alike from_external other _ _ (finds_as from_external one other _ _ same (λ k. refl)
+      (inbound_finds one (one_to_one-within one other same.there unique))) (inbound_finds other unique)
 
-  pub port_alike : (kind : Kind) (internal : Endpoint) (address : ℕ)
-      → port_of kind internal address one ≡ port_of kind internal address other
-  port_alike kind internal address =
-      finds_alike _ _ _ _ (port_finds kind internal address one) (port_finds kind internal address other)
-      (λ p. same.there _) (λ p. same.back _) (λ p q x y. unique.one_port (from_internal kind internal address p)
-      (from_internal kind internal address q) x y refl refl refl)
+  pub port_alike : (k : SourceKey) → port_in one k ≡ port_in other k
+  port_alike = finds_alike from_internal other _ _ (finds_as from_internal one other _ _ same (λ k. refl)
+      (port_finds one (one_to_one-within one other same.there unique))) (port_finds other unique)
 
   pub source_alike : (kind : Kind) (internal : Endpoint) (address : ℕ) (range : Option CandidateRange)
       → source_of kind internal address range one ≡ source_of kind internal address range other
-  source_alike kind internal address range = λ i. or_else (port_alike kind internal address i)
-      (find (λ p. not (is_some (inbound_alike kind (record { address = address; port = p }) i)))
+  source_alike kind internal address range = λ i. or_else (port_alike (record { kind = kind; internal = internal; address = address }) i)
+      (find (λ p. not (is_some (inbound_alike (record { kind = kind; external = record { address = address; port = p } }) i)))
       (candidates (order_of kind) internal.port range))

@@ -18,11 +18,10 @@ pub use Rattle.nat_mapping.specs.declared.keys.SourceKey.{SourceKey}
 pub use Rattle.nat_mapping.specs.declared.mappings.MapError.{MapError}
 pub use Rattle.nat_mapping.specs.declared.mappings.MapError.TheVariants.{NoPort}
 pub use Rattle.nat_mapping.specs.declared.pools.Pools.{Pools}
-pub use Rattle.nat_mapping.specs.steps.Consistent.{ArePorts, CountsHolders, Inbounds, IsConsistent, IsTable, Sources, holders_at}
+pub use Rattle.nat_mapping.specs.steps.Consistent.{ArePorts, CountsHolders, Finds, Inbounds, IsConsistent, IsTable, Sources, holders_at}
 unfoldable pub use Rattle.nat_mapping.specs.steps.Consistent.{held_by}
 pub use Rattle.nat_mapping.specs.steps.Holders.{holders_cons, holders_none}
-pub use Rattle.nat_mapping.specs.steps.Keys.{inbound_at, inbound_key_of, mapping_at, one_fewer, pool_key_of}
-pub use Rattle.nat_mapping.specs.steps.Keys.{one_more, source_key_of}
+pub use Rattle.nat_mapping.specs.steps.Keys.{from_external, from_internal, inbound_at, inbound_key_of, one_fewer, pool_key_of, one_more, source_key_of}
 pub use Rattle.nat_mapping.specs.steps.KeyTests.{same_inbound, same_pool, same_source}
 pub use Rattle.nat_mapping.specs.steps.Pooled.{IsPooled, taken_in}
 pub use Rattle.nat_mapping.specs.steps.Ports.{IsSpare, is_taken_by}
@@ -32,7 +31,7 @@ pub use Rattle.port_pool.specs.declared.order.Order.{Order}
 pub use Rattle.port_pool.specs.declared.order.Order.TheVariants.{Identifiers, Ports, Zero}
 pub use Rattle.port_pool.specs.declared.pool.Pool.{Pool}
 pub use Rattle.port_pool.specs.declared.range.CandidateRange.{CandidateRange}
-pub use Rattle.std.proofs.lemmas.Bool.{and_from, and_parts, both_ways, cases_Bool, cond-false, cond-true, eq-eqb, eqb-true, false_from_ne_true}
+pub use Rattle.std.proofs.lemmas.Bool.{and_from, and_parts, both_ways, cases_Bool, cond-false, cond-true, cond_both, eq-eqb, eqb-true, false_from_ne_true}
 pub use Rattle.std.proofs.lemmas.Bool.Decides.{nat_tests, same_from_decides}
 pub use Rattle.std.proofs.lemmas.List.Elements.{All-pop}
 pub use Rattle.std.proofs.lemmas.List.Folds.{sum_by-replicate}

@@ -1,16 +1,15 @@
 //! The pools of ports of all external addresses.
-ghost use Rattle.std.specs.Prelude.{◌≡◌, ◌≢◌, ◌+◌, ◌<◌, ◌≤◌, ℕ, All, not, true, false, ◌==◌, ◌&&◌, if◌then◌else◌};
-ghost use Rattle.std.specs.Prelude.{Some, None, OnOk, IsOk, is_some, cond, vec_len};
+ghost use Rattle.std.specs.Prelude.{◌≡◌, ◌+◌, ◌<◌, ◌≤◌, ℕ, All, not, true, false, if◌then◌else◌};
+ghost use Rattle.std.specs.Prelude.{None, IfSome, OnOk, IsOk, is_some, vec_len};
 ghost use Rattle.std.specs.Bool.{OnFalse, OnTrue};
 ghost use Rattle.std.specs.List.{find};
 ghost use Rattle.std.specs.HashMap.{get, spare, IsUnique};
 ghost use Rattle.port_pool.specs.Candidates.{candidates};
-ghost use Rattle.port_pool.specs.Taken.{is_taken, order_of as pool_order};
-ghost use Rattle.port_pool.specs.declared.pool.Pool.{Pool as Ports};
 ghost use Rattle.nat_mapping.specs.declared.keys.PoolKey.{PoolKey as Key};
 ghost use Rattle.nat_mapping.specs.Mappings.{order_of, has_pool};
-ghost use Rattle.nat_mapping.specs.steps.KeyTests.{same_pool};
-ghost use Rattle.nat_mapping.specs.steps.Ports.{is_taken_by, IsInUse, IsSpare, SetsPort};
+ghost use Rattle.nat_mapping.specs.steps.Keys.{inbound_at};
+ghost use Rattle.nat_mapping.specs.steps.KeyTests.{same_inbound, same_pool};
+ghost use Rattle.nat_mapping.specs.steps.Ports.{is_taken_by, AreInUse, IsSpare, SetsPort};
 
 use crate::keys::{PoolKey, has_pool, order};
 use crate::tables::spare_of;
@@ -101,8 +100,8 @@ impl Pools {
         requires pooled { IsPooled self.old }
         ensures pooled { IsPooled self.new }
         ensures taken { (q : Key) (p : ℕ) → has_pool q.kind ≡ true
-            → taken_in self.new q p ≡ (if same_pool key q && p == port then true
-            else taken_in self.old q p) }
+            → taken_in self.new q p ≡ (if same_inbound (inbound_at key port) (inbound_at q p)
+            then true else taken_in self.old q p) }
         ensures room { pool_room self.old ≤ pool_room self.new + 1 }
     {
         if !has_pool(key.kind) {
@@ -113,11 +112,7 @@ impl Pools {
         }
         match self.spares.pop() {
             None => unreachable!(),
-            Some(pool) => insert_pool(
-                &mut self.pools,
-                key,
-                start_pool(pool, order(key.kind), port),
-            ),
+            Some(pool) => start_pool(&mut self.pools, key, pool, port),
         }
     }
 
@@ -127,17 +122,15 @@ impl Pools {
         requires pooled { IsPooled self.old }
         ensures pooled { IsPooled self.new }
         ensures taken { (q : Key) (p : ℕ) → has_pool q.kind ≡ true
-            → taken_in self.new q p ≡ (if same_pool key q && p == port then false
-            else taken_in self.old q p) }
+            → taken_in self.new q p ≡ (if same_inbound (inbound_at key port) (inbound_at q p)
+            then false else taken_in self.old q p) }
         ensures room { pool_room self.old ≤ pool_room self.new }
     {
         if !has_pool(key.kind) {
             return;
         }
-        if give_port(&mut self.pools, key, port) {
-            if let Some(pool) = remove_pool(&mut self.pools, key) {
-                keep_spare(&mut self.spares, pool);
-            }
+        if let Some(pool) = give_port(&mut self.pools, key, port) {
+            keep_spare(&mut self.spares, pool);
         }
     }
 }
@@ -145,8 +138,9 @@ impl Pools {
 /// Takes a port of a pool, if there is that pool.
 fn take_port(pools: &mut HashMap<PoolKey, Pool, WordState>, key: PoolKey, port: u16) -> bool
     requires free { is_taken_by (get same_pool pools.old key) port ≡ false }
-    requires used { (pool : Ports) → get same_pool pools.old key ≡ Some pool → IsInUse key pool }
+    requires used { AreInUse pools.old }
     ensures found { result ≡ is_some (get same_pool pools.old key) }
+    ensures used { AreInUse pools.new }
     ensures taken { OnTrue result (SetsPort pools.old pools.new key port true) }
     ensures absent { OnFalse result ((q : Key)
         → get same_pool pools.new q ≡ get same_pool pools.old q) }
@@ -162,59 +156,44 @@ fn take_port(pools: &mut HashMap<PoolKey, Pool, WordState>, key: PoolKey, port: 
     }
 }
 
-/// Gives a port back to its pool; true where the pool has no taken port left.
-fn give_port(pools: &mut HashMap<PoolKey, Pool, WordState>, key: PoolKey, port: u16) -> bool
-    requires { is_taken_by (get same_pool pools.old key) port ≡ true }
+/// Gives a port back to its pool. The pool is removed if it has no taken port left.
+fn give_port(pools: &mut HashMap<PoolKey, Pool, WordState>, key: PoolKey, port: u16) -> Option<Pool>
+    requires taken { is_taken_by (get same_pool pools.old key) port ≡ true }
+    requires used { AreInUse pools.old }
+    ensures unused { IfSome result IsSpare }
+    ensures used { AreInUse pools.new }
     ensures given { SetsPort pools.old pools.new key port false }
-    ensures unused { OnTrue result ((p : ℕ) → is_taken_by (get same_pool pools.new key) p ≡ false) }
-    ensures used { OnFalse result ((p : ℕ) × (is_taken_by (get same_pool pools.new key) p ≡ true)) }
-    ensures spare { spare pools.new ≡ spare pools.old }
+    ensures spare { spare pools.old ≤ spare pools.new }
     ensures unique { IsUnique same_pool pools.new }
 {
-    match pools.get_mut(&key) {
-        Some(pool) => {
-            pool.give(port);
-            pool.is_unused()
-        }
-        None => unreachable!(),
+    let Some(pool) = pools.get_mut(&key) else {
+        unreachable!()
+    };
+    pool.give(port);
+    if !pool.is_unused() {
+        return None;
     }
+    pools.remove(&key)
 }
 
-/// A spare pool, put to use with one taken port.
-fn start_pool(pool: Pool, order: Order, port: u16) -> Pool
+/// Puts a spare pool to use, with one taken port.
+fn start_pool(pools: &mut HashMap<PoolKey, Pool, WordState>, key: PoolKey, pool: Pool, port: u16)
+    requires room { 0 < spare pools.old }
+    requires bitmap { has_pool key.kind ≡ true }
+    requires absent { get same_pool pools.old key ≡ None }
+    requires used { AreInUse pools.old }
     requires spare { IsSpare pool }
-    requires bitmap { order ≢ Order.Zero }
-    ensures order { pool_order result ≡ order }
-    ensures taken { (p : ℕ) → is_taken result p ≡ (if p == port then true else false) }
-{
-    let mut pool = pool.with_order(order);
-    pool.take(port);
-    pool
-}
-
-/// Adds a pool.
-fn insert_pool(pools: &mut HashMap<PoolKey, Pool, WordState>, key: PoolKey, pool: Pool)
-    requires { 0 < spare pools.old }
-    ensures pools { (q : Key) → get same_pool pools.new q
-        ≡ cond (same_pool key q) (Some pool) (get same_pool pools.old q) }
+    ensures used { AreInUse pools.new }
+    ensures taken { SetsPort pools.old pools.new key port true }
     ensures spare { spare pools.old ≤ spare pools.new + 1 }
     ensures unique { IsUnique same_pool pools.new }
 {
+    let mut pool = pool.with_order(order(key.kind));
+    pool.take(port);
     match pools.insert(key, pool) {
         Ok(_) => (),
         Err(_) => unreachable!(),
     }
-}
-
-/// Removes a pool.
-fn remove_pool(pools: &mut HashMap<PoolKey, Pool, WordState>, key: PoolKey) -> Option<Pool>
-    ensures value { result ≡ get same_pool pools.old key }
-    ensures pools { (q : Key) → get same_pool pools.new q
-        ≡ cond (same_pool key q) None (get same_pool pools.old q) }
-    ensures spare { spare pools.old ≤ spare pools.new }
-    ensures unique { IsUnique same_pool pools.new }
-{
-    pools.remove(&key)
 }
 
 /// Makes at least so many spare pools.

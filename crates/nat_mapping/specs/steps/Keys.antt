@@ -1,6 +1,7 @@
 -- The keys of mappings.
 use Rattle.std.specs.Prelude.{ℕ, ◌+◌, ◌-◌, List, ◌++◌, Option, Some, None}
 use Rattle.std.specs.Hash as fed
+use Rattle.ip_headers.specs.declared.tuple.Endpoint.{Endpoint}
 use Rattle.ip_headers.specs.declared.tuple.Mapping.{Mapping}
 use Rattle.ip_headers.specs.HashWords.{hash_word}
 use Rattle.nat_mapping.specs.declared.keys.SourceKey.{SourceKey}
@@ -17,13 +18,14 @@ inbound_key_of m = record { kind = m.kind; external = m.external }
 abbrev pub pool_key_of : Mapping → PoolKey
 pool_key_of m = record { kind = m.kind; address = m.external.address }
 
--- the mapping under a key
-abbrev pub mapping_at : SourceKey → MappedPort → Mapping
-mapping_at key mapped = record {
-  kind = key.kind;
-  internal = key.internal;
-  external = record { address = key.address; port = mapped.port };
-}
+-- the mapping of an external endpoint to an internal one
+abbrev pub from_external : InboundKey → Endpoint → Mapping
+from_external key internal = record { kind = key.kind; internal = internal; external = key.external }
+
+-- the mapping of an internal endpoint to a port of an external address
+abbrev pub from_internal : SourceKey → ℕ → Mapping
+from_internal key port =
+    record { kind = key.kind; internal = key.internal; external = record { address = key.address; port = port } }
 
 -- with one holder more: the first, if there was no mapping
 abbrev pub one_more : ℕ → Option MappedPort → MappedPort

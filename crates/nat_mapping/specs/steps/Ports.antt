@@ -1,5 +1,5 @@
 -- Pools under their keys.
-use Rattle.std.specs.Prelude.{◌≡◌, ◌≢◌, ℕ, Bool, true, false, ◌==◌, cond, if◌then◌else◌, Option, Some, None}
+use Rattle.std.specs.Prelude.{◌≡◌, ◌≢◌, ℕ, Bool, true, false, if◌then◌else◌, Option, Some, None, IfSome}
 use Rattle.std.specs.HashMap.{HashMap, get}
 use Rattle.word_hash.specs.declared.WordState.{WordState}
 use Rattle.port_pool.specs.declared.order.Order.TheVariants.{Zero}
@@ -7,7 +7,8 @@ use Rattle.port_pool.specs.declared.pool.Pool.{Pool}
 use Rattle.port_pool.specs.Taken.{is_taken, order_of as pool_order}
 use Rattle.nat_mapping.specs.declared.keys.PoolKey.{PoolKey}
 use Rattle.nat_mapping.specs.Mappings.{has_pool, order_of}
-use Rattle.nat_mapping.specs.steps.KeyTests.{same_pool}
+use Rattle.nat_mapping.specs.steps.KeyTests.{same_inbound, same_pool}
+use Rattle.nat_mapping.specs.steps.Keys.{inbound_at}
 
 abbrev pub PoolTable : Type 0
 PoolTable = HashMap PoolKey Pool WordState
@@ -27,11 +28,10 @@ pub record IsSpare (pool : Pool) : Type 0 where
   pub unused : (port : ℕ) → is_taken pool port ≡ false
   pub bitmap : pool_order pool ≢ Zero
 
+abbrev pub AreInUse : PoolTable → Type 0
+AreInUse pools = (key : PoolKey) → IfSome (get same_pool pools key) (IsInUse key)
+
 -- a port of a pool is taken or given, and no other
-pub record SetsPort (old new : PoolTable) (key : PoolKey) (port : ℕ) (b : Bool) : Type 0 where
-  pub before : Pool
-  pub after : Pool
-  pub was : get same_pool old key ≡ Some before
-  pub is : (q : PoolKey) → get same_pool new q ≡ cond (same_pool key q) (Some after) (get same_pool old q)
-  pub order : pool_order after ≡ pool_order before
-  pub taken : (p : ℕ) → is_taken after p ≡ (if p == port then b else is_taken before p)
+abbrev pub SetsPort : (old new : PoolTable) (key : PoolKey) (port : ℕ) (b : Bool) → Type 0
+SetsPort old new key port b = (q : PoolKey) (p : ℕ) → is_taken_by (get same_pool new q) p
+    ≡ (if same_inbound (inbound_at key port) (inbound_at q p) then b else is_taken_by (get same_pool old q) p)

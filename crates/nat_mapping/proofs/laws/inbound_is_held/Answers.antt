@@ -1,5 +1,7 @@
-use Rattle.nat_mapping.proofs.Lookups.{inbound_finds}
+use Rattle.nat_mapping.proofs.Names.{from_external, inbound_of}
+use Rattle.nat_mapping.proofs.Lookups.{by_external, found}
 use Rattle.nat_mapping.proofs.laws.inbound_is_held.Goals as goal
 
 pub returns : goal.returns
-returns c held kind internal external h = (inbound_finds kind external held).some internal h
+unfolding inbound_of
+returns c held kind internal external is = found from_external _ by_external held (record { kind = kind; external = external }) internal is

@@ -1,22 +1,24 @@
-use Rattle.std.proofs.Common.{sym, ap, is_some, ◌∙◌}
-use Rattle.nat_mapping.proofs.Names.{is_taken_by}
-use Rattle.nat_mapping.proofs.WhichKinds.{row_order}
+use Rattle.std.specs.Prelude.{◌==◌}
+use Rattle.std.proofs.Common.{Some, true, sym, ap, is_some, ◌∙◌, refl, IfSome}
+use Rattle.list_laws.specs.Options.{IfSome_at}
+use Rattle.nat_mapping.proofs.Names.{cond-true, eq-eqb, get, same_pool}
+use Rattle.nat_mapping.specs.steps.Ports.{IsInUse}
+use Rattle.nat_mapping.proofs.Equal.{pool_test}
+use Rattle.nat_mapping.proofs.Sets.{Sets, sets_all, sets_by}
 use Rattle.nat_mapping.proofs.pools.take_port.Goals as goal
+use Rattle.nat_mapping.proofs.pools.take_port.Goals.{After-take}
 
-pub take-requires-clause-free : goal.take-requires-clause-free
-take-requires-clause-free c = ap (λ o. is_taken_by o c.args.port) c.in-Some.ensures.value ∙ c.requires.free
+sets : (c : After-take) → Sets (get same_pool c.args.pools.now) (get same_pool (c.get_mut.follows.lender c.take.new.self)) c.args.key
+    (Some c.take.new.self)
+sets c = sets_by same_pool pool_test _ _ _ _ ((c.get_mut.follows.holds c.take.new.self).3 (ap is_some (sym c.in-Some.ensures.value))).0
 
-pub take-requires-clause-number : goal.take-requires-clause-number
-take-requires-clause-number c zero =
-    let in_use = c.requires.used c.in-Some.pool.now (sym c.in-Some.ensures.value) in
-    absurd (row_order c.args.key.kind in_use.bitmap (sym in_use.order ∙ zero))
-
-pub returns-in-Some-clause-taken : goal.returns-in-Some-clause-taken
-returns-in-Some-clause-taken c = record {
-  before = c.in-Some.pool.now;
-  after = c.take.new.self;
-  was = sym c.in-Some.ensures.value;
-  is = ((c.get_mut.follows.holds c.take.new.self).3 (ap is_some (sym c.in-Some.ensures.value))).0;
-  order = c.take.ensures.order;
-  taken = c.take.ensures.taken;
-}
+pub returns-in-Some-clause-used : goal.returns-in-Some-clause-used
+returns-in-Some-clause-used c =
+    let port = c.args.port in
+    let in_use = IfSome_at _ (IsInUse c.args.key) c.in-Some.pool.now (sym c.in-Some.ensures.value) (c.requires.used c.args.key) in
+    sets_all same_pool pool_test _ _ _ _ (sets (goal.at.returns-in-Some-clause-used c).After-take) (λ q o. IfSome o (IsInUse q))
+    (λ q apart. c.requires.used q) (record {
+      order = c.take.ensures.order ∙ in_use.order;
+      bitmap = in_use.bitmap;
+      used = (port, c.take.ensures.taken port ∙ cond-true (port == port) true _ (eq-eqb port port refl));
+    })

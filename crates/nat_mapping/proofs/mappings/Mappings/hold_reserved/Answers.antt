@@ -1,64 +1,63 @@
 use Rattle.std.proofs.Common.{◌≡◌, ◌<◌, ◌∷◌, sym, ◌∙◌, ap, subst, refl, Some, IfSome}
-use Rattle.nat_mapping.proofs.Names.{IsOneToOne, IsTable, MappedPort, PoolKey, SourceKey, get, has_pool, held_by, one_more, same_source}
+use Rattle.nat_mapping.proofs.Names.{HoldsSame, IsOneToOne, IsTable, MappedPort, PoolKey, SourceKey, get, has_pool, held_by, one_more, option_map, same_source}
 use Rattle.nat_mapping.proofs.Names.{source_key_of, taken_in}
 use Rattle.nat_mapping.proofs.Equal.{source_test}
-use Rattle.nat_mapping.proofs.Lists.{members_flip}
-use Rattle.nat_mapping.proofs.Sets.{Sets, all_put, sets_by}
-use Rattle.nat_mapping.proofs.Represented.{HasMore, begun, entry_held, few_holders, grown, held_more, members_more, more_live, own_port, port_free}
+use Rattle.nat_mapping.proofs.Sets.{Sets, sets_all, sets_by}
+use Rattle.nat_mapping.proofs.Represented.{HasMore, begun, few_holders, grown, held_more, more_live, own_port, port_at, port_free}
 use Rattle.nat_mapping.proofs.mappings.Mappings.hold_reserved.Goals as goal
 use Rattle.nat_mapping.proofs.mappings.Mappings.hold_reserved.Goals.{After-add_holder}
 
-stays : (c : After-add_holder) → IsOneToOne (c.args.m ∷ held_by c.self.inside.sources.entries)
-stays c = rw (← c.self.view_is) at c.requires.one_to_one
+module _ (c : After-add_holder) where
+  stays : IsOneToOne (c.args.m ∷ held_by c.self.inside.sources.entries)
+  stays = rw (← c.self.view_is) at c.requires.one_to_one
 
--- what the table said of the mapping, and what it says now
-before : (c : After-add_holder) → get same_source c.self.inside.sources (source_key_of c.args.m) ≡ c.add_holder.result
-before c = sym (rw c.source_key.ensures at c.add_holder.ensures.before)
+  -- what the table said of the mapping, and what it says now
+  before : get same_source c.self.inside.sources (source_key_of c.args.m) ≡ c.add_holder.result
+  before = sym (rw c.source_key.ensures at c.add_holder.ensures.before)
 
-has : (c : After-add_holder) → HasMore c.args.m c.self.inside.sources c.add_holder.new.sources
-has c = record {
-  fits = own_port _ _ _ c.self.invariant c.args.m (stays c);
-  sets = subst (λ o. Sets (get same_source c.self.inside.sources) (get same_source c.add_holder.new.sources) (source_key_of c.args.m)
-      (Some (one_more c.args.m.external.port o))) (sym (before c))
-      (sets_by same_source source_test _ _ _ _ (rw c.source_key.ensures at c.add_holder.ensures.values));
-}
+  has : HasMore c.args.m c.self.inside.sources c.add_holder.new.sources
+  has = record {
+    fits = own_port _ c.self.invariant.table c.args.m stays;
+    sets = subst (λ o. Sets (get same_source c.self.inside.sources) (get same_source c.add_holder.new.sources) (source_key_of c.args.m)
+        (Some (one_more c.args.m.external.port o))) (sym before)
+        (sets_by same_source source_test _ _ _ _ (rw c.source_key.ensures at c.add_holder.ensures.values));
+  }
 
-table : (c : After-add_holder) → IsTable c.add_holder.new.sources
-table c = record {
-  unique = c.add_holder.ensures.unique;
-  live = all_put same_source source_test (λ q h. 0 < h.holders) _ _ _ _ (has c).sets c.self.invariant.table.live (more_live _ _);
-}
+  table : IsTable c.add_holder.new.sources
+  table = record {
+    unique = c.add_holder.ensures.unique;
+    live = sets_all same_source source_test _ _ _ _ has.sets (λ q o. IfSome o (λ (h : MappedPort). 0 < h.holders))
+        (λ q apart. c.self.invariant.table.live q) (more_live _ (get same_source c.self.inside.sources (source_key_of c.args.m)));
+  }
+
+  held : HoldsSame (c.args.m ∷ held_by c.self.inside.sources.entries) (held_by c.add_holder.new.sources.entries)
+  held = held_more c.args.m _ _ has c.self.invariant.table table
 
 pub add_holder-requires-clause-few : goal.add_holder-requires-clause-few
 add_holder-requires-clause-few c =
     subst (λ (k : SourceKey). IfSome (get same_source c.self.inside.sources k) (λ (h : MappedPort). h.holders < 18446744073709551615))
-    (sym c.source_key.ensures) (few_holders _ _ _ c.self.invariant c.args.m (rw (← c.self.view_is) at c.requires.one_to_one) _
+    (sym c.source_key.ensures) (few_holders _ c.self.invariant.table c.args.m (rw (← c.self.view_is) at c.requires.one_to_one) _
     (rw (← c.self.view_is) at c.requires.few) _ refl)
 
 pub invariant_of-self : goal.invariant_of-self
 invariant_of-self c =
     let p = (goal.at.invariant_of-self c).After-add_holder in
-    let is = before p ∙ c.in-Some.is in
-    let among = entry_held _ c.self.invariant.table c.args.m _ is ((has p).fits _ is) in
-    grown _ _ _ c.self.invariant _ _ _ (table p) (members_flip _ _ (members_more _ _ _ (has p) c.self.invariant.table (table p) among))
-    (λ q. refl) (λ q p. refl) c.self.invariant.pooled
+    grown _ _ _ c.self.invariant _ _ _ (table p) c.self.invariant.pooled (sets_all same_source source_test _ _ _ _ (has p).sets
+    (λ k o. option_map (λ (h : MappedPort). h.port) o ≡ port_at c.self.inside.sources k) (λ k apart. refl)
+    (subst (λ o. option_map (λ (h : MappedPort). h.port) (Some (one_more c.args.m.external.port o)) ≡ option_map (λ (h : MappedPort). h.port) o)
+    (sym (before p ∙ c.in-Some.is)) refl)) (λ q. refl) (λ q p. refl)
 
 pub returns-in-Some-clause-held : goal.returns-in-Some-clause-held
-returns-in-Some-clause-held c =
-    let p = (goal.at.returns-in-Some-clause-held c).After-add_holder in
-    rw (← c.self.view_is) (held_more _ _ _ (has p) c.self.invariant.table (table p))
+returns-in-Some-clause-held c = rw (← c.self.view_is) (held (goal.at.returns-in-Some-clause-held c).After-add_holder)
 
 pub invariant_of-self-in-None : goal.invariant_of-self-in-None
 invariant_of-self-in-None c =
     let p = (goal.at.invariant_of-self-in-None c).After-add_holder in
-    begun _ _ _ c.self.invariant c.args.m _ _ _ (table p) c.take.ensures.pooled
-    (held_more _ _ _ (has p) c.self.invariant.table (table p)) (stays p)
+    begun _ _ _ c.self.invariant _ _ _ (table p) c.take.ensures.pooled c.args.m (held p) (stays p)
     (rw c.inbound_key.ensures at c.insert_inbound.ensures.values) (rw c.pool_key.ensures at c.take.ensures.taken)
 
 pub returns-in-None-clause-held : goal.returns-in-None-clause-held
-returns-in-None-clause-held c =
-    let p = (goal.at.returns-in-None-clause-held c).After-add_holder in
-    rw (← c.self.view_is) (held_more _ _ _ (has p) c.self.invariant.table (table p))
+returns-in-None-clause-held c = rw (← c.self.view_is) (held (goal.at.returns-in-None-clause-held c).After-add_holder)
 
 pub take-requires-clause-free : goal.take-requires-clause-free
 take-requires-clause-free c bitmap =

@@ -1,10 +1,8 @@
-use Rattle.std.proofs.Common.{sym, ◌∙◌}
-use Rattle.nat_mapping.proofs.Lists.{members_alike}
-use Rattle.nat_mapping.proofs.Lookups.{inbound_alike}
+use Rattle.std.proofs.Common.{◌∙◌}
+use Rattle.nat_mapping.proofs.Represented.{inbound_is}
 use Rattle.nat_mapping.proofs.mappings.Mappings.inbound.Goals as goal
 
 pub returns : goal.returns
-returns c = λ held same.
-    c.find_inbound.ensures ∙ c.self.invariant.inbound c.args.kind c.args.external
-    ∙ sym (inbound_alike held _ (members_alike held _ (rw (← c.self.view_is) at same)) c.self.invariant.one_to_one
-    c.args.kind c.args.external)
+returns c held same =
+    c.find_inbound.ensures ∙ inbound_is _ _ _ c.self.invariant held (rw (← c.self.view_is) at same)
+    (record { kind = c.args.kind; external = c.args.external })

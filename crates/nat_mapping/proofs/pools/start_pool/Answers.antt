@@ -1,0 +1,17 @@
+use Rattle.std.specs.Prelude.{◌==◌}
+use Rattle.std.proofs.Common.{◌∙◌, true, refl, IfSome}
+use Rattle.nat_mapping.proofs.Names.{cond-true, eq-eqb, same_pool}
+use Rattle.nat_mapping.specs.steps.Ports.{IsInUse}
+use Rattle.nat_mapping.proofs.Equal.{pool_test}
+use Rattle.nat_mapping.proofs.Sets.{sets_all, sets_by}
+use Rattle.nat_mapping.proofs.pools.start_pool.Goals as goal
+
+pub returns-clause-used : goal.returns-clause-used
+returns-clause-used c =
+    let port = c.args.port in
+    sets_all same_pool pool_test _ _ _ _ (sets_by same_pool pool_test _ _ _ _ c.in-Ok.ensures.updates.0) (λ q o. IfSome o (IsInUse q))
+    (λ q apart. c.requires.used q) (record {
+      order = c.take.ensures.order ∙ c.with_order-pool.ensures.order ∙ c.order.ensures;
+      bitmap = c.requires.bitmap;
+      used = (port, c.take.ensures.taken port ∙ cond-true (port == port) true _ (eq-eqb port port refl));
+    })
