@@ -1,5 +1,7 @@
 //! The keys of mappings.
-ghost use Rattle.std.specs.Prelude.{◌≡◌};
+ghost use Rattle.std.specs.Prelude.{◌≡◌, ◌++◌, ℕ, List};
+ghost use Rattle.std.specs.Hash as fed;
+ghost use Rattle.ip_headers.specs.HashWords.{hash_word};
 ghost use Rattle.std.specs.Cmp.Rules.{hashing};
 ghost use Rattle.std.proofs.Common.{rules};
 ghost use Rattle.nat_mapping.specs.Mappings.{order_of, has_pool};
@@ -78,6 +80,16 @@ impl Hash for PoolKey {
     }
 }
 
+/// The bytes of a hash word tell its kind and endpoint. It does nothing.
+fn word_tells(kind: Kind, endpoint: Endpoint, other_kind: Kind, other: Endpoint)
+    ensures { (rest others : List (List ℕ))
+        → fed.u64 (hash_word kind endpoint) ++ rest ≡ fed.u64 (hash_word other_kind other) ++ others
+        → (kind ≡ other_kind) × (endpoint ≡ other) × (rest ≡ others) }
+{
+    hash_words_differ(kind, endpoint, other_kind, other);
+    hash_words_differ(other_kind, other, kind, endpoint);
+}
+
 /// Keys are equal where their hashes take the same bytes. It does nothing.
 fn source_hashes_differ(one: SourceKey, other: SourceKey)
     ensures { ⟦<SourceKey as Hash>⟧.hash_input one ≡ ⟦<SourceKey as Hash>⟧.hash_input other
@@ -91,10 +103,8 @@ fn source_hashes_differ(one: SourceKey, other: SourceKey)
         address: other.address,
         port: 0,
     };
-    hash_words_differ(one.kind, one.internal, other.kind, other.internal);
-    hash_words_differ(one.kind, first, other.kind, second);
-    hash_words_differ(other.kind, other.internal, one.kind, one.internal);
-    hash_words_differ(other.kind, second, one.kind, first);
+    word_tells(one.kind, one.internal, other.kind, other.internal);
+    word_tells(one.kind, first, other.kind, second);
 }
 
 /// The same of inbound keys.
@@ -102,8 +112,7 @@ fn inbound_hashes_differ(one: InboundKey, other: InboundKey)
     ensures { ⟦<InboundKey as Hash>⟧.hash_input one ≡ ⟦<InboundKey as Hash>⟧.hash_input other
         → one ≡ other }
 {
-    hash_words_differ(one.kind, one.external, other.kind, other.external);
-    hash_words_differ(other.kind, other.external, one.kind, one.external);
+    word_tells(one.kind, one.external, other.kind, other.external);
 }
 
 /// The same of keys of pools.
@@ -119,8 +128,7 @@ fn pool_hashes_differ(one: PoolKey, other: PoolKey)
         address: other.address,
         port: 0,
     };
-    hash_words_differ(one.kind, first, other.kind, second);
-    hash_words_differ(other.kind, second, one.kind, first);
+    word_tells(one.kind, first, other.kind, second);
 }
 
 /// The key of its internal endpoint and external address.

@@ -1,14 +1,5 @@
-use Rattle.nat_mapping.proofs.Names.{Endpoint, first_word, hash_word}
+use Rattle.std.proofs.Common.{[]}
 use Rattle.nat_mapping.proofs.keys.pool_hashes_differ.Goals as goal
 
 pub returns : goal.returns
-returns c equal =
-    let a = c.args.one in
-    let b = c.args.other in
-    let first : Endpoint = record { address = a.address; port = 0 } in
-    let second : Endpoint = record { address = b.address; port = 0 } in
-    let word = first_word (hash_word a.kind first) (hash_word b.kind second) _ _
-    c.hash_words_differ.ensures.range c.hash_words_differ-2.ensures.range equal in
-    let kind = c.hash_words_differ.ensures.kind word in
-    let external = c.hash_words_differ.ensures.endpoint word in
-    λ i. record { kind = kind i; address = (external i).address }
+returns c equal = let same = c.word_tells.ensures [] [] equal in λ i. record { kind = same.0 i; address = (same.1 i).address }

@@ -1,5 +1,5 @@
-use Rattle.std.proofs.Common.{◌≡◌, ◌↔◌, ℕ, sym, subst, ◌∙◌, refl, Option, Some, None, Result, Err}
-use Rattle.nat_mapping.proofs.Names.{IfOk, MapError, NoPort, none-some, ok_or, source_of}
+use Rattle.std.proofs.Common.{◌≡◌, ◌↔◌, ℕ, sym, subst, ◌∙◌, refl, List, Option, Some, None, Result, Err}
+use Rattle.nat_mapping.proofs.Names.{HoldsSame, IfOk, MapError, Mapping, NoPort, none-some, ok_or, source_of}
 use Rattle.nat_mapping.proofs.Represented.{source_is}
 use Rattle.nat_mapping.proofs.mappings.Mappings.source.Goals as goal
 
@@ -11,26 +11,17 @@ answered : (o want : Option ℕ) → want ≡ o → Answers want (ok_or o NoPort
 answered None want is = (tt, (λ e. is, λ none. refl))
 answered (Some port) want is = (is, (λ e. absurd (cc), λ none. absurd (none-some port (sym none ∙ is))))
 
-pub returns-in-Some-clause-ok : goal.returns-in-Some-clause-ok
-returns-in-Some-clause-ok c held same =
-    source_is _ _ _ c.self.invariant held (rw (← c.self.view_is) at same) c.args.kind c.args.internal c.args.address c.args.range _
-    (sym c.in-Some.ensures.value)
+pub returns-in-Some : goal.returns-in-Some
+returns-in-Some c =
+    let both = λ (held : List Mapping) (same : HoldsSame held c.args.self.now.held).
+    answered _ (source_of c.args.kind c.args.internal c.args.address c.args.range held)
+    (source_is _ _ _ c.self.invariant held (rw (← c.self.view_is) at same) _ _ _ _ _ (sym c.in-Some.ensures.value)) in
+    record { ok = λ held same. (both held same).0; no_port = λ held same. (both held same).1 }
 
-pub returns-in-Some-clause-no_port : goal.returns-in-Some-clause-no_port
-returns-in-Some-clause-no_port c held same =
-    (answered _ (source_of c.args.kind c.args.internal c.args.address c.args.range held)
-    (returns-in-Some-clause-ok c held same)).1
-
-pub returns-in-None-clause-ok : goal.returns-in-None-clause-ok
-returns-in-None-clause-ok c held same =
-    let want : Option ℕ = source_of c.args.kind c.args.internal c.args.address c.args.range held in
-    (subst (Answers want) (sym c.ok_or.ensures.value) (answered c.first_free_port.result want
-    (source_is _ _ _ c.self.invariant held (rw (← c.self.view_is) at same) c.args.kind c.args.internal c.args.address c.args.range _
-    (sym c.in-None.ensures.value) ∙ sym c.first_free_port.ensures))).0
-
-pub returns-in-None-clause-no_port : goal.returns-in-None-clause-no_port
-returns-in-None-clause-no_port c held same =
-    let want : Option ℕ = source_of c.args.kind c.args.internal c.args.address c.args.range held in
-    (subst (Answers want) (sym c.ok_or.ensures.value) (answered c.first_free_port.result want
-    (source_is _ _ _ c.self.invariant held (rw (← c.self.view_is) at same) c.args.kind c.args.internal c.args.address c.args.range _
-    (sym c.in-None.ensures.value) ∙ sym c.first_free_port.ensures))).1
+pub returns-in-None : goal.returns-in-None
+returns-in-None c =
+    let both = λ (held : List Mapping) (same : HoldsSame held c.args.self.now.held).
+    subst (Answers (source_of c.args.kind c.args.internal c.args.address c.args.range held)) (sym c.ok_or.ensures.value)
+    (answered c.first_free_port.result _ (source_is _ _ _ c.self.invariant held (rw (← c.self.view_is) at same) _ _ _ _ _
+    (sym c.in-None.ensures.value) ∙ sym c.first_free_port.ensures)) in
+    record { ok = λ held same. (both held same).0; no_port = λ held same. (both held same).1 }
