@@ -1,10 +1,8 @@
 -- The live entries, after a packet and at a later moment.
 use Rattle.std.proofs.Common.{◌≡◌, ℕ, ◌-◌, ◌<◌, ◌≤◌, List, [], ◌∷◌, true, refl, arith}
 use Rattle.std.specs.Prelude.{nat_lt}
-use Rattle.conntrack.proofs.Names.{ConnId, ConntrackEntry, Direction, Echo, Established, Flags, IdleKind, Limits}
-use Rattle.conntrack.proofs.Names.{Transitory}
-use Rattle.conntrack.proofs.Names.{has_distinct_ids, has_id, idle_kind, is_live, limit_in, limit_of, live_at}
-use Rattle.conntrack.proofs.Names.{lt-ltb, ltb-true, nat_tests, phase_of, touched, touched_at}
+use Rattle.conntrack.proofs.Names.{ConnId, ConntrackEntry, Direction, Echo, Established, Flags, IdleKind, Limits, Transitory, has_distinct_ids, has_id}
+use Rattle.conntrack.proofs.Names.{idle_kind, is_live, limit_in, limit_of, live_at, lt-ltb, ltb-true, nat_tests, phase_of, touched, touched_at}
 use Rattle.box_file.specs.declared.idle_line.IdleKind.TheVariants.{Udp, Other}
 use Rattle.conntrack.proofs.Lists.{filter_again}
 use Rattle.conntrack.proofs.Ids.{has_id-filter, touched_at_none}

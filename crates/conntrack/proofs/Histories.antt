@@ -1,45 +1,35 @@
 -- The connections of a history that no record removed, and what one more record does to them.
-use Rattle.std.proofs.Common.{◌≡◌, ℕ, suc, ◌<◌, List, [], ◌∷◌, ◌++◌, map, length, Option, None, Some, Bool, true, false, not, ◌&&◌, ◌||◌, cond, eqb, refl}
-use Rattle.std.proofs.Common.{◌∙◌, ap, arith}
+use Rattle.std.proofs.Common.{◌≡◌, ℕ, suc, ◌<◌, List, [], ◌∷◌, ◌++◌, map, length, Option, None, Some, Bool, true, false, not, ◌&&◌, ◌||◌, cond, eqb, refl, ◌∙◌}
+use Rattle.std.proofs.Common.{ap, arith}
 use Rattle.std.specs.Prelude.{filter}
 use Rattle.std.proofs.lemmas.List.{map-id}
-use Rattle.conntrack.proofs.Names.{AllByRecursion, Arrival, Begins, Belonging, Confirmation, Confirmed, ConnectionChange, ConntrackEntry, Creation, Ends}
-use Rattle.conntrack.proofs.Names.{Found, Limits}
-use Rattle.conntrack.proofs.Names.{Mapping, NoChange, NotFound, Touches, TrackedPacket, Tuple, Unconfirmed, after_packet, append-nil, begun_in, connection_in}
-use Rattle.conntrack.proofs.Names.{change_of_packet, creation_of, ended_by_packet, entries_of, entry_of, eq-eqb, filter-append, has_distinct_ids, has_id}
-use Rattle.conntrack.proofs.Names.{is_ended}
-use Rattle.conntrack.proofs.Names.{is_live, is_that, is_touch_of, live_at, live_list, map-append, nat_tests, ne_eqb, number_if_begins, or-false, replayed}
-use Rattle.conntrack.proofs.Names.{same_id}
-use Rattle.conntrack.proofs.Names.{touched, with_begun}
+use Rattle.std.proofs.lemmas.List.Elements.{All-append, All-cons, All-nil, All-weaker, recursion_from_All}
+use Rattle.std.specs.List.{All}
+use Rattle.conntrack.proofs.Names.{AllByRecursion, Arrival, Begins, Belonging, Confirmation, Confirmed, ConnectionChange, ConntrackEntry, Creation, Ends, Found}
+use Rattle.conntrack.proofs.Names.{Limits, Mapping, NotFound, TrackedPacket, Tuple, Unconfirmed, after_packet, append-nil, begun_in}
+use Rattle.conntrack.proofs.Names.{connection_in, change_of_packet, creation_of, ended_by_packet, entries_of, entry_of, eq-eqb, filter-append, has_distinct_ids}
+use Rattle.conntrack.proofs.Names.{has_id, is_ended, is_live, is_that, is_touch_of, live_at, live_list, map-append, nat_tests, ne_eqb, number_if_begins}
+use Rattle.conntrack.proofs.Names.{or-false, replayed, same_id, touched, with_begun}
 use Rattle.conntrack.specs.steps.Changes.{unended}
 use Rattle.conntrack.proofs.Lists.{filter-map, filter-true, map-filter-change, map-filter-later}
 use Rattle.conntrack.proofs.Ids.{distinct-filter, distinct-push}
 
-All-append_below : (n : ℕ) (xs ys : List ℕ) → AllByRecursion (λ c. c < n) xs → AllByRecursion (λ c. c < n) ys
-    → AllByRecursion (λ c. c < n) (xs ++ ys)
-All-append_below n [] ys h k = k
-All-append_below n (x ∷ xs) ys h k = (h.0, All-append_below n xs ys h.1 k)
-
-All_more : (n : ℕ) (xs : List ℕ) → AllByRecursion (λ c. c < n) xs → AllByRecursion (λ c. c < suc n) xs
-All_more n [] h = tt
-All_more n (x ∷ xs) h = (omega (arith, h.0), All_more n xs h.1)
-
-number_below : (n : ℕ) (w : ConnectionChange) → AllByRecursion (λ c. c < suc n) (number_if_begins n w)
-number_below n NoChange = tt
-number_below n (Begins b) = (omega arith, tt)
-number_below n (Touches k direction) = tt
+number_below : (n : ℕ) (w : ConnectionChange) → All (λ c. c < suc n) (number_if_begins n w)
+number_below n (Begins b) = All-cons (λ c. c < suc n) n [] (omega arith) (All-nil (λ c. c < suc n))
+number_below n w = All-nil (λ c. c < suc n)
 
 -- the numbers of a history's connections are below its length
+all_below : (history : List TrackedPacket) → All (λ c. c < length history) (begun_in history)
+all_below [] = All-nil (λ c. c < 0)
+all_below (e ∷ history) = All-append (λ c. c < suc (length history)) (begun_in history) (number_if_begins (length history) e.change)
+    (All-weaker (λ c. c < length history) (λ c. c < suc (length history)) (λ c below. omega (arith, below)) (begun_in history) (all_below history))
+    (number_below (length history) e.change)
+
 pub begun_in-below : (history : List TrackedPacket) → AllByRecursion (λ c. c < length history) (begun_in history)
-begun_in-below [] = tt
-begun_in-below (e ∷ history) = All-append_below _ (begun_in history) (number_if_begins (length history) e.change)
-    (All_more _ (begun_in history) (begun_in-below history)) (number_below (length history) e.change)
+begun_in-below history = recursion_from_All (λ c. c < length history) (begun_in history) (all_below history)
 
 not-or : (a b : Bool) → not (a || b) ≡ (not b && not a)
-not-or true true = refl
-not-or true false = refl
-not-or false true = refl
-not-or false false = refl
+not-or a b = grind (arith, nat_tests)
 
 -- what a packet does to an earlier connection that it does not remove
 abbrev touched_by : Belonging → Arrival → Confirmation → ConntrackEntry → ConntrackEntry
@@ -52,29 +42,23 @@ replayed-cons : (b : Belonging) (p : Arrival) (confirmation : Confirmation) (c :
     (entries : List TrackedPacket)
     → replayed c begun (cond (is_touch_of c (change_of_packet b p confirmation)) (entry_of b p confirmation ∷ entries) entries)
     ≡ touched_by b p confirmation (replayed c begun entries)
-replayed-cons (Found found) p (Confirmed mark reply source dest) c begun entries = touch_or_not (eqb c found.id.0)
-  where
-    touch_or_not : (b : Bool)
-        → replayed c begun (cond b (entry_of (Found found) p (Confirmed mark reply source dest) ∷ entries) entries)
-        ≡ cond b (touched found.direction p.flags mark p.moment (replayed c begun entries)) (replayed c begun entries)
-    touch_or_not true = refl
-    touch_or_not false = refl
+replayed-cons (Found found) p (Confirmed mark reply source dest) c begun entries =
+    elim (eqb c found.id.0) as (λ b. replayed c begun (cond b (entry_of (Found found) p (Confirmed mark reply source dest) ∷ entries) entries)
+    ≡ cond b (touched found.direction p.flags mark p.moment (replayed c begun entries)) (replayed c begun entries)) [
+      | true ↦ refl
+      | false ↦ refl
+    ]
 replayed-cons b p Unconfirmed c begun entries = refl
 replayed-cons b p (Confirmed mark reply source dest) c begun entries = refl
 
 module _ (b : Belonging) (p : Arrival) (confirmation : Confirmation) (history : List TrackedPacket) where
-  earlier : (cs : List ℕ) → AllByRecursion (λ c. c < length history) cs →
-      AllByRecursion (λ c. (not (is_ended c (entry_of b p confirmation ∷ history))
+  earlier : (c : ℕ) → c < length history → (not (is_ended c (entry_of b p confirmation ∷ history))
       ≡ (not (is_ended c history) && not (is_that c (ended_by_packet b))))
-      × (connection_in c (entry_of b p confirmation ∷ history) ≡ touched_by b p confirmation (connection_in c history))) cs
-  earlier [] h = tt
-  earlier (c ∷ cs) h =
-      let other : eqb (length history) c ≡ false = ne_eqb _ _ (λ same. omega (arith, h.0)) in (
-        (
-          rw other (not-or (is_that c (ended_by_packet b)) (is_ended c history)),
-          rw other (replayed-cons b p confirmation c (creation_of c history) (entries_of c history)),
-        ),
-        earlier cs h.1,
+      × (connection_in c (entry_of b p confirmation ∷ history) ≡ touched_by b p confirmation (connection_in c history))
+  earlier c below =
+      let other : eqb (length history) c ≡ false = ne_eqb _ _ (λ same. omega (arith, below)) in (
+        rw other (not-or (is_that c (ended_by_packet b)) (is_ended c history)),
+        rw other (replayed-cons b p confirmation c (creation_of c history) (entries_of c history)),
       )
 
 -- the connection that a packet creates
@@ -99,8 +83,8 @@ unended_after b p confirmation history =
       map-append,
       map-filter-change (λ c. connection_in c history) (λ c. connection_in c (entry_of b p confirmation ∷ history))
           (λ c. not (is_ended c (entry_of b p confirmation ∷ history))) (λ c. not (is_ended c history))
-          (λ h. not (is_that h.id.0 (ended_by_packet b))) (touched_by b p confirmation) (begun_in history)
-          (earlier b p confirmation history (begun_in history) (begun_in-below history)),
+          (λ h. not (is_that h.id.0 (ended_by_packet b))) (touched_by b p confirmation)
+          (λ c. c < length history) (earlier b p confirmation history) (begun_in history) (begun_in-below history),
     ) (by_result b confirmation)
   where
     by_result : (b : Belonging) (confirmation : Confirmation) →

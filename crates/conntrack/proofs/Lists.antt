@@ -29,11 +29,11 @@ none_passes p [] h = refl
 none_passes p (x ∷ xs) h = grind (arith, none_passes p xs)
 
 -- a filter and a map that change along
-pub map-filter-change : {A B : Type 0} (f g : A → B) (p q : A → Bool) (r : B → Bool) (u : B → B) (cs : List A)
-    → AllByRecursion (λ c. (p c ≡ (q c && r (f c))) × (g c ≡ u (f c))) cs
+pub map-filter-change : {A B : Type 0} (f g : A → B) (p q : A → Bool) (r : B → Bool) (u : B → B) (P : A → Type 0)
+    → ((c : A) → P c → (p c ≡ (q c && r (f c))) × (g c ≡ u (f c))) → (cs : List A) → AllByRecursion P cs
     → map g (filter p cs) ≡ map u (filter r (map f (filter q cs)))
-map-filter-change f g p q r u [] h = refl
-map-filter-change f g p q r u (c ∷ cs) h = grind (arith, h.0.0, h.0.1, map-filter-change f g p q r u cs h.1)
+map-filter-change f g p q r u P h [] all = refl
+map-filter-change f g p q r u P h (c ∷ cs) all = grind (arith, (h c all.0).0, (h c all.0).1, map-filter-change f g p q r u P h cs all.1)
 
 pub map-filter-later : {A B : Type 0} (f : A → B) (q : A → Bool) (p : B → Bool) (xs : List A)
     → map f (filter (λ x. q x && p (f x)) xs) ≡ filter p (map f (filter q xs))

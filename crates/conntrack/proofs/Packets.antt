@@ -2,19 +2,16 @@
 use Rattle.std.proofs.Common.{◌≡◌, ℕ, ◌≤◌, List, [], ◌∷◌, ◌++◌, map, length, Bool, true, not, refl, sym, subst, ◌∙◌, ap, arith}
 use Rattle.std.specs.Prelude.{filter}
 use Rattle.conntrack.proofs.Names.{Arrival, Belonging, Confirmation, Confirmed, ConnId, Connection, ConnectionRef, ConntrackEntry, Direction, DoesNotClash}
-use Rattle.conntrack.proofs.Names.{Ends, Flags, Found, IsNoneLater, Limits, NotFound, TrackedPacket, Tuple, Unconfirmed, after_end}
-use Rattle.conntrack.proofs.Names.{after_packet, begun_with, belongs, belongs_in}
-use Rattle.conntrack.proofs.Names.{entry_at, entry_of, filter-append, has_distinct_ids, has_id, have_disjoint_tuples, is_live}
-use Rattle.conntrack.proofs.Names.{live_at, live_list, map-append, no_flags, same_id, same_tuple, touched_at, with_begun, without}
-use Rattle.conntrack.proofs.Names.{without_id}
+use Rattle.conntrack.proofs.Names.{Original, Ends, Flags, Found, IsNoneLater, Limits, NotFound, TrackedPacket, Tuple, Unconfirmed, after_end, after_packet}
+use Rattle.conntrack.proofs.Names.{begun_with, belongs, belongs_in, entry_at, entry_of, filter-append, has_distinct_ids, has_id, have_disjoint_tuples, is_live}
+use Rattle.conntrack.proofs.Names.{live_at, live_list, map-append, no_flags, same_id, same_tuple, touched, touched_at, with_begun, without, without_id}
 use Rattle.conntrack.proofs.Ids.{apart-filter, apart-push, apart-touched_at, distinct-filter}
 use Rattle.conntrack.specs.steps.Changes.{unended}
 use Rattle.conntrack.proofs.Histories.{live_list-unended, unended-distinct, unended_after}
 use Rattle.conntrack.proofs.Lists.{filter-map, filter-swap}
 use Rattle.conntrack.proofs.Changes.{live_at-later, live_at-touched_at, live_at_last}
-use Rattle.conntrack.proofs.Lookups.{EndsThere, FoundThere, IsAt, Nowhere, Place, changed_alike, ended_is_free, found_is_held, has_tuple, is_at}
-use Rattle.conntrack.proofs.Lookups.{nowhere_is_free}
-use Rattle.conntrack.proofs.Lookups.{place_in, touched_change, without_change}
+use Rattle.conntrack.proofs.Lookups.{EndsThere, FoundThere, IsAt, Nowhere, Place, at_first, changed, ended_is_free, found_is_held, has_tuple, is_at}
+use Rattle.conntrack.proofs.Lookups.{nowhere_is_free, place_in, touched_change, without_change}
 
 -- the entry that a lookup found is in the list
 abbrev pub IsFoundIn : Belonging → List ConntrackEntry → Type 0
@@ -43,55 +40,53 @@ live_after limits (Ends ended) id p confirmation held d h = live_begun limits id
 
 -- ---- ids
 
-begun_alike : (i j : ConnId) (p : Arrival) (confirmation : Confirmation) (held others : List ConntrackEntry)
-    → map without_id held ≡ map without_id others
-    → map without_id (with_begun i p confirmation held) ≡ map without_id (with_begun j p confirmation others)
-begun_alike i j p Unconfirmed held others e = e
-begun_alike i j p (Confirmed mark reply source dest) held others e =
-    let connection : Connection =
-    record { original = p.tuple; reply = reply; mark = mark; last = p.moment; source = source; dest = dest } in
-    map-append without_id held (begun_with i connection p.flags ∷ [])
-    ∙ ap (λ hs. hs ++ without_id (begun_with i connection p.flags) ∷ []) e
-    ∙ sym (map-append without_id others (begun_with j connection p.flags ∷ []))
+begun_blind : (i : ConnId) (p : Arrival) (confirmation : Confirmation) (held : List ConntrackEntry)
+    → map without_id (with_begun i p confirmation held) ≡ with_begun (record { 0 = 0 }) p confirmation (map without_id held)
+begun_blind i p Unconfirmed held = refl
+begun_blind i p (Confirmed mark reply source dest) held = rw map-append refl
 
-module _ (held others : List ConntrackEntry) (e : map without_id held ≡ map without_id others)
-    (d : has_distinct_ids held ≡ true) (d' : has_distinct_ids others ≡ true) (tuple : Tuple) where
-  end_alike : (b c : Belonging) (pl : Place) → IsAt tuple held b pl → IsAt tuple others c pl
-      → map without_id (after_end b held) ≡ map without_id (after_end c others)
-  end_alike b c Nowhere at at' = rw (at.0, at'.0) e
-  end_alike b c EndsThere at at' = rw (at.2, at'.2) (changed_alike without (λ x. []) without_change
-      (λ n. same_tuple n.original tuple) held others at.0 at'.0 e d d' at.1 at'.1)
-  end_alike b c (FoundThere direction) at at' = rw (at.2, at'.2) e
+-- what a packet does to the entries, whatever their ids are
+abbrev ended_at : Tuple → Place → List ConntrackEntry → List ConntrackEntry
+ended_at tuple EndsThere ns = at_first (has_tuple tuple Original) (λ x. []) ns
+ended_at tuple pl ns = ns
 
-  after_alike : (i j : ConnId) (p : Arrival) (confirmation : Confirmation) (b c : Belonging) (pl : Place)
-      → IsAt tuple held b pl → IsAt tuple others c pl
-      → map without_id (after_packet b i p confirmation held) ≡ map without_id (after_packet c j p confirmation others)
-  after_alike i j p confirmation b c Nowhere at at' = rw (at.0, at'.0) (begun_alike i j p confirmation held others e)
-  after_alike i j p confirmation b c EndsThere at at' =
-      let ended = end_alike b c EndsThere at at' in
-      rw (at.2, at'.2) (begun_alike i j p confirmation (without at.0.id held) (without at'.0.id others) (rw (at.2, at'.2) at ended))
-  after_alike i j p Unconfirmed b c (FoundThere direction) at at' = rw (at.2, at'.2) e
-  after_alike i j p (Confirmed mark reply source dest) b c (FoundThere direction) at at' = rw (at.2, at'.2)
-      (changed_alike _ _ (touched_change direction p.flags mark p.moment) (has_tuple tuple direction)
-      held others at.0 at'.0 e d d' at.1 at'.1)
+abbrev changed_at : Arrival → Place → Confirmation → List ConntrackEntry → List ConntrackEntry
+changed_at p (FoundThere direction) Unconfirmed ns = ns
+changed_at p (FoundThere direction) (Confirmed mark reply source dest) ns =
+    at_first (has_tuple p.tuple direction) (λ x. touched direction p.flags mark p.moment x ∷ []) ns
+changed_at p pl confirmation ns = with_begun (record { 0 = 0 }) p confirmation (ended_at p.tuple pl ns)
 
-  -- the lookups in both lists find the same place
-  same_place : (flags : Flags) → IsAt tuple others (belongs_in others tuple flags) (place_in held tuple flags (map without_id held))
-  same_place flags = subst (λ ns. IsAt tuple others (belongs_in others tuple flags) (place_in held tuple flags ns)) (sym e)
-      (is_at others tuple flags)
+module _ (held : List ConntrackEntry) (d : has_distinct_ids held ≡ true) where
+  end_blind : (tuple : Tuple) (b : Belonging) (pl : Place) → IsAt tuple held b pl
+      → map without_id (after_end b held) ≡ ended_at tuple pl (map without_id held)
+  end_blind tuple b Nowhere at = rw at.0 refl
+  end_blind tuple b EndsThere at =
+      rw at.2 (changed without (λ x. []) without_change (λ n. same_tuple n.original tuple) held at.0 d at.1)
+  end_blind tuple b (FoundThere direction) at = rw at.2 refl
 
-  pub ended_alike : (flags : Flags)
-      → map without_id (after_end (belongs_in held tuple flags) held)
-      ≡ map without_id (after_end (belongs_in others tuple flags) others)
-  ended_alike flags = end_alike _ _ _ (is_at held tuple flags) (same_place flags)
+  after_blind : (i : ConnId) (p : Arrival) (confirmation : Confirmation) (b : Belonging) (pl : Place) → IsAt p.tuple held b pl
+      → map without_id (after_packet b i p confirmation held) ≡ changed_at p pl confirmation (map without_id held)
+  after_blind i p confirmation b Nowhere at = rw at.0 (begun_blind i p confirmation held)
+  after_blind i p confirmation b EndsThere at = rw at.2 (begun_blind i p confirmation (without at.0.id held)
+      ∙ ap (with_begun (record { 0 = 0 }) p confirmation) (end_blind p.tuple (Ends at.0.id) EndsThere (at.0, at.1, refl)))
+  after_blind i p Unconfirmed b (FoundThere direction) at = rw at.2 refl
+  after_blind i p (Confirmed mark reply source dest) b (FoundThere direction) at = rw at.2
+      (changed _ _ (touched_change direction p.flags mark p.moment) (has_tuple p.tuple direction) held at.0 d at.1)
 
 -- lists that are equal except for ids stay so
-pub packet_alike : (held others : List ConntrackEntry) → map without_id held ≡ map without_id others
-    → has_distinct_ids held ≡ true → has_distinct_ids others ≡ true → (i j : ConnId) (p : Arrival) (confirmation : Confirmation) →
-    map without_id (after_packet (belongs_in held p.tuple p.flags) i p confirmation held)
-    ≡ map without_id (after_packet (belongs_in others p.tuple p.flags) j p confirmation others)
-packet_alike held others e d d' i j p confirmation = after_alike held others e d d' p.tuple i j p confirmation _ _ _
-    (is_at held p.tuple p.flags) (same_place held others e d d' p.tuple p.flags)
+module _ (held others : List ConntrackEntry) (e : map without_id held ≡ map without_id others)
+    (d : has_distinct_ids held ≡ true) (d' : has_distinct_ids others ≡ true) where
+  pub ended_alike : (tuple : Tuple) (flags : Flags) → map without_id (after_end (belongs_in held tuple flags) held)
+      ≡ map without_id (after_end (belongs_in others tuple flags) others)
+  ended_alike tuple flags = end_blind held d tuple _ _ (is_at held tuple flags)
+      ∙ ap (λ ns. ended_at tuple (place_in tuple flags ns) ns) e ∙ sym (end_blind others d' tuple _ _ (is_at others tuple flags))
+
+  pub packet_alike : (i j : ConnId) (p : Arrival) (confirmation : Confirmation)
+      → map without_id (after_packet (belongs_in held p.tuple p.flags) i p confirmation held)
+      ≡ map without_id (after_packet (belongs_in others p.tuple p.flags) j p confirmation others)
+  packet_alike i j p confirmation = after_blind held d i p confirmation _ _ (is_at held p.tuple p.flags)
+      ∙ ap (λ ns. changed_at p (place_in p.tuple p.flags ns) confirmation ns) e
+      ∙ sym (after_blind others d' j p confirmation _ _ (is_at others p.tuple p.flags))
 
 -- ---- records
 
@@ -179,9 +174,7 @@ none_later_begun : (id : ConnId) (p : Arrival) (confirmation : Confirmation) (he
     → IsNoneLater p.moment held → IsNoneLater p.moment (with_begun id p confirmation held)
 none_later_begun id p Unconfirmed held h = h
 none_later_begun id p (Confirmed mark reply source dest) held h =
-    let connection : Connection =
-    record { original = p.tuple; reply = reply; mark = mark; last = p.moment; source = source; dest = dest } in
-    none_later-push p.moment held (begun_with id connection p.flags) h (omega arith)
+    none_later-push p.moment held _ h (omega arith)
 
 pub none_later_after : (b : Belonging) (id : ConnId) (p : Arrival) (confirmation : Confirmation)
     (held : List ConntrackEntry) → IsNoneLater p.moment held

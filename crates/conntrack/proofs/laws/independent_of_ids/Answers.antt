@@ -1,7 +1,8 @@
 use Rattle.std.proofs.Common.{◌≡◌, List, [], ◌∷◌, map, length, refl, sym, ◌∙◌, ap}
-use Rattle.conntrack.proofs.Names.{Belonging, ConntrackEntry, Ends, Found, Kind, NotFound, belonging_without_id, connection_of, length-map, state_of}
-use Rattle.conntrack.proofs.Names.{without_id}
-use Rattle.conntrack.proofs.Same.{same_belonging, same_taken}
+use Rattle.conntrack.proofs.Names.{Belonging, ConntrackEntry, Ends, Found, Kind, NotFound, belonging_without_id, connection_of, is_incoming, is_taken, length-map}
+use Rattle.conntrack.proofs.Names.{state_of, without_id}
+use Rattle.list_laws.specs.Lists.{any_of_map}
+use Rattle.conntrack.proofs.Same.{same_belonging}
 use Rattle.conntrack.proofs.Packets.{ended_alike, live_alike, packet_alike}
 use Rattle.conntrack.proofs.laws.independent_of_ids.Goals as goal
 
@@ -24,7 +25,9 @@ returns-clause-state c = λ one other kind e.
     state_without_id kind one ∙ ap (state_of kind) e ∙ sym (state_without_id kind other)
 
 pub returns-clause-taken : goal.returns-clause-taken
-returns-clause-taken c = same_taken
+returns-clause-taken c held others tuple e =
+    let by = any_of_map (is_incoming tuple) without_id in
+    by held ∙ ap (is_taken tuple) e ∙ sym (by others)
 
 pub returns-clause-number : goal.returns-clause-number
 returns-clause-number c = λ held others e. sym (length-map held without_id) ∙ ap length e ∙ length-map others without_id
