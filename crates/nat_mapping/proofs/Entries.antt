@@ -1,6 +1,6 @@
 -- The list of mappings that entries represent.
 use Rattle.std.specs.Prelude.{◌==◌, ◌&&◌, replicate}
-use Rattle.std.proofs.Common.{◌≡◌, ℕ, ◌+◌, ◌*◌, Bool, true, false, cond, List, [], ◌∷◌, ◌++◌, Option, Some, None, refl, sym, ◌∙◌, ap, subst, arith}
+use Rattle.std.proofs.Common.{◌≡◌, ℕ, ◌+◌, ◌*◌, Bool, true, false, cond, List, [], ◌∷◌, ◌++◌, Option, Some, None, refl, sym, ◌∙◌, ap, arith}
 use Rattle.nat_mapping.proofs.Names.{CountsHolders, IsDistinct, IsDistinct-tail, IsUnique, MappedPort, Mapping, SourceKey, Sources, get, held_by, holders_at}
 use Rattle.nat_mapping.proofs.Names.{holders_of, keys_of, lookup, lookup-none, from_internal, none_past_head, same_endpoint, same_kind, same_mapping}
 use Rattle.nat_mapping.proofs.Names.{same_source, source_key_of, sum_by, sum_by-append, sum_by-replicate}
@@ -50,7 +50,3 @@ count_entries (e ∷ es) distinct m =
 -- the list that a table represents has each mapping as often as the table says
 pub counts_of : (sources : Sources) → IsUnique same_source sources → CountsHolders (get same_source sources) (held_by sources.entries)
 counts_of sources unique m = count_entries sources.entries unique m
-
-pub distinct_none : (es : List (SourceKey × MappedPort)) → es ≡ [] → IsDistinct same_source (keys_of es)
-unfolding IsDistinct
-distinct_none es none = let P : List (SourceKey × MappedPort) → Type 0 = λ xs. IsDistinct same_source (keys_of xs) in subst P (sym none) tt

@@ -61,6 +61,7 @@ impl Model for Mappings {
 impl Mappings {
     /// No mappings, and no pools of ports. Its tables hash by `hasher`, whose keys must be unknown
     /// to the senders of packets; no result depends on them.
+    #[tactic(auto, unfolding(crate::specs::steps::Consistent::held_by))]
     pub fn new(alloc: Global, hasher: RandomState) -> Self
         ensures held { result.held ≡ [] }
         ensures pools { result.pools ≡ 0 }

@@ -1,8 +1,7 @@
-use Rattle.std.proofs.Common.{◌≡◌, ℕ, Bool, true, false, cond, not, is_some, Option, None, Some, sym, ◌∙◌, ap}
+use Rattle.std.proofs.Common.{◌≡◌, ℕ, Bool, true, cond, not, is_some, Option, None, Some, sym, ◌∙◌, ap}
 use Rattle.nat_mapping.proofs.Names.{Endpoint, PoolKey, candidates, find, get, has_pool, inbound_at, order_of, same_inbound, taken_in}
 use Rattle.nat_mapping.proofs.WhichKinds.{zero_found}
 use Rattle.nat_mapping.proofs.mappings.first_free_port.Goals as goal
-use Rattle.nat_mapping.proofs.mappings.first_free_port.Goals.{After-find_inbound}
 
 pub returns-then-has_pool : goal.returns-then-has_pool
 returns-then-has_pool c =
@@ -14,20 +13,12 @@ returns-then-has_pool c =
     c.choose.ensures ∙ ap (λ f. find f (candidates (order_of c.args.key.kind) c.args.key.internal.port c.args.range)) tests
 
 -- 0 is free where its inbound key isn't mapped
-alone : (c : After-find_inbound) → has_pool c.args.key.kind ≡ false
-    → find (λ p. not (is_some (get same_inbound c.args.inbounds.now (inbound_at (record { kind = c.args.key.kind; address = c.args.key.address }) p))))
-    (candidates (order_of c.args.key.kind) c.args.key.internal.port c.args.range) ≡ cond (not (is_some c.find_inbound.result)) (Some 0) None
-alone c none =
-    zero_found (λ p. not (is_some (get same_inbound c.args.inbounds.now (inbound_at (record { kind = c.args.key.kind; address = c.args.key.address }) p))))
-    c.args.key.kind c.args.key.internal.port c.args.range none
-    ∙ ap (λ (o : Option Endpoint). cond (not (is_some o)) (Some 0) None) (sym c.find_inbound.ensures)
-
 pub returns-in-Some : goal.returns-in-Some
 returns-in-Some c =
-    let all = alone (goal.at.returns-in-Some c).After-find_inbound (sym c.has_pool.ensures ∙ c.if-has_pool.false) in
-    sym (all ∙ ap (λ (o : Option Endpoint). cond (not (is_some o)) (Some 0) None) c.in-Some.is)
+    sym (zero_found _ c.args.key.kind c.args.key.internal.port c.args.range (sym c.has_pool.ensures ∙ c.if-has_pool.false)
+    ∙ ap (λ (o : Option Endpoint). cond (not (is_some o)) (Some 0) None) (sym c.find_inbound.ensures ∙ c.in-Some.is))
 
 pub returns-in-None : goal.returns-in-None
 returns-in-None c =
-    let all = alone (goal.at.returns-in-None c).After-find_inbound (sym c.has_pool.ensures ∙ c.if-has_pool.false) in
-    sym (all ∙ ap (λ (o : Option Endpoint). cond (not (is_some o)) (Some 0) None) c.in-None.is)
+    sym (zero_found _ c.args.key.kind c.args.key.internal.port c.args.range (sym c.has_pool.ensures ∙ c.if-has_pool.false)
+    ∙ ap (λ (o : Option Endpoint). cond (not (is_some o)) (Some 0) None) (sym c.find_inbound.ensures ∙ c.in-None.is))

@@ -1,4 +1,4 @@
-use Rattle.std.proofs.Common.{not, None, sym, ◌∙◌, ap, Option}
+use Rattle.std.proofs.Common.{not, sym, ◌∙◌, ap, Option}
 use Rattle.list_laws.specs.Options.{IfSome_at}
 use Rattle.nat_mapping.specs.steps.Ports.{IsInUse}
 use Rattle.nat_mapping.proofs.Names.{Order, Pool, candidates, find, is_taken, is_taken_by, order_of}
@@ -11,10 +11,3 @@ returns-in-Some c =
     ∙ ap (λ (o : Order). find (λ p. not (is_taken c.in-Some.pool.now p)) (candidates o c.args.port c.args.range))
     (IfSome_at _ (IsInUse c.args.key) c.in-Some.pool.now (sym is) (c.requires.used c.args.key)).order
     ∙ ap (λ (o : Option Pool). find (λ p. not (is_taken_by o p)) (candidates (order_of c.args.key.kind) c.args.port c.args.range)) is
-
-pub returns-in-None : goal.returns-in-None
-returns-in-None c =
-    c.choose_unused.ensures
-    ∙ ap (λ (o : Order). find (λ p. not (is_taken_by None p)) (candidates o c.args.port c.args.range)) c.order.ensures
-    ∙ ap (λ (o : Option Pool). find (λ p. not (is_taken_by o p)) (candidates (order_of c.args.key.kind) c.args.port c.args.range))
-    c.in-None.ensures.value
