@@ -6,10 +6,10 @@ use Rattle.std.proofs.lemmas.List.{map-id}
 use Rattle.std.proofs.lemmas.List.Elements.{All-append, All-cons, All-nil, All-weaker, recursion_from_All}
 use Rattle.std.specs.List.{All}
 use Rattle.conntrack.proofs.Names.{AllByRecursion, Arrival, Begins, Belonging, Confirmation, Confirmed, ConnectionChange, ConntrackEntry, Creation, Ends, Found}
-use Rattle.conntrack.proofs.Names.{Limits, Mapping, NotFound, TrackedPacket, Tuple, Unconfirmed, after_packet, append-nil, begun_in}
-use Rattle.conntrack.proofs.Names.{connection_in, change_of_packet, creation_of, ended_by_packet, entries_of, entry_of, eq-eqb, filter-append, has_distinct_ids}
-use Rattle.conntrack.proofs.Names.{has_id, is_ended, is_live, is_that, is_touch_of, live_at, live_list, map-append, nat_tests, ne_eqb, number_if_begins}
-use Rattle.conntrack.proofs.Names.{or-false, replayed, same_id, touched, with_begun}
+use Rattle.conntrack.proofs.Names.{Limits, Mapping, NotFound, TrackedPacket, Tuple, Unconfirmed, after_packet, append-nil, begun_in, connection_in}
+use Rattle.conntrack.proofs.Names.{change_of_packet, creation_of, ended_by_packet, entries_of, entry_of, eq-eqb, filter-append, has_distinct_ids, has_id}
+use Rattle.conntrack.proofs.Names.{is_ended, is_live, is_that, is_touch_of, live_at, live_list, map-append, nat_tests, ne_eqb, number_if_begins, or-false}
+use Rattle.conntrack.proofs.Names.{replayed, same_id, touched, with_begun}
 use Rattle.conntrack.specs.steps.Changes.{unended}
 use Rattle.conntrack.proofs.Lists.{filter-map, filter-true, map-filter-change, map-filter-later}
 use Rattle.conntrack.proofs.Ids.{distinct-filter, distinct-push}

@@ -1,9 +1,11 @@
 -- Two lists that are equal except for ids: lookups find the same entry, and changes agree.
-use Rattle.std.proofs.Common.{◌≡◌, ℕ, List, [], ◌∷◌, ◌++◌, map, inl, inr, Option, None, Some, Bool, true, false, not, ◌&&◌, cond, refl, sym, ◌∙◌, ap, subst, arith}
-use Rattle.conntrack.proofs.Names.{Belonging, both_ways, cases_Bool, false_from_ne_true, ConnId, ConnectionRef, ConntrackEntry, Direction, Ends, Flags, Found, Limits, NotFound, Original, Reply, Tuple}
-use Rattle.conntrack.proofs.Names.{and_parts, belonging_by, belongs_in, connection_ref, eq-eqb, find, has_distinct_ids, has_id, have_disjoint_tuples}
-use Rattle.conntrack.proofs.Names.{is_closing, is_live, live_at, is_lone_syn, is_taken, map-append, nat_tests, not-true, of_original, of_reply, option_map}
-use Rattle.conntrack.proofs.Names.{or_parts, same_id, same_tuple, same_tuple-true, touched, touched_at, without, without_id}
+use Rattle.std.proofs.Common.{◌≡◌, ℕ, List, [], ◌∷◌, ◌++◌, map, inl, inr, Option, None, Some, Bool, true, false, not, ◌&&◌, cond, refl, sym, ◌∙◌, ap, subst}
+use Rattle.std.proofs.Common.{arith}
+use Rattle.conntrack.proofs.Names.{Belonging, ConnId, ConnectionRef, ConntrackEntry, Direction, Ends, Flags, Found, Limits, NotFound, Original, Reply, Tuple}
+use Rattle.conntrack.proofs.Names.{and_parts, both_ways, cases_Bool, false_from_ne_true, belonging_by, belongs_in, connection_ref, eq-eqb, find}
+use Rattle.conntrack.proofs.Names.{has_distinct_ids, has_id, have_disjoint_tuples, is_closing, is_live, live_at, is_lone_syn, is_taken, map-append, nat_tests}
+use Rattle.conntrack.proofs.Names.{not-true, of_original, of_reply, option_map, or_parts, same_id, same_tuple, same_tuple-true, touched, touched_at, without}
+use Rattle.conntrack.proofs.Names.{without_id}
 use Rattle.conntrack.specs.ConntrackEntry.{is_original}
 use Rattle.conntrack.proofs.Lists.{list_any_either, list_any_found}
 use Rattle.conntrack.proofs.Same.{blind}

@@ -30,8 +30,8 @@ pub use Rattle.ip_headers.specs.declared.tuple.Tuple.{Tuple}
 pub use Rattle.ip_headers.specs.steps.Equal.{same_tuple-true}
 pub use Rattle.list_laws.specs.Lists.{find-filter}
 pub use Rattle.std.proofs.Math.Bool.{or-false}
-pub use Rattle.std.proofs.lemmas.Bool.{and_from, and_parts, both_ways, cases_Bool, eq-eqb, eqb-true, false_from_ne_true, lt-ltb, ltb-true, ne_eqb, not-true, not_from_false, or_from, or_left, or_parts}
-pub use Rattle.std.proofs.lemmas.Bool.{or_right, true≢false}
+pub use Rattle.std.proofs.lemmas.Bool.{and_from, and_parts, both_ways, cases_Bool, eq-eqb, eqb-true, false_from_ne_true, lt-ltb, ltb-true, ne_eqb, not-true}
+pub use Rattle.std.proofs.lemmas.Bool.{not_from_false, or_from, or_left, or_parts, or_right, true≢false}
 pub use Rattle.std.proofs.lemmas.Bool.Decides.{nat_tests}
 pub use Rattle.std.proofs.lemmas.Iterator.{YieldsList-from_slice}
 pub use Rattle.std.proofs.lemmas.Iterator.Search.{find_from_yields_List}

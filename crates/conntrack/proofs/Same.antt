@@ -1,8 +1,7 @@
 -- Lists that are equal except for ids have the same lookups.
 use Rattle.std.proofs.Common.{◌≡◌, List, [], ◌∷◌, map, Option, None, Some, Bool, true, false, ◌&&◌, cond, refl, sym, ◌∙◌, ap, arith}
-use Rattle.conntrack.proofs.Names.{ConnId, ConntrackEntry, Ends, Flags, Found, Original, Tuple, belonging_by}
-use Rattle.conntrack.proofs.Names.{belonging_without_id, belongs_in, connection_ref, find, is_closing, is_lone_syn}
-use Rattle.conntrack.proofs.Names.{of_original, of_reply, option_map, ref_without_id, same_tuple, without_id}
+use Rattle.conntrack.proofs.Names.{ConnId, ConntrackEntry, Ends, Flags, Found, Original, Tuple, belonging_by, belonging_without_id, belongs_in, connection_ref}
+use Rattle.conntrack.proofs.Names.{find, is_closing, is_lone_syn, of_original, of_reply, option_map, ref_without_id, same_tuple, without_id}
 
 option_map-find : {A B : Type 0} (f : A → B) (p : B → Bool) (xs : List A) → option_map f (find (λ x. p (f x)) xs) ≡ find p (map f xs)
 option_map-find f p [] = refl

@@ -1,6 +1,6 @@
 use Rattle.std.proofs.Common.{◌≡◌, List, [], ◌∷◌, map, length, refl, sym, ◌∙◌, ap}
-use Rattle.conntrack.proofs.Names.{Belonging, ConntrackEntry, Ends, Found, Kind, NotFound, belonging_without_id, connection_of, is_incoming, is_taken, length-map}
-use Rattle.conntrack.proofs.Names.{state_of, without_id}
+use Rattle.conntrack.proofs.Names.{Belonging, ConntrackEntry, Ends, Found, Kind, NotFound, belonging_without_id, connection_of, is_incoming, is_taken}
+use Rattle.conntrack.proofs.Names.{length-map, state_of, without_id}
 use Rattle.list_laws.specs.Lists.{any_of_map}
 use Rattle.conntrack.proofs.Same.{same_belonging}
 use Rattle.conntrack.proofs.Packets.{ended_alike, live_alike, packet_alike}
