@@ -1,16 +1,13 @@
 -- The list of mappings that entries represent.
 use Rattle.std.specs.Prelude.{◌==◌, ◌&&◌, replicate}
-use Rattle.std.proofs.Common.{◌≡◌, ℕ, ◌+◌, ◌*◌, Bool, true, false, cond, List, [], ◌∷◌, ◌++◌, Option, Some, None, refl, sym, ◌∙◌, ap, arith}
-use Rattle.nat_mapping.proofs.Names.{CountsHolders, IsDistinct, IsDistinct-tail, IsUnique, MappedPort, Mapping, SourceKey, Sources, get, held_by, holders_at}
-use Rattle.nat_mapping.proofs.Names.{holders_of, keys_of, lookup, lookup-none, from_internal, none_past_head, same_endpoint, same_kind, same_mapping}
-use Rattle.nat_mapping.proofs.Names.{same_source, source_key_of, sum_by, sum_by-append, sum_by-replicate}
+use Rattle.std.proofs.Common.{◌≡◌, ℕ, ◌+◌, ◌*◌, Bool, true, cond, List, [], ◌∷◌, ◌++◌, Option, Some, None, refl, sym, ◌∙◌, ap, arith}
+use Rattle.nat_mapping.proofs.Names.{nat_tests, CountsHolders, IsDistinct, IsDistinct-tail, IsUnique, MappedPort, Mapping, SourceKey, Sources, get, held_by}
+use Rattle.nat_mapping.proofs.Names.{holders_at, holders_of, keys_of, lookup, lookup-none, from_internal, none_past_head, same_endpoint, same_kind}
+use Rattle.nat_mapping.proofs.Names.{same_mapping, same_source, source_key_of, sum_by, sum_by-append, sum_by-replicate}
 use Rattle.nat_mapping.proofs.Equal.{source_parts, source_test, equivalence}
 
 regroup : (a b c d : Bool) → (a && (b && (c && d))) ≡ ((a && (b && c)) && d)
-regroup true true true d = refl
-regroup true true false d = refl
-regroup true false c d = refl
-regroup false b c d = refl
+regroup a b c d = grind (arith, nat_tests)
 
 pub same_by : (m : Mapping) (key : SourceKey) (h : MappedPort)
     → same_mapping m (from_internal key h.port) ≡ (same_source (source_key_of m) key && m.external.port == h.port)
@@ -19,8 +16,7 @@ same_by m key h = regroup (same_kind m.kind key.kind) (same_endpoint m.internal 
     ∙ ap (λ b. b && m.external.port == h.port) (sym (source_parts (source_key_of m) key))
 
 times : (b : Bool) (n : ℕ) → n * cond b 1 0 ≡ cond b n 0
-times true n = omega arith
-times false n = omega arith
+times b n = grind (arith, nat_tests)
 
 head : (m x : Mapping) (n : ℕ) (rest : List Mapping)
     → holders_of m (replicate n x ++ rest) ≡ cond (same_mapping m x) n 0 + holders_of m rest
@@ -32,9 +28,7 @@ head m x n rest =
 -- where the first entry has its key, no other has
 split : (b : Bool) (h : MappedPort) (o : Option MappedPort) (port : ℕ) → (b ≡ true → o ≡ None)
     → cond (b && port == h.port) h.holders 0 + holders_at o port ≡ holders_at (cond b (Some h) o) port
-split true h o port none =
-    let rest : holders_at o port ≡ 0 = ap (λ x. holders_at x port) (none refl) in omega (arith, rest)
-split false h o port none = omega arith
+split b h o port none = grind (arith, nat_tests, none)
 
 count_entries : (es : List (SourceKey × MappedPort)) → IsDistinct same_source (keys_of es) → (m : Mapping)
     → holders_of m (held_by es) ≡ holders_at (lookup (same_source (source_key_of m)) es) m.external.port

@@ -1,5 +1,5 @@
 -- What lookups by key find in a list of mappings, and after one more or one fewer.
-use Rattle.std.proofs.Common.{◌≡◌, ℕ, ◌&&◌, ◌==◌, Bool, true, cond, not, List, ◌∷◌, Option, Some, None, is_some, inl, inr, refl, sym, ap, subst, ◌∙◌}
+use Rattle.std.proofs.Common.{arith, ◌≡◌, ℕ, ◌&&◌, ◌==◌, Bool, true, cond, not, List, ◌∷◌, Option, Some, None, is_some, inl, inr, refl, sym, ap, subst, ◌∙◌}
 use Rattle.list_laws.specs.Decisions.{Contains-cases, Contains-there}
 use Rattle.list_laws.specs.Options.{option_cases, some_of_map}
 use Rattle.nat_mapping.proofs.Names.{CandidateRange, Contains, Contains-head, Endpoint, Finds, InboundKey, IsOneToOne, Kind, Mapping, SourceKey, candidates}
@@ -149,8 +149,7 @@ one_to_one_by held f g inbound port = record {
 }
 
 not_some : {X : Type 0} (o : Option X) → not (is_some o) ≡ true → o ≡ None
-not_some None h = refl
-not_some (Some x) h = cc
+not_some o h = grind arith
 
 -- the mapping to the port that `source` gives
 pub source_one_to_one : (held : List Mapping) → IsOneToOne held → (key : SourceKey) (range : Option CandidateRange) (port : ℕ)

@@ -45,8 +45,7 @@ some_of None e = absurd (cc)
 some_of (Some x) e = (x, refl)
 
 taken_some : (o : Option Pool) (port : ℕ) → is_taken_by o port ≡ true → is_some o ≡ true
-taken_some None port t = absurd (cc)
-taken_some (Some pool) port t = refl
+taken_some o port t = grind arith
 
 module _ (sources : Sources) (inbounds : Inbounds) (pools : Pools) (kept : IsConsistent sources inbounds pools)
     (held : List Mapping) (same : SameMembers held (held_by sources.entries)) where

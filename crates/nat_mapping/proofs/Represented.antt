@@ -4,11 +4,11 @@ use Rattle.std.proofs.Common.{◌≡◌, ℕ, ◌<◌, ◌+◌, Bool, true, fals
 use Rattle.std.proofs.Common.{inr, arith}
 use Rattle.list_laws.specs.Decisions.{Contains-there}
 use Rattle.list_laws.specs.Options.{IfSome_at, option_cases, some_of_map}
-use Rattle.nat_mapping.proofs.Names.{ArePorts, CandidateRange, Contains, Contains-head, Endpoint, Finds, HoldsSame, InboundKey, Inbounds, IsConsistent}
-use Rattle.nat_mapping.proofs.Names.{IsOneToOne, IsPooled, IsTable, Kind, MappedPort, Mapping, PoolKey, Pools, SourceKey, Sources, candidates, cases_Bool}
-use Rattle.nat_mapping.proofs.Names.{cond-false, cond-true, eq-eqb, eqb-true, find, from_external, from_internal, get, has_pool, held_by, holders_at}
-use Rattle.nat_mapping.proofs.Names.{holders_cons, holders_of, inbound_at, inbound_key_of, none-some, one_more, option_map, or_else, order_of, pool_key_of}
-use Rattle.nat_mapping.proofs.Names.{same_inbound, same_source, source_key_of, source_of, taken_in}
+use Rattle.nat_mapping.proofs.Names.{nat_tests, ArePorts, CandidateRange, Contains, Contains-head, Endpoint, Finds, HoldsSame, InboundKey, Inbounds}
+use Rattle.nat_mapping.proofs.Names.{IsConsistent, IsOneToOne, IsPooled, IsTable, Kind, MappedPort, Mapping, PoolKey, Pools, SourceKey, Sources, candidates}
+use Rattle.nat_mapping.proofs.Names.{find, from_external, from_internal, get, has_pool, held_by, holders_at, holders_cons, holders_of, inbound_at}
+use Rattle.nat_mapping.proofs.Names.{inbound_key_of, none-some, one_more, option_map, or_else, order_of, pool_key_of, same_inbound, same_source, source_key_of}
+use Rattle.nat_mapping.proofs.Names.{source_of, taken_in}
 use Rattle.nat_mapping.proofs.Equal.{apart_false, inbound_test, source_test}
 use Rattle.nat_mapping.proofs.Sets.{Sets, sets_all, sets_by}
 use Rattle.nat_mapping.proofs.Lists.{SameMembers, has_holder, is_among, members_alike, one_to_one_alike}
@@ -19,16 +19,10 @@ use Rattle.nat_mapping.proofs.Entries.{counts_of, same_by}
 
 -- where a mapping has holders, its port is found
 holds_port : (o : Option MappedPort) (port : ℕ) → 0 < holders_at o port → option_map (λ h. h.port) o ≡ Some port
-holds_port None port some = absurd (omega arith)
-holds_port (Some h) port some =
-    elim (cases_Bool (port == h.port)) [
-      | inl t ↦ ap Some (sym (eqb-true port h.port t))
-      | inr f ↦ let none : cond (port == h.port) h.holders 0 ≡ 0 = cond-false (port == h.port) h.holders 0 f in absurd (omega (arith, none))
-    ]
+holds_port o port some = grind (arith, nat_tests)
 
 holders_by : (o : Option MappedPort) (port : ℕ) (h : MappedPort) → o ≡ Some h → h.port ≡ port → holders_at o port ≡ h.holders
-holders_by o port h is here =
-    ap (λ p. holders_at p port) is ∙ cond-true (port == h.port) h.holders 0 (eq-eqb port h.port (sym here))
+holders_by o port h is here = grind (arith, nat_tests)
 
 -- the port under a key
 abbrev pub port_at : Sources → SourceKey → Option ℕ
@@ -79,15 +73,9 @@ pub record HasMore (m : Mapping) (less more : Sources) : Type 0 where
   pub sets : Sets (get same_source less) (get same_source more) (source_key_of m)
       (Some (one_more m.external.port (get same_source less (source_key_of m))))
 
-plus_one : (b : Bool) (n : ℕ) → cond b (n + 1) 0 ≡ cond b 1 0 + cond b n 0
-plus_one true n = omega arith
-plus_one false n = omega arith
-
 more_at : (o : Option MappedPort) (port p : ℕ) → ((h : MappedPort) → o ≡ Some h → h.port ≡ port)
     → holders_at (Some (one_more port o)) p ≡ cond (p == port) 1 0 + holders_at o p
-more_at None port p fits = omega arith
-more_at (Some h) port p fits =
-    plus_one (p == h.port) h.holders ∙ ap (λ x. cond (p == x) 1 0 + cond (p == h.port) h.holders 0) (fits h refl)
+more_at o port p fits = grind (arith, nat_tests, fits)
 
 -- so has the table before a holder was removed
 pub has_fewer : (m : Mapping) (old new : Sources) (before : MappedPort) (w : Option MappedPort)
@@ -102,8 +90,7 @@ has_fewer m old new before w sets was port more = record {
 }
 
 pub more_live : (port : ℕ) (o : Option MappedPort) → 0 < (one_more port o).holders
-more_live port None = omega arith
-more_live port (Some h) = omega arith
+more_live port o = grind arith
 
 -- how many holders a table says a mapping has, with one more of `m`
 abbrev count_with : Mapping → Sources → SourceKey → ℕ → ℕ
@@ -138,8 +125,7 @@ abbrev pub InboundSet : Inbounds → Inbounds → InboundKey → Option Endpoint
 InboundSet old new key w = (q : InboundKey) → get same_inbound new q ≡ cond (same_inbound key q) w (get same_inbound old q)
 
 some_set : (b : Bool) (w o : Option Endpoint) → is_some (cond b w o) ≡ cond b (is_some w) (is_some o)
-some_set true w o = refl
-some_set false w o = refl
+some_set b w o = grind arith
 
 -- the taken ports are again those that are mapped
 ports_set : (inbounds inbounds' : Inbounds) (pools pools' : Pools) (key : PoolKey) (port : ℕ) (w : Option Endpoint)

@@ -1,5 +1,5 @@
 -- Kinds with pools and without.
-use Rattle.std.proofs.Common.{◌≡◌, ◌≢◌, ℕ, Bool, true, false, cond, Option, Some, None, is_some, refl}
+use Rattle.std.proofs.Common.{arith, ◌≡◌, ◌≢◌, ℕ, Bool, true, false, cond, Option, Some, None, is_some, refl}
 use Rattle.nat_mapping.proofs.Names.{CandidateRange, Kind, Other, Zero, candidates, find, has_pool, order_of}
 
 pub row_order : (kind : Kind) → has_pool kind ≡ true → order_of kind ≢ Zero
@@ -7,8 +7,7 @@ row_order (Other number) is = absurd (cc)
 row_order kind is = λ e. absurd (cc)
 
 pub is_none : {X : Type 0} (o : Option X) → is_some o ≡ false → o ≡ None
-is_none None e = refl
-is_none (Some x) e = absurd (cc)
+is_none o e = grind arith
 
 -- 0 is the only candidate of a kind without ports
 pub zero_found : (test : ℕ → Bool) (kind : Kind) (s : ℕ) (range : Option CandidateRange) → has_pool kind ≡ false
