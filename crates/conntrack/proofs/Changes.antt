@@ -1,9 +1,8 @@
 -- The live entries, after a packet and at a later moment.
 use Rattle.std.proofs.Common.{◌≡◌, ℕ, ◌-◌, ◌<◌, ◌≤◌, List, [], ◌∷◌, true, refl, arith}
 use Rattle.std.specs.Prelude.{nat_lt}
-use Rattle.conntrack.proofs.Names.{ConnId, ConntrackEntry, Direction, Echo, Established, Flags, IdleKind, Limits, Transitory, has_distinct_ids, has_id}
-use Rattle.conntrack.proofs.Names.{idle_kind, is_live, limit_in, limit_of, live_at, lt-ltb, ltb-true, nat_tests, phase_of, touched, touched_at}
-use Rattle.box_file.specs.declared.idle_line.IdleKind.TheVariants.{Udp, Other}
+use Rattle.conntrack.proofs.Names.{ConnId, ConntrackEntry, Direction, Flags, IdleKind, Limits, has_distinct_ids, has_id, idle_kind, is_live, limit_in, limit_of}
+use Rattle.conntrack.proofs.Names.{live_at, lt-ltb, ltb-true, nat_tests, phase_of, touched, touched_at}
 use Rattle.conntrack.proofs.Lists.{filter_again}
 use Rattle.conntrack.proofs.Ids.{has_id-filter, touched_at_none}
 
@@ -16,11 +15,7 @@ live_at-later limits now later held le = filter_again (is_live limits later) (is
     (λ x h. later_live now later x.last (limit_of limits x) le h)
 
 limit_positive : (limits : Limits) (kind : IdleKind) → 0 < limit_in limits kind
-limit_positive limits Udp = grind (arith, nat_tests, limits.positive)
-limit_positive limits Established = grind (arith, nat_tests, limits.positive)
-limit_positive limits Transitory = grind (arith, nat_tests, limits.positive)
-limit_positive limits Echo = grind (arith, nat_tests, limits.positive)
-limit_positive limits Other = grind (arith, nat_tests, limits.positive)
+limit_positive limits kind = grind (arith, nat_tests, limits.positive)
 
 -- a connection is live at the moment of its packet
 pub live_at_last : (limits : Limits) (now : ℕ) (h : ConntrackEntry) → h.last ≡ now → is_live limits now h ≡ true

@@ -42,14 +42,7 @@ replayed-cons : (b : Belonging) (p : Arrival) (confirmation : Confirmation) (c :
     (entries : List TrackedPacket)
     → replayed c begun (cond (is_touch_of c (change_of_packet b p confirmation)) (entry_of b p confirmation ∷ entries) entries)
     ≡ touched_by b p confirmation (replayed c begun entries)
-replayed-cons (Found found) p (Confirmed mark reply source dest) c begun entries =
-    elim (eqb c found.id.0) as (λ b. replayed c begun (cond b (entry_of (Found found) p (Confirmed mark reply source dest) ∷ entries) entries)
-    ≡ cond b (touched found.direction p.flags mark p.moment (replayed c begun entries)) (replayed c begun entries)) [
-      | true ↦ refl
-      | false ↦ refl
-    ]
-replayed-cons b p Unconfirmed c begun entries = refl
-replayed-cons b p (Confirmed mark reply source dest) c begun entries = refl
+replayed-cons b p confirmation c begun entries = grind arith
 
 module _ (b : Belonging) (p : Arrival) (confirmation : Confirmation) (history : List TrackedPacket) where
   earlier : (c : ℕ) → c < length history → (not (is_ended c (entry_of b p confirmation ∷ history))

@@ -42,9 +42,7 @@ module _ (id : ConnId) (direction : Direction) (flags : Flags) (mark now : ℕ) 
 
   pub touched_at_none : (held : List ConntrackEntry) → has_id id held ≡ false → touched_at id direction flags mark now held ≡ held
   touched_at_none [] h = refl
-  touched_at_none (x ∷ held) h =
-      let parts = or_parts (same_id id x) (has_id id held) h in
-      rw (parts.0, touched_at_none held parts.1)
+  touched_at_none (x ∷ held) h = grind (arith, touched_at_none held)
 
   touched_ends : (b : Bool) (h : ConntrackEntry) → let t = cond b (touched direction flags mark now h) h in
       (t.original ≡ h.original) × (t.reply ≡ h.reply)

@@ -105,9 +105,7 @@ abbrev pub place_in : Tuple → Flags → List ConntrackEntry → Place
 place_in tuple flags ns = place flags (of_original ns tuple) (of_reply ns tuple)
 
 place-blind : (flags : Flags) (o r : Option ConntrackEntry) → place flags o r ≡ place flags (option_map without_id o) (option_map without_id r)
-place-blind flags (Some h) r = refl
-place-blind flags None (Some h) = refl
-place-blind flags None None = refl
+place-blind flags o r = grind arith
 
 module _ (held : List ConntrackEntry) (tuple : Tuple) (flags : Flags) where
   is_at_by : (o r : Option ConntrackEntry) → of_original held tuple ≡ o → of_reply held tuple ≡ r

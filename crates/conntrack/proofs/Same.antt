@@ -1,24 +1,16 @@
 -- Lists that are equal except for ids have the same lookups.
-use Rattle.std.proofs.Common.{◌≡◌, List, [], ◌∷◌, map, Option, None, Some, Bool, true, false, ◌&&◌, cond, refl, sym, ◌∙◌, ap, arith}
-use Rattle.conntrack.proofs.Names.{ConnId, ConntrackEntry, Ends, Flags, Found, Original, Tuple, belonging_by, belonging_without_id, belongs_in, connection_ref}
-use Rattle.conntrack.proofs.Names.{find, is_closing, is_lone_syn, of_original, of_reply, option_map, ref_without_id, same_tuple, without_id}
+use Rattle.std.proofs.Common.{◌≡◌, List, [], ◌∷◌, map, Option, Bool, refl, sym, ◌∙◌, ap, arith}
+use Rattle.conntrack.proofs.Names.{ConntrackEntry, Flags, Tuple, belonging_by, belonging_without_id, belongs_in, find, of_original, of_reply, option_map}
+use Rattle.conntrack.proofs.Names.{same_tuple, without_id}
 
 option_map-find : {A B : Type 0} (f : A → B) (p : B → Bool) (xs : List A) → option_map f (find (λ x. p (f x)) xs) ≡ find p (map f xs)
 option_map-find f p [] = refl
 option_map-find f p (x ∷ xs) = grind (arith, option_map-find f p xs)
 
-ends_or_found : (b : Bool) (id : ConnId) (found : _)
-    → belonging_without_id (cond b (Ends id) (Found found))
-    ≡ belonging_without_id (cond b (Ends (record { 0 = 0 })) (Found (ref_without_id found)))
-ends_or_found true id found = refl
-ends_or_found false id found = refl
-
 without_id_by : (flags : Flags) (o r : Option ConntrackEntry)
     → belonging_without_id (belonging_by flags o r)
     ≡ belonging_without_id (belonging_by flags (option_map without_id o) (option_map without_id r))
-without_id_by flags (Some h) r = ends_or_found (is_lone_syn flags && is_closing h) h.id (connection_ref h Original)
-without_id_by flags None (Some h) = refl
-without_id_by flags None None = refl
+without_id_by flags o r = grind arith
 
 -- what depends on the entries found, but not on their ids, doesn't on those of the list
 pub blind : {X : Type 0} (f : Option ConntrackEntry → Option ConntrackEntry → X)

@@ -1,6 +1,6 @@
-use Rattle.std.proofs.Common.{◌≡◌, List, [], ◌∷◌, map, length, refl, sym, ◌∙◌, ap}
-use Rattle.conntrack.proofs.Names.{Belonging, ConntrackEntry, Ends, Found, Kind, NotFound, belonging_without_id, connection_of, is_incoming, is_taken}
-use Rattle.conntrack.proofs.Names.{length-map, state_of, without_id}
+use Rattle.std.proofs.Common.{arith, ◌≡◌, List, [], ◌∷◌, map, length, refl, sym, ◌∙◌, ap}
+use Rattle.conntrack.proofs.Names.{Belonging, ConntrackEntry, Kind, belonging_without_id, connection_of, is_incoming, is_taken, length-map, state_of}
+use Rattle.conntrack.proofs.Names.{without_id}
 use Rattle.list_laws.specs.Lists.{any_of_map}
 use Rattle.conntrack.proofs.Same.{same_belonging}
 use Rattle.conntrack.proofs.Packets.{ended_alike, live_alike, packet_alike}
@@ -16,9 +16,7 @@ pub returns-clause-belonging : goal.returns-clause-belonging
 returns-clause-belonging c = same_belonging
 
 state_without_id : (kind : Kind) (b : Belonging) → state_of kind b ≡ state_of kind (belonging_without_id b)
-state_without_id kind NotFound = refl
-state_without_id kind (Ends id) = refl
-state_without_id kind (Found found) = refl
+state_without_id kind b = grind arith
 
 pub returns-clause-state : goal.returns-clause-state
 returns-clause-state c = λ one other kind e.
