@@ -9,8 +9,7 @@ pub mod Tables
 pub mod Turns
 pub mod Listed
 pub mod Expired
-pub mod Members
-pub mod Keyed
-pub mod Found
+pub mod Searches
+pub mod Indexed
 pub mod Whole
 pub mod Same

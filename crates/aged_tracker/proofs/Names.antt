@@ -4,7 +4,7 @@ pub use Rattle.aged_tracker.specs.declared.slot.Link.{Link}
 pub use Rattle.aged_tracker.specs.declared.slot.ListLinks.{ListLinks}
 pub use Rattle.aged_tracker.specs.declared.slot.Neighbour.TheVariants.{Next, Previous}
 pub use Rattle.aged_tracker.specs.declared.slot.Slot.{Slot}
-pub use Rattle.aged_tracker.specs.steps.Keyed.{IsConsistent, IsKeyed, belonging_of}
+pub use Rattle.aged_tracker.specs.steps.Keyed.{IsConsistent, IsIndexed, belonging_of, key_in}
 pub use Rattle.aged_tracker.specs.steps.SlotLists.{HasRings, IsNode, IsOwned, IsRing, IsRings, Lists, MAX_KEYS, Relinks, Relists, SameBy}
 pub use Rattle.aged_tracker.specs.steps.SlotLists.{cons_held, except_links, except_neighbours, held_at, held_in, held_of, link_at}
 pub use Rattle.aged_tracker.specs.steps.SlotLists.{link_by, neighbour, next_of, no_link, number, off, owner_by, owner_of, prev_of, pushed}
@@ -17,7 +17,10 @@ pub use Rattle.box_file.specs.declared.limits.Limits.{Limits}
 pub use Rattle.conntrack.specs.ConntrackEntry.{IsNoneLater, aged_of, begun_with, belonging_by, belongs_in, connection_of, connection_ref, has_distinct_ids}
 pub use Rattle.conntrack.specs.ConntrackEntry.{has_id, have_disjoint_tuples, is_incoming, is_live, is_taken, limit_of, live_at, of_original, of_reply}
 pub use Rattle.conntrack.specs.ConntrackEntry.{removed_entry, same_id, touched, touched_at}
+pub use Rattle.conntrack.proofs.Ids.{apart-filter, apart-push, apart-touched_at, distinct-filter, distinct-push, distinct-touched_at, found_by_id}
+pub use Rattle.conntrack.proofs.Ids.{length-without, without_new}
 pub use Rattle.conntrack.specs.Phases.{idle_kind, limit_in, phase_of}
+pub use Rattle.conntrack.specs.declared.belonging.Belonging.{Belonging}
 pub use Rattle.conntrack.specs.declared.belonging.Belonging.TheVariants.{Found, NotFound}
 pub use Rattle.conntrack.specs.declared.connection.Aged.{Aged}
 pub use Rattle.conntrack.specs.declared.connection.ConnId.{ConnId}
@@ -47,6 +50,6 @@ pub use Rattle.std.proofs.lemmas.List.Elements.{Contains-get_or}
 pub use Rattle.std.proofs.lemmas.List.Sorted.{Contains-permutation, IsNonDecreasingBy-from_sort_by_key, IsPermutation-map, IsPermutation-sym}
 pub use Rattle.std.proofs.lemmas.Map.Keys.{IsDistinct-IsPermutation, IsDistinct-head, IsDistinct-tail}
 pub use Rattle.std.proofs.lemmas.Option.{none-some, same_Some}
-pub use Rattle.std.specs.List.{AllByRecursion, Contains, find, list_any}
+pub use Rattle.std.specs.List.{AllByRecursion, Contains, filter, find, list_any}
 unfoldable pub use Rattle.std.specs.List.{IsDistinct}
 pub use Rattle.std.specs.List.Sorted.{IsNonDecreasingBy, IsPermutation}

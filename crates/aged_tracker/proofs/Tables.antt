@@ -1,16 +1,16 @@
 -- The entries as slots and lists change.
-use Rattle.std.proofs.Common.{◌≡◌, ◌≢◌, ℕ, ◌≤◌, List, [], ◌∷◌, Option, Some, None, true, false}
+use Rattle.std.proofs.Common.{◌≡◌, ◌≢◌, ℕ, ◌≤◌, List, [], ◌∷◌, Option, Some, None, IsSome, is_some, true, false}
 use Rattle.std.proofs.Common.{refl, sym, ap, ◌∙◌, subst, inl, inr, arith}
 use Rattle.std.specs.Prelude.{option_map}
 use Rattle.aged_tracker.proofs.Names.{ConnId, ConntrackEntry, Direction, Flags, IsIn, IsNoneLater, SameBy, Sets, cases_eq, cons_held, eq-eqb}
 use Rattle.aged_tracker.proofs.Names.{Slab, Slot, except_links, held_at, held_in, held_of, last_at, last_by, ne_eqb, same_id, touched}
-use Rattle.aged_tracker.proofs.Names.{touched_at, without_head}
+use Rattle.aged_tracker.proofs.Names.{IsAllLive, Limits, find, live_at, none-some, touched_at, without_head}
 use Rattle.slab.specs.Slab.{get}
 use Rattle.list_laws.specs.Options.{option_cases, some_of_map}
 use Rattle.futures.specs.LinkedLists as linked
 use Rattle.conntrack.specs.ConntrackEntry.{without}
 use Rattle.aged_tracker.proofs.Keys.{without_past}
-use Rattle.aged_tracker.proofs.Links.{kept_by}
+use Rattle.aged_tracker.proofs.Links.{kept_by, some_of}
 
 -- each entry has its slot's key as id
 abbrev pub IsNamed : (ℕ → Option ConntrackEntry) → Type 0
@@ -32,6 +32,28 @@ same_id-named s id h named is = eq-eqb h.id.0 id.0 (named id.0 h is)
 pub other_id-named : (s : ℕ → Option ConntrackEntry) (id : ConnId) (k : ℕ) (h : ConntrackEntry) → IsNamed s → k ≢ id.0
     → s k ≡ Some h → same_id id h ≡ false
 other_id-named s id k h named differs is = ne_eqb h.id.0 id.0 (λ e. differs (sym (named k h is) ∙ e))
+
+-- the entry with an id is in the slot of that key
+pub found_in : (s : ℕ → Option ConntrackEntry) (id : ConnId) → IsNamed s → (keys : List ℕ) → (IsSome (s id.0) → IsIn id.0 keys)
+    → find (same_id id) (held_in s keys) ≡ s id.0
+found_in s id named [] listed = elim (option_cases (s id.0)) [ inl none ↦ sym none | inr x ↦ absurd (listed (ap is_some x.1)) ]
+found_in s id named (k ∷ keys) listed =
+    elim (cases_eq k id.0) [
+      | inl e ↦ elim (option_cases (s k)) [
+        | inl none ↦ rw none (found_in s id named keys (λ some. absurd (none-some _ (sym none ∙ ap s e ∙ (some_of _ some).1))))
+        | inr x ↦ rw (x.1, same_id-named s id x.0 named (sym (ap s e) ∙ x.1)) (sym x.1 ∙ ap s e)
+      ]
+      | inr d ↦
+          let rest = found_in s id named keys (λ some. elim (listed some) [ inl here ↦ absurd (d here) | inr there ↦ there ]) in
+          elim (option_cases (s k)) [ inl none ↦ rw none rest | inr x ↦ rw (x.1, other_id-named s id k x.0 named d x.1) rest ]
+    ]
+
+pub live_all : (limits : Limits) (s : ℕ → Option ConntrackEntry) (now : ℕ) (keys : List ℕ) → IsAllLive limits s now
+    → live_at limits now (held_in s keys) ≡ held_in s keys
+live_all limits s now [] all = refl
+live_all limits s now (k ∷ keys) all =
+    let rec = live_all limits s now keys all in
+    elim (option_cases (s k)) [ inl none ↦ rw none rec | inr x ↦ rw (x.1, all k x.0 x.1) (ap (λ hs. x.0 ∷ hs) rec) ]
 
 pub held_without : (old new : ℕ → Option ConntrackEntry) (id : ConnId) (h : ConntrackEntry) → IsNamed old
     → old id.0 ≡ Some h → ((k : ℕ) → k ≢ id.0 → new k ≡ old k) → (keys : List ℕ)

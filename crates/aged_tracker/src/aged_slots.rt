@@ -2,11 +2,11 @@
 ghost use Rattle.std.specs.Prelude.{◌≡◌, ◌+◌, ◌<◌, ◌≤◌, ◌++◌, ◌∷◌, [], ℕ, nat_lt, IsTrue, IsSome, IfOk, IsOk, OnOk, Some, None, IfSome, IfNone, false, map};
 ghost use Rattle.slab.specs.Slab.{get, slab_len, ContainsKey, Updates};
 ghost use Rattle.futures.specs.LinkedLists.{IsIn};
-ghost use Rattle.conntrack.specs.ConntrackEntry.{begun_with, connection_of, is_live, touched, touched_at, without, IsNoneLater};
+ghost use Rattle.conntrack.specs.ConntrackEntry.{begun_with, connection_of, is_live, touched_at, without, IsNoneLater};
 ghost use Rattle.aged_tracker.specs.steps.SlotLists.{MAX_KEYS, except_links, held_at, held_in, held_of, next_of, off, owner_of, prev_of, pushed};
 ghost use Rattle.aged_tracker.specs.steps.SlotLists.{updated, Fills, HasRings, IsOwned, Relists, SameBy, SameSize, Slots as SlotsName};
 ghost use Rattle.aged_tracker.specs.steps.Table.{MAX_SERIAL, has_room, held_by, keys_by, last_at, limit_at, queue_by};
-ghost use Rattle.aged_tracker.specs.steps.Table.{queue_of, slots_of, AreOldest, AreOldestBut, IsAllLive, IsLiveQueue, IsTable, Sets};
+ghost use Rattle.aged_tracker.specs.steps.Table.{queue_of, slots_of, AreOldest, AreOldestBut, IsAllLive, IsLiveQueue, IsTable};
 ghost use Rattle.aged_tracker.specs.steps.Keyed.{belonging_of};
 
 use crate::linked_lists::{empty_heads, front, is_first, is_last, push_back, unlink};
@@ -133,7 +133,6 @@ impl AgedSlots {
     pub fn new(alloc: Global) -> Self
         ensures table { IsTable result }
         ensures held { held_by result ≡ [] }
-        ensures slots { (key : ℕ) → slots_of result key ≡ None }
         ensures room { has_room result ≡ false }
     {
         AgedSlots {
@@ -182,9 +181,6 @@ impl AgedSlots {
         ensures table { IsTable self.new }
         ensures held { held_by self.new
             ≡ touched_at id direction flags mark now (held_by self.old) }
-        ensures slots { IfSome (slots_of self.old id.0)
-            (λ h. Sets (slots_of self.old) (slots_of self.new) id.0
-            (Some (touched direction flags mark now h))) }
         ensures room { IsTrue (has_room self.old) → IsTrue (has_room self.new) }
         ensures rises { steps.old ≤ steps.new }
         ensures steps { steps.new ≤ steps.old + 7 }
@@ -212,8 +208,6 @@ impl AgedSlots {
             ≡ held_by self.old ++ begun_with result connection flags ∷ [] }
         ensures free { slots_of self.old result.0 ≡ None }
         ensures few { result.0 < MAX_KEYS }
-        ensures slots { Sets (slots_of self.old) (slots_of self.new) result.0
-            (Some (begun_with result connection flags)) }
         ensures rises { steps.old ≤ steps.new }
         ensures steps { steps.new ≤ steps.old + 3 }
     {
@@ -233,7 +227,6 @@ impl AgedSlots {
         ensures table { IsTable self.new }
         ensures held { held_by self.new ≡ without id (held_by self.old) }
         ensures value { slots_of self.old id.0 ≡ Some result }
-        ensures slots { Sets (slots_of self.old) (slots_of self.new) id.0 None }
         ensures room { IsTrue (has_room self.old) → IsTrue (has_room self.new) }
         ensures rises { steps.old ≤ steps.new }
         ensures steps { steps.new ≤ steps.old + 5 }
@@ -297,7 +290,6 @@ impl AgedSlots {
         requires table { IsTable self.old }
         ensures table { IsTable self.new }
         ensures held { held_by self.new ≡ held_by self.old }
-        ensures slots { (key : ℕ) → slots_of self.new key ≡ slots_of self.old key }
         ensures room { OnOk result (IsTrue (has_room self.new)) }
         ensures kept { IsTrue (has_room self.old) → IsTrue (has_room self.new) }
         ensures spared { IsTrue (has_room self.old) → (self.new ≡ self.old) × IsOk result }

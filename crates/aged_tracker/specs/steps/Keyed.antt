@@ -1,5 +1,6 @@
 -- The index from incoming tuples to slots.
-use Rattle.std.specs.Prelude.{◌≡◌, ℕ, true, not, if◌then◌else◌, Option, Some, None, length}
+use Rattle.std.specs.Prelude.{◌≡◌, ℕ, true, not, if◌then◌else◌, List, Option, Some, None, option_map, length}
+use Rattle.std.specs.List.{find}
 use Rattle.ip_headers.specs.declared.tuple.Tuple.{Tuple}
 use Rattle.ip_headers.specs.Same.{same_tuple}
 use Rattle.conntrack.specs.declared.connection.ConntrackEntry.{ConntrackEntry}
@@ -8,21 +9,24 @@ use Rattle.conntrack.specs.declared.connection.Direction.TheVariants.{Reply}
 use Rattle.conntrack.specs.declared.belonging.Belonging.{Belonging}
 use Rattle.conntrack.specs.declared.belonging.Belonging.TheVariants.{NotFound, Found}
 use Rattle.box_file.specs.declared.limits.Limits.{Limits}
-use Rattle.conntrack.specs.ConntrackEntry.{belonging_by, is_incoming, is_live, connection_ref}
+use Rattle.conntrack.specs.ConntrackEntry.{belonging_by, connection_ref, has_distinct_ids, have_disjoint_tuples, is_incoming, is_live}
 use Rattle.aged_tracker.specs.declared.aged_slots.AgedSlots.{AgedSlots}
-use Rattle.aged_tracker.specs.steps.Table.{IsTable, held_by, slots_of}
+use Rattle.aged_tracker.specs.steps.Table.{IsTable, held_by}
 
--- the index has the slot of each incoming tuple of a connection, and no other tuples
-pub record IsKeyed (slots : ℕ → Option ConntrackEntry) (at : Tuple → Option ℕ) : Type 0 where
-  pub found : (tuple : Tuple) (key : ℕ) → at tuple ≡ Some key
-      → (h : ConntrackEntry) × ((slots key ≡ Some h) × (is_incoming tuple h ≡ true))
-  pub kept : (tuple : Tuple) (key : ℕ) (h : ConntrackEntry) → slots key ≡ Some h → is_incoming tuple h ≡ true
-      → at tuple ≡ Some key
+-- the key of the first entry with an incoming tuple
+abbrev pub key_in : Tuple → List ConntrackEntry → Option ℕ
+key_in tuple held = option_map (λ (h : ConntrackEntry). h.id.0) (find (is_incoming tuple) held)
+
+-- the index has the key of each incoming tuple, and ids and tuples differ
+pub record IsIndexed (held : List ConntrackEntry) (at : Tuple → Option ℕ) (live : ℕ) : Type 0 where
+  pub keyed : (tuple : Tuple) → at tuple ≡ key_in tuple held
+  pub distinct : has_distinct_ids held ≡ true
+  pub apart : have_disjoint_tuples held ≡ true
+  pub count : live ≡ length held
 
 pub record IsConsistent (slots : AgedSlots) (at : Tuple → Option ℕ) (live : ℕ) : Type 0 where
   pub table : IsTable slots
-  pub keyed : IsKeyed (slots_of slots) at
-  pub count : live ≡ length (held_by slots)
+  pub indexed : IsIndexed (held_by slots) at live
 
 -- the lookup result of a packet whose tuple is an incoming tuple of the entry
 abbrev pub belonging_of : Limits → ℕ → Tuple → Flags → ConntrackEntry → Belonging

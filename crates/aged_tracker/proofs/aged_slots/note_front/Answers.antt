@@ -1,7 +1,7 @@
 use Rattle.std.proofs.Common.{◌≡◌, ℕ, ◌+◌, ◌<◌, List, Some, length, rules, arith, sym, ap, ◌∙◌, inl, inr, set, get_or, eqb-true, eq-eqb}
 use Rattle.aged_tracker.proofs.Names.{HasRings, Link, Slab, Slot, cases_eq, get_or-set_other, get_or-set_same, held_at, last_at, next_of, owner_of, same_Some}
 use Rattle.aged_tracker.proofs.Fronts.{front_owned}
-use Rattle.aged_tracker.proofs.Members.{not_both}
+use Rattle.aged_tracker.proofs.Searches.{not_both}
 use Rattle.aged_tracker.proofs.aged_slots.note_front.Goals as goal
 
 -- a slot is the front of its queue alone

@@ -87,8 +87,3 @@ returns-clause-held c =
 
 pub returns-clause-few : goal.returns-clause-few
 returns-clause-few c = few (goal.at.returns-clause-few c).After-push_back
-
-pub returns-clause-slots : goal.returns-clause-slots
-returns-clause-slots c =
-    let at = (goal.at.returns-clause-slots c).After-push_back in
-    subst (λ h. Sets (slots_of c.args.self.now) (held_at c.push_back.new.slots) c.fill-key.result (Some h)) (made at) (begun at)

@@ -98,9 +98,3 @@ returns-clause-held c =
     (order_same t c.requires.table _ c.args.id.0 _ ws c.requires.is_held refl (sym (ap serial_by (slot at).1)))
     ∙ held_touched c.args.id c.args.direction c.args.flags c.args.mark c.args.now (slots_of t) (held_at c.requeue.new.slots) (entry at)
     (named_at t.slots) (ap (option_map (held_of c.args.id.0)) (slot at).1) (sets t c.requires.table _ c.args.id.0 _ ws) (order_of t)
-
-pub returns-clause-slots : goal.returns-clause-slots
-returns-clause-slots c =
-    let at = (goal.at.returns-clause-slots c).After-touch-queue in
-    rw (slot at).1
-    (sets c.args.self.now c.requires.table _ c.args.id.0 _ (writes at c.requeue.new.slots c.requeue.ensures.except_links))

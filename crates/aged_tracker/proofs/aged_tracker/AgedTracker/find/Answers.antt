@@ -1,42 +1,39 @@
-use Rattle.std.proofs.Common.{◌≡◌, Some, None, IsSome, sym, ◌∙◌, refl, subst}
-use Rattle.aged_tracker.proofs.Names.{order_of, same_tuple, slots_of}
-use Rattle.std.specs.HashMap.{get}
-use Rattle.aged_tracker.proofs.Whole.{slot_listed, distinct_by, apart_by}
-use Rattle.aged_tracker.proofs.Found.{belongs_none, belongs_some}
+use Rattle.std.proofs.Common.{◌≡◌, Some, None, sym, ap, ◌∙◌}
+use Rattle.aged_tracker.proofs.Names.{ConntrackEntry, find, held_by, is_incoming, slots_of}
+use Rattle.std.proofs.Common.{is_some}
+use Rattle.aged_tracker.proofs.Indexed.{belongs_by, unfound}
+use Rattle.aged_tracker.proofs.Whole.{owner}
 use Rattle.aged_tracker.proofs.aged_tracker.AgedTracker.find.Goals as goal
+use Rattle.aged_tracker.proofs.aged_tracker.AgedTracker.find.Goals.{In-Some}
+
+its : (c : In-Some) → (h : ConntrackEntry)
+    × ((find (is_incoming c.args.tuple) (held_by c.self.inside.slots) ≡ Some h) × (slots_of c.self.inside.slots c.in-Some.key ≡ Some h))
+its c = owner c.self.inside.slots c.self.invariant.table _ _ c.self.invariant.indexed c.args.tuple c.in-Some.key
+    (sym c.key_of.ensures ∙ c.in-Some.is)
 
 pub belonging-requires : goal.belonging-requires
-belonging-requires c =
-    let found : get same_tuple c.self.inside.keys c.args.tuple ≡ Some c.in-Some.key = sym c.key_of.ensures ∙ c.in-Some.is in
-    let owner = c.self.invariant.keyed.found c.args.tuple c.in-Some.key found in
-    subst IsSome (sym owner.1.0) refl
+belonging-requires c = ap is_some (its (goal.at.belonging-requires c).In-Some).1.1
 
 pub returns-in-None-clause-belonging : goal.returns-in-None-clause-belonging
-returns-in-None-clause-belonging c =
-    let none : get same_tuple c.self.inside.keys c.args.tuple ≡ None = sym c.key_of.ensures ∙ c.in-None.is in
-    rw (← c.self.view_is) (belongs_none (slots_of c.self.inside.slots)
-    (get same_tuple c.self.inside.keys) c.self.invariant.keyed (order_of c.self.inside.slots)
-    (slot_listed c.self.inside.slots c.self.invariant.table) c.self.inside.limits c.args.now c.args.tuple
-    c.args.flags none)
+returns-in-None-clause-belonging c = rw (← c.self.view_is)
+    (belongs_by c.self.inside.limits c.args.now c.args.tuple c.args.flags (held_by c.self.inside.slots) c.self.invariant.indexed.apart None
+    (unfound _ _ _ c.self.invariant.indexed c.args.tuple (sym c.key_of.ensures ∙ c.in-None.is)))
 
 pub returns-in-None-clause-distinct : goal.returns-in-None-clause-distinct
-returns-in-None-clause-distinct c = rw (← c.self.view_is) (distinct_by c.self.inside.slots c.self.invariant.table)
+returns-in-None-clause-distinct c = rw (← c.self.view_is) c.self.invariant.indexed.distinct
 
 pub returns-in-None-clause-apart : goal.returns-in-None-clause-apart
-returns-in-None-clause-apart c = rw (← c.self.view_is) (apart_by c.self.inside.slots c.self.invariant.table _ c.self.invariant.keyed)
+returns-in-None-clause-apart c = rw (← c.self.view_is) c.self.invariant.indexed.apart
 
 pub returns-in-Some-clause-belonging : goal.returns-in-Some-clause-belonging
 returns-in-Some-clause-belonging c =
-    let found : get same_tuple c.self.inside.keys c.args.tuple ≡ Some c.in-Some.key = sym c.key_of.ensures ∙ c.in-Some.is in
-    let owner = c.self.invariant.keyed.found c.args.tuple c.in-Some.key found in
-    rw (← c.self.view_is) (rw owner.1.0 at c.belonging.ensures.belonging
-    ∙ belongs_some (slots_of c.self.inside.slots) (get same_tuple c.self.inside.keys) c.self.invariant.keyed
-    (order_of c.self.inside.slots)
-    (slot_listed c.self.inside.slots c.self.invariant.table) c.self.inside.limits c.args.now c.args.tuple
-    c.args.flags c.in-Some.key owner.0 found owner.1.0)
+    let it = its (goal.at.returns-in-Some-clause-belonging c).In-Some in
+    rw (← c.self.view_is) (rw it.1.1 at c.belonging.ensures.belonging
+    ∙ belongs_by c.self.inside.limits c.args.now c.args.tuple c.args.flags (held_by c.self.inside.slots) c.self.invariant.indexed.apart
+    (Some it.0) it.1.0)
 
 pub returns-in-Some-clause-distinct : goal.returns-in-Some-clause-distinct
-returns-in-Some-clause-distinct c = rw (← c.self.view_is) (distinct_by c.self.inside.slots c.self.invariant.table)
+returns-in-Some-clause-distinct c = rw (← c.self.view_is) c.self.invariant.indexed.distinct
 
 pub returns-in-Some-clause-apart : goal.returns-in-Some-clause-apart
-returns-in-Some-clause-apart c = rw (← c.self.view_is) (apart_by c.self.inside.slots c.self.invariant.table _ c.self.invariant.keyed)
+returns-in-Some-clause-apart c = rw (← c.self.view_is) c.self.invariant.indexed.apart

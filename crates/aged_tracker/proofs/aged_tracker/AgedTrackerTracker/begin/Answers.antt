@@ -1,43 +1,40 @@
-use Rattle.std.proofs.Common.{◌≡◌, Some, IsSome, IsTrue, cond, rules, ap, sym, ◌∙◌, false, is_some}
-use Rattle.aged_tracker.proofs.Names.{begun_with, is_taken, same_tuple}
+use Rattle.std.proofs.Common.{◌≡◌, Some, IsTrue, is_some, cond, rules, ap, sym, ◌∙◌, false}
+use Rattle.aged_tracker.proofs.Names.{begun_with, has_id, held_by, is_taken, same_tuple}
 use Rattle.std.specs.HashMap.{get}
-use Rattle.aged_tracker.proofs.Members.{not_both}
-use Rattle.aged_tracker.proofs.Whole.{fresh_id, taken_by, free_by, no_key, aged_begun, none_of}
+use Rattle.aged_tracker.proofs.Indexed.{indexed_begun, taken_as}
+use Rattle.aged_tracker.proofs.Searches.{not_both}
+use Rattle.aged_tracker.proofs.Whole.{has_as}
 use Rattle.aged_tracker.proofs.aged_tracker.AgedTrackerTracker.begin.Goals as goal
+use Rattle.aged_tracker.proofs.aged_tracker.AgedTrackerTracker.begin.Goals.{After-contains_tuple, After-insert-id}
+
+taken : (c : After-contains_tuple) → is_taken c.args.connection.reply (held_by c.self.inside.slots) ≡ c.contains_tuple.result
+taken c = taken_as _ _ _ c.self.invariant.indexed c.args.connection.reply ∙ sym c.contains_tuple.ensures
+
+fresh : (c : After-insert-id) → has_id c.insert-id.result (held_by c.self.inside.slots) ≡ false
+fresh c = has_as c.self.inside.slots c.self.invariant.table c.insert-id.result ∙ ap is_some c.insert-id.ensures.free
 
 pub returns-then-contains_tuple-clause-clash : goal.returns-then-contains_tuple-clause-clash
 returns-then-contains_tuple-clause-clash c =
-    let some : IsSome (get same_tuple c.self.inside.keys c.args.connection.reply) =
-    sym c.contains_tuple.ensures ∙ c.if-contains_tuple.true in
-    let taken : IsTrue (is_taken c.args.connection.reply c.args.self.now.held) =
-    rw (← c.self.view_is) (taken_by c.self.inside.slots c.self.invariant.table _ c.self.invariant.keyed
-    c.args.connection.reply some) in
-    search (rules, taken)
+    let is : IsTrue (is_taken c.args.connection.reply c.args.self.now.held) =
+    rw (← c.self.view_is) (taken (goal.at.returns-then-contains_tuple-clause-clash c).After-contains_tuple ∙ c.if-contains_tuple.true) in
+    search (rules, is)
 
 pub invariant_of-self : goal.invariant_of-self
-invariant_of-self c =
-    let absent : is_some (get same_tuple c.self.inside.keys c.args.connection.reply) ≡ false =
-    sym c.contains_tuple.ensures ∙ c.if-contains_tuple.false in
-    aged_begun c.self.inside.slots c.insert-id.new.self (get same_tuple c.self.inside.keys)
-    (get same_tuple c.insert_tuple-2.new.keys) c.self.inside.live c.self.invariant c.insert-id.result
-    (begun_with c.insert-id.result c.args.connection c.args.flags)
-    c.insert-id.ensures.table c.insert-id.ensures.held c.insert-id.ensures.free c.insert-id.ensures.slots
-    (no_key c.self.inside.slots c.self.invariant.table
-    (get same_tuple c.self.inside.keys) c.self.invariant.keyed c.args.connection.original
-    (rw (← c.self.view_is) at c.requires.free))
-    (none_of _ absent)
-    (λ q. c.insert_tuple-2.ensures.keys q ∙ ap (cond (same_tuple c.args.connection.reply q) (Some c.insert-id.result.0))
-    (c.insert_tuple.ensures.keys q))
+invariant_of-self c = record {
+  table = c.insert-id.ensures.table;
+  indexed = rw c.insert-id.ensures.held (indexed_begun _ _ _ c.self.invariant.indexed _
+      (begun_with c.insert-id.result c.args.connection c.args.flags) (fresh (goal.at.invariant_of-self c).After-insert-id)
+      (rw (← c.self.view_is) at c.requires.free)
+      (taken (goal.at.invariant_of-self c).After-contains_tuple ∙ c.if-contains_tuple.false)
+      (λ q. c.insert_tuple-2.ensures.keys q ∙ ap (cond (same_tuple c.args.connection.reply q) (Some c.insert-id.result.0))
+      (c.insert_tuple.ensures.keys q)));
+}
 
 pub returns-clause-fresh : goal.returns-clause-fresh
-returns-clause-fresh c = rw (← c.self.view_is)
-    (fresh_id c.self.inside.slots c.self.invariant.table c.insert-id.result c.insert-id.ensures.free)
+returns-clause-fresh c = rw (← c.self.view_is) (fresh (goal.at.returns-clause-fresh c).After-insert-id)
 
 pub returns-clause-clash : goal.returns-clause-clash
 returns-clause-clash c =
-    let absent : is_some (get same_tuple c.self.inside.keys c.args.connection.reply) ≡ false =
-    sym c.contains_tuple.ensures ∙ c.if-contains_tuple.false in
     let free : is_taken c.args.connection.reply c.args.self.now.held ≡ false =
-    rw (← c.self.view_is) (free_by c.self.inside.slots c.self.invariant.table
-    (get same_tuple c.self.inside.keys) c.self.invariant.keyed c.args.connection.reply (none_of _ absent)) in
+    rw (← c.self.view_is) (taken (goal.at.returns-clause-clash c).After-contains_tuple ∙ c.if-contains_tuple.false) in
     (λ e. absurd (cc), λ both. not_both _ both.1 free)

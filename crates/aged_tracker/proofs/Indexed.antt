@@ -1,0 +1,172 @@
+-- The index of an `AgedTracker`, and lookups by it, as its list of entries changes.
+use Rattle.std.proofs.Common.{◌≡◌, ℕ, ◌+◌, ◌-◌, List, [], ◌∷◌, ◌++◌, length, Option, Some, None, is_some, Bool, true, false, not, ◌&&◌, ◌||◌, cond}
+use Rattle.std.proofs.Common.{refl, sym, ap, ◌∙◌, inl, inr, arith, length-append}
+use Rattle.std.specs.Prelude.{option_map, if◌then◌else◌}
+use Rattle.aged_tracker.proofs.Names.{Belonging, ConnId, ConntrackEntry, Direction, Flags, Found, IsIndexed, Limits, NotFound, Reply, Tuple, apart-filter, apart-push}
+use Rattle.aged_tracker.proofs.Names.{apart-touched_at, belonging_by, belonging_of, belongs_in, cases_Bool, connection_ref, distinct-filter, distinct-push}
+use Rattle.aged_tracker.proofs.Names.{distinct-touched_at, false_from_ne_true, filter, find, find-filter, has_distinct_ids, has_id, have_disjoint_tuples, is_incoming, is_live}
+use Rattle.aged_tracker.proofs.Names.{is_taken, key_in, length-map, live_at, none-some, of_reply, or_parts, same_id, same_tuple, same_tuple-true, touched, touched_at, without_new}
+use Rattle.conntrack.specs.ConntrackEntry.{without}
+use Rattle.list_laws.specs.Options.{option_cases}
+use Rattle.list_laws.specs.Tests.{and-flip}
+use Rattle.aged_tracker.proofs.Searches.{IsOnce, any_is, find_both, found_passes, kept_if, not_both, once_by_id, once_by_tuple, same_found, some_map}
+
+-- ---- an entry is touched
+
+touched_alike : (direction : Direction) (flags : Flags) (mark now : ℕ) (tuple : Tuple) (b : Bool) (x : ConntrackEntry)
+    → let y = cond b (touched direction flags mark now x) x in (is_incoming tuple y ≡ is_incoming tuple x) × (y.id.0 ≡ x.id.0)
+touched_alike direction flags mark now tuple true x = (refl, refl)
+touched_alike direction flags mark now tuple false x = (refl, refl)
+
+-- ---- an entry is added
+
+-- a tuple of one entry is not one of another
+unlike : (taken tuple : Tuple) (x : ConntrackEntry) → is_incoming taken x ≡ false → is_incoming tuple x ≡ true → same_tuple taken tuple ≡ false
+unlike taken tuple x free its =
+    false_from_ne_true (same_tuple taken tuple)
+    (λ e. not_both (is_incoming taken x) (ap (λ q. is_incoming q x) (same_tuple-true taken tuple e) ∙ its) free)
+
+pushed_key : (o r : Bool) (h : ConntrackEntry) → cond r (Some h.id.0) (cond o (Some h.id.0) None)
+    ≡ option_map (λ (x : ConntrackEntry). x.id.0) (cond (o || r) (Some h) None)
+pushed_key o r h = grind arith
+
+key_in-push : (h : ConntrackEntry) (tuple : Tuple) (held : List ConntrackEntry) → is_taken h.original held ≡ false → is_taken h.reply held ≡ false
+    → cond (same_tuple h.reply tuple) (Some h.id.0) (cond (same_tuple h.original tuple) (Some h.id.0) (key_in tuple held))
+    ≡ key_in tuple (held ++ h ∷ [])
+key_in-push h tuple [] o r = pushed_key (same_tuple h.original tuple) (same_tuple h.reply tuple) h
+key_in-push h tuple (x ∷ held) o r =
+    let os = or_parts (is_incoming h.original x) _ o in
+    let rs = or_parts (is_incoming h.reply x) _ r in
+    elim (cases_Bool (is_incoming tuple x)) [
+      | inl its ↦ rw (its, unlike h.original tuple x os.0 its, unlike h.reply tuple x rs.0 its) refl
+      | inr not_its ↦ rw not_its (key_in-push h tuple held os.1 rs.1)
+    ]
+
+-- ---- an entry is removed
+
+module _ (id : ConnId) (h : ConntrackEntry) where
+  pub one_fewer : (held : List ConntrackEntry) → IsOnce (same_id id) held → find (same_id id) held ≡ Some h
+      → length (without id held) + 1 ≡ length held
+  one_fewer [] once is = cc
+  one_fewer (x ∷ held) once is = grind (arith, once.0, without_new id held, one_fewer held once.1)
+
+  pub filter_without : (p : ConntrackEntry → Bool) (held : List ConntrackEntry) → IsOnce (same_id id) held → find (same_id id) held ≡ Some h
+      → p h ≡ false → filter p (without id held) ≡ filter p held
+  filter_without p [] once is fails = refl
+  filter_without p (x ∷ held) once is fails = grind (arith, once.0, without_new id held, filter_without p held once.1)
+
+  key_dropped : (o r c : Bool) (y : ConntrackEntry) → cond (o || r) (Some h) None ≡ cond c (Some y) None
+      → cond r None (cond o None (Some y.id.0)) ≡ option_map (λ (x : ConntrackEntry). x.id.0) (cond (not c) (Some y) None)
+  key_dropped o r c y same = grind arith
+
+  key_in-without : (tuple : Tuple) (held : List ConntrackEntry) → has_distinct_ids held ≡ true → have_disjoint_tuples held ≡ true
+      → find (same_id id) held ≡ Some h
+      → cond (same_tuple h.reply tuple) None (cond (same_tuple h.original tuple) None (key_in tuple held)) ≡ key_in tuple (without id held)
+  key_in-without tuple held distinct apart is =
+      by (find (is_incoming tuple) held)
+      (ap (kept_if (is_incoming tuple)) (sym is) ∙ sym (find_both (same_id id) (is_incoming tuple) held (once_by_id id held distinct))
+      ∙ (λ i. find (λ x. and-flip (is_incoming tuple x) (same_id id x) i) held)
+      ∙ find_both (is_incoming tuple) (same_id id) held once)
+      ∙ ap (option_map (λ (x : ConntrackEntry). x.id.0))
+      (sym (find-filter (is_incoming tuple) (λ x. not (same_id id x)) held ∙ find_both (is_incoming tuple) (λ x. not (same_id id x)) held once))
+    where
+      once : IsOnce (is_incoming tuple) held
+      once = once_by_tuple tuple held apart
+      by : (o : Option ConntrackEntry) → kept_if (is_incoming tuple) (Some h) ≡ kept_if (same_id id) o
+          → cond (same_tuple h.reply tuple) None (cond (same_tuple h.original tuple) None (option_map (λ (x : ConntrackEntry). x.id.0) o))
+          ≡ option_map (λ (x : ConntrackEntry). x.id.0) (kept_if (λ x. not (same_id id x)) o)
+      by None same = grind arith
+      by (Some y) same = key_dropped (same_tuple h.original tuple) (same_tuple h.reply tuple) (same_id id y) y same
+
+-- ---- the index
+
+module _ (held : List ConntrackEntry) (at : Tuple → Option ℕ) (live : ℕ) (is : IsIndexed held at live) where
+  pub taken_as : (tuple : Tuple) → is_taken tuple held ≡ is_some (at tuple)
+  taken_as tuple = any_is (is_incoming tuple) held ∙ sym (ap is_some (is.keyed tuple) ∙ some_map _ (find (is_incoming tuple) held))
+
+  pub unfound : (tuple : Tuple) → at tuple ≡ None → find (is_incoming tuple) held ≡ None
+  unfound tuple none =
+      elim (option_cases (find (is_incoming tuple) held)) [
+        | inl is_none ↦ is_none
+        | inr x ↦ absurd (none-some x.0.id.0 (sym none ∙ is.keyed tuple ∙ ap (option_map (λ (h : ConntrackEntry). h.id.0)) x.1))
+      ]
+
+  pub indexed_touched : (id : ConnId) (direction : Direction) (flags : Flags) (mark now : ℕ)
+      → IsIndexed (touched_at id direction flags mark now held) at live
+  indexed_touched id direction flags mark now =
+      record {
+        keyed = λ q. is.keyed q ∙ sym (same_found (is_incoming q) (λ x. x.id.0) _
+            (λ x. touched_alike direction flags mark now q (same_id id x) x) held);
+        distinct = distinct-touched_at id direction flags mark now held ∙ is.distinct;
+        apart = apart-touched_at id direction flags mark now held ∙ is.apart;
+        count = is.count ∙ sym (length-map held _);
+      }
+
+  pub indexed_begun : (at' : Tuple → Option ℕ) (h : ConntrackEntry) → has_id h.id held ≡ false → is_taken h.original held ≡ false → is_taken h.reply held ≡ false
+      → ((q : Tuple) → at' q ≡ cond (same_tuple h.reply q) (Some h.id.0) (cond (same_tuple h.original q) (Some h.id.0) (at q)))
+      → IsIndexed (held ++ h ∷ []) at' (live + 1)
+  indexed_begun at' h fresh o r now =
+      record {
+        keyed = λ q. let e = rw (is.keyed q) at (now q) in e ∙ key_in-push h q held o r;
+        distinct = distinct-push held h is.distinct fresh;
+        apart = apart-push held h is.apart o r;
+        count = omega (arith, is.count, length-append held (h ∷ []));
+      }
+
+  pub indexed_ended : (at' : Tuple → Option ℕ) (id : ConnId) (h : ConntrackEntry) → find (same_id id) held ≡ Some h
+      → ((q : Tuple) → at' q ≡ cond (same_tuple h.reply q) None (cond (same_tuple h.original q) None (at q)))
+      → IsIndexed (without id held) at' (live - 1)
+  indexed_ended at' id h found now =
+      record {
+        keyed = λ q. let e = rw (is.keyed q) at (now q) in e ∙ key_in-without id h q held is.distinct is.apart found;
+        distinct = distinct-filter (λ x. not (same_id id x)) held is.distinct;
+        apart = apart-filter (λ x. not (same_id id x)) held is.apart;
+        count = omega (arith, is.count, one_fewer id h held (once_by_id id held is.distinct) found);
+      }
+
+-- ---- lookups
+
+chosen : (flags : Flags) (h : ConntrackEntry) (l o r : Bool) → (o || r) ≡ true
+    → (if not l then NotFound else (if o then belonging_by flags (Some h) None else Found (connection_ref h Reply)))
+    ≡ belonging_by flags (cond (l && o) (Some h) None) (cond (l && r) (Some h) None)
+chosen flags h true true r e = refl
+chosen flags h true false true e = refl
+chosen flags h true false false e = absurd cc
+chosen flags h false o r e = refl
+
+and_or : (l o r : Bool) → ((l && o) ≡ ((l && o) && (o || r))) × ((l && r) ≡ ((l && r) && (o || r)))
+and_or true true true = (refl, refl)
+and_or true true false = (refl, refl)
+and_or true false r = (refl, grind arith)
+and_or false o r = (refl, refl)
+
+module _ (limits : Limits) (now : ℕ) (tuple : Tuple) (flags : Flags) (held : List ConntrackEntry) where
+  abbrev pub lookup : Option ConntrackEntry → Belonging
+  lookup None = NotFound
+  lookup (Some h) = belonging_of limits now tuple flags h
+
+  abbrev original : ConntrackEntry → Bool
+  original x = is_live limits now x && same_tuple x.original tuple
+
+  abbrev reply : ConntrackEntry → Bool
+  reply x = is_live limits now x && same_tuple x.reply tuple
+
+  looked_up : (o : Option ConntrackEntry) → find (is_incoming tuple) held ≡ o → lookup o ≡ belonging_by flags (kept_if original o) (kept_if reply o)
+  looked_up None is = refl
+  looked_up (Some h) is =
+      chosen flags h (is_live limits now h) (same_tuple h.original tuple) (same_tuple h.reply tuple) (found_passes (is_incoming tuple) held h is)
+
+  -- a test that only incoming tuples pass
+  found_by : (f : ConntrackEntry → Bool) → ((x : ConntrackEntry) → f x ≡ (f x && is_incoming tuple x)) → have_disjoint_tuples held ≡ true
+      → (o : Option ConntrackEntry) → find (is_incoming tuple) held ≡ o → find f held ≡ kept_if f o
+  found_by f its apart o is =
+      (λ i. find (λ x. its x i) held) ∙ find_both (is_incoming tuple) f held (once_by_tuple tuple held apart) ∙ ap (kept_if f) is
+
+  pub belongs_by : have_disjoint_tuples held ≡ true → (o : Option ConntrackEntry) → find (is_incoming tuple) held ≡ o
+      → lookup o ≡ belongs_in (live_at limits now held) tuple flags
+  belongs_by apart o is =
+      let alike = λ (x : ConntrackEntry). and_or (is_live limits now x) (same_tuple x.original tuple) (same_tuple x.reply tuple) in
+      rw (
+        find-filter (λ h. same_tuple h.original tuple) (is_live limits now) held ∙ found_by original (λ x. (alike x).0) apart o is,
+        find-filter (λ h. same_tuple h.reply tuple) (is_live limits now) held ∙ found_by reply (λ x. (alike x).1) apart o is,
+      ) (looked_up o is)
