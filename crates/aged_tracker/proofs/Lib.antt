@@ -1,6 +1,5 @@
 pub mod Names
 pub mod Keys
-pub mod HeldLists
 pub mod Ordered
 pub mod Links
 pub mod Rings

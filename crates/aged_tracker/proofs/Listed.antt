@@ -1,16 +1,28 @@
 -- Slots that are sorted by their numbers are in the order of creation.
-use Rattle.std.proofs.Common.{◌≡◌, ◌≢◌, ℕ, zero, suc, ◌+◌, ◌<◌, ◌≤◌, List, [], ◌∷◌, get_or, map, Option, Some, None, IsSome, eqb, false}
+use Rattle.std.proofs.Common.{◌≡◌, ◌≢◌, ℕ, zero, suc, ◌+◌, ◌<◌, ◌≤◌, List, [], ◌∷◌, get_or, map, Option, Some, None, IsSome, is_some, eqb, false, ◌++◌}
 use Rattle.std.proofs.Common.{refl, sym, ap, ◌∙◌, subst, inl, inr, arith}
 use Rattle.std.specs.Prelude.{option_map}
 use Rattle.aged_tracker.proofs.Names.{AllByRecursion, Contains, Contains-cases, Contains-entries, Contains-head, Contains-map, Contains-none}
 use Rattle.aged_tracker.proofs.Names.{Contains-permutation, Contains-tail, Contains-unmap, IsDistinct, IsDistinct-IsPermutation, IsDistinct-head}
-use Rattle.aged_tracker.proofs.Names.{IsDistinct-tail, IsIn, IsNonDecreasingBy, IsOrder, IsPermutation, IsPermutation-map, IsPermutation-sym, IsSorted, Slab}
-use Rattle.aged_tracker.proofs.Names.{Slot, entries, entries_from, eq-eqb, held_at, held_of, keys_by, nat_tests, ne_eqb, numbered_key, order_in, serial_at}
-use Rattle.aged_tracker.proofs.Names.{serial_by, true≢false}
+use Rattle.aged_tracker.proofs.Names.{IsDistinct-tail, IsIn, IsNonDecreasingBy, IsNumbered, IsPermutation, IsPermutation-map, IsPermutation-sym, IsSorted, Slab}
+use Rattle.aged_tracker.proofs.Names.{Slot, entries, entries_from, eq-eqb, held_at, held_of, keys_by, nat_tests, ne_eqb, numbered_key, serial_at}
+use Rattle.aged_tracker.proofs.Names.{ConntrackEntry, cons_held, entry_at, held_from, held_in, none-some, serial_by, true≢false}
 use Rattle.slab.specs.Slab.{get}
 use Rattle.aged_tracker.proofs.Links.{some_of}
-use Rattle.aged_tracker.proofs.Ordered.{IsBelow, one_order, same_number}
-use Rattle.aged_tracker.proofs.Turns.{slot_by}
+use Rattle.aged_tracker.proofs.Ordered.{at_slot, of_slot, slot_by}
+use Rattle.list_laws.specs.Options.{option_cases}
+
+-- ---- the entries at some keys
+
+pub held_push : (s : ℕ → Option ConntrackEntry) (keys : List ℕ) (key : ℕ) (h : ConntrackEntry) → s key ≡ Some h
+    → held_in s (keys ++ key ∷ []) ≡ held_in s keys ++ h ∷ []
+held_push s [] key h is = ap (λ o. cons_held o []) is
+held_push s (k ∷ keys) key h is =
+    let rec = held_push s keys key h is in
+    elim (option_cases (s k)) [ inl none ↦ rw none rec | inr x ↦ rw x.1 (ap (λ hs. x.0 ∷ hs) rec) ]
+
+abbrev pub IsBelow : (ℕ → ℕ) → ℕ → ℕ → Type 0
+IsBelow serial key other = serial key < serial other
 
 -- ---- the keys of entries differ
 
@@ -71,7 +83,52 @@ sorted_keys serial (q ∷ qs) rising named distinct differ = (
 
 -- ---- slots that were sorted
 
-module _ (slots : Slab Slot) (qs : List (ℕ × ℕ)) (order : IsOrder (held_at slots) (serial_at slots) (order_in slots))
+-- entries of rising numbers are the entries by their numbers
+module _ (slots : Slab Slot) (next : ℕ) (numbered : IsNumbered slots next) where
+  abbrev Used : ℕ → ℕ → List ℕ → Type 0
+  Used first count keys =
+      (k : ℕ) → IsIn k keys → (first ≤ serial_at slots k) × ((serial_at slots k < first + count) × IsSome (held_at slots k))
+
+  abbrev Listed : ℕ → List ℕ → Type 0
+  Listed first keys = (k : ℕ) → IsSome (held_at slots k) → first ≤ serial_at slots k → IsIn k keys
+
+  first_listed : (first count : ℕ) (h : ConntrackEntry) (held : List ConntrackEntry)
+      → ((rest : List ℕ) → IsSorted (IsBelow (serial_at slots)) rest → Used (suc first) count rest → Listed (suc first) rest
+      → held_in (held_at slots) rest ≡ held)
+      → held_at slots h.id.0 ≡ Some h → serial_at slots h.id.0 ≡ first → (keys : List ℕ) → IsSorted (IsBelow (serial_at slots)) keys
+      → Used first (suc count) keys → Listed first keys → held_in (held_at slots) keys ≡ h ∷ held
+  first_listed first count h held more is at [] sorted used listed = absurd (listed h.id.0 (ap is_some is) (omega (arith, at)))
+  first_listed first count h held more is at (key ∷ keys) sorted used listed =
+      let same : key ≡ h.id.0 = elim (listed h.id.0 (ap is_some is) (omega (arith, at))) [
+        | inl e ↦ e
+        | inr t ↦ absurd (omega (arith, sorted.0 h.id.0 t, at, (used key (inl refl)).0))
+      ] in
+      let number = ap (serial_at slots) same in
+      rw (ap (held_at slots) same ∙ is) (ap (λ hs. h ∷ hs) (more keys sorted.1
+      (λ k f. let u = used k (inr f) in (omega (arith, sorted.0 k f, number, at), (omega (arith, u.1.0), u.1.1)))
+      (λ k some past. elim (listed k some (omega (arith, past))) [
+        | inl e ↦ absurd (omega (arith, past, ap (serial_at slots) e, number, at))
+        | inr t ↦ t
+      ])))
+
+  in_turn : (first count : ℕ) (keys : List ℕ) → IsSorted (IsBelow (serial_at slots)) keys → Used first count keys → Listed first keys
+      → held_in (held_at slots) keys ≡ held_from (entry_at slots) first count
+  in_turn first zero [] sorted used listed = refl
+  in_turn first zero (key ∷ keys) sorted used listed = let u = used key (inl refl) in absurd (omega (arith, u.0, u.1.0))
+  in_turn first (suc count) keys sorted used listed =
+      elim (option_cases (entry_at slots first)) [
+        | inl none ↦ rw none (in_turn (suc first) count keys sorted (λ k f.
+            let u = used k f in
+            let h = some_of (held_at slots k) u.1.1 in
+            let d : serial_at slots k ≢ first = λ e.
+            none-some h.0 (sym none ∙ ap (entry_at slots) (sym e) ∙ at_slot slots next numbered k h.0 h.1) in
+            (omega (arith, u.0, d), (omega (arith, u.1.0), u.1.1))) (λ k some past. listed k some (omega (arith, past))))
+        | inr h ↦
+            let at = of_slot slots first h.0 h.1 in
+            rw h.1 (first_listed first count h.0 _ (in_turn (suc first) count) at.0 at.1 keys sorted used listed)
+      ]
+
+module _ (slots : Slab Slot) (qs : List (ℕ × ℕ)) (next : ℕ) (numbered : IsNumbered slots next)
     (moved : IsPermutation (map numbered_key (entries slots)) qs) where
   from_slot : (q : ℕ × ℕ) → Contains qs q → (s : Slot) × ((get slots q.1 ≡ Some s) × (q.0 ≡ s.serial))
   from_slot q there =
@@ -91,16 +148,15 @@ module _ (slots : Slab Slot) (qs : List (ℕ × ℕ)) (order : IsOrder (held_at 
       at_in qs (s.0.serial, k)
       (Contains-permutation _ _ _ moved (Contains-map numbered_key (entries slots) (k, s.0) ((Contains-entries slots k s.0).1 s.1)))
 
-  pub listed_order : IsNonDecreasingBy (λ q. q.0) qs → keys_by qs ≡ order_in slots
+  pub listed_order : IsNonDecreasingBy (λ q. q.0) qs → held_in (held_at slots) (keys_by qs) ≡ held_from (entry_at slots) 0 next
   listed_order rising =
       let distinct : IsDistinct eqb (keys_by qs) =
       IsDistinct-IsPermutation eqb (λ x y. grind (arith, nat_tests)) (keys_by (map numbered_key (entries slots))) (keys_by qs)
       (IsPermutation-map (λ q. q.1) _ _ moved)
       (subst (IsDistinct eqb) (sym (map_keys (entries slots))) (distinct_keys 0 slots.slots)) in
       let differ : (j k : ℕ) → IsIn j (keys_by qs) → IsIn k (keys_by qs) → serial_at slots j ≡ serial_at slots k → j ≡ k =
-      λ j k f g. same_number (serial_at slots) (order_in slots) order.rising j k
-      (order.listed j (keys_used j f)) (order.listed k (keys_used k g)) in
+      λ j k f g. numbered.apart j k (keys_used j f) (keys_used k g) in
       let named : (q : ℕ × ℕ) → Contains qs q → q.0 ≡ serial_at slots q.1 =
       λ q there. let s = from_slot q there in s.1.1 ∙ sym (ap serial_by s.1.0) in
-      one_order (serial_at slots) (keys_by qs) (order_in slots) (sorted_keys (serial_at slots) qs rising named distinct differ) order.rising
-      (λ k f. order.listed k (keys_used k f)) (λ k f. used_keys k (order.used k f))
+      in_turn slots next numbered 0 next (keys_by qs) (sorted_keys (serial_at slots) qs rising named distinct differ)
+      (λ k f. (omega arith, (omega (arith, numbered.below k (keys_used k f)), keys_used k f))) (λ k some past. used_keys k some)

@@ -9,9 +9,9 @@ pub use Rattle.aged_tracker.specs.steps.SlotLists.{HasRings, IsNode, IsOwned, Is
 pub use Rattle.aged_tracker.specs.steps.SlotLists.{cons_held, except_links, except_neighbours, held_at, held_in, held_of, link_at}
 pub use Rattle.aged_tracker.specs.steps.SlotLists.{link_by, neighbour, next_of, no_link, number, off, owner_by, owner_of, prev_of, pushed}
 pub use Rattle.aged_tracker.specs.steps.SlotLists.{updated, with_links}
-pub use Rattle.aged_tracker.specs.steps.Table.{AreOldest, AreOldestBut, IsAllLive, IsLiveQueue, IsOrder, IsRising, IsSorted, IsTable, MAX_SERIAL, Sets}
-pub use Rattle.aged_tracker.specs.steps.Table.{held_by, idle_at, in_order, insert_key, insert_used, keys_by, last_at, last_by, limit_at, numbered_key}
-pub use Rattle.aged_tracker.specs.steps.Table.{order_in, order_of, queue_by, queue_number, queue_of, serial_at, serial_by, slots_of}
+pub use Rattle.aged_tracker.specs.steps.Table.{AreOldest, AreOldestBut, IsAllLive, IsLiveQueue, IsNumbered, IsRising, IsSorted, IsTable, MAX_SERIAL, Sets}
+pub use Rattle.aged_tracker.specs.steps.Table.{entry_at, entry_below, held_by, held_from, idle_at, keys_by, last_at, last_by, limit_at, numbered_key}
+pub use Rattle.aged_tracker.specs.steps.Table.{picked, queue_by, queue_number, queue_of, serial_at, serial_by, slots_of}
 pub use Rattle.box_file.specs.declared.idle_line.IdleKind.{IdleKind}
 pub use Rattle.box_file.specs.declared.limits.Limits.{Limits}
 pub use Rattle.conntrack.specs.ConntrackEntry.{IsNoneLater, aged_of, begun_with, belonging_by, belongs_in, connection_of, connection_ref, has_distinct_ids}

@@ -1,6 +1,6 @@
 -- Searches in the list of entries.
 use Rattle.std.proofs.Common.{◌≡◌, List, [], ◌∷◌, Option, Some, None, is_some, Bool, true, false, not, ◌&&◌, cond, refl, sym, ap, ◌∙◌, inl, inr, arith}
-use Rattle.aged_tracker.proofs.Names.{ConnId, ConntrackEntry, Tuple, and_parts, cases_Bool, eqb-true, find, has_distinct_ids, has_id, have_disjoint_tuples}
+use Rattle.aged_tracker.proofs.Names.{ConnId, ConntrackEntry, Tuple, and_parts, cases_Bool, cons_held, eqb-true, filter, find, has_distinct_ids, has_id, have_disjoint_tuples}
 use Rattle.aged_tracker.proofs.Names.{is_incoming, is_taken, list_any, not-true, or_cases, or_parts, same_id, same_tuple, same_tuple-true}
 use Rattle.std.specs.Prelude.{◌==◌, map, option_map}
 
@@ -53,6 +53,11 @@ once_by_tuple tuple (x ∷ held) apart =
 abbrev pub kept_if : (ConntrackEntry → Bool) → Option ConntrackEntry → Option ConntrackEntry
 kept_if f None = None
 kept_if f (Some x) = cond (f x) (Some x) None
+
+pub kept_step : (p : ConntrackEntry → Bool) (o : Option ConntrackEntry) (held : List ConntrackEntry)
+    → filter p (cons_held o held) ≡ cons_held (kept_if p o) (filter p held)
+kept_step p None held = refl
+kept_step p (Some x) held = elim (cases_Bool (p x)) [ inl t ↦ rw t refl | inr f ↦ rw f refl ]
 
 module _ (p f : ConntrackEntry → Bool) where
   find_none : (held : List ConntrackEntry) → list_any p held ≡ false → find (λ x. f x && p x) held ≡ None

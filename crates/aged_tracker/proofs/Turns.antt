@@ -1,31 +1,18 @@
 -- The effect of the calls on slots and lists on the table.
-use Rattle.std.proofs.Common.{◌≡◌, ◌≢◌, ℕ, ◌<◌, ◌≤◌, List, [], ◌∷◌, ◌++◌, Option, Some, None, IsSome, refl, sym, ap, ◌∙◌, subst, inl, inr}
+use Rattle.std.proofs.Common.{◌≡◌, ◌≢◌, ℕ, ◌+◌, suc, ◌<◌, ◌≤◌, List, [], ◌∷◌, ◌++◌, Option, Some, None, IsSome, is_some, refl, sym, ap, ◌∙◌, subst, inl, inr}
 use Rattle.std.proofs.Common.{arith}
 use Rattle.std.specs.Prelude.{option_map}
-use Rattle.aged_tracker.proofs.Names.{AgedSlots, AreOldest, ContainsKey-within, IsIn, IsIn-without}
-use Rattle.aged_tracker.proofs.Names.{IsNoneLater, IsOrder, IsRising, IsSorted, IsTable, Link, Lists, MAX_KEYS, Relists, SameBy, Sets, Slab, Slot}
-use Rattle.aged_tracker.proofs.Names.{Updates, cases_eq, except_links, held_at, held_by, held_in, held_of, last_at, last_by, none-some, off}
-use Rattle.aged_tracker.proofs.Names.{order_in, order_of, owner_by, owner_of, pushed, queue_of, serial_at, serial_by, slots_of}
+use Rattle.aged_tracker.proofs.Names.{AgedSlots, AreOldest, ConntrackEntry, IsIn, IsIn-without, cons_held, entry_at, held_from}
+use Rattle.aged_tracker.proofs.Names.{IsNoneLater, IsNumbered, IsRising, IsTable, Link, Lists, MAX_KEYS, Relists, SameBy, Sets, Slab, Slot}
+use Rattle.aged_tracker.proofs.Names.{Updates, cases_eq, except_links, held_at, held_by, held_of, last_at, last_by, none-some, off}
+use Rattle.aged_tracker.proofs.Names.{owner_by, owner_of, pushed, queue_of, serial_at, serial_by, slots_of}
 use Rattle.slab.specs.Slab.{get}
 use Rattle.list_laws.specs.Options.{option_cases}
 use Rattle.futures.specs.LinkedLists as linked
-use Rattle.aged_tracker.proofs.Keys.{IsIn-push, IsIn-push_kept, IsIn-push_last, IsIn-without_kept, IsSorted-push, IsSorted-to, IsSorted-without}
+use Rattle.aged_tracker.proofs.Keys.{IsSorted-push, IsSorted-to, IsSorted-without}
 use Rattle.aged_tracker.proofs.Rings.{pushed_by}
-use Rattle.aged_tracker.proofs.Tables.{none_later-at}
-use Rattle.aged_tracker.proofs.Ordered.{IsBelow, in_order-is, not_none}
+use Rattle.aged_tracker.proofs.Ordered.{SameBut, at_slot, entry_off, held_each, held_more, none_later-at, of_slot}
 use Rattle.aged_tracker.proofs.Links.{kept_by}
-
-pub slot_by : (slots : Slab Slot) (key : ℕ) → IsSome (held_at slots key) → IsSome (get slots key)
-slot_by slots key is = by_slot (get slots key) is
-  where
-    by_slot : (o : Option Slot) → IsSome (option_map (held_of key) o) → IsSome o
-    by_slot None is = absurd cc
-    by_slot (Some s) is = refl
-
--- the order that sorting finds, if this is one
-order_found : (slots : Slab Slot) (keys : List ℕ) → IsOrder (held_at slots) (serial_at slots) keys → order_in slots ≡ keys
-order_found slots keys is =
-    in_order-is (held_at slots) (serial_at slots) keys is _ (λ k some. ContainsKey-within slots k (slot_by slots k some))
 
 -- ---- reserved memory
 
@@ -38,8 +25,7 @@ grown_table t slots capacity table same =
       rings = table.rings;
       owners = table.owners;
       rising = table.rising;
-      order = table.order;
-      below = table.below;
+      numbered = record { apart = table.numbered.apart; below = table.numbered.below };
       oldest = table.oldest;
       few = table.few;
     })
@@ -92,7 +78,9 @@ module _ (t : AgedSlots) (table : IsTable t) (new : Slab Slot) (key : ℕ) (slot
             arith,
             at,
             ap last_by (sets.others k d),
-            none_later-at (slots_of t) now (order_of t) none k (table.order.listed k (subst IsSome (sym some.1) refl)),
+            ap last_by (at_slot t.slots t.next_serial table.numbered k some.0 some.1 ∙ sym some.1),
+            none_later-at (entry_at t.slots) now 0 t.next_serial none (serial_at t.slots k) (omega arith)
+            (omega (arith, table.numbered.below k (ap is_some some.1))),
           )
         ]
       ]
@@ -123,12 +111,12 @@ module _ (t : AgedSlots) (table : IsTable t) (new : Slab Slot) (key : ℕ) (slot
       (λ d. rising q range)
 
   -- the table then
-  pub table_after : (heads : List Link) (to : Option ℕ) (change : Lists → Lists) (moments : List ℕ) (next : ℕ) (keys : List ℕ)
+  pub table_after : (heads : List Link) (to : Option ℕ) (change : Lists → Lists) (moments : List ℕ) (next : ℕ)
       → Relists t.slots new t.queues heads key to change → to ≡ option_map queue_of (option_map (held_of key) slot)
       → ((q : ℕ) → q < 5 → IsRising (last_at (held_at new)) (change table.lists q)) → AreOldest new heads moments
-      → IsOrder (held_at new) (serial_at new) keys → ((k : ℕ) → IsSome (held_at new k) → serial_at new k < next) → key < MAX_KEYS
+      → IsNumbered new next → key < MAX_KEYS
       → IsTable (record { slots = new; queues = heads; oldest = moments; next_serial = next })
-  table_after heads to change moments next keys relists queue rising oldest order below few =
+  table_after heads to change moments next relists queue rising oldest numbered few =
       record {
         lists = change table.lists;
         rings = relists.rings table.lists table.rings;
@@ -138,8 +126,7 @@ module _ (t : AgedSlots) (table : IsTable t) (new : Slab Slot) (key : ℕ) (slot
           | inr d ↦ relists.others k d ∙ table.owners k ∙ ap (λ o. option_map queue_of o) (sym (sets.others k d))
         ];
         rising = rising;
-        order = subst (IsOrder (held_at new) (serial_at new)) (sym (order_found new keys order)) order;
-        below = below;
+        numbered = numbered;
         oldest = oldest;
         few = λ k is. elim (cases_eq k key) [
           | inl e ↦ omega (arith, e, few)
@@ -149,70 +136,70 @@ module _ (t : AgedSlots) (table : IsTable t) (new : Slab Slot) (key : ℕ) (slot
 
   -- ---- the order of creation
 
-  resorted : (keys : List ℕ) → ((k : ℕ) → IsIn k keys → serial_at new k ≡ serial_at t.slots k) → IsSorted (IsBelow (serial_at t.slots)) keys
-      → IsSorted (IsBelow (serial_at new)) keys
-  resorted keys kept =
-      IsSorted-to (IsBelow (serial_at t.slots)) (IsBelow (serial_at new)) keys (λ j k f g below. omega (arith, kept j f, kept k g, below))
-
-  -- it keeps its number
-  pub order_same : IsSome (slots_of t key) → IsSome (option_map (held_of key) slot) → serial_by slot ≡ serial_at t.slots key
-      → IsOrder (held_at new) (serial_at new) (order_of t)
-  order_same was is number =
+  -- a new number is above all others, and an old one is the slot's own
+  pub numbered_after : (next : ℕ) → t.next_serial ≤ next
+      → (IsSome (held_at new key) → (serial_by slot < next)
+      × ((k : ℕ) → IsSome (slots_of t k) → serial_at t.slots k ≡ serial_by slot → k ≡ key)) → IsNumbered new next
+  numbered_after next more here =
+      let was : (k : ℕ) → k ≢ key → IsSome (held_at new k) → IsSome (slots_of t k) = λ k d is. subst IsSome (sets.others k d) is in
+      let now : (k : ℕ) → k ≡ key → IsSome (held_at new k) → IsSome (held_at new key) = λ k e is. subst (λ k. IsSome (held_at new k)) e is in
+      let one : (j k : ℕ) → j ≡ key → k ≢ key → IsSome (held_at new j) → IsSome (held_at new k) → serial_at new j ≡ serial_at new k → k ≡ key =
+      λ j k a d f g e. (here (now j a f)).1 k (was k d g) (sym (serials k d) ∙ sym e ∙ ap (serial_at new) a ∙ serial) in
       record {
-        listed = λ k some. elim (cases_eq k key) [
-          | inl e ↦ table.order.listed k (subst (λ j. IsSome (slots_of t j)) (sym e) was)
-          | inr d ↦ table.order.listed k (subst IsSome (sets.others k d) some)
+        apart = λ j k f g e. elim (cases_eq j key) [
+          | inl a ↦ elim (cases_eq k key) [ inl b ↦ a ∙ sym b | inr d ↦ a ∙ sym (one j k a d f g e) ]
+          | inr c ↦ elim (cases_eq k key) [
+            | inl b ↦ one k j b c g f (sym e) ∙ sym b
+            | inr d ↦ table.numbered.apart j k (was j c f) (was k d g) (sym (serials j c) ∙ e ∙ serials k d)
+          ]
         ];
-        used = λ k f. elim (cases_eq k key) [
-          | inl e ↦ subst IsSome (sym (ap (held_at new) e ∙ sets.changed)) is
-          | inr d ↦ subst IsSome (sym (sets.others k d)) (table.order.used k f)
+        below = λ k is. elim (cases_eq k key) [
+          | inl e ↦ omega (arith, ap (serial_at new) e, serial, (here (now k e is)).0)
+          | inr d ↦ omega (arith, more, serials k d, table.numbered.below k (was k d is))
         ];
-        rising = resorted (order_of t) (λ k f. elim (cases_eq k key) [
-          | inl e ↦ ap (serial_at new) e ∙ serial ∙ number ∙ sym (ap (serial_at t.slots) e)
-          | inr d ↦ serials k d
-        ]) table.order.rising;
       }
 
-  -- it was free, and has a number above all others now
-  pub order_more : get t.slots key ≡ None → IsSome (option_map (held_of key) slot) → serial_by slot ≡ t.next_serial
-      → IsOrder (held_at new) (serial_at new) (order_of t ++ key ∷ [])
-  order_more free is number =
-      let other : (k : ℕ) → IsIn k (order_of t) → k ≢ key =
-      λ k f e. not_none (slots_of t k) (ap (slots_of t) e ∙ ap (option_map (held_of key)) free) (table.order.used k f) in
-      record {
-        listed = λ k some. elim (cases_eq k key) [
-          | inl e ↦ subst (λ j. IsIn j (order_of t ++ key ∷ [])) (sym e) (IsIn-push_last key (order_of t))
-          | inr d ↦ IsIn-push_kept key k (order_of t) (table.order.listed k (subst IsSome (sets.others k d) some))
-        ];
-        used = λ k f. elim (IsIn-push key k (order_of t) f) [
-          | inl there ↦ subst IsSome (sym (sets.others k (other k there))) (table.order.used k there)
-          | inr e ↦ subst IsSome (sym (ap (held_at new) (sym e) ∙ sets.changed)) is
-        ];
-        rising = IsSorted-push (IsBelow (serial_at new)) key (order_of t)
-            (resorted (order_of t) (λ k f. serials k (other k f)) table.order.rising)
-            (λ k f. omega (arith, serials k (other k f), serial, number, table.below k (table.order.used k f)));
-      }
+  same_but : SameBut t.slots new key
+  same_but k d = (sets.others k d, serials k d)
 
-  -- it is free now
-  pub order_less : slot ≡ None → IsOrder (held_at new) (serial_at new) (linked.without key (order_of t))
-  order_less gone =
-      let still : (k : ℕ) → IsSome (held_at new k) → k ≢ key =
-      λ k some e. not_none (held_at new k) (ap (held_at new) e ∙ sets.changed ∙ ap (option_map (held_of key)) gone) some in
-      record {
-        listed = λ k some. IsIn-without_kept key k (order_of t)
-            (table.order.listed k (subst IsSome (sets.others k (still k some)) some)) (still k some);
-        used = λ k f. let was = IsIn-without key k (order_of t) f in subst IsSome (sym (sets.others k was.1)) (table.order.used k was.0);
-        rising = resorted (linked.without key (order_of t)) (λ k f. serials k (IsIn-without key k (order_of t) f).1)
-            (IsSorted-without (IsBelow (serial_at t.slots)) key (order_of t) table.order.rising);
-      }
+  -- the entry changes or leaves, with its number
+  pub held_changed : IsNumbered new t.next_serial → (h : ConntrackEntry) → slots_of t key ≡ Some h
+      → (one : Option ConntrackEntry → Option ConntrackEntry) (all : List ConntrackEntry → List ConntrackEntry) → all [] ≡ []
+      → ((o : Option ConntrackEntry) (held : List ConntrackEntry) → all (cons_held o held) ≡ cons_held (one o) (all held))
+      → one None ≡ None → ((x : ConntrackEntry) → x.id.0 ≢ key → one (Some x) ≡ Some x) → one (Some h) ≡ option_map (held_of key) slot
+      → (IsSome (held_at new key) → serial_by slot ≡ serial_at t.slots key)
+      → held_from (entry_at new) 0 t.next_serial ≡ all (held_by t)
+  held_changed numbered h is one all nil step none other here same =
+      held_each (entry_at t.slots) (entry_at new) one all nil step (λ n. elim (cases_eq (serial_at t.slots key) n) [
+        | inl e ↦ changed n e (held_at new key) refl
+            ∙ sym (ap one (ap (entry_at t.slots) (sym e) ∙ at_slot t.slots t.next_serial table.numbered key h is) ∙ here ∙ sym sets.changed)
+        | inr d ↦
+            let off = entry_off t.slots new key t.next_serial t.next_serial table.numbered numbered same_but n (λ x at. d)
+            (λ x at e. d (sym (same (ap is_some at)) ∙ sym serial ∙ e)) in
+            off ∙ elim (option_cases (entry_at t.slots n)) [
+              | inl gone ↦ gone ∙ sym (ap one gone ∙ none)
+              | inr x ↦ x.1 ∙ sym (ap one x.1
+                  ∙ other x.0 (λ e. d (ap (serial_at t.slots) (sym e) ∙ (of_slot t.slots n x.0 x.1).1)))
+            ]
+      ]) 0 t.next_serial
+    where
+      changed : (n : ℕ) → serial_at t.slots key ≡ n → (o : Option ConntrackEntry) → held_at new key ≡ o → entry_at new n ≡ o
+      changed n e (Some x) at = ap (entry_at new) (sym (serial ∙ same (ap is_some at) ∙ e)) ∙ at_slot new t.next_serial numbered key x at
+      changed n e None at =
+          elim (option_cases (entry_at new n)) [
+            | inl gone ↦ gone
+            | inr x ↦
+                let found = of_slot new n x.0 x.1 in
+                let d : x.0.id.0 ≢ key = λ i. none-some x.0 (sym at ∙ ap (held_at new) (sym i) ∙ found.0) in
+                absurd (d (table.numbered.apart x.0.id.0 key (ap is_some (sym (sets.others x.0.id.0 d) ∙ found.0)) (ap is_some is)
+                (sym (serials x.0.id.0 d) ∙ found.1 ∙ sym e)))
+          ]
 
-  pub below_after : (next : ℕ) → t.next_serial ≤ next → (IsSome (held_at new key) → serial_by slot < next) → (k : ℕ)
-      → IsSome (held_at new k) → serial_at new k < next
-  below_after next more here k is =
-      elim (cases_eq k key) [
-        | inl e ↦ omega (arith, ap (serial_at new) e, serial, here (subst (λ k. IsSome (held_at new k)) e is))
-        | inr d ↦ omega (arith, more, serials k d, table.below k (subst IsSome (sets.others k d) is))
-      ]
-
-  pub held_after : (keys : List ℕ) → IsOrder (held_at new) (serial_at new) keys → held_in (held_at new) (order_in new) ≡ held_in (held_at new) keys
-  held_after keys order = ap (held_in (held_at new)) (order_found new keys order)
+  -- it was free, and has the next number now
+  pub held_begun : IsNumbered new (t.next_serial + 1) → slots_of t key ≡ None → serial_by slot ≡ t.next_serial → (h : ConntrackEntry)
+      → option_map (held_of key) slot ≡ Some h → held_from (entry_at new) 0 (suc t.next_serial) ≡ held_by t ++ h ∷ []
+  held_begun numbered free number h is =
+      held_more (entry_at t.slots) (entry_at new) h 0 t.next_serial
+      (λ n less. entry_off t.slots new key t.next_serial (t.next_serial + 1) table.numbered numbered same_but n
+      (λ x at e. none-some x (sym free ∙ at)) (λ x at e. omega (arith, less, serial, number, e)))
+      (ap (entry_at new) (omega (arith, serial, number)) ∙ at_slot new (t.next_serial + 1) numbered key h (sets.changed ∙ is))

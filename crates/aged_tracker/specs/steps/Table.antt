@@ -1,5 +1,5 @@
 -- A conntrack table: slots that are numbered in the order of their creation, and a queue for each timeout.
-use Rattle.std.specs.Prelude.{◌≡◌, ◌≢◌, ℕ, zero, suc, ◌+◌, ◌-◌, ◌^◌, ◌<◌, ◌≤◌, Bool, true, nat_lt, ◌&&◌, ◌==◌}
+use Rattle.std.specs.Prelude.{◌≡◌, ◌≢◌, ℕ, zero, suc, ◌+◌, ◌-◌, ◌^◌, ◌<◌, ◌≤◌, Bool, true, false, nat_lt, ◌&&◌, ◌==◌}
 use Rattle.std.specs.Prelude.{if◌then◌else◌, List, [], ◌∷◌, length, map, Option, Some, None, IsSome, option_map, slice_index_or}
 use Rattle.slab.specs.Slab.{Slab, get, slab_len}
 use Rattle.futures.specs.LinkedLists.{IsIn}
@@ -14,7 +14,7 @@ use Rattle.conntrack.specs.ConntrackEntry.{is_live}
 use Rattle.aged_tracker.specs.declared.aged_slots.AgedSlots.{AgedSlots}
 use Rattle.aged_tracker.specs.declared.slot.Link.{Link}
 use Rattle.aged_tracker.specs.declared.slot.Slot.{Slot}
-use Rattle.aged_tracker.specs.steps.SlotLists.{MAX_KEYS, Lists, held_at, held_in, next_of, owner_of, IsRings}
+use Rattle.aged_tracker.specs.steps.SlotLists.{MAX_KEYS, Lists, cons_held, held_at, next_of, owner_of, IsRings}
 
 -- ---- queues
 
@@ -97,26 +97,28 @@ numbered_key entry = (entry.1.serial, entry.0)
 abbrev pub keys_by : List (ℕ × ℕ) → List ℕ
 keys_by = map (λ pair. pair.1)
 
--- the keys of all entries, by rising numbers
-pub record IsOrder (slots : ℕ → Option ConntrackEntry) (serial : ℕ → ℕ) (keys : List ℕ) : Type 0 where
-  pub listed : (key : ℕ) → IsSome (slots key) → IsIn key keys
-  pub used : (key : ℕ) → IsIn key keys → IsSome (slots key)
-  pub rising : IsSorted (λ key other. serial key < serial other) keys
+-- entries are numbered apart, and below this
+pub record IsNumbered (slots : Slab Slot) (next : ℕ) : Type 0 where
+  pub apart : (j k : ℕ) → IsSome (held_at slots j) → IsSome (held_at slots k) → serial_at slots j ≡ serial_at slots k → j ≡ k
+  pub below : (k : ℕ) → IsSome (held_at slots k) → serial_at slots k < next
 
--- one more key among keys with rising numbers
-abbrev pub insert_key : (ℕ → ℕ) → ℕ → List ℕ → List ℕ
-insert_key serial key [] = key ∷ []
-insert_key serial key (first ∷ rest) =
-    if nat_lt (serial key) (serial first) then key ∷ first ∷ rest else first ∷ insert_key serial key rest
+abbrev pub picked : Bool → Option ConntrackEntry → Option ConntrackEntry → Option ConntrackEntry
+picked true (Some h) rest = Some h
+picked true None rest = rest
+picked false o rest = rest
 
-abbrev pub insert_used : (ℕ → ℕ) → ℕ → Option ConntrackEntry → List ℕ → List ℕ
-insert_used serial key None keys = keys
-insert_used serial key (Some h) keys = insert_key serial key keys
+-- the entry with a number in the slots below a bound
+abbrev pub entry_below : (ℕ → Option ConntrackEntry) → (ℕ → ℕ) → ℕ → ℕ → Option ConntrackEntry
+entry_below slots serial n zero = None
+entry_below slots serial n (suc key) = picked (serial key == n) (slots key) (entry_below slots serial n key)
 
--- the keys of entries, below a bound, by rising numbers
-abbrev pub in_order : (ℕ → Option ConntrackEntry) → (ℕ → ℕ) → ℕ → List ℕ
-in_order slots serial zero = []
-in_order slots serial (suc key) = insert_used serial key (slots key) (in_order slots serial key)
+abbrev pub entry_at : Slab Slot → ℕ → Option ConntrackEntry
+entry_at slots n = entry_below (held_at slots) (serial_at slots) n (length slots.slots)
+
+-- the entries with so many numbers from one on
+abbrev pub held_from : (ℕ → Option ConntrackEntry) → ℕ → ℕ → List ConntrackEntry
+held_from f first zero = []
+held_from f first (suc count) = cons_held (f first) (held_from f (suc first) count)
 
 -- ---- the table
 
@@ -124,16 +126,9 @@ in_order slots serial (suc key) = insert_used serial key (slots key) (in_order s
 abbrev pub slots_of : AgedSlots → ℕ → Option ConntrackEntry
 slots_of t = held_at t.slots
 
--- the keys in the order of creation
-abbrev pub order_in : Slab Slot → List ℕ
-order_in slots = in_order (held_at slots) (serial_at slots) (length slots.slots)
-
-abbrev pub order_of : AgedSlots → List ℕ
-order_of t = order_in t.slots
-
 -- all entries in the order of their creation
 abbrev pub held_by : AgedSlots → List ConntrackEntry
-held_by t = held_in (slots_of t) (order_of t)
+held_by t = held_from (entry_at t.slots) 0 t.next_serial
 
 -- each slot is in its entry's queue, and each queue is sorted by last packets
 pub record IsTable (t : AgedSlots) : Type 0 where
@@ -141,8 +136,7 @@ pub record IsTable (t : AgedSlots) : Type 0 where
   pub rings : IsRings t.slots t.queues lists
   pub owners : (key : ℕ) → owner_of t.slots key ≡ option_map queue_of (slots_of t key)
   pub rising : (q : ℕ) → q < 5 → IsRising (last_at (slots_of t)) (lists q)
-  pub order : IsOrder (slots_of t) (serial_at t.slots) (order_of t)
-  pub below : (key : ℕ) → IsSome (slots_of t key) → serial_at t.slots key < t.next_serial
+  pub numbered : IsNumbered t.slots t.next_serial
   pub oldest : AreOldest t.slots t.queues t.oldest
   pub few : (key : ℕ) → IsSome (slots_of t key) → key < MAX_KEYS
 

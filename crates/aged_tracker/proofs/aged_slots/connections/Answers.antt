@@ -2,9 +2,8 @@ use Rattle.std.proofs.Common.{◌≡◌, ℕ, ◌++◌, ◌∷◌, [], get_or, m
 use Rattle.std.specs.Prelude.{IsSome, option_map}
 use Rattle.aged_tracker.proofs.Names.{Contains-get_or, connection_of, get_or_default, held_at, held_in, held_of, keys_by, map-append, map-more}
 use Rattle.slab.specs.Slab.{get}
-use Rattle.aged_tracker.proofs.HeldLists.{held_push}
 use Rattle.aged_tracker.proofs.Links.{some_of}
-use Rattle.aged_tracker.proofs.Listed.{at_in}
+use Rattle.aged_tracker.proofs.Listed.{at_in, held_push}
 use Rattle.aged_tracker.proofs.aged_slots.connections.Goals as goal
 use Rattle.aged_tracker.proofs.aged_slots.connections.Goals.{In-loop-entry}
 

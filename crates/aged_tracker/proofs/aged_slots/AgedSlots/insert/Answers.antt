@@ -1,12 +1,10 @@
-use Rattle.std.proofs.Common.{◌≡◌, ◌<◌, ◌++◌, ◌∷◌, [], Some, None, refl, ap, sym, ◌∙◌, subst, arith}
+use Rattle.std.proofs.Common.{◌≡◌, ◌<◌, ◌++◌, ◌∷◌, [], Some, None, refl, ap, sym, ◌∙◌, arith, add-one, ◌+◌}
 use Rattle.std.specs.Prelude.{nat_lt, ◌&&◌, option_map}
 use Rattle.aged_tracker.proofs.Names.{AreOldestBut, ConntrackEntry, MAX_KEYS, MAX_SERIAL, Relists, Sets, Slot, and_parts, begun_with, held_at, held_by}
-use Rattle.aged_tracker.proofs.Names.{held_of, last_at, last_by, ltb-true, order_of, owner_by, pushed, queue_by, queue_of, slab_len, slots_of}
+use Rattle.aged_tracker.proofs.Names.{held_of, last_at, last_by, ltb-true, IsNumbered, entry_at, held_from, owner_by, pushed, queue_by, queue_of, slab_len, slots_of}
 use Rattle.aged_tracker.proofs.Fronts.{oldest_pushed, oldest_written}
-use Rattle.aged_tracker.proofs.HeldLists.{held_push, held_same}
-use Rattle.aged_tracker.proofs.Ordered.{not_none}
 use Rattle.aged_tracker.proofs.Rings.{relists_off, relists_then}
-use Rattle.aged_tracker.proofs.Turns.{Writes, below_after, held_after, least, order_more, rising_free, rising_pushed, sets, table_after}
+use Rattle.aged_tracker.proofs.Turns.{Writes, held_begun, least, numbered_after, rising_free, rising_pushed, sets, table_after}
 use Rattle.aged_tracker.proofs.Turns.{writes_first}
 use Rattle.aged_tracker.proofs.aged_slots.AgedSlots.insert.Goals as goal
 use Rattle.aged_tracker.proofs.aged_slots.AgedSlots.insert.Goals.{After-fill-key, After-push_back}
@@ -46,6 +44,14 @@ writes c = writes_first _ _ _ c.fill-key.result _ c.fill-key.ensures.fills.updat
 begun : (c : After-push_back) → Sets (slots_of c.args.self.now) (held_at c.push_back.new.slots) c.fill-key.result (Some (held_of c.fill-key.result (slot c)))
 begun c = sets c.args.self.now c.requires.table _ c.fill-key.result _ (writes c)
 
+numbered : (c : After-push_back) → IsNumbered c.push_back.new.slots (c.args.self.now.next_serial + 1)
+numbered c =
+    let number = c.fill-key.ensures.fills.numbered in
+    numbered_after c.args.self.now c.requires.table _ c.fill-key.result _ (writes c) _ (omega arith) (λ is. (
+      omega (arith, number),
+      λ k some e. absurd (omega (arith, e, number, c.requires.table.numbered.below k some)),
+    ))
+
 pub returns-clause-table : goal.returns-clause-table
 returns-clause-table c =
     let at = (goal.at.returns-clause-table c).After-push_back in
@@ -64,26 +70,19 @@ returns-clause-table c =
     (table.lists, (filled known).rings _ table.rings) c.push_back.ensures.relists
     (oldest_written t.slots _ _ key _ _ c.fill-key.ensures.fills.updates table.oldest) in
     table_after t table c.push_back.new.slots key (Some (slot at)) (writes at) c.push_back.new.heads _ _ c.note_front.new.oldest
-    _ (order_of t ++ key ∷ []) relists (ap Some to)
+    _ relists (ap Some to)
     (rising_pushed t table _ key _ (writes at) c.queue_by-queue.result table.lists
     (rising_free t table _ key _ (writes at) c.fill-key.ensures.free) (least t table _ key _ (writes at) c.args.connection.last last c.requires.later))
     (c.note_front.ensures c.push_back.new.slots (_, relists.rings table.lists table.rings) relists.here last oldest)
-    (order_more t table _ key _ (writes at) c.fill-key.ensures.free refl c.fill-key.ensures.fills.numbered)
-    (below_after t table _ key _ (writes at) _ (omega arith) (λ is. omega (arith, c.fill-key.ensures.fills.numbered)))
-    (few at)
+    (numbered at) (few at)
 
 pub returns-clause-held : goal.returns-clause-held
 returns-clause-held c =
     let at = (goal.at.returns-clause-held c).After-push_back in
     let t = c.args.self.now in
-    let key = c.fill-key.result in
-    held_after t c.requires.table _ key _ (writes at) (order_of t ++ key ∷ [])
-    (order_more t c.requires.table _ key _ (writes at) c.fill-key.ensures.free refl c.fill-key.ensures.fills.numbered)
-    ∙ held_push (held_at c.push_back.new.slots) (order_of t) key (held_of key (slot at)) (begun at).changed
-    ∙ ap (λ hs. hs ++ held_of key (slot at) ∷ []) (held_same (slots_of t) (held_at c.push_back.new.slots) (order_of t)
-    (λ k found. (begun at).others k (λ e. not_none (slots_of t k)
-    (ap (slots_of t) e ∙ ap (option_map (held_of key)) c.fill-key.ensures.free) (c.requires.table.order.used k found))))
-    ∙ ap (λ (h : ConntrackEntry). held_by t ++ h ∷ []) (made at)
+    ap (held_from (entry_at c.push_back.new.slots) 0) (add-one t.next_serial)
+    ∙ held_begun t c.requires.table _ c.fill-key.result _ (writes at) (numbered at) (ap (option_map (held_of c.fill-key.result)) c.fill-key.ensures.free)
+    c.fill-key.ensures.fills.numbered _ (ap Some (made at))
 
 pub returns-clause-few : goal.returns-clause-few
 returns-clause-few c = few (goal.at.returns-clause-few c).After-push_back

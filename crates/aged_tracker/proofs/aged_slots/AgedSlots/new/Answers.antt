@@ -10,8 +10,7 @@ returns-clause-table c =
       rings = rings;
       owners = search rules;
       rising = λ q range. tt;
-      order = search rules;
-      below = search rules;
+      numbered = search rules;
       oldest = λ q range front is. absurd (omega (arith, (rings q range).chained.0, is, range));
       few = search rules;
     }

@@ -1,15 +1,16 @@
-use Rattle.std.proofs.Common.{◌≡◌, ℕ, Some, Option, ap, sym, ◌∙◌, inl, inr, refl, arith}
+use Rattle.std.proofs.Common.{◌≡◌, ℕ, cond, Some, Option, ap, sym, ◌∙◌, inl, inr, refl, arith}
 use Rattle.std.specs.Prelude.{option_map}
 use Rattle.aged_tracker.proofs.Names.{ConntrackEntry, Relists, SameBy, Slab, Slot, Updates, cases_eq, except_links, held_at, held_of, last_at}
-use Rattle.aged_tracker.proofs.Names.{last_by, link_by, off, order_of}
+use Rattle.aged_tracker.proofs.Names.{IsNumbered, eq-eqb, last_by, link_by, ne_eqb, off, same_id, touched_at}
 use Rattle.aged_tracker.proofs.Names.{owner_by, owner_of, pushed, queue_of, serial_by, slots_of, touched, updated}
+use Rattle.list_laws.specs.Options.{option_cases}
 use Rattle.slab.specs.Slab.{get}
 use Rattle.aged_tracker.proofs.Expired.{queue_of-range}
 use Rattle.aged_tracker.proofs.Fronts.{oldest_written}
 use Rattle.aged_tracker.proofs.Links.{some_of}
 use Rattle.aged_tracker.proofs.Rings.{relists_same, relists_then}
-use Rattle.aged_tracker.proofs.Tables.{held_touched, named_at}
-use Rattle.aged_tracker.proofs.Turns.{Writes, below_after, held_after, least, order_same, rising_left, rising_pushed, sets, slot_by, table_after, writes_first}
+use Rattle.aged_tracker.proofs.Ordered.{slot_by}
+use Rattle.aged_tracker.proofs.Turns.{Writes, held_changed, least, numbered_after, rising_left, rising_pushed, sets, table_after, writes_first}
 use Rattle.aged_tracker.proofs.aged_slots.AgedSlots.touch.Goals as goal
 use Rattle.aged_tracker.proofs.aged_slots.AgedSlots.touch.Goals.{After-touch-queue}
 
@@ -69,6 +70,14 @@ writes : (c : After-touch-queue) (new : Slab Slot) → SameBy except_links c.tou
     → Writes c.args.self.now.slots new c.args.id.0 (Some (after c))
 writes c new = writes_first c.args.self.now.slots c.touch-queue.new.self new c.args.id.0 (Some (after c)) (wrote c)
 
+numbered : (c : After-touch-queue) (new : Slab Slot) → SameBy except_links c.touch-queue.new.self new → IsNumbered new c.args.self.now.next_serial
+numbered c new same =
+    let number = ap serial_by (slot c).1 in
+    numbered_after c.args.self.now c.requires.table new c.args.id.0 _ (writes c new same) _ (omega arith) (λ is. (
+      let below = c.requires.table.numbered.below c.args.id.0 c.requires.is_held in omega (arith, below, number),
+      λ k some e. c.requires.table.numbered.apart k c.args.id.0 some c.requires.is_held (e ∙ sym number),
+    ))
+
 pub returns-clause-table : goal.returns-clause-table
 returns-clause-table c =
     let at = (goal.at.returns-clause-table c).After-touch-queue in
@@ -79,22 +88,19 @@ returns-clause-table c =
     let relists = relists_then _ _ _ _ _ _ key _ _ (λ lists. lists) (λ lists. pushed key c.touch-queue.result (off key lists)) (same at)
     c.requeue.ensures.relists in
     let last : last_at (held_at c.requeue.new.slots) key ≡ c.args.now = ap last_by (sets t table _ key _ ws).changed in
-    table_after t table c.requeue.new.slots key (Some (after at)) ws c.requeue.new.queues _ _ c.note_front.new.oldest _ (order_of t)
+    table_after t table c.requeue.new.slots key (Some (after at)) ws c.requeue.new.queues _ _ c.note_front.new.oldest _
     relists (ap Some (rw (slot at).1 at c.touch-queue.ensures.queue))
     (rising_pushed t table _ key _ ws c.touch-queue.result (off key table.lists) (rising_left t table _ key _ ws)
     (least t table _ key _ ws c.args.now last c.requires.later))
     (c.note_front.ensures c.requeue.new.slots (_, relists.rings table.lists table.rings) relists.here last c.requeue.ensures.oldest)
-    (order_same t table _ key _ ws c.requires.is_held refl (sym (ap serial_by (slot at).1)))
-    (below_after t table _ key _ ws _ (omega arith)
-    (λ is. let was = table.below key c.requires.is_held in omega (arith, was, ap serial_by (slot at).1)))
-    (table.few key c.requires.is_held)
+    (numbered at c.requeue.new.slots c.requeue.ensures.except_links) (table.few key c.requires.is_held)
 
 pub returns-clause-held : goal.returns-clause-held
 returns-clause-held c =
     let at = (goal.at.returns-clause-held c).After-touch-queue in
-    let ws = writes at c.requeue.new.slots c.requeue.ensures.except_links in
-    let t = c.args.self.now in
-    held_after t c.requires.table _ c.args.id.0 _ ws (order_of t)
-    (order_same t c.requires.table _ c.args.id.0 _ ws c.requires.is_held refl (sym (ap serial_by (slot at).1)))
-    ∙ held_touched c.args.id c.args.direction c.args.flags c.args.mark c.args.now (slots_of t) (held_at c.requeue.new.slots) (entry at)
-    (named_at t.slots) (ap (option_map (held_of c.args.id.0)) (slot at).1) (sets t c.requires.table _ c.args.id.0 _ ws) (order_of t)
+    held_changed c.args.self.now c.requires.table _ c.args.id.0 _ (writes at c.requeue.new.slots c.requeue.ensures.except_links)
+    (numbered at c.requeue.new.slots c.requeue.ensures.except_links) (entry at) (ap (option_map (held_of c.args.id.0)) (slot at).1)
+    (option_map (λ h. cond (same_id c.args.id h) (touched c.args.direction c.args.flags c.args.mark c.args.now h) h))
+    (touched_at c.args.id c.args.direction c.args.flags c.args.mark c.args.now) refl
+    (λ o held. elim (option_cases o) [ inl none ↦ rw none refl | inr x ↦ rw x.1 refl ]) refl
+    (λ x d. rw (ne_eqb x.id.0 c.args.id.0 d) refl) (rw (eq-eqb c.args.id.0 c.args.id.0 refl) refl) (λ is. sym (ap serial_by (slot at).1))

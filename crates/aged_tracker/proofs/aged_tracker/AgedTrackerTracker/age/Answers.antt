@@ -1,9 +1,9 @@
 use Rattle.std.proofs.Common.{◌≡◌, ◌∷◌, Some, false, refl, ap, sym, arith, ◌∙◌}
 use Rattle.std.specs.Prelude.{option_map}
-use Rattle.aged_tracker.proofs.Names.{Aged, ConnId, ConntrackEntry, aged_of, find, held_by, is_live, length-without, live_at, order_of, removed_entry, same_Some, same_id, slots_of}
+use Rattle.aged_tracker.proofs.Names.{Aged, ConnId, ConntrackEntry, aged_of, find, held_by, is_live, length-without, live_at, removed_entry, same_Some, same_id, slots_of}
 use Rattle.aged_tracker.proofs.Links.{some_of}
-use Rattle.aged_tracker.proofs.Tables.{live_all, named_at}
-use Rattle.aged_tracker.proofs.Whole.{found_at, has_as}
+use Rattle.aged_tracker.proofs.Tables.{named_at}
+use Rattle.aged_tracker.proofs.Whole.{found_at, has_as, live_all}
 use Rattle.aged_tracker.proofs.Indexed.{filter_without}
 use Rattle.aged_tracker.proofs.Searches.{once_by_id}
 use Rattle.aged_tracker.proofs.aged_tracker.AgedTrackerTracker.age.Goals as goal
@@ -15,8 +15,7 @@ end-requires c =
 pub returns-in-None-clause-none : goal.returns-in-None-clause-none
 returns-in-None-clause-none c = (
   refl,
-  rw (← c.self.view_is) (live_all c.self.inside.limits (slots_of c.self.inside.slots) c.args.now
-      (order_of c.self.inside.slots) c.in-None.ensures.none),
+  rw (← c.self.view_is) (live_all c.self.inside.slots c.self.invariant.table c.self.inside.limits c.args.now c.in-None.ensures.none),
 )
 
 pub returns-in-None-clause-distinct : goal.returns-in-None-clause-distinct
