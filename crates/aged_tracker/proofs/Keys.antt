@@ -7,21 +7,6 @@ use Rattle.futures.specs.LinkedLists.{without}
 pub without_past : (key first : ℕ) (rest : List ℕ) → first ≢ key → without key (first ∷ rest) ≡ first ∷ without key rest
 without_past key first rest other = cond-true _ _ _ (not_from_false _ (ne_eqb first key other))
 
-pub IsIn-without_kept : (key other : ℕ) (keys : List ℕ) → IsIn other keys → other ≢ key → IsIn other (without key keys)
-IsIn-without_kept key other [] found differs = absurd found
-IsIn-without_kept key other (first ∷ rest) found differs =
-    elim (cases_eq first key) [
-      | inl same ↦
-          subst (IsIn other) (sym (without_head key first rest same))
-          (elim found [
-            | inl here ↦ absurd (differs (sym here ∙ same))
-            | inr there ↦ IsIn-without_kept key other rest there differs
-          ])
-      | inr apart ↦
-          subst (IsIn other) (sym (without_past key first rest apart))
-          (elim found [ inl here ↦ inl here | inr there ↦ inr (IsIn-without_kept key other rest there differs) ])
-    ]
-
 pub IsIn-push : (key other : ℕ) (keys : List ℕ) → IsIn other (keys ++ key ∷ []) → IsIn other keys ⊎ (key ≡ other)
 IsIn-push key other [] found = elim found [ inl here ↦ inr here | inr nowhere ↦ absurd nowhere ]
 IsIn-push key other (first ∷ rest) found =
@@ -29,11 +14,6 @@ IsIn-push key other (first ∷ rest) found =
       | inl here ↦ inl (inl here)
       | inr there ↦ elim (IsIn-push key other rest there) [ inl old ↦ inl (inr old) | inr new ↦ inr new ]
     ]
-
-pub IsIn-push_kept : (key other : ℕ) (keys : List ℕ) → IsIn other keys → IsIn other (keys ++ key ∷ [])
-IsIn-push_kept key other [] found = absurd found
-IsIn-push_kept key other (first ∷ rest) found =
-    elim found [ inl here ↦ inl here | inr there ↦ inr (IsIn-push_kept key other rest there) ]
 
 pub IsIn-push_last : (key : ℕ) (keys : List ℕ) → IsIn key (keys ++ key ∷ [])
 IsIn-push_last key [] = inl refl

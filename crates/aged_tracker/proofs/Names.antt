@@ -6,11 +6,11 @@ pub use Rattle.aged_tracker.specs.declared.slot.Neighbour.TheVariants.{Next, Pre
 pub use Rattle.aged_tracker.specs.declared.slot.Slot.{Slot}
 pub use Rattle.aged_tracker.specs.steps.Keyed.{IsConsistent, IsIndexed, belonging_of, key_in}
 pub use Rattle.aged_tracker.specs.steps.SlotLists.{HasRings, IsNode, IsOwned, IsRing, IsRings, Lists, MAX_KEYS, Relinks, Relists, SameBy}
-pub use Rattle.aged_tracker.specs.steps.SlotLists.{cons_held, except_links, except_neighbours, held_at, held_in, held_of, link_at}
+pub use Rattle.aged_tracker.specs.steps.SlotLists.{cons_held, except_links, except_neighbours, held_at, held_of, link_at}
 pub use Rattle.aged_tracker.specs.steps.SlotLists.{link_by, neighbour, next_of, no_link, number, off, owner_by, owner_of, prev_of, pushed}
 pub use Rattle.aged_tracker.specs.steps.SlotLists.{updated, with_links}
 pub use Rattle.aged_tracker.specs.steps.Table.{AreOldest, AreOldestBut, IsAllLive, IsLiveQueue, IsNumbered, IsRising, IsSorted, IsTable, MAX_SERIAL, Sets}
-pub use Rattle.aged_tracker.specs.steps.Table.{entry_at, entry_below, held_by, held_from, idle_at, keys_by, last_at, last_by, limit_at, numbered_key}
+pub use Rattle.aged_tracker.specs.steps.Table.{entry_at, entry_below, held_by, held_from, idle_at, connections_by, last_at, last_by, limit_at, numbered_entry}
 pub use Rattle.aged_tracker.specs.steps.Table.{picked, queue_by, queue_number, queue_of, serial_at, serial_by, slots_of}
 pub use Rattle.box_file.specs.declared.idle_line.IdleKind.{IdleKind}
 pub use Rattle.box_file.specs.declared.limits.Limits.{Limits}
@@ -24,6 +24,7 @@ pub use Rattle.conntrack.specs.declared.belonging.Belonging.{Belonging}
 pub use Rattle.conntrack.specs.declared.belonging.Belonging.TheVariants.{Found, NotFound}
 pub use Rattle.conntrack.specs.declared.connection.Aged.{Aged}
 pub use Rattle.conntrack.specs.declared.connection.ConnId.{ConnId}
+pub use Rattle.conntrack.specs.declared.connection.Connection.{Connection}
 pub use Rattle.conntrack.specs.declared.connection.ConntrackEntry.{ConntrackEntry}
 pub use Rattle.conntrack.specs.declared.connection.Direction.{Direction}
 pub use Rattle.conntrack.specs.declared.connection.Direction.TheVariants.{Reply}
@@ -43,7 +44,7 @@ pub use Rattle.slab.specs.Slab.{Slab, Updates, entries, entries_from, slab_len}
 pub use Rattle.std.proofs.lemmas.Bool.{and_from, and_parts, cases_Bool, cases_eq, cases_lt, cond-false, cond-true, eq-eqb, eqb-true, false_from_ne_true, le-ltb}
 pub use Rattle.std.proofs.lemmas.Bool.{ltb-true, ne_eqb, not-true, not_from_false, or_cases, or_from, or_left, or_parts, or_right, true≢false}
 pub use Rattle.std.proofs.lemmas.Bool.Decides.{nat_tests}
-pub use Rattle.std.proofs.lemmas.Iterator.{YieldsList-from_map, items_from_collect}
+pub use Rattle.std.proofs.lemmas.Iterator.{YieldsList-from_map, YieldsList-from_slice, items_from_collect}
 pub use Rattle.std.proofs.lemmas.Iterator.Consumers.{YieldsList-from_first}
 pub use Rattle.std.proofs.lemmas.List.{get_or-set_other, get_or-set_same, get_or_default, length-map, map-append}
 pub use Rattle.std.proofs.lemmas.List.Elements.{Contains-get_or}

@@ -3,7 +3,7 @@ use Rattle.std.proofs.Common.{◌≡◌, ◌≢◌, ℕ, ◌≤◌, List, [], �
 use Rattle.std.proofs.Common.{refl, sym, ap, ◌∙◌, subst, inl, inr, arith}
 use Rattle.std.specs.Prelude.{option_map}
 use Rattle.aged_tracker.proofs.Names.{ConnId, ConntrackEntry, Direction, Flags, IsIn, IsNoneLater, SameBy, Sets, cases_eq, cons_held, eq-eqb}
-use Rattle.aged_tracker.proofs.Names.{Slab, Slot, except_links, held_at, held_in, held_of, last_at, last_by, ne_eqb, same_id, touched}
+use Rattle.aged_tracker.proofs.Names.{Slab, Slot, except_links, held_at, held_of, last_at, last_by, ne_eqb, same_id, touched}
 use Rattle.aged_tracker.proofs.Names.{IsAllLive, Limits, find, live_at, none-some, touched_at, without_head}
 use Rattle.slab.specs.Slab.{get}
 use Rattle.list_laws.specs.Options.{option_cases, some_of_map}

@@ -3,9 +3,9 @@ ghost use Rattle.std.specs.Prelude.{◌≡◌, ◌+◌, ◌<◌, ◌≤◌, ◌+
 ghost use Rattle.slab.specs.Slab.{get, slab_len, ContainsKey, Updates};
 ghost use Rattle.futures.specs.LinkedLists.{IsIn};
 ghost use Rattle.conntrack.specs.ConntrackEntry.{begun_with, connection_of, is_live, touched_at, without, IsNoneLater};
-ghost use Rattle.aged_tracker.specs.steps.SlotLists.{MAX_KEYS, except_links, held_at, held_in, held_of, next_of, off, owner_of, prev_of, pushed};
+ghost use Rattle.aged_tracker.specs.steps.SlotLists.{MAX_KEYS, except_links, held_at, held_of, next_of, off, owner_of, prev_of, pushed};
 ghost use Rattle.aged_tracker.specs.steps.SlotLists.{updated, Fills, HasRings, IsOwned, Relists, SameBy, SameSize, Slots as SlotsName};
-ghost use Rattle.aged_tracker.specs.steps.Table.{MAX_SERIAL, has_room, held_by, keys_by, last_at, limit_at, queue_by};
+ghost use Rattle.aged_tracker.specs.steps.Table.{MAX_SERIAL, has_room, connections_by, held_by, last_at, limit_at, queue_by};
 ghost use Rattle.aged_tracker.specs.steps.Table.{queue_of, slots_of, AreOldest, AreOldestBut, IsAllLive, IsLiveQueue, IsTable};
 ghost use Rattle.aged_tracker.specs.steps.Keyed.{belonging_of};
 
@@ -311,38 +311,13 @@ impl AgedSlots {
     {
         let mut order = self.slots.numbered(alloc, steps)?;
         order.sort_unstable_by_key(|entry| entry.0);
-        connections(&self.slots, &order, alloc, steps)
+        connections(&order, alloc)
     }
 }
 
-/// The entries at the keys of these pairs, as they are listed.
-fn connections(
-    slots: &Slots,
-    order: &[(u64, usize)],
-    alloc: Global,
-    steps: &mut Steps,
-) -> Result<Vec<Connection>, AllocError>
-    requires { (key : ℕ) → IsIn key (keys_by order.now) → ContainsKey slots.now key }
-    ensures list { IfOk result (λ all. all.items
-        ≡ map connection_of (held_in (held_at slots.now) (keys_by order.now))) }
-    ensures rises { steps.old ≤ steps.new }
+/// The entries of these pairs of a number and an entry.
+fn connections(order: &[(u64, Connection)], alloc: Global) -> Result<Vec<Connection>, AllocError>
+    ensures { IfOk result (λ all. all.items ≡ connections_by order.now) }
 {
-    let mut all = Vec::new(alloc);
-    for entry in order {
-        let connection = connection_at(slots, entry.1, steps);
-        all.push(connection)?;
-    }
-    Ok(all)
-}
-
-/// The entry in a slot, as it is listed.
-fn connection_at(slots: &Slots, key: usize, steps: &mut Steps) -> Connection
-    requires { ContainsKey slots.now key }
-    ensures connection { IfSome (held_at slots.now key) (λ h. result ≡ connection_of h) }
-    ensures rises { steps.old ≤ steps.new }
-{
-    match slots.get(key, steps) {
-        Some(slot) => slot.held(key).connection(),
-        None => unreachable!(),
-    }
+    order.iter().map(|entry| entry.1).collect(alloc)
 }

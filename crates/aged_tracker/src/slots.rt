@@ -5,11 +5,11 @@ ghost use Rattle.slab.specs.Slab.{entries, get, slab_len, ContainsKey, Updates};
 ghost use Rattle.conntrack.specs.StepCounts.{Counts};
 ghost use Rattle.conntrack.specs.ConntrackEntry.{touched};
 ghost use Rattle.aged_tracker.specs.steps.SlotLists.{held_of, link_at, owner_of, updated, with_link, with_links, with_neighbour, Fills, SameSize};
-ghost use Rattle.aged_tracker.specs.steps.Table.{numbered_key, queue_of};
+ghost use Rattle.aged_tracker.specs.steps.Table.{numbered_entry, queue_of};
 ghost use Rattle.aged_tracker.specs.declared.slot.Link.{Link as Linked};
 
 use crate::slot::{Link, ListLinks, Neighbour, NodeIndex, Slot};
-use conntrack::{ConntrackEntry, Direction, Flags, Moment, Steps};
+use conntrack::{Connection, ConntrackEntry, Direction, Flags, Moment, Steps};
 use slab::Slab;
 use std::alloc::{AllocError, Global};
 use std::marker::Model;
@@ -85,7 +85,7 @@ impl Slots {
         self.slab.get(key)
     }
 
-    /// The numbers and keys of all.
+    /// The numbers of all, and their entries as they are listed.
     ///
     /// # Errors
     ///
@@ -94,14 +94,14 @@ impl Slots {
         &self,
         alloc: Global,
         steps: &mut Steps,
-    ) -> Result<Vec<(u64, usize)>, AllocError>
-        ensures numbered { IfOk result (λ all. all.items ≡ map numbered_key (entries self.now)) }
+    ) -> Result<Vec<(u64, Connection)>, AllocError>
+        ensures numbered { IfOk result (λ all. all.items ≡ map numbered_entry (entries self.now)) }
         ensures steps { Counts (slab_len self.now) steps.old steps.new }
     {
         steps.add(self.slab.len());
         self.slab
             .iter()
-            .map(|entry| (entry.1.serial, entry.0))
+            .map(|entry| (entry.1.serial, entry.1.held(entry.0).connection()))
             .collect(alloc)
     }
 

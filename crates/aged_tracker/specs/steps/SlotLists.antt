@@ -70,11 +70,6 @@ pub record Fills (old new : Slab Slot) (key : ℕ) (h : ConntrackEntry) (serial 
   pub numbered : slot.serial ≡ serial
   pub unlisted : slot.links.list ≡ None
 
--- the entries at these keys
-abbrev pub held_in : (ℕ → Option ConntrackEntry) → List ℕ → List ConntrackEntry
-held_in at [] = []
-held_in at (key ∷ keys) = cons_held (at key) (held_in at keys)
-
 -- ---- nodes: heads and slots
 
 -- how many keys slots may have, so that node indexes fit in 32 bits

@@ -5,16 +5,17 @@ use Rattle.slab.specs.Slab.{Slab, get, slab_len}
 use Rattle.futures.specs.LinkedLists.{IsIn}
 use Rattle.ip_headers.specs.declared.tuple.Kind.{Kind}
 use Rattle.conntrack.specs.declared.connection.Phase.{Phase}
+use Rattle.conntrack.specs.declared.connection.Connection.{Connection}
 use Rattle.conntrack.specs.declared.connection.ConntrackEntry.{ConntrackEntry}
 use Rattle.box_file.specs.declared.idle_line.IdleKind.{IdleKind}
 use Rattle.box_file.specs.declared.idle_line.IdleKind.TheVariants as idle
 use Rattle.box_file.specs.declared.limits.Limits.{Limits}
 use Rattle.conntrack.specs.Phases.{idle_kind, limit_in, phase_by, phase_of}
-use Rattle.conntrack.specs.ConntrackEntry.{is_live}
+use Rattle.conntrack.specs.ConntrackEntry.{connection_of, is_live}
 use Rattle.aged_tracker.specs.declared.aged_slots.AgedSlots.{AgedSlots}
 use Rattle.aged_tracker.specs.declared.slot.Link.{Link}
 use Rattle.aged_tracker.specs.declared.slot.Slot.{Slot}
-use Rattle.aged_tracker.specs.steps.SlotLists.{MAX_KEYS, Lists, cons_held, held_at, next_of, owner_of, IsRings}
+use Rattle.aged_tracker.specs.steps.SlotLists.{MAX_KEYS, Lists, cons_held, held_at, held_of, next_of, owner_of, IsRings}
 
 -- ---- queues
 
@@ -89,13 +90,13 @@ serial_by (Some slot) = slot.serial
 abbrev pub serial_at : Slab Slot → ℕ → ℕ
 serial_at slots key = serial_by (get slots key)
 
--- the number and the key of a slot
-abbrev pub numbered_key : ℕ × Slot → ℕ × ℕ
-numbered_key entry = (entry.1.serial, entry.0)
+-- the number of a slot, and its entry as it is listed
+abbrev pub numbered_entry : ℕ × Slot → ℕ × Connection
+numbered_entry entry = (entry.1.serial, connection_of (held_of entry.0 entry.1))
 
--- the keys of such pairs
-abbrev pub keys_by : List (ℕ × ℕ) → List ℕ
-keys_by = map (λ pair. pair.1)
+-- the entries of such pairs
+abbrev pub connections_by : List (ℕ × Connection) → List Connection
+connections_by = map (λ pair. pair.1)
 
 -- entries are numbered apart, and below this
 pub record IsNumbered (slots : Slab Slot) (next : ℕ) : Type 0 where
