@@ -9,7 +9,7 @@ use Rattle.aged_tracker.proofs.Names.{off, owner_of, prev_of}
 use Rattle.aged_tracker.proofs.Names.{pushed, same_Some, without_absent, without_head}
 use Rattle.futures.specs.LinkedLists.{without}
 use Rattle.futures.specs.Links as ring
-use Rattle.aged_tracker.proofs.Keys.{IsIn-push_last, without_past}
+use Rattle.aged_tracker.proofs.Keys.{IsIn-push_last, rising_first, without_past}
 use Rattle.aged_tracker.proofs.Links.{link_at-head}
 use Rattle.aged_tracker.proofs.Rings.{pushed_by}
 use Rattle.aged_tracker.proofs.Tables.{held_aside}
@@ -29,10 +29,7 @@ module _ (next prev : ℕ → ℕ) (list : ℕ) where
   front_least f [] front key chain is rising found = absurd found
   front_least f (first ∷ rest) front key chain is rising found =
       let same : front ≡ first = omega (arith, chain.0, is) in
-      elim found [
-        | inl here ↦ let e : f front ≡ f key = ap f (same ∙ here) in omega (arith, e)
-        | inr there ↦ omega (arith, ap f same, rising.0 key there)
-      ]
+      omega (arith, ap f same, rising_first f first key rest rising found)
 
   module _ (next' prev' : ℕ → ℕ) where
     same_front : (keys : List ℕ) → ring.IsChain next prev 5 list keys list → ring.IsChain next' prev' 5 list keys list

@@ -9,7 +9,7 @@ pub use Rattle.aged_tracker.specs.steps.SlotLists.{HasRings, IsNode, IsOwned, Is
 pub use Rattle.aged_tracker.specs.steps.SlotLists.{cons_held, except_links, except_neighbours, held_at, held_of, link_at}
 pub use Rattle.aged_tracker.specs.steps.SlotLists.{link_by, neighbour, next_of, no_link, number, off, owner_by, owner_of, prev_of, pushed}
 pub use Rattle.aged_tracker.specs.steps.SlotLists.{updated, with_links}
-pub use Rattle.aged_tracker.specs.steps.Table.{AreOldest, AreOldestBut, IsAllLive, IsLiveQueue, IsNumbered, IsRising, IsSorted, IsTable, MAX_SERIAL, Sets}
+pub use Rattle.aged_tracker.specs.steps.Table.{AreOldest, AreOldestBut, IsAllLive, IsLiveQueue, IsNumbered, IsRising, IsTable, MAX_SERIAL, Sets}
 pub use Rattle.aged_tracker.specs.steps.Table.{entry_at, entry_below, held_by, held_from, idle_at, connections_by, last_at, last_by, limit_at, numbered_entry}
 pub use Rattle.aged_tracker.specs.steps.Table.{picked, queue_by, queue_number, queue_of, serial_at, serial_by, slots_of}
 pub use Rattle.box_file.specs.declared.idle_line.IdleKind.{IdleKind}
@@ -48,7 +48,8 @@ pub use Rattle.std.proofs.lemmas.Iterator.{YieldsList-from_map, YieldsList-from_
 pub use Rattle.std.proofs.lemmas.Iterator.Consumers.{YieldsList-from_first}
 pub use Rattle.std.proofs.lemmas.List.{get_or-set_other, get_or-set_same, get_or_default, length-map, map-append}
 pub use Rattle.std.proofs.lemmas.List.Elements.{Contains-get_or}
-pub use Rattle.std.proofs.lemmas.List.Sorted.{Contains-permutation, IsNonDecreasingBy-from_sort_by_key, IsPermutation-map, IsPermutation-sym}
+pub use Rattle.std.proofs.lemmas.List.Sorted.{Contains-permutation, IsNonDecreasingBy-from_sort_by_key, IsNonDecreasingBy-push, IsPermutation-map, IsPermutation-sym}
+pub use Rattle.std.proofs.lemmas.List.Kept.{IsNonDecreasingBy-filter}
 pub use Rattle.std.proofs.lemmas.Map.Keys.{IsDistinct-IsPermutation, IsDistinct-head, IsDistinct-tail}
 pub use Rattle.std.proofs.lemmas.Option.{none-some, same_Some}
 pub use Rattle.std.specs.List.{AllByRecursion, Contains, filter, find, list_any}

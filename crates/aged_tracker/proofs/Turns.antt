@@ -2,14 +2,14 @@
 use Rattle.std.proofs.Common.{◌≡◌, ◌≢◌, ℕ, ◌+◌, suc, ◌<◌, ◌≤◌, List, [], ◌∷◌, ◌++◌, Option, Some, None, IsSome, is_some, refl, sym, ap, ◌∙◌, subst, inl, inr}
 use Rattle.std.proofs.Common.{arith}
 use Rattle.std.specs.Prelude.{option_map}
-use Rattle.aged_tracker.proofs.Names.{AgedSlots, AreOldest, ConntrackEntry, IsIn, IsIn-without, cons_held, entry_at, held_from}
+use Rattle.aged_tracker.proofs.Names.{AgedSlots, AreOldest, ConntrackEntry, IsIn, IsNonDecreasingBy-filter, IsNonDecreasingBy-push, IsIn-without, cons_held, entry_at, held_from}
 use Rattle.aged_tracker.proofs.Names.{IsNoneLater, IsNumbered, IsRising, IsTable, Link, Lists, MAX_KEYS, Relists, SameBy, Sets, Slab, Slot}
 use Rattle.aged_tracker.proofs.Names.{Updates, cases_eq, except_links, held_at, held_by, held_of, last_at, last_by, none-some, off}
 use Rattle.aged_tracker.proofs.Names.{owner_by, owner_of, pushed, queue_of, serial_at, serial_by, slots_of}
 use Rattle.slab.specs.Slab.{get}
 use Rattle.list_laws.specs.Options.{option_cases}
 use Rattle.futures.specs.LinkedLists as linked
-use Rattle.aged_tracker.proofs.Keys.{IsSorted-push, IsSorted-to, IsSorted-without}
+use Rattle.aged_tracker.proofs.Keys.{rising_as}
 use Rattle.aged_tracker.proofs.Rings.{pushed_by}
 use Rattle.aged_tracker.proofs.Ordered.{SameBut, at_slot, entry_off, held_each, held_more, none_later-at, of_slot}
 use Rattle.aged_tracker.proofs.Links.{kept_by}
@@ -88,13 +88,12 @@ module _ (t : AgedSlots) (table : IsTable t) (new : Slab Slot) (key : ℕ) (slot
   -- moments don't fall along lists without the key
   rising_off : (keys : List ℕ) → ((k : ℕ) → IsIn k keys → k ≢ key) → IsRising (last_at (slots_of t)) keys → IsRising (last_at (held_at new)) keys
   rising_off keys absent =
-      IsSorted-to (λ j k. last_at (slots_of t) j ≤ last_at (slots_of t) k) (λ j k. last_at (held_at new) j ≤ last_at (held_at new) k) keys
-      (λ j k f g le. omega (arith, ap last_by (sets.others j (absent j f)), ap last_by (sets.others k (absent k g)), le))
+      rising_as (last_at (slots_of t)) (last_at (held_at new)) keys (λ k found. ap last_by (sets.others k (absent k found)))
 
   pub rising_left : (q : ℕ) → q < 5 → IsRising (last_at (held_at new)) (off key table.lists q)
   rising_left q range =
       rising_off (linked.without key (table.lists q)) (λ k found. (IsIn-without key k (table.lists q) found).1)
-      (IsSorted-without (λ j k. last_at (slots_of t) j ≤ last_at (slots_of t) k) key (table.lists q) (table.rising q range))
+      (IsNonDecreasingBy-filter (last_at (slots_of t)) _ (table.lists q) (table.rising q range))
 
   pub rising_free : get t.slots key ≡ None → (q : ℕ) → q < 5 → IsRising (last_at (held_at new)) (table.lists q)
   rising_free free q range =
@@ -107,7 +106,7 @@ module _ (t : AgedSlots) (table : IsTable t) (new : Slab Slot) (key : ℕ) (slot
       → IsRising (last_at (held_at new)) (pushed key to lists q)
   rising_pushed to lists rising most q range =
       pushed_by (IsRising (last_at (held_at new))) key to q lists
-      (λ e. IsSorted-push (λ j k. last_at (held_at new) j ≤ last_at (held_at new) k) key (lists q) (rising q range) (λ k found. most k))
+      (λ e. IsNonDecreasingBy-push (last_at (held_at new)) (lists q) key (rising q range) (λ d some. most _))
       (λ d. rising q range)
 
   -- the table then

@@ -1,6 +1,7 @@
 -- A conntrack table: slots that are numbered in the order of their creation, and a queue for each timeout.
 use Rattle.std.specs.Prelude.{◌≡◌, ◌≢◌, ℕ, zero, suc, ◌+◌, ◌-◌, ◌^◌, ◌<◌, ◌≤◌, Bool, true, false, nat_lt, ◌&&◌, ◌==◌}
 use Rattle.std.specs.Prelude.{if◌then◌else◌, List, [], ◌∷◌, length, map, Option, Some, None, IsSome, option_map, slice_index_or}
+use Rattle.std.specs.List.Sorted.{IsNonDecreasingBy}
 use Rattle.slab.specs.Slab.{Slab, get, slab_len}
 use Rattle.futures.specs.LinkedLists.{IsIn}
 use Rattle.ip_headers.specs.declared.tuple.Kind.{Kind}
@@ -59,14 +60,9 @@ last_by (Some h) = h.last
 abbrev pub last_at : (ℕ → Option ConntrackEntry) → ℕ → ℕ
 last_at slots key = last_by (slots key)
 
--- each key stands so to those after it
-abbrev pub IsSorted : (ℕ → ℕ → Type 0) → List ℕ → Type 0
-IsSorted R [] = Unit {0}
-IsSorted R (key ∷ keys) = ((other : ℕ) → IsIn other keys → R key other) × IsSorted R keys
-
 -- the moments don't fall along the keys
 abbrev pub IsRising : (ℕ → ℕ) → List ℕ → Type 0
-IsRising f = IsSorted (λ key other. f key ≤ f other)
+IsRising f = IsNonDecreasingBy f
 
 -- the moment of each queue's front, unless that is this key
 abbrev pub AreOldestBut : ℕ → Slab Slot → List Link → List ℕ → Type 0
