@@ -10,9 +10,8 @@ use Rattle.aged_tracker.proofs.Names.{pushed, same_Some, without_absent, without
 use Rattle.futures.specs.LinkedLists.{without}
 use Rattle.futures.specs.Links as ring
 use Rattle.aged_tracker.proofs.Keys.{IsIn-push_last, rising_first, without_past}
-use Rattle.aged_tracker.proofs.Links.{link_at-head}
+use Rattle.aged_tracker.proofs.Links.{held_aside, link_at-head}
 use Rattle.aged_tracker.proofs.Rings.{pushed_by}
-use Rattle.aged_tracker.proofs.Tables.{held_aside}
 
 module _ (next prev : ℕ → ℕ) (list : ℕ) where
   pub front_in : (keys : List ℕ) (front : ℕ) → list < 5 → ring.IsChain next prev 5 list keys list → next list ≡ 5 + front → IsIn front keys

@@ -5,7 +5,7 @@ use Rattle.std.specs.Prelude.{option_map, if◌then◌else◌}
 use Rattle.aged_tracker.proofs.Names.{Belonging, ConnId, ConntrackEntry, Direction, Flags, Found, IsIndexed, Limits, NotFound, Reply, Tuple, apart-filter, apart-push}
 use Rattle.aged_tracker.proofs.Names.{apart-touched_at, belonging_by, belonging_of, belongs_in, cases_Bool, connection_ref, distinct-filter, distinct-push}
 use Rattle.aged_tracker.proofs.Names.{distinct-touched_at, false_from_ne_true, filter, find, find-filter, has_distinct_ids, has_id, have_disjoint_tuples, is_incoming, is_live}
-use Rattle.aged_tracker.proofs.Names.{is_taken, key_in, length-map, live_at, none-some, of_reply, or_parts, same_id, same_tuple, same_tuple-true, touched, touched_at, without_new}
+use Rattle.aged_tracker.proofs.Names.{is_taken, key_in, length-map, live_at, none-some, or_parts, same_id, same_tuple, same_tuple-true, touched, touched_at, without_new}
 use Rattle.conntrack.specs.ConntrackEntry.{without}
 use Rattle.list_laws.specs.Options.{option_cases}
 use Rattle.list_laws.specs.Tests.{and-flip}
@@ -135,10 +135,7 @@ chosen flags h true false false e = absurd cc
 chosen flags h false o r e = refl
 
 and_or : (l o r : Bool) → ((l && o) ≡ ((l && o) && (o || r))) × ((l && r) ≡ ((l && r) && (o || r)))
-and_or true true true = (refl, refl)
-and_or true true false = (refl, refl)
-and_or true false r = (refl, grind arith)
-and_or false o r = (refl, refl)
+and_or l o r = (grind arith, grind arith)
 
 module _ (limits : Limits) (now : ℕ) (tuple : Tuple) (flags : Flags) (held : List ConntrackEntry) where
   abbrev pub lookup : Option ConntrackEntry → Belonging

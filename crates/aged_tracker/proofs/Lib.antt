@@ -4,7 +4,6 @@ pub mod Ordered
 pub mod Links
 pub mod Rings
 pub mod Fronts
-pub mod Tables
 pub mod Turns
 pub mod Listed
 pub mod Expired

@@ -2,10 +2,11 @@
 use Rattle.std.proofs.Common.{◌≡◌, ◌≢◌, ℕ, ◌+◌, ◌-◌, ◌<◌, ◌≤◌, cond, List, get_or, Option, Some, None}
 use Rattle.std.proofs.Common.{IsSome, is_some, refl, sym, ap, ◌∙◌, subst, inl, inr, arith}
 use Rattle.std.specs.Prelude.{option_map}
-use Rattle.aged_tracker.proofs.Names.{IsNode, IsOn, IsRing, Link, Relinks, SameBy, Slab, Slot, Updates, cases_lt, except_links}
+use Rattle.aged_tracker.proofs.Names.{ConntrackEntry, held_at, held_of, IsNode, IsOn, IsRing, Link, Relinks, SameBy, Slab, Slot, Updates, cases_lt, except_links}
 use Rattle.aged_tracker.proofs.Names.{except_neighbours, le-ltb, link_at, link_by, no_link, none-some, owner_by, owner_of}
 use Rattle.std.proofs.lemmas.Bool.{lt-ltb}
 use Rattle.slab.specs.Slab.{get}
+use Rattle.list_laws.specs.Options.{some_of_map}
 
 pub some_of : {X : Type 0} (o : Option X) → IsSome o → (x : X) × (o ≡ Some x)
 some_of None is = absurd cc
@@ -19,6 +20,14 @@ kept_by f keep alike old new same = bare new ∙ ap f same ∙ sym (bare old)
     bare : (o : Option Slot) → f o ≡ f (option_map keep o)
     bare None = refl
     bare (Some s) = alike s
+
+-- a write of links keeps the entries
+pub held_aside : (old new : Slab Slot) → SameBy except_links old new → (k : ℕ) → held_at new k ≡ held_at old k
+held_aside old new same k = kept_by (option_map (held_of k)) except_links (λ s. refl) (get old k) (get new k) (same k)
+
+-- each entry has its slot's key as id
+pub named_at : (slots : Slab Slot) (key : ℕ) (h : ConntrackEntry) → held_at slots key ≡ Some h → h.id.0 ≡ key
+named_at slots key h is = ap (λ (x : ConntrackEntry). x.id.0) (sym (some_of_map (held_of key) (get slots key) h is).2)
 
 pub link_at-head : (slots : Slab Slot) (heads : List Link) (p : ℕ) → p < 5 → link_at slots heads p ≡ get_or heads p no_link
 link_at-head slots heads p below = ap (λ b. cond b (get_or heads p no_link) (link_by (get slots (p - 5)))) (lt-ltb p 5 below)

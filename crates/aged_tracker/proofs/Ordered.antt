@@ -8,7 +8,7 @@ use Rattle.aged_tracker.proofs.Names.{serial_at}
 use Rattle.slab.specs.Slab.{get}
 use Rattle.list_laws.specs.Options.{option_cases}
 use Rattle.aged_tracker.proofs.Searches.{not_both}
-use Rattle.aged_tracker.proofs.Tables.{named_at}
+use Rattle.aged_tracker.proofs.Links.{named_at}
 
 pub not_none : {X P : Type 0} (o : Option X) → o ≡ None → IsSome o → P
 not_none None e is = absurd cc

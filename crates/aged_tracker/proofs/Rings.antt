@@ -1,5 +1,5 @@
 -- Circular lists after a key left one or joined one, or after a write that keeps them.
-use Rattle.std.proofs.Common.{◌≡◌, ◌≢◌, ℕ, ◌+◌, ◌-◌, ◌<◌, List, [], ◌∷◌, ◌++◌, Option, Some, None, IsSome, cond, refl, sym, ap, ◌∙◌, subst, inl, inr}
+use Rattle.std.proofs.Common.{◌≡◌, ◌≢◌, ℕ, ◌+◌, ◌-◌, ◌<◌, List, [], ◌∷◌, ◌++◌, Option, Some, None, IsSome, cond, refl, sym, ap, ◌∙◌, subst, inl, inr, ◌⊎◌, arith}
 use Rattle.std.specs.Prelude.{IfSome, option_map, nat_lt, slice_index_or}
 use Rattle.aged_tracker.proofs.Names.{Inserts, IsIn, IsOn, IsRing, IsRing-kept, IsRing-push, IsRing-skip, IsRings, Joins, Link, ListLinks, Lists}
 use Rattle.aged_tracker.proofs.Names.{Next, Previous, Relinks, Relists, SameBy, Slab, Slot, Updates, cases_eq, cond-false, cond-true, eq-eqb, except_links}
@@ -95,30 +95,29 @@ module _ (old new : Slab Slot) (heads heads' : List Link) (key : ℕ) where
         others = spliced.others;
       }
 
--- a write to a slot that is in no list, before or after
-pub relists_off : (old new : Slab Slot) (heads : List Link) (key : ℕ) (slot : Option Slot) → Updates old new key slot
-    → owner_of old key ≡ None → owner_of new key ≡ None → Relists old new heads heads key None (λ lists. lists)
-relists_off old new heads key slot updates free free' =
-    let others : (k : ℕ) → k ≢ key → owner_of new k ≡ owner_of old k = λ k d. ap owner_by (updates.others k d) in
+-- a write that keeps the list of a slot, and its links if it is in one
+pub relists_written : (old new : Slab Slot) (heads : List Link) (key : ℕ) (slot : Option Slot) → Updates old new key slot
+    → owner_by slot ≡ owner_of old key → (owner_of old key ≡ None) ⊎ (link_by slot ≡ link_by (get old key))
+    → Relists old new heads heads key (owner_of old key) (λ lists. lists)
+relists_written old new heads key slot updates owner link =
+    let owners : (k : ℕ) → owner_of new k ≡ owner_of old k = λ k. elim (cases_eq k key) [
+      | inl e ↦ ap (owner_of new) e ∙ ap owner_by updates.changed ∙ owner ∙ sym (ap (owner_of old) e)
+      | inr d ↦ ap owner_by (updates.others k d)
+    ] in
     record {
       rings = λ lists rings l r.
-          let same : (p : ℕ) → IsOn 5 l (lists l) p → link_at new heads p ≡ link_at old heads p =
-          λ p on. links_but old new heads key slot updates p (off_free old heads lists rings key free l p r on) in
-          ring_beside old new heads heads key l (lists l) (rings l r) (λ o. none-some l (sym free ∙ o)) (λ o. none-some l (sym free' ∙ o))
-          others (λ p on. ap (neighbour Next) (same p on)) (λ p on. ap (neighbour Previous) (same p on));
-      here = free';
-      others = others;
-    }
-
--- unchanged links and owners keep all lists
-pub relists_same : (old new : Slab Slot) (heads : List Link) (key : ℕ) → ((k : ℕ) → link_by (get new k) ≡ link_by (get old k))
-    → ((k : ℕ) → owner_of new k ≡ owner_of old k) → Relists old new heads heads key (owner_of old key) (λ lists. lists)
-relists_same old new heads key links owners =
-    let same : (p : ℕ) → link_at new heads p ≡ link_at old heads p =
-    λ p. ap (λ link. cond (nat_lt p 5) (slice_index_or heads p no_link) link) (links (p - 5)) in
-    record {
-      rings = λ lists rings l r. IsRing-kept _ _ _ _ 5 _ _ l (lists l) (rings l r) (λ p on. ap (neighbour Next) (same p))
-          (λ p on. ap (neighbour Previous) (same p)) (λ k is. owners k ∙ is) (λ k is. sym (owners k) ∙ is);
+          let same : (p : ℕ) → IsOn 5 l (lists l) p → link_at new heads p ≡ link_at old heads p = λ p on. elim (cases_eq p (5 + key)) [
+            | inl e ↦ elim link [
+              | inl free ↦ absurd (off_free old heads lists rings key free l p r on e)
+              | inr kept ↦
+                  let at : p - 5 ≡ key = omega (arith, e) in
+                  ap (λ link. cond (nat_lt p 5) (slice_index_or heads p no_link) link) (ap (λ k. link_by (get new k)) at
+                  ∙ ap link_by updates.changed ∙ kept ∙ sym (ap (λ k. link_by (get old k)) at))
+            ]
+            | inr d ↦ links_but old new heads key slot updates p d
+          ] in
+          IsRing-kept _ _ _ _ 5 _ _ l (lists l) (rings l r) (λ p on. ap (neighbour Next) (same p on)) (λ p on. ap (neighbour Previous) (same p on))
+          (λ k is. owners k ∙ is) (λ k is. sym (owners k) ∙ is);
       here = owners key;
       others = λ k d. owners k;
     }

@@ -3,10 +3,9 @@ use Rattle.std.proofs.Common.{◌≡◌, ℕ, Option, Some, None, IsSome, is_som
 use Rattle.aged_tracker.proofs.Names.{AgedSlots, ConnId, ConntrackEntry, IsIndexed, IsTable, Tuple, find, found_by_id, has_id, held_by}
 use Rattle.aged_tracker.proofs.Names.{IsAllLive, Limits, entry_at, eq-eqb, eqb-true, is_incoming, is_live, live_at, same_id, serial_at, slots_of}
 use Rattle.list_laws.specs.Options.{some_of_map}
-use Rattle.aged_tracker.proofs.Links.{some_of}
+use Rattle.aged_tracker.proofs.Links.{named_at, some_of}
 use Rattle.aged_tracker.proofs.Ordered.{all_pass, at_slot, found_from, of_slot}
 use Rattle.aged_tracker.proofs.Searches.{any_is}
-use Rattle.aged_tracker.proofs.Tables.{named_at}
 
 module _ (t : AgedSlots) (table : IsTable t) where
   pub found_at : (id : ConnId) → find (same_id id) (held_by t) ≡ slots_of t id.0

@@ -1,9 +1,9 @@
-use Rattle.std.proofs.Common.{◌≡◌, ◌<◌, ◌++◌, ◌∷◌, [], Some, None, refl, ap, sym, ◌∙◌, arith, add-one, ◌+◌}
+use Rattle.std.proofs.Common.{◌≡◌, ◌<◌, ◌++◌, ◌∷◌, [], Some, None, inl, refl, ap, sym, ◌∙◌, arith, add-one, ◌+◌}
 use Rattle.std.specs.Prelude.{nat_lt, ◌&&◌, option_map}
 use Rattle.aged_tracker.proofs.Names.{AreOldestBut, ConntrackEntry, MAX_KEYS, MAX_SERIAL, Relists, Sets, Slot, and_parts, begun_with, held_at, held_by}
-use Rattle.aged_tracker.proofs.Names.{held_of, last_at, last_by, ltb-true, IsNumbered, entry_at, held_from, owner_by, pushed, queue_by, queue_of, slab_len, slots_of}
+use Rattle.aged_tracker.proofs.Names.{held_of, last_at, last_by, ltb-true, IsNumbered, entry_at, held_from, owner_by, owner_of, pushed, queue_by, queue_of, slab_len, slots_of}
 use Rattle.aged_tracker.proofs.Fronts.{oldest_pushed, oldest_written}
-use Rattle.aged_tracker.proofs.Rings.{relists_off, relists_then}
+use Rattle.aged_tracker.proofs.Rings.{relists_written, relists_then}
 use Rattle.aged_tracker.proofs.Turns.{Writes, held_begun, least, numbered_after, rising_free, rising_pushed, sets, table_after}
 use Rattle.aged_tracker.proofs.Turns.{writes_first}
 use Rattle.aged_tracker.proofs.aged_slots.AgedSlots.insert.Goals as goal
@@ -27,9 +27,10 @@ made c =
 
 -- it is in no list first
 filled : (c : After-fill-key) → Relists c.args.self.now.slots c.fill-key.new.self c.args.self.now.queues c.args.self.now.queues
-    c.fill-key.result None (λ lists. lists)
-filled c = relists_off _ _ _ c.fill-key.result _ c.fill-key.ensures.fills.updates (ap owner_by c.fill-key.ensures.free)
-    (ap owner_by c.fill-key.ensures.fills.updates.changed ∙ c.fill-key.ensures.fills.unlisted)
+    c.fill-key.result (owner_of c.args.self.now.slots c.fill-key.result) (λ lists. lists)
+filled c =
+    let free = ap owner_by c.fill-key.ensures.free in
+    relists_written _ _ _ c.fill-key.result _ c.fill-key.ensures.fills.updates (c.fill-key.ensures.fills.unlisted ∙ sym free) (inl free)
 
 pub push_back-requires-clause-rings : goal.push_back-requires-clause-rings
 push_back-requires-clause-rings c =

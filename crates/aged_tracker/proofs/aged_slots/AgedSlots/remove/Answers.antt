@@ -1,13 +1,12 @@
-use Rattle.std.proofs.Common.{◌≡◌, Some, None, IsSome, not, ap, sym, ◌∙◌, refl, arith}
+use Rattle.std.proofs.Common.{◌≡◌, Some, None, inl, IsSome, not, ap, sym, ◌∙◌, refl, arith}
 use Rattle.std.specs.Prelude.{option_map}
-use Rattle.aged_tracker.proofs.Names.{IsNumbered, Relists, eq-eqb, held_at, held_of, ne_eqb, off, owner_by, queue_of, same_id, slots_of}
+use Rattle.aged_tracker.proofs.Names.{IsNumbered, Relists, eq-eqb, held_at, held_of, ne_eqb, off, owner_of, queue_of, same_id, slots_of}
 use Rattle.conntrack.specs.ConntrackEntry.{without}
 use Rattle.aged_tracker.proofs.Expired.{queue_of-range}
 use Rattle.aged_tracker.proofs.Fronts.{oldest_all, oldest_written}
-use Rattle.aged_tracker.proofs.Links.{some_of}
+use Rattle.aged_tracker.proofs.Links.{held_aside, some_of}
 use Rattle.aged_tracker.proofs.Ordered.{not_none}
-use Rattle.aged_tracker.proofs.Rings.{relists_off, relists_then}
-use Rattle.aged_tracker.proofs.Tables.{held_aside}
+use Rattle.aged_tracker.proofs.Rings.{relists_written, relists_then}
 use Rattle.aged_tracker.proofs.Searches.{kept_if, kept_step}
 use Rattle.aged_tracker.proofs.Turns.{Writes, held_changed, numbered_after, rising_left, table_after, writes_last}
 use Rattle.aged_tracker.proofs.aged_slots.AgedSlots.remove.Goals as goal
@@ -32,8 +31,10 @@ value c =
 writes : (c : After-remove) → Writes c.args.self.now.slots c.remove.new.self c.args.id.0 None
 writes c = writes_last _ _ _ c.args.id.0 None c.take_out.ensures.except_links c.remove.ensures.updates
 
-emptied : (c : After-remove) → Relists c.take_out.new.slots c.remove.new.self c.take_out.new.queues c.take_out.new.queues c.args.id.0 None (λ lists. lists)
-emptied c = relists_off _ _ _ c.args.id.0 None c.remove.ensures.updates c.take_out.ensures.relists.here (ap owner_by c.remove.ensures.updates.changed)
+emptied : (c : After-remove) → Relists c.take_out.new.slots c.remove.new.self c.take_out.new.queues c.take_out.new.queues c.args.id.0
+    (owner_of c.take_out.new.slots c.args.id.0) (λ lists. lists)
+emptied c =
+    let free = c.take_out.ensures.relists.here in relists_written _ _ _ c.args.id.0 None c.remove.ensures.updates (sym free) (inl free)
 
 gone : (c : After-remove) → IsSome (held_at c.remove.new.self c.args.id.0) → ⊥
 gone c is = not_none _ (ap (option_map (held_of c.args.id.0)) c.remove.ensures.updates.changed) is
@@ -48,9 +49,10 @@ returns-clause-table c =
     let table = c.requires.table in
     let key = c.args.id.0 in
     let relists = relists_then _ _ _ _ _ _ key _ _ (off key) (λ lists. lists) c.take_out.ensures.relists (emptied at) in
-    table_after t table c.remove.new.self key None (writes at) c.take_out.new.queues None (off key) c.take_out.new.oldest t.next_serial
-    relists refl (rising_left t table _ key _ (writes at))
-    (oldest_all c.remove.new.self c.take_out.new.queues key c.take_out.new.oldest (_, relists.rings table.lists table.rings) relists.here
+    table_after t table c.remove.new.self key None (writes at) c.take_out.new.queues _ (off key) c.take_out.new.oldest t.next_serial
+    relists c.take_out.ensures.relists.here (rising_left t table _ key _ (writes at))
+    (oldest_all c.remove.new.self c.take_out.new.queues key c.take_out.new.oldest (_, relists.rings table.lists table.rings)
+    (relists.here ∙ c.take_out.ensures.relists.here)
     (oldest_written c.take_out.new.slots _ _ key _ None c.remove.ensures.updates c.take_out.ensures.oldest))
     (numbered at) (table.few key c.requires.is_held)
 

@@ -8,7 +8,7 @@ use Rattle.slab.specs.Slab.{get}
 use Rattle.aged_tracker.proofs.Expired.{queue_of-range}
 use Rattle.aged_tracker.proofs.Fronts.{oldest_written}
 use Rattle.aged_tracker.proofs.Links.{some_of}
-use Rattle.aged_tracker.proofs.Rings.{relists_same, relists_then}
+use Rattle.aged_tracker.proofs.Rings.{relists_written, relists_then}
 use Rattle.aged_tracker.proofs.Ordered.{slot_by}
 use Rattle.aged_tracker.proofs.Turns.{Writes, held_changed, least, numbered_after, rising_left, rising_pushed, sets, table_after, writes_first}
 use Rattle.aged_tracker.proofs.aged_slots.AgedSlots.touch.Goals as goal
@@ -26,19 +26,9 @@ after c = updated (touched c.args.direction c.args.flags c.args.mark c.args.now 
 wrote : (c : After-touch-queue) → Updates c.args.self.now.slots c.touch-queue.new.self c.args.id.0 (Some (after c))
 wrote c = rw (slot c).1 at c.touch-queue.ensures.slots
 
--- what the write keeps of a slot
-kept : (c : After-touch-queue) {X : Type 0} (f : Option Slot → X) → f (Some (after c)) ≡ f (Some (slot c).0) → (k : ℕ)
-    → f (get c.touch-queue.new.self k) ≡ f (get c.args.self.now.slots k)
-kept c f same k =
-    elim (cases_eq k c.args.id.0) [
-      | inl e ↦ ap (λ j. f (get c.touch-queue.new.self j)) e ∙ ap f (wrote c).changed ∙ same
-          ∙ sym (ap (λ j. f (get c.args.self.now.slots j)) e ∙ ap f (slot c).1)
-      | inr d ↦ ap f ((wrote c).others k d)
-    ]
-
 same : (c : After-touch-queue) → Relists c.args.self.now.slots c.touch-queue.new.self c.args.self.now.queues c.args.self.now.queues
     c.args.id.0 (owner_of c.args.self.now.slots c.args.id.0) (λ lists. lists)
-same c = relists_same _ _ _ c.args.id.0 (kept c link_by refl) (kept c owner_by refl)
+same c = relists_written _ _ _ c.args.id.0 (Some (after c)) (wrote c) (sym (ap owner_by (slot c).1)) (inr (sym (ap link_by (slot c).1)))
 
 pub requeue-requires-clause-few : goal.requeue-requires-clause-few
 requeue-requires-clause-few c = c.requires.table.few c.args.id.0 c.requires.is_held
