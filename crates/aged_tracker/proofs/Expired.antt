@@ -1,8 +1,8 @@
 -- A queue's front is its oldest entry, so if the front is live all are.
 use Rattle.std.proofs.Common.{◌≡◌, ℕ, ◌+◌, ◌-◌, ◌<◌, ◌≤◌, Some, IsSome, false, get_or, refl, sym, ap, ◌∙◌, arith, lt-ltb}
 use Rattle.std.specs.Prelude.{IfSome, option_map}
-use Rattle.aged_tracker.proofs.Names.{AgedSlots, ConntrackEntry, IdleKind, IsAllLive, IsIn, IsLiveQueue, IsTable, Limits, idle_at, idle_kind, is_live}
-use Rattle.aged_tracker.proofs.Names.{last_at, last_by, limit_at, limit_in, limit_of, nat_tests, next_of, phase_of, prev_of, queue_number, queue_of, slots_of}
+use Rattle.aged_tracker.proofs.Names.{AgedSlots, ConntrackEntry, IdleKind, IsAllLive, IsIn, IsLiveQueue, IsTable, Limits, idle_at, idle_kind, is_live, last_at}
+use Rattle.aged_tracker.proofs.Names.{last_by, limit_at, limit_in, limit_of, nat_tests, next_of, phase_of, prev_of, queue_number, queue_of, slots_of}
 use Rattle.box_file.specs.declared.idle_line.IdleKind.TheVariants as idle
 use Rattle.futures.specs.Links as ring
 use Rattle.list_laws.specs.Options.{some_of_map}

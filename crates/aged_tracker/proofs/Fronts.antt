@@ -1,12 +1,10 @@
 -- The first and the last key of a list, and the moments of the fronts of queues.
-use Rattle.std.proofs.Common.{◌≡◌, ◌≢◌, ℕ, ◌+◌, ◌<◌, ◌≤◌, List, [], ◌∷◌, ◌++◌, length, get_or, set, Option, Some, None, refl, sym}
-use Rattle.std.proofs.Common.{ap, ◌∙◌, subst, inl, inr, arith}
+use Rattle.std.proofs.Common.{◌≡◌, ◌≢◌, ℕ, ◌+◌, ◌<◌, ◌≤◌, List, [], ◌∷◌, ◌++◌, length, get_or, set, Option, Some, None, refl, sym, ap, ◌∙◌, subst, inl, inr}
+use Rattle.std.proofs.Common.{arith}
 use Rattle.std.specs.Prelude.{option_map}
-use Rattle.aged_tracker.proofs.Names.{AreOldest, AreOldestBut, HasRings, IsApart, IsIn, IsRing, IsRising, Link, Next, Relists, SameBy, Slab}
-use Rattle.aged_tracker.proofs.Names.{Slot, Updates, cases_eq, except_links}
-use Rattle.aged_tracker.proofs.Names.{get_or-set_other, get_or-set_same, held_at, held_of, last_at, last_by, neighbour, next_of, none-some}
-use Rattle.aged_tracker.proofs.Names.{off, owner_of, prev_of}
-use Rattle.aged_tracker.proofs.Names.{pushed, same_Some, without_absent, without_head}
+use Rattle.aged_tracker.proofs.Names.{AreOldest, AreOldestBut, HasRings, IsApart, IsIn, IsRing, IsRising, Link, Next, Relists, SameBy, Slab, Slot, Updates}
+use Rattle.aged_tracker.proofs.Names.{cases_eq, except_links, get_or-set_other, get_or-set_same, held_at, held_of, last_at, last_by, neighbour, next_of}
+use Rattle.aged_tracker.proofs.Names.{none-some, off, owner_of, prev_of, pushed, same_Some, without_absent, without_head}
 use Rattle.futures.specs.LinkedLists.{without}
 use Rattle.futures.specs.Links as ring
 use Rattle.aged_tracker.proofs.Keys.{IsIn-push_last, rising_first, without_past}

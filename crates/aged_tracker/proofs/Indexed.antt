@@ -1,11 +1,12 @@
 -- The index of an `AgedTracker`, and lookups by it, as its list of entries changes.
-use Rattle.std.proofs.Common.{◌≡◌, ℕ, ◌+◌, ◌-◌, List, [], ◌∷◌, ◌++◌, length, Option, Some, None, is_some, Bool, true, false, not, ◌&&◌, ◌||◌, cond}
-use Rattle.std.proofs.Common.{refl, sym, ap, ◌∙◌, inl, inr, arith, length-append}
+use Rattle.std.proofs.Common.{◌≡◌, ℕ, ◌+◌, ◌-◌, List, [], ◌∷◌, ◌++◌, length, Option, Some, None, is_some, Bool, true, false, not, ◌&&◌, ◌||◌, cond, refl, sym}
+use Rattle.std.proofs.Common.{ap, ◌∙◌, inl, inr, arith, length-append}
 use Rattle.std.specs.Prelude.{option_map, if◌then◌else◌}
-use Rattle.aged_tracker.proofs.Names.{Belonging, ConnId, ConntrackEntry, Direction, Flags, Found, IsIndexed, Limits, NotFound, Reply, Tuple, apart-filter, apart-push}
-use Rattle.aged_tracker.proofs.Names.{apart-touched_at, belonging_by, belonging_of, belongs_in, cases_Bool, connection_ref, distinct-filter, distinct-push}
-use Rattle.aged_tracker.proofs.Names.{distinct-touched_at, false_from_ne_true, filter, find, find-filter, has_distinct_ids, has_id, have_disjoint_tuples, is_incoming, is_live}
-use Rattle.aged_tracker.proofs.Names.{is_taken, key_in, length-map, live_at, none-some, or_parts, same_id, same_tuple, same_tuple-true, touched, touched_at, without_new}
+use Rattle.aged_tracker.proofs.Names.{Belonging, ConnId, ConntrackEntry, Direction, Flags, Found, IsIndexed, Limits, NotFound, Reply, Tuple, apart-filter}
+use Rattle.aged_tracker.proofs.Names.{apart-push, apart-touched_at, belonging_by, belonging_of, belongs_in, cases_Bool, connection_ref, distinct-filter}
+use Rattle.aged_tracker.proofs.Names.{distinct-push, distinct-touched_at, false_from_ne_true, filter, find, find-filter, has_distinct_ids, has_id}
+use Rattle.aged_tracker.proofs.Names.{have_disjoint_tuples, is_incoming, is_live, is_taken, key_in, length-map, live_at, none-some, or_parts, same_id}
+use Rattle.aged_tracker.proofs.Names.{same_tuple, same_tuple-true, touched, touched_at, without_new}
 use Rattle.conntrack.specs.ConntrackEntry.{without}
 use Rattle.list_laws.specs.Options.{option_cases}
 use Rattle.list_laws.specs.Tests.{and-flip}
@@ -72,6 +73,7 @@ module _ (id : ConnId) (h : ConntrackEntry) where
     where
       once : IsOnce (is_incoming tuple) held
       once = once_by_tuple tuple held apart
+
       by : (o : Option ConntrackEntry) → kept_if (is_incoming tuple) (Some h) ≡ kept_if (same_id id) o
           → cond (same_tuple h.reply tuple) None (cond (same_tuple h.original tuple) None (option_map (λ (x : ConntrackEntry). x.id.0) o))
           ≡ option_map (λ (x : ConntrackEntry). x.id.0) (kept_if (λ x. not (same_id id x)) o)

@@ -1,9 +1,9 @@
 -- The links after a write to a slot or a head.
-use Rattle.std.proofs.Common.{◌≡◌, ◌≢◌, ℕ, ◌+◌, ◌-◌, ◌<◌, ◌≤◌, cond, List, get_or, Option, Some, None}
-use Rattle.std.proofs.Common.{IsSome, is_some, refl, sym, ap, ◌∙◌, subst, inl, inr, arith}
+use Rattle.std.proofs.Common.{◌≡◌, ◌≢◌, ℕ, ◌+◌, ◌-◌, ◌<◌, ◌≤◌, cond, List, get_or, Option, Some, None, IsSome, is_some, refl, sym, ap, ◌∙◌, subst, inl, inr}
+use Rattle.std.proofs.Common.{arith}
 use Rattle.std.specs.Prelude.{option_map}
-use Rattle.aged_tracker.proofs.Names.{ConntrackEntry, held_at, held_of, IsNode, IsOn, IsRing, Link, Relinks, SameBy, Slab, Slot, Updates, cases_lt, except_links}
-use Rattle.aged_tracker.proofs.Names.{except_neighbours, le-ltb, link_at, link_by, no_link, none-some, owner_by, owner_of}
+use Rattle.aged_tracker.proofs.Names.{ConntrackEntry, held_at, held_of, IsNode, IsOn, IsRing, Link, Relinks, SameBy, Slab, Slot, Updates, cases_lt}
+use Rattle.aged_tracker.proofs.Names.{except_links, except_neighbours, le-ltb, link_at, link_by, no_link, none-some, owner_by, owner_of}
 use Rattle.std.proofs.lemmas.Bool.{lt-ltb}
 use Rattle.slab.specs.Slab.{get}
 use Rattle.list_laws.specs.Options.{some_of_map}

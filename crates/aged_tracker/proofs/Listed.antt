@@ -1,6 +1,6 @@
 -- Entries that are sorted by their numbers are in the order of creation.
-use Rattle.std.proofs.Common.{◌≡◌, ◌≢◌, ℕ, zero, suc, ◌+◌, ◌<◌, ◌≤◌, List, [], ◌∷◌, map, Option, Some, None, is_some, eqb, false}
-use Rattle.std.proofs.Common.{refl, sym, ap, ◌∙◌, subst, inl, inr, arith}
+use Rattle.std.proofs.Common.{◌≡◌, ◌≢◌, ℕ, zero, suc, ◌+◌, ◌<◌, ◌≤◌, List, [], ◌∷◌, map, Option, Some, None, is_some, eqb, false, refl, sym, ap, ◌∙◌, subst}
+use Rattle.std.proofs.Common.{inl, inr, arith}
 use Rattle.std.specs.Prelude.{option_map}
 use Rattle.aged_tracker.proofs.Names.{AllByRecursion, Connection, ConntrackEntry, Contains, Contains-cases, Contains-entries, Contains-head, Contains-map}
 use Rattle.aged_tracker.proofs.Names.{Contains-none, Contains-permutation, Contains-tail, Contains-unmap, IsDistinct, IsDistinct-IsPermutation}
@@ -37,8 +37,11 @@ distinct_numbers key (None ∷ rest) apart = distinct_numbers (key + 1) rest apa
 distinct_numbers key (Some s ∷ rest) apart =
     let later = entries_from (key + 1) rest in (
       all_by (λ n. eqb s.serial n ≡ false) later (λ e there. ne_eqb s.serial e.1.serial (λ same.
-          omega (arith, past key (key + 1) (omega arith) rest e there,
-          apart (key, s) e (Contains-head (key, s) later) (Contains-tail (key, s) later e there) same))),
+          omega (
+            arith,
+            past key (key + 1) (omega arith) rest e there,
+            apart (key, s) e (Contains-head (key, s) later) (Contains-tail (key, s) later e there) same,
+          ))),
       distinct_numbers (key + 1) rest
           (λ a b f g. apart a b (Contains-tail (key, s) later a f) (Contains-tail (key, s) later b g)),
     )
@@ -125,8 +128,7 @@ listed_order slots qs next numbered moved rising =
           let e = Contains-unmap numbered_entry (entries slots) q (Contains-permutation _ _ q (IsPermutation-sym _ _ moved) there) in
           let at = (Contains-entries slots e.0.0 e.0.1).0 e.1 in
           let is = entry e.0.0 e.0.1 at in
-          let number : serial_at slots e.0.0 ≡ q.0 = ap serial_by at ∙ ap (λ (p : ℕ × Connection). p.0) e.2 in
-          (
+          let number : serial_at slots e.0.0 ≡ q.0 = ap serial_by at ∙ ap (λ (p : ℕ × Connection). p.0) e.2 in (
             omega arith,
             (
               omega (arith, number, numbered.below e.0.0 (ap is_some is)),

@@ -3,8 +3,8 @@ use Rattle.std.proofs.Common.{◌≡◌, ◌≢◌, ◌⊎◌, ℕ, zero, suc, �
 use Rattle.std.proofs.Common.{refl, sym, ap, ◌∙◌, inl, inr, arith}
 use Rattle.std.specs.Prelude.{option_map, ◌==◌}
 use Rattle.aged_tracker.proofs.Names.{ConnId, ConntrackEntry, ContainsKey-within, IsNoneLater, IsNumbered, Slab, Slot, cases_Bool, cases_eq, cons_held}
-use Rattle.aged_tracker.proofs.Names.{entry_at, entry_below, eq-eqb, eqb-true, filter, find, held_at, held_from, held_of, last_by, none-some, picked, same_Some, same_id}
-use Rattle.aged_tracker.proofs.Names.{serial_at}
+use Rattle.aged_tracker.proofs.Names.{entry_at, entry_below, eq-eqb, eqb-true, filter, find, held_at, held_from, held_of, last_by, none-some, picked}
+use Rattle.aged_tracker.proofs.Names.{same_Some, same_id, serial_at}
 use Rattle.slab.specs.Slab.{get}
 use Rattle.list_laws.specs.Options.{option_cases}
 use Rattle.aged_tracker.proofs.Searches.{not_both}

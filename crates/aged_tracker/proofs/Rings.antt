@@ -1,8 +1,9 @@
 -- Circular lists after a key left one or joined one, or after a write that keeps them.
-use Rattle.std.proofs.Common.{◌≡◌, ◌≢◌, ℕ, ◌+◌, ◌-◌, ◌<◌, List, [], ◌∷◌, ◌++◌, Option, Some, None, IsSome, cond, refl, sym, ap, ◌∙◌, subst, inl, inr, ◌⊎◌, arith}
+use Rattle.std.proofs.Common.{◌≡◌, ◌≢◌, ℕ, ◌+◌, ◌-◌, ◌<◌, List, [], ◌∷◌, ◌++◌, Option, Some, None, IsSome, cond, refl, sym, ap, ◌∙◌, subst, inl, inr, ◌⊎◌}
+use Rattle.std.proofs.Common.{arith}
 use Rattle.std.specs.Prelude.{IfSome, option_map, nat_lt, slice_index_or}
-use Rattle.aged_tracker.proofs.Names.{Inserts, IsIn, IsOn, IsRing, IsRing-kept, IsRing-push, IsRing-skip, IsRings, Joins, Link, ListLinks, Lists}
-use Rattle.aged_tracker.proofs.Names.{Next, Previous, Relinks, Relists, SameBy, Slab, Slot, Updates, cases_eq, cond-false, cond-true, eq-eqb, except_links}
+use Rattle.aged_tracker.proofs.Names.{Inserts, IsIn, IsOn, IsRing, IsRing-kept, IsRing-push, IsRing-skip, IsRings, Joins, Link, ListLinks, Lists, Next}
+use Rattle.aged_tracker.proofs.Names.{Previous, Relinks, Relists, SameBy, Slab, Slot, Updates, cases_eq, cond-false, cond-true, eq-eqb, except_links}
 use Rattle.aged_tracker.proofs.Names.{free_not_on, link_at, link_by, ne_eqb, neighbour, next_of, next_on, no_link, none-some, off, owner_by, owner_of}
 use Rattle.aged_tracker.proofs.Names.{prev_end_on, prev_of, prev_on, pushed, rings_apart, same_Some, with_links, without_absent}
 use Rattle.slab.specs.Slab.{get}

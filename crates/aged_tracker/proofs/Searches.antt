@@ -1,7 +1,8 @@
 -- Searches in the list of entries.
 use Rattle.std.proofs.Common.{◌≡◌, List, [], ◌∷◌, Option, Some, None, is_some, Bool, true, false, not, ◌&&◌, cond, refl, sym, ap, ◌∙◌, inl, inr, arith}
-use Rattle.aged_tracker.proofs.Names.{ConnId, ConntrackEntry, Tuple, and_parts, cases_Bool, cons_held, eqb-true, filter, find, has_distinct_ids, has_id, have_disjoint_tuples}
-use Rattle.aged_tracker.proofs.Names.{is_incoming, is_taken, list_any, not-true, or_cases, or_parts, same_id, same_tuple, same_tuple-true}
+use Rattle.aged_tracker.proofs.Names.{ConnId, ConntrackEntry, Tuple, and_parts, cases_Bool, cons_held, eqb-true, filter, find, has_distinct_ids, has_id}
+use Rattle.aged_tracker.proofs.Names.{have_disjoint_tuples, is_incoming, is_taken, list_any, not-true, or_cases, or_parts, same_id, same_tuple}
+use Rattle.aged_tracker.proofs.Names.{same_tuple-true}
 use Rattle.std.specs.Prelude.{◌==◌, map, option_map}
 
 pub not_both : {P : Type 0} (b : Bool) → b ≡ true → b ≡ false → P

@@ -2,10 +2,10 @@
 use Rattle.std.proofs.Common.{◌≡◌, ◌≢◌, ℕ, ◌+◌, suc, ◌<◌, ◌≤◌, List, [], ◌∷◌, ◌++◌, Option, Some, None, IsSome, is_some, refl, sym, ap, ◌∙◌, subst, inl, inr}
 use Rattle.std.proofs.Common.{arith}
 use Rattle.std.specs.Prelude.{option_map}
-use Rattle.aged_tracker.proofs.Names.{AgedSlots, AreOldest, ConntrackEntry, IsIn, IsNonDecreasingBy-filter, IsNonDecreasingBy-push, IsIn-without, cons_held, entry_at, held_from}
-use Rattle.aged_tracker.proofs.Names.{IsNoneLater, IsNumbered, IsRising, IsTable, Link, Lists, MAX_KEYS, Relists, SameBy, Sets, Slab, Slot}
-use Rattle.aged_tracker.proofs.Names.{Updates, cases_eq, except_links, held_at, held_by, held_of, last_at, last_by, none-some, off}
-use Rattle.aged_tracker.proofs.Names.{owner_by, owner_of, pushed, queue_of, serial_at, serial_by, slots_of}
+use Rattle.aged_tracker.proofs.Names.{AgedSlots, AreOldest, ConntrackEntry, IsIn, IsNonDecreasingBy-filter, IsNonDecreasingBy-push, IsIn-without, cons_held}
+use Rattle.aged_tracker.proofs.Names.{entry_at, held_from, IsNoneLater, IsNumbered, IsRising, IsTable, Link, Lists, MAX_KEYS, Relists, SameBy, Sets, Slab}
+use Rattle.aged_tracker.proofs.Names.{Slot, Updates, cases_eq, except_links, held_at, held_by, held_of, last_at, last_by, none-some, off, owner_by, owner_of}
+use Rattle.aged_tracker.proofs.Names.{pushed, queue_of, serial_at, serial_by, slots_of}
 use Rattle.slab.specs.Slab.{get}
 use Rattle.list_laws.specs.Options.{option_cases}
 use Rattle.futures.specs.LinkedLists as linked
@@ -80,7 +80,7 @@ module _ (t : AgedSlots) (table : IsTable t) (new : Slab Slot) (key : ℕ) (slot
             ap last_by (sets.others k d),
             ap last_by (at_slot t.slots t.next_serial table.numbered k some.0 some.1 ∙ sym some.1),
             none_later-at (entry_at t.slots) now 0 t.next_serial none (serial_at t.slots k) (omega arith)
-            (omega (arith, table.numbered.below k (ap is_some some.1))),
+                (omega (arith, table.numbered.below k (ap is_some some.1))),
           )
         ]
       ]

@@ -1,7 +1,7 @@
 -- The entries of a table by their ids and tuples.
-use Rattle.std.proofs.Common.{◌≡◌, ℕ, Option, Some, None, IsSome, is_some, true, false, sym, ap, ◌∙◌, arith}
-use Rattle.aged_tracker.proofs.Names.{AgedSlots, ConnId, ConntrackEntry, IsIndexed, IsTable, Tuple, find, found_by_id, has_id, held_by}
-use Rattle.aged_tracker.proofs.Names.{IsAllLive, Limits, entry_at, eq-eqb, eqb-true, is_incoming, is_live, live_at, same_id, serial_at, slots_of}
+use Rattle.std.proofs.Common.{◌≡◌, ℕ, Option, Some, is_some, sym, ap, ◌∙◌, arith}
+use Rattle.aged_tracker.proofs.Names.{AgedSlots, ConnId, ConntrackEntry, IsIndexed, IsTable, Tuple, find, found_by_id, has_id, held_by, IsAllLive, Limits}
+use Rattle.aged_tracker.proofs.Names.{entry_at, eq-eqb, eqb-true, is_incoming, is_live, live_at, same_id, serial_at, slots_of}
 use Rattle.list_laws.specs.Options.{some_of_map}
 use Rattle.aged_tracker.proofs.Links.{named_at, some_of}
 use Rattle.aged_tracker.proofs.Ordered.{all_pass, at_slot, found_from, of_slot}
@@ -13,9 +13,16 @@ module _ (t : AgedSlots) (table : IsTable t) where
       found_from (entry_at t.slots) id (slots_of t id.0)
       (λ n h is same. ap (slots_of t) (sym (eqb-true h.id.0 id.0 same)) ∙ (of_slot t.slots n h is).0)
       (λ h is. eq-eqb h.id.0 id.0 (named_at t.slots id.0 h is)) 0 t.next_serial (λ some.
-      let h = some_of (slots_of t id.0) some in
-      (serial_at t.slots id.0, (omega arith, (omega (arith, table.numbered.below id.0 some),
-      at_slot t.slots t.next_serial table.numbered id.0 h.0 h.1 ∙ sym h.1))))
+      let h = some_of (slots_of t id.0) some in (
+        serial_at t.slots id.0,
+        (
+          omega arith,
+          (
+            omega (arith, table.numbered.below id.0 some),
+            at_slot t.slots t.next_serial table.numbered id.0 h.0 h.1 ∙ sym h.1,
+          ),
+        ),
+      ))
 
   pub live_all : (limits : Limits) (now : ℕ) → IsAllLive limits (slots_of t) now → live_at limits now (held_by t) ≡ held_by t
   live_all limits now live =

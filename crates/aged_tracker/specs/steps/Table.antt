@@ -1,9 +1,8 @@
 -- A conntrack table: slots that are numbered in the order of their creation, and a queue for each timeout.
-use Rattle.std.specs.Prelude.{◌≡◌, ◌≢◌, ℕ, zero, suc, ◌+◌, ◌-◌, ◌^◌, ◌<◌, ◌≤◌, Bool, true, false, nat_lt, ◌&&◌, ◌==◌}
-use Rattle.std.specs.Prelude.{if◌then◌else◌, List, [], ◌∷◌, length, map, Option, Some, None, IsSome, option_map, slice_index_or}
+use Rattle.std.specs.Prelude.{◌≡◌, ◌≢◌, ℕ, zero, suc, ◌+◌, ◌-◌, ◌^◌, ◌<◌, Bool, true, false, nat_lt, ◌&&◌, ◌==◌, if◌then◌else◌, List, [], length, map, Option}
+use Rattle.std.specs.Prelude.{Some, None, IsSome, option_map, slice_index_or}
 use Rattle.std.specs.List.Sorted.{IsNonDecreasingBy}
 use Rattle.slab.specs.Slab.{Slab, get, slab_len}
-use Rattle.futures.specs.LinkedLists.{IsIn}
 use Rattle.ip_headers.specs.declared.tuple.Kind.{Kind}
 use Rattle.conntrack.specs.declared.connection.Phase.{Phase}
 use Rattle.conntrack.specs.declared.connection.Connection.{Connection}

@@ -1,8 +1,7 @@
-use Rattle.std.proofs.Common.{◌≡◌, ℕ, cond, Some, Option, ap, sym, ◌∙◌, inl, inr, refl, arith}
+use Rattle.std.proofs.Common.{◌≡◌, cond, Some, ap, sym, ◌∙◌, inl, inr, refl, arith}
 use Rattle.std.specs.Prelude.{option_map}
-use Rattle.aged_tracker.proofs.Names.{ConntrackEntry, Relists, SameBy, Slab, Slot, Updates, cases_eq, except_links, held_at, held_of, last_at}
-use Rattle.aged_tracker.proofs.Names.{IsNumbered, eq-eqb, last_by, link_by, ne_eqb, off, same_id, touched_at}
-use Rattle.aged_tracker.proofs.Names.{owner_by, owner_of, pushed, queue_of, serial_by, slots_of, touched, updated}
+use Rattle.aged_tracker.proofs.Names.{ConntrackEntry, Relists, SameBy, Slab, Slot, Updates, except_links, held_at, held_of, last_at, IsNumbered, eq-eqb}
+use Rattle.aged_tracker.proofs.Names.{last_by, link_by, ne_eqb, off, same_id, touched_at, owner_by, owner_of, pushed, queue_of, serial_by, touched, updated}
 use Rattle.list_laws.specs.Options.{option_cases}
 use Rattle.slab.specs.Slab.{get}
 use Rattle.aged_tracker.proofs.Expired.{queue_of-range}

@@ -1,6 +1,5 @@
-use Rattle.std.proofs.Common.{◌≡◌, Some, None, sym, ap, ◌∙◌}
+use Rattle.std.proofs.Common.{◌≡◌, Some, None, sym, ap, ◌∙◌, is_some}
 use Rattle.aged_tracker.proofs.Names.{ConntrackEntry, find, held_by, is_incoming, slots_of}
-use Rattle.std.proofs.Common.{is_some}
 use Rattle.aged_tracker.proofs.Indexed.{belongs_by, unfound}
 use Rattle.aged_tracker.proofs.Whole.{owner}
 use Rattle.aged_tracker.proofs.aged_tracker.AgedTracker.find.Goals as goal

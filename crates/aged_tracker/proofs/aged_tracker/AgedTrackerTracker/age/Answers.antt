@@ -1,6 +1,6 @@
-use Rattle.std.proofs.Common.{◌≡◌, ◌∷◌, Some, false, refl, ap, sym, arith, ◌∙◌}
+use Rattle.std.proofs.Common.{◌≡◌, Some, refl, ap, sym, ◌∙◌}
 use Rattle.std.specs.Prelude.{option_map}
-use Rattle.aged_tracker.proofs.Names.{Aged, ConnId, ConntrackEntry, aged_of, find, held_by, is_live, length-without, live_at, removed_entry, same_Some, same_id, slots_of}
+use Rattle.aged_tracker.proofs.Names.{Aged, ConnId, aged_of, find, held_by, is_live, length-without, live_at, removed_entry, same_Some, same_id, slots_of}
 use Rattle.aged_tracker.proofs.Links.{named_at, some_of}
 use Rattle.aged_tracker.proofs.Whole.{found_at, has_as, live_all}
 use Rattle.aged_tracker.proofs.Indexed.{filter_without}

@@ -1,6 +1,5 @@
 use Rattle.std.proofs.Common.{◌≡◌, Some, IsTrue, is_some, cond, rules, ap, sym, ◌∙◌, false}
 use Rattle.aged_tracker.proofs.Names.{begun_with, has_id, held_by, is_taken, same_tuple}
-use Rattle.std.specs.HashMap.{get}
 use Rattle.aged_tracker.proofs.Indexed.{indexed_begun, taken_as}
 use Rattle.aged_tracker.proofs.Searches.{not_both}
 use Rattle.aged_tracker.proofs.Whole.{has_as}

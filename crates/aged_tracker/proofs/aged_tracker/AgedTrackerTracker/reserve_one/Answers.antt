@@ -1,5 +1,5 @@
 use Rattle.std.proofs.Common.{◌≡◌, ◌∙◌, subst, Bool}
-use Rattle.aged_tracker.proofs.Names.{Tuple, same_tuple}
+use Rattle.aged_tracker.proofs.Names.{Tuple}
 use Rattle.std.specs.HashMap.{get}
 use Rattle.aged_tracker.proofs.Same.{same_fun}
 use Rattle.aged_tracker.proofs.aged_tracker.AgedTrackerTracker.reserve_one.Goals as goal
