@@ -104,8 +104,8 @@ module _ (held : List ConntrackEntry) (at : Tuple → Option ℕ) (live : ℕ) (
         count = is.count ∙ sym (length-map held _);
       }
 
-  pub indexed_begun : (at' : Tuple → Option ℕ) (h : ConntrackEntry) → has_id h.id held ≡ false → is_taken h.original held ≡ false → is_taken h.reply held ≡ false
-      → ((q : Tuple) → at' q ≡ cond (same_tuple h.reply q) (Some h.id.0) (cond (same_tuple h.original q) (Some h.id.0) (at q)))
+  pub indexed_begun : (at' : Tuple → Option ℕ) (h : ConntrackEntry) → has_id h.id held ≡ false → is_taken h.original held ≡ false
+      → is_taken h.reply held ≡ false → ((q : Tuple) → at' q ≡ cond (same_tuple h.reply q) (Some h.id.0) (cond (same_tuple h.original q) (Some h.id.0) (at q)))
       → IsIndexed (held ++ h ∷ []) at' (live + 1)
   indexed_begun at' h fresh o r now =
       record {

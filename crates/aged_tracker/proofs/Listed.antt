@@ -61,8 +61,8 @@ module _ (f : ℕ → Option ConntrackEntry) where
   pub record IsListed (first count : ℕ) (qs : List (ℕ × Connection)) : Type 0 where
     pub rising : IsNonDecreasingBy (λ q. q.0) qs
     pub distinct : IsDistinct eqb (map (λ q. q.0) qs)
-    pub from : (q : ℕ × Connection) → Contains qs q → (first ≤ q.0) × ((q.0 < first + count)
-        × ((h : ConntrackEntry) × ((f q.0 ≡ Some h) × (q.1 ≡ connection_of h))))
+    pub from : (q : ℕ × Connection) → Contains qs q
+        → (first ≤ q.0) × (q.0 < first + count) × (h : ConntrackEntry) × (f q.0 ≡ Some h) × (q.1 ≡ connection_of h)
     pub to : (n : ℕ) (h : ConntrackEntry) → f n ≡ Some h → first ≤ n → Contains qs (n, connection_of h)
 
   first_listed : (first count : ℕ) (h : ConntrackEntry) (held : List ConntrackEntry) → f first ≡ Some h
@@ -78,14 +78,14 @@ module _ (f : ℕ → Option ConntrackEntry) where
         listed.rising zero there.0 (first, connection_of h) (omega arith) there.1,
         ap (λ (p : ℕ × Connection). p.0) there.2,
       ) in
-      rw (it.1.1.1.1 ∙ ap connection_of (same_Some it.1.1.0 h (sym it.1.1.1.0 ∙ ap f at ∙ is))) (ap (λ xs. connection_of h ∷ xs) (more qs (record {
+      rw (it.4 ∙ ap connection_of (same_Some it.2 h (sym it.3 ∙ ap f at ∙ is))) (ap (λ xs. connection_of h ∷ xs) (more qs (record {
         rising = λ i j d le less. listed.rising (suc i) (suc j) d (omega (arith, le)) (omega (arith, less));
         distinct = IsDistinct-tail eqb q.0 (map (λ q. q.0) qs) listed.distinct;
         from = λ r there.
             let was = listed.from r (Contains-tail q qs r there) in
             let d : q.0 ≢ r.0 = λ e. true≢false (sym (eq-eqb q.0 r.0 e)
             ∙ all_at (λ n. eqb q.0 n ≡ false) qs (IsDistinct-head eqb q.0 (map (λ q. q.0) qs) listed.distinct) r there) in
-            (omega (arith, was.0, d, at), (omega (arith, was.1.0), was.1.1));
+            (omega (arith, was.0, d, at), omega (arith, was.1), was.2, was.3, was.4);
         to = λ n x there past. elim (Contains-cases q (n, connection_of x) qs (listed.to n x there (omega (arith, past)))) [
           | inl e ↦ absurd (omega (arith, past, ap (λ (p : ℕ × Connection). p.0) e, at))
           | inr later ↦ later
@@ -94,7 +94,7 @@ module _ (f : ℕ → Option ConntrackEntry) where
 
   in_turn : (first count : ℕ) (qs : List (ℕ × Connection)) → IsListed first count qs → connections_by qs ≡ map connection_of (held_from f first count)
   in_turn first zero [] listed = refl
-  in_turn first zero (q ∷ qs) listed = let it = listed.from q (Contains-head q qs) in absurd (omega (arith, it.0, it.1.0))
+  in_turn first zero (q ∷ qs) listed = let it = listed.from q (Contains-head q qs) in absurd (omega (arith, it.0, it.1))
   in_turn first (suc count) qs listed =
       elim (option_cases (f first)) [
         | inl none ↦ rw none (in_turn (suc first) count qs (record {
@@ -102,8 +102,8 @@ module _ (f : ℕ → Option ConntrackEntry) where
           distinct = listed.distinct;
           from = λ q there.
               let was = listed.from q there in
-              let d : first ≢ q.0 = λ e. none-some was.1.1.0 (sym none ∙ ap f e ∙ was.1.1.1.0) in
-              (omega (arith, was.0, d), (omega (arith, was.1.0), was.1.1));
+              let d : first ≢ q.0 = λ e. none-some was.2 (sym none ∙ ap f e ∙ was.3) in
+              (omega (arith, was.0, d), omega (arith, was.1), was.2, was.3, was.4);
           to = λ n h is past. listed.to n h is (omega (arith, past));
         }))
         | inr h ↦ rw h.1 (first_listed first count h.0 _ h.1 (in_turn (suc first) count) qs listed)
@@ -130,16 +130,10 @@ listed_order slots qs next numbered moved rising =
           let is = entry e.0.0 e.0.1 at in
           let number : serial_at slots e.0.0 ≡ q.0 = ap serial_by at ∙ ap (λ (p : ℕ × Connection). p.0) e.2 in (
             omega arith,
-            (
-              omega (arith, number, numbered.below e.0.0 (ap is_some is)),
-              (
-                held_of e.0.0 e.0.1,
-                (
-                  ap (entry_at slots) (sym number) ∙ at_slot slots next numbered e.0.0 _ is,
-                  sym (ap (λ (p : ℕ × Connection). p.1) e.2),
-                ),
-              ),
-            ),
+            omega (arith, number, numbered.below e.0.0 (ap is_some is)),
+            held_of e.0.0 e.0.1,
+            ap (entry_at slots) (sym number) ∙ at_slot slots next numbered e.0.0 _ is,
+            sym (ap (λ (p : ℕ × Connection). p.1) e.2),
           );
       to = λ n h is past.
           let at = of_slot slots n h is in

@@ -146,17 +146,17 @@ module _ (f : ℕ → Option ConntrackEntry) where
   -- the one entry with an id
   pub found_from : (id : ConnId) (o : Option ConntrackEntry) → ((n : ℕ) (h : ConntrackEntry) → f n ≡ Some h → same_id id h ≡ true → o ≡ Some h)
       → ((h : ConntrackEntry) → o ≡ Some h → same_id id h ≡ true) → (first count : ℕ)
-      → (IsSome o → (n : ℕ) × ((first ≤ n) × ((n < first + count) × (f n ≡ o)))) → find (same_id id) (held_from f first count) ≡ o
+      → (IsSome o → (n : ℕ) × (first ≤ n) × (n < first + count) × (f n ≡ o)) → find (same_id id) (held_from f first count) ≡ o
   found_from id o only its first zero reach =
       elim (option_cases o) [
         | inl none ↦ sym none
-        | inr x ↦ let at = reach (ap is_some x.1) in absurd (omega (arith, at.1.0, at.1.1.0))
+        | inr x ↦ let at = reach (ap is_some x.1) in absurd (omega (arith, at.1, at.2))
       ]
   found_from id o only its first (suc count) reach =
       let rest = λ (other : (h : ConntrackEntry) → o ≡ Some h → f first ≢ Some h). found_from id o only its (suc first) count (λ some.
       let at = reach some in
-      let d : first ≢ at.0 = λ e. elim (option_cases o) [ inl none ↦ not_none o none some | inr x ↦ other x.0 x.1 (ap f e ∙ at.1.1.1 ∙ x.1) ] in
-      (at.0, (omega (arith, at.1.0, d), (omega (arith, at.1.1.0), at.1.1.1)))) in
+      let d : first ≢ at.0 = λ e. elim (option_cases o) [ inl none ↦ not_none o none some | inr x ↦ other x.0 x.1 (ap f e ∙ at.3 ∙ x.1) ] in
+      (at.0, omega (arith, at.1, d), omega (arith, at.2), at.3)) in
       elim (option_cases (f first)) [
         | inl none ↦ rw none (rest (λ h is e. none-some h (sym none ∙ e)))
         | inr x ↦ elim (cases_Bool (same_id id x.0)) [

@@ -14,24 +14,6 @@ use Rattle.aged_tracker.proofs.Rings.{pushed_by}
 use Rattle.aged_tracker.proofs.Ordered.{SameBut, at_slot, entry_off, held_each, held_more, none_later-at, of_slot}
 use Rattle.aged_tracker.proofs.Links.{kept_by}
 
--- ---- reserved memory
-
-pub grown_table : (t : AgedSlots) (slots : Slab Slot) (capacity : ℕ) → IsTable t
-    → slots ≡ record t.slots { capacity = capacity } → IsTable (record t { slots = slots })
-grown_table t slots capacity table same =
-    subst (λ (s : Slab Slot). IsTable (record t { slots = s })) (sym same)
-    (record {
-      lists = table.lists;
-      rings = table.rings;
-      owners = table.owners;
-      rising = table.rising;
-      numbered = record { apart = table.numbered.apart; below = table.numbered.below };
-      oldest = table.oldest;
-      few = table.few;
-    })
-
--- ---- a slot of a table gets a value
-
 -- no other slot changes, but for links
 pub record Writes (old new : Slab Slot) (key : ℕ) (slot : Option Slot) : Type 0 where
   pub here : option_map except_links (get new key) ≡ option_map except_links slot

@@ -15,13 +15,9 @@ module _ (t : AgedSlots) (table : IsTable t) where
       (λ h is. eq-eqb h.id.0 id.0 (named_at t.slots id.0 h is)) 0 t.next_serial (λ some.
       let h = some_of (slots_of t id.0) some in (
         serial_at t.slots id.0,
-        (
-          omega arith,
-          (
-            omega (arith, table.numbered.below id.0 some),
-            at_slot t.slots t.next_serial table.numbered id.0 h.0 h.1 ∙ sym h.1,
-          ),
-        ),
+        omega arith,
+        omega (arith, table.numbered.below id.0 some),
+        at_slot t.slots t.next_serial table.numbered id.0 h.0 h.1 ∙ sym h.1,
       ))
 
   pub live_all : (limits : Limits) (now : ℕ) → IsAllLive limits (slots_of t) now → live_at limits now (held_by t) ≡ held_by t

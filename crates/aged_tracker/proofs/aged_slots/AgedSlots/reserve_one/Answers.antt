@@ -1,6 +1,17 @@
-use Rattle.aged_tracker.proofs.Turns.{grown_table}
+use Rattle.std.proofs.Common.{sym, subst}
+use Rattle.aged_tracker.proofs.Names.{IsTable, Slab, Slot}
 use Rattle.aged_tracker.proofs.aged_slots.AgedSlots.reserve_one.Goals as goal
 
 pub returns-clause-table : goal.returns-clause-table
-returns-clause-table c = grown_table c.args.self.now c.reserve_one.new.self c.reserve_one.new.self.capacity c.requires.table
-    c.reserve_one.ensures.rest_kept
+returns-clause-table c =
+    let table = c.requires.table in
+    subst (λ (s : Slab Slot). IsTable (record c.args.self.now { slots = s })) (sym c.reserve_one.ensures.rest_kept)
+    (record {
+      lists = table.lists;
+      rings = table.rings;
+      owners = table.owners;
+      rising = table.rising;
+      numbered = record { apart = table.numbered.apart; below = table.numbered.below };
+      oldest = table.oldest;
+      few = table.few;
+    })

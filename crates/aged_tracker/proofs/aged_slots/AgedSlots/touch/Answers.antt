@@ -38,14 +38,9 @@ requeue-requires-clause-rings c =
 
 pub requeue-requires-clause-owned : goal.requeue-requires-clause-owned
 requeue-requires-clause-owned c =
-    let at = (goal.at.requeue-requires-clause-owned c).After-touch-queue in (
-      queue_of (entry at),
-      (
-        queue_of-range (entry at),
-        (same at).here ∙ c.requires.table.owners c.args.id.0
-            ∙ ap (λ o. option_map queue_of (option_map (held_of c.args.id.0) o)) (slot at).1,
-      ),
-    )
+    let at = (goal.at.requeue-requires-clause-owned c).After-touch-queue in
+    let owner = (same at).here ∙ c.requires.table.owners c.args.id.0 ∙ ap (λ o. option_map queue_of (option_map (held_of c.args.id.0) o)) (slot at).1 in
+    (queue_of (entry at), (queue_of-range (entry at), owner))
 
 pub requeue-requires-clause-oldest : goal.requeue-requires-clause-oldest
 requeue-requires-clause-oldest c =
