@@ -56,7 +56,7 @@ fn key_after(
 /// elem = key ["comment" STRING]
 pub(crate) struct SetElement;
 
-#[tactic(auto, unfolding(crate::specs::Elements::element, crate::specs::Elements::key, crate::specs::Elements::comment, crate::specs::steps::Reading::key_after, crate::specs::steps::Reading::range_after, crate::specs::steps::Reading::one_or_prefix))]
+#[tactic(auto, unfolding(crate::specs::steps::LookedThrough::elements))]
 impl Production for SetElement {
     type Item = Element;
 

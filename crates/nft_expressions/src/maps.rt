@@ -46,7 +46,7 @@ fn map_data(alloc: Global, tokens: &[Token], at: usize) -> Result<Option<(Data, 
 }
 
 /// one ["comment" STRING] ":", the key of a pair with its comment
-#[tactic(auto, unfolding(crate::specs::Elements::range, crate::specs::Elements::comment, crate::specs::steps::Reading::range_after, crate::specs::steps::Reading::one_or_prefix))]
+#[tactic(auto, unfolding(crate::specs::steps::LookedThrough::ranges))]
 fn map_key(
     alloc: Global,
     tokens: &[Token],

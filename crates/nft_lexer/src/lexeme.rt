@@ -263,7 +263,7 @@ fn punctuator<'t>(first: u8, text: &'t [u8]) -> Option<(Punctuator, &'t [u8])>
 }
 
 /// The longest leading lexeme, and the rest of the text.
-#[tactic(auto, using(crate::specs::steps::Values::numeral_is), unfolding(crate::specs::steps::Reading::lexeme_at, crate::specs::steps::Reading::class_at, crate::specs::steps::Reading::quoted_at))]
+#[tactic(auto, using(crate::specs::steps::Values::numeral_is), unfolding(crate::specs::steps::Reading::lexemes))]
 pub(crate) fn next_lexeme<'t>(text: &'t [u8]) -> Option<(LexemeKind, &'t [u8])>
     ensures { option_map (λ x. (x.0, x.1.now)) result ≡ scanned_kind (lexeme_at text.entry.now) }
 {

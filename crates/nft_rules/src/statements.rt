@@ -19,7 +19,7 @@ use token_reader::{Production, after_word, found, word};
 /// ("meta" | "ct") "mark" "set" operand | anysel "vmap" mapref | match
 ///
 /// The selector is read once; the tokens after it decide the rest.
-#[tactic(auto, unfolding(crate::specs::Rules::set_mark, crate::specs::Rules::verdict_map, crate::specs::Matches::matching, crate::specs::steps::Reading::match_after))]
+#[tactic(auto, unfolding(crate::specs::Rules::set_mark, crate::specs::Rules::verdict_map, crate::specs::steps::Reading::matches))]
 fn selector_statement(
     alloc: Global,
     tokens: &[Token],

@@ -77,7 +77,8 @@ static BEHIND: [Behind; 17] = [
     ),
     Behind(
         "meta",
-        "skuid skgid pkttype priority protocol cpu cgroup iifgroup oifgroup iiftype oiftype rtclassid nftrace secmark ibrname obrname iifkind oifkind hour day time broute",
+        "skuid skgid pkttype priority protocol cpu cgroup iifgroup oifgroup iiftype oiftype \
+         rtclassid nftrace secmark ibrname obrname iifkind oifkind hour day time broute",
         "Of `meta`, l4proto, nfproto, mark, length and the interfaces are read: take the match out, or the rule.",
     ),
     Behind(

@@ -26,7 +26,10 @@ static KINDS: [Kind; 29] = [
     Kind("tcp_flag", "fin syn rst psh ack urg ecn cwr"),
     Kind(
         "icmp_type",
-        "echo-request echo-reply destination-unreachable source-quench redirect router-advertisement router-solicitation time-exceeded parameter-problem timestamp-request timestamp-reply info-request info-reply address-mask-request address-mask-reply",
+        "echo-request echo-reply destination-unreachable source-quench redirect \
+         router-advertisement router-solicitation time-exceeded parameter-problem \
+         timestamp-request timestamp-reply info-request info-reply address-mask-request \
+         address-mask-reply",
     ),
     Kind("nf_proto", "ipv4 ipv6"),
     Kind("map", "vmap map"),

@@ -286,3 +286,8 @@ at_line faults.Number line = lexical.Number line
 abbrev pub IfRefused : (LexFault → Type 0) → LexError → Type 0
 IfRefused P (Refused fault) = P fault
 IfRefused P Memory = Unit {0}
+
+-- what the reader of a lexeme looks through
+unfoldable pub lexemes : Unit {0}
+unfolding lexeme_at class_at quoted_at
+lexemes = tt
