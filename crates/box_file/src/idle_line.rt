@@ -23,7 +23,7 @@ pub struct IdleLine<'t> {
 }
 
 /// The connections that a timeout is for.
-#[derive(Clone, Copy, Debug, PartialEq, Eq, Hash, Drop)]
+#[derive(Clone, Copy, PartialEq, Eq, Hash, Drop)]
 pub enum IdleKind {
     /// UDP.
     Udp,

@@ -12,7 +12,7 @@ use crate::targets::all_targets;
 use std::alloc::{AllocError, Global};
 
 /// The analysis of a graph without cycles, by index of its nodes.
-#[derive(Debug, Drop)]
+#[derive(Drop)]
 pub struct GraphAnalysis {
     /// A topological order: each node once, after all its targets.
     pub order: Vec<usize>,

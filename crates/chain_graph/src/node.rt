@@ -1,7 +1,7 @@
 //! Nodes and edges of the call graph.
 
 /// A jump or goto verdict to a chain, or a statement's lookup in a verdict map.
-#[derive(Clone, Copy, Debug, PartialEq, Eq)]
+#[derive(Clone, Copy)]
 pub struct Edge {
     /// The index of the target.
     pub to: usize,
@@ -11,7 +11,7 @@ pub struct Edge {
 
 /// A node of the call graph. A named map is a node of its own, so that its elements are stored once
 /// however many statements look them up.
-#[derive(Debug, Drop)]
+#[derive(Drop)]
 pub enum Node {
     /// A chain: for each statement its edges.
     Chain(Vec<Vec<Edge>>),

@@ -6,7 +6,7 @@ ghost use Rattle.chain_graph.specs.steps.Search.{IsSearch, StepResult, VisitResu
 
 use std::alloc::{AllocError, Global};
 
-#[derive(Debug, Drop)]
+#[derive(Drop)]
 pub enum SortResult {
     /// A topological order: each node once, after all its targets.
     Order(Vec<usize>),
@@ -15,7 +15,7 @@ pub enum SortResult {
 }
 
 /// The state of a node in the search.
-#[derive(Clone, Copy, Debug, PartialEq, Eq)]
+#[derive(Clone, Copy, PartialEq, Eq)]
 enum Mark {
     New,
     /// It is on the path.
@@ -23,7 +23,7 @@ enum Mark {
     Done,
 }
 
-#[derive(Debug, Drop)]
+#[derive(Drop)]
 struct Search {
     marks: Vec<Mark>,
     /// For each node, how many of its targets are not done. They are visited from the last to the

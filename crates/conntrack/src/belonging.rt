@@ -6,7 +6,7 @@ use crate::connection::{ConnId, ConntrackEntry, Direction};
 use ip_headers::{Kind, Tuple};
 
 /// A conntrack entry that a lookup found, as it was before the packet, and the packet's direction.
-#[derive(Clone, Copy, Debug, PartialEq, Eq)]
+#[derive(Clone, Copy)]
 pub struct ConnectionRef {
     /// The entry's id.
     pub id: ConnId,
@@ -23,7 +23,7 @@ pub struct ConnectionRef {
 }
 
 /// Results of conntrack lookups.
-#[derive(Clone, Copy, Debug, PartialEq, Eq)]
+#[derive(Clone, Copy)]
 pub enum Belonging {
     /// No live entry has the tuple.
     NotFound,
@@ -34,7 +34,7 @@ pub enum Belonging {
 }
 
 /// `ct state` of a packet with a tuple, after the lookup (nft(8), CONNTRACK EXPRESSIONS).
-#[derive(Clone, Copy, Debug, PartialEq, Eq)]
+#[derive(Clone, Copy)]
 pub enum LookupState {
     /// Packets have been seen in both directions, this one included.
     Established,

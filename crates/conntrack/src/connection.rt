@@ -11,7 +11,7 @@ use ip_headers::{Mapping, Tuple};
 pub type Moment = u64;
 
 /// The control bits of TCP that decide the phase of a connection (RFC 9293, section 3.1).
-#[derive(Clone, Copy, Debug, PartialEq, Eq)]
+#[derive(Clone, Copy)]
 pub struct Flags {
     /// The segment carries the sender's initial sequence number.
     pub syn: bool,
@@ -24,7 +24,7 @@ pub struct Flags {
 }
 
 /// The directions of a connection (netfilter's IP_CT_DIR_ORIGINAL and IP_CT_DIR_REPLY).
-#[derive(Clone, Copy, Debug, PartialEq, Eq)]
+#[derive(Clone, Copy, PartialEq, Eq)]
 pub enum Direction {
     /// The direction of the first packet.
     Original,
@@ -34,7 +34,7 @@ pub enum Direction {
 
 /// The phase of a TCP connection, by the flags seen (own, after RFC 9293, sections 3.5 and 3.6). It
 /// decides the timeout and isn't `ct state`.
-#[derive(Clone, Copy, Debug, PartialEq, Eq)]
+#[derive(Clone, Copy, PartialEq, Eq)]
 pub enum Phase {
     /// Not both ends have sent SYN and ACK.
     Opening,
@@ -45,11 +45,11 @@ pub enum Phase {
 }
 
 /// Identifies an entry of a table. After the entry's removal another one may get its id.
-#[derive(Clone, Copy, Debug, PartialEq, Eq)]
+#[derive(Clone, Copy, PartialEq, Eq)]
 pub struct ConnId(pub usize);
 
 /// A conntrack entry.
-#[derive(Clone, Copy, Debug, PartialEq, Eq)]
+#[derive(Clone, Copy)]
 pub struct ConntrackEntry {
     /// Its id.
     pub id: ConnId,
@@ -74,7 +74,7 @@ pub struct ConntrackEntry {
 }
 
 /// A connection as it is created, and as it is listed.
-#[derive(Clone, Copy, Debug, PartialEq, Eq)]
+#[derive(Clone, Copy, PartialEq, Eq)]
 pub struct Connection {
     /// The tuple of its incoming packets in direction original.
     pub original: Tuple,
@@ -91,7 +91,7 @@ pub struct Connection {
 }
 
 /// What is handed over of a removed entry.
-#[derive(Clone, Copy, Debug, PartialEq, Eq)]
+#[derive(Clone, Copy)]
 pub struct Aged {
     /// The id that it had.
     pub id: ConnId,

@@ -9,7 +9,7 @@ use std::alloc::Global;
 
 /// The numbers of tables, chains and rules of a ruleset, saturating at `usize::MAX`, which no
 /// accepted text reaches.
-#[derive(Clone, Copy, Debug)]
+#[derive(Clone, Copy)]
 pub struct Counts {
     pub tables: usize,
     pub chains: usize,

@@ -18,7 +18,7 @@ use std::io::{Read, Write};
 use stepping::{Engine, one_entry};
 
 /// The result of a run.
-#[derive(Clone, Copy, Debug)]
+#[derive(Clone, Copy)]
 pub struct Summary {
     /// The number of whole records in the capture.
     pub records: u64,

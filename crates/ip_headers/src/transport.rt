@@ -14,7 +14,7 @@ pub(crate) const TCP: u8 = 6;
 pub(crate) const UDP: u8 = 17;
 
 /// What a packet carries, by its protocol number, with the fields that rules match on.
-#[derive(Clone, Copy, Debug, PartialEq)]
+#[derive(Clone, Copy, PartialEq)]
 pub enum Transport {
     /// A TCP segment (RFC 9293, section 3.1).
     Tcp {

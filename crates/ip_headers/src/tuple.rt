@@ -13,7 +13,7 @@ use byteorder::{BigEndian, ByteOrder};
 use std::hash::{Hash, Hasher};
 
 /// An address and a port (RFC 4787, section 4.1). The port is 0 for kinds without ports.
-#[derive(Clone, Copy, Debug, PartialEq, Eq)]
+#[derive(Clone, Copy, PartialEq, Eq)]
 pub struct Endpoint {
     /// The address in host byte order: the first octet is the most significant byte.
     pub address: u32,
@@ -22,7 +22,7 @@ pub struct Endpoint {
 }
 
 /// A protocol, as far as tuples distinguish it: ports of different kinds are never the same.
-#[derive(Clone, Copy, Debug, PartialEq, Eq)]
+#[derive(Clone, Copy, PartialEq, Eq)]
 pub enum Kind {
     /// TCP.
     Tcp,
@@ -37,7 +37,7 @@ pub enum Kind {
 }
 
 /// A packet's kind, source and destination: what connection tracking identifies it by.
-#[derive(Clone, Copy, Debug, PartialEq, Eq)]
+#[derive(Clone, Copy, PartialEq, Eq)]
 pub struct Tuple {
     /// The protocol.
     pub kind: Kind,
@@ -49,7 +49,7 @@ pub struct Tuple {
 
 /// A NAT mapping: an internal endpoint and the external one that translation puts in its place (RFC
 /// 4787, section 4.1).
-#[derive(Clone, Copy, Debug, PartialEq, Eq)]
+#[derive(Clone, Copy, PartialEq, Eq)]
 pub struct Mapping {
     /// The protocol.
     pub kind: Kind,

@@ -13,7 +13,7 @@ use port_pool::Order;
 use std::hash::{Hash, Hasher};
 
 /// An internal endpoint and an external address. There is one mapping for each at most.
-#[derive(Clone, Copy, Debug, PartialEq, Eq)]
+#[derive(Clone, Copy, PartialEq, Eq)]
 pub(crate) struct SourceKey {
     pub(crate) kind: Kind,
     pub(crate) internal: Endpoint,
@@ -21,21 +21,21 @@ pub(crate) struct SourceKey {
 }
 
 /// An external endpoint. There is one mapping for each at most.
-#[derive(Clone, Copy, Debug, PartialEq, Eq)]
+#[derive(Clone, Copy, PartialEq, Eq)]
 pub(crate) struct InboundKey {
     pub(crate) kind: Kind,
     pub(crate) external: Endpoint,
 }
 
 /// An external address and a kind, which have ports of their own.
-#[derive(Clone, Copy, Debug, PartialEq, Eq)]
+#[derive(Clone, Copy, PartialEq, Eq)]
 pub(crate) struct PoolKey {
     pub(crate) kind: Kind,
     pub(crate) address: u32,
 }
 
 /// The external port of a mapping, and how many holders it has.
-#[derive(Clone, Copy, Debug)]
+#[derive(Clone, Copy)]
 pub(crate) struct MappedPort {
     pub(crate) port: u16,
     pub(crate) holders: usize,

@@ -9,7 +9,7 @@ use byteorder::{BigEndian, ByteOrder};
 const IPV4: u16 = 0x0800;
 
 /// What a link header says of its record.
-#[derive(Clone, Copy, Debug, PartialEq, Eq)]
+#[derive(Clone, Copy)]
 pub struct Link {
     /// The packet's offset in the record's bytes.
     pub packet: usize,
@@ -18,7 +18,7 @@ pub struct Link {
 }
 
 /// Why a record carries no packet for the box.
-#[derive(Clone, Copy, Debug, PartialEq, Eq)]
+#[derive(Clone, Copy)]
 pub enum LinkCause {
     /// Fewer bytes than the link header has.
     Short,

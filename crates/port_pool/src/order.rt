@@ -1,7 +1,7 @@
 //! The kind of a pool's numbers.
 
 /// The kind of a pool's numbers.
-#[derive(Clone, Copy, Debug, PartialEq, Eq)]
+#[derive(Clone, Copy)]
 pub enum Order {
     /// Ports of TCP or UDP: 1 to 65535, by class and parity.
     Ports,

@@ -8,7 +8,7 @@ ghost use Rattle.port_pool.specs.steps.Spans.{matches_parity, members, HasParity
 use crate::range::CandidateRange;
 
 /// A parity, or any.
-#[derive(Clone, Copy, Debug)]
+#[derive(Clone, Copy)]
 pub(crate) enum Parity {
     All,
     Even,
@@ -16,7 +16,7 @@ pub(crate) enum Parity {
 }
 
 /// The numbers from `low` to `high` with this parity.
-#[derive(Clone, Copy, Debug)]
+#[derive(Clone, Copy)]
 pub(crate) struct Span {
     pub(crate) low: u16,
     pub(crate) high: u16,

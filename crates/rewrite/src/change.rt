@@ -5,7 +5,7 @@ ghost use Rattle.rewrite.specs.Endpoints.{between, ports_or_identifier};
 use ip_headers::{Kind, Tuple};
 
 /// What identifies the endpoints of a packet besides the addresses.
-#[derive(Clone, Copy, Debug, PartialEq, Eq)]
+#[derive(Clone, Copy)]
 pub enum PortsOrIdentifier {
     /// TCP and UDP: the source port and the destination port.
     Ports(u16, u16),
@@ -14,7 +14,7 @@ pub enum PortsOrIdentifier {
 }
 
 /// Header fields to replace. `None` leaves a field as it is.
-#[derive(Clone, Copy, Debug, PartialEq, Eq)]
+#[derive(Clone, Copy)]
 pub struct Change {
     /// The source address in host byte order.
     pub source: Option<u32>,

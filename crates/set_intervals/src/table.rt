@@ -14,7 +14,7 @@ use std::alloc::{AllocError, Global};
 use std::marker::Model;
 
 /// A map from numbers to values, kept as disjoint intervals.
-#[derive(Debug, Drop)]
+#[derive(Drop)]
 pub struct Intervals<V> {
     /// Disjoint and ascending; adjacent pieces have different values.
     pieces: Vec<(Range, V)>,

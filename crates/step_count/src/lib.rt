@@ -11,7 +11,7 @@ ghost use Rattle.step_count.specs.StepCounts.{Counts};
 use std::marker::Model;
 
 /// How many slots were visited, saturated at the greatest `u64`.
-#[derive(Debug, Drop)]
+#[derive(Drop)]
 pub struct Steps {
     count: u64,
 }

@@ -16,14 +16,14 @@ ghost use Rattle.word_hash.specs.WordHash.{after_word, after_write, finished, in
 use std::hash::{BuildHasher, Hasher, RandomState};
 
 /// What is added to the halves of a word.
-#[derive(Clone, Copy, Debug)]
+#[derive(Clone, Copy)]
 pub struct HalfKeys {
     low: u64,
     high: u64,
 }
 
 /// A sum of products, and the keys of the next word and of those after it.
-#[derive(Clone, Copy, Debug)]
+#[derive(Clone, Copy)]
 pub struct WordHasher {
     sum: u64,
     next: HalfKeys,
@@ -31,7 +31,7 @@ pub struct WordHasher {
 }
 
 /// The keys with which a table's hashers begin.
-#[derive(Clone, Copy, Debug)]
+#[derive(Clone, Copy)]
 pub struct WordState {
     summand: u64,
     first: HalfKeys,
