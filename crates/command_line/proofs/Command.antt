@@ -25,7 +25,11 @@ use Rattle.clap.specs.declared.parser.matches.ValueSource.TheVariants.{CommandLi
 use Rattle.clap.proofs.WalkLemmas.{bundle_ends}
 use Rattle.clap.proofs.FaultLemmas.{fault_ends}
 use Rattle.command_line.specs.steps.Program.{flag_rule, path_rule, report_rule}
-use Rattle.command_line.proofs.Words.{Each, Pairs, Seen, has_no_short}
+use Rattle.command_line.proofs.Words.{Pairs, Seen, has_no_short}
+
+abbrev pub Each : (Text → Type 0) → List Text → Type 0
+Each P [] = Unit {0}
+Each P (word ∷ rest) = P word × Each P rest
 
 -- ---- rows: one for each argument that was used, in the order of the words
 
@@ -300,6 +304,7 @@ pub record IsCommand (c : Form) : Type 0 where
   pub longs : (name : Text) → arg_by_long c.rules name ≡ option_by c.has_flag c.has_file c.flag name
   pub report : arg_by_id c.rules (codes "report") ≡ cond c.has_file (Some report_filled) None
   pub paths : Paths c.rules c.flag 1 c.ids
+  pub long : long_of (45 ∷ 45 ∷ c.flag) ≡ Some (c.flag, None)
   pub apart : (bytes_eq c.flag (codes "report") ≡ false) × (bytes_eq (codes "report") c.flag ≡ false)
   pub defaults : Defaults c
   pub required : (rows : List Row) → list_any (λ a. a.required && not (is_given a.id rows)) c.rules ≡ lacks rows c.ids

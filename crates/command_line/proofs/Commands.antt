@@ -9,7 +9,6 @@ use Rattle.std.proofs.lemmas.Slice.Eq.{bytes_eq-Decides}
 use Rattle.clap.specs.Faults.{check_fault, defaults_fault, entered_fault, fault_of, level_fault, other_fault, settle_fault, stray_fault, turn_fault}
 use Rattle.clap.specs.Faults.{walk_fault}
 use Rattle.clap.specs.Kinds.{Kinds, or_else}
-use Rattle.clap.specs.Lexer.{long_of}
 use Rattle.clap.specs.Simple.{App, Shape, built, entered, names_of, new_shape, subcommand_of}
 use Rattle.clap.specs.Walk.{Names, Row, Text, Walk, arg_by_long, finished, idle, nothing_held, rows_after, settled, subcommand_met, walked}
 use Rattle.clap.specs.declared.error.kind.ErrorKind.TheVariants.{InvalidSubcommand, UnknownArgument}
@@ -170,7 +169,6 @@ enters c program rest goes faults ends met =
 pub record IsSubcommand (c : Form) : Type 0 where
   pub command : IsCommand c
   pub begins : Fits c [] [] c.ids c.met c.file
-  pub long : long_of (45 ∷ 45 ∷ c.flag) ≡ Some (c.flag, None)
   pub enters : (program : Text) (rest : List Text) → Enters c program rest
 
 pub run_sub : IsSubcommand run_form
@@ -178,7 +176,6 @@ unfolding clap_on_literals
 run_sub = record {
   command = search (rules, run_defaults);
   begins = search rules;
-  long = refl;
   enters = λ program rest. enters run_form program rest refl refl refl refl;
 }
 
@@ -187,7 +184,6 @@ unfolding clap_on_literals
 check_sub = record {
   command = search (rules, all_longs, check_defaults, check_paths);
   begins = search rules;
-  long = refl;
   enters = λ program rest. enters check_form program rest refl refl refl refl;
 }
 
@@ -196,7 +192,6 @@ unfolding clap_on_literals
 explain_sub = record {
   command = search (rules, no_longs, explain_defaults);
   begins = search rules;
-  long = refl;
   enters = λ program rest. enters explain_form program rest refl refl refl refl;
 }
 

@@ -1,5 +1,5 @@
 -- The pass over the words finds what the definitions of the command line say.
-use Rattle.std.proofs.Common.{◌&&◌, ◌==◌, ◌∙◌, ◌∷◌, ◌≡◌, [], ℕ, Bool, List, None, Option, Some, ap, codes, cond, false, length, refl, sym, true}
+use Rattle.std.proofs.Common.{◌&&◌, ◌==◌, ◌∙◌, ◌∷◌, ◌≡◌, [], ℕ, Bool, List, None, Option, Some, ap, codes, cond, false, length, refl, sym, true, true≢false}
 use Rattle.std.specs.Prelude.{slice_get}
 use Rattle.std.specs.Option.{option_map_or}
 use Rattle.std.specs.Str.{bytes_eq}
@@ -9,8 +9,8 @@ use Rattle.clap.specs.Walk.{Text}
 use Rattle.clap.proofs.WalkLemmas.{both}
 use Rattle.command_line.specs.CommandLine.{AreTexts, are_operands, are_plain, as_report, has_flag, is_plain_word, names_file, names_file_by, operands}
 use Rattle.command_line.specs.CommandLine.{report_of, without_flag, without_report}
-use Rattle.command_line.proofs.Words.{Each, Kind, Means, Pairs, Place, Seen, after, at_end, before, dashes, filed, flagged, is_taken, kind, kind_by}
-use Rattle.command_line.proofs.Words.{means, naming, odd, operand, operand_met, plain_taken, scan, taken_bare, taken_plain, word_met}
+use Rattle.command_line.proofs.Words.{Apart, Later, Pairs, Place, Seen, after, at_end, before, is_taken, naming, operand_met, plain_taken, scan}
+use Rattle.command_line.proofs.Words.{taken_bare, taken_plain, word_apart, word_met}
 
 -- as many operands as are left
 abbrev pub match_up : List Text → List Text → Bool
@@ -89,36 +89,40 @@ module _ (is_operand : Text → Bool) (flag : Text) where
   no_more true false = refl
   no_more false p = refl
 
-  by_kind : (word : Text) (rest : List Text) (k : Kind) → Means is_operand flag word k
+  by_word : (word : Text) (rest : List Text) (d f : Bool) (r : Option (Option Text)) (a : Bool) → bytes_eq word (codes "--") ≡ d
+      → bytes_eq word (45 ∷ 45 ∷ flag) ≡ f → as_report word ≡ r → is_operand word ≡ a → Apart f r a
       → (done : Pairs) (left : List Text) (met : Bool) (file : Option Text)
-      → word_met k word done left met file (meaning rest) ≡ with_file done left met file (word ∷ rest)
-  by_kind word rest dashes is done left true (Some f) = simp is
-  by_kind word rest dashes is done left false (Some f) = simp is
-  by_kind word rest dashes is done left met file = simp is
-  by_kind word rest flagged is done left true (Some f) = simp (is.0, is.3)
-  by_kind word rest flagged is done left false (Some f) = simp (is.0, is.1)
-  by_kind word rest flagged is done left true None = simp (is.0, is.2, is.3) (no_more (names_by is_operand rest) true)
-  by_kind word rest flagged is done left false None = simp (is.0, is.1, is.2)
-  by_kind word rest (filed value) is done left true (Some f) = simp (is.0, is.3)
-  by_kind word rest (filed value) is done left false (Some f) = simp (is.0, is.1, is.3)
-  by_kind word rest (filed (Some x)) is done left true None = simp (is.0, is.2)
-  by_kind word rest (filed (Some x)) is done left false None = simp (is.0, is.2)
-  by_kind word [] (filed None) is done left true None = simp (is.0, is.2)
-  by_kind word [] (filed None) is done left false None = simp (is.0, is.2)
-  by_kind word (next ∷ rest) (filed None) is done left true None = simp (is.0, is.2)
-  by_kind word (next ∷ rest) (filed None) is done left false None = simp (is.0, is.2)
-  by_kind word rest operand is done [] true (Some f) = simp (is.0, is.3) (no_more true (plain_by is_operand rest))
-  by_kind word rest operand is done [] false (Some f) = simp (is.0, is.1, is.3) (no_more true _)
-  by_kind word rest operand is done [] true None = simp (is.0, is.2, is.3) (no_more (names_by is_operand rest) _)
-  by_kind word rest operand is done [] false None = simp (is.0, is.1, is.2, is.3) (no_more (names_by is_operand rest) _)
-  by_kind word rest operand is done (id ∷ left) true (Some f) = simp (is.0, is.3)
-  by_kind word rest operand is done (id ∷ left) false (Some f) = simp (is.0, is.1, is.3)
-  by_kind word rest operand is done (id ∷ left) true None = simp (is.0, is.2, is.3)
-  by_kind word rest operand is done (id ∷ left) false None = simp (is.0, is.1, is.2, is.3)
-  by_kind word rest odd is done left true (Some f) = simp (is.0, is.3)
-  by_kind word rest odd is done left false (Some f) = simp (is.0, is.1, is.3)
-  by_kind word rest odd is done left true None = simp (is.0, is.2, is.3) (no_more (names_by is_operand rest) true)
-  by_kind word rest odd is done left false None = simp (is.0, is.1, is.2, is.3) (no_more (names_by is_operand rest) true)
+      → word_met d f r a word done left met file (meaning rest) ≡ with_file done left met file (word ∷ rest)
+  by_word word rest true g r a ed ef er ea apart done left true (Some f) = simp ed
+  by_word word rest true g r a ed ef er ea apart done left false (Some f) = simp ed
+  by_word word rest true g r a ed ef er ea apart done left met file = simp ed
+  by_word word rest false true (Some v) a ed ef er ea apart done left met file = absurd (true≢false (sym apart))
+  by_word word rest false true None true ed ef er ea apart done left met file = absurd (true≢false (sym apart))
+  by_word word rest false true None false ed ef er ea apart done left true (Some f) = simp (ed, ea)
+  by_word word rest false true None false ed ef er ea apart done left false (Some f) = simp (ed, ef)
+  by_word word rest false true None false ed ef er ea apart done left true None = simp (ed, er, ea) (no_more (names_by is_operand rest) true)
+  by_word word rest false true None false ed ef er ea apart done left false None = simp (ed, ef, er)
+  by_word word rest false false (Some v) true ed ef er ea apart done left met file = absurd (true≢false (sym apart))
+  by_word word rest false false (Some value) false ed ef er ea apart done left true (Some f) = simp (ed, ea)
+  by_word word rest false false (Some value) false ed ef er ea apart done left false (Some f) = simp (ed, ef, ea)
+  by_word word rest false false (Some (Some x)) false ed ef er ea apart done left true None = simp (ed, er)
+  by_word word rest false false (Some (Some x)) false ed ef er ea apart done left false None = simp (ed, er)
+  by_word word [] false false (Some None) false ed ef er ea apart done left true None = simp (ed, er)
+  by_word word [] false false (Some None) false ed ef er ea apart done left false None = simp (ed, er)
+  by_word word (next ∷ rest) false false (Some None) false ed ef er ea apart done left true None = simp (ed, er)
+  by_word word (next ∷ rest) false false (Some None) false ed ef er ea apart done left false None = simp (ed, er)
+  by_word word rest false false None true ed ef er ea apart done [] true (Some f) = simp (ed, ea) (no_more true (plain_by is_operand rest))
+  by_word word rest false false None true ed ef er ea apart done [] false (Some f) = simp (ed, ef, ea) (no_more true _)
+  by_word word rest false false None true ed ef er ea apart done [] true None = simp (ed, er, ea) (no_more (names_by is_operand rest) _)
+  by_word word rest false false None true ed ef er ea apart done [] false None = simp (ed, ef, er, ea) (no_more (names_by is_operand rest) _)
+  by_word word rest false false None true ed ef er ea apart done (id ∷ left) true (Some f) = simp (ed, ea)
+  by_word word rest false false None true ed ef er ea apart done (id ∷ left) false (Some f) = simp (ed, ef, ea)
+  by_word word rest false false None true ed ef er ea apart done (id ∷ left) true None = simp (ed, er, ea)
+  by_word word rest false false None true ed ef er ea apart done (id ∷ left) false None = simp (ed, ef, er, ea)
+  by_word word rest false false None false ed ef er ea apart done left true (Some f) = simp (ed, ea)
+  by_word word rest false false None false ed ef er ea apart done left false (Some f) = simp (ed, ef, ea)
+  by_word word rest false false None false ed ef er ea apart done left true None = simp (ed, er, ea) (no_more (names_by is_operand rest) true)
+  by_word word rest false false None false ed ef er ea apart done left false None = simp (ed, ef, er, ea) (no_more (names_by is_operand rest) true)
 
   at_the_end : (done : Pairs) (left : List Text) (met : Bool) (file : Option Text)
       → at_end done left met file ≡ counted done left met file []
@@ -130,7 +134,7 @@ module _ (is_operand : Text → Bool) (flag : Text) where
   after_dashes word rest done [] met file = refl
   after_dashes word rest done (id ∷ left) met file = refl
 
-  module _ (kinds : (word : Text) → Means is_operand flag word (kind is_operand flag word)) where
+  module _ (apart : (word : Text) → Apart (bytes_eq word (45 ∷ 45 ∷ flag)) (as_report word) (is_operand word)) where
     pub scan_means : (words : List Text) (place : Place) (done : Pairs) (left : List Text) (met : Bool) (file : Option Text)
         → scan is_operand flag words place done left met file ≡ meaning words place done left met file
     scan_means [] before done left true (Some f) = at_the_end done left true (Some f)
@@ -139,8 +143,9 @@ module _ (is_operand : Text → Bool) (flag : Text) where
     scan_means [] after done left met file = at_the_end done left met file
     scan_means [] naming done left met file = refl
     scan_means (word ∷ rest) before done left met file =
-        (λ j. word_met (kind is_operand flag word) word done left met file (λ p d l m f. scan_means rest p d l m f j))
-        ∙ by_kind word rest (kind is_operand flag word) (kinds word) done left met file
+        (λ j. word_met (bytes_eq word (codes "--")) (bytes_eq word (45 ∷ 45 ∷ flag)) (as_report word) (is_operand word) word
+        done left met file (λ p d l m f. scan_means rest p d l m f j))
+        ∙ by_word word rest _ _ _ _ refl refl refl refl (apart word) done left met file
     scan_means (word ∷ rest) after done left met file =
         (λ j. operand_met word after done left met file (λ p d l m f. scan_means rest p d l m f j))
         ∙ after_dashes word rest done left met file
@@ -149,50 +154,44 @@ module _ (is_operand : Text → Bool) (flag : Text) where
 
 -- ---- another test of operands
 
-module _ (p q : Text → Bool) where
-  -- tests that agree on the words find the same
-  scan_same : (flag : Text) (words : List Text) → Each (λ word. p word ≡ q word) words
-      → (place : Place) (done : Pairs) (left : List Text) (met : Bool) (file : Option Text)
-      → scan p flag words place done left met file ≡ scan q flag words place done left met file
-  scan_same flag [] each before done left met file = refl
-  scan_same flag [] each after done left met file = refl
-  scan_same flag [] each naming done left met file = refl
-  scan_same flag (word ∷ rest) each before done left met file = λ j.
-      word_met (cond (bytes_eq word (codes "--")) dashes (kind_by flag (long_of word) (each.0 j))) word done left met file
-      (λ place d l m f. scan_same flag rest each.1 place d l m f j)
-  scan_same flag (word ∷ rest) each after done left met file = λ j.
-      operand_met word after done left met file (λ place d l m f. scan_same flag rest each.1 place d l m f j)
-  scan_same flag (word ∷ rest) each naming done left met file = λ j.
-      cond (each.0 j) (scan_same flag rest each.1 before done left met (Some word) j) None
-
-  module _ (passes : (word : Text) → p word ≡ true → q word ≡ true) where
-    plain_passes : (words : List Text) → plain_by p words ≡ true → plain_by q words ≡ true
-    plain_passes [] e = refl
-    plain_passes (word ∷ rest) e = go (bytes_eq word (codes "--")) e (plain_passes rest)
-      where
-        go : (d : Bool) → cond d true (p word && plain_by p rest) ≡ true → (plain_by p rest ≡ true → plain_by q rest ≡ true)
-            → cond d true (q word && plain_by q rest) ≡ true
-        go true f more = refl
-        go false f more = let parts = both (p word) (plain_by p rest) f in λ j. passes word parts.0 j && more parts.1 j
-
-    names_pass : (words : List Text) → names_by p words ≡ true → names_by q words ≡ true
-    names_pass [] e = refl
-    names_pass (word ∷ rest) e = go (bytes_eq word (codes "--")) (as_report word) e (names_pass rest)
-      where
-        next_passes : (o : Option Text) → option_map_or p o false ≡ true → option_map_or q o false ≡ true
-        next_passes None f = f
-        next_passes (Some next) f = passes next f
-
-        go : (d : Bool) (o : Option (Option Text)) → cond d true (name_by p o rest (names_by p rest)) ≡ true
-            → (names_by p rest ≡ true → names_by q rest ≡ true) → cond d true (name_by q o rest (names_by q rest)) ≡ true
-        go true o f more = refl
-        go false None f more = more f
-        go false (Some None) f more = next_passes (slice_get rest 0) f
-        go false (Some (Some file)) f more = refl
-
-    named_passes : (file : Option Text) (words : List Text) → names_of p file words ≡ true → names_of q file words ≡ true
-    named_passes None words e = names_pass words e
-    named_passes (Some f) words e = refl
+-- where each word that passes one test passes the other
+module _ (p q : Text → Bool) (flag : Text) (P : List Text → Type 0)
+    (passes : (word : Text) (rest : List Text) → P (word ∷ rest) → (p word ≡ true → q word ≡ true) × P rest) where
+  scan_passes : (words : List Text) → P words → (place : Place) (done : Pairs) (left : List Text) (met : Bool) (file : Option Text) (seen : Seen)
+      → scan p flag words place done left met file ≡ Some seen → scan q flag words place done left met file ≡ Some seen
+  scan_passes [] each before done left met file seen e = e
+  scan_passes [] each after done left met file seen e = e
+  scan_passes (word ∷ rest) each after done [] met file seen e = e
+  scan_passes (word ∷ rest) each after done (id ∷ left) met file seen e =
+      scan_passes rest (passes word rest each).1 after ((id, word) ∷ done) left met file seen e
+  scan_passes [] each naming done left met file seen e = e
+  scan_passes (word ∷ rest) each naming done left met file seen e =
+      go (p word) (q word) (passes word rest each).0 (scan_passes rest (passes word rest each).1 before done left met (Some word) seen) e
+    where
+      go : (a b : Bool) → (a ≡ true → b ≡ true) → {x y : Option Seen} → (x ≡ Some seen → y ≡ Some seen) → cond a x None ≡ Some seen
+          → cond b y None ≡ Some seen
+      go true true pass more e = more e
+      go true false pass more e = absurd (true≢false (sym (pass refl)))
+      go false b pass more e = cc
+  scan_passes (word ∷ rest) each before done left met file seen e = go (bytes_eq word (codes "--")) (bytes_eq word (45 ∷ 45 ∷ flag))
+      (as_report word) (p word) (q word) (passes word rest each).0 left met file
+      (λ place done left met file. scan_passes rest (passes word rest each).1 place done left met file seen) e
+    where
+      go : (d f : Bool) (r : Option (Option Text)) (a b : Bool) → (a ≡ true → b ≡ true) → (left : List Text) (met : Bool) (file : Option Text)
+          → ((place : Place) (done : Pairs) (left : List Text) (met : Bool) (file : Option Text)
+          → scan p flag rest place done left met file ≡ Some seen → scan q flag rest place done left met file ≡ Some seen)
+          → word_met d f r a word done left met file (scan p flag rest) ≡ Some seen
+          → word_met d f r b word done left met file (scan q flag rest) ≡ Some seen
+      go true f r a b pass left met file more e = more after done left met file e
+      go false true r a b pass left true file more e = cc
+      go false true r a b pass left false file more e = more before done left true file e
+      go false false (Some v) a b pass left met (Some f) more e = cc
+      go false false (Some None) a b pass left met None more e = more naming done left met None e
+      go false false (Some (Some f)) a b pass left met None more e = more before done left met (Some f) e
+      go false false None true true pass [] met file more e = cc
+      go false false None true true pass (id ∷ left) met file more e = more before ((id, word) ∷ done) left met file e
+      go false false None true false pass left met file more e = absurd (true≢false (sym (pass refl)))
+      go false false None false b pass left met file more e = cc
 
 -- ---- the definitions of the command line
 
@@ -219,10 +218,6 @@ parts true true false s m e = cc
 parts true false c s m e = cc
 parts false b c s m e = cc
 
-texts_alike : (words : List Text) → AreTexts words → Each (λ word. is_taken word ≡ is_plain_word word) words
-texts_alike [] each = tt
-texts_alike (word ∷ rest) each = (taken_plain word each.0, texts_alike rest each.1)
-
 -- the report's option names a file
 abbrev pub is_named : Option Text → List Text → Bool
 is_named None words = names_file words
@@ -243,7 +238,7 @@ module _ (flag : Text) (long : long_of (45 ∷ 45 ∷ flag) ≡ Some (flag, None
       × (match_up (operands (words_of flag met file rest)) left ≡ true) × (said ≡ seen)
   scan_parts p bare seen found = parts (names_of p file rest) (plain_by p (words_of flag met file rest))
       (match_up (operands (words_of flag met file rest)) left) said seen
-      (sym (scan_means p flag (means p flag long apart bare) rest before [] left met file) ∙ found)
+      (sym (scan_means p flag (word_apart flag long p apart bare) rest before [] left met file) ∙ found)
 
   -- what the pass finds is what the words say
   pub found_is : (seen : Seen) → scan is_taken flag rest before [] left met file ≡ Some seen
@@ -256,7 +251,8 @@ module _ (flag : Text) (long : long_of (45 ∷ 45 ∷ flag) ≡ Some (flag, None
   found_formed n count seen found texts =
       let words = words_of flag met file rest in
       let is = scan_parts is_plain_word (λ word e. taken_bare word (plain_taken word e)) seen
-      (sym (scan_same is_taken is_plain_word flag rest (texts_alike rest texts) before [] left met file) ∙ found) in
+      (scan_passes is_taken is_plain_word flag AreTexts (λ word more texts. (λ e. sym (taken_plain word texts.0) ∙ e, texts.1))
+      rest texts before [] left met file seen found) in
       λ j. (sym (named_all file rest) ∙ is.0) j && ((sym (plain_all words) ∙ is.1) j
       && (sym (matched (operands words) left ∙ ap (λ k. length (operands words) == k) count) ∙ is.2) j)
 
@@ -268,7 +264,7 @@ module _ (flag : Text) (long : long_of (45 ∷ 45 ∷ flag) ≡ Some (flag, None
       let p = both (is_named file rest) (are_operands n words) e in
       let q = both (are_plain words) (length (operands words) == n) p.1 in
       let matches = matched (operands words) left ∙ ap (λ k. length (operands words) == k) count ∙ q.1 in
-      scan_means is_taken flag (means is_taken flag long apart taken_bare) rest before [] left met file
-      ∙ (λ j. cond (named_passes is_plain_word is_taken plain_taken file rest (named_all file rest ∙ p.0) j)
-      (cond (plain_passes is_plain_word is_taken plain_taken words (plain_all words ∙ q.0) j)
-      (cond (matches j) (Some said) None) None) None)
+      scan_passes is_plain_word is_taken flag (λ _. Unit {0}) (λ word more _. (plain_taken word, tt)) rest tt before [] left met file said
+      (scan_means is_plain_word flag (word_apart flag long is_plain_word apart (λ word e. taken_bare word (plain_taken word e))) rest before
+      [] left met file ∙ (λ j. cond ((named_all file rest ∙ p.0) j) (cond ((plain_all words ∙ q.0) j)
+      (cond (matches j) (Some said) None) None) None))

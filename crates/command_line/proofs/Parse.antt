@@ -23,8 +23,8 @@ use Rattle.command_line.proofs.Command.{AsksHelp, Fits, Form, Gives, Holds, IsCo
 use Rattle.command_line.proofs.Command.{by_word, first_nil, fits_file, fits_flag, fits_path, flag_filled, flag_of, has_row-at, help, holds_more}
 use Rattle.command_line.proofs.Command.{idle_walk, kept, lacks, leaf, new_row, newly, not_nil, place_of, report_filled, row, row_at, set_row}
 use Rattle.command_line.proofs.Command.{shown_long, shown_short, source_of, then_nil, unset_row, walk_with}
-use Rattle.command_line.proofs.Words.{Kind, Pairs, Place, Seen, after, at_end, before, dashes, filed, flagged, is_taken, kind, kind_by, long_kind}
-use Rattle.command_line.proofs.Words.{naming, operand_met, scan, word_met}
+use Rattle.command_line.specs.CommandLine.{as_report, report_option}
+use Rattle.command_line.proofs.Words.{Pairs, Place, Seen, after, at_end, before, flag_word, is_flag, is_taken, naming, operand_met, scan, word_met}
 
 -- ---- faults
 
@@ -322,8 +322,8 @@ module _ (c : Form) (is : IsCommand c) where
     abbrev w : Walk
     w = idle_walk (at rows pending) p false
 
-    abbrev After : Kind → Bool → Option Text → Type 0
-    After k met file = Answers w (word ∷ rest) (word_met k word done left met file (scan is_taken c.flag rest))
+    abbrev After : Bool → Bool → Option (Option Text) → Bool → Bool → Option Text → Type 0
+    After d f r a met file = Answers w (word ∷ rest) (word_met d f r a word done left met file (scan is_taken c.flag rest))
 
     abbrev Turned : Option Text → Option Rule → Type 0
     Turned v a = let m = clap_long_met c.rules a v (at rows pending) in
@@ -348,7 +348,7 @@ module _ (c : Form) (is : IsCommand c) where
         (then_nil (settle_fault c.rules false (at rows pending)) _ (first_nil _ _ (sym turn.0 ∙ e))))
 
     flag_met : (met : Bool) (file : Option Text) → fits so_far done left met file → Turned None (Some (flag_filled c.flag))
-        → c.has_flag ≡ true → After flagged met file
+        → c.has_flag ≡ true → After false true None false met file
     flag_met true file known turn so =
         once_more c.flag (set_row c.flag).reading (codes "true" ∷ []) (set_row c.flag) turn (known.flagged so)
     flag_met false file known turn so =
@@ -357,7 +357,7 @@ module _ (c : Form) (is : IsCommand c) where
         (fits_flag c so_far done left false file so (is.apart.0, (others left p paths).0) known))
 
     file_met : (v : Option Text) (met : Bool) (file : Option Text) → fits so_far done left met file → Turned v (Some report_filled)
-        → c.has_file ≡ true → After (filed v) met file
+        → c.has_file ≡ true → After false false (Some v) false met file
     file_met None met (Some g) known turn so =
         passes w (waits so_far p) word rest None (turn.0 ∙ ap (λ k. or_else k []) stands) turn.1
         (twice g rest left p so_far so (known.filed so) paths)
@@ -379,12 +379,12 @@ module _ (c : Form) (is : IsCommand c) where
         → Turned v (let other = cond (bytes_eq (codes "help") name || false) (Some help) None in
         let file = cond (r || false) (cond hr (Some report_filled) other) other in
         cond (f || false) (cond hf (Some (flag_filled c.flag)) file) file)
-        → (met : Bool) (file : Option Text) → fits so_far done left met file → After (long_kind f r v) met file
-    long_answers name None true f r re true hf hr hre turn met file known = flag_met met file known turn hf
-    long_answers name (Some x) true f r re true hf hr hre turn met file known =
-        stops w word rest (λ e. not_nil _ _ (sym turn.0 ∙ e))
-    long_answers name v true f true re false hf hr hre turn met file known =
+        → (met : Bool) (file : Option Text) → fits so_far done left met file → After false (f && not (is_some v)) (cond r (Some v) None) false met file
+    long_answers name v true f true re hf hfe hr hre turn met file known =
         absurd (true≢false (sym re ∙ ap (bytes_eq (codes "report")) (sym ((bytes_eq-Decides c.flag name).0 f)) ∙ is.apart.1))
+    long_answers name None true f false re true hf hr hre turn met file known = flag_met met file known turn hf
+    long_answers name (Some x) true f false re true hf hr hre turn met file known =
+        stops w word rest (λ e. not_nil _ _ (sym turn.0 ∙ e))
     long_answers name None true f false re false hf hr hre turn true file known = no_option _ None turn
     long_answers name None true f false re false hf hr hre turn false file known = absurd (true≢false (sym (known.unflagged hf)))
     long_answers name (Some x) true f false re false hf hr hre turn met file known = no_option _ (Some x) turn
@@ -394,15 +394,17 @@ module _ (c : Form) (is : IsCommand c) where
     long_answers name v false f false re hf hfe hr hre turn met file known = no_option _ v turn
 
     word_answers : (met : Bool) (file : Option Text) → fits so_far done left met file → Go true rest
-        → After (kind is_taken c.flag word) met file
-    word_answers met file known trails = by_word s asks [] idle rows pending p word refl
-        (λ d q b. After (cond d dashes (kind_by c.flag q (not d && (not (is_some q) && b)))) met file)
+        → After (bytes_eq word (codes "--")) (bytes_eq word (45 ∷ 45 ∷ c.flag)) (as_report word) (is_taken word) met file
+    word_answers met file known trails =
+        subst (λ (f : Bool). After (bytes_eq word (codes "--")) f (as_report word) (is_taken word) met file) (sym (flag_word c.flag is.long word))
+        (by_word s asks [] idle rows pending p word refl
+        (λ d q b. After d (is_flag c.flag q) (report_option q) (not d && (not (is_some q) && b)) met file)
         (λ q b turn. passes w (idle_walk (at rows pending) p true) word rest _ turn.0 turn.1
         (trails done left met file p rows pending paths stands known))
         (λ q b turn. long_answers q.0 q.1 (bytes_eq c.flag q.0) refl (bytes_eq (codes "report") q.0) refl c.has_flag refl
         c.has_file refl (subst (Turned q.1) (is.longs q.0) turn) met file known)
         (λ turn. operand_answers false word rest done left met file p rows pending turn.0 turn.1 paths stands known goes_on)
-        (λ fails. stops w word rest fails)
+        (λ fails. stops w word rest fails))
 
   mutual
     unfolding walked walk_fault

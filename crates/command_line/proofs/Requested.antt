@@ -45,7 +45,7 @@ words_fit c is n count program name rest e =
     let p = both (bytes_eq name c.name) (is_named c.file rest && are_operands n (words_of c.flag c.met c.file rest)) e in
     subst (λ (t : Text). fault_of program_app (program ∷ t ∷ rest) ≡ []) (sym ((bytes_eq-Decides name c.name).0 p.0))
     (found_passes c is program rest (seen_of c.flag [] c.ids c.met c.file rest)
-    (formed_found c.flag is.long is.command.apart.1 rest c.ids c.met c.file n count p.1))
+    (formed_found c.flag is.command.long is.command.apart.1 rest c.ids c.met c.file n count p.1))
 
 pub words_pass : (words : List Text) → is_well_formed words ≡ true → fault_of program_app words ≡ []
 words_pass [] e = absurd (true≢false (sym e))
@@ -180,7 +180,7 @@ module _ (words : List Text) (name : Text) (f : Found) (got : HasRead words name
     ops = operands (words_of c.flag c.met c.file got.1)
 
     found : (match_up ops c.ids ≡ true) × (seen_of c.flag [] c.ids c.met c.file got.1 ≡ t.1.0)
-    found = found_is c.flag is.long is.command.apart.1 got.1 c.ids c.met c.file t.1.0 t.1.1
+    found = found_is c.flag is.command.long is.command.apart.1 got.1 c.ids c.met c.file t.1.0 t.1.1
 
     holds : Holds (rows_of f) (pairs [] c.ids ops)
     holds = subst (λ (m : Seen). Holds (rows_of f) m.0) (sym found.1) t.1.2.holds
@@ -191,7 +191,7 @@ module _ (words : List Text) (name : Text) (f : Found) (got : HasRead words name
     -- texts in which the pass finds something are well-formed
     formed : (n : ℕ) → length c.ids ≡ n → AreTexts got.1
         → (is_named c.file got.1 && are_operands n (words_of c.flag c.met c.file got.1)) ≡ true
-    formed n count = found_formed c.flag is.long is.command.apart.1 got.1 c.ids c.met c.file n count t.1.0 t.1.1
+    formed n count = found_formed c.flag is.command.long is.command.apart.1 got.1 c.ids c.met c.file n count t.1.0 t.1.1
 
     paths_are : (vs : List Text) → Firsts f c.ids vs → ops ≡ vs
     paths_are vs all = (firsts f [] c.ids ops vs found.0 holds all).0

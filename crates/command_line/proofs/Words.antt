@@ -1,6 +1,6 @@
 -- What a word of a command line is: how clap reads it, in one pass over the words of a subcommand (`scan`),
 -- and how the definitions of the command line do.
-use Rattle.std.proofs.Common.{◌&&◌, ◌==◌, ◌∙◌, ◌∷◌, ◌≡◌, [], ℕ, Bool, List, None, Option, Some, ap, arith, codes, cond, eq-eqb, eqb-true, false}
+use Rattle.std.proofs.Common.{◌&&◌, ◌==◌, ◌||◌, ◌∙◌, ◌∷◌, ◌≡◌, [], ℕ, Bool, List, None, Option, Some, ap, arith, codes, cond, eq-eqb, eqb-true, false}
 use Rattle.std.proofs.Common.{get_or, is_some, length, not, refl, subst, suc, sym, true, true≢false}
 use Rattle.std.specs.Prelude.{option_and_then, slice_get, unwrap_or}
 use Rattle.std.specs.Option.{option_map_or}
@@ -13,29 +13,17 @@ use Rattle.std.proofs.lemmas.Str.{chars_past_char, encodes-chars}
 use Rattle.std.proofs.lemmas.List.Folds.{list_any_at}
 use Rattle.clap.specs.Lexer.{has_byte, long_of, long_of_rest, short_of, short_of_rest, strip_byte}
 use Rattle.clap.specs.Walk.{Text}
+use Rattle.clap.proofs.WalkLemmas.{both}
 use Rattle.clap.proofs.CutLemmas.{before_first-Lacks}
 use Rattle.command_line.specs.CommandLine.{as_report, is_plain_word, report_option}
 
 -- ---- the pass
-
-abbrev pub Each : (Text → Type 0) → List Text → Type 0
-Each P [] = Unit {0}
-Each P (word ∷ rest) = P word × Each P rest
 
 -- where a word stands: before any `--`, after one, or behind `--report`
 pub data Place : Type 0 where
   before : Place
   after : Place
   naming : Place
-
--- what a word before any `--` is: `--` itself, the flag, the report's option with any FILE in the same
--- word, an operand, or none of them
-pub data Kind : Type 0 where
-  dashes : Kind
-  flagged : Kind
-  filed : Option Text → Kind
-  operand : Kind
-  odd : Kind
 
 -- no short flag begins in the word
 abbrev pub has_no_short : Option Text → Bool
@@ -45,16 +33,10 @@ has_no_short flags = option_map_or (λ fs. not (is_some (slice_get (chars fs) 0)
 abbrev pub is_taken : Text → Bool
 is_taken word = not (bytes_eq word (codes "--")) && (not (is_some (long_of word)) && has_no_short (short_of word))
 
-abbrev pub flag_kind : Option Text → Kind
-flag_kind None = flagged
-flag_kind (Some value) = odd
-
-abbrev pub long_kind : Bool → Bool → Option Text → Kind
-long_kind is_flag is_report value = cond is_flag (flag_kind value) (cond is_report (filed value) odd)
-
-abbrev pub kind_by : Text → Option (Text × Option Text) → Bool → Kind
-kind_by flag None plain = cond plain operand odd
-kind_by flag (Some q) plain = long_kind (bytes_eq flag q.0) (bytes_eq (codes "report") q.0) q.1
+-- the word of this long name is the flag
+abbrev pub is_flag : Text → Option (Text × Option Text) → Bool
+is_flag flag None = false
+is_flag flag (Some q) = bytes_eq flag q.0 && not (is_some q.1)
 
 -- the paths by their ids, the last first; whether the flag was met; and the report's file
 abbrev pub Pairs : Type 0
@@ -72,15 +54,17 @@ abbrev pub operand_met : Text → Place → Pairs → List Text → Bool → Opt
 operand_met word place done [] met file later = None
 operand_met word place done (id ∷ left) met file later = later place ((id, word) ∷ done) left met file
 
-abbrev pub word_met : Kind → Text → Pairs → List Text → Bool → Option Text → Later → Option Seen
-word_met dashes word done left met file later = later after done left met file
-word_met flagged word done left true file later = None
-word_met flagged word done left false file later = later before done left true file
-word_met (filed value) word done left met (Some f) later = None
-word_met (filed None) word done left met None later = later naming done left met None
-word_met (filed (Some f)) word done left met None later = later before done left met (Some f)
-word_met operand word done left met file later = operand_met word before done left met file later
-word_met odd word done left met file later = None
+-- a word before any `--`, by whether it is `--`, the flag, the report's option with any FILE in the same word,
+-- an operand
+abbrev pub word_met : Bool → Bool → Option (Option Text) → Bool → Text → Pairs → List Text → Bool → Option Text → Later → Option Seen
+word_met true flagged report plain word done left met file later = later after done left met file
+word_met false true report plain word done left true file later = None
+word_met false true report plain word done left false file later = later before done left true file
+word_met false false (Some value) plain word done left met (Some f) later = None
+word_met false false (Some None) plain word done left met None later = later naming done left met None
+word_met false false (Some (Some f)) plain word done left met None later = later before done left met (Some f)
+word_met false false None true word done left met file later = operand_met word before done left met file later
+word_met false false None false word done left met file later = None
 
 abbrev pub at_end : Pairs → List Text → Bool → Option Text → Option Seen
 at_end done [] met file = Some (done, met, file)
@@ -88,14 +72,12 @@ at_end done (id ∷ left) met file = None
 
 -- the words, of which those that pass the test are operands
 module _ (is_operand : Text → Bool) (flag : Text) where
-  abbrev pub kind : Text → Kind
-  kind word = cond (bytes_eq word (codes "--")) dashes (kind_by flag (long_of word) (is_operand word))
-
   abbrev pub scan : List Text → Place → Pairs → List Text → Bool → Option Text → Option Seen
   scan [] before done left met file = at_end done left met file
   scan [] after done left met file = at_end done left met file
   scan [] naming done left met file = None
-  scan (word ∷ rest) before done left met file = word_met (kind word) word done left met file (scan rest)
+  scan (word ∷ rest) before done left met file = word_met (bytes_eq word (codes "--")) (bytes_eq word (45 ∷ 45 ∷ flag))
+      (as_report word) (is_operand word) word done left met file (scan rest)
   scan (word ∷ rest) after done left met file = operand_met word after done left met file (scan rest)
   scan (word ∷ rest) naming done left met file = cond (is_operand word) (scan rest before done left met (Some word)) None
 
@@ -186,73 +168,44 @@ taken_plain (c ∷ x ∷ rest) utf8 = go (c == 45) refl (x == 45) refl
     go true hyphen false second = simp (hyphen, second) (false_from_ne_true _
         (character_behind x rest (subst (λ (k : ℕ). IsUtf8 (k ∷ x ∷ rest)) (eqb-true c 45 hyphen) utf8)))
 
--- ---- what the definitions of the command line make of each kind of word
+-- ---- an option is no operand, and the flag is not the report's
 
-module _ (is_operand : Text → Bool) (flag : Text) where
-  abbrev pub Means : Text → Kind → Type 0
-  Means word dashes = bytes_eq word (codes "--") ≡ true
-  Means word flagged = (bytes_eq word (codes "--") ≡ false) × (bytes_eq word (45 ∷ 45 ∷ flag) ≡ true)
-      × (as_report word ≡ None) × (is_operand word ≡ false)
-  Means word (filed value) = (bytes_eq word (codes "--") ≡ false) × (bytes_eq word (45 ∷ 45 ∷ flag) ≡ false)
-      × (as_report word ≡ Some value) × (is_operand word ≡ false)
-  Means word operand = (bytes_eq word (codes "--") ≡ false) × (bytes_eq word (45 ∷ 45 ∷ flag) ≡ false)
-      × (as_report word ≡ None) × (is_operand word ≡ true)
-  Means word odd = (bytes_eq word (codes "--") ≡ false) × (bytes_eq word (45 ∷ 45 ∷ flag) ≡ false)
-      × (as_report word ≡ None) × (is_operand word ≡ false)
+abbrev pub Apart : Bool → Option (Option Text) → Bool → Type 0
+Apart flagged report plain = (not ((is_some report || plain) && flagged) && not (is_some report && plain)) ≡ true
 
-  pub means : (long_of (45 ∷ 45 ∷ flag) ≡ Some (flag, None)) → bytes_eq (codes "report") flag ≡ false
-      → ((word : Text) → is_operand word ≡ true → long_of word ≡ None) → (word : Text) → Means word (kind is_operand flag word)
-  means long apart bare word =
-      go (bytes_eq word (codes "--")) refl (long_of word) refl (is_operand word) refl
+module _ (flag : Text) (long : long_of (45 ∷ 45 ∷ flag) ≡ Some (flag, None)) where
+  pub flag_word : (word : Text) → bytes_eq word (45 ∷ 45 ∷ flag) ≡ is_flag flag (long_of word)
+  flag_word word = go (bytes_eq word (45 ∷ 45 ∷ flag)) refl
     where
-      other_name : (name : Text) (v : Option Text) → bytes_eq flag name ≡ false
-          → ◌≡◌ {A = Option (Text × Option Text)} (Some (flag, None)) (Some (name, v)) → ⊥
-      other_name name v e bad =
-          let same : flag ≡ name = ap (λ (o : Option (Text × Option Text)). option_map_or (λ q. q.0) o flag) bad in
-          true≢false (sym ((bytes_eq-Decides flag name).1 same) ∙ e)
+      is_word : (o : Option (Text × Option Text)) → long_of word ≡ o → is_flag flag o ≡ true → word ≡ 45 ∷ 45 ∷ flag
+      is_word None is e = absurd (true≢false (sym e))
+      is_word (Some (name, v)) is e = go v is (both (bytes_eq flag name) (not (is_some v)) e)
+        where
+          go : (v : Option Text) → long_of word ≡ Some (name, v) → (bytes_eq flag name ≡ true) × (not (is_some v) ≡ true) → word ≡ 45 ∷ 45 ∷ flag
+          go (Some x) is e = absurd (true≢false (sym e.1))
+          go None is e = long_text word name is ∙ ap (λ (t : Text). 45 ∷ 45 ∷ t) (sym ((bytes_eq-Decides flag name).0 e.0))
 
-      no_worth : (name x : Text) → ◌≡◌ {A = Option (Text × Option Text)} (Some (flag, None)) (Some (name, Some x)) → ⊥
-      no_worth name x bad =
-          let worth : None ≡ Some x = ap (λ (o : Option (Text × Option Text)). option_map_or (λ q. q.1) o None) bad in cc
+      go : (b : Bool) → bytes_eq word (45 ∷ 45 ∷ flag) ≡ b → b ≡ is_flag flag (long_of word)
+      go true e = sym (ap (is_flag flag) (ap long_of ((bytes_eq-Decides word (45 ∷ 45 ∷ flag)).0 e) ∙ long)
+          ∙ (λ j. (bytes_eq-Decides flag flag).1 refl j && true))
+      go false e = sym (false_from_ne_true (is_flag flag (long_of word))
+          (λ f. true≢false (sym ((bytes_eq-Decides word (45 ∷ 45 ∷ flag)).1 (is_word (long_of word) refl f)) ∙ e)))
 
-      no_flag : (o : Option (Text × Option Text)) → long_of word ≡ o → (◌≡◌ {A = Option (Text × Option Text)} (Some (flag, None)) o → ⊥)
-          → bytes_eq word (45 ∷ 45 ∷ flag) ≡ false
-      no_flag o is never = false_from_ne_true (bytes_eq word (45 ∷ 45 ∷ flag))
-          (λ e. never (sym long ∙ sym (ap long_of ((bytes_eq-Decides word (45 ∷ 45 ∷ flag)).0 e)) ∙ is))
-
-      no_operand : (q : Text × Option Text) → long_of word ≡ Some q → is_operand word ≡ false
-      no_operand q is = false_from_ne_true (is_operand word) (λ e. none-some q (sym (bare word e) ∙ is))
-
-      -- what `--report` means of a word of this name
-      report : (name : Text) (v : Option Text) (b : Bool) → long_of word ≡ Some (name, v) → bytes_eq (codes "report") name ≡ b
-          → as_report word ≡ cond b (Some v) None
-      report name v b is e = ap report_option is ∙ ap (λ c. cond c (Some v) None) e
-
-      -- and of the flag's name
-      named_flag : (name : Text) → bytes_eq flag name ≡ true → bytes_eq (codes "report") name ≡ false
-      named_flag name e = ap (bytes_eq (codes "report")) (sym ((bytes_eq-Decides flag name).0 e)) ∙ apart
-
-      option : (name : Text) (v : Option Text) → bytes_eq word (codes "--") ≡ false → long_of word ≡ Some (name, v)
-          → (f : Bool) → bytes_eq flag name ≡ f → (r : Bool) → bytes_eq (codes "report") name ≡ r
-          → Means word (long_kind f r v)
-      option name None d is true e r g =
-          let same : flag ≡ name = (bytes_eq-Decides flag name).0 e in
-          let met = (bytes_eq-Decides word (45 ∷ 45 ∷ flag)).1 (long_text word name is ∙ ap (λ (t : Text). 45 ∷ 45 ∷ t) (sym same)) in
-          (d, met, report name None false is (named_flag name e), no_operand (name, None) is)
-      option name (Some x) d is true e r g = (
-        d,
-        no_flag (Some (name, Some x)) is (no_worth name x),
-        report name (Some x) false is (named_flag name e),
-        no_operand (name, Some x) is,
-      )
-      option name v d is false e true g =
-          (d, no_flag (Some (name, v)) is (other_name name v e), report name v true is g, no_operand (name, v) is)
-      option name v d is false e false g =
-          (d, no_flag (Some (name, v)) is (other_name name v e), report name v false is g, no_operand (name, v) is)
-
-      go : (d : Bool) → bytes_eq word (codes "--") ≡ d → (o : Option (Text × Option Text)) → long_of word ≡ o
-          → (b : Bool) → is_operand word ≡ b → Means word (cond d dashes (kind_by flag o b))
-      go true d o is b e = d
-      go false d None is true e = (d, no_flag None is (λ bad. cc), ap report_option is, e)
-      go false d None is false e = (d, no_flag None is (λ bad. cc), ap report_option is, e)
-      go false d (Some (name, v)) is b e = option name v d is (bytes_eq flag name) refl (bytes_eq (codes "report") name) refl
+  pub word_apart : (is_operand : Text → Bool) → bytes_eq (codes "report") flag ≡ false
+      → ((word : Text) → is_operand word ≡ true → long_of word ≡ None)
+      → (word : Text) → Apart (bytes_eq word (45 ∷ 45 ∷ flag)) (as_report word) (is_operand word)
+  word_apart is_operand apart bare word =
+      subst (λ (b : Bool). Apart b (as_report word) (is_operand word)) (sym (flag_word word)) (go (long_of word) (is_operand word) (bare word))
+    where
+      go : (o : Option (Text × Option Text)) (plain : Bool) → (plain ≡ true → o ≡ None) → Apart (is_flag flag o) (report_option o) plain
+      go None true none = refl
+      go None false none = refl
+      go (Some q) true none = absurd (none-some q (sym (none refl)))
+      go (Some q) false none = names (bytes_eq flag q.0) refl (bytes_eq (codes "report") q.0) refl
+        where
+          names : (f : Bool) → bytes_eq flag q.0 ≡ f → (r : Bool) → bytes_eq (codes "report") q.0 ≡ r
+              → Apart (f && not (is_some q.1)) (cond r (Some q.1) None) false
+          names f e false g = refl
+          names false e true g = refl
+          names true e true g =
+              absurd (true≢false (sym g ∙ ap (bytes_eq (codes "report")) (sym ((bytes_eq-Decides flag q.0).0 e)) ∙ apart))
