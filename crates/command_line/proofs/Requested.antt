@@ -4,7 +4,7 @@
 -- that clap finds the same, for each command of one form; the three subcommands are such.
 use Rattle.std.proofs.Common.{◌==◌, ◌||◌, ◌∙◌, ◌∷◌, ◌≡◌, [], ℕ, Bool, List, None, Option, Some, ap, codes, cond, false, is_some, refl, rules, subst, sym, true}
 use Rattle.std.proofs.Common.{◌&&◌, inl, inr, length, true≢false}
-use Rattle.std.specs.Prelude.{fold, option_map, option_and_then, slice_get}
+use Rattle.std.specs.Prelude.{fold, map, option_map, option_and_then, slice_get, unwrap_or}
 use Rattle.std.specs.List.{slice_index_or}
 use Rattle.std.specs.Str.{bytes_eq}
 use Rattle.std.proofs.Math.Bool.{or-true}
@@ -24,7 +24,6 @@ use Rattle.command_line.proofs.Parse.{shown_long, shown_short, Holds, row, row_a
 use Rattle.command_line.proofs.Words.{Seen, before, is_taken, scan, Pairs, formed_found, found_formed, found_is, is_met, is_named, match_up, pairs, seen_of}
 use Rattle.command_line.proofs.Words.{words_of}
 use Rattle.std.specs.Borrow.{Bor}
-use Rattle.std.specs.Option.{IsSome}
 use Rattle.std.proofs.lemmas.Bool.{or_cases}
 use Rattle.clap.specs.Matches.{first_value, found_of, one_text, subcommand_name_of}
 use Rattle.clap.specs.Values.{bool_text, kind_of}
@@ -33,7 +32,7 @@ use Rattle.clap.specs.declared.parser.matches.ArgMatches.{ArgMatches}
 use Rattle.clap.specs.declared.parser.matches.ArgMatches.TheViews.{out-ArgMatches}
 use Rattle.clap.specs.declared.parser.matches.Found.{Found}
 use Rattle.command_line.specs.CommandLine.{AreTexts, RequestsTask, are_operands, is_check, is_explain, is_run, is_well_formed, operands, path_texts}
-use Rattle.command_line.specs.steps.Given.{GivesTask, HasTask, Sets}
+use Rattle.command_line.specs.steps.Given.{GivesTask, Sets, value_at}
 use Rattle.command_line.specs.declared.task.Task.{Task}
 use Rattle.command_line.specs.declared.task.Task.TheVariants.{Check, Explain, Run}
 
@@ -375,45 +374,16 @@ has_read app words m o p is fault matches found names rows =
 
 -- ---- the values
 
--- the paths have values
-abbrev Given : Found → List Text → Type 0
-Given f [] = Unit {0}
-Given f (id ∷ ids) = IsSome (first_value f id) × Given f ids
-
--- and these
-abbrev Firsts : Found → List Text → List Text → Type 0
-Firsts f (id ∷ ids) (v ∷ vs) = (first_value f id ≡ Some v) × Firsts f ids vs
-Firsts f [] [] = Unit {0}
-Firsts f _ _ = ⊥
-
-first_is : (f : Found) (id word : Text) → row_at id (rows_of f) ≡ Some (row id word) → first_value f id ≡ Some word
-first_is f id word at = first_value-rows f id ∙ ap (option_and_then (λ (r : Row). slice_get r.values 0)) at
-
-some_is : (o : Option Text) (v : Text) → o ≡ Some v → IsSome o
-some_is (Some s) v e = search rules
-some_is None v e = cc
-
 -- the operands are the values of the paths
-given : (f : Found) (done : Pairs) (ids ops : List Text) → match_up ops ids ≡ true → Holds (rows_of f) (pairs done ids ops)
-    → Given f ids × Holds (rows_of f) done
-given f done [] [] e holds = (tt, holds)
-given f done [] (word ∷ ops) e holds = absurd (true≢false (sym e))
-given f done (id ∷ ids) [] e holds = absurd (true≢false (sym e))
-given f done (id ∷ ids) (word ∷ ops) e holds =
-    let more = given f ((id, word) ∷ done) ids ops e holds in ((some_is _ word (first_is f id word more.1.0), more.0), more.1.1)
-
-firsts : (f : Found) (done : Pairs) (ids ops vs : List Text) → match_up ops ids ≡ true → Holds (rows_of f) (pairs done ids ops)
-    → Firsts f ids vs → (ops ≡ vs) × Holds (rows_of f) done
-firsts f done [] [] [] e holds all = (refl, holds)
-firsts f done [] [] (v ∷ vs) e holds all = absurd all
-firsts f done [] (word ∷ ops) vs e holds all = absurd (true≢false (sym e))
-firsts f done (id ∷ ids) [] vs e holds all = absurd (true≢false (sym e))
-firsts f done (id ∷ ids) (word ∷ ops) [] e holds all = absurd all
-firsts f done (id ∷ ids) (word ∷ ops) (v ∷ vs) e holds all =
-    let more = firsts f ((id, word) ∷ done) ids ops vs e holds all.1 in
-    let same : Some word ≡ Some v = sym (first_is f id word more.1.0) ∙ all.0 in
-    let word_is : word ≡ v = cc in
-    (λ j. word_is j ∷ more.0 j, more.1.1)
+values : (f : Found) (done : Pairs) (ids ops : List Text) → match_up ops ids ≡ true → Holds (rows_of f) (pairs done ids ops)
+    → (ops ≡ map (value_at f) ids) × Holds (rows_of f) done
+values f done [] [] e holds = (refl, holds)
+values f done [] (word ∷ ops) e holds = absurd (true≢false (sym e))
+values f done (id ∷ ids) [] e holds = absurd (true≢false (sym e))
+values f done (id ∷ ids) (word ∷ ops) e holds =
+    let more = values f ((id, word) ∷ done) ids ops e holds in
+    let first : first_value f id ≡ Some word = first_value-rows f id ∙ ap (option_and_then (λ (r : Row). slice_get r.values 0)) more.1.0 in
+    (λ j. unwrap_or (sym first j) [] ∷ more.0 j, more.1.1)
 
 text_of : (id : Text) (met : Bool) → row_text (source_of id met) ≡ Some (bool_text met)
 text_of id true = refl
@@ -456,30 +426,16 @@ module _ (words : List Text) (name : Text) (f : Found) (got : HasRead words name
     found : (match_up ops c.ids ≡ true) × (seen_of c.flag [] c.ids c.met c.file got.1 ≡ t.1.0)
     found = found_is c.flag is.command.long is.command.apart.1 got.1 c.ids c.met c.file t.1.0 t.1.1
 
-    holds : Holds (rows_of f) (pairs [] c.ids ops)
-    holds = subst (λ (m : Seen). Holds (rows_of f) m.0) (sym found.1) t.1.2.holds
-
-    have : Given f c.ids
-    have = (given f [] c.ids ops found.0 holds).0
-
     -- texts in which the pass finds something are well-formed
     formed : (n : ℕ) → length c.ids ≡ n → AreTexts got.1
         → (is_named c.file got.1 && are_operands n (words_of c.flag c.met c.file got.1)) ≡ true
     formed n count = found_formed c.flag is.command.long is.command.apart.1 got.1 c.ids c.met c.file n count t.1.0 t.1.1
 
-    paths_are : (vs : List Text) → Firsts f c.ids vs → ops ≡ vs
-    paths_are vs all = (firsts f [] c.ids ops vs found.0 holds all).0
+    paths_are : ops ≡ map (value_at f) c.ids
+    paths_are = (values f [] c.ids ops found.0 (subst (λ (m : Seen). Holds (rows_of f) m.0) (sym found.1) t.1.2.holds)).0
 
     flag_is : (flag : Bool) → c.has_flag ≡ true → Sets f c.flag flag → flag ≡ is_met c.flag c.met c.file got.1
     flag_is flag so sets = flag_read f c.flag t.1.0.1 flag (t.1.2.flagged so) sets ∙ ap (λ (m : Seen). m.1) (sym found.1)
-
-  -- the required arguments of a subcommand have values
-  pub has_task : HasTask name f
-  has_task = record {
-    check = λ same. let all = have check_form check_sub (taken_named check_form refl same) in (all.0, all.1.0);
-    explaining = λ same. (have explain_form explain_sub (taken_named explain_form refl same)).0;
-    run = λ other last. let all = have run_form run_sub (taken_run other last) in (all.0, all.1.0, all.1.1.0, all.1.1.1.0);
-  }
 
   -- the task is the one that the words request
   pub task_requested : (task : Task) → GivesTask name f task → RequestsTask words task
@@ -491,7 +447,7 @@ module _ (words : List Text) (name : Text) (f : Found) (got : HasRead words name
         gives.3 ∙ first_value-rows f (codes "report") ∙ ap (option_and_then (λ (r : Row). slice_get r.values 0)) (t.1.2.filed refl)
             ∙ file_of t.1.0.2 ∙ ap (λ (m : Seen). m.2) (sym (found run_form run_sub t).1),
         flag_is run_form run_sub t task.trace refl gives.2,
-        paths_are run_form run_sub t (path_texts task.paths) (gives.4, (gives.5, (gives.6, (gives.7, tt)))),
+        paths_are run_form run_sub t ∙ sym (λ j. gives.4 j ∷ gives.5 j ∷ gives.6 j ∷ gives.7 j ∷ []),
       )
   task_requested (Check task) gives =
       let t = taken_named check_form refl gives.0 in
@@ -499,12 +455,12 @@ module _ (words : List Text) (name : Text) (f : Found) (got : HasRead words name
         refl,
         formed check_form check_sub t 2 refl,
         flag_is check_form check_sub t task.all refl gives.1,
-        paths_are check_form check_sub t (task.texts.rules.now ∷ task.texts.plant.now ∷ []) (gives.2, (gives.3, tt)),
+        paths_are check_form check_sub t ∙ sym (λ j. gives.2 j ∷ gives.3 j ∷ []),
       )
   task_requested (Explain code) gives =
       let t = taken_named explain_form refl gives.0 in
       subst (λ (ws : List Text). RequestsTask ws (Explain code)) (sym t.0)
-      (refl, formed explain_form explain_sub t 1 refl, paths_are explain_form explain_sub t (code.now ∷ []) (gives.1, tt))
+      (refl, formed explain_form explain_sub t 1 refl, paths_are explain_form explain_sub t ∙ sym (λ j. gives.1 j ∷ []))
 
 -- ---- errors
 

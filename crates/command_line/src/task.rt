@@ -1,9 +1,8 @@
 //! The task that a command line requests.
-ghost use Rattle.std.specs.Prelude.{◌≡◌, IfErr, IfOk, Some, map, true};
-ghost use Rattle.std.specs.Option.{IsSome};
-ghost use Rattle.clap.specs.Words.{first_value, found_of, kind_of};
+ghost use Rattle.std.specs.Prelude.{◌≡◌, IfErr, IfOk, map, true};
+ghost use Rattle.clap.specs.Words.{found_of, kind_of};
 ghost use Rattle.command_line.specs.CommandLine.{RequestsTask, is_well_formed};
-ghost use Rattle.command_line.specs.steps.Given.{HasTask, GivesTask};
+ghost use Rattle.command_line.specs.steps.Given.{GivesTask, value_at};
 
 use crate::program::program;
 use clap::error::ErrorKind;
@@ -85,7 +84,6 @@ pub fn read_task<'a>(alloc: Global, words: &'a [&'a str]) -> Result<Task<'a>, Er
 
 // The task of a subcommand, by its name and its matches.
 fn task_of<'a>(name: &str, given: &ArgMatches<'a>) -> Task<'a>
-    requires { HasTask name.now (found_of given.now) }
     ensures { GivesTask name.now (found_of given.now) result }
 {
     if name == "check" {
@@ -112,10 +110,9 @@ fn task_of<'a>(name: &str, given: &ArgMatches<'a>) -> Task<'a>
     })
 }
 
-// The value of a required argument.
+// The value of an argument that is required, so it has one.
 fn value_of<'a>(given: &ArgMatches<'a>, id: &str) -> &'a str
-    requires { IsSome (first_value (found_of given.now) id.now) }
-    ensures { first_value (found_of given.now) id.now ≡ Some result.now }
+    ensures { result.now ≡ value_at (found_of given.now) id.now }
 {
-    given.get_str(id).unwrap()
+    given.get_str(id).unwrap_or("")
 }

@@ -1,16 +1,10 @@
 use Rattle.std.proofs.Common.{◌≡◌, true, map}
-use Rattle.command_line.proofs.Requested.{has_read, has_task, refused, task_requested, words_pass}
+use Rattle.command_line.proofs.Requested.{has_read, refused, task_requested, words_pass}
 use Rattle.clap.proofs.TakesLemmas.{passed_up}
 use Rattle.clap.specs.Words.{found_of, kind_of}
 use Rattle.clap.specs.declared.error.kind.ErrorKind.TheVariants.{OutOfMemory}
 use Rattle.command_line.specs.CommandLine.{is_well_formed}
 use Rattle.command_line.proofs.task.read_task.Goals as goal
-
-pub task_of-requires : goal.task_of-requires
-task_of-requires c =
-    has_task _ _ _ (has_read _ (map (λ w. w.now) c.args.words.now) c.in_ok-matches.matches c.subcommand.result c.unwrap.result
-    c.in_ok-program.ensures c.in_ok-matches.ensures.kinds c.in_ok-matches.ensures.matches c.unwrap.ensures
-    c.subcommand.ensures.name c.subcommand.ensures.rows)
 
 pub returns-clause-requested : goal.returns-clause-requested
 returns-clause-requested c =
