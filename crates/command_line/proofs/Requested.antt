@@ -20,7 +20,7 @@ use Rattle.clap.proofs.OnLiterals.{clap_on_literals}
 use Rattle.clap.proofs.WalkLemmas.{walk_stopped, both, first_value-rows, one_text-rows}
 use Rattle.command_line.specs.steps.Program.{program_app}
 use Rattle.command_line.proofs.Parse.{AsksHelp, Defaults, Fits, Form, Gives, IsCommand, Paths, by_word, first_nil, idle_walk, leaf, not_nil, option_by}
-use Rattle.command_line.proofs.Parse.{shown_long, shown_short, Holds, row, row_at, row_of, source_of, AnswersAt, parsed}
+use Rattle.command_line.proofs.Parse.{shown_long, shown_short, then_nil, Holds, row, row_at, row_of, source_of, AnswersAt, parsed}
 use Rattle.command_line.proofs.Words.{Seen, before, is_taken, scan, Pairs, formed_found, found_formed, found_is, is_met, is_named, match_up, pairs, seen_of}
 use Rattle.command_line.proofs.Words.{words_of}
 use Rattle.std.specs.Borrow.{Bor}
@@ -91,27 +91,6 @@ either : {A : Type 0} (b : Bool) (x : A) → cond b x x ≡ x
 either true x = refl
 either false x = refl
 
-all_longs : (name : Text) → arg_by_long (sub 1).rules name ≡ option_by true false (codes "all") name
-all_longs name = simp either
-
-no_longs : (name : Text) → arg_by_long (sub 2).rules name ≡ option_by false false (codes "all") name
-no_longs name = simp either
-
-run_defaults : Defaults run_form
-unfolding defaults_fault
-run_defaults all = (simp either, simp (or-true, either))
-
-check_defaults : Defaults check_form
-unfolding defaults_fault
-check_defaults all = (simp either, simp (or-true, either))
-
-explain_defaults : Defaults explain_form
-unfolding defaults_fault
-explain_defaults all = (simp either, simp or-true)
-
-check_paths : Paths check_form.rules check_form.flag 1 check_form.ids
-check_paths = search rules
-
 -- the pass over the words of a subcommand
 abbrev pub found_in : Form → List Text → Option Seen
 found_in c rest = scan is_taken c.flag rest before [] c.ids c.met c.file
@@ -123,39 +102,19 @@ Took c rest rows = (seen : Seen) × (found_in c rest ≡ Some seen) × Gives c s
 abbrev level : Form → List Text → Kinds
 level c rest = level_fault (leaf c.name c.rules) [] nothing_held rest false []
 
-module _ (c : Form) (is : IsCommand c) (begins : Fits c [] [] c.ids c.met c.file) (rest : List Text) where
-  abbrev Answer : Option Seen → Type 0
-  Answer = AnswersAt c is (level c rest) (fold (walked c.rules []) (idle_walk nothing_held 1 false) rest)
-
-  answer : Answer (found_in c rest)
-  answer = parsed c is false rest [] c.ids c.met c.file 1 [] None is.paths refl begins
-
-  took : level c rest ≡ [] → Took c rest (rows_after c.rules [] rest)
-  took e = go (found_in c rest) refl answer
-    where
-      go : (o : Option Seen) → found_in c rest ≡ o → Answer o → Took c rest (rows_after c.rules [] rest)
-      go None found a = absurd (a e)
-      go (Some seen) found a = (seen, found, a.1)
-
-  takes : (seen : Seen) → found_in c rest ≡ Some seen → level c rest ≡ []
-  takes seen found = (subst Answer found answer).0
-
 -- ---- the subcommand that the words name
-
-abbrev stopped_at : Text → List Text → Walk
-stopped_at name seen = record (idle_walk nothing_held 1 false) { stopped = Some (name, seen) }
 
 abbrev first : Walk
 first = idle_walk nothing_held 1 false
 
--- what may be at fault once the words are walked
-abbrev later : Walk → Kinds
-later w = or_else (settle_fault top.rules top.args_override_self w.held)
-    (or_else (defaults_fault (settled top.rules w.held).rows top.rules)
-    (check_fault top (finished top.rules w.held) (is_some (entered whole w.stopped))))
+abbrev stopped_at : Text → List Text → Walk
+stopped_at name seen = record first { stopped = Some (name, seen) }
 
+-- what may be at fault once the words are walked
 abbrev ended : Walk → Kinds
-ended w = or_else (entered_fault whole w.stopped) (later w)
+ended w = or_else (entered_fault whole w.stopped) (or_else (settle_fault top.rules top.args_override_self w.held)
+    (or_else (defaults_fault (settled top.rules w.held).rows top.rules)
+    (check_fault top (finished top.rules w.held) (is_some (entered whole w.stopped)))))
 
 nothing_else : (k : Kinds) → or_else k [] ≡ k
 nothing_else [] = refl
@@ -187,71 +146,70 @@ pub record IsSubcommand (c : Form) : Type 0 where
   pub enters : (program : Text) (rest : List Text) → Enters c program rest
 
 pub run_sub : IsSubcommand run_form
-unfolding clap_on_literals
-run_sub = record {
-  command = search (rules, run_defaults);
-  begins = search rules;
-  enters = λ program rest. enters run_form program rest refl refl refl refl;
-}
+unfolding clap_on_literals defaults_fault
+run_sub =
+    let defaults : Defaults run_form = λ all. (simp either, simp (or-true, either)) in record {
+      command = search (rules, defaults);
+      begins = search rules;
+      enters = λ program rest. enters run_form program rest refl refl refl refl;
+    }
 
 pub check_sub : IsSubcommand check_form
-unfolding clap_on_literals
-check_sub = record {
-  command = search (rules, all_longs, check_defaults, check_paths);
-  begins = search rules;
-  enters = λ program rest. enters check_form program rest refl refl refl refl;
-}
+unfolding clap_on_literals defaults_fault
+check_sub =
+    let longs : (name : Text) → arg_by_long (sub 1).rules name ≡ option_by true false (codes "all") name = λ name. simp either in
+    let defaults : Defaults check_form = λ all. (simp either, simp (or-true, either)) in
+    let paths : Paths check_form.rules check_form.flag 1 check_form.ids = search rules in record {
+      command = search (rules, longs, defaults, paths);
+      begins = search rules;
+      enters = λ program rest. enters check_form program rest refl refl refl refl;
+    }
 
 pub explain_sub : IsSubcommand explain_form
-unfolding clap_on_literals
-explain_sub = record {
-  command = search (rules, no_longs, explain_defaults);
-  begins = search rules;
-  enters = λ program rest. enters explain_form program rest refl refl refl refl;
-}
+unfolding clap_on_literals defaults_fault
+explain_sub =
+    let longs : (name : Text) → arg_by_long (sub 2).rules name ≡ option_by false false (codes "all") name = λ name. simp either in
+    let defaults : Defaults explain_form = λ all. (simp either, simp or-true) in record {
+      command = search (rules, longs, defaults);
+      begins = search rules;
+      enters = λ program rest. enters explain_form program rest refl refl refl refl;
+    }
 
 -- ---- other words
 
-top_asks : AsksHelp top
-top_asks x rest h more e = shown_short top.rules (104 == x || false) (86 == x || false) rest h more e
-
 -- after a `--` there is no subcommand
-stray : (rest : List Text) → or_else (walk_fault top names (idle_walk nothing_held 1 true) rest)
-    (ended (fold (walked top.rules names) (idle_walk nothing_held 1 true) rest)) ≡ [] → ⊥
+stray : (rest : List Text) → let w = idle_walk nothing_held 1 true in
+    walk_fault top names w rest ≡ [] → ended (fold (walked top.rules names) w rest) ≡ [] → ⊥
 unfolding walked walk_fault defaults_fault
-stray [] e = not_nil _ _ e
-stray (word ∷ rest) e =
+stray [] none e = not_nil _ _ e
+stray (word ∷ rest) none e =
     let w = idle_walk nothing_held 1 true in
-    let after = walked top.rules names w word in
-    not_nil _ _ (first_nil (turn_fault top names w word) (walk_fault top names after rest)
-    (first_nil (walk_fault top names w (word ∷ rest)) (ended (fold (walked top.rules names) after rest)) e))
-
-after_turn : (a b c : Kinds) → or_else (or_else a b) c ≡ [] → or_else b c ≡ []
-after_turn [] b c e = e
-after_turn (k ∷ ks) b c e = not_nil k ks e
+    not_nil _ _ (first_nil (turn_fault top names w word) (walk_fault top names (walked top.rules names w word) rest) none)
 
 module _ (program word : Text) (rest : List Text) (e : fault_of program_app (program ∷ word ∷ rest) ≡ []) where
-  turn_nil : turn_fault top names first word ≡ []
+  -- neither the word nor the walk over those after it has a fault
+  no_fault : let w = walked top.rules names first word in (turn_fault top names first word ≡ [])
+      × (walk_fault top names w rest ≡ []) × (ended (fold (walked top.rules names) w rest) ≡ [])
   unfolding walk_fault
-  turn_nil = first_nil _ _ (first_nil (walk_fault top names first (word ∷ rest)) _ e)
-
-  -- the walk over the words after this one has no fault
-  rest_nil : or_else (walk_fault top names (walked top.rules names first word) rest)
-      (ended (fold (walked top.rules names) (walked top.rules names first word) rest)) ≡ []
-  unfolding walk_fault
-  rest_nil = after_turn (turn_fault top names first word) _ _ e
+  no_fault =
+      let walk : walk_fault top names first (word ∷ rest) ≡ [] = first_nil _ _ e in (
+        first_nil _ _ walk,
+        then_nil (turn_fault top names first word) _ walk,
+        then_nil (walk_fault top names first (word ∷ rest)) _ e,
+      )
 
   helped : subcommand_met names idle word ≡ Some (codes "help") → ⊥
-  helped met = not_nil _ _ (sym (ap (λ o. other_fault top o word nothing_held) met) ∙ first_nil _ _ turn_nil)
+  helped met = not_nil _ _ (sym (ap (λ o. other_fault top o word nothing_held) met) ∙ first_nil _ _ no_fault.0)
 
   stranger : subcommand_met names idle word ≡ None → ⊥
-  stranger none = by_word top top_asks names idle [] None 1 word none (λ d o b. ⊥)
-      (λ o b turn. stray rest (ap (λ (w : Walk). or_else (walk_fault top names w rest) (ended (fold (walked top.rules names) w rest)))
-      (sym turn.1) ∙ rest_nil))
+  stranger none = by_word top (λ x rest h more e. shown_short top.rules (104 == x || false) (86 == x || false) rest h more e)
+      names idle [] None 1 word none (λ d o b. ⊥)
+      (λ o b turn. let at = λ (w : Walk). (walk_fault top names w rest ≡ []) × (ended (fold (walked top.rules names) w rest) ≡ []) in
+      let none = subst at turn.1 (no_fault.1, no_fault.2) in stray rest none.0 none.1)
       (λ q b turn. shown_long top.rules (bytes_eq (codes "help") q.0 || false) (bytes_eq (codes "version") q.0 || false) q.1
-      nothing_held (first_nil _ _ (sym turn.0 ∙ turn_nil)))
-      (λ turn. let none : stray_fault top ≡ [] = sym turn.0 ∙ turn_nil in not_nil UnknownArgument (InvalidSubcommand ∷ []) none)
-      (λ fails. fails turn_nil)
+      nothing_held (first_nil _ _ (sym turn.0 ∙ no_fault.0)))
+      (λ turn. let none : stray_fault top ≡ [] = sym turn.0 ∙ no_fault.0 in not_nil UnknownArgument (InvalidSubcommand ∷ []) none)
+      (λ fails. fails no_fault.0)
 
 -- ---- the words of a task
 
@@ -259,26 +217,45 @@ module _ (program word : Text) (rest : List Text) (e : fault_of program_app (pro
 abbrev pub form_of : Text → Form
 form_of name = cond (bytes_eq name (codes "check")) check_form (cond (bytes_eq name (codes "explain")) explain_form run_form)
 
--- words without a fault are the program's name, a subcommand and its words
-abbrev pub IsRead : List Text → Type 0
-IsRead words = (program : Text) × (name : Text) × (rest : List Text) × (rows : List Row) × (words ≡ program ∷ name ∷ rest)
-    × (subcommand_of program_app words ≡ Some (name, rows)) × (name ≡ (form_of name).name) × Took (form_of name) rest rows
+-- words of a subcommand of this name, with these rows
+abbrev pub HasRead : List Text → Text → List Row → Type 0
+HasRead words name rows = (program : Text) × (rest : List Text) × (words ≡ program ∷ name ∷ rest) × (name ≡ (form_of name).name)
+    × Took (form_of name) rest rows
 
-read_as : (c : Form) → IsSubcommand c → form_of c.name ≡ c → (program word : Text) (rest : List Text) → bytes_eq c.name word ≡ true
-    → fault_of program_app (program ∷ word ∷ rest) ≡ [] → IsRead (program ∷ word ∷ rest)
-read_as c is of program word rest named e =
-    let enters = is.enters program rest in
-    subst (λ (w : Text). fault_of program_app (program ∷ w ∷ rest) ≡ [] → IsRead (program ∷ w ∷ rest)) ((bytes_eq-Decides c.name word).0 named)
-    (λ f. (
-      program,
-      c.name,
-      rest,
-      rows_after c.rules [] rest,
-      refl,
-      enters.1,
-      ap (λ (d : Form). d.name) (sym of),
-      subst (λ (d : Form). Took d rest (rows_after c.rules [] rest)) (sym of) (took c is.command is.begins rest (sym enters.0 ∙ f)),
-    )) e
+-- words without a fault are such
+abbrev pub IsRead : List Text → Type 0
+IsRead words = (name : Text) × (rows : List Row) × (subcommand_of program_app words ≡ Some (name, rows)) × HasRead words name rows
+
+module _ (c : Form) (is : IsSubcommand c) (program word : Text) (rest : List Text) where
+  abbrev Answer : Option Seen → Type 0
+  Answer = AnswersAt c is.command (level c rest) (fold (walked c.rules []) first rest)
+
+  answer : Answer (found_in c rest)
+  answer = parsed c is.command false rest [] c.ids c.met c.file 1 [] None is.command.paths refl is.begins
+
+  read_as : form_of c.name ≡ c → bytes_eq c.name word ≡ true → fault_of program_app (program ∷ word ∷ rest) ≡ []
+      → IsRead (program ∷ word ∷ rest)
+  read_as of named = subst (λ (w : Text). fault_of program_app (program ∷ w ∷ rest) ≡ [] → IsRead (program ∷ w ∷ rest))
+      ((bytes_eq-Decides c.name word).0 named) (λ e. (
+        c.name,
+        rows_after c.rules [] rest,
+        (is.enters program rest).1,
+        (program, rest, refl, ap (λ (d : Form). d.name) (sym of), subst (λ (d : Form). Took d rest (rows_after c.rules [] rest)) (sym of)
+            (go (found_in c rest) refl answer (sym (is.enters program rest).0 ∙ e))),
+      ))
+    where
+      go : (o : Option Seen) → found_in c rest ≡ o → Answer o → level c rest ≡ [] → Took c rest (rows_after c.rules [] rest)
+      go None found a e = absurd (a e)
+      go (Some seen) found a e = (seen, found, a.1)
+
+  -- well-formed words of this name have no fault
+  words_fit : (n : ℕ) → length c.ids ≡ n
+      → (bytes_eq word c.name && (is_named c.file rest && are_operands n (words_of c.flag c.met c.file rest))) ≡ true
+      → fault_of program_app (program ∷ word ∷ rest) ≡ []
+  words_fit n count e =
+      let p = both (bytes_eq word c.name) (is_named c.file rest && are_operands n (words_of c.flag c.met c.file rest)) e in
+      subst (λ (t : Text). fault_of program_app (program ∷ t ∷ rest) ≡ []) (sym ((bytes_eq-Decides word c.name).0 p.0))
+      ((is.enters program rest).0 ∙ (subst Answer (formed_found c.flag is.command.long is.command.apart.1 rest c.ids c.met c.file n count p.1) answer).0)
 
 abbrev name_by : Bool → Bool → Bool → Bool → Option Text
 name_by r c x h = option_map (λ (s : Text × List Text). s.0)
@@ -296,40 +273,22 @@ task_read (program ∷ word ∷ rest) e =
     go : (r : Bool) → bytes_eq (codes "run") word ≡ r → (c : Bool) → bytes_eq (codes "check") word ≡ c
         → (x : Bool) → bytes_eq (codes "explain") word ≡ x → (h : Bool) → subcommand_met names idle word ≡ name_by r c x h
         → IsRead (program ∷ word ∷ rest)
-    go true is c f x g h met = read_as run_form run_sub refl program word rest is e
-    go false is true f x g h met = read_as check_form check_sub refl program word rest f e
-    go false is false f true g h met = read_as explain_form explain_sub refl program word rest g e
+    go true is c f x g h met = read_as run_form run_sub program word rest refl is e
+    go false is true f x g h met = read_as check_form check_sub program word rest refl f e
+    go false is false f true g h met = read_as explain_form explain_sub program word rest refl g e
     go false is false f false g true met = absurd (helped program word rest e met)
     go false is false f false g false met = absurd (stranger program word rest e met)
-
--- words in which the pass finds something have no fault
-pub found_passes : (c : Form) → IsSubcommand c → (program : Text) (rest : List Text) (seen : Seen)
-    → found_in c rest ≡ Some seen → fault_of program_app (program ∷ c.name ∷ rest) ≡ []
-found_passes c is program rest seen found =
-    (is.enters program rest).0 ∙ takes c is.command is.begins rest seen found
-
--- ---- the words of a subcommand
-
--- well-formed words of this name have no fault
-words_fit : (c : Form) → IsSubcommand c → (n : ℕ) → length c.ids ≡ n → (program name : Text) (rest : List Text)
-    → (bytes_eq name c.name && (is_named c.file rest && are_operands n (words_of c.flag c.met c.file rest))) ≡ true
-    → fault_of program_app (program ∷ name ∷ rest) ≡ []
-words_fit c is n count program name rest e =
-    let p = both (bytes_eq name c.name) (is_named c.file rest && are_operands n (words_of c.flag c.met c.file rest)) e in
-    subst (λ (t : Text). fault_of program_app (program ∷ t ∷ rest) ≡ []) (sym ((bytes_eq-Decides name c.name).0 p.0))
-    (found_passes c is program rest (seen_of c.flag [] c.ids c.met c.file rest)
-    (formed_found c.flag is.command.long is.command.apart.1 rest c.ids c.met c.file n count p.1))
 
 pub words_pass : (words : List Text) → is_well_formed words ≡ true → fault_of program_app words ≡ []
 words_pass [] e = absurd (true≢false (sym e))
 words_pass (program ∷ []) e = absurd (true≢false (sym e))
 words_pass (program ∷ name ∷ rest) e = elim (or_cases (bytes_eq name (codes "run") && is_run rest)
     (bytes_eq name (codes "check") && is_check rest || bytes_eq name (codes "explain") && is_explain rest) e) [
-      | inl run ↦ words_fit run_form run_sub 4 refl program name rest run
+      | inl run ↦ words_fit run_form run_sub program name rest 4 refl run
       | inr other ↦ elim (or_cases (bytes_eq name (codes "check") && is_check rest)
           (bytes_eq name (codes "explain") && is_explain rest) other) [
-            | inl check ↦ words_fit check_form check_sub 2 refl program name rest check
-            | inr code ↦ words_fit explain_form explain_sub 1 refl program name rest code
+            | inl check ↦ words_fit check_form check_sub program name rest 2 refl check
+            | inr code ↦ words_fit explain_form explain_sub program name rest 1 refl code
           ]
     ]
 
@@ -344,10 +303,6 @@ option_maps : {A B C : Type 0} (f : B → C) (g : A → B) (o : Option A)
 option_maps f g None = refl
 option_maps f g (Some a) = refl
 
-abbrev pub HasRead : List Text → Text → List Row → Type 0
-HasRead words name rows = (program : Text) × (rest : List Text) × (words ≡ program ∷ name ∷ rest) × (name ≡ (form_of name).name)
-    × Took (form_of name) rest rows
-
 -- the words of the subcommand that the matches give
 pub has_read : (app : App) (words : List Text) (m : ArgMatches) (o : Option (Bor Text × Bor ArgMatches)) (p : Bor Text × Bor ArgMatches)
     → app ≡ program_app → (is_simple_and_free app ≡ true → fault_of app words ≡ []) → HasMatchesOf app words m → o ≡ Some p
@@ -358,19 +313,19 @@ pub has_read : (app : App) (words : List Text) (m : ArgMatches) (o : Option (Bor
 has_read app words m o p is fault matches found names rows =
     let got = task_read words (subst (λ (a : App). fault_of a words ≡ []) is
     (fault (ap is_simple_and_free is ∙ is_simple_program))) in
-    let sub : subcommand_rows_of m ≡ Some (got.1, got.3) =
+    let sub : subcommand_rows_of m ≡ Some (got.0, got.1) =
     (matches (ap is_simple is ∙ (both (is_simple program_app) _ is_simple_program).0)).1
-    ∙ ap (λ (a : App). subcommand_of a words) is ∙ got.5 in
+    ∙ ap (λ (a : App). subcommand_of a words) is ∙ got.2 in
     let named : subcommand_name_of m ≡ option_map (λ (p : Text × List Row). p.0) (subcommand_rows_of m) =
     option_maps (λ (p : Text × List Row). p.0) _ (out-ArgMatches m).subcommand in
-    let same : Some p.0.now ≡ Some got.1 = ap (option_map (λ (q : Bor Text × Bor ArgMatches). q.0.now)) (sym found) ∙ names ∙ named
+    let same : Some p.0.now ≡ Some got.0 = ap (option_map (λ (q : Bor Text × Bor ArgMatches). q.0.now)) (sym found) ∙ names ∙ named
     ∙ ap (option_map (λ (p : Text × List Row). p.0)) sub in
-    let name_is : p.0.now ≡ got.1 = cc in
-    let all : Some (rows_of (found_of p.1.now)) ≡ Some got.3 =
+    let name_is : p.0.now ≡ got.0 = cc in
+    let all : Some (rows_of (found_of p.1.now)) ≡ Some got.1 =
     ap (option_map (λ (q : Bor Text × Bor ArgMatches). rows_of (found_of q.1.now))) (sym found) ∙ rows
     ∙ ap (option_map (λ (p : Text × List Row). p.1)) sub in
-    let rows_are : rows_of (found_of p.1.now) ≡ got.3 = cc in
-    subst (λ (p : Text × List Row). HasRead words p.0 p.1) (λ j. (sym name_is j, sym rows_are j)) (got.0, got.2, got.4, got.6, got.7)
+    let rows_are : rows_of (found_of p.1.now) ≡ got.1 = cc in
+    subst (λ (p : Text × List Row). HasRead words p.0 p.1) (λ j. (sym name_is j, sym rows_are j)) got.3
 
 -- ---- the values
 
@@ -413,12 +368,6 @@ module _ (words : List Text) (name : Text) (f : Found) (got : HasRead words name
   taken : (c : Form) → form_of name ≡ c → Taken c
   taken c of = subst Taken of (got.2 ∙ ap (λ (n : Text). got.0 ∷ n ∷ got.1) got.3, got.4)
 
-  taken_named : (c : Form) → form_of c.name ≡ c → bytes_eq name c.name ≡ true → Taken c
-  taken_named c of same = taken c (ap form_of ((bytes_eq-Decides name c.name).0 same) ∙ of)
-
-  taken_run : bytes_eq name (codes "check") ≡ false → bytes_eq name (codes "explain") ≡ false → Taken run_form
-  taken_run other last = taken run_form (λ j. cond (other j) check_form (cond (last j) explain_form run_form))
-
   module _ (c : Form) (is : IsSubcommand c) (t : Taken c) where
     abbrev ops : List Text
     ops = operands (words_of c.flag c.met c.file got.1)
@@ -440,7 +389,7 @@ module _ (words : List Text) (name : Text) (f : Found) (got : HasRead words name
   -- the task is the one that the words request
   pub task_requested : (task : Task) → GivesTask name f task → RequestsTask words task
   task_requested (Run task) gives =
-      let t = taken_run gives.0 gives.1 in
+      let t = taken run_form (λ j. cond (gives.0 j) check_form (cond (gives.1 j) explain_form run_form)) in
       subst (λ (ws : List Text). RequestsTask ws (Run task)) (sym t.0) (
         refl,
         formed run_form run_sub t 4 refl,
@@ -450,7 +399,7 @@ module _ (words : List Text) (name : Text) (f : Found) (got : HasRead words name
         paths_are run_form run_sub t ∙ sym (λ j. gives.4 j ∷ gives.5 j ∷ gives.6 j ∷ gives.7 j ∷ []),
       )
   task_requested (Check task) gives =
-      let t = taken_named check_form refl gives.0 in
+      let t = taken check_form (λ j. cond (gives.0 j) check_form (cond (bytes_eq name (codes "explain")) explain_form run_form)) in
       subst (λ (ws : List Text). RequestsTask ws (Check task)) (sym t.0) (
         refl,
         formed check_form check_sub t 2 refl,
@@ -458,9 +407,9 @@ module _ (words : List Text) (name : Text) (f : Found) (got : HasRead words name
         paths_are check_form check_sub t ∙ sym (λ j. gives.2 j ∷ gives.3 j ∷ []),
       )
   task_requested (Explain code) gives =
-      let t = taken_named explain_form refl gives.0 in
+      let t = taken explain_form (λ j. cond (gives.0 j) check_form (cond (gives.1 j) explain_form run_form)) in
       subst (λ (ws : List Text). RequestsTask ws (Explain code)) (sym t.0)
-      (refl, formed explain_form explain_sub t 1 refl, paths_are explain_form explain_sub t ∙ sym (λ j. gives.1 j ∷ []))
+      (refl, formed explain_form explain_sub t 1 refl, paths_are explain_form explain_sub t ∙ sym (λ j. gives.2 j ∷ []))
 
 -- ---- errors
 

@@ -26,4 +26,5 @@ GivesTask name f (Run task) =
 GivesTask name f (Check task) =
     (bytes_eq name (codes "check") ≡ true) × Sets f (codes "all") task.all
     × (task.texts.rules.now ≡ value_at f (codes "rules")) × (task.texts.plant.now ≡ value_at f (codes "plant"))
-GivesTask name f (Explain code) = (bytes_eq name (codes "explain") ≡ true) × (code.now ≡ value_at f (codes "code"))
+GivesTask name f (Explain code) =
+    (bytes_eq name (codes "check") ≡ false) × (bytes_eq name (codes "explain") ≡ true) × (code.now ≡ value_at f (codes "code"))
