@@ -231,6 +231,10 @@ module _ (s : Shape) (asks : AsksHelp s) (names : Names) (waiting : Waiting) (ro
         go false d None is false e = short (λ f. short_fails (short_of word) e
             (sym (met false d None is).0 ∙ ap (λ o. other_fault s o word held_now) (sym none) ∙ first_nil _ _ f))
 
+pub either : {A : Type 0} (b : Bool) (x : A) → cond b x x ≡ x
+either true x = refl
+either false x = refl
+
 -- ---- the command
 
 abbrev pub leaf : Text → List Rule → Shape
@@ -658,13 +662,9 @@ module _ (c : Form) (is : IsCommand c) where
   unfolding walk_fault
   twice file [] left p all so there paths = λ e. unnamed_bad all so (first_nil _ _ e)
   twice file (word ∷ rest) left p all so there paths =
-      nothing (is_taken word) (named_so word rest left p all None so paths
+      subst (Answers (waits all p) (word ∷ rest)) (either (is_taken word) None) (named_so word rest left p all None so paths
       (bad_before all (file_pending (word ∷ [])) p left rest paths
       (λ e. again (codes "report") (row (codes "report") file) all there (sym (file_fault (word ∷ []) all so) ∙ e))))
-    where
-      nothing : (b : Bool) → Answers (waits all p) (word ∷ rest) (cond b None None) → Answers (waits all p) (word ∷ rest) None
-      nothing true a = a
-      nothing false a = a
 
   -- ---- the words
 

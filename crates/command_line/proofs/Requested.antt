@@ -19,7 +19,7 @@ use Rattle.clap.proofs.FaultLemmas.{stopped_fault}
 use Rattle.clap.proofs.OnLiterals.{clap_on_literals}
 use Rattle.clap.proofs.WalkLemmas.{walk_stopped, both, first_value-rows, one_text-rows}
 use Rattle.command_line.specs.steps.Program.{program_app}
-use Rattle.command_line.proofs.Parse.{AsksHelp, Defaults, Fits, Form, Gives, IsCommand, Paths, by_word, first_nil, idle_walk, leaf, not_nil, option_by}
+use Rattle.command_line.proofs.Parse.{AsksHelp, Defaults, Fits, Form, Gives, IsCommand, Paths, by_word, either, first_nil, idle_walk, leaf, not_nil, option_by}
 use Rattle.command_line.proofs.Parse.{shown_long, shown_short, then_nil, Holds, row, row_at, row_of, source_of, AnswersAt, parsed}
 use Rattle.command_line.proofs.Words.{Seen, before, is_taken, scan, Pairs, formed_found, found_formed, found_is, is_met, is_named, match_up, pairs, seen_of}
 use Rattle.command_line.proofs.Words.{words_of}
@@ -86,10 +86,6 @@ explain_form = record {
   met = true;
   file = Some [];
 }
-
-either : {A : Type 0} (b : Bool) (x : A) → cond b x x ≡ x
-either true x = refl
-either false x = refl
 
 -- the pass over the words of a subcommand
 abbrev pub found_in : Form → List Text → Option Seen

@@ -17,6 +17,7 @@ use Rattle.clap.proofs.WalkLemmas.{both}
 use Rattle.clap.proofs.CutLemmas.{before_first-Lacks}
 use Rattle.command_line.specs.CommandLine.{as_report, is_plain_word, report_option, AreTexts, are_operands, are_plain, has_flag, names_file, names_file_by}
 use Rattle.command_line.specs.CommandLine.{operands, report_of, without_flag, without_report}
+use Rattle.std.proofs.Math.Bool.{and-false}
 use Rattle.std.proofs.Math.Dec.{eqb-suc-suc, eqb-suc-zero, eqb-zero-suc}
 
 -- ---- the pass
@@ -274,9 +275,9 @@ names_of is_operand (Some f) words = true
 module _ (is_operand : Text → Bool) (flag : Text) where
   -- the flag may be among the words, or was met already, and so may the report's option
   abbrev pub with_file : Pairs → List Text → Bool → Option Text → List Text → Option Seen
-  with_file done left met file words =
-      cond (names_of is_operand file words) (cond (plain_by is_operand (words_of flag met file words))
-      (cond (match_up (operands (words_of flag met file words)) left) (Some (seen_of flag done left met file words)) None) None) None
+  with_file done left met file words = let ws = words_of flag met file words in
+      cond (names_of is_operand file words && (plain_by is_operand ws && match_up (operands ws) left))
+      (Some (seen_of flag done left met file words)) None
 
   abbrev pub meaning : List Text → Place → Pairs → List Text → Bool → Option Text → Option Seen
   meaning words after done left met file = counted done left met file words
@@ -284,10 +285,9 @@ module _ (is_operand : Text → Bool) (flag : Text) where
   meaning [] naming done left met file = None
   meaning (word ∷ rest) naming done left met file = cond (is_operand word) (with_file done left met (Some word) rest) None
 
-  no_more : (n p : Bool) → ◌≡◌ {A = Option Seen} None (cond n (cond p None None) None)
-  no_more true true = refl
-  no_more true false = refl
-  no_more false p = refl
+  nested : (a b : Bool) (x : Option Seen) → cond a (cond b x None) None ≡ cond (a && b) x None
+  nested true b x = refl
+  nested false b x = refl
 
   by_word : (word : Text) (rest : List Text) (d f : Bool) (r : Option (Option Text)) (a : Bool) → bytes_eq word (codes "--") ≡ d
       → bytes_eq word (45 ∷ 45 ∷ flag) ≡ f → as_report word ≡ r → is_operand word ≡ a → Apart f r a
@@ -300,7 +300,7 @@ module _ (is_operand : Text → Bool) (flag : Text) where
   by_word word rest false true None true ed ef er ea apart done left met file = absurd (true≢false (sym apart))
   by_word word rest false true None false ed ef er ea apart done left true (Some f) = simp (ed, ea)
   by_word word rest false true None false ed ef er ea apart done left false (Some f) = simp (ed, ef)
-  by_word word rest false true None false ed ef er ea apart done left true None = simp (ed, er, ea) (no_more (names_by is_operand rest) true)
+  by_word word rest false true None false ed ef er ea apart done left true None = simp (ed, er, ea, and-false)
   by_word word rest false true None false ed ef er ea apart done left false None = simp (ed, ef, er)
   by_word word rest false false (Some v) true ed ef er ea apart done left met file = absurd (true≢false (sym apart))
   by_word word rest false false (Some value) false ed ef er ea apart done left true (Some f) = simp (ed, ea)
@@ -309,20 +309,20 @@ module _ (is_operand : Text → Bool) (flag : Text) where
   by_word word rest false false (Some (Some x)) false ed ef er ea apart done left false None = simp (ed, er)
   by_word word [] false false (Some None) false ed ef er ea apart done left true None = simp (ed, er)
   by_word word [] false false (Some None) false ed ef er ea apart done left false None = simp (ed, er)
-  by_word word (next ∷ rest) false false (Some None) false ed ef er ea apart done left true None = simp (ed, er)
-  by_word word (next ∷ rest) false false (Some None) false ed ef er ea apart done left false None = simp (ed, er)
-  by_word word rest false false None true ed ef er ea apart done [] true (Some f) = simp (ed, ea) (no_more true (plain_by is_operand rest))
-  by_word word rest false false None true ed ef er ea apart done [] false (Some f) = simp (ed, ef, ea) (no_more true _)
-  by_word word rest false false None true ed ef er ea apart done [] true None = simp (ed, er, ea) (no_more (names_by is_operand rest) _)
-  by_word word rest false false None true ed ef er ea apart done [] false None = simp (ed, ef, er, ea) (no_more (names_by is_operand rest) _)
+  by_word word (next ∷ rest) false false (Some None) false ed ef er ea apart done left true None = simp (ed, er) (nested (is_operand next) _ _)
+  by_word word (next ∷ rest) false false (Some None) false ed ef er ea apart done left false None = simp (ed, er) (nested (is_operand next) _ _)
+  by_word word rest false false None true ed ef er ea apart done [] true (Some f) = simp (ed, ea, and-false)
+  by_word word rest false false None true ed ef er ea apart done [] false (Some f) = simp (ed, ef, ea, and-false)
+  by_word word rest false false None true ed ef er ea apart done [] true None = simp (ed, er, ea, and-false)
+  by_word word rest false false None true ed ef er ea apart done [] false None = simp (ed, ef, er, ea, and-false)
   by_word word rest false false None true ed ef er ea apart done (id ∷ left) true (Some f) = simp (ed, ea)
   by_word word rest false false None true ed ef er ea apart done (id ∷ left) false (Some f) = simp (ed, ef, ea)
   by_word word rest false false None true ed ef er ea apart done (id ∷ left) true None = simp (ed, er, ea)
   by_word word rest false false None true ed ef er ea apart done (id ∷ left) false None = simp (ed, ef, er, ea)
   by_word word rest false false None false ed ef er ea apart done left true (Some f) = simp (ed, ea)
   by_word word rest false false None false ed ef er ea apart done left false (Some f) = simp (ed, ef, ea)
-  by_word word rest false false None false ed ef er ea apart done left true None = simp (ed, er, ea) (no_more (names_by is_operand rest) true)
-  by_word word rest false false None false ed ef er ea apart done left false None = simp (ed, ef, er, ea) (no_more (names_by is_operand rest) true)
+  by_word word rest false false None false ed ef er ea apart done left true None = simp (ed, er, ea, and-false)
+  by_word word rest false false None false ed ef er ea apart done left false None = simp (ed, ef, er, ea, and-false)
 
   at_the_end : (done : Pairs) (left : List Text) (met : Bool) (file : Option Text)
       → at_end done left met file ≡ counted done left met file []
@@ -399,24 +399,15 @@ plain_all : (words : List Text) → plain_by is_plain_word words ≡ are_plain w
 plain_all [] = refl
 plain_all (word ∷ rest) = ap (λ b. cond (bytes_eq word (codes "--")) true (is_plain_word word && b)) (plain_all rest)
 
-pub names_all : (words : List Text) → names_by is_plain_word words ≡ names_file words
-names_all [] = refl
-names_all (word ∷ rest) = go (bytes_eq word (codes "--")) (as_report word) (names_all rest)
-  where
-    go : (d : Bool) (o : Option (Option Text)) → names_by is_plain_word rest ≡ names_file rest
-        → cond d true (name_by is_plain_word o rest (names_by is_plain_word rest))
-        ≡ cond d true (names_file_by o rest (names_file rest))
-    go true o more = refl
-    go false None more = more
-    go false (Some None) more = refl
-    go false (Some (Some file)) more = refl
+name_same : (o : Option (Option Text)) (rest : List Text) (later : Bool) → name_by is_plain_word o rest later ≡ names_file_by o rest later
+name_same None rest later = refl
+name_same (Some None) rest later = refl
+name_same (Some (Some file)) rest later = refl
 
-parts : (a b c : Bool) (s m : Seen) → cond a (cond b (cond c (Some s) None) None) None ≡ Some m
-    → (a ≡ true) × (b ≡ true) × (c ≡ true) × (s ≡ m)
-parts true true true s m e = (refl, refl, refl, cc)
-parts true true false s m e = cc
-parts true false c s m e = cc
-parts false b c s m e = cc
+names_all : (words : List Text) → names_by is_plain_word words ≡ names_file words
+names_all [] = refl
+names_all (word ∷ rest) = ap (cond (bytes_eq word (codes "--")) true)
+    (name_same (as_report word) rest _ ∙ ap (names_file_by (as_report word) rest) (names_all rest))
 
 -- the report's option names a file
 abbrev pub is_named : Option Text → List Text → Bool
@@ -434,11 +425,18 @@ module _ (flag : Text) (long : long_of (45 ∷ 45 ∷ flag) ≡ Some (flag, None
 
   scan_parts : (p : Text → Bool) → ((word : Text) → p word ≡ true → long_of word ≡ None)
       → (seen : Seen) → scan p flag rest before [] left met file ≡ Some seen
-      → (names_of p file rest ≡ true) × (plain_by p (words_of flag met file rest) ≡ true)
-      × (match_up (operands (words_of flag met file rest)) left ≡ true) × (said ≡ seen)
-  scan_parts p bare seen found = parts (names_of p file rest) (plain_by p (words_of flag met file rest))
-      (match_up (operands (words_of flag met file rest)) left) said seen
+      → let ws = words_of flag met file rest in
+      (names_of p file rest ≡ true) × (plain_by p ws ≡ true) × (match_up (operands ws) left ≡ true) × (said ≡ seen)
+  scan_parts p bare seen found =
+      let ws = words_of flag met file rest in
+      go (names_of p file rest) (plain_by p ws) (match_up (operands ws) left)
       (sym (scan_means p flag (word_apart flag long p apart bare) rest before [] left met file) ∙ found)
+    where
+      go : (a b c : Bool) → cond (a && (b && c)) (Some said) None ≡ Some seen → (a ≡ true) × (b ≡ true) × (c ≡ true) × (said ≡ seen)
+      go true true true e = (refl, refl, refl, cc)
+      go true true false e = cc
+      go true false c e = cc
+      go false b c e = cc
 
   -- what the pass finds is what the words say
   pub found_is : (seen : Seen) → scan is_taken flag rest before [] left met file ≡ Some seen
@@ -466,5 +464,4 @@ module _ (flag : Text) (long : long_of (45 ∷ 45 ∷ flag) ≡ Some (flag, None
       let matches = matched (operands words) left ∙ ap (λ k. length (operands words) == k) count ∙ q.1 in
       scan_passes is_plain_word is_taken flag (λ _. Unit {0}) (λ word more _. (plain_taken word, tt)) rest tt before [] left met file said
       (scan_means is_plain_word flag (word_apart flag long is_plain_word apart (λ word e. taken_bare word (plain_taken word e))) rest before
-      [] left met file ∙ (λ j. cond ((named_all file rest ∙ p.0) j) (cond ((plain_all words ∙ q.0) j)
-      (cond (matches j) (Some said) None) None) None))
+      [] left met file ∙ (λ j. cond ((named_all file rest ∙ p.0) j && ((plain_all words ∙ q.0) j && matches j)) (Some said) None))

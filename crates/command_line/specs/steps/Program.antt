@@ -20,23 +20,16 @@ report_rule = record (new_rule (codes "report")) { long = Some (codes "report");
 abbrev pub shape_with : Text → List Rule → Shape
 shape_with name rules = (fold with_rule (new_app name) rules).top
 
-abbrev pub run_shape : Shape
-run_shape = shape_with (codes "run") (path_rule (codes "rules") ∷ path_rule (codes "plant") ∷ path_rule (codes "input")
-    ∷ path_rule (codes "output") ∷ flag_rule (codes "trace") ∷ report_rule ∷ [])
-
-abbrev pub check_shape : Shape
-check_shape = shape_with (codes "check") (path_rule (codes "rules") ∷ path_rule (codes "plant") ∷ flag_rule (codes "all") ∷ [])
-
-abbrev pub explain_shape : Shape
-explain_shape = shape_with (codes "explain") (path_rule (codes "code") ∷ [])
-
 abbrev pub top_app : App
 top_app = record (new_app (codes "nftrun")) {
   top = record (new_app (codes "nftrun")).top { subcommand_required = true; has_version = true };
 }
 
 abbrev pub program_app : App
-program_app = fold with_subcommand top_app (run_shape ∷ check_shape ∷ explain_shape ∷ [])
+program_app = fold with_subcommand top_app (shape_with (codes "run") (path_rule (codes "rules") ∷ path_rule (codes "plant")
+    ∷ path_rule (codes "input") ∷ path_rule (codes "output") ∷ flag_rule (codes "trace") ∷ report_rule ∷ [])
+    ∷ shape_with (codes "check") (path_rule (codes "rules") ∷ path_rule (codes "plant") ∷ flag_rule (codes "all") ∷ [])
+    ∷ shape_with (codes "explain") (path_rule (codes "code") ∷ []) ∷ [])
 
 -- ---- the same, as the table of subcommands describes it
 
