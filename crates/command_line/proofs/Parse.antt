@@ -532,11 +532,12 @@ module _ (c : Form) (is : IsCommand c) where
   Pends id word rows =
       Stands rows (Some (id, word ∷ [])) × (now rows (Some (id, word ∷ [])) ≡ rows ++ row id word ∷ [])
 
-  pends_operand : (id word : Text) (p : ℕ) (rows : List Row) → arg_by_id c.rules id ≡ Some (place_of id p) → row_at id rows ≡ None
-      → Pends id word rows
-  pends_operand id word p rows found none = (
-    ap (λ o. option_map_or (λ a. use_fault false a (word ∷ []) rows) o []) found ∙ first_use id rows none,
-    ap (λ o. used_by_id o (word ∷ []) rows) found ∙ appended_anew id (row id word).reading CommandLine (word ∷ []) rows none,
+  pends : (id word : Text) (a : Rule) (rows : List Row) → arg_by_id c.rules id ≡ Some a → row_at id rows ≡ None
+      → use_fault false a (word ∷ []) rows ≡ repeats (has_row id rows)
+      → used_by_id (Some a) (word ∷ []) rows ≡ with_values id (row id word).reading CommandLine (word ∷ []) (without id rows) → Pends id word rows
+  pends id word a rows found none fault used = (
+    ap (λ o. option_map_or (λ a. use_fault false a (word ∷ []) rows) o []) found ∙ fault ∙ first_use id rows none,
+    ap (λ o. used_by_id o (word ∷ []) rows) found ∙ used ∙ appended_anew id (row id word).reading CommandLine (word ∷ []) rows none,
   )
 
   operand_fault : (id : Text) (p : ℕ) (rows : List Row) (pending : Pending) → arg_by_index c.rules p ≡ Some (place_of id p)
@@ -573,7 +574,7 @@ module _ (c : Form) (is : IsCommand c) where
       stops (idle_walk (at rows pending) p t) word rest (λ e. stray p (at rows pending) paths (sym turn ∙ e))
   operand_answers t word rest done (id ∷ left) met file p rows pending turn goes paths stands known later =
       let all = now rows pending in
-      let pends = pends_operand id word p all paths.1 known.unused.0 in
+      let pends = pends id word (place_of id p) all paths.1 known.unused.0 refl refl in
       passes (idle_walk (at rows pending) p t) (idle_walk (at all (Some (id, word ∷ []))) (min (p + 1) usize_max) t) word rest _
       (turn ∙ operand_fault id p rows pending paths.0 ∙ stands) (goes ∙ moves id word p t rows pending paths.0)
       (later ((id, word) ∷ done) left met file (min (p + 1) usize_max) all (Some (id, word ∷ [])) paths.5 pends.0
@@ -628,14 +629,6 @@ module _ (c : Form) (is : IsCommand c) where
 
   unnamed_bad : (all : List Row) → c.has_file ≡ true → Bad all (file_pending [])
   unnamed_bad all so e = not_nil _ _ (sym (file_fault [] all so) ∙ e)
-
-  pends_file : (word : Text) (rows : List Row) → c.has_file ≡ true → row_at (codes "report") rows ≡ None
-      → Pends (codes "report") word rows
-  pends_file word rows so none = (
-    file_fault (word ∷ []) rows so ∙ first_use (codes "report") rows none,
-    ap (λ o. used_by_id o (word ∷ []) rows) (report_is so)
-        ∙ appended_anew (codes "report") (row (codes "report") word).reading CommandLine (word ∷ []) rows none,
-  )
 
   named_so : (word : Text) (rest left : List Text) (p : ℕ) (all : List Row) (o : Option Seen) → c.has_file ≡ true
       → Paths c.rules c.flag p left → Answers (idle_walk (at all (file_pending (word ∷ []))) p false) rest o
@@ -787,7 +780,7 @@ module _ (c : Form) (is : IsCommand c) where
     named [] done left met p all so paths known = λ e. unnamed_bad all so (first_nil _ _ e)
     named (word ∷ rest) done left met p all so paths known =
         named_so word rest left p all _ so paths
-        (let pends = pends_file word all so (known.filed so) in
+        (let pends = pends (codes "report") word report_filled all (report_is so) (known.filed so) refl refl in
         parsed false rest done left met (Some word) p all (file_pending (word ∷ [])) paths pends.0
         (subst (λ (x : List Row). fits x done left met (Some word)) (sym pends.1)
         (fits_file c all done left met word so (is.apart.1, (others left p paths).1) known)))

@@ -336,21 +336,6 @@ values f done (id ∷ ids) (word ∷ ops) e holds =
     let first : first_value f id ≡ Some word = first_value-rows f id ∙ ap (option_and_then (λ (r : Row). slice_get r.values 0)) more.1.0 in
     (λ j. unwrap_or (sym first j) [] ∷ more.0 j, more.1.1)
 
-text_of : (id : Text) (met : Bool) → row_text (source_of id met) ≡ Some (bool_text met)
-text_of id true = refl
-text_of id false = refl
-
--- a flag, as it is read
-flag_read : (f : Found) (id : Text) (met result : Bool) → row_at id (rows_of f) ≡ Some (source_of id met)
-    → (one_text f id ≡ Some (codes "true") → result ≡ true) × (one_text f id ≡ Some (codes "false") → result ≡ false)
-    → result ≡ met
-flag_read f id met result at when =
-    go met (one_text-rows f id ∙ ap (option_and_then (λ (r : Row). row_text r)) at ∙ text_of id met)
-  where
-    go : (m : Bool) → one_text f id ≡ Some (bool_text m) → result ≡ m
-    go true r = when.0 r
-    go false r = when.1 r
-
 file_of : (file : Option Text) → option_and_then (λ (r : Row). slice_get r.values 0) (row_of (codes "report") file) ≡ file
 file_of None = refl
 file_of (Some f) = refl
@@ -380,7 +365,12 @@ module _ (words : List Text) (name : Text) (f : Found) (got : HasRead words name
     paths_are = (values f [] c.ids ops found.0 (subst (λ (m : Seen). Holds (rows_of f) m.0) (sym found.1) t.1.2.holds)).0
 
     flag_is : (flag : Bool) → c.has_flag ≡ true → Sets f c.flag flag → flag ≡ is_met c.flag c.met c.file got.1
-    flag_is flag so sets = flag_read f c.flag t.1.0.1 flag (t.1.2.flagged so) sets ∙ ap (λ (m : Seen). m.1) (sym found.1)
+    flag_is flag so sets = go t.1.0.1 (one_text-rows f c.flag ∙ ap (option_and_then (λ (r : Row). row_text r)) (t.1.2.flagged so))
+        ∙ ap (λ (m : Seen). m.1) (sym found.1)
+      where
+        go : (m : Bool) → one_text f c.flag ≡ row_text (source_of c.flag m) → flag ≡ m
+        go true r = sets.0 r
+        go false r = sets.1 r
 
   -- the task is the one that the words request
   pub task_requested : (task : Task) → GivesTask name f task → RequestsTask words task
