@@ -2,11 +2,10 @@
 -- the pass over them (`parsed`): where the pass finds nothing the parse has a fault, and else it has none and the
 -- rows are those of what the pass found.
 use Rattle.std.proofs.Common.{◌&&◌, ◌++◌, ◌+◌, ◌==◌, ◌||◌, ◌∙◌, ◌∷◌, ◌≡◌, [], ℕ, Bool, List, None, Option, Some, ap, append-nil, arith, codes, cond, false}
-use Rattle.std.proofs.Common.{is_some, length, not, refl, suc, sym, true, true≢false, subst}
-use Rattle.std.specs.Prelude.{find, fold, min, option_map, slice_get}
+use Rattle.std.proofs.Common.{is_some, length, not, refl, suc, sym, true, true≢false, subst, find, fold, min, option_map, slice_get, bytes_eq}
 use Rattle.std.specs.List.{list_any}
 use Rattle.std.specs.Option.{option_map_or, option_or}
-use Rattle.std.specs.Str.{bytes_eq, chars}
+use Rattle.std.specs.Str.{chars}
 use Rattle.std.proofs.lemmas.Slice.Eq.{bytes_eq-Decides}
 use Rattle.std.proofs.lemmas.List.Folds.{find-append}
 use Rattle.clap.specs.Facts.{explicit_source}
@@ -28,7 +27,7 @@ use Rattle.clap.proofs.WalkLemmas.{bundle_ends}
 use Rattle.clap.proofs.FaultLemmas.{fault_ends}
 use Rattle.command_line.specs.steps.Program.{flag_rule, path_rule, report_rule}
 use Rattle.command_line.proofs.Words.{Pairs, Seen, has_no_short, Place, after, at_end, before, flag_word, is_flag, is_taken, naming, operand_met, scan}
-use Rattle.command_line.proofs.Words.{word_met}
+use Rattle.command_line.proofs.Words.{word_met, none_of}
 use Rattle.std.proofs.Math.Bool.{and-false, or-false}
 use Rattle.clap.specs.declared.error.kind.ErrorKind.TheVariants.{ArgumentConflict, TooManyValues}
 use Rattle.command_line.specs.CommandLine.{as_report, report_option}
@@ -166,16 +165,12 @@ module _ (s : Shape) (asks : AsksHelp s) (names : Names) (waiting : Waiting) (ro
   Turn k m = (turn_fault s names walk_now word ≡ or_else k (step_fault s p m.0 m.1))
       × (walked s.rules names walk_now word ≡ after_step s.rules word walk_now m.0 m.1)
 
-  no_character : (o : Option ℕ) → not (is_some o) ≡ true → None ≡ o
-  no_character None e = refl
-  no_character (Some x) e = absurd (true≢false (sym e))
-
   plain_met : (u : Option Text) → has_no_short u ≡ true
       → Met (option_map_or (λ flags. bundle_fault s.rules s.args_override_self flags held_now) u [])
       (short_or_plain s.rules waiting word u held_now) → Met [] (plain_word s.rules waiting word held_now)
   plain_met None e met = met
   plain_met (Some flags) e met =
-      let none : None ≡ slice_get (chars flags) 0 = no_character (slice_get (chars flags) 0) e in (
+      let none : None ≡ slice_get (chars flags) 0 = sym (none_of (slice_get (chars flags) 0) e) in (
         met.0 ∙ sym (fault_ends s.rules s.args_override_self (length flags) flags 0 held_now none),
         met.1 ∙ ap (λ (q : Held × Outcome). after_flag s.rules waiting word q.0 q.1)
             (sym (bundle_ends s.rules (length flags) flags 0 plain held_now none)),

@@ -3,14 +3,11 @@
 -- `Words` has the pass over the words of a subcommand, which finds what the definitions say, and `Parse` shows
 -- that clap finds the same, for each command of one form; the three subcommands are such.
 use Rattle.std.proofs.Common.{◌==◌, ◌||◌, ◌∙◌, ◌∷◌, ◌≡◌, [], ℕ, Bool, List, None, Option, Some, ap, codes, cond, false, is_some, refl, rules, subst, sym, true}
-use Rattle.std.proofs.Common.{◌&&◌, inl, inr, length, true≢false}
-use Rattle.std.specs.Prelude.{fold, map, option_map, option_and_then, slice_get, unwrap_or}
-use Rattle.std.specs.List.{slice_index_or}
-use Rattle.std.specs.Str.{bytes_eq}
+use Rattle.std.proofs.Common.{◌&&◌, inl, inr, length, true≢false, fold, map, option_map, option_and_then, slice_get, slice_index_or, bytes_eq}
+use Rattle.std.specs.Prelude.{unwrap_or}
 use Rattle.std.proofs.Math.Bool.{or-true}
 use Rattle.std.proofs.lemmas.Slice.Eq.{bytes_eq-Decides}
-use Rattle.clap.specs.Faults.{check_fault, defaults_fault, entered_fault, fault_of, level_fault, other_fault, settle_fault, stray_fault, turn_fault, walk_fault}
-use Rattle.clap.specs.Faults.{is_simple_and_free}
+use Rattle.clap.specs.Faults.{check_fault, defaults_fault, entered_fault, level_fault, other_fault, settle_fault, stray_fault, turn_fault, walk_fault}
 use Rattle.clap.specs.Kinds.{Kinds, or_else, HasKind}
 use Rattle.clap.specs.Simple.{App, Shape, built, entered, names_of, new_shape, subcommand_of, HasMatchesOf, is_simple, subcommand_rows_of}
 use Rattle.clap.specs.Walk.{Names, Row, Text, Walk, arg_by_long, finished, idle, nothing_held, rows_after, settled, subcommand_met, walked, row_text, rows_of}
@@ -19,22 +16,21 @@ use Rattle.clap.proofs.FaultLemmas.{stopped_fault}
 use Rattle.clap.proofs.OnLiterals.{clap_on_literals}
 use Rattle.clap.proofs.WalkLemmas.{walk_stopped, both, first_value-rows, one_text-rows}
 use Rattle.command_line.specs.steps.Program.{program_app}
-use Rattle.command_line.proofs.Parse.{AsksHelp, Defaults, Fits, Form, Gives, IsCommand, Paths, by_word, either, first_nil, idle_walk, leaf, not_nil, option_by}
-use Rattle.command_line.proofs.Parse.{shown_long, shown_short, then_nil, Holds, row, row_at, row_of, source_of, AnswersAt, parsed}
+use Rattle.command_line.proofs.Parse.{Defaults, Fits, Form, Gives, IsCommand, Paths, by_word, either, first_nil, idle_walk, leaf, not_nil, option_by}
+use Rattle.command_line.proofs.Parse.{shown_long, shown_short, then_nil, Holds, row_of, source_of, AnswersAt, parsed}
 use Rattle.command_line.proofs.Words.{Seen, before, is_taken, scan, Pairs, formed_found, found_formed, found_is, is_met, is_named, match_up, pairs, seen_of}
 use Rattle.command_line.proofs.Words.{words_of}
 use Rattle.std.specs.Borrow.{Bor}
 use Rattle.std.proofs.lemmas.Bool.{or_cases}
-use Rattle.clap.specs.Matches.{first_value, found_of, one_text, subcommand_name_of}
-use Rattle.clap.specs.Values.{bool_text, kind_of}
 use Rattle.clap.specs.declared.error.Error.{Error}
 use Rattle.clap.specs.declared.parser.matches.ArgMatches.{ArgMatches}
 use Rattle.clap.specs.declared.parser.matches.ArgMatches.TheViews.{out-ArgMatches}
 use Rattle.clap.specs.declared.parser.matches.Found.{Found}
-use Rattle.command_line.specs.CommandLine.{AreTexts, RequestsTask, are_operands, is_check, is_explain, is_run, is_well_formed, operands, path_texts}
+use Rattle.command_line.specs.CommandLine.{AreTexts, RequestsTask, are_operands, is_check, is_explain, is_run, is_well_formed, operands}
 use Rattle.command_line.specs.steps.Given.{GivesTask, Sets, value_at}
 use Rattle.command_line.specs.declared.task.Task.{Task}
 use Rattle.command_line.specs.declared.task.Task.TheVariants.{Check, Explain, Run}
+use Rattle.clap.specs.Words.{first_value, found_of, one_text, subcommand_name_of, kind_of, fault_of, is_simple_and_free}
 
 abbrev pub whole : App
 whole = built program_app

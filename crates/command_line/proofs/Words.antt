@@ -1,10 +1,9 @@
 -- What a word of a command line is, one pass over the words of a subcommand, which takes for operands what clap
 -- takes (`scan`), and that it finds what the definitions of the command line say.
 use Rattle.std.proofs.Common.{◌&&◌, ◌==◌, ◌||◌, ◌∙◌, ◌∷◌, ◌≡◌, [], ℕ, Bool, List, None, Option, Some, ap, arith, codes, cond, eq-eqb, eqb-true, false, get_or}
-use Rattle.std.proofs.Common.{is_some, length, not, refl, subst, suc, sym, true, true≢false}
-use Rattle.std.specs.Prelude.{option_and_then, slice_get, unwrap_or}
-use Rattle.std.specs.Option.{option_map_or}
-use Rattle.std.specs.Str.{IsUtf8, bytes_eq, chars, encode_utf8_all}
+use Rattle.std.proofs.Common.{is_some, length, not, refl, subst, suc, sym, true, true≢false, option_and_then, slice_get, IsUtf8, bytes_eq, chars}
+use Rattle.std.proofs.Common.{encode_utf8_all}
+use Rattle.std.specs.Option.{option_map_or, unwrap_or}
 use Rattle.std.specs.List.{before_first}
 use Rattle.std.proofs.lemmas.Bool.{false_from_ne_true, not-true}
 use Rattle.std.proofs.lemmas.Option.{none-some, option_and_then_some}
@@ -129,13 +128,13 @@ plain_taken (c ∷ []) e = go (c == 45)
     go false = refl
 plain_taken (c ∷ x ∷ rest) e = let no : (c == 45) ≡ false = not-true (c == 45) e in simp no
 
+pub none_of : {A : Type 0} (o : Option A) → not (is_some o) ≡ true → o ≡ None
+none_of None e = refl
+none_of (Some x) e = absurd (true≢false (sym e))
+
 pub taken_bare : (word : Text) → is_taken word ≡ true → long_of word ≡ None
-taken_bare word e = go (bytes_eq word (codes "--")) (long_of word) (has_no_short (short_of word)) e
-  where
-    go : (d : Bool) (o : Option (Text × Option Text)) (b : Bool) → (not d && (not (is_some o) && b)) ≡ true → o ≡ None
-    go false None b f = refl
-    go false (Some q) b f = absurd (true≢false (sym f))
-    go true o b f = absurd (true≢false (sym f))
+taken_bare word e = none_of (long_of word) (both (not (is_some (long_of word))) (has_no_short (short_of word))
+    (both (not (bytes_eq word (codes "--"))) (not (is_some (long_of word)) && has_no_short (short_of word)) e).1).0
 
 -- what stands behind a hyphen begins with a character
 no_first : (cs : List ℕ) → not (is_some (slice_get cs 0)) ≡ true → cs ≡ []
@@ -182,11 +181,9 @@ module _ (flag : Text) (long : long_of (45 ∷ 45 ∷ flag) ≡ Some (flag, None
     where
       is_word : (o : Option (Text × Option Text)) → long_of word ≡ o → is_flag flag o ≡ true → word ≡ 45 ∷ 45 ∷ flag
       is_word None is e = absurd (true≢false (sym e))
-      is_word (Some (name, v)) is e = go v is (both (bytes_eq flag name) (not (is_some v)) e)
-        where
-          go : (v : Option Text) → long_of word ≡ Some (name, v) → (bytes_eq flag name ≡ true) × (not (is_some v) ≡ true) → word ≡ 45 ∷ 45 ∷ flag
-          go (Some x) is e = absurd (true≢false (sym e.1))
-          go None is e = long_text word name is ∙ ap (λ (t : Text). 45 ∷ 45 ∷ t) (sym ((bytes_eq-Decides flag name).0 e.0))
+      is_word (Some (name, Some x)) is e = absurd (true≢false (sym (both (bytes_eq flag name) false e).1))
+      is_word (Some (name, None)) is e =
+          long_text word name is ∙ ap (λ (t : Text). 45 ∷ 45 ∷ t) (sym ((bytes_eq-Decides flag name).0 (both (bytes_eq flag name) true e).0))
 
       go : (b : Bool) → bytes_eq word (45 ∷ 45 ∷ flag) ≡ b → b ≡ is_flag flag (long_of word)
       go true e = sym (ap (is_flag flag) (ap long_of ((bytes_eq-Decides word (45 ∷ 45 ∷ flag)).0 e) ∙ long)
