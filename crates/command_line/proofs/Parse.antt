@@ -76,13 +76,7 @@ past_rows id change missing (x ∷ xs) none = go (bytes_eq x.id id) none (past_r
     go false none later = ap (λ (l : List Row). x ∷ l) (later none)
 
 abbrev pub new_row : Text → Reading → ValueSource → List Text → Row
-new_row id how s values = record {
-  id = id;
-  values = values;
-  count = None;
-  source = Some s;
-  reading = how;
-}
+new_row id how s values = record { id = id; values = values; count = None; source = Some s; reading = how }
 
 pub appended : (id : Text) (how : Reading) (s : ValueSource) (values : List Text) (all : List Row)
     → row_at id all ≡ None → with_values id how s values all ≡ all ++ new_row id how s values ∷ []

@@ -18,7 +18,7 @@ use Rattle.clap.proofs.WalkLemmas.{walk_stopped, both, first_value-rows, one_tex
 use Rattle.command_line.specs.steps.Program.{program_app}
 use Rattle.command_line.proofs.Parse.{Defaults, Fits, Form, Gives, IsCommand, Paths, by_word, either, first_nil, idle_walk, leaf, not_nil, option_by}
 use Rattle.command_line.proofs.Parse.{shown_long, shown_short, then_nil, Holds, row_of, source_of, AnswersAt, parsed}
-use Rattle.command_line.proofs.Words.{Seen, before, is_taken, scan, Pairs, formed_found, found_formed, found_is, is_met, is_named, match_up, pairs, seen_of}
+use Rattle.command_line.proofs.Words.{Seen, before, is_taken, scan, taken_bare, Pairs, formed_found, found_formed, scan_parts, is_met, is_named, match_up, pairs, seen_of}
 use Rattle.command_line.proofs.Words.{words_of}
 use Rattle.std.specs.Borrow.{Bor}
 use Rattle.std.proofs.lemmas.Bool.{or_cases}
@@ -59,29 +59,18 @@ run_form = record {
 }
 
 abbrev pub check_form : Form
-check_form = record {
+check_form = record run_form {
   name = codes "check";
   rules = (sub 1).rules;
   ids = codes "rules" ∷ codes "plant" ∷ [];
-  has_flag = true;
   has_file = false;
   flag = codes "all";
-  met = false;
   file = Some [];
 }
 
 -- its flag is none, as if it had been met
 abbrev pub explain_form : Form
-explain_form = record {
-  name = codes "explain";
-  rules = (sub 2).rules;
-  ids = codes "code" ∷ [];
-  has_flag = false;
-  has_file = false;
-  flag = codes "all";
-  met = true;
-  file = Some [];
-}
+explain_form = record check_form { name = codes "explain"; rules = (sub 2).rules; ids = codes "code" ∷ []; has_flag = false; met = true }
 
 -- the pass over the words of a subcommand
 abbrev pub found_in : Form → List Text → Option Seen
@@ -350,7 +339,8 @@ module _ (words : List Text) (name : Text) (f : Found) (got : HasRead words name
     ops = operands (words_of c.flag c.met c.file got.1)
 
     found : (match_up ops c.ids ≡ true) × (seen_of c.flag [] c.ids c.met c.file got.1 ≡ t.1.0)
-    found = found_is c.flag is.command.long is.command.apart.1 got.1 c.ids c.met c.file t.1.0 t.1.1
+    found =
+        let is = scan_parts c.flag is.command.long is.command.apart.1 got.1 c.ids c.met c.file is_taken taken_bare t.1.0 t.1.1 in (is.2, is.3)
 
     -- texts in which the pass finds something are well-formed
     formed : (n : ℕ) → length c.ids ≡ n → AreTexts got.1

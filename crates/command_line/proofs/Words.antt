@@ -420,7 +420,8 @@ module _ (flag : Text) (long : long_of (45 ∷ 45 ∷ flag) ≡ Some (flag, None
   abbrev said : Seen
   said = seen_of flag [] left met file rest
 
-  scan_parts : (p : Text → Bool) → ((word : Text) → p word ≡ true → long_of word ≡ None)
+  -- what the pass finds is what the words say
+  pub scan_parts : (p : Text → Bool) → ((word : Text) → p word ≡ true → long_of word ≡ None)
       → (seen : Seen) → scan p flag rest before [] left met file ≡ Some seen
       → let ws = words_of flag met file rest in
       (names_of p file rest ≡ true) × (plain_by p ws ≡ true) × (match_up (operands ws) left ≡ true) × (said ≡ seen)
@@ -435,12 +436,7 @@ module _ (flag : Text) (long : long_of (45 ∷ 45 ∷ flag) ≡ Some (flag, None
       go true false c e = cc
       go false b c e = cc
 
-  -- what the pass finds is what the words say
-  pub found_is : (seen : Seen) → scan is_taken flag rest before [] left met file ≡ Some seen
-      → (match_up (operands (words_of flag met file rest)) left ≡ true) × (said ≡ seen)
-  found_is seen found = let is = scan_parts is_taken taken_bare seen found in (is.2, is.3)
-
-  -- and texts of which it finds something are well-formed
+  -- texts of which it finds something are well-formed
   pub found_formed : (n : ℕ) → length left ≡ n → (seen : Seen) → scan is_taken flag rest before [] left met file ≡ Some seen
       → AreTexts rest → (is_named file rest && are_operands n (words_of flag met file rest)) ≡ true
   found_formed n count seen found texts =
