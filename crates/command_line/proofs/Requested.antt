@@ -18,8 +18,8 @@ use Rattle.clap.proofs.WalkLemmas.{walk_stopped, both, first_value-rows, one_tex
 use Rattle.command_line.specs.steps.Program.{program_app}
 use Rattle.command_line.proofs.Parse.{Defaults, Fits, Form, Gives, IsCommand, Paths, by_word, either, first_nil, idle_walk, leaf, not_nil, option_by}
 use Rattle.command_line.proofs.Parse.{shown_long, shown_short, then_nil, Holds, row_of, source_of, AnswersAt, parsed}
-use Rattle.command_line.proofs.Words.{Seen, before, is_taken, scan, taken_bare, Pairs, formed_found, found_formed, scan_parts, is_met, is_named, match_up, pairs, seen_of}
-use Rattle.command_line.proofs.Words.{words_of}
+use Rattle.command_line.proofs.Words.{Seen, before, is_taken, scan, taken_bare, Pairs, formed_found, found_formed, scan_parts, is_met, is_named, match_up}
+use Rattle.command_line.proofs.Words.{pairs, seen_of, words_of}
 use Rattle.std.specs.Borrow.{Bor}
 use Rattle.std.proofs.lemmas.Bool.{or_cases}
 use Rattle.clap.specs.declared.error.Error.{Error}
@@ -221,8 +221,14 @@ module _ (c : Form) (is : IsSubcommand c) (program word : Text) (rest : List Tex
         c.name,
         rows_after c.rules [] rest,
         (is.enters program rest).1,
-        (program, rest, refl, ap (λ (d : Form). d.name) (sym of), subst (λ (d : Form). Took d rest (rows_after c.rules [] rest)) (sym of)
-            (go (found_in c rest) refl answer (sym (is.enters program rest).0 ∙ e))),
+        (
+          program,
+          rest,
+          refl,
+          ap (λ (d : Form). d.name) (sym of),
+          subst (λ (d : Form). Took d rest (rows_after c.rules [] rest)) (sym of)
+              (go (found_in c rest) refl answer (sym (is.enters program rest).0 ∙ e)),
+        ),
       ))
     where
       go : (o : Option Seen) → found_in c rest ≡ o → Answer o → level c rest ≡ [] → Took c rest (rows_after c.rules [] rest)
