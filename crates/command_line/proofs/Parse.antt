@@ -238,11 +238,9 @@ version = with_index 1 (filled version_rule)
 -- options that show a text, and others that are unknown
 pub shown_long : (c : List Rule) (b d : Bool) (v : Option Text) (h : Held)
     → long_fault c false (cond b (Some help) (cond d (Some version) None)) v h ≡ [] → ⊥
-shown_long c true d (Some x) h e = not_nil _ _ e
 shown_long c true d None h e = not_nil _ _ (then_nil _ _ e)
-shown_long c false true (Some x) h e = not_nil _ _ e
 shown_long c false true None h e = not_nil _ _ (then_nil _ _ e)
-shown_long c false false v h e = not_nil _ _ e
+shown_long c b d v h e = not_nil _ _ e
 
 pub shown_short : (c : List Rule) (b d : Bool) (rest : Text) (h : Held) (more : Held → Kinds)
     → short_fault c false (cond b (Some help) (cond d (Some version) None)) rest h more ≡ [] → ⊥

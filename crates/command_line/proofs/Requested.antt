@@ -320,12 +320,11 @@ has_read app words m o p is fault matches found names rows =
 values : (f : Found) (done : Pairs) (ids ops : List Text) → match_up ops ids ≡ true → Holds (rows_of f) (pairs done ids ops)
     → (ops ≡ map (value_at f) ids) × Holds (rows_of f) done
 values f done [] [] e holds = (refl, holds)
-values f done [] (word ∷ ops) e holds = absurd (true≢false (sym e))
-values f done (id ∷ ids) [] e holds = absurd (true≢false (sym e))
 values f done (id ∷ ids) (word ∷ ops) e holds =
     let more = values f ((id, word) ∷ done) ids ops e holds in
     let first : first_value f id ≡ Some word = first_value-rows f id ∙ ap (option_and_then (λ (r : Row). slice_get r.values 0)) more.1.0 in
     (λ j. unwrap_or (sym first j) [] ∷ more.0 j, more.1.1)
+values f done ids ops e holds = absurd (true≢false (sym e))
 
 file_of : (file : Option Text) → option_and_then (λ (r : Row). slice_get r.values 0) (row_of (codes "report") file) ≡ file
 file_of None = refl

@@ -353,12 +353,8 @@ module _ (p q : Text → Bool) (flag : Text) (P : List Text → Type 0)
     (passes : (word : Text) (rest : List Text) → P (word ∷ rest) → (p word ≡ true → q word ≡ true) × P rest) where
   scan_passes : (words : List Text) → P words → (place : Place) (done : Pairs) (left : List Text) (met : Bool) (file : Option Text) (seen : Seen)
       → scan p flag words place done left met file ≡ Some seen → scan q flag words place done left met file ≡ Some seen
-  scan_passes [] each before done left met file seen e = e
-  scan_passes [] each after done left met file seen e = e
-  scan_passes (word ∷ rest) each after done [] met file seen e = e
   scan_passes (word ∷ rest) each after done (id ∷ left) met file seen e =
       scan_passes rest (passes word rest each).1 after ((id, word) ∷ done) left met file seen e
-  scan_passes [] each naming done left met file seen e = e
   scan_passes (word ∷ rest) each naming done left met file seen e =
       go (p word) (q word) (passes word rest each).0 (scan_passes rest (passes word rest each).1 before done left met (Some word) seen) e
     where
@@ -377,15 +373,13 @@ module _ (p q : Text → Bool) (flag : Text) (P : List Text → Type 0)
           → word_met d f r a word done left met file (scan p flag rest) ≡ Some seen
           → word_met d f r b word done left met file (scan q flag rest) ≡ Some seen
       go true f r a b pass left met file more e = more after done left met file e
-      go false true r a b pass left true file more e = cc
       go false true r a b pass left false file more e = more before done left true file e
-      go false false (Some v) a b pass left met (Some f) more e = cc
       go false false (Some None) a b pass left met None more e = more naming done left met None e
       go false false (Some (Some f)) a b pass left met None more e = more before done left met (Some f) e
-      go false false None true true pass [] met file more e = cc
       go false false None true true pass (id ∷ left) met file more e = more before ((id, word) ∷ done) left met file e
       go false false None true false pass left met file more e = absurd (true≢false (sym (pass refl)))
-      go false false None false b pass left met file more e = cc
+      go d f r a b pass left met file more e = cc
+  scan_passes words each place done left met file seen e = e
 
 -- ---- the definitions of the command line
 
@@ -394,9 +388,8 @@ plain_all [] = refl
 plain_all (word ∷ rest) = ap (λ b. cond (bytes_eq word (codes "--")) true (is_plain_word word && b)) (plain_all rest)
 
 name_same : (o : Option (Option Text)) (rest : List Text) (later : Bool) → name_by is_plain_word o rest later ≡ names_file_by o rest later
-name_same None rest later = refl
 name_same (Some None) rest later = refl
-name_same (Some (Some file)) rest later = refl
+name_same o rest later = refl
 
 names_all : (words : List Text) → names_by is_plain_word words ≡ names_file words
 names_all [] = refl
@@ -429,9 +422,7 @@ module _ (flag : Text) (long : long_of (45 ∷ 45 ∷ flag) ≡ Some (flag, None
     where
       go : (a b c : Bool) → cond (a && (b && c)) (Some said) None ≡ Some seen → (a ≡ true) × (b ≡ true) × (c ≡ true) × (said ≡ seen)
       go true true true e = (refl, refl, refl, cc)
-      go true true false e = cc
-      go true false c e = cc
-      go false b c e = cc
+      go a b c e = cc
 
   -- texts of which it finds something are well-formed
   pub found_formed : (n : ℕ) → length left ≡ n → (seen : Seen) → scan is_taken flag rest before [] left met file ≡ Some seen
