@@ -173,14 +173,13 @@ module _ (s : Shape) (asks : AsksHelp s) (names : Names) (waiting : Waiting) (ro
   short_fails : (u : Option Text) → has_no_short u ≡ false
       → option_map_or (λ flags. bundle_fault s.rules s.args_override_self flags held_now) u [] ≡ [] → ⊥
   unfolding flags_fault chars
-  short_fails None some e = true≢false some
-  short_fails (Some []) some e = true≢false some
   short_fails (Some (x ∷ rest)) some e = first (slice_get (chars (x ∷ rest)) 0) some e
     where
       first : (o : Option ℕ) → not (is_some o) ≡ false → bundle_step_fault s.rules s.args_override_self o (x ∷ rest) 0 held_now
           (flags_fault s.rules s.args_override_self (length rest)) ≡ [] → ⊥
       first None none f = true≢false none
       first (Some y) none f = asks y _ _ _ f
+  short_fails u some e = true≢false some
 
   module _ (none : subcommand_met names waiting word ≡ None) where
     turns : (k : Kinds) (m : Held × Step) → Met k m → Turn k m

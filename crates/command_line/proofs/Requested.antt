@@ -267,8 +267,6 @@ task_read (program ∷ word ∷ rest) e =
     go false is false f false g false met = absurd (stranger program word rest e met)
 
 pub words_pass : (words : List Text) → is_well_formed words ≡ true → fault_of program_app words ≡ []
-words_pass [] e = absurd (true≢false (sym e))
-words_pass (program ∷ []) e = absurd (true≢false (sym e))
 words_pass (program ∷ name ∷ rest) e = elim (or_cases (bytes_eq name (codes "run") && is_run rest)
     (bytes_eq name (codes "check") && is_check rest || bytes_eq name (codes "explain") && is_explain rest) e) [
       | inl run ↦ words_fit run_form run_sub program name rest 4 refl run
@@ -278,6 +276,7 @@ words_pass (program ∷ name ∷ rest) e = elim (or_cases (bytes_eq name (codes 
             | inr code ↦ words_fit explain_form explain_sub program name rest 1 refl code
           ]
     ]
+words_pass words e = absurd (true≢false (sym e))
 
 -- ---- the parse, as the caller sees it
 

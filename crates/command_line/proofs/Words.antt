@@ -60,13 +60,12 @@ operand_met word place done (id ∷ left) met file later = later place ((id, wor
 -- an operand
 abbrev pub word_met : Bool → Bool → Option (Option Text) → Bool → Text → Pairs → List Text → Bool → Option Text → Later → Option Seen
 word_met true flagged report plain word done left met file later = later after done left met file
-word_met false true report plain word done left true file later = None
 word_met false true report plain word done left false file later = later before done left true file
 word_met false false (Some value) plain word done left met (Some f) later = None
 word_met false false (Some None) plain word done left met None later = later naming done left met None
 word_met false false (Some (Some f)) plain word done left met None later = later before done left met (Some f)
 word_met false false None true word done left met file later = operand_met word before done left met file later
-word_met false false None false word done left met file later = None
+word_met d f r a word done left met file later = None
 
 abbrev pub at_end : Pairs → List Text → Bool → Option Text → Option Seen
 at_end done [] met file = Some (done, met, file)
@@ -333,9 +332,8 @@ module _ (is_operand : Text → Bool) (flag : Text) where
         → scan is_operand flag words place done left met file ≡ meaning words place done left met file
     scan_means [] before done left true (Some f) = at_the_end done left true (Some f)
     scan_means [] before done left false (Some f) = at_the_end done left false (Some f)
-    scan_means [] before done left met file = at_the_end done left met file
-    scan_means [] after done left met file = at_the_end done left met file
     scan_means [] naming done left met file = refl
+    scan_means [] place done left met file = at_the_end done left met file
     scan_means (word ∷ rest) before done left met file =
         (λ j. word_met (bytes_eq word (codes "--")) (bytes_eq word (45 ∷ 45 ∷ flag)) (as_report word) (is_operand word) word
         done left met file (λ p d l m f. scan_means rest p d l m f j))
