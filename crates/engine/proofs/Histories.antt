@@ -1,16 +1,7 @@
 -- Histories, record by record.
-use Rattle.std.proofs.Common.{◌≡◌, ◌+◌, ℕ, suc, max, List, [], ◌∷◌, ◌++◌, length, refl, sym, ap, subst, ◌∙◌, arith}
-use Rattle.std.proofs.Common.{append_assoc, append-nil, zero-add}
-use Rattle.std.specs.List.{flat_map}
-use Rattle.std.proofs.lemmas.Grind.{flat_map-append}
-use Rattle.pcap_io.specs.declared.format.Format.{Format}
-use Rattle.pcap_io.specs.Pcap.{Captured, Recorded, own_moment, decoded_after, decoded_records}
-use Rattle.pcap_io.specs.Sll2.{sll2_header, sll2_record}
-use Rattle.history.specs.History.{Entry, capture_text, in_order, sends}
-use Rattle.rule_check.specs.WellFormed.{WellFormed}
-use Rattle.history.specs.Setup.{Setup}
-use Rattle.stepping.specs.Next.{Next, IsHistoryOf}
-use Rattle.engine.specs.steps.Replayed.{sent_records}
+use Rattle.engine.proofs.Names.{◌+◌, ◌++◌, Captured, Entry, Format, IsHistoryOf, List, Next, Recorded, Setup, WellFormed, [], ap, append-nil, append_assoc}
+use Rattle.engine.proofs.Names.{arith, capture_text, decoded_after, decoded_records, flat_map, flat_map-append, in_order, length, max, own_moment, refl, sends}
+use Rattle.engine.proofs.Names.{sent_records, sll2_header, sll2_record, subst, suc, sym, zero-add, ℕ, ◌∙◌, ◌∷◌, ◌≡◌}
 
 -- each record has an entry after a history, if the ruleset is well-formed
 abbrev pub OneEntry : Type 0

@@ -1,3 +1,4 @@
+mod Names
 mod Known
 mod Writes
 mod Histories

@@ -1,33 +1,11 @@
 -- A run, from the results of its calls.
-use Rattle.std.proofs.Common.{◌≡◌, ◌<◌, ◌≤◌, ◌++◌, ℕ, true, false, Bool, List, [], drop, length, Option, Some, None}
-use Rattle.std.proofs.Common.{IfSome, Result, Ok, Err, IfOk, IfErr, refl, sym, ap, subst, ◌∙◌, inl, inr, arith}
-use Rattle.std.specs.Io.KnownBytes.{Consumes, IsAtEnd}
-use Rattle.list_laws.specs.Options.{IfSome_weaker}
-use Rattle.nft_tree.specs.Tree.{TableTree}
-use Rattle.nft_parser.specs.Spells.{Spells}
-use Rattle.box_file.specs.Box.{PlantTree, IsBox}
-use Rattle.pcap_io.specs.declared.format.Format.{Format}
-use Rattle.pcap_io.specs.declared.fault.CaptureFault.{CaptureFault}
-use Rattle.pcap_io.specs.declared.fault.CaptureFault.TheVariants as captures
-use Rattle.pcap_io.specs.Pcap.{Captured, Pcap, Ending, Ends, format_of, header_fault, decoded_records, HEADER_BYTES}
-use Rattle.pcap_io.specs.CaptureStates.{CaptureState, READ_AHEAD, ahead}
-use Rattle.pcap_io.specs.Counting.{one_more}
-use Rattle.history.specs.History.{Entry, capture_text}
-use Rattle.report.specs.Report.{report_text}
-use Rattle.rule_check.specs.Checked.{CheckedTree}
-use Rattle.stepping.specs.Representing.{setup_of}
-use Rattle.history.specs.Setup.{Setup}
-use Rattle.stepping.specs.Next.{IsHistoryOf}
-use Rattle.engine.specs.declared.fault.RunFault.{RunFault}
-use Rattle.engine.specs.declared.fault.RunFault.TheVariants.{Rules, Box, Capture, Device, Memory}
-use Rattle.engine.specs.Meaning.{Accepted, ending_of, Meaning, WroteOutputs}
-use Rattle.engine.specs.Refusals.{Refuses, IsBeforeHeader, IsOfTexts, IsRefused}
-use Rattle.engine.specs.Judged.{JudgeRefuses}
-use Rattle.engine.specs.AfterFault.{Devices, LeftDevices, RecordsTaken, NothingTaken, Untouched}
-use Rattle.engine.specs.AfterFault.{failed_header_read, failed_read, failed_write, failed_report}
-use Rattle.engine.specs.steps.Inputs.{IsChecked}
-use Rattle.engine.specs.steps.Replayed.{ReadSoFar, ReplayStart, unread_input}
-use Rattle.engine.specs.steps.Written.{OutputsWritten, RefusedAtRecord, FaultLeaves, IsWithin, start_of}
+use Rattle.engine.proofs.Names.{◌++◌, ◌<◌, Accepted, Bool, Box, Capture, CaptureFault, CaptureState, Captured, CheckedTree, Consumes, Device, Devices, Ending}
+use Rattle.engine.proofs.Names.{Ends, Entry, Err, FaultLeaves, Format, HEADER_BYTES, IfErr, IfOk, IfSome, IfSome_weaker, IsAtEnd, IsChecked, IsHistoryOf}
+use Rattle.engine.proofs.Names.{IsRefused, IsWithin, JudgeRefuses, Laws, LeftDevices, List, Meaning, Memory, None, NothingTaken, Ok, Option, OutputsWritten}
+use Rattle.engine.proofs.Names.{Pcap, READ_AHEAD, ReadSoFar, RecordsTaken, RefusedAtRecord, Refuses, ReplayStart, Result, Rules, RunFault, Setup, Some}
+use Rattle.engine.proofs.Names.{Untouched, WroteOutputs, [], ahead, ap, arith, capture_text, decoded_records, drop, ending_of, failed_header_read, failed_read}
+use Rattle.engine.proofs.Names.{failed_report, failed_write, false, format_of, header_fault, inl, inr, length, one_more, refl, report_text, setup_of, start_of}
+use Rattle.engine.proofs.Names.{subst, sym, true, unread_input, ℕ, ◌∙◌, ◌≡◌, ◌≤◌}
 use Rattle.engine.proofs.Known.{known, nothing}
 use Rattle.engine.proofs.Replays.{ahead_is}
 use Rattle.engine.proofs.Histories.{OneEntry, one_history}
@@ -43,59 +21,41 @@ pub if_err_both : {T E : Type 0} (r : Result T E) (O P Q : E → Type 0) → IfE
 if_err_both (Ok x) O P Q o p h = tt
 if_err_both (Err e) O P Q o p h = h e o p
 
--- ---- one reading of the texts and of a capture, and one meaning
+-- ---- one meaning
 
--- a text spells one ruleset at most
-abbrev pub OneTree : Type 0
-OneTree = (text : List ℕ) (first second : List TableTree) → Spells first text → Spells second text → first ≡ second
+abbrev pub OneMeaning : Type 0
+OneMeaning = (rules box capture : List ℕ) (trace : Bool) (count others : ℕ) (torn other_torn : Bool)
+    (sent other_sent report other_report : List ℕ)
+    → Meaning rules box capture trace count torn sent report
+    → Meaning rules box capture trace others other_torn other_sent other_report
+    → (count ≡ others) × (torn ≡ other_torn) × (sent ≡ other_sent) × (report ≡ other_report)
 
--- a text spells one box at most
-abbrev pub OneBox : Type 0
-OneBox = (text : List ℕ) (p q : PlantTree) → IsBox text p → IsBox text q → p ≡ q
-
--- a capture has one reading at most
-abbrev pub OneReading : Type 0
-OneReading = (bytes : List ℕ) (xs ys : List Captured) (ending other : Ending) (one : Pcap bytes xs ending)
-    (two : Pcap bytes ys other) → (xs ≡ ys) × (ending ≡ other) × (one.format ≡ two.format)
-
--- what the readers of the texts and of the capture, and the rules, promise
-pub record Single : Type 0 where
-  pub tree : OneTree
-  pub plant : OneBox
-  pub reading : OneReading
-  pub entry : OneEntry
-
-same_setup : Single → (rules box : List ℕ) (a b : Accepted rules box) → a.setup ≡ b.setup
-same_setup one rules box a b =
-    ap (λ t. record { rules = t; plant = a.setup.plant }) (one.tree rules a.setup.rules b.setup.rules a.spelled
+same_setup : Laws → (rules box : List ℕ) (a b : Accepted rules box) → a.setup ≡ b.setup
+same_setup laws rules box a b =
+    ap (λ t. record { rules = t; plant = a.setup.plant }) (laws.tree rules a.setup.rules b.setup.rules a.spelled
     b.spelled)
-    ∙ ap (λ p. record { rules = b.setup.rules; plant = p }) (one.plant box a.setup.plant b.setup.plant a.read b.read)
+    ∙ ap (λ p. record { rules = b.setup.rules; plant = p }) (laws.plant box a.setup.plant b.setup.plant a.read b.read)
 
 same_sign : (s t : Bool) → ending_of s ≡ ending_of t → s ≡ t
 same_sign true true e = refl
 same_sign false false e = refl
-same_sign true false e = cc
-same_sign false true e = cc
+same_sign _ _ e = cc
 
 -- histories of one configuration and one reading
-same_history : Single → (s t : Setup) (f g : Format) (xs ys : List Captured) (a b : List Entry) → s ≡ t → f ≡ g
+same_history : OneEntry → (s t : Setup) (f g : Format) (xs ys : List Captured) (a b : List Entry) → s ≡ t → f ≡ g
     → xs ≡ ys → IsHistoryOf s [] (decoded_records f xs) a → IsHistoryOf t [] (decoded_records g ys) b → a ≡ b
 same_history one s t f g xs ys a b setup format records is_history other =
-    one_history one.entry t [] (decoded_records g ys) a b
+    one_history one t [] (decoded_records g ys) a b
     (subst (λ (x : List Captured). IsHistoryOf t [] (decoded_records g x) a) records (subst
     (λ (x : Format). IsHistoryOf t [] (decoded_records x xs) a) format (subst
     (λ (x : Setup). IsHistoryOf x [] (decoded_records f xs) a) setup is_history)))
     other
 
-pub one_meaning_of : Single → (rules box capture : List ℕ) (trace : Bool) (count others : ℕ) (torn other_torn : Bool)
-    (sent other_sent report other_report : List ℕ)
-    → Meaning rules box capture trace count torn sent report
-    → Meaning rules box capture trace others other_torn other_sent other_report
-    → (count ≡ others) × (torn ≡ other_torn) × (sent ≡ other_sent) × (report ≡ other_report)
-one_meaning_of one rules box capture trace count others torn other_torn sent other_sent report other_report m n =
-    let same = one.reading capture m.records n.records (ending_of torn) (ending_of other_torn) m.read n.read in
+pub one_meaning_of : Laws → OneEntry → OneMeaning
+one_meaning_of laws one = λ rules box capture trace count others torn other_torn sent other_sent report other_report m n.
+    let same = laws.reading capture m.records n.records (ending_of torn) (ending_of other_torn) m.read n.read in
     let signs : torn ≡ other_torn = same_sign torn other_torn same.1 in
-    let setups : m.accepted.setup ≡ n.accepted.setup = same_setup one rules box m.accepted n.accepted in
+    let setups : m.accepted.setup ≡ n.accepted.setup = same_setup laws rules box m.accepted n.accepted in
     let histories : m.history ≡ n.history =
     same_history one m.accepted.setup n.accepted.setup m.read.format n.read.format m.records n.records m.history
     n.history setups same.2 same.0 m.is_history n.is_history in (
@@ -138,7 +98,7 @@ reading setup format bytes unread ending at header ends =
       ends = ends;
     }
 
-pub wrote : Single → (rules box : List ℕ) (accepted : Accepted rules box) (start : ReplayStart) (format : Format)
+pub wrote : OneMeaning → (rules box : List ℕ) (accepted : Accepted rules box) (start : ReplayStart) (format : Format)
     (input to_come unread w r : Option (List ℕ)) (count : ℕ) (torn : Bool) → start.setup ≡ accepted.setup
     → Opened input to_come format → IfSome to_come (λ bytes. OutputsWritten start format bytes count torn unread w r)
     → IfSome input (λ bytes. WroteOutputs rules box bytes start.trace count torn start.sent w start.report r)
@@ -167,8 +127,7 @@ wrote one rules box accepted start format (Some bytes) to_come unread w r count 
       report = report_text start.setup start.trace history torn;
       meaning = meaning;
       only = λ others other_torn other_sent other_report m.
-          one_meaning_of one rules box bytes start.trace others count other_torn torn other_sent _ other_report _ m
-          meaning;
+          one rules box bytes start.trace others count other_torn torn other_sent _ other_report _ m meaning;
       appends = t.finished.all_sent;
       appends_report = t.finished.all_lines;
     }
@@ -193,12 +152,9 @@ refuses_within rules box accepted setup trace format (Some bytes) to_come old ne
         h.refused,
       ),
     )
-refuses_within rules box accepted setup trace format input to_come old new (Rules fault) opened within says =
-    absurd within
-refuses_within rules box accepted setup trace format input to_come old new (Box fault) opened within says =
-    absurd within
 refuses_within rules box accepted setup trace format input to_come old new Device opened within says = tt
 refuses_within rules box accepted setup trace format input to_come old new Memory opened within says = tt
+refuses_within rules box accepted setup trace format input to_come old new _ opened within says = absurd within
 
 -- ---- the devices
 
@@ -238,8 +194,6 @@ module _ {rules box : List ℕ} (trace : Bool) (accepted : Accepted rules box) (
         → NothingTaken bytes old new)
         → FaultLeaves accepted.setup trace format (drop HEADER_BYTES bytes) (opened_of old unread failed) new fault
         → LeftDevices rules box bytes trace old new fault
-    left_within unread failed (Rules fault) within before none says = absurd within
-    left_within unread failed (Box fault) within before none says = absurd within
     left_within unread failed (Capture fault) within before none (h, no_failure) =
         inr (record {
           taken_so_far = so_far h.reached;
@@ -293,6 +247,7 @@ module _ {rules box : List ℕ} (trace : Bool) (accepted : Accepted rules box) (
         })
     left_within unread failed Memory within before none (inr (same, kept, no_failure)) =
         inl (none same kept (no_failure ∙ before))
+    left_within unread failed _ within before none says = absurd within
 
 -- ---- before the first record
 
@@ -372,28 +327,7 @@ left_of_texts rules box trace input old new (Box fault) takes kept no_failure of
     nothing input (λ bytes. LeftDevices rules box bytes trace old new (Box fault)) (λ bytes. kept)
 left_of_texts rules box trace input old new Memory takes kept no_failure of =
     left_untouched rules box trace input old new [] takes (omega arith) kept no_failure
-left_of_texts rules box trace input old new (Capture fault) takes kept no_failure of = absurd of
-left_of_texts rules box trace input old new Device takes kept no_failure of = absurd of
-
--- and not before the header
-pub not_early : (fault : RunFault) (P : Type 0) → IsWithin fault → IsBeforeHeader fault → P
-not_early (Capture captures.Malformed) P within early = absurd early
-not_early (Capture captures.TooMany) P within early = absurd early
-not_early (Capture captures.TornEnd) P within early = absurd within
-not_early (Capture captures.Magic) P within early = absurd within
-not_early (Capture captures.Version) P within early = absurd within
-not_early (Capture captures.LinkType) P within early = absurd within
-not_early (Rules fault) P within early = absurd within
-not_early (Box fault) P within early = absurd within
-not_early Device P within early = absurd early
-not_early Memory P within early = absurd early
-
-pub not_of_texts : (fault : RunFault) (P : Type 0) → IsWithin fault → IsOfTexts fault → P
-not_of_texts (Capture fault) P within of = absurd of
-not_of_texts (Rules fault) P within of = absurd within
-not_of_texts (Box fault) P within of = absurd within
-not_of_texts Device P within of = absurd of
-not_of_texts Memory P within of = absurd of
+left_of_texts rules box trace input old new _ takes kept no_failure of = absurd of
 
 -- ---- the texts that were checked
 

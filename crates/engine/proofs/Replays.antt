@@ -1,35 +1,16 @@
 -- The records of a capture, one after another.
-use Rattle.std.proofs.Common.{◌≡◌, ◌≤◌, ◌<◌, ℕ, zero, suc, max, Bool, true, false, List, [], ◌∷◌, ◌++◌, length, All}
-use Rattle.std.proofs.Common.{Option, Some, None, IfSome, Ok, Err, refl, sym, ap, subst, ◌∙◌, arith, append_assoc}
-use Rattle.std.proofs.Common.{append-nil, length-append, inl, inr}
-use Rattle.std.specs.Prelude.{cond, slice_index_or}
-use Rattle.std.specs.List.{flat_map}
-use Rattle.std.specs.Io.KnownBytes.{Consumes, IsAtEnd}
-use Rattle.std.proofs.lemmas.Grind.{flat_map-append}
-use Rattle.std.proofs.lemmas.List.Elements.{All-append}
-use Rattle.std.proofs.lemmas.Option.{same_Some}
-use Rattle.list_laws.specs.Options.{IfSome_weaker}
-use Rattle.pcap_io.specs.declared.format.Format.{Format}
-use Rattle.pcap_io.specs.declared.fault.CaptureFault.{CaptureFault}
-use Rattle.pcap_io.specs.declared.fault.CaptureFault.TheVariants as captures
+use Rattle.engine.proofs.Names.{◌++◌, ◌<◌, All, All-append, AllWritten, BeginsWithRecords, Bool, BreaksAtRecord, CaptureFault, CaptureState, Captured, Consumes}
+use Rattle.engine.proofs.Names.{Ending, Ends, Entry, Err, FailsBetween, Format, IfSome, IfSome_weaker, Interrupts, IsAtEnd, IsHistoryOf, IsOfRecords}
+use Rattle.engine.proofs.Names.{IsPartialRecord, IsRecord, IsStop, List, Malformed, Next, NextAnswers, None, Ok, Option, Over, PrefixWritten, READ_AHEAD}
+use Rattle.engine.proofs.Names.{ReadSoFar, ReadsRecord, Recorded, Replay, ReplayRepresents, ReplayStart, Replayed, Setup, Some, TakesRecord, Torn, Whole, []}
+use Rattle.engine.proofs.Names.{ahead, ap, append-nil, append_assoc, arith, cond, decoded_records, ending_at, ending_of, false, flat_map, flat_map-append}
+use Rattle.engine.proofs.Names.{frame, inl, inr, length, length-append, max, one_more, own_moment, refl, same_Some, slice_index_or, stream_of, subst, suc, sym}
+use Rattle.engine.proofs.Names.{torn_at, true, unread_input, zero, ℕ, ◌∙◌, ◌∷◌, ◌≡◌, ◌≤◌}
 use Rattle.pcap_io.specs.declared.fault.CaptureError.TheVariants.{Refused, Device}
-use Rattle.pcap_io.specs.Pcap.{Captured, Recorded, IsRecord, Ending, Whole, Torn, Malformed, Over, Ends, frame}
-use Rattle.pcap_io.specs.Pcap.{stream_of, decoded_records, own_moment}
-use Rattle.pcap_io.specs.CaptureStates.{CaptureState, FailsBetween, IsOfRecords, IsPartialRecord, ReadsRecord}
-use Rattle.pcap_io.specs.CaptureStates.{NextAnswers, READ_AHEAD, ahead}
-use Rattle.pcap_io.specs.Counting.{one_more}
-use Rattle.history.specs.History.{Entry}
-use Rattle.history.specs.Setup.{Setup}
-use Rattle.stepping.specs.Next.{Next, IsHistoryOf}
-use Rattle.engine.specs.declared.fault.RunFault.TheVariants as faults
-use Rattle.engine.specs.declared.replay.Replay.{Replay}
-use Rattle.engine.specs.Meaning.{ending_of}
-use Rattle.engine.specs.steps.Written.{torn_at}
-use Rattle.engine.specs.steps.Replayed.{AllWritten, BreaksAtRecord, BeginsWithRecords}
-use Rattle.engine.specs.steps.Replayed.{Interrupts, IsStop, PrefixWritten, ReplayRepresents, ReadSoFar}
-use Rattle.engine.specs.steps.Replayed.{Replayed, ReplayStart, TakesRecord, unread_input, ending_at}
 use Rattle.engine.proofs.Known.{known}
 use Rattle.engine.proofs.Histories.{is_history_more, latest_after, latest_more, decoded_more}
+use Rattle.pcap_io.specs.declared.fault.CaptureFault.TheVariants as captures
+use Rattle.engine.specs.declared.fault.RunFault.TheVariants as faults
 
 -- these records were taken, and the reader has these bytes left behind those that are held
 pub record Carried (replay : Replay) (start : ReplayStart) (format : Format) (bytes : List ℕ)
@@ -516,9 +497,7 @@ pub stops : (fault : CaptureFault) → IsOfRecords (Refused fault) → IsStop (S
 stops captures.TornEnd is = tt
 stops captures.Malformed is = tt
 stops captures.TooMany is = tt
-stops captures.Magic is = absurd is
-stops captures.Version is = absurd is
-stops captures.LinkType is = absurd is
+stops _ is = absurd is
 
 -- at a fault of the records
 pub refused : (replay : Replay) (new : CaptureState) (start : ReplayStart) (format : Format) (fault : CaptureFault)
@@ -536,15 +515,9 @@ refused replay new start format captures.Malformed a unread after w r is call sa
 refused replay new start format captures.TooMany a unread after w r is call says =
     replayed replay new start format Over a unread after w r call (in_format replay.records.format format Over
     replay.records.count (ahead replay.records unread) (ahead new after) call.same says)
-refused replay new start format captures.Magic a unread after w r is call says = absurd is
-refused replay new start format captures.Version a unread after w r is call says = absurd is
-refused replay new start format captures.LinkType a unread after w r is call says = absurd is
+refused replay new start format _ a unread after w r is call says = absurd is
 
 -- what is no fault of a run is a torn end
 pub torn_only : (fault : CaptureFault) (torn : Bool) → torn_at (Some fault) ≡ Ok torn → fault ≡ captures.TornEnd
 torn_only captures.TornEnd torn e = refl
-torn_only captures.Malformed torn e = cc
-torn_only captures.TooMany torn e = cc
-torn_only captures.Magic torn e = cc
-torn_only captures.Version torn e = cc
-torn_only captures.LinkType torn e = cc
+torn_only _ torn e = cc

@@ -1,37 +1,15 @@
 -- The two texts of a capture whose header is accepted, by how its records stop.
-use Rattle.std.proofs.Common.{◌≡◌, ◌≤◌, ◌⊎◌, ℕ, Bool, true, false, List, [], ◌++◌, length, Option, Some, None, IfSome}
-use Rattle.std.proofs.Common.{Result, Ok, Err, IfErr, refl, sym, ap, subst, ◌∙◌, arith, append-nil, inl, inr}
-use Rattle.std.specs.Prelude.{IsErrOf}
-use Rattle.pcap_io.specs.declared.format.Format.{Format}
-use Rattle.pcap_io.specs.declared.fault.CaptureFault.{CaptureFault}
-use Rattle.pcap_io.specs.declared.fault.CaptureFault.TheVariants as captures
-use Rattle.pcap_io.specs.Pcap.{Ending, Ends}
-use Rattle.pcap_io.specs.CaptureStates.{CaptureState, READ_AHEAD}
-use Rattle.pcap_io.specs.Sll2.{sll2_header}
-use Rattle.pcap_io.specs.Counting.{AppendsPrefix, one_more}
-use Rattle.history.specs.History.{Entry, capture_text}
-use Rattle.history.specs.Setup.{Setup}
-use Rattle.engine.specs.declared.fault.RunFault.{RunFault}
-use Rattle.engine.specs.declared.fault.RunFault.TheVariants.{Rules, Box, Capture, Device, Memory}
-use Rattle.pcap_io.specs.declared.counted.Counted.{Counted}
-use Rattle.pcap_io.specs.declared.sink.SinkError.{SinkError}
-use Rattle.pcap_io.specs.declared.sink.SinkError.TheVariants as sinks
-use Rattle.std.specs.Io.KnownBytes.{Keeps}
-use Rattle.std.proofs.KnownBytes.{Keeps-refl}
-use Rattle.pcap_io.specs.steps.Written.{part_same, part_none}
-use Rattle.list_laws.specs.Options.{IfSome_weaker}
-use Rattle.engine.specs.declared.replay.Replay.{Replay}
-use Rattle.engine.specs.declared.runs.Summary.{Summary}
-use Rattle.engine.specs.Meaning.{ending_of}
-use Rattle.engine.specs.Refusals.{IsOfRecord, fault_at}
-use Rattle.engine.specs.AfterFault.{CountsFault, Devices, NoneFailed}
-use Rattle.engine.specs.steps.Faults.{IsInterruption, of_sink}
-use Rattle.engine.specs.steps.Replayed.{HaltedByWrite, Interrupts, IsStop, ReplayRepresents, Replayed, ReplayStart}
-use Rattle.engine.specs.steps.Replayed.{CountsWriteFault, Writers, unread_input, ending_at}
-use Rattle.engine.specs.steps.Written.{FinishFails, OutputsFinished, IsWithin, FaultLeaves, LeavesPrefix}
-use Rattle.engine.specs.steps.Written.{OutputsWritten, start_of, torn_at}
+use Rattle.engine.proofs.Names.{◌++◌, AppendsPrefix, Bool, Capture, CaptureFault, CaptureState, Counted, CountsFault, CountsWriteFault, Device, Devices, Ending}
+use Rattle.engine.proofs.Names.{Ends, Entry, Err, FaultLeaves, FinishFails, Format, HaltedByWrite, IfErr, IfSome, IfSome_weaker, Interrupts, IsErrOf}
+use Rattle.engine.proofs.Names.{IsInterruption, IsOfRecord, IsStop, IsWithin, Keeps, Keeps-refl, LeavesPrefix, List, Memory, None, NoneFailed, Ok, Option}
+use Rattle.engine.proofs.Names.{OutputsFinished, OutputsWritten, READ_AHEAD, Replay, ReplayRepresents, ReplayStart, Replayed, Result, RunFault, Setup}
+use Rattle.engine.proofs.Names.{SinkError, Some, Summary, Writers, [], ap, append-nil, arith, capture_text, ending_at, ending_of, false, fault_at, inl, inr}
+use Rattle.engine.proofs.Names.{length, of_sink, one_more, part_none, part_same, refl, sll2_header, start_of, subst, sym, torn_at, true, unread_input, ℕ, ◌∙◌}
+use Rattle.engine.proofs.Names.{◌≡◌, ◌≤◌, ◌⊎◌}
 use Rattle.engine.proofs.Histories.{history_length}
 use Rattle.engine.proofs.Known.{nothing}
+use Rattle.pcap_io.specs.declared.fault.CaptureFault.TheVariants as captures
+use Rattle.pcap_io.specs.declared.sink.SinkError.TheVariants as sinks
 
 -- what is Ok is no Err, whatever it holds
 pub not_err : {A : Type 0} {B : Type 0} {x : A} {e : B} → (let ok : Result A B = Ok x in ok ≡ Err e) → ⊥
@@ -44,48 +22,29 @@ from_stop : (stop : Option CaptureFault) (fault : RunFault) (P : RunFault → Ty
     → IfErr (torn_at stop) P → P fault
 from_stop stop fault P e h = let Q : Result Bool RunFault → Type 0 = λ r. IfErr r P in subst Q e h
 
-within_stop : (stop : Option CaptureFault) → IsStop stop → IfErr (torn_at stop) IsWithin
-within_stop None is = tt
-within_stop (Some captures.TornEnd) is = tt
-within_stop (Some captures.Malformed) is = tt
-within_stop (Some captures.TooMany) is = tt
-within_stop (Some captures.Magic) is = absurd is
-within_stop (Some captures.Version) is = absurd is
-within_stop (Some captures.LinkType) is = absurd is
+-- it comes within the records, and is the fault at their end
+abbrev Stops : Option CaptureFault → RunFault → Type 0
+Stops stop fault = IsWithin fault × ((f : CaptureFault) → fault ≡ Capture f → fault_at (ending_at stop) ≡ Some f)
+
+stops_at : (stop : Option CaptureFault) → IsStop stop → IfErr (torn_at stop) (Stops stop)
+stops_at None is = tt
+stops_at (Some captures.TornEnd) is = tt
+stops_at (Some captures.Malformed) is = (tt, λ f e. cc)
+stops_at (Some captures.TooMany) is = (tt, λ f e. cc)
+stops_at _ is = absurd is
 
 -- a fault after the last record comes within the records
 pub within_end : (stop : Option CaptureFault) (fault : RunFault) → IsStop stop → (fault ≡ Device)
     ⊎ (torn_at stop ≡ Err fault) → IsWithin fault
 within_end stop fault is (inl e) = subst IsWithin (sym e) tt
-within_end stop fault is (inr e) = from_stop stop fault IsWithin e (within_stop stop is)
-
-abbrev Stops : Option CaptureFault → RunFault → Type 0
-Stops stop (Capture fault) = fault_at (ending_at stop) ≡ Some fault
-Stops stop (Rules fault) = Unit {0}
-Stops stop (Box fault) = Unit {0}
-Stops stop Device = Unit {0}
-Stops stop Memory = Unit {0}
-
-refused_stop : (stop : Option CaptureFault) → IsStop stop → IfErr (torn_at stop) (Stops stop)
-refused_stop None is = tt
-refused_stop (Some captures.TornEnd) is = tt
-refused_stop (Some captures.Malformed) is = refl
-refused_stop (Some captures.TooMany) is = refl
-refused_stop (Some captures.Magic) is = absurd is
-refused_stop (Some captures.Version) is = absurd is
-refused_stop (Some captures.LinkType) is = absurd is
+within_end stop fault is (inr e) = (from_stop stop fault (Stops stop) e (stops_at stop is)).0
 
 -- the end is torn or not as the records stop
 ending_torn : (stop : Option CaptureFault) (torn : Bool) → torn_at stop ≡ Ok torn → ending_at stop ≡ ending_of torn
-ending_torn None true e = cc
 ending_torn None false e = refl
 ending_torn (Some captures.TornEnd) true e = refl
-ending_torn (Some captures.TornEnd) false e = cc
-ending_torn (Some captures.Malformed) torn e = cc
-ending_torn (Some captures.TooMany) torn e = cc
-ending_torn (Some captures.Magic) torn e = cc
-ending_torn (Some captures.Version) torn e = cc
-ending_torn (Some captures.LinkType) torn e = cc
+ending_torn None true e = cc
+ending_torn _ torn e = cc
 
 -- ---- before the first record
 
@@ -122,16 +81,11 @@ halted_open start s (Some left) w few part =
 pub interrupted_within : (fault : RunFault) → IsInterruption fault → IsWithin fault
 interrupted_within Device is = tt
 interrupted_within Memory is = tt
-interrupted_within (Rules fault) is = absurd is
-interrupted_within (Box fault) is = absurd is
-interrupted_within (Capture fault) is = absurd is
+interrupted_within _ is = absurd is
 
 pub interrupted_by_none : (fault : RunFault) → IsInterruption fault → IsOfRecord fault → ⊥
 interrupted_by_none (Capture fault) is refused = is
-interrupted_by_none Device is refused = refused
-interrupted_by_none Memory is refused = refused
-interrupted_by_none (Rules fault) is refused = refused
-interrupted_by_none (Box fault) is refused = refused
+interrupted_by_none _ is refused = refused
 
 abbrev writers_in : Devices → Writers
 writers_in d = record {
@@ -153,11 +107,8 @@ no_device fault memory device = cc
 
 -- a record that is refused is no device that failed
 pub refused_by_none : {T : Type 0} (fault : RunFault) → IsOfRecord fault → IsErrOf {T = T} (Err fault) Device → ⊥
-refused_by_none Device refused e = refused
-refused_by_none Memory refused e = refused
-refused_by_none (Rules fault) refused e = refused
-refused_by_none (Box fault) refused e = refused
 refused_by_none (Capture fault) refused e = cc
+refused_by_none _ refused e = refused
 
 -- a fault behind calls of which none failed, and behind which no read came
 pub counts_ending : (fault : RunFault) (old mid new : Devices) → NoneFailed old mid
@@ -167,10 +118,7 @@ counts_ending Device old mid new none same (inl h) =
     inr (inl (same ∙ none.0, h.0 ∙ ap one_more none.1, h.1 ∙ none.2))
 counts_ending Device old mid new none same (inr h) =
     inr (inr (same ∙ none.0, h.0 ∙ none.1, h.1 ∙ ap one_more none.2))
-counts_ending Memory old mid new none same h = (same ∙ none.0, h.0 ∙ none.1, h.1 ∙ none.2)
-counts_ending (Rules fault) old mid new none same h = (same ∙ none.0, h.0 ∙ none.1, h.1 ∙ none.2)
-counts_ending (Box fault) old mid new none same h = (same ∙ none.0, h.0 ∙ none.1, h.1 ∙ none.2)
-counts_ending (Capture fault) old mid new none same h = (same ∙ none.0, h.0 ∙ none.1, h.1 ∙ none.2)
+counts_ending _ old mid new none same h = (same ∙ none.0, h.0 ∙ none.1, h.1 ∙ none.2)
 
 pub fault_leaves_interrupted : (setup : Setup) (trace : Bool) (format : Format) (a : Option (List ℕ))
     (old new : Devices) (fault : RunFault)
@@ -180,9 +128,7 @@ pub fault_leaves_interrupted : (setup : Setup) (trace : Bool) (format : Format) 
 fault_leaves_interrupted setup trace format None old new fault h = tt
 fault_leaves_interrupted setup trace format (Some bytes) old new Device h = inl h
 fault_leaves_interrupted setup trace format (Some bytes) old new Memory h = inl h
-fault_leaves_interrupted setup trace format (Some bytes) old new (Rules fault) h = absurd h
-fault_leaves_interrupted setup trace format (Some bytes) old new (Box fault) h = absurd h
-fault_leaves_interrupted setup trace format (Some bytes) old new (Capture fault) h = absurd h
+fault_leaves_interrupted setup trace format (Some bytes) old new _ h = absurd h
 
 -- a writer that is as it was holds what it held
 pub still_held : {W : Type 0} (contents : W → Option (List ℕ)) (old new : Counted W) → new ≡ old
@@ -214,12 +160,6 @@ pub fault_leaves_ended : (replay : Replay) (setup : Setup) (trace : Bool) (forma
     → IfSome a (λ bytes. Replayed replay (start_of setup trace old) format bytes (ending_at stop) new.unread w r)
     → IfSome a (λ bytes. FaultLeaves setup trace format bytes old new fault)
 fault_leaves_ended replay setup trace format None w r stop old new before fault is no_failure same ends i = tt
-fault_leaves_ended replay setup trace format (Some bytes) w r stop old new before (Rules fault) is no_failure same
-    ends i = absurd (ends i.reached.history i.replay_represents)
-fault_leaves_ended replay setup trace format (Some bytes) w r stop old new before (Box fault) is no_failure same
-    ends i = absurd (ends i.reached.history i.replay_represents)
-fault_leaves_ended replay setup trace format (Some bytes) w r stop old new before Memory is no_failure same ends i =
-    absurd (ends i.reached.history i.replay_represents)
 fault_leaves_ended replay setup trace format (Some bytes) w r stop old new before (Capture fault) is no_failure same
     ends i =
     let e = ends i.reached.history i.replay_represents in (
@@ -227,7 +167,7 @@ fault_leaves_ended replay setup trace format (Some bytes) w r stop old new befor
         reached = i.reached;
         few = i.few;
         ending = ending_at stop;
-        refused = from_stop stop (Capture fault) (Stops stop) e.0 (refused_stop stop is);
+        refused = (from_stop stop (Capture fault) (Stops stop) e.0 (stops_at stop is)).1 fault refl;
         ends = i.ends;
         all = e.1;
       },
@@ -251,6 +191,8 @@ fault_leaves_ended replay setup trace format (Some bytes) w r stop old new befor
           },
           u.3 ∙ ap one_more same,
         )
+fault_leaves_ended replay setup trace format (Some bytes) w r stop old new before _ is no_failure same ends i =
+    absurd (ends i.reached.history i.replay_represents)
 
 -- all is done
 pub all_written : (replay : Replay) (start : ReplayStart) (format : Format) (a unread w w' r r' : Option (List ℕ))

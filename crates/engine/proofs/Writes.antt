@@ -1,11 +1,5 @@
 -- What is written, one after another.
-use Rattle.std.proofs.Common.{◌≡◌, ℕ, List, ◌++◌, sym, subst}
-use Rattle.std.specs.declared.option.Option.{Option}
-use Rattle.std.specs.Io.KnownBytes.{Appends}
-use Rattle.std.proofs.KnownBytes.{Appends-trans}
-use Rattle.pcap_io.specs.steps.Written.{part_same, part_after}
-use Rattle.pcap_io.specs.Counting.{AppendsPrefix}
-use Rattle.pcap_io.specs.Buffering.{AppendsBuffered}
+use Rattle.engine.proofs.Names.{◌++◌, Appends, Appends-trans, AppendsBuffered, AppendsPrefix, List, Option, part_after, part_same, subst, sym, ℕ, ◌≡◌}
 
 pub appends_same : (a b : Option (List ℕ)) (xs ys : List ℕ) → Appends a b xs → xs ≡ ys → Appends a b ys
 appends_same a b xs ys w e = subst (Appends a b) e w

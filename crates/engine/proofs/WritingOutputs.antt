@@ -1,29 +1,13 @@
 -- The written and the pending output of a history.
-use Rattle.std.proofs.Common.{◌≡◌, ℕ, Bool, List, [], ◌∷◌, ◌++◌, length, Option, Some, None, IfSome, sym, ap, subst}
-use Rattle.std.proofs.Common.{◌∙◌, append-nil}
-use Rattle.std.specs.List.{flat_map}
-use Rattle.std.specs.Io.KnownBytes.{Appends, Keeps}
-use Rattle.std.proofs.KnownBytes.{Appends-kept, Appends-trans}
-use Rattle.pcap_io.specs.steps.Written.{part_same, part_whole, part_first, part_after, gets_none, gets_more, gets_part}
-use Rattle.pcap_io.specs.Pcap.{Recorded}
-use Rattle.pcap_io.specs.Sll2.{Sent, sll2_record}
-use Rattle.pcap_io.specs.Counting.{AppendsPrefix}
-use Rattle.pcap_io.specs.Buffering.{AppendsBuffered, SinkState}
-use Rattle.nft_tree.specs.Tree.{TableTree}
-use Rattle.history.specs.declared.entry.Entry as lent
-use Rattle.history.specs.declared.outcome.Outcome.{Outcome}
-use Rattle.history.specs.History.{Entry, IsEntry, IsNewest, capture_text, live_in, sends}
-use Rattle.report.specs.Report.{closing_lines, entry_lines, lines_of}
-use Rattle.report.specs.Representing.{ReportState, IsReportOf, AppendsRest, AppendsRestPrefix, note_line}
-use Rattle.history.specs.Setup.{Setup}
-use Rattle.stepping.specs.Next.{Next}
-use Rattle.stepping.specs.Representing.{EngineState, Represents, sends_of}
-use Rattle.engine.specs.declared.replay.Replay.{Replay}
-use Rattle.engine.specs.steps.Replayed.{AllWritten, BreaksAtRecord, PrefixWritten, ReplayRepresents, ReplayStart}
-use Rattle.engine.specs.steps.Replayed.{TakesRecord}
-use Rattle.engine.specs.steps.Written.{OutputsFinished, ReportUnfinished}
+use Rattle.engine.proofs.Names.{◌++◌, AllWritten, Appends, Appends-kept, Appends-trans, AppendsBuffered, AppendsPrefix, AppendsRest, AppendsRestPrefix, Bool}
+use Rattle.engine.proofs.Names.{BreaksAtRecord, EngineState, Entry, IfSome, IsEntry, IsNewest, IsReportOf, Keeps, List, Next, None, Option, Outcome}
+use Rattle.engine.proofs.Names.{OutputsFinished, PrefixWritten, Recorded, Replay, ReplayRepresents, ReplayStart, ReportState, ReportUnfinished, Represents}
+use Rattle.engine.proofs.Names.{Sent, Setup, SinkState, Some, TableTree, TakesRecord, [], ap, append-nil, capture_text, closing_lines, entry_lines, flat_map}
+use Rattle.engine.proofs.Names.{gets_more, gets_none, gets_part, length, lines_of, live_in, note_line, part_after, part_first, part_same, part_whole, sends}
+use Rattle.engine.proofs.Names.{sends_of, sll2_record, subst, sym, ℕ, ◌∙◌, ◌∷◌, ◌≡◌}
 use Rattle.engine.proofs.Histories.{captured_more}
 use Rattle.engine.proofs.Writes.{appends_same, gets_all, gets_so_far, gets_some}
+use Rattle.history.specs.declared.entry.Entry as lent
 
 abbrev pub replay_of : EngineState → ReportState → Replay → SinkState → Replay
 replay_of engine numbers replay sink = record {

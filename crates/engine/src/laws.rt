@@ -7,12 +7,24 @@ ghost use Rattle.engine.specs.declared.judging.Counts.{Counts};
 ghost use Rattle.engine.specs.Judged.{Judged, JudgeRefuses};
 ghost use Rattle.engine.specs.Meaning.{Meaning};
 ghost use Rattle.engine.specs.Refusals.{IsOfTexts, IsRefusal, Refuses};
+ghost use Rattle.engine.specs.steps.Laws.{Laws};
 
 use box_file::{one_box, some_box};
 use nft_parser::{one_fault, one_tree};
 use pcap_io::{one_reading, some_reading};
 use rule_check::{least_fault_unique, well_formed_or_least_fault};
 use stepping::one_entry;
+
+/// What is read is unique, and is never both accepted and refused.
+fn readings()
+    ensures { Laws }
+{
+    one_tree();
+    one_fault();
+    least_fault_unique();
+    one_box();
+    one_reading();
+}
 
 /// The meaning is unique.
 pub fn one_meaning()
@@ -22,9 +34,7 @@ pub fn one_meaning()
         → Meaning rules box capture trace others other_torn other_sent other_report
         → (count ≡ others) × (torn ≡ other_torn) × (sent ≡ other_sent) × (report ≡ other_report) }
 {
-    one_tree();
-    one_box();
-    one_reading();
+    readings();
     one_entry();
 }
 
@@ -34,11 +44,7 @@ pub fn one_refusal()
         → IsRefusal other → Refuses rules box (Some capture) fault
         → Refuses rules box (Some capture) other → fault ≡ other }
 {
-    one_tree();
-    one_fault();
-    least_fault_unique();
-    one_box();
-    one_reading();
+    readings();
 }
 
 /// Refused inputs have no meaning.
@@ -48,11 +54,7 @@ pub fn no_meaning()
         → Refuses rules box (Some capture) fault
         → Meaning rules box capture trace count torn sent report → ⊥ }
 {
-    one_tree();
-    one_fault();
-    least_fault_unique();
-    one_box();
-    one_reading();
+    readings();
 }
 
 /// All inputs have a meaning or a refusal.
@@ -79,11 +81,7 @@ pub fn one_judging()
     ensures apart { (rules box : List ℕ) (counts : Counts) (fault : RunFault) → IsOfTexts fault
         → Judged rules box counts → JudgeRefuses rules box fault → ⊥ }
 {
-    one_tree();
-    one_fault();
-    least_fault_unique();
-    one_box();
-    one_reading();
+    readings();
 }
 
 /// All texts are judged or refused.

@@ -8,14 +8,13 @@ ghost use Rattle.engine.specs.AfterFault.{AllFlushed, CountsFault, LeftDevices, 
 
 use crate::fault::RunFault;
 use crate::inputs::checked;
+use crate::laws::one_meaning;
 use crate::replay::replay_capture;
-use box_file::one_box;
-use nft_parser::one_tree;
-use pcap_io::{Capture, CaptureError, Counted, one_reading};
+use pcap_io::{Capture, CaptureError, Counted};
 use std::alloc::Global;
 use std::hash::RandomState;
 use std::io::{Read, Write};
-use stepping::{Engine, one_entry};
+use stepping::Engine;
 
 /// The result of a run.
 #[derive(Clone, Copy)]
@@ -95,11 +94,7 @@ pub fn run<R: Read, W: Write, W2: Write>(
         Err(CaptureError::Device) => return Err(RunFault::Device),
         Err(CaptureError::Memory) => return Err(RunFault::Memory),
     };
-    // These laws make the meaning unique.
-    one_tree();
-    one_box();
-    one_reading();
-    one_entry();
+    one_meaning();
     let engine = Engine::new(alloc, hasher, checked)?;
     replay_capture(alloc, engine, records, trace, capture, sent, report)
 }

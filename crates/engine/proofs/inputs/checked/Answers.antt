@@ -1,4 +1,4 @@
-use Rattle.nft_tree.specs.Tree.{tables_of}
+use Rattle.engine.proofs.Names.{tables_of}
 use Rattle.engine.proofs.JudgeRefusing.{refused_as}
 use Rattle.engine.proofs.inputs.checked.Goals as goal
 

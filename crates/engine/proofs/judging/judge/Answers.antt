@@ -1,5 +1,4 @@
-use Rattle.std.proofs.Common.{◌≡◌, ◌^◌, ◌-◌, length, min, ap, ◌∙◌, arith}
-use Rattle.rule_limits.specs.Limits.{chain_count, rule_count}
+use Rattle.engine.proofs.Names.{◌-◌, ◌^◌, ap, arith, chain_count, length, min, rule_count, ◌∙◌, ◌≡◌}
 use Rattle.engine.proofs.JudgeRefusing.{length_of_tables}
 use Rattle.engine.proofs.judging.judge.Goals as goal
 

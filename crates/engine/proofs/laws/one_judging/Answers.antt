@@ -1,16 +1,7 @@
-use Rattle.engine.proofs.Refusing.{Laws, judged_once, judged_or_faulty, misjudged_once}
+use Rattle.engine.proofs.Refusing.{judged_once, judged_or_faulty, misjudged_once}
 use Rattle.engine.proofs.laws.one_judging.Goals as goal
 
 pub returns : goal.returns
 returns c =
-    let laws : Laws = record {
-      tree = c.one_tree.ensures.one;
-      faultless = c.one_tree.ensures.faultless;
-      one_fault = c.one_fault.ensures;
-      one_check = c.least_fault_unique.ensures.one;
-      plant = c.one_box.ensures.one;
-      sound_box = c.one_box.ensures.faultless;
-      one_box_fault = c.one_box.ensures.one_fault;
-      reading = c.one_reading.ensures;
-    } in
+    let laws = c.readings.ensures in
     record { counts = judged_once laws; fault = misjudged_once laws; apart = judged_or_faulty laws }

@@ -1,11 +1,6 @@
-use Rattle.std.proofs.Common.{◌∙◌, Err, ap, inr, refl, sym, subst}
-use Rattle.std.proofs.lemmas.Result.{err_from_is_err_and}
-use Rattle.pcap_io.specs.CaptureStates.{CaptureState}
-use Rattle.engine.specs.AfterFault.{devices}
-use Rattle.engine.specs.steps.Written.{LeavesPrefix, WritesOutputs, start_of}
-use Rattle.engine.proofs.Texts.{all_written, counts_ending, fault_as, fault_leaves_begun, fault_leaves_ended, fault_leaves_interrupted}
-use Rattle.engine.proofs.Texts.{interrupted_by_none, interrupted_within, no_device, refused_by_none, still_held}
-use Rattle.engine.proofs.Texts.{within_end}
+use Rattle.engine.proofs.Names.{CaptureState, Err, LeavesPrefix, WritesOutputs, ap, devices, err_from_is_err_and, inr, refl, start_of, subst, sym, ◌∙◌}
+use Rattle.engine.proofs.Texts.{all_written, counts_ending, fault_as, fault_leaves_begun, fault_leaves_ended, fault_leaves_interrupted, interrupted_by_none}
+use Rattle.engine.proofs.Texts.{interrupted_within, no_device, refused_by_none, still_held, within_end}
 use Rattle.engine.proofs.replay.replay_capture.Goals as goal
 
 pub returns-in_err-replay-clause-left : goal.returns-in_err-replay-clause-left

@@ -1,11 +1,7 @@
-use Rattle.std.proofs.Common.{Err, ap, refl}
-use Rattle.std.proofs.KnownBytes.{Consumes-nil, Keeps-refl}
-use Rattle.std.proofs.lemmas.Result.{err_from_is_err_and}
-use Rattle.engine.specs.AfterFault.{devices}
-use Rattle.engine.specs.steps.Written.{start_of}
+use Rattle.engine.proofs.Names.{Consumes-nil, Err, Keeps-refl, ap, devices, err_from_is_err_and, refl, start_of}
 use Rattle.engine.proofs.JudgeRefusing.{misjudged}
-use Rattle.engine.proofs.Meanings.{Single, accepted_of, if_ok_then, if_err_both, left_all, left_of_texts, left_unopened}
-use Rattle.engine.proofs.Meanings.{left_unread, left_untouched, opened, refused_unread, refuses_within, wrote}
+use Rattle.engine.proofs.Meanings.{accepted_of, if_ok_then, if_err_both, left_all, left_of_texts, left_unopened, left_unread, left_untouched, opened}
+use Rattle.engine.proofs.Meanings.{refused_unread, refuses_within, wrote}
 use Rattle.engine.proofs.runs.run.Goals as goal
 
 pub returns-in_err-checked-clause-refusals : goal.returns-in_err-checked-clause-refusals
@@ -49,18 +45,12 @@ returns-in-Err-Memory-clause-left g c =
 
 pub returns-clause-meaning : goal.returns-clause-meaning
 returns-clause-meaning g c =
-    let one : Single = record {
-      tree = c.one_tree.ensures.one;
-      plant = c.one_box.ensures.one;
-      reading = c.one_reading.ensures;
-      entry = c.one_entry.ensures.one;
-    } in
     let state = devices g.R.Read.remaining g.W.Write.contents g.W2.Write.contents in
     let start = start_of c.in_ok-engine.engine.setup c.args.trace (state c.args.capture.now c.args.sent.now c.args.report.now)
     in
     let read = c.open.ensures.read in
     if_ok_then _ _ _ c.replay_capture.ensures.written (λ summary done.
-    wrote one _ _ (accepted_of _ _ c.in_ok-checked.checked c.in_ok-checked.ensures.fine) start _ _ _ _ _ _ _ _
+    wrote c.one_meaning.ensures _ _ (accepted_of _ _ c.in_ok-checked.checked c.in_ok-checked.ensures.fine) start _ _ _ _ _ _ _ _
     c.in_ok-engine.ensures.setup
     (opened _ c.in-Ok.records _ read.0 read.1 c.in-Ok.ensures.drained c.in-Ok.ensures.bytes) done)
 

@@ -1,5 +1,4 @@
-use Rattle.std.proofs.KnownBytes.{Keeps-refl}
-use Rattle.std.proofs.lemmas.Result.{err_from_is_err_and}
+use Rattle.engine.proofs.Names.{Keeps-refl, err_from_is_err_and}
 use Rattle.engine.proofs.WritingOutputs.{all_drained, prefix_written, part_undrained, part_unsent, still_written}
 use Rattle.engine.proofs.replay.Replay.close.Goals as goal
 

@@ -1,5 +1,4 @@
-use Rattle.std.proofs.Common.{◌∙◌, sym, inl, inr}
-use Rattle.std.proofs.lemmas.Result.{err_from_is_err_and}
+use Rattle.engine.proofs.Names.{err_from_is_err_and, inl, inr, sym, ◌∙◌}
 use Rattle.engine.proofs.WritingOutputs.{finished, part_unsent, unfinished}
 use Rattle.engine.proofs.replay.Replay.finish.Goals as goal
 

@@ -1,4 +1,4 @@
-use Rattle.std.proofs.lemmas.Result.{err_from_is_err_and}
+use Rattle.engine.proofs.Names.{err_from_is_err_and}
 use Rattle.engine.proofs.WritingOutputs.{all_drained, part_undrained, part_unsent}
 use Rattle.engine.proofs.replay.Replay.flush_before_read.Goals as goal
 

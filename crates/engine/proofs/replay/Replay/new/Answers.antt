@@ -1,6 +1,4 @@
-use Rattle.std.proofs.lemmas.Result.{err_from_is_err_and}
-use Rattle.pcap_io.specs.Sll2.{sll2_header}
-use Rattle.pcap_io.specs.steps.Written.{part_none}
+use Rattle.engine.proofs.Names.{err_from_is_err_and, part_none, sll2_header}
 use Rattle.engine.proofs.replay.Replay.new.Goals as goal
 
 pub returns-in_err-numbers-clause-part : goal.returns-in_err-numbers-clause-part

@@ -1,10 +1,6 @@
-use Rattle.std.proofs.Common.{◌≡◌, ◌∙◌, [], false, Ok, Err, arith, ap, rules, sym}
-use Rattle.std.proofs.lemmas.Result.{err_from_is_err_and}
-use Rattle.std.proofs.lemmas.Bool.{false_from_ne_true}
+use Rattle.engine.proofs.Names.{CaptureState, Err, Ok, [], ap, arith, err_from_is_err_and, false, false_from_ne_true, is_ready, rules, sym, ◌∙◌, ◌≡◌}
 use Rattle.pcap_io.specs.declared.fault.CaptureError.TheVariants.{Refused}
-use Rattle.pcap_io.specs.CaptureStates.{CaptureState, is_ready}
-use Rattle.engine.proofs.Replays.{begun, cut, ended, fetched, halted, halted_at, lacks, more, read_after, refused}
-use Rattle.engine.proofs.Replays.{torn_only}
+use Rattle.engine.proofs.Replays.{begun, cut, ended, fetched, halted, halted_at, lacks, more, read_after, refused, torn_only}
 use Rattle.engine.proofs.WritingOutputs.{broke_writing}
 use Rattle.engine.proofs.replay.Replay.replay_records.Goals as goal
 

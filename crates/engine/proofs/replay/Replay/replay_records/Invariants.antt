@@ -1,8 +1,5 @@
 -- the records so far are processed, their output is written or pending, and no call failed
-use Rattle.std.proofs.Common.{◌≡◌, ◌≤◌, ◌-◌, true, None, IfSome, [], length}
-use Rattle.std.specs.Io.KnownBytes.{IsAtEnd}
-use Rattle.pcap_io.specs.CaptureStates.{READ_AHEAD}
-use Rattle.engine.specs.steps.Replayed.{ReplayRepresents, ReplayStart, RepresentsSome, unread_input}
+use Rattle.engine.proofs.Names.{◌-◌, IfSome, IsAtEnd, None, READ_AHEAD, ReplayRepresents, ReplayStart, RepresentsSome, [], length, true, unread_input, ◌≡◌, ◌≤◌}
 use Rattle.engine.proofs.Replays.{Carried}
 use Rattle.engine.proofs.replay.Replay.replay_records.Given as goal
 

@@ -1,7 +1,5 @@
-use Rattle.std.proofs.Common.{◌∷◌, true}
-use Rattle.stepping.specs.Representing.{recorded_of}
-use Rattle.engine.proofs.WritingOutputs.{at_record, broke_sending, broke_unread, readied, roomier}
-use Rattle.engine.proofs.WritingOutputs.{took_silently, took_sending}
+use Rattle.engine.proofs.Names.{recorded_of, true, ◌∷◌}
+use Rattle.engine.proofs.WritingOutputs.{at_record, broke_sending, broke_unread, readied, roomier, took_silently, took_sending}
 use Rattle.engine.proofs.replay.Replay.take.Goals as goal
 
 pub unreachable-requires-in_default-entry : goal.unreachable-requires-in_default-entry
