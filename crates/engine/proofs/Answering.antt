@@ -5,7 +5,7 @@ use Rattle.engine.proofs.Names.{Refuses, Rules, RunFault, Some, Spelled, Spells,
 use Rattle.engine.proofs.Names.{chain_count, decoded_records, ending_of, false, header_fault, inl, inr, length, min, refl, report_text, rule_count, true, ℕ}
 use Rattle.engine.proofs.Names.{◌≡◌, ◌⊎◌}
 use Rattle.engine.proofs.Histories.{SomeEntry, some_history}
-use Rattle.engine.proofs.JudgeRefusing.{accepted_by, misjudged, refusal_of}
+use Rattle.engine.proofs.Refusing.{accepted_by, misjudged, refusal_of}
 use Rattle.pcap_io.specs.declared.fault.CaptureFault.TheVariants as captures
 
 -- what the readers of the texts promise

@@ -36,19 +36,13 @@ pub is_history_more : (setup : Setup) (before : List Entry) (rs : List Recorded)
 is_history_more setup before [] r mid e g n = (e, subst (λ (s : List Entry). Next setup s r e) g n, ap (λ s. e ∷ s) g)
 is_history_more setup before (x ∷ xs) r mid e (f, m, g) n = (f, m, is_history_more setup (f ∷ before) xs r mid e g n)
 
--- ---- what it sends
-
--- with one entry more
-pub sent_more : (history : List Entry) (e : Entry)
-    → sent_records (e ∷ history) ≡ sent_records history ++ flat_map sll2_record (sends e)
-sent_more history e =
-    ap (flat_map sll2_record) (flat_map-append sends (in_order history) (e ∷ [])
-    ∙ ap (λ xs. flat_map sends (in_order history) ++ xs) (append-nil (sends e)))
-    ∙ flat_map-append sll2_record (flat_map sends (in_order history)) (sends e)
-
+-- what it sends with one entry more
 pub captured_more : (history : List Entry) (e : Entry)
     → capture_text (e ∷ history) ≡ capture_text history ++ flat_map sll2_record (sends e)
-captured_more history e = ap (λ xs. sll2_header ++ xs) (sent_more history e)
+captured_more history e =
+    ap (λ xs. sll2_header ++ xs) (ap (flat_map sll2_record) (flat_map-append sends (in_order history) (e ∷ [])
+    ∙ ap (λ xs. flat_map sends (in_order history) ++ xs) (append-nil (sends e)))
+    ∙ flat_map-append sll2_record (flat_map sends (in_order history)) (sends e))
     ∙ sym (append_assoc sll2_header (sent_records history) (flat_map sll2_record (sends e)))
 
 -- ---- the decoded records

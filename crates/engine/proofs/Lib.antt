@@ -1,11 +1,8 @@
 mod Names
-mod Known
-mod Writes
 mod Histories
 mod WritingOutputs
 mod Replays
 mod Texts
 mod Refusing
 mod Answering
-mod JudgeRefusing
 mod Meanings

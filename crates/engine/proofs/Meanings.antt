@@ -6,7 +6,6 @@ use Rattle.engine.proofs.Names.{Pcap, READ_AHEAD, ReadSoFar, RecordsTaken, Refus
 use Rattle.engine.proofs.Names.{Untouched, WroteOutputs, [], ahead, ap, arith, capture_text, decoded_records, drop, ending_of, failed_header_read, failed_read}
 use Rattle.engine.proofs.Names.{failed_report, failed_write, false, format_of, header_fault, inl, inr, length, one_more, refl, report_text, setup_of, start_of}
 use Rattle.engine.proofs.Names.{subst, sym, true, unread_input, ℕ, ◌∙◌, ◌≡◌, ◌≤◌}
-use Rattle.engine.proofs.Known.{known, nothing}
 use Rattle.engine.proofs.Replays.{ahead_is}
 use Rattle.engine.proofs.Histories.{OneEntry, one_history}
 
@@ -100,14 +99,13 @@ reading setup format bytes unread ending at header ends =
 
 pub wrote : OneMeaning → (rules box : List ℕ) (accepted : Accepted rules box) (start : ReplayStart) (format : Format)
     (input to_come unread w r : Option (List ℕ)) (count : ℕ) (torn : Bool) → start.setup ≡ accepted.setup
-    → Opened input to_come format → IfSome to_come (λ bytes. OutputsWritten start format bytes count torn unread w r)
+    → Opened input to_come format
+    → ((bytes : List ℕ) → to_come ≡ Some bytes → OutputsWritten start format bytes count torn unread w r)
     → IfSome input (λ bytes. WroteOutputs rules box bytes start.trace count torn start.sent w start.report r)
 unfolding reading
 wrote one rules box accepted start format None to_come unread w r count torn same opened done = tt
 wrote one rules box accepted start format (Some bytes) to_come unread w r count torn same opened done =
-    let t : OutputsWritten start format (drop HEADER_BYTES bytes) count torn unread w r =
-    known to_come (drop HEADER_BYTES bytes) (λ bytes. OutputsWritten start format bytes count torn unread w r)
-    opened.2 done in
+    let t : OutputsWritten start format (drop HEADER_BYTES bytes) count torn unread w r = done _ opened.2 in
     let history : List Entry = t.reached.history in
     let meaning : Meaning rules box bytes start.trace count torn (capture_text history)
     (report_text start.setup start.trace history torn) =
@@ -136,14 +134,13 @@ wrote one rules box accepted start format (Some bytes) to_come unread w r count 
 pub refuses_within : (rules box : List ℕ) (accepted : Accepted rules box) (setup : Setup) (trace : Bool)
     (format : Format) (input to_come : Option (List ℕ)) (old new : Devices) (fault : RunFault)
     → Opened input to_come format → IsWithin fault
-    → IfSome to_come (λ bytes. FaultLeaves setup trace format bytes old new fault) → Refuses rules box input fault
+    → ((bytes : List ℕ) → to_come ≡ Some bytes → FaultLeaves setup trace format bytes old new fault)
+    → Refuses rules box input fault
 refuses_within rules box accepted setup trace format None to_come old new (Capture fault) opened within says =
     (accepted, tt)
 refuses_within rules box accepted setup trace format (Some bytes) to_come old new (Capture fault) opened within says =
-    let s = known to_come (drop HEADER_BYTES bytes)
-    (λ bytes. FaultLeaves setup trace format bytes old new (Capture fault)) opened.2 says in
     let h : RefusedAtRecord (start_of setup trace old) format (drop HEADER_BYTES bytes) fault new.unread new.sent
-    new.report = s.0 in (
+    new.report = (says _ opened.2).0 in (
       accepted,
       inr (
         h.reached.follows.records,
@@ -321,13 +318,12 @@ pub left_of_texts : (rules box : List ℕ) (trace : Bool) (input : Option (List 
     → Consumes input new.unread [] → Untouched old new → new.reads_failed ≡ old.reads_failed
     → JudgeRefuses rules box fault
     → IfSome input (λ bytes. LeftDevices rules box bytes trace old new fault)
-left_of_texts rules box trace input old new (Rules fault) takes kept no_failure of =
-    nothing input (λ bytes. LeftDevices rules box bytes trace old new (Rules fault)) (λ bytes. kept)
-left_of_texts rules box trace input old new (Box fault) takes kept no_failure of =
-    nothing input (λ bytes. LeftDevices rules box bytes trace old new (Box fault)) (λ bytes. kept)
-left_of_texts rules box trace input old new Memory takes kept no_failure of =
-    left_untouched rules box trace input old new [] takes (omega arith) kept no_failure
-left_of_texts rules box trace input old new _ takes kept no_failure of = absurd of
+left_of_texts rules box trace None old new fault takes kept no_failure of = tt
+left_of_texts rules box trace (Some bytes) old new (Rules fault) takes kept no_failure of = kept
+left_of_texts rules box trace (Some bytes) old new (Box fault) takes kept no_failure of = kept
+left_of_texts rules box trace (Some bytes) old new Memory takes kept no_failure of =
+    inl (unbegun bytes [] old new new.unread refl takes (omega arith) kept no_failure)
+left_of_texts rules box trace (Some bytes) old new _ takes kept no_failure of = absurd of
 
 -- ---- the texts that were checked
 
@@ -346,7 +342,8 @@ pub left_all : (rules box : List ℕ) (trace : Bool) (accepted : Accepted rules 
     (fault : RunFault)
     → failed ≡ old.reads_failed → Consumes input unread part → length part ≤ READ_AHEAD → setup ≡ accepted.setup
     → Opened input to_come format → IsWithin fault
-    → IfSome to_come (λ bytes. FaultLeaves setup trace format bytes (opened_of old unread failed) new fault)
+    → ((bytes : List ℕ) → to_come ≡ Some bytes
+    → FaultLeaves setup trace format bytes (opened_of old unread failed) new fault)
     → IfSome input (λ bytes. LeftDevices rules box bytes trace old new fault)
 left_all rules box trace accepted setup format None to_come old new unread failed part fault before takes few same
     opened within says = tt
@@ -355,6 +352,4 @@ left_all rules box trace accepted setup format (Some bytes) to_come old new unre
     left_within trace accepted format bytes old new opened.1 unread failed fault within before
     (λ left kept all_read. unbegun bytes part old new unread left takes few kept all_read)
     (subst (λ (s : Setup). FaultLeaves s trace format (drop HEADER_BYTES bytes) (opened_of old unread failed) new fault)
-    same
-    (known to_come (drop HEADER_BYTES bytes)
-    (λ bytes. FaultLeaves setup trace format bytes (opened_of old unread failed) new fault) opened.2 says))
+    same (says _ opened.2))

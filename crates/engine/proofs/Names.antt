@@ -15,19 +15,17 @@ pub use Rattle.engine.specs.declared.runs.Summary.{Summary}
 pub use Rattle.engine.specs.steps.Faults.{IsInterruption, of_sink}
 pub use Rattle.engine.specs.steps.Inputs.{IsChecked}
 pub use Rattle.engine.specs.steps.Laws.{Laws}
-pub use Rattle.engine.specs.steps.Replayed.{AllWritten, BeginsWithRecords, BreaksAtRecord, CountsWriteFault, HaltedByWrite, Interrupts, IsStop, PrefixWritten}
-pub use Rattle.engine.specs.steps.Replayed.{ReadSoFar, ReplayRepresents, ReplayStart, Replayed, RepresentsSome, TakesRecord, Writers, ending_at, sent_records}
-pub use Rattle.engine.specs.steps.Replayed.{unread_input}
-pub use Rattle.engine.specs.steps.Written.{FaultLeaves, FinishFails, IsWithin, LeavesPrefix, OutputsFinished, OutputsWritten, RefusedAtRecord, ReportUnfinished}
-pub use Rattle.engine.specs.steps.Written.{WritesOutputs, start_of, torn_at}
+pub use Rattle.engine.specs.steps.Replayed.{AllWritten, BeginsWithRecords, BreaksAtRecord, CountsWriteFault, FaultLeaves, FinishFails, HaltedByWrite}
+pub use Rattle.engine.specs.steps.Replayed.{Interrupts, IsStop, IsWithin, LeavesPrefix, OutputsFinished, OutputsWritten, PrefixWritten, ReadSoFar}
+pub use Rattle.engine.specs.steps.Replayed.{RefusedAtRecord, ReplayRepresents, ReplayStart, Replayed, ReportUnfinished, RepresentsSome, TakesRecord, Writers}
+pub use Rattle.engine.specs.steps.Replayed.{WritesOutputs, ending_at, sent_records, start_of, torn_at, unread_input}
 pub use Rattle.history.specs.History.{Entry, IsEntry, IsNewest, capture_text, in_order, live_in, sends}
 pub use Rattle.history.specs.Setup.{Setup}
 pub use Rattle.history.specs.declared.outcome.Outcome.{Outcome}
-pub use Rattle.list_laws.specs.Options.{IfSome_weaker}
+pub use Rattle.list_laws.specs.Options.{IfSome_at, IfSome_weaker}
 pub use Rattle.nft_parser.specs.Spells.{HasTextFault, Spells}
 pub use Rattle.nft_parser.specs.declared.fault.TextFault.{TextFault}
 pub use Rattle.nft_tree.specs.Tree.{TableTree, table_tree, tables_of}
-pub use Rattle.nft_tree.specs.declared.ruleset.Ruleset.{Ruleset}
 pub use Rattle.pcap_io.specs.Buffering.{AppendsBuffered, SinkState}
 pub use Rattle.pcap_io.specs.CaptureStates.{CaptureState, FailsBetween, IsOfRecords, IsPartialRecord, NextAnswers, READ_AHEAD, ReadsRecord, ahead, is_ready}
 pub use Rattle.pcap_io.specs.Counting.{AppendsPrefix, one_more}
@@ -35,15 +33,15 @@ pub use Rattle.pcap_io.specs.Pcap.{Captured, Ending, Ends, HEADER_BYTES, IsRecor
 pub use Rattle.pcap_io.specs.Pcap.{format_of, frame, header_fault, own_moment, stream_of}
 pub use Rattle.pcap_io.specs.Sll2.{Sent, sll2_header, sll2_record}
 pub use Rattle.pcap_io.specs.declared.counted.Counted.{Counted}
+pub use Rattle.pcap_io.specs.declared.fault.CaptureError.TheVariants.{Refused}
 pub use Rattle.pcap_io.specs.declared.fault.CaptureFault.{CaptureFault}
 pub use Rattle.pcap_io.specs.declared.format.Format.{Format}
 pub use Rattle.pcap_io.specs.declared.sink.SinkError.{SinkError}
 pub use Rattle.pcap_io.specs.steps.Written.{gets_more, gets_none, gets_part, part_after, part_first, part_none, part_same, part_whole}
 pub use Rattle.report.specs.Report.{closing_lines, entry_lines, lines_of, report_text}
 pub use Rattle.report.specs.Representing.{AppendsRest, AppendsRestPrefix, IsReportOf, ReportState, note_line}
-pub use Rattle.rule_check.specs.Checked.{CheckedTree, IsCheckRefusal}
+pub use Rattle.rule_check.specs.Checked.{CheckedTree}
 pub use Rattle.rule_check.specs.WellFormed.{LeastFault, WellFormed}
-pub use Rattle.rule_check.specs.declared.fault.CheckError.{CheckError}
 pub use Rattle.rule_check.specs.declared.fault.CheckFault.{CheckFault}
 pub use Rattle.rule_limits.specs.Limits.{chain_count, rule_count}
 pub use Rattle.std.proofs.Common.{◌+◌, ◌++◌, ◌-◌, ◌<◌, All, Bool, Err, IfErr, IfOk, IfSome, List, None, Ok, Option, Result, Some, [], ◌^◌, ap, append-nil}

@@ -1,9 +1,31 @@
 -- Inputs have at most one refusal, and then no meaning; and two texts have at most one judgement.
 use Rattle.engine.proofs.Names.{◌-◌, Accepted, Bool, Box, Capture, CaptureFault, Captured, Check, CheckFault, Counts, Device, Ending, IsOfTexts, IsRefusal}
-use Rattle.engine.proofs.Names.{IsRefused, JudgeRefuses, Judged, Laws, LeastFault, List, Meaning, Memory, Pcap, PlantTree, Refuses, Rules, RunFault, Some}
-use Rattle.engine.proofs.Names.{Spelled, TableTree, Text, [], ◌^◌, ap, chain_count, ending_of, false, fault_at, header_fault, inl, inr, length, min, result_err}
-use Rattle.engine.proofs.Names.{rule_count, subst, sym, true, ℕ, ◌∙◌, ◌≡◌}
-use Rattle.engine.proofs.JudgeRefusing.{accepted_by, misjudged, refusal_of}
+use Rattle.engine.proofs.Names.{IsRefused, JudgeRefuses, Judged, Laws, LeastFault, List, Meaning, Memory, Option, Pcap, PlantTree, Refuses, Rules, RunFault}
+use Rattle.engine.proofs.Names.{Some, Spelled, TableTree, Text, WellFormed, [], ◌^◌, ap, chain_count, ending_of, false, fault_at, header_fault, inl, inr}
+use Rattle.engine.proofs.Names.{length, min, result_err, rule_count, subst, sym, true, ℕ, ◌∙◌, ◌≡◌}
+
+-- where judging the texts refuses them a run does
+pub misjudged : (rules box : List ℕ) (input : Option (List ℕ)) (fault : RunFault) → JudgeRefuses rules box fault
+    → Refuses rules box input fault
+misjudged rules box input (Rules fault) h = h
+misjudged rules box input (Box fault) h = h
+misjudged rules box input Memory h = tt
+misjudged rules box input _ h = absurd h
+
+pub refusal_of : (fault : RunFault) → IsOfTexts fault → IsRefusal fault
+refusal_of (Rules fault) is = tt
+refusal_of (Box fault) is = tt
+refusal_of _ is = absurd is
+
+-- a well-formed ruleset is accepted
+pub accepted_by : (rules box : List ℕ) (texts : Spelled rules box) → WellFormed texts.tables texts.plant
+    → Accepted rules box
+accepted_by rules box texts well = record {
+  setup = record { rules = texts.tables; plant = texts.plant };
+  spelled = texts.spelled;
+  read = texts.read;
+  well_formed = well;
+}
 
 -- a header with a fault has no records after it
 not_both : (capture : List ℕ) (fault : CaptureFault) (records : List Captured) (ending : Ending)

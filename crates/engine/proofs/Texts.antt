@@ -1,19 +1,13 @@
 -- The two texts of a capture whose header is accepted, by how its records stop.
 use Rattle.engine.proofs.Names.{◌++◌, AppendsPrefix, Bool, Capture, CaptureFault, CaptureState, Counted, CountsFault, CountsWriteFault, Device, Devices, Ending}
-use Rattle.engine.proofs.Names.{Ends, Entry, Err, FaultLeaves, FinishFails, Format, HaltedByWrite, IfErr, IfSome, IfSome_weaker, Interrupts, IsErrOf}
-use Rattle.engine.proofs.Names.{IsInterruption, IsOfRecord, IsStop, IsWithin, Keeps, Keeps-refl, LeavesPrefix, List, Memory, None, NoneFailed, Ok, Option}
-use Rattle.engine.proofs.Names.{OutputsFinished, OutputsWritten, READ_AHEAD, Replay, ReplayRepresents, ReplayStart, Replayed, Result, RunFault, Setup}
-use Rattle.engine.proofs.Names.{SinkError, Some, Summary, Writers, [], ap, append-nil, arith, capture_text, ending_at, ending_of, false, fault_at, inl, inr}
-use Rattle.engine.proofs.Names.{length, of_sink, one_more, part_none, part_same, refl, sll2_header, start_of, subst, sym, torn_at, true, unread_input, ℕ, ◌∙◌}
-use Rattle.engine.proofs.Names.{◌≡◌, ◌≤◌, ◌⊎◌}
+use Rattle.engine.proofs.Names.{Ends, Err, FaultLeaves, FinishFails, Format, HaltedByWrite, IfErr, Interrupts, IsErrOf, IsInterruption, IsOfRecord, IsStop}
+use Rattle.engine.proofs.Names.{IsWithin, Keeps, Keeps-refl, LeavesPrefix, List, Memory, None, NoneFailed, Ok, Option, OutputsFinished, OutputsWritten}
+use Rattle.engine.proofs.Names.{READ_AHEAD, Replay, ReplayStart, Replayed, Result, RunFault, Setup, SinkError, Some, Summary, Writers, [], ap, append-nil}
+use Rattle.engine.proofs.Names.{arith, capture_text, ending_at, ending_of, false, fault_at, inl, inr, length, of_sink, one_more, part_none, part_same, refl}
+use Rattle.engine.proofs.Names.{same_Some, sll2_header, start_of, subst, sym, torn_at, true, unread_input, ℕ, ◌∙◌, ◌≡◌, ◌≤◌, ◌⊎◌}
 use Rattle.engine.proofs.Histories.{history_length}
-use Rattle.engine.proofs.Known.{nothing}
 use Rattle.pcap_io.specs.declared.fault.CaptureFault.TheVariants as captures
 use Rattle.pcap_io.specs.declared.sink.SinkError.TheVariants as sinks
-
--- what is Ok is no Err, whatever it holds
-pub not_err : {A : Type 0} {B : Type 0} {x : A} {e : B} → (let ok : Result A B = Ok x in ok ≡ Err e) → ⊥
-not_err is = cc
 
 -- ---- how the records stop
 
@@ -49,11 +43,11 @@ ending_torn _ torn e = cc
 -- ---- before the first record
 
 -- nothing but a beginning of the header was written
-halted_open : (start : ReplayStart) (s : CaptureState) (unread w : Option (List ℕ)) → length s.held ≤ READ_AHEAD
-    → AppendsPrefix start.sent w sll2_header
-    → IfSome (unread_input s unread) (λ bytes. HaltedByWrite start s.format bytes unread w start.report)
-halted_open start s None w few part = tt
-halted_open start s (Some left) w few part =
+halted_open : (start : ReplayStart) (s : CaptureState) (bytes : List ℕ) (unread w : Option (List ℕ))
+    → length s.held ≤ READ_AHEAD → AppendsPrefix start.sent w sll2_header → unread_input s unread ≡ Some bytes
+    → HaltedByWrite start s.format bytes unread w start.report
+halted_open start s bytes None w few part is = cc
+halted_open start s bytes (Some left) w few part is =
     record {
       reached = record {
         ahead = s.held;
@@ -62,7 +56,7 @@ halted_open start s (Some left) w few part =
         history = [];
         follows = record {
           records = [];
-          joined = refl;
+          joined = sym (same_Some _ _ is);
           each = λ k d lt. absurd (omega (arith, lt));
           not_over = omega arith;
           is_history = refl;
@@ -120,15 +114,12 @@ counts_ending Device old mid new none same (inr h) =
     inr (inr (same ∙ none.0, h.0 ∙ none.1, h.1 ∙ ap one_more none.2))
 counts_ending _ old mid new none same h = (same ∙ none.0, h.0 ∙ none.1, h.1 ∙ none.2)
 
-pub fault_leaves_interrupted : (setup : Setup) (trace : Bool) (format : Format) (a : Option (List ℕ))
-    (old new : Devices) (fault : RunFault)
-    → IfSome a (λ bytes. Interrupts (start_of setup trace old) format bytes new.unread new.sent new.report
-    old.reads_failed new.reads_failed fault) → IfSome a (λ bytes.
-    FaultLeaves setup trace format bytes old new fault)
-fault_leaves_interrupted setup trace format None old new fault h = tt
-fault_leaves_interrupted setup trace format (Some bytes) old new Device h = inl h
-fault_leaves_interrupted setup trace format (Some bytes) old new Memory h = inl h
-fault_leaves_interrupted setup trace format (Some bytes) old new _ h = absurd h
+pub fault_leaves_interrupted : (setup : Setup) (trace : Bool) (format : Format) (bytes : List ℕ) (old new : Devices)
+    (fault : RunFault) → Interrupts (start_of setup trace old) format bytes new.unread new.sent new.report
+    old.reads_failed new.reads_failed fault → FaultLeaves setup trace format bytes old new fault
+fault_leaves_interrupted setup trace format bytes old new Device h = inl h
+fault_leaves_interrupted setup trace format bytes old new Memory h = inl h
+fault_leaves_interrupted setup trace format bytes old new _ h = absurd h
 
 -- a writer that is as it was holds what it held
 pub still_held : {W : Type 0} (contents : W → Option (List ℕ)) (old new : Counted W) → new ≡ old
@@ -141,72 +132,58 @@ pub fault_leaves_begun : (setup : Setup) (trace : Bool) (s : CaptureState) (old 
     (failed : ℕ) (error : SinkError) → length s.held ≤ READ_AHEAD → AppendsPrefix old.sent w sll2_header
     → (error ≡ sinks.Memory → Keeps old.sent w)
     → LeavesPrefix setup trace s (of_sink error) old (record old { sent = w; sends_failed = failed })
-fault_leaves_begun setup trace s old w failed sinks.Device few part none =
-    IfSome_weaker (unread_input s old.unread)
-    (λ bytes. HaltedByWrite (start_of setup trace old) s.format bytes old.unread w old.report) (λ bytes.
-    FaultLeaves setup trace s.format bytes old (record old { sent = w; sends_failed = failed }) Device)
-    (λ bytes h. inl (inr (h, refl))) (halted_open (start_of setup trace old) s old.unread w few part)
-fault_leaves_begun setup trace s old w failed sinks.Memory few part none =
-    nothing (unread_input s old.unread)
-    (λ bytes. FaultLeaves setup trace s.format bytes old (record old { sent = w; sends_failed = failed }) Memory)
-    (λ bytes. inr (refl, (none refl, Keeps-refl old.report), refl))
+fault_leaves_begun setup trace s old w failed sinks.Device few part none = λ bytes is.
+    inl (inr (halted_open (start_of setup trace old) s bytes old.unread w few part is, refl))
+fault_leaves_begun setup trace s old w failed sinks.Memory few part none = λ bytes is.
+    inr (refl, (none refl, Keeps-refl old.report), refl)
 
--- a fault after the last record
-pub fault_leaves_ended : (replay : Replay) (setup : Setup) (trace : Bool) (format : Format) (a w r : Option (List ℕ))
-    (stop : Option CaptureFault) (old new : Devices) (before : ℕ) (fault : RunFault) → IsStop stop
-    → new.reads_failed ≡ old.reads_failed → before ≡ old.reports_failed
-    → ((history : List Entry) → ReplayRepresents replay (start_of setup trace old) history w r
-    → FinishFails (start_of setup trace old) history stop new.sent new.report before new.reports_failed fault)
-    → IfSome a (λ bytes. Replayed replay (start_of setup trace old) format bytes (ending_at stop) new.unread w r)
-    → IfSome a (λ bytes. FaultLeaves setup trace format bytes old new fault)
-fault_leaves_ended replay setup trace format None w r stop old new before fault is no_failure same ends i = tt
-fault_leaves_ended replay setup trace format (Some bytes) w r stop old new before (Capture fault) is no_failure same
-    ends i =
-    let e = ends i.reached.history i.replay_represents in (
-      record {
-        reached = i.reached;
-        few = i.few;
-        ending = ending_at stop;
-        refused = (from_stop stop (Capture fault) (Stops stop) e.0 (stops_at stop is)).1 fault refl;
-        ends = i.ends;
-        all = e.1;
-      },
-      no_failure,
-    )
-fault_leaves_ended replay setup trace format (Some bytes) w r stop old new before Device is no_failure same ends i =
-    by_call (ends i.reached.history i.replay_represents)
+-- ---- the records stop
+
+module _ {replay : Replay} {start : ReplayStart} {format : Format} {bytes : List ℕ} {unread w r : Option (List ℕ)}
+    (stop : Option CaptureFault) (i : Replayed replay start format bytes (ending_at stop) unread w r)
   where
-    by_call : FinishFails (start_of setup trace old) i.reached.history stop new.sent new.report before
-        new.reports_failed Device → FaultLeaves setup trace format bytes old new Device
-    by_call (inl part) = inl (inr (record { reached = i.reached; few = i.few; part = part }, no_failure))
-    by_call (inr u) =
-        inr (
-          record {
-            reached = i.reached;
-            few = i.few;
-            torn = u.0;
-            ends = subst (λ (x : Ending). Ends format x (length i.reached.follows.records)
-                (i.reached.ahead ++ i.reached.left)) (ending_torn stop u.0 u.1) i.ends;
-            unfinished = u.2;
-          },
-          u.3 ∙ ap one_more same,
-        )
-fault_leaves_ended replay setup trace format (Some bytes) w r stop old new before _ is no_failure same ends i =
-    absurd (ends i.reached.history i.replay_represents)
+    ends_so : (torn : Bool) → torn_at stop ≡ Ok torn
+        → Ends format (ending_of torn) (length i.reached.follows.records) (i.reached.ahead ++ i.reached.left)
+    ends_so torn is = subst (λ (x : Ending). Ends format x (length i.reached.follows.records)
+        (i.reached.ahead ++ i.reached.left)) (ending_torn stop torn is) i.ends
 
--- all is done
-pub all_written : (replay : Replay) (start : ReplayStart) (format : Format) (a unread w w' r r' : Option (List ℕ))
-    (stop : Option CaptureFault) (torn : Bool) (count : ℕ) → torn_at stop ≡ Ok torn → count ≡ replay.numbers.records
-    → ((history : List Entry) → ReplayRepresents replay start history w r → OutputsFinished start history torn w' r')
-    → IfSome a (λ bytes. Replayed replay start format bytes (ending_at stop) unread w r) → IfSome a (λ bytes.
-    OutputsWritten start format bytes count torn unread w' r')
-all_written replay start format None unread w w' r r' stop torn count is counted finishes i = tt
-all_written replay start format (Some bytes) unread w w' r r' stop torn count is counted finishes i =
-    record {
-      reached = i.reached;
-      ends = subst (λ (x : Ending). Ends format x (length i.reached.follows.records)
-          (i.reached.ahead ++ i.reached.left)) (ending_torn stop torn is) i.ends;
-      counted = counted ∙ i.replay_represents.reports.records
-          ∙ history_length start.setup format i.reached.follows.records i.reached.history i.reached.follows.is_history;
-      finished = finishes i.reached.history i.replay_represents;
-    }
+    -- all is done
+    pub all_written : (w' r' : Option (List ℕ)) (torn : Bool) (count : ℕ) → torn_at stop ≡ Ok torn
+        → count ≡ replay.numbers.records → OutputsFinished start i.reached.history torn w' r'
+        → OutputsWritten start format bytes count torn unread w' r'
+    all_written w' r' torn count is counted finished =
+        record {
+          reached = i.reached;
+          ends = ends_so torn is;
+          counted = counted ∙ i.replay_represents.reports.records
+              ∙ history_length start.setup format i.reached.follows.records i.reached.history
+              i.reached.follows.is_history;
+          finished = finished;
+        }
+
+-- a fault comes then
+pub fault_leaves_ended : (replay : Replay) (setup : Setup) (trace : Bool) (format : Format) (bytes : List ℕ)
+    (w r : Option (List ℕ)) (stop : Option CaptureFault) (old new : Devices) (before : ℕ) (fault : RunFault)
+    → IsStop stop → new.reads_failed ≡ old.reads_failed → before ≡ old.reports_failed
+    → (i : Replayed replay (start_of setup trace old) format bytes (ending_at stop) new.unread w r)
+    → FinishFails (start_of setup trace old) i.reached.history stop new.sent new.report before new.reports_failed fault
+    → FaultLeaves setup trace format bytes old new fault
+fault_leaves_ended replay setup trace format bytes w r stop old new before (Capture fault) is no_failure same i e = (
+  record {
+    reached = i.reached;
+    few = i.few;
+    ending = ending_at stop;
+    refused = (from_stop stop (Capture fault) (Stops stop) e.0 (stops_at stop is)).1 fault refl;
+    ends = i.ends;
+    all = e.1;
+  },
+  no_failure,
+)
+fault_leaves_ended replay setup trace format bytes w r stop old new before Device is no_failure same i (inl part) =
+    inl (inr (record { reached = i.reached; few = i.few; part = part }, no_failure))
+fault_leaves_ended replay setup trace format bytes w r stop old new before Device is no_failure same i (inr u) =
+    inr (
+      record { reached = i.reached; few = i.few; torn = u.0; ends = ends_so stop i u.0 u.1; unfinished = u.2 },
+      u.3 ∙ ap one_more same,
+    )
+fault_leaves_ended replay setup trace format bytes w r stop old new before _ is no_failure same i e = absurd e

@@ -6,8 +6,29 @@ use Rattle.engine.proofs.Names.{Sent, Setup, SinkState, Some, TableTree, TakesRe
 use Rattle.engine.proofs.Names.{gets_more, gets_none, gets_part, length, lines_of, live_in, note_line, part_after, part_first, part_same, part_whole, sends}
 use Rattle.engine.proofs.Names.{sends_of, sll2_record, subst, sym, ℕ, ◌∙◌, ◌∷◌, ◌≡◌}
 use Rattle.engine.proofs.Histories.{captured_more}
-use Rattle.engine.proofs.Writes.{appends_same, gets_all, gets_so_far, gets_some}
 use Rattle.history.specs.declared.entry.Entry as lent
+
+appends_same : (a b : Option (List ℕ)) (xs ys : List ℕ) → Appends a b xs → xs ≡ ys → Appends a b ys
+appends_same a b xs ys w e = subst (Appends a b) e w
+
+-- ---- with buffered bytes
+
+-- more, of which the writer has a prefix so far
+gets_so_far : (u v : List ℕ) (a b : Option (List ℕ)) (xs : List ℕ) → AppendsBuffered u a b v xs
+    → AppendsPrefix a b (u ++ xs)
+gets_so_far u v a b xs (p, e, g) = (p, v, e, g)
+
+-- more, and then all buffered bytes
+gets_all : (u v : List ℕ) (a b c : Option (List ℕ)) (xs : List ℕ) → AppendsBuffered u a b v xs → Appends b c v
+    → Appends a c (u ++ xs)
+gets_all u v a b c xs (p, e, g) rest = appends_same a c (p ++ v) (u ++ xs) (Appends-trans a b c p v g rest) (sym e)
+
+-- more, and then a prefix of the buffered bytes
+gets_some : (u v : List ℕ) (a b c : Option (List ℕ)) (xs : List ℕ) → AppendsBuffered u a b v xs
+    → AppendsPrefix b c v → AppendsPrefix a c (u ++ xs)
+gets_some u v a b c xs (p, e, g) rest = part_same a c (p ++ v) (u ++ xs) (part_after a b c p v g rest) (sym e)
+
+-- ---- the outputs of a history
 
 abbrev pub replay_of : EngineState → ReportState → Replay → SinkState → Replay
 replay_of engine numbers replay sink = record {
@@ -211,50 +232,44 @@ module _ {replay : Replay} {start : ReplayStart} {history : List Entry} {w r : O
 
     -- ---- after the last record
 
-    -- with the number of live connections, which is the engine's
-    live_lines : (P : List ℕ → Type 0) (live : ℕ) (torn : Bool) → live ≡ length (live_in replay.engine.setup history)
+    -- the number of live connections is the engine's
+    closed : {live : ℕ} (torn : Bool) (P : List ℕ → Type 0) → live ≡ length (live_in replay.engine.setup history)
         → P (entry_lines start.setup.rules start.trace history ++ closing_lines start.setup.rules history live torn)
         → P (entry_lines start.setup.rules start.trace history
         ++ closing_lines start.setup.rules history (length (live_in start.setup history)) torn)
-    live_lines P live torn lives h =
+    closed torn P lives h =
         subst (λ (n : ℕ). P (entry_lines start.setup.rules start.trace history
         ++ closing_lines start.setup.rules history n torn)) (lives ∙ ap (λ (s : Setup). length (live_in s history)) p.same) h
 
-    pub finished : (rules : List TableTree) (live : ℕ) (torn : Bool) (w' r' : Option (List ℕ))
-        → Appends w w' replay.sink.buffered → rules ≡ replay.engine.setup.rules
-        → live ≡ length (live_in replay.engine.setup history)
-        → ((trace : Bool) (history : List Entry) (lines : List ℕ) → IsReportOf replay.numbers rules trace history lines
-        → AppendsRest r r' lines (entry_lines rules trace history ++ closing_lines rules history live torn))
-        → OutputsFinished start history torn w' r'
-    finished rules live torn w' r' sent e lives says =
-        record {
-          all_sent = all_sent w' sent;
-          all_lines = live_lines (Appends start.report r') live torn lives
-              (lines_all start.report r r' p.lines
-              (entry_lines start.setup.rules start.trace history ++ closing_lines start.setup.rules history live torn)
-              p.appends_report
-              (drained (λ rules trace history lines.
-              AppendsRest r r' lines (entry_lines rules trace history ++ closing_lines rules history live torn)) rules e
-              says));
-        }
+    module _ {live : ℕ} (torn : Bool) {w' r' : Option (List ℕ)} {rules : List TableTree}
+        (sent : Appends w w' replay.sink.buffered) (e : rules ≡ replay.engine.setup.rules)
+        (lives : live ≡ length (live_in replay.engine.setup history))
+      where
+        pub finished : ((trace : Bool) (history : List Entry) (lines : List ℕ)
+            → IsReportOf replay.numbers rules trace history lines
+            → AppendsRest r r' lines (entry_lines rules trace history ++ closing_lines rules history live torn))
+            → OutputsFinished start history torn w' r'
+        finished says =
+            record {
+              all_sent = all_sent w' sent;
+              all_lines = closed torn (Appends start.report r') lives (lines_all start.report r r' p.lines _ p.appends_report
+                  (drained (λ rules trace history lines.
+                  AppendsRest r r' lines (entry_lines rules trace history ++ closing_lines rules history live torn))
+                  rules e says));
+            }
 
-    pub unfinished : (rules : List TableTree) (live : ℕ) (torn : Bool) (w' r' : Option (List ℕ))
-        → Appends w w' replay.sink.buffered → rules ≡ replay.engine.setup.rules
-        → live ≡ length (live_in replay.engine.setup history)
-        → ((trace : Bool) (history : List Entry) (lines : List ℕ) → IsReportOf replay.numbers rules trace history lines
-        → AppendsRestPrefix r r' lines (entry_lines rules trace history ++ closing_lines rules history live torn))
-        → ReportUnfinished start history torn w' r'
-    unfinished rules live torn w' r' sent e lives says =
-        record {
-          all_sent = all_sent w' sent;
-          part_lines = live_lines (AppendsPrefix start.report r') live torn lives
-              (lines_part start.report r r' p.lines
-              (entry_lines start.setup.rules start.trace history ++ closing_lines start.setup.rules history live torn)
-              p.appends_report
-              (drained (λ rules trace history lines.
-              AppendsRestPrefix r r' lines (entry_lines rules trace history ++ closing_lines rules history live torn))
-              rules e says));
-        }
+        pub unfinished : ((trace : Bool) (history : List Entry) (lines : List ℕ)
+            → IsReportOf replay.numbers rules trace history lines
+            → AppendsRestPrefix r r' lines (entry_lines rules trace history ++ closing_lines rules history live torn))
+            → ReportUnfinished start history torn w' r'
+        unfinished says =
+            record {
+              all_sent = all_sent w' sent;
+              part_lines = closed torn (AppendsPrefix start.report r') lives (lines_part start.report r r' p.lines _ p.appends_report
+                  (drained (λ rules trace history lines.
+                  AppendsRestPrefix r r' lines (entry_lines rules trace history ++ closing_lines rules history live torn))
+                  rules e says));
+            }
 
     -- ---- the next record
 
@@ -295,71 +310,67 @@ module _ {replay : Replay} {start : ReplayStart} {history : List Entry} {w r : O
     broke_unread None entries = tt
     broke_unread (Some taken) entries = broke_before taken (entries taken)
 
-    -- its packet wasn't all written
-    pub broke_sending : (taken : Recorded) (engine : EngineState) (outcome : Outcome) (s : Sent) (w' : Option (List ℕ))
-        → Stepped replay.engine.setup history taken engine outcome → s ∷ [] ≡ sends_of engine.newest
-        → AppendsPrefix w w' (replay.sink.buffered ++ sll2_record s) → BreaksAtRecord start history taken w' r
-    broke_sending taken engine outcome s w' t is part =
-        record {
-          entry = t.0;
-          next = next_as taken t.0 t.1;
-          part = record {
-            part_sent = part_same start.sent w' (capture_text history ++ sll2_record s) (capture_text (t.0 ∷ history))
-                (gets_part [] replay.sink.buffered start.sent w w' (capture_text history) (sll2_record s) p.gets part)
-                (ap (λ xs. capture_text history ++ xs) (sends_one s (sends t.0) (lends engine history t.0 (s ∷ []) t.2
-                is))
-                ∙ sym (captured_more history t.0));
-            part_lines = part_first start.report r (entry_lines start.setup.rules start.trace history)
-                (lines_of start.setup.rules start.trace (length (t.0 ∷ history)) t.0) lines_so_far;
-          };
-        }
+    -- ---- an entry for it
 
-    -- it was processed and noted, and its packet is written or buffered
-    took : (taken : Recorded) (engine : EngineState) (outcome : Outcome) (numbers : ReportState) (told : lent.Entry)
-        (sink : SinkState) (w' : Option (List ℕ)) → engine.setup ≡ replay.engine.setup
-        → (t : Stepped replay.engine.setup history taken engine outcome)
-        → ((history : List Entry) → Represents engine history → IsNewest (Some told) history)
-        → Noted replay.numbers numbers told
-        → AppendsBuffered replay.sink.buffered w w' sink.buffered (flat_map sll2_record (sends t.0))
-        → TakesRecord (replay_of engine numbers replay sink) start history taken w' r
-    took taken engine outcome numbers told sink w' same t newest noted gets =
-        record {
-          entry = t.0;
-          next = next_as taken t.0 t.1;
-          replay_represents = record {
-            same = same ∙ p.same;
-            represents = t.2;
-            gets = subst (λ (xs : List ℕ). AppendsBuffered [] start.sent w' sink.buffered xs)
-                (sym (captured_more history t.0))
-                (gets_more [] replay.sink.buffered sink.buffered start.sent w w' (capture_text history)
-                (flat_map sll2_record (sends t.0)) p.gets gets);
-            lines = p.lines;
-            reports = noted start.setup.rules start.trace history p.lines t.0 p.reports (newest (t.0 ∷ history) t.2);
-            appends_report = p.appends_report;
-          };
-        }
+    module _ {taken : Recorded} {engine : EngineState} {outcome : Outcome}
+        (t : Stepped replay.engine.setup history taken engine outcome)
+      where
+        -- its packet wasn't all written
+        pub broke_sending : (s : Sent) (w' : Option (List ℕ)) → s ∷ [] ≡ sends_of engine.newest
+            → AppendsPrefix w w' (replay.sink.buffered ++ sll2_record s) → BreaksAtRecord start history taken w' r
+        broke_sending s w' is part =
+            record {
+              entry = t.0;
+              next = next_as taken t.0 t.1;
+              part = record {
+                part_sent = part_same start.sent w' (capture_text history ++ sll2_record s) (capture_text (t.0 ∷ history))
+                    (gets_part [] replay.sink.buffered start.sent w w' (capture_text history) (sll2_record s) p.gets part)
+                    (ap (λ xs. capture_text history ++ xs) (sends_one s (sends t.0) (lends engine history t.0 (s ∷ []) t.2
+                    is))
+                    ∙ sym (captured_more history t.0));
+                part_lines = part_first start.report r (entry_lines start.setup.rules start.trace history)
+                    (lines_of start.setup.rules start.trace (length (t.0 ∷ history)) t.0) lines_so_far;
+              };
+            }
 
-    -- it sends none
-    pub took_silently : (taken : Recorded) (engine : EngineState) (outcome : Outcome) (numbers : ReportState)
-        (told : lent.Entry) → engine.setup ≡ replay.engine.setup
-        → Stepped replay.engine.setup history taken engine outcome
-        → ((history : List Entry) → Represents engine history → IsNewest (Some told) history)
-        → Noted replay.numbers numbers told → [] ≡ sends_of engine.newest
-        → TakesRecord (replay_of engine numbers replay replay.sink) start history taken w r
-    took_silently taken engine outcome numbers told same t newest noted none =
-        took taken engine outcome numbers told replay.sink w same t newest noted
-        (subst (λ (xs : List Sent). AppendsBuffered replay.sink.buffered w w replay.sink.buffered
-        (flat_map sll2_record xs)) (lends engine history t.0 [] t.2 none) (gets_none replay.sink.buffered w))
+        module _ {numbers : ReportState} {told : lent.Entry} (same : engine.setup ≡ replay.engine.setup)
+            (newest : (history : List Entry) → Represents engine history → IsNewest (Some told) history)
+            (noted : Noted replay.numbers numbers told)
+          where
+            -- it was processed and noted, and its packet is written or buffered
+            took : (sink : SinkState) (w' : Option (List ℕ))
+                → AppendsBuffered replay.sink.buffered w w' sink.buffered (flat_map sll2_record (sends t.0))
+                → TakesRecord (replay_of engine numbers replay sink) start history taken w' r
+            took sink w' gets =
+                record {
+                  entry = t.0;
+                  next = next_as taken t.0 t.1;
+                  replay_represents = record {
+                    same = same ∙ p.same;
+                    represents = t.2;
+                    gets = subst (λ (xs : List ℕ). AppendsBuffered [] start.sent w' sink.buffered xs)
+                        (sym (captured_more history t.0))
+                        (gets_more [] replay.sink.buffered sink.buffered start.sent w w' (capture_text history)
+                        (flat_map sll2_record (sends t.0)) p.gets gets);
+                    lines = p.lines;
+                    reports = noted start.setup.rules start.trace history p.lines t.0 p.reports
+                        (newest (t.0 ∷ history) t.2);
+                    appends_report = p.appends_report;
+                  };
+                }
 
-    -- it sends one
-    pub took_sending : (taken : Recorded) (engine : EngineState) (outcome : Outcome) (numbers : ReportState)
-        (told : lent.Entry) (sink : SinkState) (s : Sent) (w' : Option (List ℕ)) → engine.setup ≡ replay.engine.setup
-        → Stepped replay.engine.setup history taken engine outcome
-        → ((history : List Entry) → Represents engine history → IsNewest (Some told) history)
-        → Noted replay.numbers numbers told → s ∷ [] ≡ sends_of engine.newest
-        → AppendsBuffered replay.sink.buffered w w' sink.buffered (sll2_record s)
-        → TakesRecord (replay_of engine numbers replay sink) start history taken w' r
-    took_sending taken engine outcome numbers told sink s w' same t newest noted is gets =
-        took taken engine outcome numbers told sink w' same t newest noted
-        (subst (λ (xs : List ℕ). AppendsBuffered replay.sink.buffered w w' sink.buffered xs)
-        (sends_one s (sends t.0) (lends engine history t.0 (s ∷ []) t.2 is)) gets)
+            -- it sends none
+            pub took_silently : [] ≡ sends_of engine.newest
+                → TakesRecord (replay_of engine numbers replay replay.sink) start history taken w r
+            took_silently none =
+                took replay.sink w (subst (λ (xs : List Sent). AppendsBuffered replay.sink.buffered w w
+                replay.sink.buffered (flat_map sll2_record xs)) (lends engine history t.0 [] t.2 none)
+                (gets_none replay.sink.buffered w))
+
+            -- it sends one
+            pub took_sending : (sink : SinkState) (s : Sent) (w' : Option (List ℕ)) → s ∷ [] ≡ sends_of engine.newest
+                → AppendsBuffered replay.sink.buffered w w' sink.buffered (sll2_record s)
+                → TakesRecord (replay_of engine numbers replay sink) start history taken w' r
+            took_sending sink s w' is gets =
+                took sink w' (subst (λ (xs : List ℕ). AppendsBuffered replay.sink.buffered w w' sink.buffered xs)
+                (sends_one s (sends t.0) (lends engine history t.0 (s ∷ []) t.2 is)) gets)

@@ -1,5 +1,4 @@
 pub mod Faults
 pub mod Inputs
 pub mod Replayed
-pub mod Written
 pub mod Laws

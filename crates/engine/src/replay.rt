@@ -14,7 +14,7 @@ ghost use Rattle.engine.specs.steps.Faults.{IsInterruption};
 ghost use Rattle.engine.specs.steps.Replayed.{BreaksAtLast, CountsFailedWrite, CountsWriteFault, IsBegun, IsOpened};
 ghost use Rattle.engine.specs.steps.Replayed.{IsStop, KeepsLast, ReplaysAll, RepresentsSome, StillRepresents};
 ghost use Rattle.engine.specs.steps.Replayed.{TakesLast, WritesAll, WritesPrefix, writers};
-ghost use Rattle.engine.specs.steps.Written.{Finishes, IsWithin, LeavesPrefix, WritesOutputs, torn_at};
+ghost use Rattle.engine.specs.steps.Replayed.{Finishes, IsWithin, LeavesPrefix, WritesOutputs, torn_at};
 
 use crate::fault::RunFault;
 use crate::runs::Summary;

@@ -1,5 +1,4 @@
 use Rattle.engine.proofs.Names.{tables_of}
-use Rattle.engine.proofs.JudgeRefusing.{refused_as}
 use Rattle.engine.proofs.inputs.checked.Goals as goal
 
 pub returns-in-Err-Refused-clause-refused : goal.returns-in-Err-Refused-clause-refused
@@ -10,6 +9,5 @@ returns-in-Err-Refused-clause-refused c = (
     plant = c.in_ok-plant.plant;
     read = c.in_ok-plant.ensures.found;
   },
-  refused_as _ _ c.in-Err-Refused.field-0 c.in-Err-Refused.fault c.in-Err-Refused.field-0-is
-      c.in-Err-Refused.ensures.refused,
+  rw c.in-Err-Refused.field-0-is at c.in-Err-Refused.ensures.refused,
 )

@@ -1,5 +1,4 @@
-use Rattle.engine.proofs.Names.{◌-◌, ◌^◌, ap, arith, chain_count, length, min, rule_count, ◌∙◌, ◌≡◌}
-use Rattle.engine.proofs.JudgeRefusing.{length_of_tables}
+use Rattle.engine.proofs.Names.{◌-◌, ◌^◌, ap, arith, chain_count, length, length-map, min, rule_count, sym, table_tree, ◌∙◌, ◌≡◌}
 use Rattle.engine.proofs.judging.judge.Goals as goal
 
 pub returns-clause-accepted : goal.returns-clause-accepted
@@ -15,7 +14,7 @@ returns-clause-accepted c =
         read = fine.read;
       };
       well_formed = fine.well_formed;
-      all_tables = many ∙ length_of_tables c.tree-tree.result.now ∙ ap length same;
+      all_tables = many ∙ sym (length-map c.tree-tree.result.now.tables.items table_tree) ∙ ap length same;
       all_chains = c.chain_count.ensures ∙ ap (λ ts. min (chain_count ts) (2 ^ 64 - 1)) same;
       all_rules = c.rule_count.ensures ∙ ap (λ ts. min (rule_count ts) (2 ^ 64 - 1)) same;
     }

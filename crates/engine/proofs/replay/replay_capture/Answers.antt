@@ -21,11 +21,10 @@ returns-in_err-stop-clause-left g c =
     let state = devices g.R.Read.remaining g.W.Write.contents g.W2.Write.contents in
     let old = state c.args.capture.now c.args.sent.now c.args.report.now in
     let new = state c.replay_records.new.capture c.replay_records.new.sent c.replay_records.new.report in
-    let start = start_of c.args.engine.setup c.args.trace old in
     rw q.1 (rw q.2 (subst (λ (s : CaptureState).
     LeavesPrefix c.args.engine.setup c.args.trace s c.in_err-stop.field-0.0 old new) c.in_ok-replay.ensures.same.1
-    (fault_leaves_interrupted _ _ _ _ old new c.in_err-stop.field-0.0
-    (c.in_err-stop.ensures.replayed start (c.in_ok-replay.ensures.begun start.report)))))
+    (λ bytes is. fault_leaves_interrupted _ _ _ bytes old new c.in_err-stop.field-0.0
+    (c.in_err-stop.ensures.replayed _ bytes is (c.in_ok-replay.ensures.begun old.report)))))
 
 pub returns-in_err-stop-clause-within : goal.returns-in_err-stop-clause-within
 returns-in_err-stop-clause-within g c =
@@ -51,15 +50,14 @@ returns-in_err-torn-clause-left g c =
     let state = devices g.R.Read.remaining g.W.Write.contents g.W2.Write.contents in
     let old = state c.args.capture.now c.args.sent.now c.args.report.now in
     let new = state c.replay_records.new.capture c.finish.new.sent c.finish.new.report in
-    let start = start_of c.args.engine.setup c.args.trace old in
     let no_failure = c.in_ok-stop.ensures.failures in
     rw q.1 (rw q.2 (subst (λ (s : CaptureState).
     LeavesPrefix c.args.engine.setup c.args.trace s c.in_err-torn.field-0.0 old new) c.in_ok-replay.ensures.same.1
-    (fault_leaves_ended c.replay_records.new.self _ _ _ _
-    (g.W.Write.contents c.replay_records.new.sent.inner) (g.W2.Write.contents c.replay_records.new.report.inner)
-    c.in_ok-stop.stop old new c.replay_records.new.report.failures c.in_err-torn.field-0.0
-    c.in_ok-stop.ensures.stop no_failure.0 no_failure.2 (λ history p. c.in_err-torn.ensures.finished start history p)
-    (c.in_ok-stop.ensures.replayed start (c.in_ok-replay.ensures.begun start.report)))))
+    (λ bytes is.
+    let i = c.in_ok-stop.ensures.replayed _ bytes is (c.in_ok-replay.ensures.begun old.report) in
+    fault_leaves_ended c.replay_records.new.self _ _ _ bytes _ _ c.in_ok-stop.stop old new
+    c.replay_records.new.report.failures c.in_err-torn.field-0.0 c.in_ok-stop.ensures.stop no_failure.0 no_failure.2 i
+    (c.in_err-torn.ensures.finished _ _ i.replay_represents))))
 
 pub returns-in_err-torn-clause-within : goal.returns-in_err-torn-clause-within
 returns-in_err-torn-clause-within g c =
@@ -99,11 +97,10 @@ returns-clause-written g c =
     subst (λ (s : CaptureState). WritesOutputs c.args.engine.setup c.args.trace s
     (record { records = c.records.result; torn = c.in_ok-torn.torn }) old
     (state c.replay_records.new.capture c.finish.new.sent c.finish.new.report)) c.in_ok-replay.ensures.same.1
-    (all_written c.replay_records.new.self start _ _ _ (g.W.Write.contents c.replay_records.new.sent.inner) _
-    (g.W2.Write.contents c.replay_records.new.report.inner) _ c.in_ok-stop.stop c.in_ok-torn.torn _
-    c.in_ok-torn.ensures.torn (c.records.ensures ∙ c.finish.ensures.records)
-    (λ history p. c.in_ok-torn.ensures.finished start history p)
-    (c.in_ok-stop.ensures.replayed start (c.in_ok-replay.ensures.begun start.report)))
+    (λ bytes is.
+    let i = c.in_ok-stop.ensures.replayed start bytes is (c.in_ok-replay.ensures.begun start.report) in
+    all_written c.in_ok-stop.stop i _ _ c.in_ok-torn.torn _ c.in_ok-torn.ensures.torn
+    (c.records.ensures ∙ c.finish.ensures.records) (c.in_ok-torn.ensures.finished start _ i.replay_represents))
 
 pub returns-clause-drained : goal.returns-clause-drained
 returns-clause-drained g c = c.in_ok-stop.ensures.drained c.in_ok-torn.torn c.in_ok-torn.ensures.torn

@@ -1,5 +1,5 @@
 use Rattle.engine.proofs.Names.{Consumes-nil, Err, Keeps-refl, ap, devices, err_from_is_err_and, refl, start_of}
-use Rattle.engine.proofs.JudgeRefusing.{misjudged}
+use Rattle.engine.proofs.Refusing.{misjudged}
 use Rattle.engine.proofs.Meanings.{accepted_of, if_ok_then, if_err_both, left_all, left_of_texts, left_unopened, left_unread, left_untouched, opened}
 use Rattle.engine.proofs.Meanings.{refused_unread, refuses_within, wrote}
 use Rattle.engine.proofs.runs.run.Goals as goal
@@ -36,11 +36,8 @@ returns-in-Err-Refused-clause-left g c =
 
 pub returns-in-Err-Memory-clause-left : goal.returns-in-Err-Memory-clause-left
 returns-in-Err-Memory-clause-left g c =
-    let state = devices g.R.Read.remaining g.W.Write.contents g.W2.Write.contents in
-    let old = state c.args.capture.now c.args.sent.now c.args.report.now in
-    let new = state c.open.new.reader c.args.sent.now c.args.report.now in
     let read = c.open.ensures.read in
-    left_untouched _ _ _ _ old new read.0 read.1 read.2 (Keeps-refl _, Keeps-refl _) (c.in-Err-Memory.ensures.no_failure
+    left_untouched _ _ _ _ _ _ read.0 read.1 read.2 (Keeps-refl _, Keeps-refl _) (c.in-Err-Memory.ensures.no_failure
     (λ e. cc))
 
 pub returns-clause-meaning : goal.returns-clause-meaning
@@ -76,11 +73,8 @@ returns-in-Err-Device-clause-left g c =
 pub returns-in_err-engine-clause-left : goal.returns-in_err-engine-clause-left
 returns-in_err-engine-clause-left g c =
     let p = err_from_is_err_and c.from_residual-in_err-engine.result c.from_residual-in_err-engine.ensures.1 in
-    let state = devices g.R.Read.remaining g.W.Write.contents g.W2.Write.contents in
-    let old = state c.args.capture.now c.args.sent.now c.args.report.now in
-    let new = state c.open.new.reader c.args.sent.now c.args.report.now in
     let read = c.open.ensures.read in
-    rw p.1 (rw p.2 (left_untouched _ _ _ _ old new read.0 read.1 read.2 (Keeps-refl _, Keeps-refl _)
+    rw p.1 (rw p.2 (left_untouched _ _ _ _ _ _ read.0 read.1 read.2 (Keeps-refl _, Keeps-refl _)
     (c.in-Ok.ensures.no_failure (λ e. cc))))
 
 pub returns-clause-refusals : goal.returns-clause-refusals

@@ -15,15 +15,15 @@ returns-in_err-lines-in-Ok-clause-finished g c =
     rw q.1 (rw q.2 (λ start history p. inr (
       c.in-Ok.torn,
       sym c.torn_at.ensures ∙ c.in-Ok.is,
-      unfinished p _ _ _ _ _ c.in_ok-finish-in-Ok.ensures.ok c.rules.ensures
-          (c.live-live.ensures history p.represents) c.in_err-lines-in-Ok.ensures.part,
+      unfinished p _ c.in_ok-finish-in-Ok.ensures.ok c.rules.ensures (c.live-live.ensures history p.represents)
+          c.in_err-lines-in-Ok.ensures.part,
       c.in_err-lines-in-Ok.ensures.device,
     )))
 
 pub returns-in_ok-lines-in-Ok-clause-finished : goal.returns-in_ok-lines-in-Ok-clause-finished
 returns-in_ok-lines-in-Ok-clause-finished g c = λ start history p.
-    finished p _ _ _ _ _ c.in_ok-finish-in-Ok.ensures.ok c.rules.ensures
-    (c.live-live.ensures history p.represents) c.in_ok-lines-in-Ok.ensures.ok
+    finished p _ c.in_ok-finish-in-Ok.ensures.ok c.rules.ensures (c.live-live.ensures history p.represents)
+    c.in_ok-lines-in-Ok.ensures.ok
 
 pub returns-in_err-close-in-Err-clause-finished : goal.returns-in_err-close-in-Err-clause-finished
 returns-in_err-close-in-Err-clause-finished g c =

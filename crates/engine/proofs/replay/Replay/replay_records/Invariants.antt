@@ -1,5 +1,6 @@
 -- the records so far are processed, their output is written or pending, and no call failed
-use Rattle.engine.proofs.Names.{◌-◌, IfSome, IsAtEnd, None, READ_AHEAD, ReplayRepresents, ReplayStart, RepresentsSome, [], length, true, unread_input, ◌≡◌, ◌≤◌}
+use Rattle.engine.proofs.Names.{◌-◌, IsAtEnd, List, None, READ_AHEAD, ReplayRepresents, ReplayStart, RepresentsSome, Some, [], length, true, unread_input, ℕ}
+use Rattle.engine.proofs.Names.{◌≡◌, ◌≤◌}
 use Rattle.engine.proofs.Replays.{Carried}
 use Rattle.engine.proofs.replay.Replay.replay_records.Given as goal
 
@@ -15,11 +16,11 @@ invariant-each g l = record {
   few : length l.self.records.held ≤ READ_AHEAD;
   drained : l.self.records.ended ≡ true → IsAtEnd (g.R.Read.remaining l.capture.inner);
   represents : RepresentsSome l.self.engine;
-  carried : (start : ReplayStart) → ReplayRepresents l.fn.self start [] (g.W.Write.contents l.fn.sent.inner)
-      (g.W2.Write.contents l.fn.report.inner)
-      → IfSome (unread_input l.fn.self.records (g.R.Read.remaining l.fn.capture.inner)) (λ bytes.
-      Carried l.self start l.fn.self.records.format bytes (g.R.Read.remaining l.capture.inner)
-      (g.W.Write.contents l.sent.inner) (g.W2.Write.contents l.report.inner));
+  carried : (start : ReplayStart) (bytes : List ℕ)
+      → unread_input l.fn.self.records (g.R.Read.remaining l.fn.capture.inner) ≡ Some bytes
+      → ReplayRepresents l.fn.self start [] (g.W.Write.contents l.fn.sent.inner) (g.W2.Write.contents l.fn.report.inner)
+      → Carried l.self start l.fn.self.records.format bytes (g.R.Read.remaining l.capture.inner)
+      (g.W.Write.contents l.sent.inner) (g.W2.Write.contents l.report.inner);
 }
 
 abbrev pub decreases-each : goal.decreases-each

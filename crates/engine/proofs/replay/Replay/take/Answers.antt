@@ -21,22 +21,20 @@ pub returns-in_err-put-clause-broken : goal.returns-in_err-put-clause-broken
 returns-in_err-put-clause-broken g c = λ is start history report p.
     let q = roomier p c.reserve.new.self true c.reserve-2.new.self c.in-Ok.ensures.ok c.reserve-2.ensures.same in
     at_record _ (recorded_of c.in-Some.record) _ c.in-Some.ensures
-    (broke_sending q (recorded_of c.in-Some.record) _ _ _ _
-    (c.in-Ok-step.ensures.represents history q.represents) c.in-Some-leaving.ensures.sends
+    (broke_sending q (c.in-Ok-step.ensures.represents history q.represents) _ _ c.in-Some-leaving.ensures.sends
     c.in_err-put.ensures.part)
 
 pub returns-in_ok-put-clause-taken : goal.returns-in_ok-put-clause-taken
 returns-in_ok-put-clause-taken g c = λ is start history report p.
     let q = roomier p c.reserve.new.self true c.reserve-2.new.self c.in-Ok.ensures.ok c.reserve-2.ensures.same in
     at_record _ (recorded_of c.in-Some.record) _ c.in-Some.ensures
-    (took_sending q (recorded_of c.in-Some.record) _ _ _ c.in-Some-entry.entry _ _ _
-    c.step.ensures.setup (c.in-Ok-step.ensures.represents history q.represents) c.in-Some-entry.ensures.newest
-    c.in-Ok-note.ensures.noted c.in-Some-leaving.ensures.sends c.in_ok-put.ensures.ok)
+    (took_sending q (c.in-Ok-step.ensures.represents history q.represents) {told = c.in-Some-entry.entry}
+    c.step.ensures.setup c.in-Some-entry.ensures.newest c.in-Ok-note.ensures.noted _ _ _
+    c.in-Some-leaving.ensures.sends c.in_ok-put.ensures.ok)
 
 pub returns-in_default-leaving-clause-taken : goal.returns-in_default-leaving-clause-taken
 returns-in_default-leaving-clause-taken g c = λ is start history report p.
     let q = roomier p c.reserve.new.self true c.reserve-2.new.self c.in-Ok.ensures.ok c.reserve-2.ensures.same in
     at_record _ (recorded_of c.in-Some.record) _ c.in-Some.ensures
-    (took_silently q (recorded_of c.in-Some.record) _ _ _ c.in-Some-entry.entry
-    c.step.ensures.setup (c.in-Ok-step.ensures.represents history q.represents) c.in-Some-entry.ensures.newest
-    c.in-Ok-note.ensures.noted c.in_default-leaving.ensures.sends)
+    (took_silently q (c.in-Ok-step.ensures.represents history q.represents) {told = c.in-Some-entry.entry}
+    c.step.ensures.setup c.in-Some-entry.ensures.newest c.in-Ok-note.ensures.noted c.in_default-leaving.ensures.sends)
