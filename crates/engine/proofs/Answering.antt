@@ -35,6 +35,7 @@ module _ (answers : TextAnswers) (rules box : List ℕ) where
           → Accepted rules box ⊎ ((fault : RunFault) × IsOfTexts fault × JudgeRefuses rules box fault)
       checked texts (inl well) = inl (accepted_by rules box texts well)
       checked texts (inr found) = inr (Rules (Check found.0), tt, (texts, found.1))
+
       by_text : ((tables : List TableTree) × Spells tables rules) ⊎ ((fault : TextFault) × HasTextFault rules fault)
           → ((p : PlantTree) × IsBox box p) ⊎ ((fault : BoxFault) × HasBoxFault box fault)
           → Accepted rules box ⊎ ((fault : RunFault) × IsOfTexts fault × JudgeRefuses rules box fault)

@@ -5,14 +5,14 @@ pub use Rattle.engine.specs.AfterFault.{CountsFault, Devices, LeftDevices, NoneF
 pub use Rattle.engine.specs.AfterFault.{failed_read, failed_report, failed_write}
 pub use Rattle.engine.specs.Judged.{JudgeRefuses, Judged}
 pub use Rattle.engine.specs.Meaning.{Accepted, Meaning, WroteOutputs, ending_of}
-pub use Rattle.engine.specs.Refusals.{IsOfRecord, IsOfTexts, IsRefusal, IsRefused, Refuses, Spelled, fault_at}
+pub use Rattle.engine.specs.Refusals.{IsOfTexts, IsRefusal, IsRefused, Refuses, Spelled, fault_at}
 pub use Rattle.engine.specs.declared.fault.RulesFault.TheVariants.{Check, Text}
 pub use Rattle.engine.specs.declared.fault.RunFault.{RunFault}
 pub use Rattle.engine.specs.declared.fault.RunFault.TheVariants.{Box, Capture, Device, Memory, Rules}
 pub use Rattle.engine.specs.declared.judging.Counts.{Counts}
 pub use Rattle.engine.specs.declared.replay.Replay.{Replay}
 pub use Rattle.engine.specs.declared.runs.Summary.{Summary}
-pub use Rattle.engine.specs.steps.Faults.{IsInterruption, of_sink}
+pub use Rattle.engine.specs.steps.Faults.{of_sink}
 pub use Rattle.engine.specs.steps.Inputs.{IsChecked}
 pub use Rattle.engine.specs.steps.Laws.{Laws}
 pub use Rattle.engine.specs.steps.Replayed.{AllWritten, BeginsWithRecords, BreaksAtRecord, CountsWriteFault, FaultLeaves, FinishFails, HaltedByWrite}
@@ -32,7 +32,6 @@ pub use Rattle.pcap_io.specs.Counting.{AppendsPrefix, one_more}
 pub use Rattle.pcap_io.specs.Pcap.{Captured, Ending, Ends, HEADER_BYTES, IsRecord, Malformed, Over, Pcap, Recorded, Torn, Whole, decoded_after, decoded_records}
 pub use Rattle.pcap_io.specs.Pcap.{format_of, frame, header_fault, own_moment, stream_of}
 pub use Rattle.pcap_io.specs.Sll2.{Sent, sll2_header, sll2_record}
-pub use Rattle.pcap_io.specs.declared.counted.Counted.{Counted}
 pub use Rattle.pcap_io.specs.declared.fault.CaptureError.TheVariants.{Refused}
 pub use Rattle.pcap_io.specs.declared.fault.CaptureFault.{CaptureFault}
 pub use Rattle.pcap_io.specs.declared.format.Format.{Format}
@@ -56,7 +55,7 @@ pub use Rattle.std.proofs.lemmas.Option.{same_Some}
 pub use Rattle.std.proofs.lemmas.Result.{err_from_is_err_and}
 pub use Rattle.std.specs.Io.KnownBytes.{Appends, Consumes, IsAtEnd, Keeps}
 pub use Rattle.std.specs.List.{flat_map}
-pub use Rattle.std.specs.Prelude.{IsErrOf, cond, slice_index_or}
+pub use Rattle.std.specs.Prelude.{cond, slice_index_or}
 pub use Rattle.std.specs.Result.{result_err}
 pub use Rattle.stepping.specs.Next.{IsHistoryOf, Next}
 pub use Rattle.stepping.specs.Representing.{EngineState, Represents, recorded_of, sends_of, setup_of}

@@ -1,10 +1,10 @@
 -- The two texts of a capture whose header is accepted, by how its records stop.
-use Rattle.engine.proofs.Names.{◌++◌, AppendsPrefix, Bool, Capture, CaptureFault, CaptureState, Counted, CountsFault, CountsWriteFault, Device, Devices, Ending}
-use Rattle.engine.proofs.Names.{Ends, Err, FaultLeaves, FinishFails, Format, HaltedByWrite, IfErr, Interrupts, IsErrOf, IsInterruption, IsOfRecord, IsStop}
-use Rattle.engine.proofs.Names.{IsWithin, Keeps, Keeps-refl, LeavesPrefix, List, Memory, None, NoneFailed, Ok, Option, OutputsFinished, OutputsWritten}
-use Rattle.engine.proofs.Names.{READ_AHEAD, Replay, ReplayStart, Replayed, Result, RunFault, Setup, SinkError, Some, Summary, Writers, [], ap, append-nil}
-use Rattle.engine.proofs.Names.{arith, capture_text, ending_at, ending_of, false, fault_at, inl, inr, length, of_sink, one_more, part_none, part_same, refl}
-use Rattle.engine.proofs.Names.{same_Some, sll2_header, start_of, subst, sym, torn_at, true, unread_input, ℕ, ◌∙◌, ◌≡◌, ◌≤◌, ◌⊎◌}
+use Rattle.engine.proofs.Names.{◌++◌, AppendsPrefix, Bool, Capture, CaptureFault, CaptureState, CountsFault, CountsWriteFault, Device, Devices, Ending, Ends}
+use Rattle.engine.proofs.Names.{Err, FaultLeaves, FinishFails, Format, HaltedByWrite, IfErr, Interrupts, IsStop, IsWithin, Keeps, Keeps-refl, LeavesPrefix}
+use Rattle.engine.proofs.Names.{List, Memory, None, NoneFailed, Ok, Option, OutputsFinished, OutputsWritten, READ_AHEAD, Replay, ReplayStart, Replayed, Result}
+use Rattle.engine.proofs.Names.{RunFault, Setup, SinkError, Some, Summary, Writers, [], ap, append-nil, arith, capture_text, ending_at, ending_of, false}
+use Rattle.engine.proofs.Names.{fault_at, inl, inr, length, of_sink, one_more, part_none, part_same, refl, same_Some, sll2_header, start_of, subst, sym}
+use Rattle.engine.proofs.Names.{torn_at, true, unread_input, ℕ, ◌∙◌, ◌≡◌, ◌≤◌, ◌⊎◌}
 use Rattle.engine.proofs.Histories.{history_length}
 use Rattle.pcap_io.specs.declared.fault.CaptureFault.TheVariants as captures
 use Rattle.pcap_io.specs.declared.sink.SinkError.TheVariants as sinks
@@ -71,16 +71,6 @@ halted_open start s bytes (Some left) w few part is =
 
 -- ---- by the fault
 
--- an interruption comes within the records, and no record is refused for it
-pub interrupted_within : (fault : RunFault) → IsInterruption fault → IsWithin fault
-interrupted_within Device is = tt
-interrupted_within Memory is = tt
-interrupted_within _ is = absurd is
-
-pub interrupted_by_none : (fault : RunFault) → IsInterruption fault → IsOfRecord fault → ⊥
-interrupted_by_none (Capture fault) is refused = is
-interrupted_by_none _ is refused = refused
-
 abbrev writers_in : Devices → Writers
 writers_in d = record {
   sent = d.sent;
@@ -88,21 +78,6 @@ writers_in d = record {
   sends_failed = d.sends_failed;
   reports_failed = d.reports_failed;
 }
-
--- one fault, whatever holds where there is none
-pub fault_as : {T U : Type 0} (fault other : RunFault) → IsErrOf {T = T} (Err fault) other
-    → IsErrOf {T = U} (Err fault) other
-fault_as fault other e = let same : fault ≡ other = cc in ap Err same
-
--- a failed allocation is no failed call
-pub no_device : {T U : Type 0} (fault : RunFault) → IsErrOf {T = T} (Err fault) Memory
-    → IsErrOf {T = U} (Err fault) Device → ⊥
-no_device fault memory device = cc
-
--- a record that is refused is no device that failed
-pub refused_by_none : {T : Type 0} (fault : RunFault) → IsOfRecord fault → IsErrOf {T = T} (Err fault) Device → ⊥
-refused_by_none (Capture fault) refused e = cc
-refused_by_none _ refused e = refused
 
 -- a fault behind calls of which none failed, and behind which no read came
 pub counts_ending : (fault : RunFault) (old mid new : Devices) → NoneFailed old mid
@@ -120,12 +95,6 @@ pub fault_leaves_interrupted : (setup : Setup) (trace : Bool) (format : Format) 
 fault_leaves_interrupted setup trace format bytes old new Device h = inl h
 fault_leaves_interrupted setup trace format bytes old new Memory h = inl h
 fault_leaves_interrupted setup trace format bytes old new _ h = absurd h
-
--- a writer that is as it was holds what it held
-pub still_held : {W : Type 0} (contents : W → Option (List ℕ)) (old new : Counted W) → new ≡ old
-    → Keeps (contents old.inner) (contents new.inner)
-still_held {W = W} contents old new e =
-    subst (λ (x : Counted W). Keeps (contents old.inner) (contents x.inner)) (sym e) (Keeps-refl (contents old.inner))
 
 -- before the first record: a prefix of the header is written, or an allocation failed
 pub fault_leaves_begun : (setup : Setup) (trace : Bool) (s : CaptureState) (old : Devices) (w : Option (List ℕ))

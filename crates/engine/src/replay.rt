@@ -10,7 +10,6 @@ ghost use Rattle.stepping.specs.Representing.{Represents};
 ghost use Rattle.engine.specs.declared.fault.RunFault.{RunFault};
 ghost use Rattle.engine.specs.AfterFault.{AllFlushed, CountsFault, devices};
 ghost use Rattle.engine.specs.Refusals.{IsOfRecord};
-ghost use Rattle.engine.specs.steps.Faults.{IsInterruption};
 ghost use Rattle.engine.specs.steps.Replayed.{BreaksAtLast, CountsFailedWrite, CountsWriteFault, IsBegun, IsOpened};
 ghost use Rattle.engine.specs.steps.Replayed.{IsStop, KeepsLast, ReplaysAll, RepresentsSome, StillRepresents};
 ghost use Rattle.engine.specs.steps.Replayed.{TakesLast, WritesAll, WritesPrefix, writers};
@@ -141,7 +140,8 @@ impl Replay {
         ensures stop { IfOk result IsStop }
         ensures drained { IfOk result (λ stop. (torn : Bool) → torn_at stop ≡ Ok torn
             → IsAtEnd (R.remaining capture.new.inner)) }
-        ensures interruption { IfErr result IsInterruption }
+        ensures within { IfErr result IsWithin }
+        ensures refused { IfErr result (λ fault. IsOfRecord fault → AllFlushed sent.new report.new) }
         ensures flushed { IsErrOf result RunFault.Memory → AllFlushed sent.new report.new }
         ensures failures { CountsFault result
             (devices R.remaining W.contents W2.contents capture.old sent.old report.old)
@@ -286,6 +286,7 @@ impl Replay {
             (writers W.contents W2.contents sent.old report.old)
             (writers W.contents W2.contents sent.new report.new) }
         ensures flushed { result ≢ Err RunFault.Device → AllFlushed sent.new report.new }
+        ensures refused { IfErr result (λ fault. IsOfRecord fault → AllFlushed sent.new report.new) }
         ensures records { self.new.numbers.records ≡ self.old.numbers.records }
         ensures failures { CountsWriteFault result
             (writers W.contents W2.contents sent.old report.old)

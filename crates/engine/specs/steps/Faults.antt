@@ -8,9 +8,3 @@ use Rattle.engine.specs.declared.fault.RunFault.TheVariants.{Device, Memory}
 abbrev pub of_sink : SinkError → RunFault
 of_sink sinks.Device = Device
 of_sink sinks.Memory = Memory
-
--- a call failed among the records
-abbrev pub IsInterruption : RunFault → Type 0
-IsInterruption Device = Unit {0}
-IsInterruption Memory = Unit {0}
-IsInterruption _ = ⊥

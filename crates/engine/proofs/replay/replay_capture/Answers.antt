@@ -1,6 +1,6 @@
-use Rattle.engine.proofs.Names.{CaptureState, Err, LeavesPrefix, WritesOutputs, ap, devices, err_from_is_err_and, inr, refl, start_of, subst, sym, ◌∙◌}
-use Rattle.engine.proofs.Texts.{all_written, counts_ending, fault_as, fault_leaves_begun, fault_leaves_ended, fault_leaves_interrupted, interrupted_by_none}
-use Rattle.engine.proofs.Texts.{interrupted_within, no_device, refused_by_none, still_held, within_end}
+use Rattle.engine.proofs.Names.{CaptureState, Err, Keeps-refl, LeavesPrefix, Memory, WritesOutputs, ap, devices, err_from_is_err_and, inr, refl, start_of}
+use Rattle.engine.proofs.Names.{subst, sym, ◌∙◌, ◌≡◌}
+use Rattle.engine.proofs.Texts.{all_written, counts_ending, fault_leaves_begun, fault_leaves_ended, fault_leaves_interrupted, within_end}
 use Rattle.engine.proofs.replay.replay_capture.Goals as goal
 
 pub returns-in_err-replay-clause-left : goal.returns-in_err-replay-clause-left
@@ -11,7 +11,7 @@ returns-in_err-replay-clause-left g c =
     rw q.1 (rw q.2 (fault_leaves_begun c.args.engine.setup c.args.trace c.args.records old
     (g.W.Write.contents c.new.new.sent.inner) c.new.new.sent.failures c.in_err-replay.field-0.0 c.requires.opened.3
     c.in_err-replay.ensures.part
-    (λ e. still_held g.W.Write.contents c.args.sent.now c.new.new.sent (c.in_err-replay.ensures.memory (ap Err e)))))
+    (λ e. rw (c.in_err-replay.ensures.memory (ap Err e)) (Keeps-refl _))))
 
 -- ---- a fault interrupts the records
 
@@ -26,21 +26,11 @@ returns-in_err-stop-clause-left g c =
     (λ bytes is. fault_leaves_interrupted _ _ _ bytes old new c.in_err-stop.field-0.0
     (c.in_err-stop.ensures.replayed _ bytes is (c.in_ok-replay.ensures.begun old.report)))))
 
-pub returns-in_err-stop-clause-within : goal.returns-in_err-stop-clause-within
-returns-in_err-stop-clause-within g c =
-    let q = err_from_is_err_and c.from_residual-in_err-stop.result c.from_residual-in_err-stop.ensures.1 in
-    rw q.1 (rw q.2 (interrupted_within c.in_err-stop.field-0.0 c.in_err-stop.ensures.interruption))
-
-pub returns-in_err-stop-clause-refused : goal.returns-in_err-stop-clause-refused
-returns-in_err-stop-clause-refused g c =
-    let q = err_from_is_err_and c.from_residual-in_err-stop.result c.from_residual-in_err-stop.ensures.1 in
-    rw q.1 (rw q.2 (λ refused. absurd (interrupted_by_none c.in_err-stop.field-0.0 c.in_err-stop.ensures.interruption
-    refused)))
-
 pub returns-in_err-stop-clause-memory : goal.returns-in_err-stop-clause-memory
 returns-in_err-stop-clause-memory g c = λ is.
     let q = err_from_is_err_and c.from_residual-in_err-stop.result c.from_residual-in_err-stop.ensures.1 in
-    inr (c.in_err-stop.ensures.flushed (fault_as c.in_err-stop.field-0.0 _ (sym (q.1 ∙ ap Err q.2) ∙ is)))
+    let e = sym (q.1 ∙ ap Err q.2) ∙ is in
+    let same : c.in_err-stop.field-0.0 ≡ Memory = cc in inr (c.in_err-stop.ensures.flushed (ap Err same))
 
 -- ---- the records stop, and a fault comes then
 
@@ -65,16 +55,10 @@ returns-in_err-torn-clause-within g c =
     rw q.1 (rw q.2 (within_end c.in_ok-stop.stop c.in_err-torn.field-0.0 c.in_ok-stop.ensures.stop
     c.in_err-torn.ensures.fault))
 
-pub returns-in_err-torn-clause-refused : goal.returns-in_err-torn-clause-refused
-returns-in_err-torn-clause-refused g c =
-    let q = err_from_is_err_and c.from_residual-in_err-torn.result c.from_residual-in_err-torn.ensures.1 in
-    rw q.1 (rw q.2 (λ refused. c.in_err-torn.ensures.flushed (refused_by_none c.in_err-torn.field-0.0 refused)))
-
 pub returns-in_err-torn-clause-memory : goal.returns-in_err-torn-clause-memory
 returns-in_err-torn-clause-memory g c = λ is.
     let q = err_from_is_err_and c.from_residual-in_err-torn.result c.from_residual-in_err-torn.ensures.1 in
-    inr (c.in_err-torn.ensures.flushed (λ device.
-    no_device c.in_err-torn.field-0.0 (sym (q.1 ∙ ap Err q.2) ∙ is) device))
+    let e = sym (q.1 ∙ ap Err q.2) ∙ is in inr (c.in_err-torn.ensures.flushed (λ device. cc))
 
 pub returns-in_err-torn-clause-failures : goal.returns-in_err-torn-clause-failures
 returns-in_err-torn-clause-failures g c =
