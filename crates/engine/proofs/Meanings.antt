@@ -1,13 +1,13 @@
 -- A run, from the results of its calls.
-use Rattle.engine.proofs.Names.{◌++◌, ◌<◌, Accepted, Bool, Box, Capture, CaptureFault, CaptureState, Captured, CheckedTree, Consumes, Device, Devices, Ending}
-use Rattle.engine.proofs.Names.{Ends, Entry, Err, FaultLeaves, Format, HEADER_BYTES, IfErr, IfOk, IfSome, IfSome_weaker, IsAtEnd, IsChecked, IsHistoryOf}
-use Rattle.engine.proofs.Names.{IsRefused, IsWithin, JudgeRefuses, Laws, LeftDevices, List, Meaning, Memory, None, NothingTaken, Ok, Option, OutputsWritten}
-use Rattle.engine.proofs.Names.{Pcap, READ_AHEAD, ReadSoFar, RecordsTaken, RefusedAtRecord, Refuses, ReplayStart, Result, Rules, RunFault, Setup, Some}
-use Rattle.engine.proofs.Names.{Untouched, WroteOutputs, [], ahead, ap, arith, capture_text, decoded_records, drop, ending_of, failed_header_read, failed_read}
-use Rattle.engine.proofs.Names.{failed_report, failed_write, false, format_of, header_fault, inl, inr, length, one_more, refl, report_text, setup_of, start_of}
-use Rattle.engine.proofs.Names.{subst, sym, true, unread_input, ℕ, ◌∙◌, ◌≡◌, ◌≤◌}
+use Rattle.engine.proofs.Names.{◌++◌, ◌<◌, Accepted, Bool, Box, Capture, CaptureFault, CaptureState, Captured, Consumes, Device, Devices, Entry, Err}
+use Rattle.engine.proofs.Names.{FaultLeaves, Format, HEADER_BYTES, IfErr, IfOk, IfSome, IsAtEnd, IsChecked, IsHistoryOf, IsWithin, JudgeRefuses, Laws}
+use Rattle.engine.proofs.Names.{LeftDevices, List, Meaning, Memory, None, NothingTaken, Ok, Option, OutputsWritten, Pcap, READ_AHEAD, ReadSoFar, RecordsTaken}
+use Rattle.engine.proofs.Names.{Refuses, ReplayStart, Result, Rules, RunFault, Setup, Some, Untouched, WroteOutputs, [], ahead, ap, arith, capture_text}
+use Rattle.engine.proofs.Names.{decoded_records, drop, ending_of, failed_header_read, failed_read, failed_report, failed_write, false, format_of, header_fault}
+use Rattle.engine.proofs.Names.{inl, inr, length, one_more, refl, report_text, setup_of, subst, sym, true, unread_input, ℕ, ◌∙◌, ◌≡◌, ◌≤◌}
 use Rattle.engine.proofs.Replays.{ahead_is}
 use Rattle.engine.proofs.Histories.{OneEntry, one_history}
+use Rattle.rule_check.specs.Checked.{CheckedTree}
 
 -- ---- what follows under a result
 
@@ -82,27 +82,11 @@ opened None s unread part takes at_end h = tt
 opened (Some bytes) s None part takes at_end h = absurd takes
 opened (Some bytes) s (Some left) part takes at_end h = (h.0, h.1, sym (ahead_is s (Some left) left refl at_end) ∙ h.2)
 
--- the reading of a capture whose header is accepted
-reading : (setup : Setup) (format : Format) (bytes : List ℕ) (unread : Option (List ℕ)) (ending : Ending)
-    (at : ReadSoFar setup format (drop HEADER_BYTES bytes) unread) → format_of bytes ≡ Ok format
-    → Ends format ending (length at.follows.records) (at.ahead ++ at.left) → Pcap bytes at.follows.records ending
-reading setup format bytes unread ending at header ends =
-    record {
-      format = format;
-      accepted = header;
-      rest = at.ahead ++ at.left;
-      whole = at.follows.joined;
-      each = at.follows.each;
-      not_over = at.follows.not_over;
-      ends = ends;
-    }
-
 pub wrote : OneMeaning → (rules box : List ℕ) (accepted : Accepted rules box) (start : ReplayStart) (format : Format)
     (input to_come unread w r : Option (List ℕ)) (count : ℕ) (torn : Bool) → start.setup ≡ accepted.setup
     → Opened input to_come format
     → ((bytes : List ℕ) → to_come ≡ Some bytes → OutputsWritten start format bytes count torn unread w r)
     → IfSome input (λ bytes. WroteOutputs rules box bytes start.trace count torn start.sent w start.report r)
-unfolding reading
 wrote one rules box accepted start format None to_come unread w r count torn same opened done = tt
 wrote one rules box accepted start format (Some bytes) to_come unread w r count torn same opened done =
     let t : OutputsWritten start format (drop HEADER_BYTES bytes) count torn unread w r = done _ opened.2 in
@@ -112,7 +96,15 @@ wrote one rules box accepted start format (Some bytes) to_come unread w r count 
     record {
       accepted = accepted;
       records = t.reached.follows.records;
-      read = reading start.setup format bytes unread (ending_of torn) t.reached opened.1 t.ends;
+      read = record {
+        format = format;
+        accepted = opened.1;
+        rest = t.reached.ahead ++ t.reached.left;
+        whole = t.reached.follows.joined;
+        each = t.reached.follows.each;
+        not_over = t.reached.follows.not_over;
+        ends = t.ends;
+      };
       counted = t.counted;
       history = history;
       is_history = subst (λ (s : Setup). IsHistoryOf s [] (decoded_records format t.reached.follows.records) history)
@@ -130,28 +122,34 @@ wrote one rules box accepted start format (Some bytes) to_come unread w r count 
       appends_report = t.finished.all_lines;
     }
 
+-- what is refused of a capture, by the devices that the refusal left
+pub refuses_capture : (rules box : List ℕ) (trace : Bool) (input : Option (List ℕ)) (old new : Devices)
+    (fault : CaptureFault) → Accepted rules box
+    → IfSome input (λ bytes. LeftDevices rules box bytes trace old new (Capture fault))
+    → Refuses rules box input (Capture fault)
+refuses_capture rules box trace None old new fault a left = (a, tt)
+refuses_capture rules box trace (Some bytes) old new fault a (inl h) = (a, inl h.0)
+refuses_capture rules box trace (Some bytes) old new fault a (inr h) =
+    let t = h.taken_so_far in
+    let read : Pcap bytes t.records h.ending = record {
+      format = t.format;
+      accepted = t.header;
+      rest = t.ahead ++ t.left;
+      whole = t.joined;
+      each = t.each;
+      not_over = t.not_over;
+      ends = h.ends;
+    } in (a, inr (t.records, h.ending, read, h.refused))
+
 -- a fault within the records is a refusal of the capture, or none
-pub refuses_within : (rules box : List ℕ) (accepted : Accepted rules box) (setup : Setup) (trace : Bool)
-    (format : Format) (input to_come : Option (List ℕ)) (old new : Devices) (fault : RunFault)
-    → Opened input to_come format → IsWithin fault
-    → ((bytes : List ℕ) → to_come ≡ Some bytes → FaultLeaves setup trace format bytes old new fault)
+pub refuses_within : (rules box : List ℕ) (trace : Bool) (input : Option (List ℕ)) (old new : Devices) (fault : RunFault)
+    → Accepted rules box → IsWithin fault → IfSome input (λ bytes. LeftDevices rules box bytes trace old new fault)
     → Refuses rules box input fault
-refuses_within rules box accepted setup trace format None to_come old new (Capture fault) opened within says =
-    (accepted, tt)
-refuses_within rules box accepted setup trace format (Some bytes) to_come old new (Capture fault) opened within says =
-    let h : RefusedAtRecord (start_of setup trace old) format (drop HEADER_BYTES bytes) fault new.unread new.sent
-    new.report = (says _ opened.2).0 in (
-      accepted,
-      inr (
-        h.reached.follows.records,
-        h.ending,
-        reading setup format bytes new.unread h.ending h.reached opened.1 h.ends,
-        h.refused,
-      ),
-    )
-refuses_within rules box accepted setup trace format input to_come old new Device opened within says = tt
-refuses_within rules box accepted setup trace format input to_come old new Memory opened within says = tt
-refuses_within rules box accepted setup trace format input to_come old new _ opened within says = absurd within
+refuses_within rules box trace input old new (Capture fault) a within left =
+    refuses_capture rules box trace input old new fault a left
+refuses_within rules box trace input old new Device a within left = tt
+refuses_within rules box trace input old new Memory a within left = tt
+refuses_within rules box trace input old new _ a within left = absurd within
 
 -- ---- the devices
 
@@ -295,14 +293,6 @@ left_unread rules box trace None old new part fault takes few kept no_failure re
 left_unread rules box trace (Some bytes) old new part fault takes few kept no_failure refused = inl (
   refused,
   unbegun bytes part old new new.unread refl takes few kept no_failure,
-)
-
-pub refused_unread : (rules box : List ℕ) (input : Option (List ℕ)) (fault : CaptureFault) → Accepted rules box
-    → IfSome input (λ bytes. header_fault bytes ≡ Some fault) → Refuses rules box input (Capture fault)
-refused_unread rules box input fault accepted refused = (
-  accepted,
-  IfSome_weaker input (λ bytes. header_fault bytes ≡ Some fault) (λ bytes. IsRefused bytes fault) (λ bytes h. inl h)
-      refused,
 )
 
 -- an allocation failed before anything was written

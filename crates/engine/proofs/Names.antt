@@ -1,6 +1,5 @@
 -- Names of other crates and of the definitions, for the proofs.
 pub use Rattle.box_file.specs.Box.{HasBoxFault, IsBox, PlantTree}
-pub use Rattle.box_file.specs.declared.fault.BoxFault.{BoxFault}
 pub use Rattle.engine.specs.AfterFault.{CountsFault, Devices, LeftDevices, NoneFailed, NothingTaken, RecordsTaken, Untouched, devices, failed_header_read}
 pub use Rattle.engine.specs.AfterFault.{failed_read, failed_report, failed_write}
 pub use Rattle.engine.specs.Judged.{JudgeRefuses, Judged}
@@ -11,22 +10,14 @@ pub use Rattle.engine.specs.declared.fault.RunFault.{RunFault}
 pub use Rattle.engine.specs.declared.fault.RunFault.TheVariants.{Box, Capture, Device, Memory, Rules}
 pub use Rattle.engine.specs.declared.judging.Counts.{Counts}
 pub use Rattle.engine.specs.declared.replay.Replay.{Replay}
-pub use Rattle.engine.specs.declared.runs.Summary.{Summary}
-pub use Rattle.engine.specs.steps.Faults.{of_sink}
-pub use Rattle.engine.specs.steps.Inputs.{IsChecked}
-pub use Rattle.engine.specs.steps.Laws.{Laws}
+pub use Rattle.engine.specs.steps.Inputs.{IsChecked, Laws}
 pub use Rattle.engine.specs.steps.Replayed.{AllWritten, BeginsWithRecords, BreaksAtRecord, CountsWriteFault, FaultLeaves, FinishFails, HaltedByWrite}
 pub use Rattle.engine.specs.steps.Replayed.{Interrupts, IsStop, IsWithin, LeavesPrefix, OutputsFinished, OutputsWritten, PrefixWritten, ReadSoFar}
-pub use Rattle.engine.specs.steps.Replayed.{RefusedAtRecord, ReplayRepresents, ReplayStart, Replayed, ReportUnfinished, RepresentsSome, TakesRecord, Writers}
-pub use Rattle.engine.specs.steps.Replayed.{WritesOutputs, ending_at, sent_records, start_of, torn_at, unread_input}
+pub use Rattle.engine.specs.steps.Replayed.{ReplayRepresents, ReplayStart, Replayed, ReportUnfinished, RepresentsSome, TakesRecord, Writers, WritesOutputs}
+pub use Rattle.engine.specs.steps.Replayed.{ending_at, sent_records, start_of, torn_at, unread_input}
 pub use Rattle.history.specs.History.{Entry, IsEntry, IsNewest, capture_text, in_order, live_in, sends}
 pub use Rattle.history.specs.Setup.{Setup}
-pub use Rattle.history.specs.declared.outcome.Outcome.{Outcome}
-pub use Rattle.list_laws.specs.Options.{IfSome_at, IfSome_weaker}
-pub use Rattle.nft_parser.specs.Spells.{HasTextFault, Spells}
-pub use Rattle.nft_parser.specs.declared.fault.TextFault.{TextFault}
 pub use Rattle.nft_tree.specs.Tree.{TableTree, table_tree, tables_of}
-pub use Rattle.pcap_io.specs.Buffering.{AppendsBuffered, SinkState}
 pub use Rattle.pcap_io.specs.CaptureStates.{CaptureState, FailsBetween, IsOfRecords, IsPartialRecord, NextAnswers, READ_AHEAD, ReadsRecord, ahead, is_ready}
 pub use Rattle.pcap_io.specs.Counting.{AppendsPrefix, one_more}
 pub use Rattle.pcap_io.specs.Pcap.{Captured, Ending, Ends, HEADER_BYTES, IsRecord, Malformed, Over, Pcap, Recorded, Torn, Whole, decoded_after, decoded_records}
@@ -35,11 +26,8 @@ pub use Rattle.pcap_io.specs.Sll2.{Sent, sll2_header, sll2_record}
 pub use Rattle.pcap_io.specs.declared.fault.CaptureError.TheVariants.{Refused}
 pub use Rattle.pcap_io.specs.declared.fault.CaptureFault.{CaptureFault}
 pub use Rattle.pcap_io.specs.declared.format.Format.{Format}
-pub use Rattle.pcap_io.specs.declared.sink.SinkError.{SinkError}
 pub use Rattle.pcap_io.specs.steps.Written.{gets_more, gets_none, gets_part, part_after, part_first, part_none, part_same, part_whole}
 pub use Rattle.report.specs.Report.{closing_lines, entry_lines, lines_of, report_text}
-pub use Rattle.report.specs.Representing.{AppendsRest, AppendsRestPrefix, IsReportOf, ReportState, note_line}
-pub use Rattle.rule_check.specs.Checked.{CheckedTree}
 pub use Rattle.rule_check.specs.WellFormed.{LeastFault, WellFormed}
 pub use Rattle.rule_check.specs.declared.fault.CheckFault.{CheckFault}
 pub use Rattle.rule_limits.specs.Limits.{chain_count, rule_count}
@@ -47,15 +35,9 @@ pub use Rattle.std.proofs.Common.{◌+◌, ◌++◌, ◌-◌, ◌<◌, All, Bool
 pub use Rattle.std.proofs.Common.{append_assoc, arith, drop, false, inl, inr, length, length-append, max, min, refl, rules, subst, suc, sym, true, zero}
 pub use Rattle.std.proofs.Common.{zero-add, ℕ, ◌∙◌, ◌∷◌, ◌≡◌, ◌≤◌, ◌⊎◌}
 pub use Rattle.std.proofs.KnownBytes.{Appends-kept, Appends-trans, Consumes-nil, Keeps-refl}
-pub use Rattle.std.proofs.lemmas.Bool.{false_from_ne_true}
 pub use Rattle.std.proofs.lemmas.Grind.{flat_map-append}
-pub use Rattle.std.proofs.lemmas.List.{length-map}
-pub use Rattle.std.proofs.lemmas.List.Elements.{All-append}
-pub use Rattle.std.proofs.lemmas.Option.{same_Some}
-pub use Rattle.std.proofs.lemmas.Result.{err_from_is_err_and}
+pub use Rattle.std.proofs.lemmas.Result.{IfErr-at_err, err_from_is_err_and}
 pub use Rattle.std.specs.Io.KnownBytes.{Appends, Consumes, IsAtEnd, Keeps}
 pub use Rattle.std.specs.List.{flat_map}
-pub use Rattle.std.specs.Prelude.{cond, slice_index_or}
-pub use Rattle.std.specs.Result.{result_err}
 pub use Rattle.stepping.specs.Next.{IsHistoryOf, Next}
 pub use Rattle.stepping.specs.Representing.{EngineState, Represents, recorded_of, sends_of, setup_of}

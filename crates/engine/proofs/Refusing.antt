@@ -2,7 +2,8 @@
 use Rattle.engine.proofs.Names.{◌-◌, Accepted, Bool, Box, Capture, CaptureFault, Captured, Check, CheckFault, Counts, Device, Ending, IsOfTexts, IsRefusal}
 use Rattle.engine.proofs.Names.{IsRefused, JudgeRefuses, Judged, Laws, LeastFault, List, Meaning, Memory, Option, Pcap, PlantTree, Refuses, Rules, RunFault}
 use Rattle.engine.proofs.Names.{Some, Spelled, TableTree, Text, WellFormed, [], ◌^◌, ap, chain_count, ending_of, false, fault_at, header_fault, inl, inr}
-use Rattle.engine.proofs.Names.{length, min, result_err, rule_count, subst, sym, true, ℕ, ◌∙◌, ◌≡◌}
+use Rattle.engine.proofs.Names.{length, min, rule_count, subst, sym, true, ℕ, ◌∙◌, ◌≡◌}
+use Rattle.std.specs.Result.{result_err}
 
 -- where judging the texts refuses them a run does
 pub misjudged : (rules box : List ℕ) (input : Option (List ℕ)) (fault : RunFault) → JudgeRefuses rules box fault

@@ -1,12 +1,15 @@
 -- The records of a capture, one after another.
-use Rattle.engine.proofs.Names.{◌++◌, ◌<◌, All, All-append, AllWritten, BeginsWithRecords, Bool, BreaksAtRecord, CaptureFault, CaptureState, Captured, Consumes}
-use Rattle.engine.proofs.Names.{Ending, Ends, Entry, Err, FailsBetween, Format, IfSome, IfSome_at, IfSome_weaker, Interrupts, IsAtEnd, IsHistoryOf, IsOfRecords}
-use Rattle.engine.proofs.Names.{IsPartialRecord, IsRecord, List, Malformed, Next, NextAnswers, None, Ok, Option, Over, PrefixWritten, READ_AHEAD, ReadSoFar}
-use Rattle.engine.proofs.Names.{ReadsRecord, Recorded, Refused, Replay, ReplayRepresents, ReplayStart, Replayed, Setup, Some, TakesRecord, Torn, Whole, []}
-use Rattle.engine.proofs.Names.{ahead, ap, append-nil, append_assoc, arith, cond, decoded_records, ending_at, ending_of, false, flat_map-append, frame, inl}
-use Rattle.engine.proofs.Names.{inr, length, length-append, max, one_more, own_moment, refl, same_Some, slice_index_or, stream_of, subst, suc, sym, torn_at}
-use Rattle.engine.proofs.Names.{true, unread_input, zero, ℕ, ◌∙◌, ◌∷◌, ◌≡◌, ◌≤◌}
+use Rattle.engine.proofs.Names.{◌++◌, ◌<◌, All, AllWritten, BeginsWithRecords, Bool, BreaksAtRecord, CaptureFault, CaptureState, Captured, Consumes, Ending}
+use Rattle.engine.proofs.Names.{Ends, Entry, Err, FailsBetween, Format, IfSome, Interrupts, IsAtEnd, IsHistoryOf, IsOfRecords, IsPartialRecord, IsRecord, List}
+use Rattle.engine.proofs.Names.{Malformed, Next, NextAnswers, None, Ok, Option, Over, PrefixWritten, READ_AHEAD, ReadSoFar, ReadsRecord, Recorded, Refused}
+use Rattle.engine.proofs.Names.{Replay, ReplayRepresents, ReplayStart, Replayed, Setup, Some, TakesRecord, Torn, Whole, [], ahead, ap, append-nil, append_assoc}
+use Rattle.engine.proofs.Names.{arith, decoded_records, ending_at, ending_of, false, flat_map-append, frame, inl, inr, length, length-append, max, one_more}
+use Rattle.engine.proofs.Names.{own_moment, refl, stream_of, subst, suc, sym, torn_at, true, unread_input, zero, ℕ, ◌∙◌, ◌∷◌, ◌≡◌, ◌≤◌}
 use Rattle.engine.proofs.Histories.{is_history_more, latest_after, latest_more, decoded_more}
+use Rattle.std.proofs.lemmas.List.Elements.{All-append}
+use Rattle.std.specs.Prelude.{cond, slice_index_or}
+use Rattle.std.proofs.lemmas.Option.{same_Some}
+use Rattle.list_laws.specs.Options.{IfSome_at, IfSome_weaker}
 use Rattle.pcap_io.specs.declared.fault.CaptureError.TheVariants as errors
 use Rattle.pcap_io.specs.declared.fault.CaptureFault.TheVariants as captures
 use Rattle.engine.specs.declared.fault.RunFault.TheVariants as faults
@@ -24,6 +27,17 @@ pub record Carried (replay : Replay) (start : ReplayStart) (format : Format) (by
   pub latest_is : replay.records.latest ≡ latest_after format 0 follows.records
   pub replay_represents : ReplayRepresents replay start history w r
 
+-- none was read yet
+abbrev pub none_yet : (setup : Setup) (format : Format) (bytes rest : List ℕ) → Some rest ≡ Some bytes
+    → BeginsWithRecords setup format bytes rest []
+none_yet setup format bytes rest is = record {
+  records = [];
+  joined = sym (same_Some _ _ is);
+  each = λ k d lt. absurd (omega (arith, lt));
+  not_over = omega arith;
+  is_history = refl;
+}
+
 -- before the first record
 pub begun : (replay : Replay) (start : ReplayStart) (bytes : List ℕ) (unread w r : Option (List ℕ))
     → replay.records.count ≡ 0 → replay.records.latest ≡ 0 → unread_input replay.records unread ≡ Some bytes
@@ -36,13 +50,7 @@ begun replay start bytes (Some left) w r none early is p =
       is_left = refl;
       rest_is = refl;
       history = [];
-      follows = record {
-        records = [];
-        joined = sym (same_Some _ _ is);
-        each = λ k d lt. absurd (omega (arith, lt));
-        not_over = omega arith;
-        is_history = refl;
-      };
+      follows = none_yet start.setup replay.records.format bytes (replay.records.held ++ left) is;
       counted = none;
       latest_is = early;
       replay_represents = p;
@@ -82,7 +90,7 @@ still_left s before after left part rest is takes at_end e =
     }
 
 -- so far these records
-abbrev reached : {setup : Setup} {format : Format} {bytes rest : List ℕ} {unread : Option (List ℕ)}
+abbrev pub reached : {setup : Setup} {format : Format} {bytes rest : List ℕ} {unread : Option (List ℕ)}
     {history : List Entry} (ahead left : List ℕ) → unread ≡ Some left → rest ≡ ahead ++ left
     → BeginsWithRecords setup format bytes rest history → ReadSoFar setup format bytes unread
 reached {history = history} ahead left is e f =
@@ -153,13 +161,15 @@ fetched new same at_end takes drains = record {
   drained = drains (λ e. at_end (sym (ap (λ (s : CaptureState). s.ended) same) ∙ e));
 }
 
-abbrev pub read_after : {before replay : Replay} {new : CaptureState} {start : ReplayStart} {format : Format}
+abbrev pub read_after : {before replay : Replay} (new : CaptureState) {start : ReplayStart} {format : Format}
     {bytes : List ℕ} {unread after w w' r r' : Option (List ℕ)} → replay.records ≡ before.records
+    → (before.records.ended ≡ true → IsAtEnd unread) → ((part : List ℕ) × Consumes unread after part)
+    → ((replay.records.ended ≡ true → IsAtEnd unread) → new.ended ≡ true → IsAtEnd after)
     → before.records.format ≡ format → (c : Carried before start format bytes unread w r)
     → ((history : List Entry) → ReplayRepresents before start history w r
-    → ReplayRepresents replay start history w' r') → Fetched replay.records new unread after
-    → length new.held ≤ READ_AHEAD → AtRead replay new start format bytes unread after w' r'
-read_after same kept c still reader few =
+    → ReplayRepresents replay start history w' r') → length new.held ≤ READ_AHEAD
+    → AtRead replay new start format bytes unread after w' r'
+read_after new same at_end takes drains kept c still few =
     record {
       carried = record {
         rest = c.rest;
@@ -173,7 +183,7 @@ read_after same kept c still reader few =
         replay_represents = still c.history c.replay_represents;
       };
       same = ap (λ (s : CaptureState). s.format) same ∙ kept;
-      fetched = reader;
+      fetched = fetched new same at_end takes drains;
       few = few;
     }
 

@@ -1,22 +1,21 @@
 -- The two texts of a capture whose header is accepted, by how its records stop.
 use Rattle.engine.proofs.Names.{◌++◌, AppendsPrefix, Bool, Capture, CaptureFault, CaptureState, CountsFault, CountsWriteFault, Device, Devices, Ending, Ends}
-use Rattle.engine.proofs.Names.{Err, FaultLeaves, FinishFails, Format, HaltedByWrite, IfErr, Interrupts, IsStop, IsWithin, Keeps, Keeps-refl, LeavesPrefix}
-use Rattle.engine.proofs.Names.{List, Memory, None, NoneFailed, Ok, Option, OutputsFinished, OutputsWritten, READ_AHEAD, Replay, ReplayStart, Replayed, Result}
-use Rattle.engine.proofs.Names.{RunFault, Setup, SinkError, Some, Summary, Writers, [], ap, append-nil, arith, capture_text, ending_at, ending_of, false}
-use Rattle.engine.proofs.Names.{fault_at, inl, inr, length, of_sink, one_more, part_none, part_same, refl, same_Some, sll2_header, start_of, subst, sym}
-use Rattle.engine.proofs.Names.{torn_at, true, unread_input, ℕ, ◌∙◌, ◌≡◌, ◌≤◌, ◌⊎◌}
+use Rattle.engine.proofs.Names.{Err, FaultLeaves, FinishFails, Format, HaltedByWrite, IfErr, IfErr-at_err, Interrupts, IsStop, IsWithin, Keeps, Keeps-refl}
+use Rattle.engine.proofs.Names.{LeavesPrefix, List, Memory, None, NoneFailed, Ok, Option, OutputsFinished, OutputsWritten, READ_AHEAD, Replay, ReplayStart}
+use Rattle.engine.proofs.Names.{Replayed, RunFault, Setup, Some, Writers, [], ap, append-nil, capture_text, ending_at, ending_of, false, fault_at, inl, inr}
+use Rattle.engine.proofs.Names.{length, one_more, part_none, part_same, refl, sll2_header, start_of, subst, sym, torn_at, true, unread_input, ℕ, ◌∙◌, ◌≡◌, ◌≤◌}
+use Rattle.engine.proofs.Names.{◌⊎◌}
 use Rattle.engine.proofs.Histories.{history_length}
+use Rattle.engine.proofs.Replays.{none_yet, reached}
+use Rattle.pcap_io.specs.declared.sink.SinkError.{SinkError}
+use Rattle.engine.specs.declared.runs.Summary.{Summary}
+use Rattle.engine.specs.steps.Faults.{of_sink}
 use Rattle.pcap_io.specs.declared.fault.CaptureFault.TheVariants as captures
 use Rattle.pcap_io.specs.declared.sink.SinkError.TheVariants as sinks
 
 -- ---- how the records stop
 
--- the fault at which the records stop
-from_stop : (stop : Option CaptureFault) (fault : RunFault) (P : RunFault → Type 0) → torn_at stop ≡ Err fault
-    → IfErr (torn_at stop) P → P fault
-from_stop stop fault P e h = let Q : Result Bool RunFault → Type 0 = λ r. IfErr r P in subst Q e h
-
--- it comes within the records, and is the fault at their end
+-- a fault at which the records stop comes within them, and is the fault at their end
 abbrev Stops : Option CaptureFault → RunFault → Type 0
 Stops stop fault = IsWithin fault × ((f : CaptureFault) → fault ≡ Capture f → fault_at (ending_at stop) ≡ Some f)
 
@@ -31,7 +30,7 @@ stops_at _ is = absurd is
 pub within_end : (stop : Option CaptureFault) (fault : RunFault) → IsStop stop → (fault ≡ Device)
     ⊎ (torn_at stop ≡ Err fault) → IsWithin fault
 within_end stop fault is (inl e) = subst IsWithin (sym e) tt
-within_end stop fault is (inr e) = (from_stop stop fault (Stops stop) e (stops_at stop is)).0
+within_end stop fault is (inr e) = (IfErr-at_err (Stops stop) e (stops_at stop is)).0
 
 -- the end is torn or not as the records stop
 ending_torn : (stop : Option CaptureFault) (torn : Bool) → torn_at stop ≡ Ok torn → ending_at stop ≡ ending_of torn
@@ -49,19 +48,7 @@ halted_open : (start : ReplayStart) (s : CaptureState) (bytes : List ℕ) (unrea
 halted_open start s bytes None w few part is = cc
 halted_open start s bytes (Some left) w few part is =
     record {
-      reached = record {
-        ahead = s.held;
-        left = left;
-        is_left = refl;
-        history = [];
-        follows = record {
-          records = [];
-          joined = sym (same_Some _ _ is);
-          each = λ k d lt. absurd (omega (arith, lt));
-          not_over = omega arith;
-          is_history = refl;
-        };
-      };
+      reached = reached s.held left refl refl (none_yet start.setup s.format bytes (s.held ++ left) is);
       few = few;
       part = record {
         part_sent = part_same start.sent w sll2_header (capture_text []) part (sym (append-nil sll2_header));
@@ -142,7 +129,7 @@ fault_leaves_ended replay setup trace format bytes w r stop old new before (Capt
     reached = i.reached;
     few = i.few;
     ending = ending_at stop;
-    refused = (from_stop stop (Capture fault) (Stops stop) e.0 (stops_at stop is)).1 fault refl;
+    refused = (IfErr-at_err (Stops stop) e.0 (stops_at stop is)).1 fault refl;
     ends = i.ends;
     all = e.1;
   },

@@ -1,32 +1,17 @@
 -- The written and the pending output of a history.
-use Rattle.engine.proofs.Names.{◌++◌, AllWritten, Appends, Appends-kept, Appends-trans, AppendsBuffered, AppendsPrefix, AppendsRest, AppendsRestPrefix, Bool}
-use Rattle.engine.proofs.Names.{BreaksAtRecord, EngineState, Entry, IfSome, IsEntry, IsNewest, IsReportOf, Keeps, List, Next, None, Option, Outcome}
-use Rattle.engine.proofs.Names.{OutputsFinished, PrefixWritten, Recorded, Replay, ReplayRepresents, ReplayStart, ReportState, ReportUnfinished, Represents}
-use Rattle.engine.proofs.Names.{Sent, Setup, SinkState, Some, TableTree, TakesRecord, [], ap, append-nil, capture_text, closing_lines, entry_lines, flat_map}
-use Rattle.engine.proofs.Names.{gets_more, gets_none, gets_part, length, lines_of, live_in, note_line, part_after, part_first, part_same, part_whole, sends}
-use Rattle.engine.proofs.Names.{sends_of, sll2_record, subst, sym, ℕ, ◌∙◌, ◌∷◌, ◌≡◌}
+use Rattle.engine.proofs.Names.{◌++◌, AllWritten, Appends, Appends-kept, Appends-trans, AppendsPrefix, Bool, BreaksAtRecord, EngineState, Entry, IfSome}
+use Rattle.engine.proofs.Names.{IsEntry, IsNewest, Keeps, List, Next, None, Option, OutputsFinished, PrefixWritten, Recorded, Replay, ReplayRepresents}
+use Rattle.engine.proofs.Names.{ReplayStart, ReportUnfinished, Represents, Sent, Setup, Some, TableTree, TakesRecord, [], ap, append-nil, capture_text}
+use Rattle.engine.proofs.Names.{closing_lines, entry_lines, flat_map, gets_more, gets_none, gets_part, length, lines_of, live_in, part_after, part_first}
+use Rattle.engine.proofs.Names.{part_same, part_whole, sends, sends_of, sll2_record, subst, sym, ℕ, ◌∙◌, ◌∷◌, ◌≡◌}
 use Rattle.engine.proofs.Histories.{captured_more}
+use Rattle.pcap_io.specs.Buffering.{AppendsBuffered, SinkState}
+use Rattle.report.specs.Representing.{AppendsRest, AppendsRestPrefix, IsReportOf, ReportState, note_line}
+use Rattle.history.specs.declared.outcome.Outcome.{Outcome}
 use Rattle.history.specs.declared.entry.Entry as lent
 
 appends_same : (a b : Option (List ℕ)) (xs ys : List ℕ) → Appends a b xs → xs ≡ ys → Appends a b ys
 appends_same a b xs ys w e = subst (Appends a b) e w
-
--- ---- with buffered bytes
-
--- more, of which the writer has a prefix so far
-gets_so_far : (u v : List ℕ) (a b : Option (List ℕ)) (xs : List ℕ) → AppendsBuffered u a b v xs
-    → AppendsPrefix a b (u ++ xs)
-gets_so_far u v a b xs (p, e, g) = (p, v, e, g)
-
--- more, and then all buffered bytes
-gets_all : (u v : List ℕ) (a b c : Option (List ℕ)) (xs : List ℕ) → AppendsBuffered u a b v xs → Appends b c v
-    → Appends a c (u ++ xs)
-gets_all u v a b c xs (p, e, g) rest = appends_same a c (p ++ v) (u ++ xs) (Appends-trans a b c p v g rest) (sym e)
-
--- more, and then a prefix of the buffered bytes
-gets_some : (u v : List ℕ) (a b c : Option (List ℕ)) (xs : List ℕ) → AppendsBuffered u a b v xs
-    → AppendsPrefix b c v → AppendsPrefix a c (u ++ xs)
-gets_some u v a b c xs (p, e, g) rest = part_same a c (p ++ v) (u ++ xs) (part_after a b c p v g rest) (sym e)
 
 -- ---- the outputs of a history
 
@@ -151,10 +136,6 @@ Noted old new told = (rules : List TableTree) (trace : Bool) (history : List Ent
 module _ {replay : Replay} {start : ReplayStart} {history : List Entry} {w r : Option (List ℕ)}
     (p : ReplayRepresents replay start history w r)
   where
-    -- its rules are those of the start
-    rules_are : (rules : List TableTree) → rules ≡ replay.engine.setup.rules → rules ≡ start.setup.rules
-    rules_are rules e = e ∙ ap (λ (s : Setup). s.rules) p.same
-
     -- what was written so far is a prefix
     lines_so_far : AppendsPrefix start.report r (entry_lines start.setup.rules start.trace history)
     lines_so_far = (
@@ -171,11 +152,12 @@ module _ {replay : Replay} {start : ReplayStart} {history : List Entry} {w r : O
         → P rules trace history lines) → P start.setup.rules start.trace history p.lines
     drained P rules e drains =
         subst (λ (rs : List TableTree). IsReportOf replay.numbers rs start.trace history p.lines
-        → P rs start.trace history p.lines) (rules_are rules e) (drains start.trace history p.lines) p.reports
+        → P rs start.trace history p.lines) (e ∙ ap (λ (s : Setup). s.rules) p.same) (drains start.trace history p.lines) p.reports
 
     -- all that is buffered was sent
     all_sent : (w' : Option (List ℕ)) → Appends w w' replay.sink.buffered → Appends start.sent w' (capture_text history)
-    all_sent w' sent = gets_all [] replay.sink.buffered start.sent w w' (capture_text history) p.gets sent
+    all_sent w' sent = appends_same start.sent w' (p.gets.0 ++ replay.sink.buffered) (capture_text history)
+        (Appends-trans start.sent w w' p.gets.0 replay.sink.buffered p.gets.2 sent) (sym p.gets.1)
 
     -- ---- all pending output is written
 
@@ -183,7 +165,8 @@ module _ {replay : Replay} {start : ReplayStart} {history : List Entry} {w r : O
     pub part_unsent : (w' : Option (List ℕ)) → AppendsPrefix w w' replay.sink.buffered
         → PrefixWritten start history w' r
     part_unsent w' part = record {
-      part_sent = gets_some [] replay.sink.buffered start.sent w w' (capture_text history) p.gets part;
+      part_sent = part_same start.sent w' (p.gets.0 ++ replay.sink.buffered) (capture_text history)
+          (part_after start.sent w w' p.gets.0 replay.sink.buffered p.gets.2 part) (sym p.gets.1);
       part_lines = lines_so_far;
     }
 
@@ -293,22 +276,18 @@ module _ {replay : Replay} {start : ReplayStart} {history : List Entry} {w r : O
     next_as taken e n = subst (λ (s : Setup). Next s history taken e) p.same n
 
     -- it wasn't taken
-    broke_before : (taken : Recorded) → ((e : Entry) × Next replay.engine.setup history taken e)
-        → BreaksAtRecord start history taken w r
-    broke_before taken (e, n) = record {
-      entry = e;
-      next = next_as taken e n;
-      part = part_more start history e w r (record {
-        part_sent = gets_so_far [] replay.sink.buffered start.sent w (capture_text history) p.gets;
-        part_lines = lines_so_far;
-      });
-    }
-
     pub broke_unread : (last : Option Recorded)
         → ((taken : Recorded) → (e : Entry) × Next replay.engine.setup history taken e)
         → IfSome last (λ taken. BreaksAtRecord start history taken w r)
     broke_unread None entries = tt
-    broke_unread (Some taken) entries = broke_before taken (entries taken)
+    broke_unread (Some taken) entries = record {
+      entry = (entries taken).0;
+      next = next_as taken (entries taken).0 (entries taken).1;
+      part = part_more start history (entries taken).0 w r (record {
+        part_sent = (p.gets.0, replay.sink.buffered, p.gets.1, p.gets.2);
+        part_lines = lines_so_far;
+      });
+    }
 
     -- ---- an entry for it
 

@@ -7,7 +7,7 @@ ghost use Rattle.engine.specs.declared.judging.Counts.{Counts};
 ghost use Rattle.engine.specs.Judged.{Judged, JudgeRefuses};
 ghost use Rattle.engine.specs.Meaning.{Meaning};
 ghost use Rattle.engine.specs.Refusals.{IsOfTexts, IsRefusal, Refuses};
-ghost use Rattle.engine.specs.steps.Laws.{Laws};
+ghost use Rattle.engine.specs.steps.Inputs.{Laws};
 
 use box_file::{one_box, some_box};
 use nft_parser::{one_fault, one_tree};

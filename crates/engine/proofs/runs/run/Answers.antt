@@ -1,7 +1,7 @@
 use Rattle.engine.proofs.Names.{Consumes-nil, Err, Keeps-refl, ap, devices, err_from_is_err_and, refl, start_of}
 use Rattle.engine.proofs.Refusing.{misjudged}
 use Rattle.engine.proofs.Meanings.{accepted_of, if_ok_then, if_err_both, left_all, left_of_texts, left_unopened, left_unread, left_untouched, opened}
-use Rattle.engine.proofs.Meanings.{refused_unread, refuses_within, wrote}
+use Rattle.engine.proofs.Meanings.{refuses_capture, refuses_within, wrote}
 use Rattle.engine.proofs.runs.run.Goals as goal
 
 pub returns-in_err-checked-clause-refusals : goal.returns-in_err-checked-clause-refusals
@@ -17,12 +17,6 @@ returns-in_err-checked-clause-left g c =
     rw p.1 (rw p.2 (left_of_texts _ _ _ _ old old c.in_err-checked.field-0.0 (Consumes-nil _)
     (Keeps-refl _, Keeps-refl _) refl c.in_err-checked.ensures.refused))
 
-pub returns-in-Err-Refused-clause-refusals : goal.returns-in-Err-Refused-clause-refusals
-returns-in-Err-Refused-clause-refusals g c =
-    rw c.in-Err-Refused.fault-is (refused_unread _ _ _ c.in-Err-Refused.fault (accepted_of _ _ c.in_ok-checked.checked
-    c.in_ok-checked.ensures.fine)
-    (rw c.in-Err-Refused.field-0-is at c.in-Err-Refused.ensures.refused))
-
 pub returns-in-Err-Refused-clause-left : goal.returns-in-Err-Refused-clause-left
 returns-in-Err-Refused-clause-left g c =
     let state = devices g.R.Read.remaining g.W.Write.contents g.W2.Write.contents in
@@ -33,6 +27,11 @@ returns-in-Err-Refused-clause-left g c =
     read.2 (Keeps-refl _, Keeps-refl _) (c.in-Err-Refused.ensures.no_failure (λ e. cc))
     (rw c.in-Err-Refused.field-0-is at c.in-Err-Refused.ensures.refused) in
     rw c.in-Err-Refused.fault-is h
+
+pub returns-in-Err-Refused-clause-refusals : goal.returns-in-Err-Refused-clause-refusals
+returns-in-Err-Refused-clause-refusals g c =
+    refuses_capture _ _ _ _ _ _ _ (accepted_of _ _ c.in_ok-checked.checked c.in_ok-checked.ensures.fine)
+    (returns-in-Err-Refused-clause-left g c)
 
 pub returns-in-Err-Memory-clause-left : goal.returns-in-Err-Memory-clause-left
 returns-in-Err-Memory-clause-left g c =
@@ -80,9 +79,8 @@ returns-in_err-engine-clause-left g c =
 pub returns-clause-refusals : goal.returns-clause-refusals
 returns-clause-refusals g c =
     let state = devices g.R.Read.remaining g.W.Write.contents g.W2.Write.contents in
-    let old = state c.open.new.reader c.args.sent.now c.args.report.now in
+    let old = state c.args.capture.now c.args.sent.now c.args.report.now in
     let new = state c.replay_capture.new.capture c.replay_capture.new.sent c.replay_capture.new.report in
-    let read = c.open.ensures.read in
-    if_err_both _ _ _ _ c.replay_capture.ensures.within c.replay_capture.ensures.left (λ fault within says.
-    refuses_within _ _ (accepted_of _ _ c.in_ok-checked.checked c.in_ok-checked.ensures.fine) _ _ _ _ _ old new fault
-    (opened _ c.in-Ok.records _ read.0 read.1 c.in-Ok.ensures.drained c.in-Ok.ensures.bytes) within says)
+    if_err_both _ _ _ _ c.replay_capture.ensures.within (returns-clause-left g c) (λ fault within left.
+    refuses_within _ _ c.args.trace _ old new fault
+    (accepted_of _ _ c.in_ok-checked.checked c.in_ok-checked.ensures.fine) within left)

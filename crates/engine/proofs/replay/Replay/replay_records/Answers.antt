@@ -1,6 +1,7 @@
-use Rattle.engine.proofs.Names.{CaptureState, Err, Ok, Refused, [], ap, arith, err_from_is_err_and, false, false_from_ne_true, is_ready, rules, sym, ◌∙◌, ◌≡◌}
+use Rattle.engine.proofs.Names.{CaptureState, Err, Ok, Refused, [], ap, arith, err_from_is_err_and, false, is_ready, rules, sym, ◌∙◌, ◌≡◌}
 use Rattle.engine.proofs.Replays.{begun, cut, ended, fetched, halted, halted_at, lacks, more, read_after, refused, still, torn_only}
 use Rattle.engine.proofs.WritingOutputs.{broke_writing}
+use Rattle.std.proofs.lemmas.Bool.{false_from_ne_true}
 use Rattle.engine.proofs.replay.Replay.replay_records.Goals as goal
 
 pub each-init : goal.each-init
@@ -36,8 +37,9 @@ each-preserved g c =
       drained = λ e. f.drained (ap (λ (s : CaptureState). s.ended) (sym c.take.ensures.same) ∙ e);
       represents = c.in_ok-is_taken.ensures.represents went;
       carried = λ start bytes is p.
-          let call = read_after c.flush_before_read.ensures.same.1 c.each.invariant.format
-          (c.each.invariant.carried start bytes is p) (c.in_ok-flush_before_read.ensures.kept start) f c.next.ensures.room in
+          let call = read_after c.next.new.self c.flush_before_read.ensures.same.1 c.each.invariant.drained c.next.ensures.read
+          c.next.ensures.drained c.each.invariant.format (c.each.invariant.carried start bytes is p)
+          (c.in_ok-flush_before_read.ensures.kept start) c.next.ensures.room in
           more call c.take.new.self _ (rw c.in-Ok-true.field-0-test at (c.in-Ok-true.ensures.next_answers (search rules)))
           (c.in_ok-is_taken.ensures.taken went start _ _ (still call)) c.take.ensures.same;
     }
@@ -51,10 +53,9 @@ returns-in_err-flush_before_read-clause-replayed g c = λ start bytes is p.
 
 pub returns-in-Ok-false-clause-replayed : goal.returns-in-Ok-false-clause-replayed
 returns-in-Ok-false-clause-replayed g c = λ start bytes is p.
-    let f = fetched c.next.new.self c.flush_before_read.ensures.same.1 c.each.invariant.drained c.next.ensures.read
-    c.next.ensures.drained in
-    let call = read_after c.flush_before_read.ensures.same.1 c.each.invariant.format
-    (c.each.invariant.carried start bytes is p) (c.in_ok-flush_before_read.ensures.kept start) f c.next.ensures.room in
+    let call = read_after c.next.new.self c.flush_before_read.ensures.same.1 c.each.invariant.drained c.next.ensures.read
+    c.next.ensures.drained c.each.invariant.format (c.each.invariant.carried start bytes is p)
+    (c.in_ok-flush_before_read.ensures.kept start) c.next.ensures.room in
     ended call (rw c.in-Ok-false.field-0-test at (c.in-Ok-false.ensures.next_answers (search rules)))
 
 pub returns-in-Ok-false-clause-drained : goal.returns-in-Ok-false-clause-drained
@@ -73,10 +74,9 @@ returns-in-Err-Refused-clause-drained g c = λ torn e.
 
 pub returns-in-Err-Refused-clause-replayed : goal.returns-in-Err-Refused-clause-replayed
 returns-in-Err-Refused-clause-replayed g c = λ start bytes is p.
-    let f = fetched c.next.new.self c.flush_before_read.ensures.same.1 c.each.invariant.drained c.next.ensures.read
-    c.next.ensures.drained in
-    let call = read_after c.flush_before_read.ensures.same.1 c.each.invariant.format
-    (c.each.invariant.carried start bytes is p) (c.in_ok-flush_before_read.ensures.kept start) f c.next.ensures.room in
+    let call = read_after c.next.new.self c.flush_before_read.ensures.same.1 c.each.invariant.drained c.next.ensures.read
+    c.next.ensures.drained c.each.invariant.format (c.each.invariant.carried start bytes is p)
+    (c.in_ok-flush_before_read.ensures.kept start) c.next.ensures.room in
     refused call c.in-Err-Refused.fault
     (rw c.in-Err-Refused.field-0-is at (c.in-Err-Refused.ensures.kinds (search rules)))
     (rw c.in-Err-Refused.field-0-is at (c.in-Err-Refused.ensures.next_answers (search rules)))
@@ -86,10 +86,9 @@ returns-in-Err-Device-clause-replayed g c = λ start bytes is p.
     let unready : is_ready c.each.self.records ≡ false =
     false_from_ne_true _ (λ ready. c.in-Err-Device.ensures.held (search rules)
     (ap is_ready c.flush_before_read.ensures.same.1 ∙ ready) (ap Err c.in-Err-Device.field-0-is)) in
-    let f = fetched c.next.new.self c.flush_before_read.ensures.same.1 c.each.invariant.drained c.next.ensures.read
-    c.next.ensures.drained in
-    let call = read_after c.flush_before_read.ensures.same.1 c.each.invariant.format
-    (c.each.invariant.carried start bytes is p) (c.in_ok-flush_before_read.ensures.kept start) f c.next.ensures.room in
+    let call = read_after c.next.new.self c.flush_before_read.ensures.same.1 c.each.invariant.drained c.next.ensures.read
+    c.next.ensures.drained c.each.invariant.format (c.each.invariant.carried start bytes is p)
+    (c.in_ok-flush_before_read.ensures.kept start) c.next.ensures.room in
     cut call c.args.capture.now.failures c.next.new.reader.failures (search rules)
     (rw c.in-Err-Device.field-0-is at (c.in-Err-Device.ensures.next_answers (search rules)))
     c.next.ensures.format (search rules)
@@ -98,10 +97,9 @@ returns-in-Err-Device-clause-replayed g c = λ start bytes is p.
 pub returns-in_err-is_taken-clause-replayed : goal.returns-in_err-is_taken-clause-replayed
 returns-in_err-is_taken-clause-replayed g c = λ start bytes is p.
     let q = err_from_is_err_and c.from_residual-in_err-is_taken.result c.from_residual-in_err-is_taken.ensures.1 in
-    let f = fetched c.next.new.self c.flush_before_read.ensures.same.1 c.each.invariant.drained c.next.ensures.read
-    c.next.ensures.drained in
-    let call = read_after c.flush_before_read.ensures.same.1 c.each.invariant.format
-    (c.each.invariant.carried start bytes is p) (c.in_ok-flush_before_read.ensures.kept start) f c.next.ensures.room in
+    let call = read_after c.next.new.self c.flush_before_read.ensures.same.1 c.each.invariant.drained c.next.ensures.read
+    c.next.ensures.drained c.each.invariant.format (c.each.invariant.carried start bytes is p)
+    (c.in_ok-flush_before_read.ensures.kept start) c.next.ensures.room in
     rw q.1 (rw q.2 (halted_at call _ _ c.args.capture.now.failures c.next.new.reader.failures (search rules)
     (rw c.in-Ok-true.field-0-test at (c.in-Ok-true.ensures.next_answers (search rules)))
     (c.in_err-is_taken.ensures.broken (λ e. cc) start _ _ (still call))))
@@ -110,10 +108,9 @@ pub returns-in_err-close-clause-replayed : goal.returns-in_err-close-clause-repl
 returns-in_err-close-clause-replayed g c = λ start bytes is p.
     let q = err_from_is_err_and c.from_residual-in_err-close.result c.from_residual-in_err-close.ensures.1 in
     let stays = ap Ok c.if-not-is_taken.true in
-    let f = fetched c.next.new.self c.flush_before_read.ensures.same.1 c.each.invariant.drained c.next.ensures.read
-    c.next.ensures.drained in
-    let call = read_after c.flush_before_read.ensures.same.1 c.each.invariant.format
-    (c.each.invariant.carried start bytes is p) (c.in_ok-flush_before_read.ensures.kept start) f c.next.ensures.room in
+    let call = read_after c.next.new.self c.flush_before_read.ensures.same.1 c.each.invariant.drained c.next.ensures.read
+    c.next.ensures.drained c.each.invariant.format (c.each.invariant.carried start bytes is p)
+    (c.in_ok-flush_before_read.ensures.kept start) c.next.ensures.room in
     rw q.1 (rw q.2 (halted_at call _ _ c.args.capture.now.failures c.next.new.reader.failures (search rules)
     (rw c.in-Ok-true.field-0-test at (c.in-Ok-true.ensures.next_answers (search rules)))
     (broke_writing start _ _ _ _ _ _ (c.in_ok-is_taken.ensures.broken (λ e. cc) start _ _ (still call))
@@ -122,10 +119,9 @@ returns-in_err-close-clause-replayed g c = λ start bytes is p.
 pub returns-then-not-is_taken-clause-replayed : goal.returns-then-not-is_taken-clause-replayed
 returns-then-not-is_taken-clause-replayed g c = λ start bytes is p.
     let stays = ap Ok c.if-not-is_taken.true in
-    let f = fetched c.next.new.self c.flush_before_read.ensures.same.1 c.each.invariant.drained c.next.ensures.read
-    c.next.ensures.drained in
-    let call = read_after c.flush_before_read.ensures.same.1 c.each.invariant.format
-    (c.each.invariant.carried start bytes is p) (c.in_ok-flush_before_read.ensures.kept start) f c.next.ensures.room in
+    let call = read_after c.next.new.self c.flush_before_read.ensures.same.1 c.each.invariant.drained c.next.ensures.read
+    c.next.ensures.drained c.each.invariant.format (c.each.invariant.carried start bytes is p)
+    (c.in_ok-flush_before_read.ensures.kept start) c.next.ensures.room in
     lacks call _ _ c.args.capture.now.failures c.next.new.reader.failures (search rules)
     (rw c.in-Ok-true.field-0-test at (c.in-Ok-true.ensures.next_answers (search rules)))
     (c.in_ok-close.ensures.written start _ (c.in_ok-is_taken.ensures.kept stays start _ _ (still call)))
