@@ -12,7 +12,7 @@ use Rattle.filter_vm.specs.declared.code.Code.{Code}
 use Rattle.filter_vm.specs.declared.code.Start.{Start}
 use Rattle.rule_code.specs.declared.code.TableCode.{TableCode}
 use Rattle.filter_vm.specs.Machine.{Stop, exec, enter_chain, run_table, base_chain_stop, base_chain_result}
-use Rattle.compiler.specs.Compiled.{start_head, base_chain_head}
+use Rattle.compiler.specs.Compiled.{StartHead, start_head, base_chain_head}
 use Rattle.code_layout.specs.CodeLayout.{IsCode, RulesAt, IsTableCode, left_program}
 use Rattle.rule_laws.specs.Ranking.{IsRanking}
 use Rattle.compiler.proofs.DoesLaws.{Does, finish-last}
@@ -26,34 +26,10 @@ does-last : (t : TableCode) (most fuel at_step : ℕ) (f : Facts) (es : List Eve
     → Does t most (λ go. go at_step [] f es) [] o → (exec t fuel at_step [] f es 0).after ≡ o
 does-last t most fuel at_step f es o enough d =
     let few = d.few in
-    let same_fuel : fuel ≡ fuel - d.used + d.used = omega arith in
+    let same_fuel : fuel ≡ d.used + (fuel - d.used) = omega arith in
     ap (λ n. (exec t n at_step [] f es 0).after) same_fuel
     ∙ ap (λ (s : Stop). s.after) (d.same (fuel - d.used) 0)
-    ∙ finish-last (exec t (fuel - d.used)) o (0 + d.used)
-
-module _ {S : Type 0} (p : Program S) (t : TableCode) (weight : S → ℕ) (cost depth : ℕ → ℕ) (code : IsCode p t)
-    (costs_rank_chains : IsRanking p weight cost depth) where
-  -- a chain from its first rule on
-  pub chain-runs : (c fuel at_step : ℕ) (rules : List (List S)) (f : Facts) (es : List Event) (o : RunResult)
-      → p.rules_at c ≡ Some rules → cost c ≤ fuel → depth c ≤ 16
-      → slice_get t.chain_offsets.items c ≡ Some at_step → Runs p c 1 (at_rule rules) f es o
-      → (exec t fuel at_step [] f es 0).after ≡ o
-  chain-runs c fuel at_step rules f es o is enough shallow at_place run =
-      let placed = code.chains c rules is in
-      let holds : RulesAt p t at_step c 1 rules = subst (λ x. RulesAt p t x c 1 rules)
-      (some_unique (slice_get t.chain_offsets.items c) placed.0 at_step placed.1 at_place) placed.2 in
-      does-last t (sum_by (sum_by weight) rules) fuel at_step f es o (let sum =
-      costs_rank_chains.sums c rules is in omega arith)
-      (simulates p t weight cost depth code costs_rank_chains run at_step holds (rules-in p c rules is) []
-      (omega arith))
-
-  pub goes-there : (c fuel : ℕ) (rules : List (List S)) (f : Facts) (es : List Event) (o : RunResult)
-      → p.rules_at c ≡ Some rules → cost c ≤ fuel → depth c ≤ 16 → Runs p c 1 (at_rule rules) f es o
-      → (enter_chain (exec t fuel) (slice_get t.chain_offsets.items c) [] f es 0).after ≡ o
-  goes-there c fuel rules f es o is enough shallow run =
-      let placed = code.chains c rules is in
-      ap (λ x. (enter_chain (exec t fuel) x [] f es 0).after) placed.1
-      ∙ chain-runs c fuel placed.0 rules f es o is enough shallow placed.1 run
+    ∙ finish-last (exec t (fuel - d.used)) o (d.used + 0)
 
 -- a start and the code of its table
 module _ (plant : PlantTree) (tables : List TableTree) (table : TableTree) (b : BaseChain) (code : Code)
@@ -65,32 +41,24 @@ module _ (plant : PlantTree) (tables : List TableTree) (table : TableTree) (b : 
     (same_head : start_head start ≡ base_chain_head b)
     (enough : cost b.number.chain + 1 ≤ start.cost)
     (shallow : depth b.number.chain ≤ 16) where
-  same-chain : start.chain ≡ b.number
-  same-chain = ap (λ x. x.chain) same_head
-
-  same-policy : start.policy ≡ policy_of b.head
-  same-policy = ap (λ x. x.policy) same_head
-
-  -- how the machine stops
-  stops : (f : Facts) (es : List Event) → base_chain_stop code start f es
-      ≡ enter_chain (exec t (start.cost - 1)) (slice_get t.chain_offsets.items b.number.chain) [] f es 0
-  stops f es =
-      ap (λ n. run_table (slice_get code.tables.items n.table) n.chain (start.cost - 1) f es 0) same-chain
-      ∙ ap (λ x. run_table x b.number.chain (start.cost - 1) f es 0) coded
-
+  -- the chain's code, from its first rule on
   runs-after : (rules : List (List Statement)) (f : Facts) (es : List Event) (o : RunResult)
       → (table_program plant b.number.table table).rules_at b.number.chain ≡ Some rules
       → Runs (table_program plant b.number.table table) b.number.chain 1 (at_rule rules) f es o
-      → (base_chain_stop code start f es).after ≡ o
+      → (enter_chain (exec t (start.cost - 1)) (slice_get t.chain_offsets.items b.number.chain) [] f es 0).after ≡ o
   runs-after rules f es o has run =
       let p = table_program plant b.number.table table in
+      let c = b.number.chain in
       let left_at = (left_program plant b.number.table table is.left).rules_at in
       let leaves = left-leaves plant b.number.table table is.left is.are_left in
-      let left = left-runs p left_at leaves b.number.chain rules f es o has run in
-      ap (λ (s : Stop). s.after) (stops f es)
-      ∙ goes-there (left_program plant b.number.table table is.left) t weight cost depth is.laid_out
-      (left-ranking p left_at leaves weight cost depth costs_rank_chains)
-      b.number.chain (start.cost - 1) left.0 f es o left.1 (omega arith) shallow left.2
+      let left = left-runs p left_at leaves c rules f es o has run in
+      let q = left_program plant b.number.table table is.left in
+      let ranks = left-ranking p left_at leaves weight cost depth costs_rank_chains in
+      let placed = is.laid_out.chains c left.0 left.1 in
+      let sum = ranks.sums c left.0 left.1 in
+      ap (λ x. (enter_chain (exec t (start.cost - 1)) x [] f es 0).after) placed.1
+      ∙ does-last t (sum_by (sum_by weight) left.0) (start.cost - 1) placed.0 f es o (omega arith)
+      (simulates q t weight cost depth is.laid_out ranks left.2 placed.0 placed.2 (rules-in q c left.0 left.1) [] (omega arith))
 
   -- a result of the rules is that of the machine
   pub runs-there : (f : Facts) (es : List Event) (end : HookResult) → RunsBaseChain plant tables b f es end
@@ -100,10 +68,10 @@ module _ (plant : PlantTree) (tables : List TableTree) (table : TableTree) (b : 
       let has = subst (λ u. (table_program plant b.number.table u).rules_at b.number.chain ≡ Some r.rules) same r.has in
       let run = subst (λ u. Runs (table_program plant b.number.table u) b.number.chain 1 (at_rule r.rules) f es
       r.after) same r.runs in
-      r.is
-      ∙ ap (λ n. with_policy n (policy_of b.head) r.after) (sym same-chain)
-      ∙ ap (λ q. with_policy start.chain q r.after) (sym same-policy)
-      ∙ ap (with_policy start.chain start.policy) (sym (runs-after r.rules f es r.after has run))
+      r.is ∙ ap (with_policy b.number (policy_of b.head)) (sym (runs-after r.rules f es r.after has run))
+      ∙ ap (λ x. with_policy b.number (policy_of b.head) (run_table x b.number.chain (start.cost - 1) f es 0).after) (sym coded)
+      ∙ ap (λ (h : StartHead). with_policy h.chain h.policy
+      (run_table (slice_get code.tables.items h.chain.table) h.chain.chain (start.cost - 1) f es 0).after) (sym same_head)
 
   -- and the machine's is one of the rules, since they have one
   pub agrees : ((f : Facts) (es : List Event) → (end : HookResult) × RunsBaseChain plant tables b f es end)

@@ -30,47 +30,13 @@ module _ {S : Type 0} (p : Program S) (left_at : ℕ → Option (List (List S)))
   abbrev pub left_program : Program S
   left_program = record { table = p.table; rules_at = left_at; effect_of = p.effect_of }
 
-  -- the first of these statements fails, if there is one
-  abbrev FailsFirst : ℕ → ℕ → ℕ → List S → Facts → Type 0
-  FailsFirst c n k [] f = Unit {0}
-  FailsFirst c n k (s ∷ ss) f = p.effect_of (statement_position p c n k) s f ≡ fail
-
-  fails-first : (Reach : Facts → Type 0) (c n : ℕ) (r : List S) (f : Facts) → NeverMatches p Reach c n r
-      → Reach f → FailsFirst c n 1 r f
-  fails-first Reach c n [] f never here = tt
-  fails-first Reach c n (s ∷ ss) f never here = never f here
-
   -- where a statement leads by its effect
   leads : {c n k : ℕ} {s : S} {f : Facts} {w : StatementEffect} (ss : List S) (g : Facts)
       → p.effect_of (statement_position p c n k) s f ≡ w → goes_on w (LeadsTo p c n (k + 1) ss) f g
       → LeadsTo p c n k (s ∷ ss) f g
   leads {c} {n} {k} {f = f} ss g is to = subst (λ w. goes_on w (LeadsTo p c n (k + 1) ss) f g) (sym is) to
 
-  -- ---- what is left of a chain
-
-  left-of : (c : ℕ) (before after : Option (List (List S))) → LeavesOutOf p c before after → (rules : List (List S))
-      → before ≡ Some rules → (rest : List (List S)) × (after ≡ Some rest) × LeavesOut p any_facts c 1 rules rest
-  left-of c None after h rules is = absurd (none-some rules is)
-  left-of c (Some rs) None h rules is = absurd h
-  left-of c (Some rs) (Some ks) h rules is =
-      (ks, refl, subst (λ xs. LeavesOut p any_facts c 1 xs ks) (same_Some rs rules is) h)
-
-  whole-of : (c : ℕ) (before after : Option (List (List S))) → LeavesOutOf p c before after → (rest : List (List S))
-      → after ≡ Some rest → (rules : List (List S)) × (before ≡ Some rules) × LeavesOut p any_facts c 1 rules rest
-  whole-of c before None h rest is = absurd (none-some rest is)
-  whole-of c None (Some ks) h rest is = absurd h
-  whole-of c (Some rs) (Some ks) h rest is =
-      (rs, refl, subst (λ xs. LeavesOut p any_facts c 1 rs xs) (same_Some ks rest is) h)
-
   module _ (leaves : (c : ℕ) → LeavesOutOf p c (p.rules_at c) (left_at c)) where
-    left-chain : (c : ℕ) (rules : List (List S)) → p.rules_at c ≡ Some rules
-        → (rest : List (List S)) × (left_at c ≡ Some rest) × LeavesOut p any_facts c 1 rules rest
-    left-chain c = left-of c (p.rules_at c) (left_at c) (leaves c)
-
-    whole-chain : (c : ℕ) (rest : List (List S)) → left_at c ≡ Some rest
-        → (rules : List (List S)) × (p.rules_at c ≡ Some rules) × LeavesOut p any_facts c 1 rules rest
-    whole-chain c = whole-of c (p.rules_at c) (left_at c) (leaves c)
-
     -- ---- results
 
     -- what is left of a rule, and of the rules behind it, has the result
@@ -81,7 +47,7 @@ module _ {S : Type 0} (p : Program S) (left_at : ℕ → Option (List (List S)))
 
     -- so it has where the rule is left out
     abbrev StaysWithout : ℕ → ℕ → ℕ → List S → List (List S) → Facts → List Event → RunResult → Type 1
-    StaysWithout c n k ss rs f es o = (Reach : Facts → Type 0) (ks : List (List S)) → FailsFirst c n k ss f
+    StaysWithout c n k ss rs f es o = (Reach : Facts → Type 0) (ks : List (List S)) → NeverMatches p Reach c n k ss
         → Reach f → LeavesOut p Reach c (n + 1) rs ks → Runs left_program c n (in_rule k [] ks) f es o
 
     abbrev Stays : ℕ → ℕ → Remainder S → Facts → List Event → RunResult → Type 1
@@ -93,7 +59,7 @@ module _ {S : Type 0} (p : Program S) (left_at : ℕ → Option (List (List S)))
     only-in : {c n k : ℕ} {s : S} {ss : List S} (rs : List (List S)) {f : Facts} {es : List Event}
         {o : RunResult} {w : StatementEffect} → p.effect_of (statement_position p c n k) s f ≡ w → IsOther w
         → StaysIn c n k (s ∷ ss) rs f es o → Stays c n (in_rule k (s ∷ ss) rs) f es o
-    only-in rs is other stays = (stays, λ Reach ks failing. absurd (fails-only failing is other))
+    only-in rs is other stays = (stays, λ Reach ks failing here. absurd (fails-only (failing _ here) is other))
 
     by-rule : {c n : ℕ} (r : List S) (rs : List (List S)) (f : Facts) {es : List Event} {o : RunResult}
         → Stays c n (in_rule 1 r rs) f es o → (Reach : Facts → Type 0) (ks : List (List S)) → Reach f
@@ -104,7 +70,7 @@ module _ {S : Type 0} (p : Program S) (left_at : ℕ → Option (List (List S)))
         (stays.0 (behind p Reach c n r) ks (λ g to. (f, here, to)) out.1))
     by-rule {c} {n} r rs f {es} {o} stays Reach (left ∷ ks) here (inr out) =
         next_rule (subst (λ ss. Runs left_program c n (in_rule 1 ss ks) f es o) (sym out.0)
-        (stays.1 Reach ks (fails-first Reach c n r f out.1 here) here out.2))
+        (stays.1 Reach ks out.1 here out.2))
 
     at-end : {c n : ℕ} (Reach : Facts → Type 0) (ks : List (List S)) (f : Facts) (es : List Event)
         → LeavesOut p Reach c n [] ks → Runs left_program c n (at_rule ks) f es (at_end f es)
@@ -134,14 +100,14 @@ module _ {S : Type 0} (p : Program S) (left_at : ℕ → Option (List (List S)))
         continues is (stays run Reach ks (to f (leads ss f is refl)) out))
     stays (returns is) = only-in _ is tt (λ Reach ks to out. returns is)
     stays (jumps d {ss = ss} g later chain is has inner run) = only-in _ is tt (λ Reach ks to out.
-        let left = left-chain d chain has in
+        let left = (leaves d).left chain has in
         jumps d g later left.0 is left.1 (stays inner any_facts left.0 tt left.2)
         (stays run Reach ks (to g (leads ss g is tt)) out))
     stays (jumps_away d chain is has inner over) = only-in _ is tt (λ Reach ks to out.
-        let left = left-chain d chain has in
+        let left = (leaves d).left chain has in
         jumps_away d left.0 is left.1 (stays inner any_facts left.0 tt left.2) over)
     stays (goes d chain is has inner) = only-in _ is tt (λ Reach ks to out.
-        let left = left-chain d chain has in
+        let left = (leaves d).left chain has in
         goes d left.0 is left.1 (stays inner any_facts left.0 tt left.2))
 
     -- a chain has its results without the rules that never match
@@ -149,48 +115,45 @@ module _ {S : Type 0} (p : Program S) (left_at : ℕ → Option (List (List S)))
         → p.rules_at c ≡ Some rules → Runs p c 1 (at_rule rules) f es o
         → (rest : List (List S)) × (left_at c ≡ Some rest) × Runs left_program c 1 (at_rule rest) f es o
     left-runs c rules f es o is run =
-        let left = left-chain c rules is in (left.0, left.1, stays run any_facts left.0 tt left.2)
+        let left = (leaves c).left rules is in (left.0, left.1, stays run any_facts left.0 tt left.2)
 
     -- ---- ranking
 
-    lighter : (weight : S → ℕ) (Reach : Facts → Type 0) (c n : ℕ) (rs ks : List (List S)) → LeavesOut p Reach c n rs ks
-        → sum_by (sum_by weight) ks ≤ sum_by (sum_by weight) rs
-    lighter weight Reach c n [] [] out = omega arith
-    lighter weight Reach c n [] (left ∷ ks) out = absurd out
-    lighter weight Reach c n (r ∷ rs) [] out = absurd out
-    lighter weight Reach c n (r ∷ rs) (left ∷ ks) (inl out) =
-        let rest = lighter weight (behind p Reach c n r) c (n + 1) rs ks out.1 in
-        let same : sum_by weight left ≡ sum_by weight r = ap (sum_by weight) out.0 in
-        omega (arith, rest, same, sum_by-cons (sum_by weight) left ks, sum_by-cons (sum_by weight) r rs)
-    lighter weight Reach c n (r ∷ rs) (left ∷ ks) (inr out) =
-        let rest = lighter weight Reach c (n + 1) rs ks out.2 in
-        let same : sum_by weight left ≡ 0 = ap (sum_by weight) out.0 in
-        omega (arith, rest, same, sum_by-cons (sum_by weight) left ks, sum_by-cons (sum_by weight) r rs)
-
-    -- a rule with a statement that is left was there before
-    was-there : (Reach : Facts → Type 0) (c n : ℕ) (rs ks : List (List S)) (rule : List S) (s : S)
-        → LeavesOut p Reach c n rs ks → Contains ks rule → Contains rule s → Contains rs rule
-    was-there Reach c n [] [] rule s out here inside = here
-    was-there Reach c n [] (left ∷ ks) rule s out here inside = absurd out
-    was-there Reach c n (r ∷ rs) [] rule s out here inside = absurd out
-    was-there Reach c n (r ∷ rs) (left ∷ ks) rule s (inl out) here inside = ⊎_elim
-        (λ is. subst (Contains (r ∷ rs)) (sym out.0 ∙ is) (Contains-head r rs))
-        (λ later. Contains-tail r rs rule
-        (was-there (behind p Reach c n r) c (n + 1) rs ks rule s out.1 later inside))
-        (Contains-cases left ks rule here)
-    was-there Reach c n (r ∷ rs) (left ∷ ks) rule s (inr out) here inside = ⊎_elim
-        (λ is. let none = subst (λ ss. Contains ss s) (sym is ∙ out.0) inside in let l = none.1 in absurd (omega arith))
-        (λ later. Contains-tail r rs rule (was-there Reach c (n + 1) rs ks rule s out.2 later inside))
-        (Contains-cases left ks rule here)
+    -- what is left weighs no more, and a rule with a statement that is left was there before
+    kept : (weight : S → ℕ) (Reach : Facts → Type 0) (c n : ℕ) (rs ks : List (List S)) → LeavesOut p Reach c n rs ks
+        → (sum_by (sum_by weight) ks ≤ sum_by (sum_by weight) rs)
+        × ((rule : List S) (s : S) → Contains ks rule → Contains rule s → Contains rs rule)
+    kept weight Reach c n [] [] out = (omega arith, λ rule s here inside. here)
+    kept weight Reach c n (r ∷ rs) (left ∷ ks) (inl out) =
+        let rest = kept weight (behind p Reach c n r) c (n + 1) rs ks out.1 in
+        let less = rest.0 in
+        let same : sum_by weight left ≡ sum_by weight r = ap (sum_by weight) out.0 in (
+          omega (arith, less, same, sum_by-cons (sum_by weight) left ks, sum_by-cons (sum_by weight) r rs),
+          λ rule s here inside. ⊎_elim
+              (λ is. subst (Contains (r ∷ rs)) (sym out.0 ∙ is) (Contains-head r rs))
+              (λ later. Contains-tail r rs rule (rest.1 rule s later inside))
+              (Contains-cases left ks rule here),
+        )
+    kept weight Reach c n (r ∷ rs) (left ∷ ks) (inr out) =
+        let rest = kept weight Reach c (n + 1) rs ks out.2 in
+        let less = rest.0 in
+        let same : sum_by weight left ≡ 0 = ap (sum_by weight) out.0 in (
+          omega (arith, less, same, sum_by-cons (sum_by weight) left ks, sum_by-cons (sum_by weight) r rs),
+          λ rule s here inside. ⊎_elim
+              (λ is. let none = subst (λ ss. Contains ss s) (sym is ∙ out.0) inside in let l = none.1 in absurd (omega arith))
+              (λ later. Contains-tail r rs rule (rest.1 rule s later inside))
+              (Contains-cases left ks rule here),
+        )
+    kept weight Reach c n rs ks out = absurd out
 
     statement-of : {c : ℕ} {s : S} → IsStatementOf left_program c s → IsStatementOf p c s
     statement-of {c} {s} of =
-        let whole = whole-chain c of.rules of.has in
+        let whole = (leaves c).whole of.rules of.has in
         record {
           rules = whole.0;
           has = whole.1;
           rule = of.rule;
-          in_chain = was-there any_facts c 1 whole.0 of.rules of.rule s whole.2 of.in_chain of.in_rule;
+          in_chain = (kept (λ x. 0) any_facts c 1 whole.0 of.rules whole.2).1 of.rule s of.in_chain of.in_rule;
           in_rule = of.in_rule;
         }
 
@@ -199,8 +162,8 @@ module _ {S : Type 0} (p : Program S) (left_at : ℕ → Option (List (List S)))
     left-ranking weight cost depth ranks = record {
       some = ranks.some;
       sums = λ c rest is.
-          let whole = whole-chain c rest is in
-          let less = lighter weight any_facts c 1 whole.0 rest whole.2 in
+          let whole = (leaves c).whole rest is in
+          let less = (kept weight any_facts c 1 whole.0 rest whole.2).0 in
           let sum = ranks.sums c whole.0 whole.1 in
           omega (arith, less, sum);
       jumps = λ c d s at_place f inside is. ranks.jumps c d s at_place f (statement-of inside) is;

@@ -6,7 +6,7 @@ use Rattle.std.specs.Prelude.{if◌then◌else◌, slice_get}
 use Rattle.std.specs.Option.{option_map}
 use Rattle.std.specs.List.{AllZip}
 use Rattle.nft_tree.specs.TableItems.{chains_of}
-use Rattle.std.proofs.lemmas.Bool.{false≢true, cases_lt}
+use Rattle.std.proofs.lemmas.Bool.{false≢true, cases_lt, false_from_ne_true}
 use Rattle.std.proofs.lemmas.Option.{none-some, same_Some}
 use Rattle.nft_tree.specs.declared.selector.Selector.{Selector}
 use Rattle.nft_tree.specs.declared.selector.Selector.TheVariants as selectors
@@ -26,7 +26,7 @@ use Rattle.rule_meaning.specs.Statements.{passes_if}
 use Rattle.rule_meaning.specs.Runs.{table_program}
 use Rattle.lowering.specs.Asked.{asked_selector, asks_for}
 use Rattle.compiler.specs.steps.Dropping.{goes_on, any_facts, LeadsTo, behind, NeverMatches, LeavesOut, LeavesOutOf}
-use Rattle.code_layout.specs.DroppedRules.{ends_chain, always_ends, merged_selector, lists, rule_at, AreMerged, IsDropped, IsLeft, AreLeft}
+use Rattle.code_layout.specs.DroppedRules.{ends_chain, always_ends, merged_selector, lists, rule_at, IsShadowed, IsDropped, IsLeft, AreLeft}
 use Rattle.code_layout.specs.CodeLayout.{rules_in, left_statements, left_program}
 use Rattle.code_layout.proofs.ShadowLaws.{merged-goes-on}
 
@@ -44,19 +44,16 @@ as-listed : (f : Facts) (x s : Selector) (p q : ℕ → Bool) → ((n : ℕ) →
     → tests (value x f) p ≡ tests (value s f) q
 as-listed f x s p q same is = tests-as (value x f) p q same ∙ ap (λ y. tests (value y f) q) (same_Some x s is)
 
-zero-times : (a n : ℕ) → 0 * a + n ≡ n
-zero-times a n = omega arith
-
 -- a concatenation of one value is that value
 joined-one : (o : Option ℕ) (width : ℕ) (p : ℕ → Bool) → tests (join 0 ((width, o) ∷ [])) p ≡ tests o p
 joined-one None width p = refl
-joined-one (Some n) width p = ap p (zero-times (2 ^ width) n)
+joined-one (Some n) width p = let same : 0 * 2 ^ width + n ≡ n = omega arith in ap p same
 
 -- a match that lists values of a selector holds where the selector's value is one of them
 pub holds-as : (scope : Scope) (m : MatchTree) (s : Selector) (f : Facts) → asked_selector m ≡ Some s
     → holds scope m f ≡ tests (value s f) (asks_for scope.plant m)
 holds-as scope (tree.compare x operators.Equal r) s f is =
-    as-listed f x s _ _ (λ n. compares-as (numbers_of scope.plant (selector_compared_type x) r) n) is
+    as-listed f x s _ _ (compares-as (numbers_of scope.plant (selector_compared_type x) r)) is
 holds-as scope (tree.is_in (x ∷ []) (tree.elements es)) s f is =
     joined-one (value x f) (selector_width x) (set_has scope (x ∷ []) (tree.elements es))
     ∙ as-listed f x s _ _ (λ n. refl) is
@@ -82,42 +79,24 @@ shape : (r : List Statement) (s : Selector) → merged_selector r ≡ Some s →
 shape (tree.matching m ∷ tree.verdict v ∷ []) s is = shape-by m v s (ends_chain v) refl is
 shape r s is = absurd (none-some s is)
 
-false-by : (b : Bool) → (b ≡ true → ⊥) → b ≡ false
-false-by true h = absurd (h refl)
-false-by false h = refl
-
 tests-false : (o : Option ℕ) (p : ℕ → Bool) → ((n : ℕ) → o ≡ Some n → p n ≡ true → ⊥) → tests o p ≡ false
 tests-false None p h = refl
-tests-false (Some n) p h = false-by (p n) (h n refl)
-
-no-more : (n : ℕ) → n + 0 ≡ n
-no-more n = omega arith
-
-one-more : (n i : ℕ) → n + suc i ≡ n + 1 + i
-one-more n i = omega arith
+tests-false (Some n) p h = false_from_ne_true (p n) (h n refl)
 
 module _ (plant : PlantTree) (number : ℕ) (t : TableTree) where
   -- no packet gets past a verdict that ends the chain
   no-way-past : (c n k : ℕ) (v : VerdictTree) (ss : List Statement) (f g : Facts) → ends_chain v ≡ true
       → LeadsTo (table_program plant number t) c n k (tree.verdict v ∷ ss) f g → ⊥
-  no-way-past c n k tree.accept ss f g is to = to
-  no-way-past c n k tree.drop ss f g is to = to
-  no-way-past c n k tree.return ss f g is to = to
-  no-way-past c n k (tree.goto name) ss f g is to = to
   no-way-past c n k tree.continue ss f g is to = false≢true is
   no-way-past c n k (tree.jump name) ss f g is to = false≢true is
+  no-way-past c n k v ss f g is to = to
 
   none-past : (c n k : ℕ) (ss : List Statement) (f g : Facts) → always_ends ss ≡ true
       → LeadsTo (table_program plant number t) c n k ss f g → ⊥
-  none-past c n k [] f g is to = false≢true is
   none-past c n k (tree.counter start ∷ ss) f g is to = none-past c n (k + 1) ss f g is to
   none-past c n k (tree.log text ∷ ss) f g is to = none-past c n (k + 1) ss f g is to
   none-past c n k (tree.verdict v ∷ ss) f g is to = no-way-past c n k v ss f g is to
-  none-past c n k (tree.matching m ∷ ss) f g is to = false≢true is
-  none-past c n k (tree.notrack ∷ ss) f g is to = false≢true is
-  none-past c n k (tree.set_mark field operand ∷ ss) f g is to = false≢true is
-  none-past c n k (tree.verdict_map s m ∷ ss) f g is to = false≢true is
-  none-past c n k (tree.nat x ∷ ss) f g is to = false≢true is
+  none-past c n k ss f g is to = false≢true is
 
   abbrev scope : Scope
   scope = record { plant = plant; table = t }
@@ -127,6 +106,11 @@ module _ (plant : PlantTree) (number : ℕ) (t : TableTree) where
       → (g ≡ f) × (b ≡ false)
   by-match c n v f g true ends to = absurd (no-way-past c n 2 v [] f g ends to)
   by-match c n v f g false ends to = (to, refl)
+
+  never-there : (Reach : Facts → Type 0) (c n : ℕ) (r : List Statement) → ((f : Facts) → Reach f → ⊥)
+      → NeverMatches (table_program plant number t) Reach c n 1 r
+  never-there Reach c n [] none = tt
+  never-there Reach c n (s ∷ ss) none = λ f here. absurd (none f here)
 
   -- the rules of a chain, the rule at an index
   module _ (rules : List (List Statement)) where
@@ -146,146 +130,120 @@ module _ (plant : PlantTree) (number : ℕ) (t : TableTree) where
               ∙ ap (λ o. tests o (asks_for plant q.test)) has ∙ ap (λ ss. lists plant ss x) (sym q.is) ∙ listed),
         )
 
-    -- what is so of packets that reach the rule with an index: no earlier rule ended the chain for all, and they
-    -- have no value that an earlier rule of its run lists
-    record Reached (k : ℕ) (Reach : Facts → Type 0) : Type 0 where
-      goes_on_to : (i : ℕ) → i < k → always_ends (at i) ≡ true → (f : Facts) → Reach f → ⊥
-      missed : (f : Facts) → Reach f → (s : Selector) (x : ℕ) → value s f ≡ Some x → (i j : ℕ) → i ≤ j → j + 1 ≡ k
-          → AreMerged plant rules s i j → lists plant (at i) x ≡ true → ⊥
+    -- a packet with these facts gets to the rule with an index: no earlier rule ended the chain for all, and it has
+    -- no value that an earlier rule of its run lists
+    record Reaches (k : ℕ) (f : Facts) : Type 0 where
+      on : (i : ℕ) → i < k → always_ends (at i) ≡ true → ⊥
+      missed : (s : Selector) (x : ℕ) → value s f ≡ Some x → (i : ℕ) → i < k
+          → ((m : ℕ) → i ≤ m → m < k → merged_selector (at m) ≡ Some s) → lists plant (at i) x ≡ true → ⊥
 
-    narrower : (s : Selector) (i j k : ℕ) → j ≤ k → AreMerged plant rules s i k → AreMerged plant rules s i j
-    narrower s i j k le merged m from to = merged m from (omega arith)
-
-    -- an earlier rule of the run lists the packet's value
-    not-taken : (k : ℕ) (Reach : Facts → Type 0) → Reached k Reach → (f : Facts) → Reach f → (s : Selector) (x : ℕ)
-        → value s f ≡ Some x → (i : ℕ) → i < k → AreMerged plant rules s i k → lists plant (at i) x ≡ true → ⊥
-    not-taken k Reach so f here s x has i early merged listed =
-        let last : k - 1 + 1 ≡ k = omega arith in
-        so.missed f here s x has i (k - 1) (omega arith) last (narrower s i (k - 1) k (omega arith) merged) listed
-
-    -- the packets behind the next rule: each was before it, it didn't end the chain for all, and they have no value
-    -- that it lists
-    reached-next : (k : ℕ) (Reach Next : Facts → Type 0) → Reached k Reach → ((g : Facts) → Next g → (f : Facts) × Reach f
-        × (always_ends (at k) ≡ true → ⊥) × ((s : Selector) (x : ℕ) → merged_selector (at k) ≡ Some s → value s g ≡ Some x
-        → (value s f ≡ Some x) × (lists plant (at k) x ≡ true → ⊥))) → Reached (k + 1) Next
-    reached-next k Reach Next so before = record {
-      goes_on_to = below_more (λ i. always_ends (at i) ≡ true → (g : Facts) → Next g → ⊥) k
-          (λ i early ends g next. let was = before g next in so.goes_on_to i early ends was.0 was.1)
-          (λ ends g next. (before g next).2 ends);
-      missed = λ g next s x has i j le last merged listed.
-          let same : j ≡ k = omega arith in
-          let upto : AreMerged plant rules s i k = subst (AreMerged plant rules s i) same merged in
-          let was = before g next in
-          let here = was.3 s x (upto k (omega arith) (omega arith)) has in
+    -- behind the next rule, which didn't end the chain for all, and doesn't list a value that the packet has then
+    reaches-next : (k : ℕ) (f g : Facts) → Reaches k f → (always_ends (at k) ≡ true → ⊥)
+        → ((s : Selector) (x : ℕ) → merged_selector (at k) ≡ Some s → value s g ≡ Some x
+        → (value s f ≡ Some x) × (lists plant (at k) x ≡ true → ⊥)) → Reaches (k + 1) g
+    reaches-next k f g so goes here = record {
+      on = below_more (λ i. always_ends (at i) ≡ true → ⊥) k so.on goes;
+      missed = λ s x has i before merged.
+          let its = here s x (merged k (omega arith) (omega arith)) has in
           ⊎_elim
-          (λ early. not-taken k Reach so was.0 was.1 s x here.0 i early upto listed)
-          (λ from. let at_k : i ≡ k = omega arith in here.1 (subst (λ m. lists plant (at m) x ≡ true) at_k listed))
+          (λ early. so.missed s x its.0 i early (λ m from to. merged m from (omega arith)))
+          (λ from. let at_k : k ≡ i = omega arith in subst (λ m. lists plant (at m) x ≡ true → ⊥) at_k its.1)
           (cases_lt i k);
     }
 
-    reached-more : (k : ℕ) (Reach : Facts → Type 0) (c n : ℕ) → Reached k Reach
-        → Reached (k + 1) (behind (table_program plant number t) Reach c n (at k))
-    reached-more k Reach c n so = reached-next k Reach (behind (table_program plant number t) Reach c n (at k)) so (λ g way. (
-      way.0,
-      way.1,
-      λ ends. none-past c n 1 (at k) way.0 g ends way.2,
-      λ s x merged has.
-          let past = missed-by c n (at k) s way.0 g x merged way.2 in
-          let had = ap (value s) (sym past.0) ∙ has in
-          (had, past.1 had),
-    ))
+    reaches-more : (k c n : ℕ) (f g : Facts) → Reaches k f → LeadsTo (table_program plant number t) c n 1 (at k) f g
+        → Reaches (k + 1) g
+    reaches-more k c n f g so to = reaches-next k f g so (λ ends. none-past c n 1 (at k) f g ends to) (λ s x merged has.
+        let past = missed-by c n (at k) s f g x merged to in
+        let had = ap (value s) (sym past.0) ∙ has in
+        (had, past.1 had))
 
-    dropped-more : (k : ℕ) (Reach : Facts → Type 0) → IsDropped plant rules k → Reached k Reach → Reached (k + 1) Reach
-    dropped-more k Reach (inl u) so = reached-next k Reach Reach so
-        (λ f here. absurd (so.goes_on_to u.by u.earlier u.ends f here))
-    dropped-more k Reach (inr h) so = reached-next k Reach Reach so (λ f here. (
-      f,
-      here,
-      merged-goes-on (at k) h.selector h.reads,
-      λ s x is has. (
-        has,
-        λ listed.
-            let same : h.selector ≡ s = same_Some h.selector s (sym h.reads ∙ is) in
-            let taken = h.taken x listed in
-            not-taken k Reach so f here s x has taken.by taken.earlier
-            (subst (λ y. AreMerged plant rules y taken.by k) same taken.merged) taken.lists_it,
-      ),
-    ))
+    -- an earlier rule of the run takes each value that a dropped rule lists
+    untaken : (k : ℕ) (f : Facts) (d : IsShadowed plant rules k) → Reaches k f → (x : ℕ) → value d.selector f ≡ Some x
+        → lists plant (at k) x ≡ true → ⊥
+    untaken k f d so x has listed =
+        let taken = d.taken x listed in
+        so.missed d.selector x has taken.by taken.earlier (λ m from to. taken.merged m from (omega arith)) taken.lists_it
 
-    -- ---- no packet matches a rule that is dropped
+    dropped-more : (k : ℕ) (f : Facts) → IsDropped plant rules k → Reaches k f → Reaches (k + 1) f
+    dropped-more k f (inl u) so = absurd (so.on u.by u.earlier u.ends)
+    dropped-more k f (inr d) so = reaches-next k f f so (merged-goes-on (at k) d.selector d.reads) (λ s x is has.
+        let same : s ≡ d.selector = same_Some s d.selector (sym is ∙ d.reads) in
+        (has, untaken k f d so x (subst (λ y. value y f ≡ Some x) same has)))
 
-    none-there : (Reach : Facts → Type 0) (c n : ℕ) (r : List Statement) → ((f : Facts) → Reach f → ⊥)
-        → NeverMatches (table_program plant number t) Reach c n r
-    none-there Reach c n [] none = tt
-    none-there Reach c n (s ∷ ss) none = λ f here. absurd (none f here)
-
-    never-by : (k : ℕ) (Reach : Facts → Type 0) (c n : ℕ) → IsDropped plant rules k → Reached k Reach
-        → NeverMatches (table_program plant number t) Reach c n (at k)
-    never-by k Reach c n (inl u) so = none-there Reach c n (at k) (λ f here. so.goes_on_to u.by u.earlier u.ends f here)
-    never-by k Reach c n (inr h) so =
-        let q = shape (at k) h.selector h.reads in
-        subst (NeverMatches (table_program plant number t) Reach c n) (sym q.is) (λ f here.
-        ap passes_if (holds-as scope q.test h.selector f q.asks
-        ∙ tests-false (value h.selector f) (asks_for plant q.test) (λ x has asks.
-        let taken = h.taken x (ap (λ ss. lists plant ss x) q.is ∙ asks) in
-        not-taken k Reach so f here h.selector x has taken.by taken.earlier taken.merged taken.lists_it)))
+    -- no packet matches a rule that is dropped
+    never-by : (k : ℕ) (Reach : Facts → Type 0) (c n : ℕ) → IsDropped plant rules k → ((f : Facts) → Reach f → Reaches k f)
+        → NeverMatches (table_program plant number t) Reach c n 1 (at k)
+    never-by k Reach c n (inl u) so = never-there Reach c n (at k) (λ f here. (so f here).on u.by u.earlier u.ends)
+    never-by k Reach c n (inr d) so =
+        let q = shape (at k) d.selector d.reads in
+        subst (NeverMatches (table_program plant number t) Reach c n 1) (sym q.is) (λ f here.
+        ap passes_if (holds-as scope q.test d.selector f q.asks
+        ∙ tests-false (value d.selector f) (asks_for plant q.test) (λ x has asks.
+        untaken k f d (so f here) x has (ap (λ ss. lists plant ss x) q.is ∙ asks))))
 
     -- ---- rule by rule
 
-    module _ (left : List (Option (List Statement))) (all : AreLeft plant rules left) where
-      leaves : (k n c : ℕ) (rs : List (List Statement)) (ls : List (Option (List Statement))) (Reach : Facts → Type 0)
-          → length rs + k ≡ length rules → length ls ≡ length rs → ((i : ℕ) → get_or rs i [] ≡ at (k + i))
-          → ((i : ℕ) → get_or ls i None ≡ get_or left (k + i) None) → Reached k Reach
-          → LeavesOut (table_program plant number t) Reach c n rs (map left_statements ls)
-      leaves k n c [] [] Reach long same rules_are left_are so = tt
-      leaves k n c [] (l ∷ ls) Reach long same rules_are left_are so = absurd (omega arith)
-      leaves k n c (r ∷ rs) [] Reach long same rules_are left_are so = absurd (omega arith)
-      leaves k n c (r ∷ rs) (None ∷ ls) Reach long same rules_are left_are so =
-          let rule : r ≡ at k = rules_are 0 ∙ ap at (no-more k) in
-          let dropped : IsDropped plant rules k = subst (IsLeft plant rules k)
-          (sym (left_are 0 ∙ ap (λ m. get_or left m None) (no-more k))) (all.each k (omega arith)) in
-          inr (
-            refl,
-            subst (NeverMatches (table_program plant number t) Reach c n) (sym rule) (never-by k Reach c n dropped so),
-            leaves (k + 1) (n + 1) c rs ls Reach (omega arith) (omega arith)
-                (λ i. rules_are (suc i) ∙ ap at (one-more k i))
-                (λ i. left_are (suc i) ∙ ap (λ m. get_or left m None) (one-more k i))
-                (dropped-more k Reach dropped so),
-          )
-      leaves k n c (r ∷ rs) (Some kept ∷ ls) Reach long same rules_are left_are so =
-          let rule : r ≡ at k = rules_are 0 ∙ ap at (no-more k) in
-          let is : IsLeft plant rules k (Some kept) = subst (IsLeft plant rules k)
-          (sym (left_are 0 ∙ ap (λ m. get_or left m None) (no-more k))) (all.each k (omega arith)) in
-          inl (
-            is.0 ∙ sym rule,
-            leaves (k + 1) (n + 1) c rs ls (behind (table_program plant number t) Reach c n r) (omega arith) (omega arith)
-                (λ i. rules_are (suc i) ∙ ap at (one-more k i))
-                (λ i. left_are (suc i) ∙ ap (λ m. get_or left m None) (one-more k i))
-                (subst (λ ss. Reached (k + 1) (behind (table_program plant number t) Reach c n ss)) (sym rule)
-                (reached-more k Reach c n so)),
-          )
+    left-by : (k n c : ℕ) (r : List Statement) (rs : List (List Statement)) (l : Option (List Statement))
+        (ls : List (List Statement)) (Reach : Facts → Type 0) → r ≡ at k → IsLeft plant rules k l
+        → ((f : Facts) → Reach f → Reaches k f) → ((Next : Facts → Type 0) → ((f : Facts) → Next f → Reaches (k + 1) f)
+        → LeavesOut (table_program plant number t) Next c (n + 1) rs ls)
+        → LeavesOut (table_program plant number t) Reach c n (r ∷ rs) (left_statements l ∷ ls)
+    left-by k n c r rs None ls Reach rule is so later = inr (
+      refl,
+      subst (NeverMatches (table_program plant number t) Reach c n 1) (sym rule) (never-by k Reach c n is so),
+      later Reach (λ f here. dropped-more k f is (so f here)),
+    )
+    left-by k n c r rs (Some kept) ls Reach rule is so later = inl (
+      is.0 ∙ sym rule,
+      later (behind (table_program plant number t) Reach c n r) (λ g way. reaches-more k c n way.0 g (so way.0 way.1)
+          (subst (λ ss. LeadsTo (table_program plant number t) c n 1 ss way.0 g) rule way.2)),
+    )
 
-  none-before : (rules : List (List Statement)) → Reached rules 0 any_facts
-  none-before rules = record {
-    goes_on_to = λ i lt. absurd (omega arith);
-    missed = λ f here s x has i j le last. absurd (omega arith);
-  }
+    leaves : (k n c : ℕ) (rs : List (List Statement)) (ls : List (Option (List Statement))) (Reach : Facts → Type 0)
+        → length ls ≡ length rs → ((i : ℕ) → get_or rs i [] ≡ at (k + i))
+        → ((i : ℕ) → i < length rs → IsLeft plant rules (k + i) (get_or ls i None)) → ((f : Facts) → Reach f → Reaches k f)
+        → LeavesOut (table_program plant number t) Reach c n rs (map left_statements ls)
+    leaves k n c [] [] Reach same rules_are are so = tt
+    leaves k n c (r ∷ rs) (l ∷ ls) Reach same rules_are are so =
+        let first : k + 0 ≡ k = omega arith in
+        let one : (i : ℕ) → k + suc i ≡ k + 1 + i = λ i. omega arith in
+        let later : (i : ℕ) → get_or rs i [] ≡ at (k + 1 + i) = λ i. rules_are (suc i) ∙ ap at (one i) in
+        let are_later : (i : ℕ) → i < length rs → IsLeft plant rules (k + 1 + i) (get_or ls i None) =
+        λ i lt. subst (λ m. IsLeft plant rules m (get_or ls i None)) (one i) (are (suc i) (omega arith)) in
+        left-by k n c r rs l (map left_statements ls) Reach (rules_are 0 ∙ ap at first)
+        (subst (λ m. IsLeft plant rules m l) first (are 0 (omega arith))) so
+        (λ Next. leaves (k + 1) (n + 1) c rs ls Next (omega arith) later are_later)
+    leaves k n c rs ls Reach same rules_are are so = absurd (omega arith)
 
-  zero-more : (n : ℕ) → 0 + n ≡ n
+  zero-more : (n : ℕ) → n ≡ 0 + n
   zero-more n = omega arith
 
   leaves-of : (c i : ℕ) (chains : List ChainTree) (left : List (List (Option (List Statement))))
       → AllZip (λ chain ls. AreLeft plant (rules_in chain) ls) chains left
       → LeavesOutOf (table_program plant number t) c (option_map rules_in (slice_get chains i))
       (option_map (map left_statements) (slice_get left i))
-  leaves-of c i [] [] all = tt
-  leaves-of c i [] (ls ∷ left) all = absurd all
-  leaves-of c i (chain ∷ chains) [] all = absurd all
+  leaves-of c i [] [] all = record {
+    left = λ rules is. absurd (none-some rules is);
+    whole = λ rest is. absurd (none-some rest is);
+  }
   leaves-of c zero (chain ∷ chains) (ls ∷ left) all =
-      leaves (rules_in chain) ls all.0 0 1 c (rules_in chain) ls any_facts (no-more (length (rules_in chain)))
-      all.0.same_length (λ i. ap (λ m. get_or (rules_in chain) m []) (sym (zero-more i)))
-      (λ i. ap (λ m. get_or ls m None) (sym (zero-more i))) (none-before (rules_in chain))
+      let p = table_program plant number t in
+      let kept = map left_statements ls in
+      let out : LeavesOut p any_facts c 1 (rules_in chain) kept =
+      leaves (rules_in chain) 0 1 c (rules_in chain) ls any_facts all.0.same_length (λ i. ap (λ m. get_or (rules_in chain) m []) (zero-more i))
+      (λ i lt. subst (λ m. IsLeft plant (rules_in chain) m (get_or ls i None)) (zero-more i) (all.0.each i lt)) (λ f here. record {
+        on = λ i lt. absurd (omega arith);
+        missed = λ s x has i lt. absurd (omega arith);
+      }) in
+      record {
+        left = λ rules is.
+            (kept, refl, subst (λ rs. LeavesOut p any_facts c 1 rs kept) (same_Some (rules_in chain) rules is) out);
+        whole = λ rest is.
+            (rules_in chain, refl, subst (LeavesOut p any_facts c 1 (rules_in chain)) (same_Some kept rest is) out);
+      }
   leaves-of c (suc i) (chain ∷ chains) (ls ∷ left) all = leaves-of c i chains left all.1
+  leaves-of c i chains left all = absurd all
 
   -- the rules that are dropped are left out of the program
   pub left-leaves : (left : List (List (Option (List Statement))))

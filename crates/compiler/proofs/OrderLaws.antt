@@ -16,7 +16,7 @@ use Rattle.filter_vm.specs.declared.code.Start.{Start}
 use Rattle.compiler.specs.declared.compiled_chain.CompiledChain.{CompiledChain}
 use Rattle.compiler.specs.Compiled.{HasStarts, start_cost}
 use Rattle.compiler.specs.steps.Bases.{base, runs_on_hook, Ordered}
-use Rattle.compiler.proofs.StartLaws.{filter_alike}
+use Rattle.std.proofs.lemmas.List.Elements.{filter_agree}
 
 -- ---- a list and what it shows
 
@@ -28,28 +28,27 @@ sorted_shown f lt (x ∷ xs) rising k d low high =
     ap₂ lt (get_or-map f (x ∷ xs) (k + 1) x d (omega arith)) (get_or-map f (x ∷ xs) k x d (omega arith))
     ∙ rising k x low (omega arith)
 
-cond_shown : {A B : Type 0} (f : A → B) (b : Bool) (x : A) (xs : List A) (ys : List B) → map f xs ≡ ys
-    → map f (cond b (x ∷ xs) xs) ≡ cond b (f x ∷ ys) ys
-cond_shown f true x xs ys e = ap (λ l. f x ∷ l) e
-cond_shown f false x xs ys e = e
+cond_shown : {A B : Type 0} (f : A → B) (b : Bool) (x : A) (xs : List A)
+    → map f (cond b (x ∷ xs) xs) ≡ cond b (f x ∷ map f xs) (map f xs)
+cond_shown f true x xs = refl
+cond_shown f false x xs = refl
 
 pub filter_shown : {A B : Type 0} (f : A → B) (p : B → Bool) (xs : List A)
     → map f (filter (λ x. p (f x)) xs) ≡ filter p (map f xs)
 filter_shown f p [] = refl
-filter_shown f p (x ∷ xs) = cond_shown f (p (f x)) x (filter (λ y. p (f y)) xs) (filter p (map f xs))
-    (filter_shown f p xs)
+filter_shown f p (x ∷ xs) = cond_shown f (p (f x)) x (filter (λ y. p (f y)) xs)
+    ∙ ap (λ ys. cond (p (f x)) (f x ∷ ys) ys) (filter_shown f p xs)
 
 none_passes : {A : Type 0} (p : A → Bool) (xs : List A) → list_any p xs ≡ false → filter p xs ≡ []
 none_passes p [] none = refl
-none_passes p (x ∷ xs) none = ap (λ b. cond b (x ∷ filter p xs) (filter p xs))
-    (or_parts (p x) (list_any p xs) none).0 ∙ none_passes p xs (or_parts (p x) (list_any p xs) none).1
+none_passes p (x ∷ xs) none =
+    let parts = or_parts (p x) (list_any p xs) none in rw parts.0 (none_passes p xs parts.1)
 
 -- ---- equal priorities
 
 both_false : (a b : Bool) → not a && not b ≡ true → cond a Less (cond b Greater Equal) ≡ Equal
-both_false true b h = absurd (false≢true h)
-both_false false true h = absurd (false≢true h)
 both_false false false h = refl
+both_false a b h = absurd (false≢true h)
 
 tied : (a b : BaseChain) → ties runs_before a b ≡ true → priority a ≡ priority b
 tied a b h = int_ranked (priority a) (priority b) Equal
@@ -74,8 +73,8 @@ module _ (b : BaseChain) (xs ys : List CompiledChain) (moved : IsPermutation xs 
       let same : priority b ≡ priority (base x) = tied b (base x) found.4 in
       let alike : (y : CompiledChain) → ties_with b y ≡ ties by_priority x y =
       λ y. ap (λ p. tie p (priority (base y))) same in
-      filter_alike (ties_with b) (ties by_priority x) alike ys ∙ stable x
-      ∙ sym (filter_alike (ties_with b) (ties by_priority x) alike xs)
+      filter_agree (ties_with b) (ties by_priority x) alike ys ∙ stable x
+      ∙ sym (filter_agree (ties_with b) (ties by_priority x) alike xs)
   stays_if false none = none_passes (ties_with b) ys
       (sym (list_any-IsPermutation (ties_with b) xs ys moved) ∙ none) ∙ sym (none_passes (ties_with b) xs none)
 

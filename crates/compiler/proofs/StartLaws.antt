@@ -4,7 +4,7 @@ use Rattle.std.proofs.Common.{ap, ◌∙◌, subst, ap₂, arith, append_assoc, 
 use Rattle.std.specs.Prelude.{slice_get, slice_index, filter, All, int_lt, sum_by}
 use Rattle.std.specs.List.{zip}
 use Rattle.std.proofs.lemmas.List.{append-nil, map-append, drop_all, drop_more}
-use Rattle.std.proofs.lemmas.List.Elements.{All-nil, All-append, All-head}
+use Rattle.std.proofs.lemmas.List.Elements.{All-nil, All-append, All-head, filter_agree}
 use Rattle.std.proofs.lemmas.List.Sums.{sum_by-cons, sum_by-append}
 use Rattle.std.proofs.lemmas.Option.{slice_get_within, get_or_from_slice_get}
 use Rattle.std.proofs.lemmas.Fn.{always_returns_same}
@@ -59,9 +59,6 @@ added_cost table place cost (Some head) number (b ∷ []) are all =
     omega (arith, sum_by-cons cost_of b [])
 added_cost table place cost (Some head) number (b ∷ other ∷ more) are all = cc
 
-all_so : {A : Type 0} (P Q : A → Type 0) → ((x : A) → P x → Q x) → (xs : List A) → All P xs → All Q xs
-all_so P Q f xs all = λ k d lt. f (get_or xs k d) (all k d lt)
-
 rest_from : {A : Type 0} (xs : List A) (i : ℕ) (x : A) → slice_get xs i ≡ Some x → drop i xs ≡ x ∷ drop (i + 1) xs
 rest_from xs i x is = drop_more xs i x (slice_get_within xs i x is)
     ∙ ap (λ y. y ∷ drop (i + 1) xs) (get_or_from_slice_get xs i x x is)
@@ -92,8 +89,7 @@ module _ (table : ℕ) (t : TableTree) (costs : List ℕ) (old : List CompiledCh
         ∙ ap (λ cs. map base now ++ base_chains_from table place cs) (sym split) ∙ so.are;
     costed = λ tables at before. subst (All (λ (b : CompiledChain). HasCost tables b.number b.cost)) (sym one.is)
         (All-append (λ (b : CompiledChain). HasCost tables b.number b.cost) now one.more (so.costed tables at before)
-        (all_so (λ (b : CompiledChain). Costs number cost b.number b.cost)
-        (λ (b : CompiledChain). HasCost tables b.number b.cost) (has_cost tables at) one.more one.costs));
+        (λ k d lt. has_cost tables at (get_or one.more k d) (one.costs k d lt)));
     sum = omega (
       arith,
       so.sum,
@@ -218,10 +214,6 @@ key b = priority_number b.head.now.priority
 lt_is : (x y : CompiledChain) → is_lt (int_cmp (key x) (key y)) ≡ runs_before (base x) (base y)
 lt_is x y = less_by (int_lt (key x) (key y)) (int_lt (key y) (key x))
 
-pub filter_alike : {A : Type 0} (p q : A → Bool) → ((x : A) → p x ≡ q x) → (xs : List A) → filter p xs ≡ filter q xs
-filter_alike p q same [] = refl
-filter_alike p q same (x ∷ xs) = ap₂ (λ b ys. cond b (x ∷ ys) ys) (same x) (filter_alike p q same xs)
-
 abbrev by_key : CompiledChain → CompiledChain → Bool
 by_key x y = is_lt (int_cmp (key x) (key y))
 
@@ -243,8 +235,8 @@ ordered_of hook bases on_hook order is moved rising stable (Ok v) starts costs =
   order = order;
   moved = subst (λ xs. IsPermutation xs order) is moved;
   rising = λ k d low high. sym (lt_is (get_or order (k + 1) d) (get_or order k d)) ∙ rising k d low high;
-  stable = λ x. sym (filter_alike (ties by_key x) (ties by_priority x) (ties_alike x) order) ∙ stable x
-      ∙ filter_alike (ties by_key x) (ties by_priority x) (ties_alike x) on_hook
+  stable = λ x. sym (filter_agree (ties by_key x) (ties by_priority x) (ties_alike x) order) ∙ stable x
+      ∙ filter_agree (ties by_key x) (ties by_priority x) (ties_alike x) on_hook
       ∙ ap (filter (ties by_priority x)) is;
   starts_are = starts;
   costs_are = costs;

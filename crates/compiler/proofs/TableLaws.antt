@@ -1,6 +1,6 @@
 -- The chains of a table, one after another, and the tables of a ruleset.
 use Rattle.std.proofs.Common.{◌≡◌, ℕ, zero, suc, ◌+◌, ◌-◌, ◌^◌, ◌<◌, ◌≤◌, ◌⊎◌, inl, inr, Bool, false, List, [], ◌∷◌, ◌++◌, length}
-use Rattle.std.proofs.Common.{map, take, Option, Some, Vec, Global, refl, sym, ap, ◌∙◌, subst, ⊎_elim, arith, length-append, take_all}
+use Rattle.std.proofs.Common.{map, take, Bor, Option, Some, Vec, Global, refl, sym, ap, ◌∙◌, subst, ⊎_elim, arith, length-append, take_all}
 use Rattle.std.specs.Prelude.{slice_get, min, sum_by, get_or}
 use Rattle.std.specs.Option.{option_map}
 use Rattle.std.specs.List.{list_any, filter_map, AllZip}
@@ -11,7 +11,8 @@ use Rattle.std.proofs.lemmas.Bool.{or_parts}
 use Rattle.std.proofs.lemmas.Option.{slice_get_within, slice_get_read, slice_get-map, get_or_from_slice_get, none-some, same_Some}
 use Rattle.list_laws.specs.Options.{some_of_map}
 use Rattle.nft_tree.specs.Tree as tree
-use Rattle.nft_tree.specs.Tree.{Statement, ChainTree, ItemTree, TableTree}
+use Rattle.nft_tree.specs.declared.chain.Chain.{Chain}
+use Rattle.nft_tree.specs.Tree.{Statement, ChainTree, ItemTree, TableTree, chain_tree}
 use Rattle.nft_tree.specs.TableItems.{chain_in, chains_of}
 use Rattle.box_file.specs.Box.{PlantTree}
 use Rattle.rule_meaning.specs.Runs.{table_program}
@@ -23,16 +24,17 @@ use Rattle.code_layout.proofs.AddLaws.{keeps_push, slice_get-push, extends_itsel
 
 -- ---- an element of a list
 
-pub shown_at : {A B : Type 0} (f : A → B) (xs : List A) (i : ℕ) (x : A) → i < length xs → x ≡ get_or xs i x
-    → slice_get (map f xs) i ≡ Some (f x)
-shown_at f xs i x lt is = slice_get-map f xs i ∙ ap (option_map f) (slice_get_read xs (length xs) i x refl lt is)
+pub chain_at : (chains : List (Bor Chain)) (t : TableTree) (i : ℕ) (x : Bor Chain) → map (λ b. chain_tree b.now) chains ≡ chains_of t
+    → i < length chains → x ≡ get_or chains i x → slice_get (chains_of t) i ≡ Some (chain_tree x.now)
+chain_at chains t i x all lt is = ap (λ cs. slice_get cs i) (sym all) ∙ slice_get-map (λ b. chain_tree b.now) chains i
+    ∙ ap (option_map (λ b. chain_tree b.now)) (slice_get_read chains (length chains) i x refl lt is)
 
 -- what is so of no element isn't so of one
-pub none_at : {A : Type 0} (p : A → Bool) (xs : List A) (i : ℕ) (x : A) → list_any p xs ≡ false
-    → slice_get xs i ≡ Some x → p x ≡ false
-none_at p [] i x none is = cc
-none_at p (y ∷ ys) zero x none is = let e : y ≡ x = cc in ap p (sym e) ∙ (or_parts (p y) (list_any p ys) none).0
-none_at p (y ∷ ys) (suc i) x none is = none_at p ys i x (or_parts (p y) (list_any p ys) none).1 is
+pub none_at : {A : Type 0} (p : A → Bool) (xs : List A) (i : ℕ) (x : A) → i < length xs → x ≡ get_or xs i x
+    → list_any p xs ≡ false → p x ≡ false
+none_at p [] i x lt is none = absurd (omega arith)
+none_at p (y ∷ ys) zero x lt is none = ap p is ∙ (or_parts (p y) (list_any p ys) none).0
+none_at p (y ∷ ys) (suc i) x lt is none = none_at p ys i x (omega arith) is (or_parts (p y) (list_any p ys) none).1
 
 -- what is wrong with no item is wrong with no chain
 pub chain_free : (p : ItemTree → Bool) (q : ChainTree → Bool) → ((c : ChainTree) → p (tree.chain c) ≡ false → q c ≡ false)
@@ -52,13 +54,7 @@ push-cases : {A : Type 0} (xs : List A) (y : A) (i : ℕ) (x : A) → slice_get 
 push-cases [] y zero x is = inr (refl, same_Some y x is)
 push-cases [] y (suc i) x is = absurd (none-some x is)
 push-cases (z ∷ xs) y zero x is = inl is
-push-cases (z ∷ xs) y (suc i) x is = ⊎_elim
-    (λ early. inl early)
-    (λ last. inr (ap suc last.0, last.1))
-    (push-cases xs y i x is)
-
-counted : (s d m : ℕ) → min (min s m + d) m ≡ min (s + d) m
-counted s d m = omega arith
+push-cases (z ∷ xs) y (suc i) x is = ⊎_elim inl (λ last. inr (ap suc last.0, last.1)) (push-cases xs y i x is)
 
 module _ (plant : PlantTree) (number : ℕ) (t : TableTree) where
   -- what is left of the rules of chain c is in the code, from the chain's offset on, whatever is added later
@@ -110,9 +106,7 @@ module _ (plant : PlantTree) (number : ℕ) (t : TableTree) where
         (λ last. subst (λ k. IsPlaced new k rules) (sym so.count ∙ last.0) (subst (IsPlaced new place) last.1 here))
         (push-cases so.left added.left c rules has);
     steps = omega (arith, added.steps, so.steps, sum_by_push chain_steps so.left added.left);
-    dropped = added.dropped ∙ ap (λ n. min (n + dropped_rules added.left) (2 ^ 64 - 1)) so.dropped
-        ∙ counted (sum_by dropped_rules so.left) (dropped_rules added.left) (2 ^ 64 - 1)
-        ∙ ap (λ n. min n (2 ^ 64 - 1)) (sym (sum_by_push dropped_rules so.left added.left));
+    dropped = omega (arith, added.dropped, so.dropped, sum_by_push dropped_rules so.left added.left);
   }
     where
       with_offset : TableCode
@@ -181,12 +175,3 @@ module _ (plant : PlantTree) (number : ℕ) (t : TableTree) where
 -- there is code for the table
 abbrev pub HasCode : PlantTree → List TableCode → ℕ → TableTree → Type 0
 HasCode plant codes i t = (code : TableCode) × (slice_get codes i ≡ Some code) × IsTableCode plant i t code
-
-pub code_kept : (plant : PlantTree) (now : List TableCode) (more : TableCode) (i : ℕ) (t : TableTree)
-    → HasCode plant now i t → HasCode plant (now ++ more ∷ []) i t
-code_kept plant now more i t h = (h.0, keeps_push now more i h.0 h.1, h.2)
-
-pub code_added : (plant : PlantTree) (now : List TableCode) (code : TableCode) (i : ℕ) (t : TableTree)
-    → length now ≡ i → IsTableCode plant i t code → HasCode plant (now ++ code ∷ []) i t
-code_added plant now code i t at is =
-    (code, subst (λ k. slice_get (now ++ code ∷ []) k ≡ Some code) at (slice_get-push now code), is)

@@ -24,14 +24,10 @@ started hook bases starts o =
     sym (sum-map (λ (s : Start). s.cost) starts) ∙ ap sum o.costs_are ∙ sum-map cost_of o.order
     ∙ sum_by-IsPermutation cost_of (filter (runs_on_hook hook) bases) o.order o.moved
 
-sum_if : (b : Bool) (x : CompiledChain) (xs : List CompiledChain)
+one_hook : (b : Bool) (x : CompiledChain) (xs : List CompiledChain)
     → sum_by cost_of (cond b (x ∷ xs) xs) ≡ cond b x.cost 0 + sum_by cost_of xs
-sum_if true x xs = sum_by-cons cost_of x xs
-sum_if false x xs = omega arith
-
-one_hook : (x : CompiledChain) (xs : List CompiledChain) (hook : Hook)
-    → on_hook hook (x ∷ xs) ≡ cond (same_hook x.head.now.hook hook) x.cost 0 + on_hook hook xs
-one_hook x xs hook = sum_if (same_hook x.head.now.hook hook) x (filter (runs_on_hook hook) xs)
+one_hook true x xs = sum_by-cons cost_of x xs
+one_hook false x xs = omega arith
 
 -- together over all hooks
 abbrev over_hooks : (Hook → ℕ) → ℕ
@@ -46,28 +42,15 @@ only_one hooks.Postrouting n = omega arith
 
 all_hooks : (bases : List CompiledChain) → over_hooks (λ h. on_hook h bases) ≡ sum_by cost_of bases
 all_hooks [] = refl
-all_hooks (x ∷ xs) = omega (
-  arith,
-  one_hook x xs hooks.Prerouting,
-  one_hook x xs hooks.Input,
-  one_hook x xs hooks.Forward,
-  one_hook x xs hooks.Output,
-  one_hook x xs hooks.Postrouting,
-  only_one x.head.now.hook x.cost,
-  all_hooks xs,
-  sum_by-cons cost_of x xs,
-)
+all_hooks (x ∷ xs) =
+    let at : (h : Hook) → on_hook h (x ∷ xs) ≡ cond (same_hook x.head.now.hook h) x.cost 0 + on_hook h xs =
+    λ h. one_hook (same_hook x.head.now.hook h) x (filter (runs_on_hook h) xs) in
+    omega (arith, at hooks.Prerouting, at hooks.Input, at hooks.Forward, at hooks.Output, at hooks.Postrouting,
+    only_one x.head.now.hook x.cost, all_hooks xs, sum_by-cons cost_of x xs)
 
-pub starts_total : (bases : List CompiledChain) (code : Code)
-    → ((hook : Hook) → Ordered hook bases (starts_of code hook))
+pub starts_total : (bases : List CompiledChain) (code : Code) → ((hook : Hook) → Ordered hook bases (starts_of code hook))
     → total_cost code ≡ sum_by (λ (b : CompiledChain). b.cost) bases
 starts_total bases code ordered =
-    let sums : total_cost code ≡ over_hooks (λ h. on_hook h bases) = omega (
-      arith,
-      started hooks.Prerouting bases code.prerouting.items (ordered hooks.Prerouting),
-      started hooks.Input bases code.input.items (ordered hooks.Input),
-      started hooks.Forward bases code.forward.items (ordered hooks.Forward),
-      started hooks.Output bases code.output.items (ordered hooks.Output),
-      started hooks.Postrouting bases code.postrouting.items (ordered hooks.Postrouting),
-    ) in
-    sums ∙ all_hooks bases
+    let at : (h : Hook) → sum_by (λ s. s.cost) (starts_of code h) ≡ on_hook h bases =
+    λ h. started h bases (starts_of code h) (ordered h) in
+    omega (arith, at hooks.Prerouting, at hooks.Input, at hooks.Forward, at hooks.Output, at hooks.Postrouting, all_hooks bases)

@@ -7,7 +7,7 @@ use Rattle.nft_tree.specs.TableItems.{chains_of}
 use Rattle.rule_values.specs.Faults.{chain_out_of_range, item_out_of_range}
 use Rattle.rule_meaning.specs.Hooks.{base_chain_of}
 use Rattle.compiler.specs.steps.Bases.{AddsBases}
-use Rattle.compiler.proofs.TableLaws.{shown_at, chain_free}
+use Rattle.compiler.proofs.TableLaws.{chain_at, chain_free}
 use Rattle.compiler.proofs.StartLaws.{Costs, bases_more, bases_all}
 use Rattle.compiler.proofs.starts.add_bases.Goals as goal
 
@@ -16,24 +16,21 @@ tree b = chain_tree b.now
 
 pub add_base-requires-clause-bounds : goal.add_base-requires-clause-bounds
 add_base-requires-clause-bounds c =
-    let at = subst (λ cs. slice_get cs c.loop-place.place ≡ Some (tree c.chain-item.result))
-    c.chains-chain-items.ensures.all (shown_at tree c.chains-chain-items.result.now c.loop-place.place
-    c.chain-item.result c.loop-place-test.true c.chain-item.is) in
+    let at = chain_at c.chains-chain-items.result.now c.args.names.now c.loop-place.place c.chain-item.result
+    c.chains-chain-items.ensures.all c.loop-place-test.true c.chain-item.is in
     chain_free item_out_of_range chain_out_of_range (λ x h. h) c.args.names.now.items c.loop-place.place
     (tree c.chain-item.result) c.requires.bounds at
 
 pub add_base-requires-clause-small : goal.add_base-requires-clause-small
 add_base-requires-clause-small c = λ head is_base.
-    let at = subst (λ cs. slice_get cs c.loop-place.place ≡ Some (tree c.chain-item.result))
-    c.chains-chain-items.ensures.all (shown_at tree c.chains-chain-items.result.now c.loop-place.place
-    c.chain-item.result c.loop-place-test.true c.chain-item.is) in
+    let at = chain_at c.chains-chain-items.result.now c.args.names.now c.loop-place.place c.chain-item.result
+    c.chains-chain-items.ensures.all c.loop-place-test.true c.chain-item.is in
     c.requires.small c.loop-place.place (tree c.chain-item.result) head at is_base
 
 pub loop-place-preserved : goal.loop-place-preserved
 loop-place-preserved c =
-    let at = subst (λ cs. slice_get cs c.loop-place.place ≡ Some (tree c.chain-item.result))
-    c.chains-chain-items.ensures.all (shown_at tree c.chains-chain-items.result.now c.loop-place.place
-    c.chain-item.result c.loop-place-test.true c.chain-item.is) in
+    let at = chain_at c.chains-chain-items.result.now c.args.names.now c.loop-place.place c.chain-item.result
+    c.chains-chain-items.ensures.all c.loop-place-test.true c.chain-item.is in
     let added = subst (λ n. AddsBases (base_chain_of c.args.table n (tree c.chain-item.result).head)
     (Costs (record { table = c.args.table; chain = n }) (slice_index c.args.costs.now c.loop-place.place))
     c.loop-place.bases.items c.add_base.new.bases.items) c.in_ok-to_u32.ensures c.in_ok-add_base.ensures in

@@ -10,7 +10,7 @@ use Rattle.rule_types.specs.Types.{rule_mismatches, item_mismatches}
 use Rattle.rule_values.specs.Faults.{if_some, item_out_of_range, priority_out_of_range}
 use Rattle.code_layout.specs.Adding.{rule_out_of_range}
 use Rattle.code_layout.proofs.AddLaws.{declared_kept}
-use Rattle.compiler.proofs.TableLaws.{shown_at, chain_free, chains_none, chains_more, chains_all}
+use Rattle.compiler.proofs.TableLaws.{chain_at, chain_free, chains_none, chains_more, chains_all}
 use Rattle.compiler.proofs.tables.table_code.Goals as goal
 
 abbrev tree : Bor Chain → ChainTree
@@ -24,29 +24,23 @@ loop-place-init c = record {
 
 pub add_chain-requires-clause-types : goal.add_chain-requires-clause-types
 add_chain-requires-clause-types c =
-    let chains = c.chains-chain-items.result.now in
-    let at = subst (λ cs. slice_get cs c.loop-place.place ≡ Some (tree c.chain-item.result))
-    c.chains-chain-items.ensures.all
-    (shown_at tree chains c.loop-place.place c.chain-item.result c.loop-place-test.true c.chain-item.is) in
+    let at = chain_at c.chains-chain-items.result.now c.args.names.now c.loop-place.place c.chain-item.result
+    c.chains-chain-items.ensures.all c.loop-place-test.true c.chain-item.is in
     chain_free (item_mismatches c.args.names.now) (λ x. list_any (rule_mismatches c.args.names.now) x.rules) (λ x h. h)
     c.args.names.now.items c.loop-place.place (tree c.chain-item.result) c.requires.types at
 
 pub add_chain-requires-clause-bounds : goal.add_chain-requires-clause-bounds
 add_chain-requires-clause-bounds c =
-    let chains = c.chains-chain-items.result.now in
-    let at = subst (λ cs. slice_get cs c.loop-place.place ≡ Some (tree c.chain-item.result))
-    c.chains-chain-items.ensures.all
-    (shown_at tree chains c.loop-place.place c.chain-item.result c.loop-place-test.true c.chain-item.is) in
+    let at = chain_at c.chains-chain-items.result.now c.args.names.now c.loop-place.place c.chain-item.result
+    c.chains-chain-items.ensures.all c.loop-place-test.true c.chain-item.is in
     chain_free item_out_of_range (λ x. list_any rule_out_of_range x.rules)
     (λ x h. (or_parts (if_some (λ head. priority_out_of_range head.priority) x.head) (list_any rule_out_of_range x.rules) h).1)
     c.args.names.now.items c.loop-place.place (tree c.chain-item.result) c.requires.bounds at
 
 pub loop-place-preserved : goal.loop-place-preserved
 loop-place-preserved c =
-    let chains = c.chains-chain-items.result.now in
-    let at = subst (λ cs. slice_get cs c.loop-place.place ≡ Some (tree c.chain-item.result))
-    c.chains-chain-items.ensures.all
-    (shown_at tree chains c.loop-place.place c.chain-item.result c.loop-place-test.true c.chain-item.is) in
+    let at = chain_at c.chains-chain-items.result.now c.args.names.now c.loop-place.place c.chain-item.result
+    c.chains-chain-items.ensures.all c.loop-place-test.true c.chain-item.is in
     let here : length c.list.result.now ≡ length c.loop-place.code.steps.items = ap length c.list.ensures.items in
     let added = rw c.in_ok-to_u32.ensures at c.in_ok-add_chain.ensures in
     record {

@@ -7,19 +7,18 @@ use Rattle.list_laws.specs.Options.{some_unique}
 use Rattle.nft_tree.specs.Tree.{TableTree}
 use Rattle.rule_types.specs.Types.{table_mismatches}
 use Rattle.rule_values.specs.Faults.{has_wrong_value}
-use Rattle.compiler.proofs.TableLaws.{HasCode, code_kept, code_added, none_at}
+use Rattle.code_layout.specs.CodeLayout.{IsTableCode}
+use Rattle.code_layout.proofs.AddLaws.{keeps_push, slice_get-push}
+use Rattle.compiler.proofs.TableLaws.{HasCode, none_at}
 use Rattle.compiler.proofs.tables.table_codes.Goals as goal
 
 pub table_code-requires-clause-types : goal.table_code-requires-clause-types
 table_code-requires-clause-types c = none_at table_mismatches c.args.names.now c.loop-number.number
-    c.index-names-number.result c.requires.types (slice_get_read c.args.names.now (length c.args.names.now)
-    c.loop-number.number c.index-names-number.result refl c.loop-number-test.true c.index-names-number.is)
+    c.index-names-number.result c.loop-number-test.true c.index-names-number.is c.requires.types
 
 pub table_code-requires-clause-bounds : goal.table_code-requires-clause-bounds
 table_code-requires-clause-bounds c = (or_parts _ _ (none_at (has_wrong_value c.args.plant.now) c.args.names.now
-    c.loop-number.number c.index-names-number.result c.requires.bounds (slice_get_read c.args.names.now
-    (length c.args.names.now) c.loop-number.number c.index-names-number.result refl c.loop-number-test.true
-    c.index-names-number.is))).1
+    c.loop-number.number c.index-names-number.result c.loop-number-test.true c.index-names-number.is c.requires.bounds)).1
 
 pub loop-number-preserved : goal.loop-number-preserved
 loop-number-preserved c =
@@ -27,6 +26,7 @@ loop-number-preserved c =
     let plant = c.args.plant.now in
     let table = c.index-names-number.result in
     let now = c.loop-number.codes.items in
+    let more = c.in_ok-new.field-0 in
     let so = c.loop-number.invariant in
     let at = slice_get_read c.args.names.now (length c.args.names.now) i table refl c.loop-number-test.true
     c.index-names-number.is in
@@ -34,10 +34,13 @@ loop-number-preserved c =
     record {
       count = ap length c.in_ok-push.ensures.items ∙ length-append now _ ∙ ap (λ n. n + 1) so.count;
       made = rw c.in_ok-push.ensures.items (below_more
-          (λ k. (t : TableTree) → slice_get c.args.names.now k ≡ Some t → HasCode plant (now ++ c.in_ok-new.field-0 ∷ []) k t) i
-          (λ k before t has. code_kept plant now c.in_ok-new.field-0 k t (so.made k before t has))
-          (λ t has. subst (HasCode plant (now ++ c.in_ok-new.field-0 ∷ []) i) (some_unique _ table t at has)
-          (code_added plant now c.in_ok-new.field-0 i table so.count is)));
+          (λ k. (t : TableTree) → slice_get c.args.names.now k ≡ Some t → HasCode plant (now ++ more ∷ []) k t) i
+          (λ k before t has. let h = so.made k before t has in (h.0, keeps_push now more k h.0 h.1, h.2))
+          (λ t has. (
+            more,
+            subst (λ k. slice_get (now ++ more ∷ []) k ≡ Some more) so.count (slice_get-push now more),
+            subst (λ u. IsTableCode plant i u more) (some_unique _ table t at has) is,
+          )));
     }
 
 pub returns : goal.returns
