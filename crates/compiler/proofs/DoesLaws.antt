@@ -1,16 +1,9 @@
 -- What the machine does from an offset on: the end of a chain takes no tick, and a statement one.
-use Rattle.std.proofs.Common.{◌≡◌, ℕ, zero, suc, ◌+◌, ◌<◌, ◌≤◌, Bool, true, List, [], ◌∷◌, length, Option, Some, None, if◌then◌else◌, refl, ap, ◌∙◌, arith}
-use Rattle.std.specs.Prelude.{slice_get, nat_lt}
+use Rattle.compiler.proofs.Names.{◌+◌, ◌<◌, Bool, Continuation, Event, Facts, IsTerminal, List, None, Option, RunResult, Some, Stop, TableCode, []}
+use Rattle.compiler.proofs.Names.{action_effect, ap, apply_effect, arith, at_end, call, enter_chain, exec, if◌then◌else◌, invalid_code, length, nat_lt, over}
+use Rattle.compiler.proofs.Names.{refl, return_from, slice_get, statement_at, stop, suc, true, zero, ℕ, ◌∙◌, ◌∷◌, ◌≡◌, ◌≤◌}
 use Rattle.std.proofs.lemmas.Bool.Decides.{nat_tests}
-use Rattle.rule_meaning.specs.declared.facts.Facts.{Facts}
-use Rattle.rule_meaning.specs.declared.event.Event.{Event}
-use Rattle.rule_meaning.specs.Runs.{RunResult, at_end, over, IsTerminal}
 use Rattle.rule_code.specs.declared.code.Instruction.{Instruction}
-use Rattle.rule_code.specs.declared.code.TableCode.{TableCode}
-use Rattle.filter_vm.specs.Machine.{Continuation, Stop, stop, invalid_code, fetch, fetch_or, fetched_at, return_from, enter_chain, call}
-use Rattle.rule_code.specs.Actions.{statement_at}
-use Rattle.filter_vm.specs.Machine.{at_limit, one_more, apply_effect, exec}
-use Rattle.rule_code.specs.Actions.{action_effect}
 
 -- what follows: after the end of a chain execution returns
 abbrev pub finish : Continuation → List ℕ → RunResult → ℕ → Stop

@@ -1,29 +1,10 @@
 -- Rules that never match can be left out: a chain without them has the results that it has with them, and is
 -- ranked as before.
-use Rattle.std.proofs.Common.{◌≡◌, ℕ, ◌+◌, ◌≤◌, List, [], ◌∷◌, Option, Some, None, inl, inr, refl, sym, ap, ◌∙◌, subst}
-use Rattle.std.proofs.Common.{arith, ⊎_elim}
-use Rattle.std.specs.Prelude.{Contains, sum_by}
-use Rattle.std.proofs.lemmas.List.Sums.{sum_by-cons}
-use Rattle.list_laws.specs.Elements.{Contains-cases, Contains-tail}
-use Rattle.list_laws.specs.Lists.{Contains-head}
-use Rattle.std.proofs.lemmas.Option.{none-some, same_Some}
-use Rattle.rule_meaning.specs.declared.facts.Facts.{Facts}
-use Rattle.rule_meaning.specs.declared.event.Event.{Event}
-use Rattle.rule_meaning.specs.Statements.{StatementEffect, pass, fail, note, give}
-use Rattle.rule_meaning.specs.Runs.{Program, Remainder, at_rule, in_rule, RunResult, at_end, statement_position, Runs, chain_ends, next_rule}
-use Rattle.rule_meaning.specs.Runs.{rule_ends, passes, fails, notes, accepts, drops, translates, continues, returns, jumps, jumps_away, goes}
-use Rattle.compiler.specs.steps.Dropping.{goes_on, any_facts, LeadsTo, behind, NeverMatches, LeavesOut, LeavesOutOf}
-use Rattle.rule_laws.specs.Ranking.{IsStatementOf, IsRanking}
-
--- a statement that fails has no other effect
-abbrev IsOther : StatementEffect → Type 0
-IsOther fail = ⊥
-IsOther pass = Unit {0}
-IsOther (note e g) = Unit {0}
-IsOther (give v) = Unit {0}
-
-fails-only : {w v : StatementEffect} → w ≡ fail → w ≡ v → IsOther v → ⊥
-fails-only failing is other = subst IsOther (sym is ∙ failing) other
+use Rattle.compiler.proofs.Names.{◌+◌, Contains, Contains-cases, Contains-head, Contains-tail, Event, Facts, IsRanking, IsStatementOf, LeadsTo, LeavesOut}
+use Rattle.compiler.proofs.Names.{LeavesOutOf, List, NeverMatches, Option, Program, Remainder, RunResult, Runs, Some, StatementEffect, [], accepts, any_facts}
+use Rattle.compiler.proofs.Names.{ap, arith, at_end, at_rule, behind, chain_ends, continues, drops, fail, fails, give, goes, goes_on, in_rule, inl, inr, jumps}
+use Rattle.compiler.proofs.Names.{jumps_away, next_rule, note, notes, pass, passes, refl, returns, rule_ends, statement_position, subst, sum_by, sum_by-cons}
+use Rattle.compiler.proofs.Names.{sym, translates, ℕ, ◌∙◌, ◌∷◌, ◌≡◌, ◌≤◌, ⊎_elim}
 
 module _ {S : Type 0} (p : Program S) (left_at : ℕ → Option (List (List S))) where
   -- the program that is left
@@ -57,9 +38,9 @@ module _ {S : Type 0} (p : Program S) (left_at : ℕ → Option (List (List S)))
 
     -- nothing is left out of a statement that doesn't fail
     only-in : {c n k : ℕ} {s : S} {ss : List S} (rs : List (List S)) {f : Facts} {es : List Event}
-        {o : RunResult} {w : StatementEffect} → p.effect_of (statement_position p c n k) s f ≡ w → IsOther w
+        {o : RunResult} {w : StatementEffect} → p.effect_of (statement_position p c n k) s f ≡ w → (w ≡ fail → ⊥)
         → StaysIn c n k (s ∷ ss) rs f es o → Stays c n (in_rule k (s ∷ ss) rs) f es o
-    only-in rs is other stays = (stays, λ Reach ks failing here. absurd (fails-only (failing _ here) is other))
+    only-in rs is other stays = (stays, λ Reach ks failing here. absurd (other (sym is ∙ failing _ here)))
 
     by-rule : {c n : ℕ} (r : List S) (rs : List (List S)) (f : Facts) {es : List Event} {o : RunResult}
         → Stays c n (in_rule 1 r rs) f es o → (Reach : Facts → Type 0) (ks : List (List S)) → Reach f
@@ -77,7 +58,8 @@ module _ {S : Type 0} (p : Program S) (left_at : ℕ → Option (List (List S)))
     at-end Reach [] f es out = chain_ends
     at-end Reach (left ∷ ks) f es out = absurd out
 
-    stays : {c n : ℕ} {left : Remainder S} {f : Facts} {es : List Event} {o : RunResult}
+    -- a chain has its results without the rules that never match
+    pub stays : {c n : ℕ} {left : Remainder S} {f : Facts} {es : List Event} {o : RunResult}
         → Runs p c n left f es o → Stays c n left f es o
     stays (chain_ends {f = f} {es = es}) = λ Reach ks here out. at-end Reach ks f es out
     stays (next_rule {r = r} {rs = rs} {f = f} run) = by-rule r rs f (stays run)
@@ -85,37 +67,30 @@ module _ {S : Type 0} (p : Program S) (left_at : ℕ → Option (List (List S)))
       λ Reach ks to out. rule_ends (stays run Reach ks (to _ refl) out),
       λ Reach ks failing here out. rule_ends (stays run Reach ks here out),
     )
-    stays (passes {ss = ss} is run) = only-in _ is tt (λ Reach ks to out.
+    stays (passes {ss = ss} is run) = only-in _ is (λ e. cc) (λ Reach ks to out.
         passes is ((stays run).0 Reach ks (λ g on. to g (leads ss g is on)) out))
     stays (fails {ss = ss} {f = f} is run) = (
       λ Reach ks to out. fails is (stays run Reach ks (to f (leads ss f is refl)) out),
       λ Reach ks failing here out. rule_ends (stays run Reach ks here out),
     )
-    stays (notes {ss = ss} e h is run) = only-in _ is tt (λ Reach ks to out.
+    stays (notes {ss = ss} e h is run) = only-in _ is (λ e. cc) (λ Reach ks to out.
         notes e h is ((stays run).0 Reach ks (λ g on. to g (leads ss g is on)) out))
-    stays (accepts is) = only-in _ is tt (λ Reach ks to out. accepts is)
-    stays (drops is) = only-in _ is tt (λ Reach ks to out. drops is)
-    stays (translates t is) = only-in _ is tt (λ Reach ks to out. translates t is)
-    stays (continues {ss = ss} {f = f} is run) = only-in _ is tt (λ Reach ks to out.
+    stays (accepts is) = only-in _ is (λ e. cc) (λ Reach ks to out. accepts is)
+    stays (drops is) = only-in _ is (λ e. cc) (λ Reach ks to out. drops is)
+    stays (translates t is) = only-in _ is (λ e. cc) (λ Reach ks to out. translates t is)
+    stays (continues {ss = ss} {f = f} is run) = only-in _ is (λ e. cc) (λ Reach ks to out.
         continues is (stays run Reach ks (to f (leads ss f is refl)) out))
-    stays (returns is) = only-in _ is tt (λ Reach ks to out. returns is)
-    stays (jumps d {ss = ss} g later chain is has inner run) = only-in _ is tt (λ Reach ks to out.
+    stays (returns is) = only-in _ is (λ e. cc) (λ Reach ks to out. returns is)
+    stays (jumps d {ss = ss} g later chain is has inner run) = only-in _ is (λ e. cc) (λ Reach ks to out.
         let left = (leaves d).left chain has in
         jumps d g later left.0 is left.1 (stays inner any_facts left.0 tt left.2)
         (stays run Reach ks (to g (leads ss g is tt)) out))
-    stays (jumps_away d chain is has inner over) = only-in _ is tt (λ Reach ks to out.
+    stays (jumps_away d chain is has inner over) = only-in _ is (λ e. cc) (λ Reach ks to out.
         let left = (leaves d).left chain has in
         jumps_away d left.0 is left.1 (stays inner any_facts left.0 tt left.2) over)
-    stays (goes d chain is has inner) = only-in _ is tt (λ Reach ks to out.
+    stays (goes d chain is has inner) = only-in _ is (λ e. cc) (λ Reach ks to out.
         let left = (leaves d).left chain has in
         goes d left.0 is left.1 (stays inner any_facts left.0 tt left.2))
-
-    -- a chain has its results without the rules that never match
-    pub left-runs : (c : ℕ) (rules : List (List S)) (f : Facts) (es : List Event) (o : RunResult)
-        → p.rules_at c ≡ Some rules → Runs p c 1 (at_rule rules) f es o
-        → (rest : List (List S)) × (left_at c ≡ Some rest) × Runs left_program c 1 (at_rule rest) f es o
-    left-runs c rules f es o is run =
-        let left = (leaves c).left rules is in (left.0, left.1, stays run any_facts left.0 tt left.2)
 
     -- ---- ranking
 

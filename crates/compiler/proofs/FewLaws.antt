@@ -1,14 +1,8 @@
 -- Numbers that stop at 2^64 - 1 are the costs themselves where all together are few.
-use Rattle.std.proofs.Common.{◌≡◌, ℕ, suc, ◌+◌, ◌≤◌, List, [], ◌∷◌, length, get_or, map, Option, Some, None, refl, sym, ap, ap₂, ◌∙◌, subst, arith}
-use Rattle.std.specs.Prelude.{sum_by, slice_get}
-use Rattle.std.specs.List.{zip}
-use Rattle.std.proofs.lemmas.List.Sums.{sum_by-cons}
-use Rattle.nft_tree.specs.Tree.{Text, HeadTree, ChainTree, TableTree}
-use Rattle.nft_tree.specs.TableItems.{chains_of}
+use Rattle.compiler.proofs.Names.{◌+◌, AreAllCosts, AreChainCosts, AreCosts, Caller, ChainTree, HeadTree, List, None, Option, Some, TableTree, Text, [], a_chain, ap}
+use Rattle.compiler.proofs.Names.{ap₂, arith, base_cost, base_part, base_sum, chains_of, get_or, length, map, refl, ruleset_cost, ruleset_sum, slice_get, subst}
+use Rattle.compiler.proofs.Names.{suc, sum_by, sum_by-cons, sym, table_cost, zip, ℕ, ◌∙◌, ◌∷◌, ◌≡◌, ◌≤◌}
 use Rattle.chain_graph.specs.Measures.{saturated}
-use Rattle.rule_paths.specs.Paths.{Caller, a_chain, AreCosts, AreAllCosts, base_cost, table_cost, ruleset_cost}
-use Rattle.rule_paths.specs.Findings.{AreChainCosts}
-use Rattle.rule_check.specs.Checked.{base_part, base_sum, ruleset_sum}
 
 part_is : (cost : Caller → ℕ) (name : Text) (head : Option HeadTree)
     → base_part head (saturated (cost (a_chain name))) ≤ 65536
@@ -16,8 +10,12 @@ part_is : (cost : Caller → ℕ) (name : Text) (head : Option HeadTree)
 part_is cost name None few = refl
 part_is cost name (Some head) few = omega arith
 
-abbrev part : ChainTree × ℕ → ℕ
+-- what a chain adds, by its cost, and what a table adds
+abbrev pub part : ChainTree × ℕ → ℕ
 part p = base_part p.0.head p.1
+
+abbrev pub table_part : TableTree × List ℕ → ℕ
+table_part p = base_sum p.0 p.1
 
 abbrev row_of : (Caller → ℕ) → List ChainTree → List ℕ
 row_of cost cs = map (λ c. saturated (cost (a_chain c.name))) cs
@@ -30,15 +28,6 @@ parts_are cost (c ∷ cs) few =
     both ∙ ap₂ ◌+◌ (part_is cost c.name c.head (omega (arith, both))) (parts_are cost cs (omega (arith, both)))
     ∙ sym (sum_by-cons (λ (x : ChainTree). base_cost cost x.name x.head) c cs)
 
-table_is : (t : TableTree) (row : List ℕ) (cost : Caller → ℕ) → AreChainCosts t row → AreCosts t cost
-    → base_sum t row ≤ 65536 → base_sum t row ≡ table_cost cost t
-table_is t row cost are is few =
-    let same = are.are cost is in
-    ap (base_sum t) same ∙ parts_are cost (chains_of t) (subst (λ xs. base_sum t xs ≤ 65536) same few)
-
-abbrev table_part : TableTree × List ℕ → ℕ
-table_part p = base_sum p.0 p.1
-
 -- what the base chains of all tables cost by such numbers is what the ruleset costs
 pub ruleset_is : (cost : TableTree → Caller → ℕ) (ts : List TableTree) (rows : List (List ℕ))
     → length rows ≡ length ts → ((i : ℕ) (t : TableTree) → slice_get ts i ≡ Some t
@@ -48,7 +37,9 @@ ruleset_is cost [] rows long each all few = refl
 ruleset_is cost (t ∷ ts) [] long each all few = absurd (omega arith)
 ruleset_is cost (t ∷ ts) (row ∷ rows) long each all few =
     let both = sum_by-cons table_part (t, row) (zip ts rows) in
-    let here = table_is t row (cost t) (each 0 t refl) (all t (0, omega arith, refl)) (omega (arith, both)) in
+    let same = (each 0 t refl).are (cost t) (all t (0, omega arith, refl)) in
+    let few_here : base_sum t row ≤ 65536 = omega (arith, both) in
+    let here = ap (base_sum t) same ∙ parts_are (cost t) (chains_of t) (subst (λ xs. base_sum t xs ≤ 65536) same few_here) in
     let rest = ruleset_is cost ts rows (omega arith) (λ i x is. each (suc i) x is) (λ x i. let l = i.1 in
     all x (suc i.0, omega arith, i.2)) (omega (arith, both)) in
     both ∙ ap₂ ◌+◌ here rest ∙ sym (sum_by-cons (λ u. table_cost (cost u) u) t ts)

@@ -1,19 +1,6 @@
 -- The rest of a chain in the code, and its weight.
-use Rattle.std.proofs.Common.{◌≡◌, ℕ, ◌+◌, ◌≤◌, suc, List, [], ◌∷◌, length, Some, refl, arith, ap, ◌∙◌}
-use Rattle.std.specs.Prelude.{Contains, sum_by, slice_get}
-use Rattle.std.specs.List.{AllByRecursion}
-use Rattle.list_laws.specs.Elements.{Contains-tail}
-use Rattle.list_laws.specs.Lists.{Contains-head}
-use Rattle.rule_meaning.specs.declared.facts.Facts.{Facts}
-use Rattle.rule_meaning.specs.declared.event.Event.{Event}
-use Rattle.rule_meaning.specs.Statements.{StatementEffect}
-use Rattle.rule_meaning.specs.Runs.{Program, Remainder, at_rule, in_rule, RunResult, rule_no, statement_position}
-use Rattle.rule_code.specs.declared.code.TableCode.{TableCode}
-use Rattle.rule_code.specs.declared.code.Instruction.{Instruction}
-use Rattle.rule_code.specs.Actions.{statement_at, action_effect}
-use Rattle.filter_vm.specs.Machine.{apply_effect}
-use Rattle.code_layout.specs.CodeLayout.{Implements, StatementsAt, RulesAt}
-use Rattle.rule_laws.specs.Ranking.{IsStatementOf}
+use Rattle.compiler.proofs.Names.{◌+◌, AllByRecursion, Contains, Contains-head, Contains-tail, IsStatementOf, List, Program, Remainder, RulesAt, Some}
+use Rattle.compiler.proofs.Names.{StatementsAt, TableCode, [], at_rule, in_rule, length, sum_by, ℕ, ◌∷◌, ◌≡◌}
 
 -- the weight of the statements that are left of a chain
 abbrev pub weighs : {S : Type 0} → (S → ℕ) → Remainder S → ℕ

@@ -1,34 +1,23 @@
 -- What is left of a chain: the rules that are left out of it never match a packet that gets to them.
-use borrow.Author.Count.{below_more}
-use Rattle.std.proofs.Common.{◌≡◌, ℕ, zero, suc, ◌+◌, ◌-◌, ◌*◌, ◌^◌, ◌<◌, ◌≤◌, inl, inr, Bool, true, false, List, [], ◌∷◌, length, get_or, map}
-use Rattle.std.proofs.Common.{Option, Some, None, refl, sym, ap, ◌∙◌, subst, arith, ⊎_elim}
-use Rattle.std.specs.Prelude.{if◌then◌else◌, slice_get}
-use Rattle.std.specs.Option.{option_map}
-use Rattle.std.specs.List.{AllZip}
-use Rattle.nft_tree.specs.TableItems.{chains_of}
-use Rattle.std.proofs.lemmas.Bool.{false≢true, cases_lt, false_from_ne_true}
-use Rattle.std.proofs.lemmas.Option.{none-some, same_Some}
+use Rattle.compiler.proofs.Names.{Program}
+use Rattle.compiler.proofs.Names.{◌*◌, ◌+◌, ◌<◌, AllZip, AreLeft, Bool, ChainTree, Facts, IsDropped, IsLeft, IsShadowed, LeadsTo, LeavesOut, LeavesOutOf, List}
+use Rattle.compiler.proofs.Names.{MatchTree, NeverMatches, None, Option, PlantTree, Some, Statement, TableTree, VerdictTree, [], ◌^◌, always_ends, any_facts}
+use Rattle.compiler.proofs.Names.{ap, arith, behind, below_more, cases_lt, chains_of, ends_chain, false, false_from_ne_true, false≢true, get_or, goes_on}
+use Rattle.compiler.proofs.Names.{if◌then◌else◌, inl, inr, left_program, left_statements, length, lists, map, merged_selector, none-some, option_map, passes_if}
+use Rattle.compiler.proofs.Names.{refl, rule_at, rules_in, same_Some, slice_get, subst, suc, sym, table_program, true, zero, ℕ, ◌∙◌, ◌∷◌, ◌≡◌, ◌≤◌, ⊎_elim}
 use Rattle.nft_tree.specs.declared.selector.Selector.{Selector}
-use Rattle.nft_tree.specs.declared.selector.Selector.TheVariants as selectors
 use Rattle.nft_tree.specs.ValueTypes.{selector_width}
 use Rattle.nft_tree.specs.ComparedTypes.{selector_compared_type}
-use Rattle.nft_tree.specs.declared.statement.Operator.TheVariants as operators
-use Rattle.nft_tree.specs.declared.statement.BitTest.TheVariants as bit_tests
-use Rattle.nft_tree.specs.Tree as tree
-use Rattle.nft_tree.specs.Tree.{Statement, MatchTree, VerdictTree, ChainTree, TableTree}
 use Rattle.nft_values.specs.Values.{Span, numbers_of}
-use Rattle.box_file.specs.Box.{PlantTree}
-use Rattle.rule_meaning.specs.declared.facts.Facts.{Facts}
 use Rattle.rule_meaning.specs.Selectors.{value, join}
 use Rattle.rule_meaning.specs.Sets.{Scope, spans, set_has}
 use Rattle.rule_meaning.specs.Matches.{bit_selector, tests, compares_with, holds}
-use Rattle.rule_meaning.specs.Statements.{passes_if}
-use Rattle.rule_meaning.specs.Runs.{table_program}
 use Rattle.lowering.specs.Asked.{asked_selector, asks_for}
-use Rattle.compiler.specs.steps.Dropping.{goes_on, any_facts, LeadsTo, behind, NeverMatches, LeavesOut, LeavesOutOf}
-use Rattle.code_layout.specs.DroppedRules.{ends_chain, always_ends, merged_selector, lists, rule_at, IsShadowed, IsDropped, IsLeft, AreLeft}
-use Rattle.code_layout.specs.CodeLayout.{rules_in, left_statements, left_program}
 use Rattle.code_layout.proofs.ShadowLaws.{merged-goes-on}
+use Rattle.nft_tree.specs.declared.selector.Selector.TheVariants as selectors
+use Rattle.nft_tree.specs.declared.statement.Operator.TheVariants as operators
+use Rattle.nft_tree.specs.declared.statement.BitTest.TheVariants as bit_tests
+use Rattle.nft_tree.specs.Tree as tree
 
 -- ---- what a rule lists, and whether it matches
 
@@ -84,15 +73,18 @@ tests-false None p h = refl
 tests-false (Some n) p h = false_from_ne_true (p n) (h n refl)
 
 module _ (plant : PlantTree) (number : ℕ) (t : TableTree) where
+  abbrev own : Program Statement
+  own = table_program plant number t
+
   -- no packet gets past a verdict that ends the chain
   no-way-past : (c n k : ℕ) (v : VerdictTree) (ss : List Statement) (f g : Facts) → ends_chain v ≡ true
-      → LeadsTo (table_program plant number t) c n k (tree.verdict v ∷ ss) f g → ⊥
+      → LeadsTo own c n k (tree.verdict v ∷ ss) f g → ⊥
   no-way-past c n k tree.continue ss f g is to = false≢true is
   no-way-past c n k (tree.jump name) ss f g is to = false≢true is
   no-way-past c n k v ss f g is to = to
 
   none-past : (c n k : ℕ) (ss : List Statement) (f g : Facts) → always_ends ss ≡ true
-      → LeadsTo (table_program plant number t) c n k ss f g → ⊥
+      → LeadsTo own c n k ss f g → ⊥
   none-past c n k (tree.counter start ∷ ss) f g is to = none-past c n (k + 1) ss f g is to
   none-past c n k (tree.log text ∷ ss) f g is to = none-past c n (k + 1) ss f g is to
   none-past c n k (tree.verdict v ∷ ss) f g is to = no-way-past c n k v ss f g is to
@@ -102,13 +94,13 @@ module _ (plant : PlantTree) (number : ℕ) (t : TableTree) where
   scope = record { plant = plant; table = t }
 
   by-match : (c n : ℕ) (v : VerdictTree) (f g : Facts) (b : Bool) → ends_chain v ≡ true
-      → goes_on (passes_if b) (LeadsTo (table_program plant number t) c n 2 (tree.verdict v ∷ [])) f g
+      → goes_on (passes_if b) (LeadsTo own c n 2 (tree.verdict v ∷ [])) f g
       → (g ≡ f) × (b ≡ false)
   by-match c n v f g true ends to = absurd (no-way-past c n 2 v [] f g ends to)
   by-match c n v f g false ends to = (to, refl)
 
   never-there : (Reach : Facts → Type 0) (c n : ℕ) (r : List Statement) → ((f : Facts) → Reach f → ⊥)
-      → NeverMatches (table_program plant number t) Reach c n 1 r
+      → NeverMatches own Reach c n 1 r
   never-there Reach c n [] none = tt
   never-there Reach c n (s ∷ ss) none = λ f here. absurd (none f here)
 
@@ -119,12 +111,12 @@ module _ (plant : PlantTree) (number : ℕ) (t : TableTree) where
 
     -- packets that get past a rule that may be merged have no value that it lists
     missed-by : (c n : ℕ) (r : List Statement) (s : Selector) (f g : Facts) (x : ℕ) → merged_selector r ≡ Some s
-        → LeadsTo (table_program plant number t) c n 1 r f g → (g ≡ f)
+        → LeadsTo own c n 1 r f g → (g ≡ f)
         × (value s f ≡ Some x → lists plant r x ≡ true → ⊥)
     missed-by c n r s f g x is to =
         let q = shape r s is in
         let way = by-match c n q.verdict f g (holds scope q.test f) q.ends
-        (subst (λ ss. LeadsTo (table_program plant number t) c n 1 ss f g) q.is to) in (
+        (subst (λ ss. LeadsTo own c n 1 ss f g) q.is to) in (
           way.0,
           λ has listed. false≢true (sym way.1 ∙ holds-as scope q.test s f q.asks
               ∙ ap (λ o. tests o (asks_for plant q.test)) has ∙ ap (λ ss. lists plant ss x) (sym q.is) ∙ listed),
@@ -151,7 +143,7 @@ module _ (plant : PlantTree) (number : ℕ) (t : TableTree) where
           (cases_lt i k);
     }
 
-    reaches-more : (k c n : ℕ) (f g : Facts) → Reaches k f → LeadsTo (table_program plant number t) c n 1 (at k) f g
+    reaches-more : (k c n : ℕ) (f g : Facts) → Reaches k f → LeadsTo own c n 1 (at k) f g
         → Reaches (k + 1) g
     reaches-more k c n f g so to = reaches-next k f g so (λ ends. none-past c n 1 (at k) f g ends to) (λ s x merged has.
         let past = missed-by c n (at k) s f g x merged to in
@@ -173,11 +165,11 @@ module _ (plant : PlantTree) (number : ℕ) (t : TableTree) where
 
     -- no packet matches a rule that is dropped
     never-by : (k : ℕ) (Reach : Facts → Type 0) (c n : ℕ) → IsDropped plant rules k → ((f : Facts) → Reach f → Reaches k f)
-        → NeverMatches (table_program plant number t) Reach c n 1 (at k)
+        → NeverMatches own Reach c n 1 (at k)
     never-by k Reach c n (inl u) so = never-there Reach c n (at k) (λ f here. (so f here).on u.by u.earlier u.ends)
     never-by k Reach c n (inr d) so =
         let q = shape (at k) d.selector d.reads in
-        subst (NeverMatches (table_program plant number t) Reach c n 1) (sym q.is) (λ f here.
+        subst (NeverMatches own Reach c n 1) (sym q.is) (λ f here.
         ap passes_if (holds-as scope q.test d.selector f q.asks
         ∙ tests-false (value d.selector f) (asks_for plant q.test) (λ x has asks.
         untaken k f d (so f here) x has (ap (λ ss. lists plant ss x) q.is ∙ asks))))
@@ -187,23 +179,23 @@ module _ (plant : PlantTree) (number : ℕ) (t : TableTree) where
     left-by : (k n c : ℕ) (r : List Statement) (rs : List (List Statement)) (l : Option (List Statement))
         (ls : List (List Statement)) (Reach : Facts → Type 0) → r ≡ at k → IsLeft plant rules k l
         → ((f : Facts) → Reach f → Reaches k f) → ((Next : Facts → Type 0) → ((f : Facts) → Next f → Reaches (k + 1) f)
-        → LeavesOut (table_program plant number t) Next c (n + 1) rs ls)
-        → LeavesOut (table_program plant number t) Reach c n (r ∷ rs) (left_statements l ∷ ls)
+        → LeavesOut own Next c (n + 1) rs ls)
+        → LeavesOut own Reach c n (r ∷ rs) (left_statements l ∷ ls)
     left-by k n c r rs None ls Reach rule is so later = inr (
       refl,
-      subst (NeverMatches (table_program plant number t) Reach c n 1) (sym rule) (never-by k Reach c n is so),
+      subst (NeverMatches own Reach c n 1) (sym rule) (never-by k Reach c n is so),
       later Reach (λ f here. dropped-more k f is (so f here)),
     )
     left-by k n c r rs (Some kept) ls Reach rule is so later = inl (
       is.0 ∙ sym rule,
-      later (behind (table_program plant number t) Reach c n r) (λ g way. reaches-more k c n way.0 g (so way.0 way.1)
-          (subst (λ ss. LeadsTo (table_program plant number t) c n 1 ss way.0 g) rule way.2)),
+      later (behind own Reach c n r) (λ g way. reaches-more k c n way.0 g (so way.0 way.1)
+          (subst (λ ss. LeadsTo own c n 1 ss way.0 g) rule way.2)),
     )
 
     leaves : (k n c : ℕ) (rs : List (List Statement)) (ls : List (Option (List Statement))) (Reach : Facts → Type 0)
         → length ls ≡ length rs → ((i : ℕ) → get_or rs i [] ≡ at (k + i))
         → ((i : ℕ) → i < length rs → IsLeft plant rules (k + i) (get_or ls i None)) → ((f : Facts) → Reach f → Reaches k f)
-        → LeavesOut (table_program plant number t) Reach c n rs (map left_statements ls)
+        → LeavesOut own Reach c n rs (map left_statements ls)
     leaves k n c [] [] Reach same rules_are are so = tt
     leaves k n c (r ∷ rs) (l ∷ ls) Reach same rules_are are so =
         let first : k + 0 ≡ k = omega arith in
@@ -221,16 +213,15 @@ module _ (plant : PlantTree) (number : ℕ) (t : TableTree) where
 
   leaves-of : (c i : ℕ) (chains : List ChainTree) (left : List (List (Option (List Statement))))
       → AllZip (λ chain ls. AreLeft plant (rules_in chain) ls) chains left
-      → LeavesOutOf (table_program plant number t) c (option_map rules_in (slice_get chains i))
+      → LeavesOutOf own c (option_map rules_in (slice_get chains i))
       (option_map (map left_statements) (slice_get left i))
   leaves-of c i [] [] all = record {
     left = λ rules is. absurd (none-some rules is);
     whole = λ rest is. absurd (none-some rest is);
   }
   leaves-of c zero (chain ∷ chains) (ls ∷ left) all =
-      let p = table_program plant number t in
       let kept = map left_statements ls in
-      let out : LeavesOut p any_facts c 1 (rules_in chain) kept =
+      let out : LeavesOut own any_facts c 1 (rules_in chain) kept =
       leaves (rules_in chain) 0 1 c (rules_in chain) ls any_facts all.0.same_length (λ i. ap (λ m. get_or (rules_in chain) m []) (zero-more i))
       (λ i lt. subst (λ m. IsLeft plant (rules_in chain) m (get_or ls i None)) (zero-more i) (all.0.each i lt)) (λ f here. record {
         on = λ i lt. absurd (omega arith);
@@ -238,9 +229,9 @@ module _ (plant : PlantTree) (number : ℕ) (t : TableTree) where
       }) in
       record {
         left = λ rules is.
-            (kept, refl, subst (λ rs. LeavesOut p any_facts c 1 rs kept) (same_Some (rules_in chain) rules is) out);
+            (kept, refl, subst (λ rs. LeavesOut own any_facts c 1 rs kept) (same_Some (rules_in chain) rules is) out);
         whole = λ rest is.
-            (rules_in chain, refl, subst (LeavesOut p any_facts c 1 (rules_in chain)) (same_Some kept rest is) out);
+            (rules_in chain, refl, subst (LeavesOut own any_facts c 1 (rules_in chain)) (same_Some kept rest is) out);
       }
   leaves-of c (suc i) (chain ∷ chains) (ls ∷ left) all = leaves-of c i chains left all.1
   leaves-of c i chains left all = absurd all
@@ -248,6 +239,6 @@ module _ (plant : PlantTree) (number : ℕ) (t : TableTree) where
   -- the rules that are dropped are left out of the program
   pub left-leaves : (left : List (List (Option (List Statement))))
       → AllZip (λ chain ls. AreLeft plant (rules_in chain) ls) (chains_of t) left
-      → (c : ℕ) → LeavesOutOf (table_program plant number t) c ((table_program plant number t).rules_at c)
+      → (c : ℕ) → LeavesOutOf own c (own.rules_at c)
       ((left_program plant number t left).rules_at c)
   left-leaves left all c = leaves-of c c (chains_of t) left all

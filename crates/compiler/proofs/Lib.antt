@@ -1,3 +1,4 @@
+pub mod Names
 pub mod TableLaws
 pub mod DroppingLaws
 pub mod LeftLaws

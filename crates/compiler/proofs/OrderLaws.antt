@@ -1,26 +1,14 @@
 -- The starts of a hook are its base chains, in order of priority and of text.
-use Rattle.std.proofs.Common.{◌≡◌, ℕ, ◌+◌, Bool, true, false, not, ◌&&◌, cond, List, [], ◌∷◌, map, refl, sym, ap, ap₂, ◌∙◌, arith, ℤ, Less, Equal, Greater}
-use Rattle.std.specs.Prelude.{filter, int_lt}
-use Rattle.std.specs.List.{list_any}
-use Rattle.std.specs.List.Sorted.{IsPermutation, IsSortedBy, IsStableBy, ties}
-use Rattle.std.proofs.lemmas.Bool.{false≢true, or_parts}
+use Rattle.compiler.proofs.Names.{◌&&◌, ◌+◌, AreAllCosts, BaseChain, Bool, Caller, CompiledChain, Equal, Greater, HasStarts, Hook, IsPermutation, IsSortedBy}
+use Rattle.compiler.proofs.Names.{IsStableBy, Less, List, Ordered, Start, TableTree, [], ap, ap₂, arith, base, base_chains_of, cond, false, false≢true, filter}
+use Rattle.compiler.proofs.Names.{filter_agree, get_or-map, int_lt, is_on_hook, length-map, list_any, list_any-IsPermutation, map, not, or_parts, priority}
+use Rattle.compiler.proofs.Names.{refl, runs_before, runs_on_hook, start_cost, sym, ties, true, ℕ, ℤ, ◌∙◌, ◌∷◌, ◌≡◌}
 use Rattle.std.proofs.lemmas.Cmp.{int_ranked}
-use Rattle.std.proofs.lemmas.List.{get_or-map, length-map}
 use Rattle.std.proofs.lemmas.List.Folds.{Any-from_list_any}
-use Rattle.std.proofs.lemmas.List.Sorted.{list_any-IsPermutation}
-use Rattle.nft_tree.specs.declared.chain.Hook.{Hook}
-use Rattle.nft_tree.specs.Tree.{TableTree}
-use Rattle.rule_paths.specs.Paths.{Caller, AreAllCosts}
-use Rattle.rule_meaning.specs.Hooks.{BaseChain, base_chains_of, priority, runs_before, is_on_hook}
-use Rattle.filter_vm.specs.declared.code.Start.{Start}
-use Rattle.compiler.specs.declared.compiled_chain.CompiledChain.{CompiledChain}
-use Rattle.compiler.specs.Compiled.{HasStarts, start_cost}
-use Rattle.compiler.specs.steps.Bases.{base, runs_on_hook, Ordered}
-use Rattle.std.proofs.lemmas.List.Elements.{filter_agree}
 
 -- ---- a list and what it shows
 
-sorted_shown : {A B : Type 0} (f : A → B) (lt : B → B → Bool) (xs : List A)
+pub sorted_shown : {A B : Type 0} (f : A → B) (lt : B → B → Bool) (xs : List A)
     → IsSortedBy (λ a b. lt (f a) (f b)) xs → IsSortedBy lt (map f xs)
 sorted_shown f lt [] rising k d low high = absurd (omega arith)
 sorted_shown f lt (x ∷ xs) rising k d low high =
@@ -81,25 +69,3 @@ module _ (b : BaseChain) (xs ys : List CompiledChain) (moved : IsPermutation xs 
   pub stays : filter (ties runs_before b) (map base ys) ≡ filter (ties runs_before b) (map base xs)
   stays = sym (filter_shown base (ties runs_before b) ys)
       ∙ ap (map base) (stays_if (list_any (ties_with b) xs) refl) ∙ filter_shown base (ties runs_before b) xs
-
--- ---- the starts of a hook
-
-pub has_starts : (tables : List TableTree) (hook : Hook) (bases : List CompiledChain) (starts : List Start)
-    → map base bases ≡ base_chains_of tables → (o : Ordered hook bases starts)
-    → ((cost : TableTree → Caller → ℕ) → AreAllCosts tables cost
-    → map (λ s. s.cost) starts ≡ map (start_cost tables cost) (map base o.order))
-    → HasStarts tables hook starts
-has_starts tables hook bases starts text o costs =
-    let on_hook : map base (filter (runs_on_hook hook) bases)
-    ≡ filter (is_on_hook hook) (base_chains_of tables) =
-    filter_shown base (is_on_hook hook) bases ∙ ap (filter (is_on_hook hook)) text in
-    record {
-      order = map base o.order;
-      in_order = record {
-        rising = sorted_shown base runs_before o.order o.rising;
-        stable = λ b. stays b (filter (runs_on_hook hook) bases) o.order o.moved o.stable
-            ∙ ap (filter (ties runs_before b)) on_hook;
-      };
-      are = o.starts_are;
-      costs = costs;
-    }

@@ -1,19 +1,9 @@
 -- The machine simulates the rules: it has their result, in at most as many statements as they weigh.
-use Rattle.std.proofs.Common.{◌≡◌, ℕ, suc, ◌+◌, ◌≤◌, List, [], ◌∷◌, length, Some, refl, ap, ◌∙◌, arith, subst}
-use Rattle.std.specs.Prelude.{sum_by, slice_get}
-use Rattle.std.proofs.lemmas.List.Sums.{sum_by-cons}
-use Rattle.rule_meaning.specs.declared.facts.Facts.{Facts}
-use Rattle.rule_meaning.specs.declared.event.Event.{Event}
+use Rattle.compiler.proofs.Names.{◌+◌, Continuation, Event, Facts, IsCode, IsRanking, IsStatementOf, List, Program, Remainder, RulesAt, RunResult, Runs, Some}
+use Rattle.compiler.proofs.Names.{StatementEffect, Stop, TableCode, [], accepts, action_effect, ap, apply_effect, arith, at_rule, chain_ends, continues, drops}
+use Rattle.compiler.proofs.Names.{enter_chain, exec, fails, give, goes, in_rule, jumps, jumps_away, length, next_rule, notes, passes, refl, returns, rule_ends}
+use Rattle.compiler.proofs.Names.{rule_no, slice_get, statement_position, subst, suc, sum_by, sum_by-cons, translates, with_verdict, ℕ, ◌∙◌, ◌∷◌, ◌≡◌, ◌≤◌}
 use Rattle.rule_meaning.specs.declared.event.RuleVerdict.TheVariants.{Jump, Goto}
-use Rattle.rule_meaning.specs.Statements.{StatementEffect, give}
-use Rattle.rule_meaning.specs.Runs.{Program, Remainder, at_rule, in_rule, RunResult, rule_no, statement_position, with_verdict, Runs, chain_ends}
-use Rattle.rule_meaning.specs.Runs.{next_rule, rule_ends, passes, fails, notes, accepts, drops, translates, continues, returns, jumps, jumps_away}
-use Rattle.rule_meaning.specs.Runs.{goes}
-use Rattle.rule_code.specs.declared.code.TableCode.{TableCode}
-use Rattle.filter_vm.specs.Machine.{Continuation, Stop, enter_chain, apply_effect, exec}
-use Rattle.rule_code.specs.Actions.{action_effect}
-use Rattle.code_layout.specs.CodeLayout.{RulesAt, IsCode}
-use Rattle.rule_laws.specs.Ranking.{IsStatementOf, IsRanking}
 use Rattle.compiler.proofs.DoesLaws.{Does, does-as, does-now, does-over, does-then, does-end, exec-step, calls, finish}
 use Rattle.compiler.proofs.LayoutLaws.{weighs, LeftIn, LeftAt, rules-in}
 

@@ -1,46 +1,26 @@
 -- Base chains, in the order of the text.
-use Rattle.std.proofs.Common.{◌≡◌, ℕ, ◌+◌, ◌<◌, ◌≤◌, add-one, Bool, List, [], ◌∷◌, ◌++◌, length, get_or, drop, map, Option, Some, None, refl, sym}
-use Rattle.std.proofs.Common.{ap, ◌∙◌, subst, ap₂, arith, append_assoc, ℤ, not, ◌&&◌, cond, Result, Ok, Err, Vec, Global, Bor, IfOk}
-use Rattle.std.specs.Prelude.{slice_get, slice_index, filter, All, int_lt, sum_by}
-use Rattle.std.specs.List.{zip}
-use Rattle.std.proofs.lemmas.List.{append-nil, map-append, drop_all, drop_more}
-use Rattle.std.proofs.lemmas.List.Elements.{All-nil, All-append, All-head, filter_agree}
-use Rattle.std.proofs.lemmas.List.Sums.{sum_by-cons, sum_by-append}
-use Rattle.std.proofs.lemmas.Option.{slice_get_within, get_or_from_slice_get}
+use Rattle.compiler.proofs.FewLaws.{part, table_part}
+use Rattle.compiler.proofs.Names.{◌&&◌, ◌+◌, ◌++◌, ◌<◌, AddsBases, All, All-append, All-head, All-nil, AreChainCosts, AreRulesetCosts, Bool, Bor, ChainTree}
+use Rattle.compiler.proofs.Names.{CompiledChain, Err, Global, HasCost, HeadTree, Hook, IfOk, IsPermutation, IsSortedByKey, IsStableByKey, List, MAX_COST, None}
+use Rattle.compiler.proofs.Names.{Ok, Option, Ordered, Result, Some, Start, TableTree, Vec, [], a_chain, add-one, ap, append-nil, append_assoc, ap₂, arith}
+use Rattle.compiler.proofs.Names.{base, base_chain_head, base_chain_of, base_chains_from, base_chains_of_tables, base_part, base_sum, chain_cost_by, chains_of}
+use Rattle.compiler.proofs.Names.{cost-at, costs-long, drop, drop_all, drop_more, filter, filter_agree, get_or, get_or_from_slice_get, int_lt, length, map}
+use Rattle.compiler.proofs.Names.{map-append, not, refl, ruleset_sum, runs_before, runs_on_hook, slice_get, slice_get_within, slice_index, start_head, subst}
+use Rattle.compiler.proofs.Names.{sum_by, sum_by-append, sum_by-cons, sym, ties, zip, ℕ, ℤ, ◌∙◌, ◌∷◌, ◌≡◌, ◌≤◌}
 use Rattle.std.proofs.lemmas.Fn.{always_returns_same}
 use Rattle.std.specs.Fn.{Called, ComputesKey}
-use Rattle.std.specs.List.Sorted.{IsPermutation, IsSortedByKey, IsStableByKey, ties}
 use Rattle.std.specs.Ordering.{is_lt, int_cmp}
 use Rattle.std.specs.declared.alloc.AllocError.{AllocError}
 use Rattle.list_laws.specs.Tests.{less_by}
 use denote.Param.Members.{Mut}
-use Rattle.nft_tree.specs.declared.chain.Hook.{Hook}
 use Rattle.nft_tree.specs.Priorities.{priority_number}
-use Rattle.nft_tree.specs.Tree.{HeadTree, ChainTree, TableTree}
-use Rattle.nft_tree.specs.TableItems.{chains_of}
-use Rattle.rule_paths.specs.Paths.{a_chain, MAX_COST}
-use Rattle.rule_paths.specs.Findings.{AreChainCosts}
-use Rattle.rule_paths.proofs.ReadLaws.{cost-at, costs-long}
-use Rattle.rule_laws.specs.Ranking as ranking
-use Rattle.rule_laws.specs.Ranking.{chain_cost_by}
 use Rattle.rule_meaning.specs.declared.event.ChainNo.{ChainNo}
-use Rattle.rule_meaning.specs.Hooks.{base_chain_of, base_chains_from, base_chains_of_tables, runs_before}
-use Rattle.rule_check.specs.Checked.{AreRulesetCosts, base_part, base_sum, ruleset_sum}
-use Rattle.filter_vm.specs.declared.code.Start.{Start}
-use Rattle.compiler.specs.Compiled.{start_head, base_chain_head}
-use Rattle.compiler.specs.declared.compiled_chain.CompiledChain.{CompiledChain}
-use Rattle.compiler.specs.steps.Bases.{base, runs_on_hook, AddsBases, HasCost, Ordered}
+use Rattle.rule_laws.specs.Ranking as ranking
 
 -- ---- what base chains cost
 
 abbrev pub cost_of : CompiledChain → ℕ
 cost_of b = b.cost
-
-abbrev part : ChainTree × ℕ → ℕ
-part p = base_part p.0.head p.1
-
-abbrev table_part : TableTree × List ℕ → ℕ
-table_part p = base_sum p.0 p.1
 
 -- the base chain has this number, and costs 1 more than this cost, which is below the limit
 abbrev pub Costs : ChainNo → ℕ → ChainNo → ℕ → Type 0
@@ -51,13 +31,11 @@ added_cost : (table place cost : ℕ) (head : Option HeadTree) (number : ChainNo
     → map base more ≡ base_chain_of table place head → All (λ (b : CompiledChain). Costs number cost b.number b.cost) more
     → sum_by cost_of more ≡ base_part head cost
 added_cost table place cost None number [] are all = refl
-added_cost table place cost None number (b ∷ more) are all = cc
-added_cost table place cost (Some head) number [] are all = cc
 added_cost table place cost (Some head) number (b ∷ []) are all =
     let is = All-head (λ (x : CompiledChain). Costs number cost x.number x.cost) b [] all in
     let its = is.1 in
     omega (arith, sum_by-cons cost_of b [])
-added_cost table place cost (Some head) number (b ∷ other ∷ more) are all = cc
+added_cost table place cost head number more are all = cc
 
 rest_from : {A : Type 0} (xs : List A) (i : ℕ) (x : A) → slice_get xs i ≡ Some x → drop i xs ≡ x ∷ drop (i + 1) xs
 rest_from xs i x is = drop_more xs i x (slice_get_within xs i x is)
@@ -132,16 +110,6 @@ module _ (table : ℕ) (t : TableTree) (costs : List ℕ) (old : List CompiledCh
             omega (arith, shown, its, h.1, h.2);
       }
 
-  -- all of them are
-  pub bases_all : (place : ℕ) (now : List CompiledChain) → length (chains_of t) ≤ place → BasesSoFar place now
-      → (map base now ≡ map base old ++ base_chains_from table 0 (chains_of t))
-      × (sum_by cost_of now ≡ sum_by cost_of old + base_sum t costs)
-  bases_all place now past so =
-      let none = drop_all place (chains_of t) past in (
-        sym (append-nil (map base now)) ∙ ap (λ cs. map base now ++ base_chains_from table place cs) (sym none) ∙ so.are,
-        omega (arith, so.sum, ap (λ cs. sum_by part (zip cs (drop place costs))) none),
-      )
-
 -- ---- the tables of a ruleset
 
 module _ (all : List TableTree) where
@@ -191,19 +159,6 @@ module _ (all : List TableTree) where
 
       split : drop place all ≡ t ∷ rest
       split = rest_from all place t is
-
-  pub table_bases_all : (place : ℕ) (now : List CompiledChain) → length all ≤ place → TableBasesSoFar place now
-      → (map base now ≡ base_chains_of_tables 0 all) × ((costs : List (List ℕ)) → AreRulesetCosts all costs
-      → sum_by cost_of now ≡ ruleset_sum all costs)
-  table_bases_all place now past so =
-      let none = drop_all place all past in (
-        sym (append-nil (map base now)) ∙ ap (λ ts. map base now ++ base_chains_of_tables place ts) (sym none) ∙ so.are,
-        λ costs are. omega (
-          arith,
-          so.sum costs are,
-          ap (λ ts. sum_by table_part (zip ts (drop place costs))) none,
-        ),
-      )
 
 -- ---- order
 

@@ -1,26 +1,13 @@
 -- The chains of a table, one after another, and the tables of a ruleset.
-use Rattle.std.proofs.Common.{◌≡◌, ℕ, zero, suc, ◌+◌, ◌-◌, ◌^◌, ◌<◌, ◌≤◌, ◌⊎◌, inl, inr, Bool, false, List, [], ◌∷◌, ◌++◌, length}
-use Rattle.std.proofs.Common.{map, take, Bor, Option, Some, Vec, Global, refl, sym, ap, ◌∙◌, subst, ⊎_elim, arith, length-append, take_all}
-use Rattle.std.specs.Prelude.{slice_get, min, sum_by, get_or}
-use Rattle.std.specs.Option.{option_map}
-use Rattle.std.specs.List.{list_any, filter_map, AllZip}
-use Rattle.std.proofs.lemmas.List.{take_more}
-use Rattle.std.proofs.lemmas.List.Sums.{sum_by_push}
+use Rattle.compiler.proofs.Names.{◌+◌, ◌++◌, ◌-◌, ◌<◌, AddsChain, AllZip, AreLeft, Bool, Bor, Chain, ChainTree, ExtendsCode, Global, IsTableCode, ItemTree}
+use Rattle.compiler.proofs.Names.{List, Option, PlantTree, RulesAt, Some, Statement, StatementsAt, TableCode, TableTree, Vec, [], ◌^◌, ap, arith, chain_in}
+use Rattle.compiler.proofs.Names.{chain_steps, chain_tree, chains_of, dropped_rules, extends_code_itself, extends_code_on, extends_itself, false, filter_map}
+use Rattle.compiler.proofs.Names.{get_or, get_or_from_slice_get, inl, inr, keeps_push, left_program, left_statements, length, length-append, list_any, map, min}
+use Rattle.compiler.proofs.Names.{none-some, option_map, or_parts, refl, rules_in, same_Some, slice_get, slice_get-map, slice_get-push, slice_get_read}
+use Rattle.compiler.proofs.Names.{slice_get_within, some_of_map, subst, suc, sum_by, sum_by_push, sym, table_program, take, take_all, take_more, zero, ℕ, ◌∙◌}
+use Rattle.compiler.proofs.Names.{◌∷◌, ◌≡◌, ◌≤◌, ◌⊎◌, ⊎_elim}
 use Rattle.std.proofs.lemmas.Slice.Zip.{all_zipped_more}
-use Rattle.std.proofs.lemmas.Bool.{or_parts}
-use Rattle.std.proofs.lemmas.Option.{slice_get_within, slice_get_read, slice_get-map, get_or_from_slice_get, none-some, same_Some}
-use Rattle.list_laws.specs.Options.{some_of_map}
 use Rattle.nft_tree.specs.Tree as tree
-use Rattle.nft_tree.specs.declared.chain.Chain.{Chain}
-use Rattle.nft_tree.specs.Tree.{Statement, ChainTree, ItemTree, TableTree, chain_tree}
-use Rattle.nft_tree.specs.TableItems.{chain_in, chains_of}
-use Rattle.box_file.specs.Box.{PlantTree}
-use Rattle.rule_meaning.specs.Runs.{table_program}
-use Rattle.rule_code.specs.declared.code.TableCode.{TableCode}
-use Rattle.code_layout.specs.DroppedRules.{AreLeft}
-use Rattle.code_layout.specs.CodeLayout.{StatementsAt, RulesAt, IsTableCode, rules_in, left_statements, left_program, chain_steps, dropped_rules}
-use Rattle.code_layout.specs.Adding.{ExtendsCode, AddsChain}
-use Rattle.code_layout.proofs.AddLaws.{keeps_push, slice_get-push, extends_itself, extends_code_itself, extends_code_on}
 
 -- ---- an element of a list
 

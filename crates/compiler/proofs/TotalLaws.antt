@@ -1,18 +1,8 @@
 -- The starts of all hooks together cost what all base chains cost.
-use Rattle.std.proofs.Common.{◌≡◌, ℕ, ◌+◌, Bool, true, false, cond, List, [], ◌∷◌, sym, ap, ◌∙◌, arith, sum, refl}
-use Rattle.std.specs.Prelude.{filter, sum_by}
-use Rattle.std.proofs.lemmas.List.Sums.{sum_by-cons, sum-map}
-use Rattle.std.proofs.lemmas.List.Sorted.{sum_by-IsPermutation}
-use Rattle.nft_tree.specs.declared.chain.Hook.{Hook}
-use Rattle.nft_tree.specs.declared.chain.Hook.TheVariants as hooks
-use Rattle.rule_meaning.specs.Hooks.{same_hook}
-use Rattle.filter_vm.specs.declared.code.Code.{Code}
-use Rattle.filter_vm.specs.declared.code.Start.{Start}
-use Rattle.filter_vm.specs.Machine.{starts_of}
-use Rattle.compiler.specs.declared.compiled_chain.CompiledChain.{CompiledChain}
-use Rattle.compiler.specs.Compiled.{total_cost}
-use Rattle.compiler.specs.steps.Bases.{runs_on_hook, Ordered}
+use Rattle.compiler.proofs.Names.{◌+◌, Bool, Code, CompiledChain, Hook, List, Ordered, Start, [], ap, arith, cond, false, filter, refl, runs_on_hook, same_hook}
+use Rattle.compiler.proofs.Names.{starts_of, sum, sum-map, sum_by, sum_by-IsPermutation, sum_by-cons, sym, total_cost, true, ℕ, ◌∙◌, ◌∷◌, ◌≡◌}
 use Rattle.compiler.proofs.StartLaws.{cost_of}
+use Rattle.nft_tree.specs.declared.chain.Hook.TheVariants as hooks
 
 -- what the base chains of a hook cost
 abbrev on_hook : Hook → List CompiledChain → ℕ

@@ -1,47 +1,47 @@
-use Rattle.std.proofs.Common.{◌≡◌, ◌≤◌, Some, length, ap, subst, Bor, arith}
-use Rattle.std.specs.Prelude.{slice_get, slice_index}
-use Rattle.std.proofs.lemmas.List.{length-map}
-use Rattle.nft_tree.specs.declared.chain.Chain.{Chain}
-use Rattle.nft_tree.specs.Tree.{ChainTree, chain_tree}
-use Rattle.nft_tree.specs.TableItems.{chains_of}
-use Rattle.rule_values.specs.Faults.{chain_out_of_range, item_out_of_range}
-use Rattle.rule_meaning.specs.Hooks.{base_chain_of}
-use Rattle.compiler.specs.steps.Bases.{AddsBases}
+use Rattle.compiler.proofs.Names.{append-nil, base, base_chains_from, drop, drop_all, map, sum_by, sym, zip, ◌++◌, ◌∙◌}
+use Rattle.compiler.proofs.Names.{Some, slice_get, ◌≡◌}
+use Rattle.compiler.proofs.Names.{AddsBases, Bor, Chain, ChainTree, ap, arith, base_chain_of, chain_out_of_range, chain_tree, chains_of, item_out_of_range}
+use Rattle.compiler.proofs.Names.{length, length-map, slice_index, subst, ◌≤◌}
 use Rattle.compiler.proofs.TableLaws.{chain_at, chain_free}
-use Rattle.compiler.proofs.StartLaws.{Costs, bases_more, bases_all}
+use Rattle.compiler.proofs.StartLaws.{Costs, bases_more}
+use Rattle.compiler.proofs.FewLaws.{part}
 use Rattle.compiler.proofs.starts.add_bases.Goals as goal
+use Rattle.compiler.proofs.starts.add_bases.Goals.{In_ok-to_u32}
 
 abbrev tree : Bor Chain → ChainTree
 tree b = chain_tree b.now
 
+at : (c : In_ok-to_u32) → slice_get (chains_of c.args.names.now) c.loop-place.place ≡ Some (tree c.chain-item.result)
+at c = chain_at c.chains-chain-items.result.now c.args.names.now c.loop-place.place c.chain-item.result
+    c.chains-chain-items.ensures.all c.loop-place-test.true c.chain-item.is
+
 pub add_base-requires-clause-bounds : goal.add_base-requires-clause-bounds
 add_base-requires-clause-bounds c =
-    let at = chain_at c.chains-chain-items.result.now c.args.names.now c.loop-place.place c.chain-item.result
-    c.chains-chain-items.ensures.all c.loop-place-test.true c.chain-item.is in
     chain_free item_out_of_range chain_out_of_range (λ x h. h) c.args.names.now.items c.loop-place.place
-    (tree c.chain-item.result) c.requires.bounds at
+    (tree c.chain-item.result) c.requires.bounds (at (goal.at.add_base-requires-clause-bounds c).In_ok-to_u32)
 
 pub add_base-requires-clause-small : goal.add_base-requires-clause-small
 add_base-requires-clause-small c = λ head is_base.
-    let at = chain_at c.chains-chain-items.result.now c.args.names.now c.loop-place.place c.chain-item.result
-    c.chains-chain-items.ensures.all c.loop-place-test.true c.chain-item.is in
-    c.requires.small c.loop-place.place (tree c.chain-item.result) head at is_base
+    c.requires.small c.loop-place.place (tree c.chain-item.result) head (at (goal.at.add_base-requires-clause-small c).In_ok-to_u32) is_base
 
 pub loop-place-preserved : goal.loop-place-preserved
 loop-place-preserved c =
-    let at = chain_at c.chains-chain-items.result.now c.args.names.now c.loop-place.place c.chain-item.result
-    c.chains-chain-items.ensures.all c.loop-place-test.true c.chain-item.is in
     let added = subst (λ n. AddsBases (base_chain_of c.args.table n (tree c.chain-item.result).head)
     (Costs (record { table = c.args.table; chain = n }) (slice_index c.args.costs.now c.loop-place.place))
     c.loop-place.bases.items c.add_base.new.bases.items) c.in_ok-to_u32.ensures c.in_ok-add_base.ensures in
     bases_more c.args.table c.args.names.now c.args.costs.now _ c.loop-place.place (tree c.chain-item.result)
-    c.loop-place.bases.items c.add_base.new.bases.items c.requires.costs at added c.loop-place.invariant
+    c.loop-place.bases.items c.add_base.new.bases.items c.requires.costs (at (goal.at.loop-place-preserved c).In_ok-to_u32) added c.loop-place.invariant
 
 pub returns : goal.returns
 returns c =
+    let so = c.loop-place.invariant in
     let long = ap length c.chains-chain-items.ensures.all in
     let same = length-map c.chains-chain-items.result.now tree in
     let past : length (chains_of c.args.names.now) ≤ c.loop-place.place = omega arith in
-    let all = bases_all c.args.table c.args.names.now c.args.costs.now _ c.loop-place.place c.loop-place.bases.items past
-    c.loop-place.invariant in
-    record { bases = all.0; costs = c.loop-place.invariant.costed; sum = all.1 }
+    let none = drop_all c.loop-place.place (chains_of c.args.names.now) past in
+    record {
+      bases = sym (append-nil (map base c.loop-place.bases.items))
+          ∙ ap (λ cs. map base c.loop-place.bases.items ++ base_chains_from c.args.table c.loop-place.place cs) (sym none) ∙ so.are;
+      costs = so.costed;
+      sum = omega (arith, so.sum, ap (λ cs. sum_by part (zip cs (drop c.loop-place.place c.args.costs.now))) none);
+    }

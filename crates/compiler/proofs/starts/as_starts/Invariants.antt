@@ -1,6 +1,4 @@
-use Rattle.std.proofs.Common.{◌≡◌, map, take}
-use Rattle.compiler.specs.Compiled.{start_head, base_chain_head}
-use Rattle.compiler.specs.steps.Bases.{base}
+use Rattle.compiler.proofs.Names.{base, base_chain_head, map, start_head, take, ◌≡◌}
 use Rattle.compiler.proofs.starts.as_starts.Given as goal
 
 abbrev pub invariant-loop-base : goal.invariant-loop-base

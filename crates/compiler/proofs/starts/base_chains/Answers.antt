@@ -1,51 +1,51 @@
-use Rattle.std.proofs.Common.{◌≡◌, ◌≤◌, Some, length, ap, refl, subst, arith}
-use Rattle.std.specs.Prelude.{slice_get}
-use Rattle.std.proofs.lemmas.Option.{slice_get_read}
-use Rattle.rule_paths.proofs.ReadLaws.{costs-long}
-use Rattle.compiler.proofs.StartLaws.{table_bases_none, table_bases_more, table_bases_all}
+use Rattle.compiler.proofs.Names.{append-nil, base, base_chains_of_tables, drop, drop_all, map, sum_by, sym, zip, ◌++◌, ◌∙◌}
+use Rattle.compiler.proofs.Names.{Some, ap, arith, costs-long, length, refl, slice_get, slice_get_read, subst, ◌≡◌, ◌≤◌}
+use Rattle.compiler.proofs.StartLaws.{table_bases_none, table_bases_more}
+use Rattle.compiler.proofs.FewLaws.{table_part}
 use Rattle.compiler.proofs.starts.base_chains.Goals as goal
+use Rattle.compiler.proofs.starts.base_chains.Goals.{In_ok-to_u32}
+
+at : (c : In_ok-to_u32) → slice_get c.args.checked.now.rules c.loop-table.table ≡ Some c.index-names-table.result
+at c = subst (λ ts. slice_get ts c.loop-table.table ≡ Some c.index-names-table.result) c.requires.names
+    (slice_get_read c.args.names.now (length c.args.names.now) c.loop-table.table c.index-names-table.result refl
+    c.loop-table-test.true c.index-names-table.is)
 
 pub loop-table-init : goal.loop-table-init
 loop-table-init c = table_bases_none c.args.checked.now.rules _ c.new-bases.ensures.items
 
 pub add_bases-requires-clause-long : goal.add_bases-requires-clause-long
-add_bases-requires-clause-long c =
-    let t = c.index-names-table.result in
-    let at = subst (λ ts. slice_get ts c.loop-table.table ≡ Some t) c.requires.names
-    (slice_get_read c.args.names.now (length c.args.names.now) c.loop-table.table t refl
-    c.loop-table-test.true c.index-names-table.is) in
-    costs-long t c.costs.result.now (c.costs.ensures.costs t at)
+add_bases-requires-clause-long c = costs-long c.index-names-table.result c.costs.result.now
+    (c.costs.ensures.costs c.index-names-table.result (at (goal.at.add_bases-requires-clause-long c).In_ok-to_u32))
 
 pub add_bases-requires-clause-costs : goal.add_bases-requires-clause-costs
 add_bases-requires-clause-costs c =
-    let t = c.index-names-table.result in
-    c.costs.ensures.costs t (subst (λ ts. slice_get ts c.loop-table.table ≡ Some t) c.requires.names
-    (slice_get_read c.args.names.now (length c.args.names.now) c.loop-table.table t refl
-    c.loop-table-test.true c.index-names-table.is))
+    c.costs.ensures.costs c.index-names-table.result (at (goal.at.add_bases-requires-clause-costs c).In_ok-to_u32)
 
 pub add_bases-requires-clause-small : goal.add_bases-requires-clause-small
-add_bases-requires-clause-small c =
-    let t = c.index-names-table.result in
-    let at = subst (λ ts. slice_get ts c.loop-table.table ≡ Some t) c.requires.names
-    (slice_get_read c.args.names.now (length c.args.names.now) c.loop-table.table t refl
-    c.loop-table-test.true c.index-names-table.is) in
-    λ j chain head. c.costs.ensures.base t j chain head at
+add_bases-requires-clause-small c = λ j chain head.
+    c.costs.ensures.base c.index-names-table.result j chain head (at (goal.at.add_bases-requires-clause-small c).In_ok-to_u32)
 
 pub loop-table-preserved : goal.loop-table-preserved
 loop-table-preserved c =
-    let t = c.index-names-table.result in
-    let at = subst (λ ts. slice_get ts c.loop-table.table ≡ Some t) c.requires.names
-    (slice_get_read c.args.names.now (length c.args.names.now) c.loop-table.table t refl
-    c.loop-table-test.true c.index-names-table.is) in
+    let is = at (goal.at.loop-table-preserved c).In_ok-to_u32 in
     let added = rw c.in_ok-to_u32.ensures at c.in_ok-add_bases.ensures in
-    table_bases_more c.args.checked.now.rules c.loop-table.table t c.costs.result.now c.loop-table.bases.items
-    c.add_bases.new.bases.items at c.costs.ensures.same added.bases
-    (added.costs c.args.checked.now.rules at) added.sum c.loop-table.invariant
+    table_bases_more c.args.checked.now.rules c.loop-table.table c.index-names-table.result c.costs.result.now
+    c.loop-table.bases.items c.add_bases.new.bases.items is c.costs.ensures.same added.bases
+    (added.costs c.args.checked.now.rules is) added.sum c.loop-table.invariant
 
 pub returns : goal.returns
 returns c =
+    let so = c.loop-table.invariant in
     let same = ap length c.requires.names in
     let past : length c.args.checked.now.rules ≤ c.loop-table.table = omega arith in
-    let all = table_bases_all c.args.checked.now.rules c.loop-table.table c.loop-table.bases.items past
-    c.loop-table.invariant in
-    record { bases = all.0; costs = c.loop-table.invariant.costed; sum = all.1 }
+    let none = drop_all c.loop-table.table c.args.checked.now.rules past in
+    record {
+      bases = sym (append-nil (map base c.loop-table.bases.items))
+          ∙ ap (λ ts. map base c.loop-table.bases.items ++ base_chains_of_tables c.loop-table.table ts) (sym none) ∙ so.are;
+      costs = so.costed;
+      sum = λ costs are. omega (
+        arith,
+        so.sum costs are,
+        ap (λ ts. sum_by table_part (zip ts (drop c.loop-table.table costs))) none,
+      );
+    }

@@ -1,6 +1,4 @@
-use Rattle.std.proofs.Common.{◌≡◌, take}
-use Rattle.std.specs.Prelude.{filter}
-use Rattle.compiler.specs.steps.Bases.{runs_on_hook}
+use Rattle.compiler.proofs.Names.{filter, runs_on_hook, take, ◌≡◌}
 use Rattle.compiler.proofs.starts.chains_on_hook.Given as goal
 
 abbrev pub invariant-loop-base : goal.invariant-loop-base

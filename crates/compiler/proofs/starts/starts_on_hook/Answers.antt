@@ -1,8 +1,4 @@
-use Rattle.std.proofs.Common.{◌≡◌, subst, map, rules, List, IfOk}
-use Rattle.filter_vm.specs.declared.code.Start.{Start}
-use Rattle.compiler.specs.declared.compiled_chain.CompiledChain.{CompiledChain}
-use Rattle.compiler.specs.Compiled.{start_head, base_chain_head}
-use Rattle.compiler.specs.steps.Bases.{base}
+use Rattle.compiler.proofs.Names.{CompiledChain, IfOk, List, Start, base, base_chain_head, map, rules, start_head, subst, ◌≡◌}
 use Rattle.compiler.proofs.StartLaws.{key, keys_always, ordered_of}
 use Rattle.compiler.proofs.starts.starts_on_hook.Goals as goal
 

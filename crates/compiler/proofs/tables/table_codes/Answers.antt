@@ -1,14 +1,6 @@
-use borrow.Author.Count.{below_more}
-use Rattle.std.proofs.Common.{◌≡◌, ◌+◌, ◌∷◌, ◌++◌, [], ◌∙◌, Some, length, length-append, refl, sym, ap, subst, arith}
-use Rattle.std.specs.Prelude.{slice_get}
-use Rattle.std.proofs.lemmas.Bool.{or_parts}
-use Rattle.std.proofs.lemmas.Option.{slice_get_read, slice_get_within}
-use Rattle.list_laws.specs.Options.{some_unique}
-use Rattle.nft_tree.specs.Tree.{TableTree}
-use Rattle.rule_types.specs.Types.{table_mismatches}
-use Rattle.rule_values.specs.Faults.{has_wrong_value}
-use Rattle.code_layout.specs.CodeLayout.{IsTableCode}
-use Rattle.code_layout.proofs.AddLaws.{keeps_push, slice_get-push}
+use Rattle.compiler.proofs.Names.{◌+◌, ◌++◌, IsTableCode, Some, TableTree, [], ap, arith, below_more, has_wrong_value, keeps_push, length, length-append}
+use Rattle.compiler.proofs.Names.{or_parts, refl, slice_get, slice_get-push, slice_get_read, slice_get_within, some_unique, subst, sym, table_mismatches, ◌∙◌}
+use Rattle.compiler.proofs.Names.{◌∷◌, ◌≡◌}
 use Rattle.compiler.proofs.TableLaws.{HasCode, none_at}
 use Rattle.compiler.proofs.tables.table_codes.Goals as goal
 

@@ -1,6 +1,4 @@
-use Rattle.std.proofs.Common.{◌≡◌, ◌<◌, ℕ, Some, length}
-use Rattle.std.specs.Prelude.{slice_get}
-use Rattle.nft_tree.specs.Tree.{TableTree}
+use Rattle.compiler.proofs.Names.{◌<◌, Some, TableTree, length, slice_get, ℕ, ◌≡◌}
 use Rattle.compiler.proofs.TableLaws.{HasCode}
 use Rattle.compiler.proofs.tables.table_codes.Given as goal
 
