@@ -1,11 +1,7 @@
 -- Starts that have the heads and costs of base chains: each is that of one of them.
-use Rattle.compiler.proofs.Names.{AgreesWithRules, All, All-filter, All-head, All-permutation, All-tail, AreAllCosts, AreChainDepths, AreCosts, AreRulesetCosts}
-use Rattle.compiler.proofs.Names.{AreRulesetDepths, BaseChain, Caller, CheckedTree, Code, CompiledChain, Contains, Contains-cases, Event, Facts, HasCost, Hook}
-use Rattle.compiler.proofs.Names.{HookResult, IsRanking, List, RunsBaseChain, Some, Start, TableTree, [], ap, ap₂, arith, base, base_chain_head, base_chains_of}
-use Rattle.compiler.proofs.Names.{chain_cost_by, cost_in, filter, get_or, get_or_from_slice_get, map, refl, runs_on_hook, slice_get, slice_get_within}
-use Rattle.compiler.proofs.Names.{slice_index, start_cost, start_head, starts_of, subst, sym, table_program, weight_by, ℕ, ◌∙◌, ◌∷◌, ◌≡◌, ◌≤◌, ⊎_elim}
-use Rattle.compiler.specs.steps.RulesetCode.{IsRulesetCode}
-use Rattle.compiler.proofs.BaseLaws.{agrees}
+use Rattle.compiler.proofs.Names.{All, All-head, All-tail, AreAllCosts, Caller, CompiledChain, Contains, Contains-cases, HasCost, List, Start, TableTree, []}
+use Rattle.compiler.proofs.Names.{ap, ap₂, arith, base, base_chain_head, cost_in, get_or_from_slice_get, map, refl, slice_get_within, start_cost, start_head}
+use Rattle.compiler.proofs.Names.{sym, ℕ, ◌∙◌, ◌∷◌, ◌≡◌, ⊎_elim}
 
 module _ (tables : List TableTree) where
   abbrev pub IsCosted : CompiledChain → Type 0

@@ -1,9 +1,8 @@
 -- A base chain: the machine's result is the one that its rules have.
-use Rattle.compiler.proofs.Names.{any_facts}
-use Rattle.compiler.proofs.Names.{◌+◌, ◌-◌, BaseChain, Code, Event, Facts, HookResult, IsRanking, IsTableCode, List, PlantTree, RunResult, Runs, RunsBaseChain}
-use Rattle.compiler.proofs.Names.{Some, Start, StartHead, Statement, Stop, TableCode, TableTree, [], ap, arith, at_rule, base_chain_head, base_chain_result}
-use Rattle.compiler.proofs.Names.{enter_chain, exec, left_program, policy_of, run_table, slice_get, some_unique, start_head, subst, sum_by, sym, table_program}
-use Rattle.compiler.proofs.Names.{with_policy, ℕ, ◌↔◌, ◌∙◌, ◌≡◌, ◌≤◌}
+use Rattle.compiler.proofs.Names.{◌+◌, ◌-◌, BaseChain, Code, Event, Facts, HookResult, IsRanking, IsTableCode, List, PlantTree, Runs, RunsBaseChain, Some}
+use Rattle.compiler.proofs.Names.{Start, StartHead, Statement, Stop, TableCode, TableTree, [], any_facts, ap, arith, at_rule, base_chain_head}
+use Rattle.compiler.proofs.Names.{base_chain_result, enter_chain, exec, left_program, policy_of, run_table, slice_get, some_unique, start_head, subst, sym}
+use Rattle.compiler.proofs.Names.{table_program, with_policy, ℕ, ◌↔◌, ◌∙◌, ◌≡◌, ◌≤◌}
 use Rattle.compiler.proofs.DoesLaws.{finish-last}
 use Rattle.compiler.proofs.LayoutLaws.{rules-in}
 use Rattle.compiler.proofs.DroppingLaws.{stays, left-ranking}

@@ -1,10 +1,10 @@
 -- Rules that never match can be left out: a chain without them has the results that it has with them, and is
 -- ranked as before.
 use Rattle.compiler.proofs.Names.{◌+◌, Contains, Contains-cases, Contains-head, Contains-tail, Event, Facts, IsRanking, IsStatementOf, LeadsTo, LeavesOut}
-use Rattle.compiler.proofs.Names.{LeavesOutOf, List, NeverMatches, Option, Program, Remainder, RunResult, Runs, Some, StatementEffect, [], accepts, any_facts}
-use Rattle.compiler.proofs.Names.{ap, arith, at_end, at_rule, behind, chain_ends, continues, drops, fail, fails, give, goes, goes_on, in_rule, inl, inr, jumps}
-use Rattle.compiler.proofs.Names.{jumps_away, next_rule, note, notes, pass, passes, refl, returns, rule_ends, statement_position, subst, sum_by, sum_by-cons}
-use Rattle.compiler.proofs.Names.{sym, translates, ℕ, ◌∙◌, ◌∷◌, ◌≡◌, ◌≤◌, ⊎_elim}
+use Rattle.compiler.proofs.Names.{LeavesOutOf, List, NeverMatches, Option, Program, Remainder, RunResult, Runs, StatementEffect, [], accepts, any_facts, ap}
+use Rattle.compiler.proofs.Names.{arith, at_end, at_rule, behind, chain_ends, continues, drops, fail, fails, goes, goes_on, in_rule, inl, inr, jumps}
+use Rattle.compiler.proofs.Names.{jumps_away, next_rule, notes, passes, refl, returns, rule_ends, statement_position, subst, sum_by, sum_by-cons, sym}
+use Rattle.compiler.proofs.Names.{translates, ℕ, ◌∙◌, ◌∷◌, ◌≡◌, ◌≤◌, ⊎_elim}
 
 module _ {S : Type 0} (p : Program S) (left_at : ℕ → Option (List (List S))) where
   -- the program that is left

@@ -1,7 +1,7 @@
 -- Numbers that stop at 2^64 - 1 are the costs themselves where all together are few.
-use Rattle.compiler.proofs.Names.{◌+◌, AreAllCosts, AreChainCosts, AreCosts, Caller, ChainTree, HeadTree, List, None, Option, Some, TableTree, Text, [], a_chain, ap}
-use Rattle.compiler.proofs.Names.{ap₂, arith, base_cost, base_part, base_sum, chains_of, get_or, length, map, refl, ruleset_cost, ruleset_sum, slice_get, subst}
-use Rattle.compiler.proofs.Names.{suc, sum_by, sum_by-cons, sym, table_cost, zip, ℕ, ◌∙◌, ◌∷◌, ◌≡◌, ◌≤◌}
+use Rattle.compiler.proofs.Names.{◌+◌, AreAllCosts, AreChainCosts, Caller, ChainTree, HeadTree, List, None, Option, Some, TableTree, Text, [], a_chain, ap, ap₂}
+use Rattle.compiler.proofs.Names.{arith, base_cost, base_part, base_sum, chains_of, get_or, length, map, refl, ruleset_cost, ruleset_sum, slice_get, subst, suc}
+use Rattle.compiler.proofs.Names.{sum_by, sum_by-cons, sym, table_cost, zip, ℕ, ◌∙◌, ◌∷◌, ◌≡◌, ◌≤◌}
 use Rattle.chain_graph.specs.Measures.{saturated}
 
 part_is : (cost : Caller → ℕ) (name : Text) (head : Option HeadTree)

@@ -4,7 +4,7 @@ pub use Rattle.code_layout.proofs.AddLaws.{declared_kept, extends_code_itself, e
 pub use Rattle.code_layout.specs.Adding.{AddsChain, ExtendsCode, rule_out_of_range}
 pub use Rattle.code_layout.specs.CodeLayout.{IsCode, IsTableCode, RulesAt, StatementsAt, chain_steps, dropped_rules, left_program, left_statements, rules_in}
 pub use Rattle.code_layout.specs.DroppedRules.{AreLeft, IsDropped, IsLeft, IsShadowed, always_ends, ends_chain, lists, merged_selector, rule_at}
-pub use Rattle.compiler.specs.Compiled.{AgreesWithRules, HasStarts, StartHead, base_chain_head, cost_in, start_cost, start_head, total_cost}
+pub use Rattle.compiler.specs.Compiled.{StartHead, base_chain_head, cost_in, start_cost, start_head, total_cost}
 pub use Rattle.compiler.specs.declared.compiled_chain.CompiledChain.{CompiledChain}
 pub use Rattle.compiler.specs.steps.Bases.{AddsBases, HasCost, Ordered, base, runs_on_hook}
 pub use Rattle.compiler.specs.steps.Dropping.{LeadsTo, LeavesOut, LeavesOutOf, NeverMatches, any_facts, behind, goes_on}
@@ -19,7 +19,7 @@ pub use Rattle.nft_tree.specs.TableItems.{chain_in, chains_of}
 pub use Rattle.nft_tree.specs.Tree.{ChainTree, HeadTree, ItemTree, MatchTree, Statement, TableTree, Text, VerdictTree, chain_tree, tables_of}
 pub use Rattle.nft_tree.specs.declared.chain.Chain.{Chain}
 pub use Rattle.nft_tree.specs.declared.chain.Hook.{Hook}
-pub use Rattle.rule_check.specs.Checked.{AreRulesetCosts, AreRulesetDepths, CheckedTree, base_part, base_sum, ruleset_sum}
+pub use Rattle.rule_check.specs.Checked.{AreRulesetCosts, base_part, base_sum, ruleset_sum}
 pub use Rattle.rule_code.specs.Actions.{action_effect, statement_at}
 pub use Rattle.rule_code.specs.declared.code.TableCode.{TableCode}
 pub use Rattle.rule_laws.specs.Ranking.{IsRanking, IsStatementOf, chain_cost_by, weight_by}
@@ -28,17 +28,17 @@ pub use Rattle.rule_meaning.specs.Hooks.{is_on_hook, policy_of, priority, runs_b
 pub use Rattle.rule_meaning.specs.Runs.{IsTerminal, Program, Remainder, RunResult, Runs, accepts, at_end, at_rule, chain_ends, continues, drops, fails, goes}
 pub use Rattle.rule_meaning.specs.Runs.{in_rule, jumps, jumps_away, next_rule, notes, over, passes, returns, rule_ends, rule_no, statement_position}
 pub use Rattle.rule_meaning.specs.Runs.{table_program, translates, with_verdict}
-pub use Rattle.rule_meaning.specs.Statements.{StatementEffect, fail, give, note, pass, passes_if}
+pub use Rattle.rule_meaning.specs.Statements.{StatementEffect, fail, give, passes_if}
 pub use Rattle.rule_meaning.specs.declared.event.Event.{Event}
 pub use Rattle.rule_meaning.specs.declared.facts.Facts.{Facts}
 pub use Rattle.rule_paths.proofs.ReadLaws.{cost-at, costs-long}
-pub use Rattle.rule_paths.specs.Findings.{AreChainCosts, AreChainDepths}
-pub use Rattle.rule_paths.specs.Paths.{AreAllCosts, AreCosts, Caller, MAX_COST, a_chain, base_cost, ruleset_cost, table_cost}
+pub use Rattle.rule_paths.specs.Findings.{AreChainCosts}
+pub use Rattle.rule_paths.specs.Paths.{AreAllCosts, Caller, MAX_COST, a_chain, base_cost, ruleset_cost, table_cost}
 pub use Rattle.rule_types.specs.Types.{item_mismatches, rule_mismatches, table_mismatches}
 pub use Rattle.rule_values.specs.Faults.{chain_out_of_range, has_wrong_value, if_some, item_out_of_range, priority_out_of_range}
-pub use Rattle.std.proofs.Common.{◌&&◌, ◌*◌, ◌+◌, ◌++◌, ◌-◌, ◌<◌, Bool, Bor, Equal, Err, Global, Greater, IfOk, Less, List, None, Ok, Option, Result, Some, Vec}
-pub use Rattle.std.proofs.Common.{[], ◌^◌, add-one, ap, append_assoc, ap₂, arith, cond, drop, false, get_or, if◌then◌else◌, inl, inr, length, length-append}
-pub use Rattle.std.proofs.Common.{map, not, refl, rules, subst, suc, sum, sym, take, take_all, true, zero, ℕ, ℤ, ◌↔◌, ◌∙◌, ◌∷◌, ◌≡◌, ◌≤◌, ◌⊎◌, ⊎_elim}
+pub use Rattle.std.proofs.Common.{◌&&◌, ◌*◌, ◌+◌, ◌++◌, ◌-◌, ◌<◌, Bool, Bor, Equal, Global, Greater, Less, List, None, Option, Some, Vec, [], ◌^◌, add-one, ap}
+pub use Rattle.std.proofs.Common.{append_assoc, ap₂, arith, cond, drop, false, get_or, if◌then◌else◌, inl, inr, length, length-append, map, not, refl, rules}
+pub use Rattle.std.proofs.Common.{subst, suc, sum, sym, take, take_all, true, zero, ℕ, ℤ, ◌↔◌, ◌∙◌, ◌∷◌, ◌≡◌, ◌≤◌, ◌⊎◌, ⊎_elim}
 pub use Rattle.std.proofs.lemmas.Bool.{cases_lt, false_from_ne_true, false≢true, or_parts}
 pub use Rattle.std.proofs.lemmas.List.{append-nil, drop_all, drop_more, get_or-map, length-map, map-append, take_more}
 pub use Rattle.std.proofs.lemmas.List.Elements.{All-append, All-filter, All-head, All-nil, All-tail, filter_agree}
@@ -47,7 +47,7 @@ pub use Rattle.std.proofs.lemmas.List.Sums.{sum-map, sum_by-append, sum_by-cons,
 pub use Rattle.std.proofs.lemmas.Option.{MatchOption-at_none, MatchOption-at_some, get_or_from_slice_get, none-some, same_Some, slice_get-map, slice_get_read}
 pub use Rattle.std.proofs.lemmas.Option.{slice_get_within}
 pub use Rattle.std.specs.List.{AllByRecursion, AllZip, filter_map, list_any, zip}
-pub use Rattle.std.specs.List.Sorted.{IsPermutation, IsSortedBy, IsSortedByKey, IsStableBy, IsStableByKey, ties}
+pub use Rattle.std.specs.List.Sorted.{IsPermutation, IsSortedBy, IsStableBy, ties}
 pub use Rattle.std.specs.Option.{option_map}
 pub use Rattle.std.specs.Prelude.{All, Contains, filter, int_lt, min, nat_lt, slice_get, slice_index, sum_by}
 pub use borrow.Author.Count.{below_more}

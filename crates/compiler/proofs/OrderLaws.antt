@@ -1,8 +1,7 @@
 -- The starts of a hook are its base chains, in order of priority and of text.
-use Rattle.compiler.proofs.Names.{◌&&◌, ◌+◌, AreAllCosts, BaseChain, Bool, Caller, CompiledChain, Equal, Greater, HasStarts, Hook, IsPermutation, IsSortedBy}
-use Rattle.compiler.proofs.Names.{IsStableBy, Less, List, Ordered, Start, TableTree, [], ap, ap₂, arith, base, base_chains_of, cond, false, false≢true, filter}
-use Rattle.compiler.proofs.Names.{filter_agree, get_or-map, int_lt, is_on_hook, length-map, list_any, list_any-IsPermutation, map, not, or_parts, priority}
-use Rattle.compiler.proofs.Names.{refl, runs_before, runs_on_hook, start_cost, sym, ties, true, ℕ, ℤ, ◌∙◌, ◌∷◌, ◌≡◌}
+use Rattle.compiler.proofs.Names.{◌&&◌, ◌+◌, BaseChain, Bool, CompiledChain, Equal, Greater, IsPermutation, IsSortedBy, IsStableBy, Less, List, [], ap, ap₂}
+use Rattle.compiler.proofs.Names.{arith, base, cond, false, false≢true, filter, filter_agree, get_or-map, int_lt, length-map, list_any, list_any-IsPermutation}
+use Rattle.compiler.proofs.Names.{map, not, or_parts, priority, refl, runs_before, sym, ties, true, ℤ, ◌∙◌, ◌∷◌, ◌≡◌}
 use Rattle.std.proofs.lemmas.Cmp.{int_ranked}
 use Rattle.std.proofs.lemmas.List.Folds.{Any-from_list_any}
 

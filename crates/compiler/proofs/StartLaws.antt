@@ -1,16 +1,14 @@
 -- Base chains, in the order of the text.
-use Rattle.compiler.proofs.FewLaws.{part, table_part}
 use Rattle.compiler.proofs.Names.{◌&&◌, ◌+◌, ◌++◌, ◌<◌, AddsBases, All, All-append, All-head, All-nil, AreChainCosts, AreRulesetCosts, Bool, Bor, ChainTree}
-use Rattle.compiler.proofs.Names.{CompiledChain, Err, Global, HasCost, HeadTree, Hook, IfOk, IsPermutation, IsSortedByKey, IsStableByKey, List, MAX_COST, None}
-use Rattle.compiler.proofs.Names.{Ok, Option, Ordered, Result, Some, Start, TableTree, Vec, [], a_chain, add-one, ap, append-nil, append_assoc, ap₂, arith}
-use Rattle.compiler.proofs.Names.{base, base_chain_head, base_chain_of, base_chains_from, base_chains_of_tables, base_part, base_sum, chain_cost_by, chains_of}
-use Rattle.compiler.proofs.Names.{cost-at, costs-long, drop, drop_all, drop_more, filter, filter_agree, get_or, get_or_from_slice_get, int_lt, length, map}
-use Rattle.compiler.proofs.Names.{map-append, not, refl, ruleset_sum, runs_before, runs_on_hook, slice_get, slice_get_within, slice_index, start_head, subst}
-use Rattle.compiler.proofs.Names.{sum_by, sum_by-append, sum_by-cons, sym, ties, zip, ℕ, ℤ, ◌∙◌, ◌∷◌, ◌≡◌, ◌≤◌}
+use Rattle.compiler.proofs.Names.{CompiledChain, HasCost, HeadTree, List, MAX_COST, None, Option, Some, TableTree, [], a_chain, add-one, ap, append_assoc, ap₂}
+use Rattle.compiler.proofs.Names.{arith, base, base_chain_of, base_chains_from, base_chains_of_tables, base_part, base_sum, chain_cost_by, chains_of, cost-at}
+use Rattle.compiler.proofs.Names.{costs-long, drop, drop_more, get_or, get_or_from_slice_get, int_lt, length, map, map-append, not, refl, ruleset_sum}
+use Rattle.compiler.proofs.Names.{runs_before, slice_get, slice_get_within, slice_index, subst, sum_by, sum_by-append, sum_by-cons, sym, ties, zip, ℕ, ℤ, ◌∙◌}
+use Rattle.compiler.proofs.Names.{◌∷◌, ◌≡◌}
+use Rattle.compiler.proofs.FewLaws.{part, table_part}
 use Rattle.std.proofs.lemmas.Fn.{always_returns_same}
 use Rattle.std.specs.Fn.{Called, ComputesKey}
 use Rattle.std.specs.Ordering.{is_lt, int_cmp}
-use Rattle.std.specs.declared.alloc.AllocError.{AllocError}
 use Rattle.list_laws.specs.Tests.{less_by}
 use denote.Param.Members.{Mut}
 use Rattle.nft_tree.specs.Priorities.{priority_number}
@@ -166,36 +164,17 @@ module _ (all : List TableTree) where
 abbrev pub key : CompiledChain → ℤ
 key b = priority_number b.head.now.priority
 
-lt_is : (x y : CompiledChain) → is_lt (int_cmp (key x) (key y)) ≡ runs_before (base x) (base y)
+pub lt_is : (x y : CompiledChain) → is_lt (int_cmp (key x) (key y)) ≡ runs_before (base x) (base y)
 lt_is x y = less_by (int_lt (key x) (key y)) (int_lt (key y) (key x))
 
-abbrev by_key : CompiledChain → CompiledChain → Bool
+abbrev pub by_key : CompiledChain → CompiledChain → Bool
 by_key x y = is_lt (int_cmp (key x) (key y))
 
-abbrev by_priority : CompiledChain → CompiledChain → Bool
+abbrev pub by_priority : CompiledChain → CompiledChain → Bool
 by_priority x y = runs_before (base x) (base y)
 
-ties_alike : (x y : CompiledChain) → ties by_key x y ≡ ties by_priority x y
+pub ties_alike : (x y : CompiledChain) → ties by_key x y ≡ ties by_priority x y
 ties_alike x y = ap₂ (λ a b. not a && not b) (lt_is x y) (lt_is y x)
-
-pub ordered_of : (hook : Hook) (bases on_hook order : List CompiledChain)
-    → on_hook ≡ filter (runs_on_hook hook) bases → IsPermutation on_hook order
-    → IsSortedByKey key int_cmp order → IsStableByKey key int_cmp on_hook order
-    → (r : Result (Vec Start Global) AllocError) → IfOk r
-    (λ starts. map start_head starts.items ≡ map base_chain_head (map base order))
-    → IfOk r (λ starts. map (λ s. s.cost) starts.items ≡ map (λ b. b.cost) order)
-    → IfOk r (λ starts. Ordered hook bases starts.items)
-ordered_of hook bases on_hook order is moved rising stable (Err e) starts costs = tt
-ordered_of hook bases on_hook order is moved rising stable (Ok v) starts costs = record {
-  order = order;
-  moved = subst (λ xs. IsPermutation xs order) is moved;
-  rising = λ k d low high. sym (lt_is (get_or order (k + 1) d) (get_or order k d)) ∙ rising k d low high;
-  stable = λ x. sym (filter_agree (ties by_key x) (ties by_priority x) (ties_alike x) order) ∙ stable x
-      ∙ filter_agree (ties by_key x) (ties by_priority x) (ties_alike x) on_hook
-      ∙ ap (filter (ties by_priority x)) is;
-  starts_are = starts;
-  costs_are = costs;
-}
 
 -- a call of the key's closure gives the priority
 pub keys_always : {F : Type 0} (g : Mut F (Bor CompiledChain × Unit {0}) ℤ) (f : F)

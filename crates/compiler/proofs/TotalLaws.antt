@@ -8,12 +8,6 @@ use Rattle.nft_tree.specs.declared.chain.Hook.TheVariants as hooks
 abbrev on_hook : Hook → List CompiledChain → ℕ
 on_hook hook bases = sum_by cost_of (filter (runs_on_hook hook) bases)
 
-started : (hook : Hook) (bases : List CompiledChain) (starts : List Start) → Ordered hook bases starts
-    → sum_by (λ s. s.cost) starts ≡ on_hook hook bases
-started hook bases starts o =
-    sym (sum-map (λ (s : Start). s.cost) starts) ∙ ap sum o.costs_are ∙ sum-map cost_of o.order
-    ∙ sum_by-IsPermutation cost_of (filter (runs_on_hook hook) bases) o.order o.moved
-
 one_hook : (b : Bool) (x : CompiledChain) (xs : List CompiledChain)
     → sum_by cost_of (cond b (x ∷ xs) xs) ≡ cond b x.cost 0 + sum_by cost_of xs
 one_hook true x xs = sum_by-cons cost_of x xs
@@ -42,5 +36,6 @@ pub starts_total : (bases : List CompiledChain) (code : Code) → ((hook : Hook)
     → total_cost code ≡ sum_by (λ (b : CompiledChain). b.cost) bases
 starts_total bases code ordered =
     let at : (h : Hook) → sum_by (λ s. s.cost) (starts_of code h) ≡ on_hook h bases =
-    λ h. started h bases (starts_of code h) (ordered h) in
+    λ h. sym (sum-map (λ (s : Start). s.cost) (starts_of code h)) ∙ ap sum (ordered h).costs_are ∙ sum-map cost_of (ordered h).order
+    ∙ sum_by-IsPermutation cost_of (filter (runs_on_hook h) bases) (ordered h).order (ordered h).moved in
     omega (arith, at hooks.Prerouting, at hooks.Input, at hooks.Forward, at hooks.Output, at hooks.Postrouting, all_hooks bases)

@@ -152,5 +152,6 @@ pub(crate) fn starts_on_hook(
 {
     let mut on_hook = chains_on_hook(alloc, hook, bases)?;
     on_hook.sort_by_key(|base| base.head.priority.number())?;
-    as_starts(alloc, &on_hook)
+    let starts = as_starts(alloc, &on_hook)?;
+    Ok(starts)
 }

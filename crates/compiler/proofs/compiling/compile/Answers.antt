@@ -1,5 +1,6 @@
-use Rattle.compiler.proofs.Names.{All, All-filter, All-permutation, HasCost, Hook, [], ap, base, base_chains_of, chain_cost_by, filter, get_or, is_on_hook, map, runs_before, runs_on_hook, slice_index, subst, sym, ties, weight_by, ◌+◌, ◌≤◌}
-use Rattle.compiler.proofs.Names.{arith, ruleset_sum, starts_of, total_cost, ◌∙◌, ◌≡◌}
+use Rattle.compiler.proofs.Names.{◌+◌, All, All-filter, All-permutation, HasCost, Hook, [], ap, arith, base, base_chains_of, chain_cost_by, filter, get_or}
+use Rattle.compiler.proofs.Names.{is_on_hook, map, ruleset_sum, runs_before, runs_on_hook, slice_index, starts_of, subst, sym, ties, total_cost, weight_by, ◌∙◌}
+use Rattle.compiler.proofs.Names.{◌≡◌, ◌≤◌}
 use Rattle.compiler.proofs.AgreementLaws.{IsCosted, start-of, costs-shown}
 use Rattle.compiler.proofs.BaseLaws.{agrees}
 use Rattle.compiler.proofs.OrderLaws.{sorted_shown, filter_shown, stays}

@@ -1,7 +1,6 @@
-use Rattle.compiler.proofs.Names.{append-nil, base, base_chains_from, drop, drop_all, map, sum_by, sym, zip, ◌++◌, ◌∙◌}
-use Rattle.compiler.proofs.Names.{Some, slice_get, ◌≡◌}
-use Rattle.compiler.proofs.Names.{AddsBases, Bor, Chain, ChainTree, ap, arith, base_chain_of, chain_out_of_range, chain_tree, chains_of, item_out_of_range}
-use Rattle.compiler.proofs.Names.{length, length-map, slice_index, subst, ◌≤◌}
+use Rattle.compiler.proofs.Names.{◌++◌, AddsBases, Bor, Chain, ChainTree, Some, ap, append-nil, arith, base, base_chain_of, base_chains_from}
+use Rattle.compiler.proofs.Names.{chain_out_of_range, chain_tree, chains_of, drop, drop_all, item_out_of_range, length, length-map, map, slice_get, slice_index}
+use Rattle.compiler.proofs.Names.{subst, sum_by, sym, zip, ◌∙◌, ◌≡◌, ◌≤◌}
 use Rattle.compiler.proofs.TableLaws.{chain_at, chain_free}
 use Rattle.compiler.proofs.StartLaws.{Costs, bases_more}
 use Rattle.compiler.proofs.FewLaws.{part}

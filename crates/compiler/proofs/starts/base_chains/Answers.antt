@@ -1,5 +1,5 @@
-use Rattle.compiler.proofs.Names.{append-nil, base, base_chains_of_tables, drop, drop_all, map, sum_by, sym, zip, ◌++◌, ◌∙◌}
-use Rattle.compiler.proofs.Names.{Some, ap, arith, costs-long, length, refl, slice_get, slice_get_read, subst, ◌≡◌, ◌≤◌}
+use Rattle.compiler.proofs.Names.{◌++◌, Some, ap, append-nil, arith, base, base_chains_of_tables, costs-long, drop, drop_all, length, map, refl, slice_get}
+use Rattle.compiler.proofs.Names.{slice_get_read, subst, sum_by, sym, zip, ◌∙◌, ◌≡◌, ◌≤◌}
 use Rattle.compiler.proofs.StartLaws.{table_bases_none, table_bases_more}
 use Rattle.compiler.proofs.FewLaws.{table_part}
 use Rattle.compiler.proofs.starts.base_chains.Goals as goal

@@ -1,6 +1,6 @@
-use Rattle.compiler.proofs.Names.{Some, slice_get, ◌≡◌}
-use Rattle.compiler.proofs.Names.{◌++◌, Bor, Chain, ChainTree, [], ap, arith, chain_tree, chains_of, declared_kept, if_some, item_mismatches, item_out_of_range}
-use Rattle.compiler.proofs.Names.{length, length-map, list_any, or_parts, priority_out_of_range, refl, rule_mismatches, rule_out_of_range, ◌∙◌, ◌∷◌, ◌≡◌, ◌≤◌}
+use Rattle.compiler.proofs.Names.{◌++◌, Bor, Chain, ChainTree, Some, [], ap, arith, chain_tree, chains_of, declared_kept, if_some, item_mismatches}
+use Rattle.compiler.proofs.Names.{item_out_of_range, length, length-map, list_any, or_parts, priority_out_of_range, refl, rule_mismatches, rule_out_of_range}
+use Rattle.compiler.proofs.Names.{slice_get, ◌∙◌, ◌∷◌, ◌≡◌, ◌≤◌}
 use Rattle.compiler.proofs.TableLaws.{chain_at, chain_free, chains_none, chains_more, chains_all}
 use Rattle.compiler.proofs.tables.table_code.Goals as goal
 use Rattle.compiler.proofs.tables.table_code.Goals.{In_ok-to_u32}
