@@ -1,7 +1,8 @@
 -- The starts of a hook are its base chains, in order of priority and of text.
 use Rattle.compiler.proofs.Names.{◌&&◌, ◌+◌, BaseChain, Bool, CompiledChain, Equal, Greater, IsPermutation, IsSortedBy, IsStableBy, Less, List, [], ap, ap₂}
 use Rattle.compiler.proofs.Names.{arith, base, cond, false, false≢true, filter, filter_agree, get_or-map, int_lt, length-map, list_any, list_any-IsPermutation}
-use Rattle.compiler.proofs.Names.{map, not, or_parts, priority, refl, runs_before, sym, ties, true, ℤ, ◌∙◌, ◌∷◌, ◌≡◌}
+use Rattle.compiler.proofs.Names.{map, not, or_parts, priority, refl, runs_before, sym, ties, true, ◌∙◌, ◌∷◌, ◌≡◌}
+use Rattle.compiler.proofs.StartLaws.{by_priority}
 use Rattle.std.proofs.lemmas.Cmp.{int_ranked}
 use Rattle.std.proofs.lemmas.List.Folds.{Any-from_list_any}
 
@@ -41,12 +42,6 @@ tied : (a b : BaseChain) → ties runs_before a b ≡ true → priority a ≡ pr
 tied a b h = int_ranked (priority a) (priority b) Equal
     (sym (both_false (int_lt (priority a) (priority b)) (int_lt (priority b) (priority a)) h))
 
-abbrev tie : ℤ → ℤ → Bool
-tie p q = not (int_lt p q) && not (int_lt q p)
-
-abbrev by_priority : CompiledChain → CompiledChain → Bool
-by_priority x y = runs_before (base x) (base y)
-
 abbrev ties_with : BaseChain → CompiledChain → Bool
 ties_with b x = ties runs_before b (base x)
 
@@ -59,7 +54,7 @@ module _ (b : BaseChain) (xs ys : List CompiledChain) (moved : IsPermutation xs 
       let x = found.1 in
       let same : priority b ≡ priority (base x) = tied b (base x) found.4 in
       let alike : (y : CompiledChain) → ties_with b y ≡ ties by_priority x y =
-      λ y. ap (λ p. tie p (priority (base y))) same in
+      λ y. ap (λ p. not (int_lt p (priority (base y))) && not (int_lt (priority (base y)) p)) same in
       filter_agree (ties_with b) (ties by_priority x) alike ys ∙ stable x
       ∙ sym (filter_agree (ties_with b) (ties by_priority x) alike xs)
   stays_if false none = none_passes (ties_with b) ys

@@ -1,5 +1,5 @@
 -- Base chains, in the order of the text.
-use Rattle.compiler.proofs.Names.{◌&&◌, ◌+◌, ◌++◌, ◌<◌, AddsBases, All, All-append, All-head, All-nil, AreChainCosts, AreRulesetCosts, Bool, Bor, ChainTree}
+use Rattle.compiler.proofs.Names.{◌&&◌, ◌+◌, ◌++◌, ◌<◌, AddsBases, All, All-append, All-head, AreChainCosts, AreRulesetCosts, Bool, Bor, ChainTree}
 use Rattle.compiler.proofs.Names.{CompiledChain, HasCost, HeadTree, List, MAX_COST, None, Option, Some, TableTree, [], a_chain, add-one, ap, append_assoc, ap₂}
 use Rattle.compiler.proofs.Names.{arith, base, base_chain_of, base_chains_from, base_chains_of_tables, base_part, base_sum, chain_cost_by, chains_of, cost-at}
 use Rattle.compiler.proofs.Names.{costs-long, drop, drop_more, get_or, get_or_from_slice_get, int_lt, length, map, map-append, not, refl, ruleset_sum}
@@ -19,6 +19,9 @@ use Rattle.rule_laws.specs.Ranking as ranking
 
 abbrev pub cost_of : CompiledChain → ℕ
 cost_of b = b.cost
+
+abbrev pub IsCosted : List TableTree → CompiledChain → Type 0
+IsCosted tables b = HasCost tables b.number b.cost
 
 -- the base chain has this number, and costs 1 more than this cost, which is below the limit
 abbrev pub Costs : ChainNo → ℕ → ChainNo → ℕ → Type 0
@@ -46,9 +49,8 @@ module _ (table : ℕ) (t : TableTree) (costs : List ℕ) (old : List CompiledCh
   pub record BasesSoFar (place : ℕ) (now : List CompiledChain) : Type 0 where
     pub are : map base now ++ base_chains_from table place (drop place (chains_of t))
         ≡ map base old ++ base_chains_from table 0 (chains_of t)
-    pub costed : (tables : List TableTree) → slice_get tables table ≡ Some t
-        → All (λ (b : CompiledChain). HasCost tables b.number b.cost) old
-        → All (λ (b : CompiledChain). HasCost tables b.number b.cost) now
+    pub costed : (tables : List TableTree) → slice_get tables table ≡ Some t → All (IsCosted tables) old
+        → All (IsCosted tables) now
     pub sum : sum_by cost_of now + sum_by part (zip (drop place (chains_of t)) (drop place costs))
         ≡ sum_by cost_of old + base_sum t costs
 
@@ -63,8 +65,8 @@ module _ (table : ℕ) (t : TableTree) (costs : List ℕ) (old : List CompiledCh
         ∙ append_assoc (map base now) (base_chain_of table place chain.head) (base_chains_from table (place + 1) rest)
         ∙ ap (λ n. map base now ++ (base_chain_of table place chain.head ++ base_chains_from table n rest)) (add-one place)
         ∙ ap (λ cs. map base now ++ base_chains_from table place cs) (sym split) ∙ so.are;
-    costed = λ tables at before. subst (All (λ (b : CompiledChain). HasCost tables b.number b.cost)) (sym one.is)
-        (All-append (λ (b : CompiledChain). HasCost tables b.number b.cost) now one.more (so.costed tables at before)
+    costed = λ tables at before. subst (All (IsCosted tables)) (sym one.is)
+        (All-append (IsCosted tables) now one.more (so.costed tables at before)
         (λ k d lt. has_cost tables at (get_or one.more k d) (one.costs k d lt)));
     sum = omega (
       arith,
@@ -114,23 +116,15 @@ module _ (all : List TableTree) where
   -- loop invariant: the base chains of the first tables are there, each with its cost
   pub record TableBasesSoFar (place : ℕ) (now : List CompiledChain) : Type 0 where
     pub are : map base now ++ base_chains_of_tables place (drop place all) ≡ base_chains_of_tables 0 all
-    pub costed : All (λ (b : CompiledChain). HasCost all b.number b.cost) now
+    pub costed : All (IsCosted all) now
     pub sum : (costs : List (List ℕ)) → AreRulesetCosts all costs
         → sum_by cost_of now + sum_by table_part (zip (drop place all) (drop place costs)) ≡ ruleset_sum all costs
-
-  pub table_bases_none : (now : List CompiledChain) → now ≡ [] → TableBasesSoFar 0 now
-  table_bases_none now none = subst (TableBasesSoFar 0) (sym none) (record {
-    are = refl;
-    costed = All-nil (λ (b : CompiledChain). HasCost all b.number b.cost);
-    sum = λ costs are. omega arith;
-  })
 
   pub table_bases_more : (place : ℕ) (t : TableTree) (row : List ℕ) (now new : List CompiledChain)
       → slice_get all place ≡ Some t
       → ((costs : List (List ℕ)) → AreRulesetCosts all costs → row ≡ get_or costs place [])
       → map base new ≡ map base now ++ base_chains_from place 0 (chains_of t)
-      → (All (λ (b : CompiledChain). HasCost all b.number b.cost) now
-      → All (λ (b : CompiledChain). HasCost all b.number b.cost) new)
+      → (All (IsCosted all) now → All (IsCosted all) new)
       → sum_by cost_of new ≡ sum_by cost_of now + base_sum t row
       → TableBasesSoFar place now → TableBasesSoFar (place + 1) new
   table_bases_more place t row now new is rows more costed sum so = record {

@@ -60,18 +60,6 @@ module _ (plant : PlantTree) (number : ℕ) (t : TableTree) where
     pub steps : length now.steps.items ≡ sum_by chain_steps left
     pub dropped : now.dropped ≡ min (sum_by dropped_rules left) (2 ^ 64 - 1)
 
-  pub chains_none : (now : TableCode) → now.chain_offsets.items ≡ [] → now.steps.items ≡ [] → now.dropped ≡ 0
-      → ChainsSoFar 0 now
-  chains_none now none no_steps no_dropped = record {
-    left = [];
-    are_left = tt;
-    count = refl;
-    offsets = ap length none;
-    placed = λ c rules has. absurd (none-some rules has);
-    steps = ap length no_steps;
-    dropped = no_dropped ∙ omega arith;
-  }
-
   pub chains_more : (place : ℕ) (chain : ChainTree) (offsets : Vec ℕ Global) (now new : TableCode)
       → slice_get (chains_of t) place ≡ Some chain
       → offsets.items ≡ now.chain_offsets.items ++ length now.steps.items ∷ []

@@ -29,8 +29,17 @@ all_hooks [] = refl
 all_hooks (x ∷ xs) =
     let at : (h : Hook) → on_hook h (x ∷ xs) ≡ cond (same_hook x.head.now.hook h) x.cost 0 + on_hook h xs =
     λ h. one_hook (same_hook x.head.now.hook h) x (filter (runs_on_hook h) xs) in
-    omega (arith, at hooks.Prerouting, at hooks.Input, at hooks.Forward, at hooks.Output, at hooks.Postrouting,
-    only_one x.head.now.hook x.cost, all_hooks xs, sum_by-cons cost_of x xs)
+    omega (
+      arith,
+      at hooks.Prerouting,
+      at hooks.Input,
+      at hooks.Forward,
+      at hooks.Output,
+      at hooks.Postrouting,
+      only_one x.head.now.hook x.cost,
+      all_hooks xs,
+      sum_by-cons cost_of x xs,
+    )
 
 pub starts_total : (bases : List CompiledChain) (code : Code) → ((hook : Hook) → Ordered hook bases (starts_of code hook))
     → total_cost code ≡ sum_by (λ (b : CompiledChain). b.cost) bases

@@ -1,6 +1,6 @@
-use Rattle.compiler.proofs.Names.{◌++◌, Some, ap, append-nil, arith, base, base_chains_of_tables, costs-long, drop, drop_all, length, map, refl, slice_get}
-use Rattle.compiler.proofs.Names.{slice_get_read, subst, sum_by, sym, zip, ◌∙◌, ◌≡◌, ◌≤◌}
-use Rattle.compiler.proofs.StartLaws.{table_bases_none, table_bases_more}
+use Rattle.compiler.proofs.Names.{◌++◌, All-nil, Some, ap, append-nil, arith, base, base_chains_of_tables, costs-long, drop, drop_all, length, map, refl}
+use Rattle.compiler.proofs.Names.{slice_get, slice_get_read, subst, sum_by, sym, zip, ◌∙◌, ◌≡◌, ◌≤◌}
+use Rattle.compiler.proofs.StartLaws.{IsCosted, TableBasesSoFar, table_bases_more}
 use Rattle.compiler.proofs.FewLaws.{table_part}
 use Rattle.compiler.proofs.starts.base_chains.Goals as goal
 use Rattle.compiler.proofs.starts.base_chains.Goals.{In_ok-to_u32}
@@ -11,7 +11,11 @@ at c = subst (λ ts. slice_get ts c.loop-table.table ≡ Some c.index-names-tabl
     c.loop-table-test.true c.index-names-table.is)
 
 pub loop-table-init : goal.loop-table-init
-loop-table-init c = table_bases_none c.args.checked.now.rules _ c.new-bases.ensures.items
+loop-table-init c = subst (TableBasesSoFar c.args.checked.now.rules 0) (sym c.new-bases.ensures.items) (record {
+  are = refl;
+  costed = All-nil (IsCosted c.args.checked.now.rules);
+  sum = λ costs are. omega arith;
+})
 
 pub add_bases-requires-clause-long : goal.add_bases-requires-clause-long
 add_bases-requires-clause-long c = costs-long c.index-names-table.result c.costs.result.now
