@@ -29,17 +29,10 @@ all_hooks [] = refl
 all_hooks (x ∷ xs) =
     let at : (h : Hook) → on_hook h (x ∷ xs) ≡ cond (same_hook x.head.now.hook h) x.cost 0 + on_hook h xs =
     λ h. one_hook (same_hook x.head.now.hook h) x (filter (runs_on_hook h) xs) in
-    omega (
-      arith,
-      at hooks.Prerouting,
-      at hooks.Input,
-      at hooks.Forward,
-      at hooks.Output,
-      at hooks.Postrouting,
-      only_one x.head.now.hook x.cost,
-      all_hooks xs,
-      sum_by-cons cost_of x xs,
-    )
+    let only = only_one x.head.now.hook x.cost in
+    let rest = all_hooks xs in
+    let both = sum_by-cons cost_of x xs in
+    omega (arith, at hooks.Prerouting, at hooks.Input, at hooks.Forward, at hooks.Output, at hooks.Postrouting)
 
 pub starts_total : (bases : List CompiledChain) (code : Code) → ((hook : Hook) → Ordered hook bases (starts_of code hook))
     → total_cost code ≡ sum_by (λ (b : CompiledChain). b.cost) bases
@@ -47,4 +40,5 @@ starts_total bases code ordered =
     let at : (h : Hook) → sum_by (λ s. s.cost) (starts_of code h) ≡ on_hook h bases =
     λ h. sym (sum-map (λ (s : Start). s.cost) (starts_of code h)) ∙ ap sum (ordered h).costs_are ∙ sum-map cost_of (ordered h).order
     ∙ sum_by-IsPermutation cost_of (filter (runs_on_hook h) bases) (ordered h).order (ordered h).moved in
-    omega (arith, at hooks.Prerouting, at hooks.Input, at hooks.Forward, at hooks.Output, at hooks.Postrouting, all_hooks bases)
+    let all = all_hooks bases in
+    omega (arith, at hooks.Prerouting, at hooks.Input, at hooks.Forward, at hooks.Output, at hooks.Postrouting)

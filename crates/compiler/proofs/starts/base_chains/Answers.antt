@@ -47,9 +47,5 @@ returns c =
       bases = sym (append-nil (map base c.loop-table.bases.items))
           ∙ ap (λ ts. map base c.loop-table.bases.items ++ base_chains_of_tables c.loop-table.table ts) (sym none) ∙ so.are;
       costs = so.costed;
-      sum = λ costs are. omega (
-        arith,
-        so.sum costs are,
-        ap (λ ts. sum_by table_part (zip ts (drop c.loop-table.table costs))) none,
-      );
+      sum = λ costs are. omega (arith, so.sum costs are, ap (λ ts. sum_by table_part (zip ts (drop c.loop-table.table costs))) none);
     }
