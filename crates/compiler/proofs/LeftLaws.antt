@@ -77,14 +77,12 @@ module _ (plant : PlantTree) (number : ℕ) (t : TableTree) where
   own = table_program plant number t
 
   -- no packet gets past a verdict that ends the chain
-  no-way-past : (c n k : ℕ) (v : VerdictTree) (ss : List Statement) (f g : Facts) → ends_chain v ≡ true
-      → LeadsTo own c n k (tree.verdict v ∷ ss) f g → ⊥
+  no-way-past : (c n k : ℕ) (v : VerdictTree) (ss : List Statement) (f g : Facts) → ends_chain v ≡ true → LeadsTo own c n k (tree.verdict v ∷ ss) f g → ⊥
   no-way-past c n k tree.continue ss f g is to = false≢true is
   no-way-past c n k (tree.jump name) ss f g is to = false≢true is
   no-way-past c n k v ss f g is to = to
 
-  none-past : (c n k : ℕ) (ss : List Statement) (f g : Facts) → always_ends ss ≡ true
-      → LeadsTo own c n k ss f g → ⊥
+  none-past : (c n k : ℕ) (ss : List Statement) (f g : Facts) → always_ends ss ≡ true → LeadsTo own c n k ss f g → ⊥
   none-past c n k (tree.counter start ∷ ss) f g is to = none-past c n (k + 1) ss f g is to
   none-past c n k (tree.log text ∷ ss) f g is to = none-past c n (k + 1) ss f g is to
   none-past c n k (tree.verdict v ∷ ss) f g is to = no-way-past c n k v ss f g is to
@@ -94,13 +92,11 @@ module _ (plant : PlantTree) (number : ℕ) (t : TableTree) where
   scope = record { plant = plant; table = t }
 
   by-match : (c n : ℕ) (v : VerdictTree) (f g : Facts) (b : Bool) → ends_chain v ≡ true
-      → goes_on (passes_if b) (LeadsTo own c n 2 (tree.verdict v ∷ [])) f g
-      → (g ≡ f) × (b ≡ false)
+      → goes_on (passes_if b) (LeadsTo own c n 2 (tree.verdict v ∷ [])) f g → (g ≡ f) × (b ≡ false)
   by-match c n v f g true ends to = absurd (no-way-past c n 2 v [] f g ends to)
   by-match c n v f g false ends to = (to, refl)
 
-  never-there : (Reach : Facts → Type 0) (c n : ℕ) (r : List Statement) → ((f : Facts) → Reach f → ⊥)
-      → NeverMatches own Reach c n 1 r
+  never-there : (Reach : Facts → Type 0) (c n : ℕ) (r : List Statement) → ((f : Facts) → Reach f → ⊥) → NeverMatches own Reach c n 1 r
   never-there Reach c n [] none = tt
   never-there Reach c n (s ∷ ss) none = λ f here. absurd (none f here)
 
@@ -111,12 +107,10 @@ module _ (plant : PlantTree) (number : ℕ) (t : TableTree) where
 
     -- packets that get past a rule that may be merged have no value that it lists
     missed-by : (c n : ℕ) (r : List Statement) (s : Selector) (f g : Facts) (x : ℕ) → merged_selector r ≡ Some s
-        → LeadsTo own c n 1 r f g → (g ≡ f)
-        × (value s f ≡ Some x → lists plant r x ≡ true → ⊥)
+        → LeadsTo own c n 1 r f g → (g ≡ f) × (value s f ≡ Some x → lists plant r x ≡ true → ⊥)
     missed-by c n r s f g x is to =
         let q = shape r s is in
-        let way = by-match c n q.verdict f g (holds scope q.test f) q.ends
-        (subst (λ ss. LeadsTo own c n 1 ss f g) q.is to) in (
+        let way = by-match c n q.verdict f g (holds scope q.test f) q.ends (subst (λ ss. LeadsTo own c n 1 ss f g) q.is to) in (
           way.0,
           λ has listed. false≢true (sym way.1 ∙ holds-as scope q.test s f q.asks
               ∙ ap (λ o. tests o (asks_for plant q.test)) has ∙ ap (λ ss. lists plant ss x) (sym q.is) ∙ listed),
@@ -143,8 +137,7 @@ module _ (plant : PlantTree) (number : ℕ) (t : TableTree) where
           (cases_lt i k);
     }
 
-    reaches-more : (k c n : ℕ) (f g : Facts) → Reaches k f → LeadsTo own c n 1 (at k) f g
-        → Reaches (k + 1) g
+    reaches-more : (k c n : ℕ) (f g : Facts) → Reaches k f → LeadsTo own c n 1 (at k) f g → Reaches (k + 1) g
     reaches-more k c n f g so to = reaches-next k f g so (λ ends. none-past c n 1 (at k) f g ends to) (λ s x merged has.
         let past = missed-by c n (at k) s f g x merged to in
         let had = ap (value s) (sym past.0) ∙ has in

@@ -26,13 +26,15 @@ loop-place-init c = record {
 pub add_chain-requires-clause-types : goal.add_chain-requires-clause-types
 add_chain-requires-clause-types c =
     chain_free (item_mismatches c.args.names.now) (λ x. list_any (rule_mismatches c.args.names.now) x.rules) (λ x h. h)
-    c.args.names.now.items c.loop-place.place (chain_tree c.chain-item.result.now) c.requires.types (at (goal.at.add_chain-requires-clause-types c).In_ok-to_u32)
+    c.args.names.now.items c.loop-place.place (chain_tree c.chain-item.result.now) c.requires.types
+    (at (goal.at.add_chain-requires-clause-types c).In_ok-to_u32)
 
 pub add_chain-requires-clause-bounds : goal.add_chain-requires-clause-bounds
 add_chain-requires-clause-bounds c =
     chain_free item_out_of_range (λ x. list_any rule_out_of_range x.rules)
     (λ x h. (or_parts (if_some (λ head. priority_out_of_range head.priority) x.head) (list_any rule_out_of_range x.rules) h).1)
-    c.args.names.now.items c.loop-place.place (chain_tree c.chain-item.result.now) c.requires.bounds (at (goal.at.add_chain-requires-clause-bounds c).In_ok-to_u32)
+    c.args.names.now.items c.loop-place.place (chain_tree c.chain-item.result.now) c.requires.bounds
+    (at (goal.at.add_chain-requires-clause-bounds c).In_ok-to_u32)
 
 pub loop-place-preserved : goal.loop-place-preserved
 loop-place-preserved c =
