@@ -1,13 +1,4 @@
 pub mod Names
-pub mod Keys
-pub mod Ordered
-pub mod Links
-pub mod Rings
-pub mod Fronts
-pub mod Turns
-pub mod Listed
-pub mod Expired
-pub mod Searches
-pub mod Indexed
-pub mod Whole
-pub mod Same
+pub mod Lists
+pub mod Order
+pub mod Index

@@ -3,11 +3,10 @@ ghost use Rattle.std.specs.Prelude.{◌≡◌, ◌+◌, ◌<◌, ◌≤◌, ◌+
 ghost use Rattle.slab.specs.Slab.{get, slab_len, ContainsKey, Updates};
 ghost use Rattle.futures.specs.LinkedLists.{IsIn};
 ghost use Rattle.conntrack.specs.ConntrackEntry.{begun_with, connection_of, is_live, touched_at, without, IsNoneLater};
-ghost use Rattle.aged_tracker.specs.steps.SlotLists.{MAX_KEYS, except_links, held_at, held_of, next_of, off, owner_of, prev_of, pushed};
-ghost use Rattle.aged_tracker.specs.steps.SlotLists.{updated, Fills, HasRings, IsOwned, Relists, SameBy, SameSize, Slots as SlotsName};
-ghost use Rattle.aged_tracker.specs.steps.Table.{MAX_SERIAL, has_room, connections_by, held_by, last_at, limit_at, queue_by};
-ghost use Rattle.aged_tracker.specs.steps.Table.{queue_of, slots_of, AreOldest, AreOldestBut, IsAllLive, IsLiveQueue, IsTable};
-ghost use Rattle.aged_tracker.specs.steps.Keyed.{belonging_of};
+ghost use Rattle.aged_tracker.specs.steps.Table.{AreOldest, AreOldestBut, Fills, HasRings, IsAllLive, IsLiveQueue, IsOwned, IsTable, MAX_KEYS, MAX_SERIAL};
+ghost use Rattle.aged_tracker.specs.steps.Table.{Relists, SameBy, SameSize, Slots as SlotsName, belonging_of, connections_by, except_links, has_room, held_at};
+ghost use Rattle.aged_tracker.specs.steps.Table.{held_by, held_of, last_at, limit_at, next_of, off, owner_of, prev_of, pushed, queue_by, queue_of, slots_of};
+ghost use Rattle.aged_tracker.specs.steps.Table.{updated};
 
 use crate::linked_lists::{empty_heads, front, is_first, is_last, push_back, unlink};
 use crate::slot::{LISTS, Link, MAX_KEYS, idle_at, queue_by};

@@ -35,8 +35,7 @@ impl Model for AgedTracker {
     ghost use Rattle.std.specs.HashMap.{get, spare};
     ghost use Rattle.ip_headers.specs.Same.{same_tuple};
     ghost use Rattle.aged_tracker.specs.View.{TrackerView};
-    ghost use Rattle.aged_tracker.specs.steps.Table.{held_by, has_room};
-    ghost use Rattle.aged_tracker.specs.steps.Keyed.{IsConsistent};
+    ghost use Rattle.aged_tracker.specs.steps.Table.{IsConsistent, has_room, held_by};
 
     ghost Value = { TrackerView };
 

@@ -2,9 +2,8 @@
 //! they read or write.
 ghost use Rattle.std.specs.Prelude.{◌≡◌, ◌+◌, ◌<◌, ◌≤◌, ◌==◌, [], IfSome, IfNone, Some, None};
 ghost use Rattle.slab.specs.Slab.{ContainsKey};
-ghost use Rattle.aged_tracker.specs.steps.SlotLists.{MAX_KEYS, except_links, except_neighbours, link_at, next_of, number, off, owner_of};
-ghost use Rattle.aged_tracker.specs.steps.SlotLists.{prev_of, pushed, with_neighbour, HasRings, IsNode, IsOwned, IsRings, Relinks, Relists};
-ghost use Rattle.aged_tracker.specs.steps.SlotLists.{SameBy, SameSize, Slots as SlotsName};
+ghost use Rattle.aged_tracker.specs.steps.Table.{HasRings, IsNode, IsOwned, IsRings, MAX_KEYS, Relinks, Relists, SameBy, SameSize, Slots as SlotsName};
+ghost use Rattle.aged_tracker.specs.steps.Table.{except_links, except_neighbours, link_at, next_of, number, off, owner_of, prev_of, pushed, with_neighbour};
 
 use crate::slot::{LISTS, Link, ListLinks, Neighbour, NodeIndex};
 use crate::slots::Slots;

@@ -1,7 +1,7 @@
 //! Tuples and mappings packed to 14 bytes (no padding).
 ghost use Rattle.std.specs.Prelude.{◌≡◌, option_map};
 ghost use Rattle.ip_headers.specs.Same.{same_tuple};
-ghost use Rattle.aged_tracker.specs.steps.Packed.{endpoint_of, mapping_of, tuple_of};
+ghost use Rattle.aged_tracker.specs.steps.Table.{endpoint_of, mapping_of, tuple_of};
 
 use ip_headers::{Endpoint, Kind, Mapping, Tuple};
 

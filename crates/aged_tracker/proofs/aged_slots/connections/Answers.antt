@@ -1,5 +1,4 @@
-use Rattle.std.proofs.Common.{rules}
-use Rattle.aged_tracker.proofs.Names.{YieldsList-from_map, YieldsList-from_slice, items_from_collect}
+use Rattle.aged_tracker.proofs.Names.{YieldsList-from_map, YieldsList-from_slice, items_from_collect, rules}
 use Rattle.aged_tracker.proofs.aged_slots.connections.Goals as goal
 
 pub returns : goal.returns

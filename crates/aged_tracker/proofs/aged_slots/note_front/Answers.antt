@@ -1,7 +1,8 @@
-use Rattle.std.proofs.Common.{◌≡◌, ℕ, ◌+◌, ◌<◌, List, Some, length, rules, arith, sym, ap, ◌∙◌, inl, inr, set, get_or, eqb-true, eq-eqb}
-use Rattle.aged_tracker.proofs.Names.{HasRings, Link, Slab, Slot, cases_eq, get_or-set_other, get_or-set_same, held_at, last_at, next_of, owner_of, same_Some}
-use Rattle.aged_tracker.proofs.Fronts.{front_owned}
-use Rattle.aged_tracker.proofs.Searches.{not_both}
+use Rattle.aged_tracker.proofs.Names.{HasRings, Link, List, Slab, Slot, Some, ap, arith, cases_eq, get_or, get_or-set_other, get_or-set_same, held_at, inl, inr}
+use Rattle.aged_tracker.proofs.Names.{last_at, length, next_of, owner_of, rules, same_Some, set, sym, ℕ, ◌+◌, ◌<◌, ◌∙◌, ◌≡◌}
+use Rattle.aged_tracker.proofs.Index.{not_both}
+use Rattle.aged_tracker.proofs.Lists.{front_owned}
+use Rattle.std.proofs.Common.{eq-eqb, eqb-true}
 use Rattle.aged_tracker.proofs.aged_slots.note_front.Goals as goal
 
 -- a slot is the front of its queue alone

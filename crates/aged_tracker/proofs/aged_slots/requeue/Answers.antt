@@ -1,7 +1,6 @@
-use Rattle.std.proofs.Common.{◌∙◌, eqb-true, sym}
-use Rattle.aged_tracker.proofs.Names.{off, pushed}
-use Rattle.aged_tracker.proofs.Fronts.{oldest_pushed, relists_last}
-use Rattle.aged_tracker.proofs.Rings.{relists_then}
+use Rattle.aged_tracker.proofs.Names.{off, pushed, sym, ◌∙◌}
+use Rattle.aged_tracker.proofs.Lists.{oldest_pushed, relists_last, relists_then}
+use Rattle.std.proofs.Common.{eqb-true}
 use Rattle.aged_tracker.proofs.aged_slots.requeue.Goals as goal
 
 pub push_back-requires-clause-rings : goal.push_back-requires-clause-rings

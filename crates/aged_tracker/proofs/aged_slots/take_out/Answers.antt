@@ -1,5 +1,5 @@
-use Rattle.std.proofs.Common.{◌≡◌, length, rules, arith}
-use Rattle.aged_tracker.proofs.Fronts.{oldest_left}
+use Rattle.aged_tracker.proofs.Names.{arith, length, rules, ◌≡◌}
+use Rattle.aged_tracker.proofs.Lists.{oldest_left}
 use Rattle.aged_tracker.proofs.aged_slots.take_out.Goals as goal
 
 pub returns-clause-oldest : goal.returns-clause-oldest

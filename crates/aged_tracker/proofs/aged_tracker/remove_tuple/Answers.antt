@@ -1,7 +1,6 @@
-use Rattle.std.proofs.Common.{◌≡◌, subst, None, cond, Bool}
+use Rattle.aged_tracker.proofs.Names.{Bool, None, Tuple, cond, subst, ◌≡◌}
+use Rattle.aged_tracker.proofs.Index.{same_fun}
 use Rattle.std.specs.HashMap.{get}
-use Rattle.ip_headers.specs.declared.tuple.Tuple.{Tuple}
-use Rattle.aged_tracker.proofs.Same.{same_fun}
 use Rattle.aged_tracker.proofs.aged_tracker.remove_tuple.Goals as goal
 
 pub returns-clause-keys : goal.returns-clause-keys

@@ -1,5 +1,4 @@
-use Rattle.std.proofs.Common.{◌+◌, ap, ◌∙◌, eqb}
-use Rattle.aged_tracker.proofs.Names.{Next, neighbour}
+use Rattle.aged_tracker.proofs.Names.{Next, ap, eqb, neighbour, ◌+◌, ◌∙◌}
 use Rattle.aged_tracker.proofs.linked_lists.is_first.Goals as goal
 
 pub returns : goal.returns

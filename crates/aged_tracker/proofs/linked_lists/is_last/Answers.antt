@@ -1,5 +1,4 @@
-use Rattle.std.proofs.Common.{◌+◌, ap, ◌∙◌, eqb}
-use Rattle.aged_tracker.proofs.Names.{Previous, neighbour}
+use Rattle.aged_tracker.proofs.Names.{Previous, ap, eqb, neighbour, ◌+◌, ◌∙◌}
 use Rattle.aged_tracker.proofs.linked_lists.is_last.Goals as goal
 
 pub returns : goal.returns

@@ -1,7 +1,6 @@
-use Rattle.std.proofs.Common.{◌≡◌, ◌≢◌, ℕ, ◌+◌, Some, refl, ap, ◌∙◌, arith}
-use Rattle.aged_tracker.proofs.Names.{Next, Previous, free_not_on, link_at, neighbour, next_of, number, owner_of, prev_end_on, prev_of}
-use Rattle.aged_tracker.proofs.Links.{bare_owner, on_place, aside_kept, aside_place}
-use Rattle.aged_tracker.proofs.Rings.{Placed, Spliced, joined, placed, relists_pushed, unmoved}
+use Rattle.aged_tracker.proofs.Names.{Next, Previous, Some, ap, arith, free_not_on, link_at, neighbour, next_of, number, owner_of, prev_end_on, prev_of, refl}
+use Rattle.aged_tracker.proofs.Names.{ℕ, ◌+◌, ◌∙◌, ◌≡◌, ◌≢◌}
+use Rattle.aged_tracker.proofs.Lists.{Placed, Spliced, aside_kept, aside_place, bare_owner, joined, on_place, placed, relists_pushed, unmoved}
 use Rattle.aged_tracker.proofs.linked_lists.push_back.Goals as goal
 use Rattle.aged_tracker.proofs.linked_lists.push_back.Goals.{After-set_links, After-set_neighbour-2}
 

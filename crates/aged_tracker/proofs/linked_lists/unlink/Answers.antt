@@ -1,10 +1,9 @@
-use Rattle.std.proofs.Common.{◌≡◌, ℕ, ◌+◌, Some, None, refl, ap, sym, ◌∙◌, arith}
-use Rattle.aged_tracker.proofs.Names.{IsNode, IsOn, Link, ListLinks, Next, Previous, link_at, neighbour, next_on, owner_of, prev_on, same_Some}
-use Rattle.slab.specs.Slab.{get}
-use Rattle.aged_tracker.proofs.Links.{bare_owner, bare_place, on_place, aside_kept, aside_place, owned_some}
-use Rattle.aged_tracker.proofs.Rings.{Placed, Skipped, joined, placed, relists_left, unmoved}
+use Rattle.aged_tracker.proofs.Names.{IsNode, IsOn, Link, ListLinks, Next, None, Previous, Some, ap, arith, get, link_at, neighbour, next_on, owner_of, prev_on}
+use Rattle.aged_tracker.proofs.Names.{refl, same_Some, sym, ℕ, ◌+◌, ◌∙◌, ◌≡◌}
+use Rattle.aged_tracker.proofs.Lists.{Placed, Skipped, aside_kept, aside_place, bare_owner, bare_place, joined, on_place, owned_some, placed, relists_left}
+use Rattle.aged_tracker.proofs.Lists.{unmoved}
 use Rattle.aged_tracker.proofs.linked_lists.unlink.Goals as goal
-use Rattle.aged_tracker.proofs.linked_lists.unlink.Goals.{After-take_links-links, After-set_neighbour-2, After-from}
+use Rattle.aged_tracker.proofs.linked_lists.unlink.Goals.{After-from, After-set_neighbour-2, After-take_links-links}
 
 -- it is in no list, with its links
 abbrev links : After-take_links-links → ListLinks

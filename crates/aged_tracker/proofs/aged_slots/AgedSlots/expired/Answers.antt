@@ -1,5 +1,5 @@
-use Rattle.std.proofs.Common.{arith}
-use Rattle.aged_tracker.proofs.Expired.{all_live}
+use Rattle.aged_tracker.proofs.Names.{arith}
+use Rattle.aged_tracker.proofs.Order.{all_live}
 use Rattle.aged_tracker.proofs.aged_slots.AgedSlots.expired.Goals as goal
 
 pub returns-clause-none : goal.returns-clause-none

@@ -1,5 +1,4 @@
-use Rattle.std.proofs.Common.{ℕ, ◌<◌}
-use Rattle.aged_tracker.specs.steps.Table.{slots_of, IsLiveQueue}
+use Rattle.aged_tracker.proofs.Names.{IsLiveQueue, slots_of, ℕ, ◌<◌}
 use Rattle.aged_tracker.proofs.aged_slots.AgedSlots.expired.Given as goal
 
 abbrev pub invariant-loop-queue : goal.invariant-loop-queue

@@ -1,5 +1,5 @@
-use Rattle.std.proofs.Common.{rules}
-use Rattle.aged_tracker.proofs.Expired.{queue_empty, queue_live, front_expired}
+use Rattle.aged_tracker.proofs.Names.{rules}
+use Rattle.aged_tracker.proofs.Order.{front_expired, queue_empty, queue_live}
 use Rattle.aged_tracker.proofs.aged_slots.AgedSlots.expired_front.Goals as goal
 
 pub returns-in-None-clause-none : goal.returns-in-None-clause-none

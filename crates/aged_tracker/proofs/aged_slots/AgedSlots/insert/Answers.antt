@@ -1,11 +1,8 @@
-use Rattle.std.proofs.Common.{◌≡◌, ◌<◌, Some, inl, ap, sym, ◌∙◌, arith, add-one, ◌+◌}
-use Rattle.std.specs.Prelude.{nat_lt, ◌&&◌, option_map}
-use Rattle.aged_tracker.proofs.Names.{AreOldestBut, ConntrackEntry, MAX_KEYS, MAX_SERIAL, Relists, Sets, Slot, and_parts, begun_with, held_at, held_of}
-use Rattle.aged_tracker.proofs.Names.{last_at, last_by, ltb-true, IsNumbered, entry_at, held_from, owner_by, owner_of, pushed, queue_by, queue_of, slab_len}
-use Rattle.aged_tracker.proofs.Names.{slots_of}
-use Rattle.aged_tracker.proofs.Fronts.{oldest_pushed, oldest_written}
-use Rattle.aged_tracker.proofs.Rings.{relists_written, relists_then}
-use Rattle.aged_tracker.proofs.Turns.{Writes, held_begun, least, numbered_after, rising_free, rising_pushed, sets, table_after, writes_first}
+use Rattle.aged_tracker.proofs.Names.{AreOldestBut, ConntrackEntry, IsNumbered, MAX_KEYS, MAX_SERIAL, Relists, Sets, Slot, Some, add-one, and_parts, ap, arith}
+use Rattle.aged_tracker.proofs.Names.{begun_with, entry_at, held_at, held_from, held_of, inl, last_at, last_by, ltb-true, nat_lt, option_map, owner_by}
+use Rattle.aged_tracker.proofs.Names.{owner_of, pushed, queue_by, queue_of, slab_len, slots_of, sym, ◌&&◌, ◌+◌, ◌<◌, ◌∙◌, ◌≡◌}
+use Rattle.aged_tracker.proofs.Lists.{oldest_pushed, oldest_written, relists_then, relists_written}
+use Rattle.aged_tracker.proofs.Order.{Writes, held_begun, least, numbered_after, rising_free, rising_pushed, sets, table_after, writes_first}
 use Rattle.aged_tracker.proofs.aged_slots.AgedSlots.insert.Goals as goal
 use Rattle.aged_tracker.proofs.aged_slots.AgedSlots.insert.Goals.{After-fill-key, After-push_back}
 

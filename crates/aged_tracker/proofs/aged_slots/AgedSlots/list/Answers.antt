@@ -1,6 +1,5 @@
-use Rattle.std.proofs.Common.{sym, rules}
-use Rattle.aged_tracker.proofs.Names.{IsNonDecreasingBy-from_sort_by_key}
-use Rattle.aged_tracker.proofs.Listed.{listed_order}
+use Rattle.aged_tracker.proofs.Names.{IsNonDecreasingBy-from_sort_by_key, rules, sym}
+use Rattle.aged_tracker.proofs.Order.{listed_order}
 use Rattle.aged_tracker.proofs.aged_slots.AgedSlots.list.Goals as goal
 
 pub returns-clause-list : goal.returns-clause-list

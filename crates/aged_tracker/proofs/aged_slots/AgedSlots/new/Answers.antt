@@ -1,5 +1,4 @@
-use Rattle.std.proofs.Common.{[], arith, rules}
-use Rattle.aged_tracker.proofs.Names.{IsRings}
+use Rattle.aged_tracker.proofs.Names.{IsRings, [], arith, rules}
 use Rattle.aged_tracker.proofs.aged_slots.AgedSlots.new.Goals as goal
 
 pub returns-clause-table : goal.returns-clause-table

@@ -1,14 +1,9 @@
-use Rattle.std.proofs.Common.{◌≡◌, Some, None, inl, IsSome, not, ap, sym, ◌∙◌, refl, arith}
-use Rattle.std.specs.Prelude.{option_map}
-use Rattle.aged_tracker.proofs.Names.{IsNumbered, Relists, eq-eqb, held_at, held_of, ne_eqb, off, owner_of, queue_of, same_id, slots_of}
+use Rattle.aged_tracker.proofs.Names.{IsNumbered, IsSome, None, Relists, Some, ap, arith, eq-eqb, held_at, held_of, inl, ne_eqb, not, off, option_map, owner_of}
+use Rattle.aged_tracker.proofs.Names.{queue_of, refl, same_id, slots_of, sym, ◌∙◌, ◌≡◌}
+use Rattle.aged_tracker.proofs.Index.{kept_if, kept_step}
+use Rattle.aged_tracker.proofs.Lists.{held_aside, oldest_all, oldest_written, relists_then, relists_written, some_of}
+use Rattle.aged_tracker.proofs.Order.{Writes, held_changed, not_none, numbered_after, queue_of-range, rising_left, table_after, writes_last}
 use Rattle.conntrack.specs.ConntrackEntry.{without}
-use Rattle.aged_tracker.proofs.Expired.{queue_of-range}
-use Rattle.aged_tracker.proofs.Fronts.{oldest_all, oldest_written}
-use Rattle.aged_tracker.proofs.Links.{held_aside, some_of}
-use Rattle.aged_tracker.proofs.Ordered.{not_none}
-use Rattle.aged_tracker.proofs.Rings.{relists_written, relists_then}
-use Rattle.aged_tracker.proofs.Searches.{kept_if, kept_step}
-use Rattle.aged_tracker.proofs.Turns.{Writes, held_changed, numbered_after, rising_left, table_after, writes_last}
 use Rattle.aged_tracker.proofs.aged_slots.AgedSlots.remove.Goals as goal
 use Rattle.aged_tracker.proofs.aged_slots.AgedSlots.remove.Goals.{After-remove}
 

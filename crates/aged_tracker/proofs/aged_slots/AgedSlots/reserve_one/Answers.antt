@@ -1,5 +1,4 @@
-use Rattle.std.proofs.Common.{sym, subst}
-use Rattle.aged_tracker.proofs.Names.{IsTable, Slab, Slot}
+use Rattle.aged_tracker.proofs.Names.{IsTable, Slab, Slot, subst, sym}
 use Rattle.aged_tracker.proofs.aged_slots.AgedSlots.reserve_one.Goals as goal
 
 pub returns-clause-table : goal.returns-clause-table

@@ -1,15 +1,9 @@
-use Rattle.std.proofs.Common.{◌≡◌, cond, Some, ap, sym, ◌∙◌, inl, inr, refl, arith}
-use Rattle.std.specs.Prelude.{option_map}
-use Rattle.aged_tracker.proofs.Names.{ConntrackEntry, Relists, SameBy, Slab, Slot, Updates, except_links, held_at, held_of, last_at, IsNumbered, eq-eqb}
-use Rattle.aged_tracker.proofs.Names.{last_by, link_by, ne_eqb, off, same_id, touched_at, owner_by, owner_of, pushed, queue_of, serial_by, touched, updated}
-use Rattle.list_laws.specs.Options.{option_cases}
-use Rattle.slab.specs.Slab.{get}
-use Rattle.aged_tracker.proofs.Expired.{queue_of-range}
-use Rattle.aged_tracker.proofs.Fronts.{oldest_written}
-use Rattle.aged_tracker.proofs.Links.{some_of}
-use Rattle.aged_tracker.proofs.Rings.{relists_written, relists_then}
-use Rattle.aged_tracker.proofs.Ordered.{slot_by}
-use Rattle.aged_tracker.proofs.Turns.{Writes, held_changed, least, numbered_after, rising_left, rising_pushed, sets, table_after, writes_first}
+use Rattle.aged_tracker.proofs.Names.{ConntrackEntry, IsNumbered, Relists, SameBy, Slab, Slot, Some, Updates, ap, arith, cond, eq-eqb, except_links, get}
+use Rattle.aged_tracker.proofs.Names.{held_at, held_of, inl, inr, last_at, last_by, link_by, ne_eqb, off, option_cases, option_map, owner_by, owner_of, pushed}
+use Rattle.aged_tracker.proofs.Names.{queue_of, refl, same_id, serial_by, sym, touched, touched_at, updated, ◌∙◌, ◌≡◌}
+use Rattle.aged_tracker.proofs.Lists.{oldest_written, relists_then, relists_written, some_of}
+use Rattle.aged_tracker.proofs.Order.{Writes, held_changed, least, numbered_after, queue_of-range, rising_left, rising_pushed, sets, slot_by, table_after}
+use Rattle.aged_tracker.proofs.Order.{writes_first}
 use Rattle.aged_tracker.proofs.aged_slots.AgedSlots.touch.Goals as goal
 use Rattle.aged_tracker.proofs.aged_slots.AgedSlots.touch.Goals.{After-touch-queue}
 

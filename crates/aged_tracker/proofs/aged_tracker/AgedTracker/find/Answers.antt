@@ -1,7 +1,5 @@
-use Rattle.std.proofs.Common.{◌≡◌, Some, None, sym, ap, ◌∙◌, is_some}
-use Rattle.aged_tracker.proofs.Names.{ConntrackEntry, find, held_by, is_incoming, slots_of}
-use Rattle.aged_tracker.proofs.Indexed.{belongs_by, unfound}
-use Rattle.aged_tracker.proofs.Whole.{owner}
+use Rattle.aged_tracker.proofs.Names.{ConntrackEntry, None, Some, ap, find, held_by, is_incoming, is_some, slots_of, sym, ◌∙◌, ◌≡◌}
+use Rattle.aged_tracker.proofs.Index.{belongs_by, owner, unfound}
 use Rattle.aged_tracker.proofs.aged_tracker.AgedTracker.find.Goals as goal
 use Rattle.aged_tracker.proofs.aged_tracker.AgedTracker.find.Goals.{In-Some}
 

@@ -1,10 +1,7 @@
-use Rattle.std.proofs.Common.{◌≡◌, Some, refl, ap, sym, ◌∙◌}
-use Rattle.std.specs.Prelude.{option_map}
-use Rattle.aged_tracker.proofs.Names.{Aged, ConnId, aged_of, find, held_by, is_live, length-without, live_at, removed_entry, same_Some, same_id, slots_of}
-use Rattle.aged_tracker.proofs.Links.{named_at, some_of}
-use Rattle.aged_tracker.proofs.Whole.{found_at, has_as, live_all}
-use Rattle.aged_tracker.proofs.Indexed.{filter_without}
-use Rattle.aged_tracker.proofs.Searches.{once_by_id}
+use Rattle.aged_tracker.proofs.Names.{Aged, ConnId, Some, aged_of, ap, find, held_by, is_live, length-without, live_at, option_map, refl, removed_entry}
+use Rattle.aged_tracker.proofs.Names.{same_Some, same_id, slots_of, sym, ◌∙◌, ◌≡◌}
+use Rattle.aged_tracker.proofs.Index.{filter_without, found_at, has_as, live_all, once_by_id}
+use Rattle.aged_tracker.proofs.Lists.{named_at, some_of}
 use Rattle.aged_tracker.proofs.aged_tracker.AgedTrackerTracker.age.Goals as goal
 
 pub end-requires : goal.end-requires

@@ -1,8 +1,5 @@
-use Rattle.std.proofs.Common.{◌≡◌, Some, IsTrue, is_some, cond, rules, ap, sym, ◌∙◌, false}
-use Rattle.aged_tracker.proofs.Names.{begun_with, has_id, held_by, is_taken, same_tuple}
-use Rattle.aged_tracker.proofs.Indexed.{indexed_begun, taken_as}
-use Rattle.aged_tracker.proofs.Searches.{not_both}
-use Rattle.aged_tracker.proofs.Whole.{has_as}
+use Rattle.aged_tracker.proofs.Names.{IsTrue, Some, ap, begun_with, cond, false, has_id, held_by, is_some, is_taken, rules, same_tuple, sym, ◌∙◌, ◌≡◌}
+use Rattle.aged_tracker.proofs.Index.{has_as, indexed_begun, not_both, taken_as}
 use Rattle.aged_tracker.proofs.aged_tracker.AgedTrackerTracker.begin.Goals as goal
 use Rattle.aged_tracker.proofs.aged_tracker.AgedTrackerTracker.begin.Goals.{After-contains_tuple, After-insert-id}
 

@@ -1,8 +1,5 @@
-use Rattle.std.proofs.Common.{None, Some, sym, cond, ap, ◌∙◌}
-use Rattle.std.specs.Prelude.{option_map}
-use Rattle.aged_tracker.proofs.Names.{aged_of, same_tuple}
-use Rattle.aged_tracker.proofs.Indexed.{indexed_ended}
-use Rattle.aged_tracker.proofs.Whole.{found_at, has_as}
+use Rattle.aged_tracker.proofs.Names.{None, Some, aged_of, ap, cond, option_map, same_tuple, sym, ◌∙◌}
+use Rattle.aged_tracker.proofs.Index.{found_at, has_as, indexed_ended}
 use Rattle.aged_tracker.proofs.aged_tracker.AgedTrackerTracker.end.Goals as goal
 
 pub remove-held-requires-clause-is_held : goal.remove-held-requires-clause-is_held

@@ -1,4 +1,4 @@
-use Rattle.std.proofs.Common.{ap, ◌∙◌}
+use Rattle.aged_tracker.proofs.Names.{ap, ◌∙◌}
 use Rattle.conntrack.specs.ConntrackEntry.{belonging_without_id}
 use Rattle.aged_tracker.proofs.aged_tracker.AgedTrackerTracker.look.Goals as goal
 

@@ -1,7 +1,6 @@
-use Rattle.std.proofs.Common.{◌≡◌, ◌∙◌, subst, Bool}
-use Rattle.aged_tracker.proofs.Names.{Tuple}
+use Rattle.aged_tracker.proofs.Names.{Bool, Tuple, subst, ◌∙◌, ◌≡◌}
+use Rattle.aged_tracker.proofs.Index.{same_fun}
 use Rattle.std.specs.HashMap.{get}
-use Rattle.aged_tracker.proofs.Same.{same_fun}
 use Rattle.aged_tracker.proofs.aged_tracker.AgedTrackerTracker.reserve_one.Goals as goal
 
 pub invariant_of-self : goal.invariant_of-self

@@ -1,6 +1,5 @@
-use Rattle.std.proofs.Common.{sym, ◌∙◌}
-use Rattle.aged_tracker.proofs.Indexed.{indexed_touched}
-use Rattle.aged_tracker.proofs.Whole.{has_as}
+use Rattle.aged_tracker.proofs.Names.{sym, ◌∙◌}
+use Rattle.aged_tracker.proofs.Index.{has_as, indexed_touched}
 use Rattle.aged_tracker.proofs.aged_tracker.AgedTrackerTracker.touch.Goals as goal
 
 pub touch-requires-clause-is_held : goal.touch-requires-clause-is_held

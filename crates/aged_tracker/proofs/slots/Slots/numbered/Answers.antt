@@ -1,5 +1,4 @@
-use Rattle.std.proofs.Common.{rules}
-use Rattle.aged_tracker.proofs.Names.{YieldsList-from_first, YieldsList-from_map, entries, items_from_collect, numbered_entry}
+use Rattle.aged_tracker.proofs.Names.{YieldsList-from_first, YieldsList-from_map, entries, items_from_collect, numbered_entry, rules}
 use Rattle.aged_tracker.proofs.slots.Slots.numbered.Goals as goal
 
 pub returns-clause-numbered : goal.returns-clause-numbered

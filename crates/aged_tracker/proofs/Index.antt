@@ -1,16 +1,85 @@
--- The index of an `AgedTracker`, and lookups by it, as its list of entries changes.
-use Rattle.std.proofs.Common.{◌≡◌, ℕ, ◌+◌, ◌-◌, List, [], ◌∷◌, ◌++◌, length, Option, Some, None, is_some, Bool, true, false, not, ◌&&◌, ◌||◌, cond, refl, sym}
-use Rattle.std.proofs.Common.{ap, ◌∙◌, inl, inr, arith, length-append}
-use Rattle.std.specs.Prelude.{option_map, if◌then◌else◌}
-use Rattle.aged_tracker.proofs.Names.{Belonging, ConnId, ConntrackEntry, Direction, Flags, Found, IsIndexed, Limits, NotFound, Reply, Tuple, apart-filter}
-use Rattle.aged_tracker.proofs.Names.{apart-push, apart-touched_at, belonging_by, belonging_of, belongs_in, cases_Bool, connection_ref, distinct-filter}
-use Rattle.aged_tracker.proofs.Names.{distinct-push, distinct-touched_at, false_from_ne_true, filter, find, find-filter, has_distinct_ids, has_id}
-use Rattle.aged_tracker.proofs.Names.{have_disjoint_tuples, is_incoming, is_live, is_taken, key_in, length-map, live_at, none-some, or_parts, same_id}
-use Rattle.aged_tracker.proofs.Names.{same_tuple, same_tuple-true, touched, touched_at, without_new}
+-- Searches in the list of entries, and the index of an `AgedTracker`.
+use Rattle.aged_tracker.proofs.Names.{AgedSlots, Belonging, Bool, ConnId, ConntrackEntry, Direction, Flags, Found, IsAllLive, IsIndexed, IsTable, Limits, List}
+use Rattle.aged_tracker.proofs.Names.{None, NotFound, Option, Reply, Some, Tuple, [], and_parts, ap, apart-filter, apart-push, apart-touched_at, arith}
+use Rattle.aged_tracker.proofs.Names.{belonging_by, belonging_of, belongs_in, cases_Bool, cond, connection_ref, cons_held, distinct-filter, distinct-push}
+use Rattle.aged_tracker.proofs.Names.{distinct-touched_at, entry_at, eq-eqb, eqb-true, false, false_from_ne_true, filter, find, find-filter, found_by_id}
+use Rattle.aged_tracker.proofs.Names.{has_distinct_ids, has_id, have_disjoint_tuples, held_by, if◌then◌else◌, inl, inr, is_incoming, is_live, is_some, is_taken}
+use Rattle.aged_tracker.proofs.Names.{key_in, length, length-append, length-map, list_any, live_at, map, nat_tests, none-some, not, not-true, option_cases}
+use Rattle.aged_tracker.proofs.Names.{option_map, or_cases, or_parts, refl, rules, same_id, same_tuple, same_tuple-true, serial_at, slots_of, some_of_map, sym}
+use Rattle.aged_tracker.proofs.Names.{touched, touched_at, true, without_new, ℕ, ◌&&◌, ◌++◌, ◌+◌, ◌-◌, ◌==◌, ◌||◌, ◌∙◌, ◌∷◌, ◌≡◌}
+use Rattle.aged_tracker.proofs.Lists.{named_at, some_of}
+use Rattle.aged_tracker.proofs.Order.{all_pass, at_slot, found_from, of_slot}
 use Rattle.conntrack.specs.ConntrackEntry.{without}
-use Rattle.list_laws.specs.Options.{option_cases}
+use Rattle.ip_headers.specs.contracts.tuple.TuplePartialEq.TheImpl.{eq-value}
 use Rattle.list_laws.specs.Tests.{and-flip}
-use Rattle.aged_tracker.proofs.Searches.{IsOnce, any_is, find_both, found_passes, kept_if, not_both, once_by_id, once_by_tuple, same_found, some_map}
+
+-- ---- searches in the list of entries
+
+pub not_both : {P : Type 0} (b : Bool) → b ≡ true → b ≡ false → P
+not_both b t f = absurd cc
+
+pub found_passes : {X : Type 0} (p : X → Bool) (xs : List X) (x : X) → find p xs ≡ Some x → p x ≡ true
+found_passes p [] x e = cc
+found_passes p (y ∷ xs) x e = grind (arith, found_passes p xs x)
+
+pub any_is : {X : Type 0} (p : X → Bool) (xs : List X) → list_any p xs ≡ is_some (find p xs)
+any_is p [] = refl
+any_is p (x ∷ xs) = grind (arith, any_is p xs)
+
+pub some_map : {X Y : Type 0} (f : X → Y) (o : Option X) → is_some (option_map f o) ≡ is_some o
+some_map f None = refl
+some_map f (Some x) = refl
+
+pub same_found : {X Y : Type 0} (p : X → Bool) (key : X → Y) (f : X → X) → ((x : X) → (p (f x) ≡ p x) × (key (f x) ≡ key x)) → (xs : List X)
+    → option_map key (find p (map f xs)) ≡ option_map key (find p xs)
+same_found p key f alike [] = refl
+same_found p key f alike (x ∷ xs) = grind (arith, (alike x).0, (alike x).1, same_found p key f alike xs)
+
+-- one entry at most passes
+abbrev pub IsOnce : (ConntrackEntry → Bool) → List ConntrackEntry → Type 0
+IsOnce p [] = Unit {0}
+IsOnce p (x ∷ held) = (p x ≡ true → list_any p held ≡ false) × IsOnce p held
+
+pub once_by_id : (id : ConnId) (held : List ConntrackEntry) → has_distinct_ids held ≡ true → IsOnce (same_id id) held
+once_by_id id [] distinct = tt
+once_by_id id (x ∷ held) distinct =
+    let parts = and_parts (not (has_id x.id held)) (has_distinct_ids held) distinct in (
+      λ same. ap (λ n. list_any (λ h. h.id.0 == n) held) (sym (eqb-true x.id.0 id.0 same)) ∙ not-true _ parts.0,
+      once_by_id id held parts.1,
+    )
+
+pub once_by_tuple : (tuple : Tuple) (held : List ConntrackEntry) → have_disjoint_tuples held ≡ true → IsOnce (is_incoming tuple) held
+once_by_tuple tuple [] apart = tt
+once_by_tuple tuple (x ∷ held) apart =
+    let parts = and_parts _ (have_disjoint_tuples held) apart in
+    let free = or_parts (is_taken x.original held) (is_taken x.reply held) (not-true _ parts.0) in (
+      λ its. elim (or_cases (same_tuple x.original tuple) (same_tuple x.reply tuple) its) [
+        | inl e ↦ ap (λ q. is_taken q held) (sym (same_tuple-true x.original tuple e)) ∙ free.0
+        | inr e ↦ ap (λ q. is_taken q held) (sym (same_tuple-true x.reply tuple e)) ∙ free.1
+      ],
+      once_by_tuple tuple held parts.1,
+    )
+
+-- what was found, if it passes another test too
+abbrev pub kept_if : (ConntrackEntry → Bool) → Option ConntrackEntry → Option ConntrackEntry
+kept_if f None = None
+kept_if f (Some x) = cond (f x) (Some x) None
+
+pub kept_step : (p : ConntrackEntry → Bool) (o : Option ConntrackEntry) (held : List ConntrackEntry)
+    → filter p (cons_held o held) ≡ cons_held (kept_if p o) (filter p held)
+kept_step p None held = refl
+kept_step p (Some x) held = elim (cases_Bool (p x)) [ inl t ↦ rw t refl | inr f ↦ rw f refl ]
+
+module _ (p f : ConntrackEntry → Bool) where
+  find_none : (held : List ConntrackEntry) → list_any p held ≡ false → find (λ x. f x && p x) held ≡ None
+  find_none [] none = refl
+  find_none (x ∷ held) none = grind (arith, find_none held)
+
+  pub find_both : (held : List ConntrackEntry) → IsOnce p held → find (λ x. f x && p x) held ≡ kept_if f (find p held)
+  find_both [] once = refl
+  find_both (x ∷ held) once = grind (arith, find_none held, once.0, find_both held once.1)
+
+-- ---- the index of an `AgedTracker`, and lookups by it, as its list of entries changes
 
 -- ---- an entry is touched
 
@@ -169,3 +238,44 @@ module _ (limits : Limits) (now : ℕ) (tuple : Tuple) (flags : Flags) (held : L
         find-filter (λ h. same_tuple h.original tuple) (is_live limits now) held ∙ found_by original (λ x. (alike x).0) apart o is,
         find-filter (λ h. same_tuple h.reply tuple) (is_live limits now) held ∙ found_by reply (λ x. (alike x).1) apart o is,
       ) (looked_up o is)
+
+-- ---- the entries of a table by their ids and tuples
+
+module _ (t : AgedSlots) (table : IsTable t) where
+  pub found_at : (id : ConnId) → find (same_id id) (held_by t) ≡ slots_of t id.0
+  found_at id =
+      found_from (entry_at t.slots) id (slots_of t id.0)
+      (λ n h is same. ap (slots_of t) (sym (eqb-true h.id.0 id.0 same)) ∙ (of_slot t.slots n h is).0)
+      (λ h is. eq-eqb h.id.0 id.0 (named_at t.slots id.0 h is)) 0 t.next_serial (λ some.
+      let h = some_of (slots_of t id.0) some in (
+        serial_at t.slots id.0,
+        omega arith,
+        omega (arith, table.numbered.below id.0 some),
+        at_slot t.slots t.next_serial table.numbered id.0 h.0 h.1 ∙ sym h.1,
+      ))
+
+  pub live_all : (limits : Limits) (now : ℕ) → IsAllLive limits (slots_of t) now → live_at limits now (held_by t) ≡ held_by t
+  live_all limits now live =
+      all_pass (entry_at t.slots) (is_live limits now) (λ n h is. live h.id.0 h (of_slot t.slots n h is).0) 0 t.next_serial
+
+  pub has_as : (id : ConnId) → has_id id (held_by t) ≡ is_some (slots_of t id.0)
+  has_as id = any_is (same_id id) (held_by t) ∙ ap is_some (found_at id)
+
+  pub owner : (at : Tuple → Option ℕ) (live : ℕ) → IsIndexed (held_by t) at live → (tuple : Tuple) (key : ℕ) → at tuple ≡ Some key
+      → (h : ConntrackEntry) × ((find (is_incoming tuple) (held_by t) ≡ Some h) × (slots_of t key ≡ Some h))
+  owner at live is tuple key found =
+      let h = some_of_map (λ (x : ConntrackEntry). x.id.0) (find (is_incoming tuple) (held_by t)) key (sym (is.keyed tuple) ∙ found) in (
+        h.0,
+        (h.1, ap (slots_of t) (sym h.2) ∙ sym (found_at h.0.id) ∙ found_by_id (is_incoming tuple) (held_by t) h.0 is.distinct h.1),
+      )
+
+-- ---- the test of two tuples that `Tuple` derives
+
+abbrev pub derived_eq : Tuple → Tuple → Bool
+derived_eq a b = eq-value.it a b
+
+pub same_eq : (a b : Tuple) → derived_eq a b ≡ same_tuple a b
+same_eq a b = search (rules, nat_tests)
+
+pub same_fun : ◌≡◌ {A = Tuple → Tuple → Bool} derived_eq same_tuple
+same_fun = λ i. λ a b. same_eq a b i

@@ -1,0 +1,408 @@
+-- Circular lists of slots: their keys, links, changes and fronts.
+use Rattle.aged_tracker.proofs.Names.{AreOldest, AreOldestBut, ConntrackEntry, HasRings, IfSome, Inserts, IsApart, IsIn, IsNode, IsOn, IsRing, IsRing-kept}
+use Rattle.aged_tracker.proofs.Names.{IsRing-push, IsRing-skip, IsRings, IsRising, IsSome, Joins, Link, List, ListLinks, Lists, Next, None, Option, Previous}
+use Rattle.aged_tracker.proofs.Names.{Relinks, Relists, SameBy, Slab, Slot, Some, Updates, [], ap, arith, cases_eq, cases_lt, cond, cond-false, cond-true}
+use Rattle.aged_tracker.proofs.Names.{eq-eqb, except_links, except_neighbours, free_not_on, get, get_or, get_or-set_other, get_or-set_same, held_at, held_of}
+use Rattle.aged_tracker.proofs.Names.{inl, inr, is_some, last_at, last_by, le-ltb, length, lt-ltb, link_at, link_by, nat_lt, ne_eqb, neighbour, next_of, next_on}
+use Rattle.aged_tracker.proofs.Names.{no_link, none-some, not_from_false, off, option_map, owner_by, owner_of, prev_end_on, prev_of, prev_on, pushed, refl}
+use Rattle.aged_tracker.proofs.Names.{rings_apart, same_Some, set, slice_index_or, some_of_map, subst, suc, sym, with_links, without, without_absent}
+use Rattle.aged_tracker.proofs.Names.{without_head, zero, ℕ, ◌++◌, ◌+◌, ◌-◌, ◌<◌, ◌∙◌, ◌∷◌, ◌≡◌, ◌≢◌, ◌≤◌, ◌⊎◌}
+use Rattle.futures.specs.Links as ring
+
+-- ---- lists of distinct keys
+
+pub without_past : (key first : ℕ) (rest : List ℕ) → first ≢ key → without key (first ∷ rest) ≡ first ∷ without key rest
+without_past key first rest other = cond-true _ _ _ (not_from_false _ (ne_eqb first key other))
+
+pub IsIn-push_last : (key : ℕ) (keys : List ℕ) → IsIn key (keys ++ key ∷ [])
+IsIn-push_last key [] = inl refl
+IsIn-push_last key (first ∷ rest) = inr (IsIn-push_last key rest)
+
+IsIn-at : (keys : List ℕ) (i d : ℕ) → i < length keys → IsIn (get_or keys i d) keys
+IsIn-at [] i d within = absurd (omega (arith, within))
+IsIn-at (first ∷ rest) zero d within = inl refl
+IsIn-at (first ∷ rest) (suc i) d within = inr (IsIn-at rest i d (omega (arith, within)))
+
+IsIn-index : (key : ℕ) (keys : List ℕ) → IsIn key keys → (i : ℕ) × ((i < length keys) × (get_or keys i key ≡ key))
+IsIn-index key [] found = absurd found
+IsIn-index key (first ∷ rest) found =
+    elim found [
+      | inl here ↦ (zero, (omega arith, here))
+      | inr there ↦ let at = IsIn-index key rest there in (suc at.0, (omega (arith, at.1.0), at.1.1))
+    ]
+
+-- the first key has the least moment
+pub rising_first : (f : ℕ → ℕ) (first key : ℕ) (rest : List ℕ) → IsRising f (first ∷ rest) → IsIn key (first ∷ rest) → f first ≤ f key
+rising_first f first key rest rising found =
+    let at = IsIn-index key (first ∷ rest) found in omega (arith, rising zero at.0 key (omega arith) at.1.0, ap f at.1.1)
+
+-- moments that are the same along the keys
+pub rising_as : (f g : ℕ → ℕ) (keys : List ℕ) → ((k : ℕ) → IsIn k keys → g k ≡ f k) → IsRising f keys → IsRising g keys
+rising_as f g keys same rising i j d le less =
+    omega (arith, rising i j d le less, same _ (IsIn-at keys i d (omega (arith, le, less))), same _ (IsIn-at keys j d less))
+
+-- ---- the links after a write to a slot or a head
+
+pub some_of : {X : Type 0} (o : Option X) → IsSome o → (x : X) × (o ≡ Some x)
+some_of None is = absurd cc
+some_of (Some x) is = (x, refl)
+
+-- a function of slots that reads only what a write keeps
+pub kept_by : {X : Type 0} (f : Option Slot → X) (keep : Slot → Slot) → ((s : Slot) → f (Some s) ≡ f (Some (keep s)))
+    → (old new : Option Slot) → option_map keep new ≡ option_map keep old → f new ≡ f old
+kept_by f keep alike old new same = bare new ∙ ap f same ∙ sym (bare old)
+  where
+    bare : (o : Option Slot) → f o ≡ f (option_map keep o)
+    bare None = refl
+    bare (Some s) = alike s
+
+-- a write of links keeps the entries
+pub held_aside : (old new : Slab Slot) → SameBy except_links old new → (k : ℕ) → held_at new k ≡ held_at old k
+held_aside old new same k = kept_by (option_map (held_of k)) except_links (λ s. refl) (get old k) (get new k) (same k)
+
+-- each entry has its slot's key as id
+pub named_at : (slots : Slab Slot) (key : ℕ) (h : ConntrackEntry) → held_at slots key ≡ Some h → h.id.0 ≡ key
+named_at slots key h is = ap (λ (x : ConntrackEntry). x.id.0) (sym (some_of_map (held_of key) (get slots key) h is).2)
+
+pub link_at-head : (slots : Slab Slot) (heads : List Link) (p : ℕ) → p < 5 → link_at slots heads p ≡ get_or heads p no_link
+link_at-head slots heads p below = ap (λ b. cond b (get_or heads p no_link) (link_by (get slots (p - 5)))) (lt-ltb p 5 below)
+
+pub link_at-slot : (slots : Slab Slot) (heads : List Link) (p : ℕ) → 5 ≤ p
+    → link_at slots heads p ≡ link_by (get slots (p - 5))
+link_at-slot slots heads p above = ap (λ b. cond b (get_or heads p no_link) (link_by (get slots (p - 5)))) (le-ltb p 5 above)
+
+-- the links of every node but a slot
+pub links_but : (old new : Slab Slot) (heads : List Link) (key : ℕ) (slot : Option Slot) → Updates old new key slot
+    → (p : ℕ) → p ≢ 5 + key → link_at new heads p ≡ link_at old heads p
+links_but old new heads key slot updates p d =
+    elim (cases_lt p 5) [
+      | inl below ↦ link_at-head new heads p below ∙ sym (link_at-head old heads p below)
+      | inr past ↦ link_at-slot new heads p past
+          ∙ ap link_by (updates.others (p - 5) (λ e. d (omega arith)))
+          ∙ sym (link_at-slot old heads p past)
+    ]
+
+pub Relinks-slot : (old new : Slab Slot) (heads : List Link) (key : ℕ) (s : Slot) → Updates old new key (Some s)
+    → Relinks (link_at old heads) (link_at new heads) (5 + key) s.links.link
+Relinks-slot old new heads key s updates =
+    let at : 5 + key - 5 ≡ key = omega arith in
+    record {
+      here = link_at-slot new heads (5 + key) (omega arith) ∙ ap (λ k. link_by (get new k)) at ∙ ap link_by updates.changed;
+      others = links_but old new heads key (Some s) updates;
+    }
+
+module _ (old new : Slab Slot) (same : SameBy except_neighbours old new) where
+  pub bare_owner : (k : ℕ) → owner_of new k ≡ owner_of old k
+  bare_owner k = kept_by owner_by except_neighbours (λ s. refl) (get old k) (get new k) (same k)
+
+  pub bare_place : (p : ℕ) → IsNode old p → IsNode new p
+  bare_place p is above = kept_by is_some except_neighbours (λ s. refl) (get old (p - 5)) (get new (p - 5)) (same (p - 5)) ∙ is above
+
+  pub aside_kept : SameBy except_links old new
+  aside_kept k = kept_by (option_map except_links) except_neighbours (λ s. refl) (get old k) (get new k) (same k)
+
+pub aside_place : (old new : Slab Slot) → SameBy except_links old new → (p : ℕ) → IsNode old p → IsNode new p
+aside_place old new same p is above = kept_by is_some except_links (λ s. refl) (get old (p - 5)) (get new (p - 5)) (same (p - 5)) ∙ is above
+
+pub owned_some : (o : Option Slot) (list : ℕ) → owner_by o ≡ Some list → IsSome o
+owned_some None list is = absurd (none-some list is)
+owned_some (Some s) list is = refl
+
+-- a node of a circular list exists
+pub on_place : (slots : Slab Slot) (heads : List Link) (list : ℕ) (keys : List ℕ) (p : ℕ) → list < 5
+    → IsRing slots heads list keys → IsOn 5 list keys p → IsNode slots p
+on_place slots heads list keys p range ring on above =
+    elim on [
+      | inl here ↦ absurd (omega arith)
+      | inr found ↦
+          let at : p - 5 ≡ found.0 = omega (arith, found.2) in
+          subst (λ k. IsSome (get slots k)) (sym at) (owned_some (get slots found.0) list (ring.owned found.0 found.1))
+    ]
+
+-- ---- circular lists after a key left one or joined one, or after a write that keeps them
+
+-- the list that a key was pushed to, and the others
+pub pushed_by : (P : List ℕ → Type 0) (key to list : ℕ) (lists : Lists) → (list ≡ to → P (lists list ++ key ∷ []))
+    → (list ≢ to → P (lists list)) → P (pushed key to lists list)
+pushed_by P key to list lists here there =
+    elim (cases_eq list to) [
+      | inl e ↦ subst P (sym (cond-true _ _ _ (eq-eqb list to e))) (here e)
+      | inr d ↦ subst P (sym (cond-false _ _ _ (ne_eqb list to d))) (there d)
+    ]
+
+-- nodes of two lists differ
+apart : (slots : Slab Slot) (heads : List Link) (lists : Lists) → IsRings slots heads lists → (list other p q : ℕ) → list < 5
+    → other < 5 → other ≢ list → IsOn 5 list (lists list) q → IsOn 5 other (lists other) p → p ≢ q
+apart slots heads lists rings list other p q range range' differs on on' e =
+    rings_apart (next_of slots heads) (prev_of slots heads) 5 (owner_of slots) list other (lists list) (lists other) q range range'
+    differs (rings list range) (rings other range') on (subst (IsOn 5 other (lists other)) e on')
+
+-- a list doesn't lead to a slot that is in none
+off_free : (slots : Slab Slot) (heads : List Link) (lists : Lists) → IsRings slots heads lists → (key : ℕ) → owner_of slots key ≡ None
+    → (list p : ℕ) → list < 5 → IsOn 5 list (lists list) p → p ≢ 5 + key
+off_free slots heads lists rings key free list p range on e =
+    free_not_on (next_of slots heads) (prev_of slots heads) 5 (owner_of slots) list (lists list) key range (rings list range) free
+    (subst (IsOn 5 list (lists list)) e on)
+
+module _ (old new : Slab Slot) (heads heads' : List Link) (key : ℕ) where
+  -- a list that the key is in neither before nor after stays, if the links along it do
+  ring_beside : (list : ℕ) (keys : List ℕ) → IsRing old heads list keys → owner_of old key ≢ Some list → owner_of new key ≢ Some list
+      → ((k : ℕ) → k ≢ key → owner_of new k ≡ owner_of old k)
+      → ((p : ℕ) → IsOn 5 list keys p → next_of new heads' p ≡ next_of old heads p)
+      → ((p : ℕ) → IsOn 5 list keys p → prev_of new heads' p ≡ prev_of old heads p) → IsRing new heads' list keys
+  ring_beside list keys ring was is others nexts prevs =
+      IsRing-kept _ _ _ _ 5 _ _ list keys ring nexts prevs
+      (λ k o. others k (λ e. was (ap (owner_of old) (sym e) ∙ o)) ∙ o)
+      (λ k o. sym (others k (λ e. is (ap (owner_of new) (sym e) ∙ o))) ∙ o)
+
+  -- the neighbours of the key are linked to each other, and it is in no list
+  pub record Skipped : Type 0 where
+    pub next : Joins (next_of old heads) (next_of new heads') (prev_of old heads (5 + key)) (next_of old heads (5 + key))
+    pub prev : Joins (prev_of old heads) (prev_of new heads') (next_of old heads (5 + key)) (prev_of old heads (5 + key))
+    pub left : owner_of new key ≡ None
+    pub others : (k : ℕ) → k ≢ key → owner_of new k ≡ owner_of old k
+
+  pub relists_left : Skipped → (list : ℕ) → list < 5 → owner_of old key ≡ Some list → Relists old new heads heads' key None (off key)
+  relists_left skipped list range owned =
+      record {
+        rings = λ lists rings l r.
+            let own = rings list range in
+            let found : IsIn key (lists list) = own.listed key owned in
+            elim (cases_eq l list) [
+              | inl e ↦ IsRing-skip _ _ _ _ 5 _ _ l (lists l) key r (rings l r) (owned ∙ ap Some (sym e)) skipped.next skipped.prev
+                  skipped.left skipped.others
+              | inr d ↦
+                  let other : owner_of old key ≢ Some l = λ o. d (same_Some l list (sym o ∙ owned)) in
+                  subst (IsRing new heads' l) (sym (without_absent key (lists l) (λ f. other ((rings l r).owned key f))))
+                  (ring_beside l (lists l) (rings l r) other (λ o. none-some l (sym skipped.left ∙ o)) skipped.others
+                  (λ p on. skipped.next.others p (apart old heads lists rings list l p _ range r d
+                  (prev_on _ _ 5 list (lists list) list key own.chained found) on))
+                  (λ p on. skipped.prev.others p (apart old heads lists rings list l p _ range r d
+                  (next_on _ _ 5 list (lists list) list key own.chained found) on)))
+            ];
+        here = skipped.left;
+        others = skipped.others;
+      }
+
+  -- the key is the last of the list
+  pub record Spliced (list : ℕ) : Type 0 where
+    pub links : Inserts (next_of old heads) (prev_of old heads) (next_of new heads') (prev_of new heads') (prev_of old heads list)
+        (5 + key) list
+    pub joined : owner_of new key ≡ Some list
+    pub others : (k : ℕ) → k ≢ key → owner_of new k ≡ owner_of old k
+
+  pub relists_pushed : (list : ℕ) → Spliced list → list < 5 → owner_of old key ≡ None
+      → Relists old new heads heads' key (Some list) (pushed key list)
+  relists_pushed list spliced range free =
+      record {
+        rings = λ lists rings l r. pushed_by (IsRing new heads' l) key list l lists
+            (λ e. subst (λ m. IsRing new heads' m (lists m ++ key ∷ [])) (sym e)
+            (IsRing-push _ _ _ _ 5 _ _ list (lists list) key range (rings list range) free spliced.links spliced.joined spliced.others))
+            (λ d. ring_beside l (lists l) (rings l r) (λ o. none-some l (sym free ∙ o))
+            (λ o. d (same_Some l list (sym o ∙ spliced.joined))) spliced.others
+            (λ p on. spliced.links.nexts p (apart old heads lists rings list l p _ range r d
+            (prev_end_on _ _ 5 list (lists list) list (rings list range).chained) on) (off_free old heads lists rings key free l p r on))
+            (λ p on. spliced.links.prevs p (apart old heads lists rings list l p list range r d (inl refl) on)
+            (off_free old heads lists rings key free l p r on)));
+        here = spliced.joined;
+        others = spliced.others;
+      }
+
+-- a write that keeps the list of a slot, and its links if it is in one
+pub relists_written : (old new : Slab Slot) (heads : List Link) (key : ℕ) (slot : Option Slot) → Updates old new key slot
+    → owner_by slot ≡ owner_of old key → (owner_of old key ≡ None) ⊎ (link_by slot ≡ link_by (get old key))
+    → Relists old new heads heads key (owner_of old key) (λ lists. lists)
+relists_written old new heads key slot updates owner link =
+    let owners : (k : ℕ) → owner_of new k ≡ owner_of old k = λ k. elim (cases_eq k key) [
+      | inl e ↦ ap (owner_of new) e ∙ ap owner_by updates.changed ∙ owner ∙ sym (ap (owner_of old) e)
+      | inr d ↦ ap owner_by (updates.others k d)
+    ] in
+    record {
+      rings = λ lists rings l r.
+          let same : (p : ℕ) → IsOn 5 l (lists l) p → link_at new heads p ≡ link_at old heads p = λ p on. elim (cases_eq p (5 + key)) [
+            | inl e ↦ elim link [
+              | inl free ↦ absurd (off_free old heads lists rings key free l p r on e)
+              | inr kept ↦
+                  let at : p - 5 ≡ key = omega (arith, e) in
+                  ap (λ link. cond (nat_lt p 5) (slice_index_or heads p no_link) link) (ap (λ k. link_by (get new k)) at
+                  ∙ ap link_by updates.changed ∙ kept ∙ sym (ap (λ k. link_by (get old k)) at))
+            ]
+            | inr d ↦ links_but old new heads key slot updates p d
+          ] in
+          IsRing-kept _ _ _ _ 5 _ _ l (lists l) (rings l r) (λ p on. ap (neighbour Next) (same p on)) (λ p on. ap (neighbour Previous) (same p on))
+          (λ k is. owners k ∙ is) (λ k is. sym (owners k) ∙ is);
+      here = owners key;
+      others = λ k d. owners k;
+    }
+
+-- one change of the lists after another
+pub relists_then : (a b c : Slab Slot) (ha hb hc : List Link) (key : ℕ) (at to : Option ℕ) (f g : Lists → Lists)
+    → Relists a b ha hb key at f → Relists b c hb hc key to g → Relists a c ha hc key to (λ lists. g (f lists))
+relists_then a b c ha hb hc key at to f g one two =
+    record {
+      rings = λ lists rings. two.rings (f lists) (one.rings lists rings);
+      here = two.here;
+      others = λ k d. two.others k d ∙ one.others k d;
+    }
+
+-- what a write of links writes and keeps
+pub record Placed (old new : Slab Slot) (key : ℕ) (links : ListLinks) : Type 0 where
+  pub link : (heads : List Link) → Relinks (link_at old heads) (link_at new heads) (5 + key) links.link
+  pub owner : owner_of new key ≡ links.list
+  pub others : (k : ℕ) → k ≢ key → owner_of new k ≡ owner_of old k
+  pub same : SameBy except_links old new
+
+pub placed : (old new : Slab Slot) (key : ℕ) (links : ListLinks) → IsSome (get old key)
+    → IfSome (get old key) (λ s. Updates old new key (Some (with_links links s))) → Placed old new key links
+placed old new key links some wrote =
+    let slot = some_of (get old key) some in
+    let updates : Updates old new key (Some (with_links links slot.0)) = rw slot.1 at wrote in
+    record {
+      link = λ heads. Relinks-slot old new heads key (with_links links slot.0) updates;
+      owner = ap owner_by updates.changed;
+      others = λ k d. ap owner_by (updates.others k d);
+      same = λ k. elim (cases_eq k key) [
+        | inl e ↦ ap (option_map except_links) (ap (get new) e ∙ updates.changed)
+            ∙ sym (ap (option_map except_links) (ap (get old) e ∙ slot.1))
+        | inr d ↦ ap (option_map except_links) (updates.others k d)
+      ];
+    }
+
+-- a write of the links of one node keeps this part of all
+pub unmoved : (part : Link → ℕ) (old new : ℕ → Link) (node : ℕ) (link : Link) → Relinks old new node link
+    → part link ≡ part (old node) → (p : ℕ) → part (new p) ≡ part (old p)
+unmoved part old new node link relinks was p =
+    elim (cases_eq p node) [
+      | inl e ↦ ap (λ q. part (new q)) e ∙ ap part relinks.here ∙ was ∙ sym (ap (λ q. part (old q)) e)
+      | inr d ↦ ap part (relinks.others p d)
+    ]
+
+-- the links of one node are set between writes that keep this part of links
+pub joined : (part : Link → ℕ) (old new mid mid' : ℕ → Link) (at : ℕ) (link : Link) → Relinks mid mid' at link
+    → ((p : ℕ) → part (mid p) ≡ part (old p)) → ((p : ℕ) → part (new p) ≡ part (mid' p))
+    → Joins (λ p. part (old p)) (λ p. part (new p)) at (part link)
+joined part old new mid mid' at link set before after =
+    record { here = after at ∙ ap part set.here; others = λ p d. after p ∙ ap part (set.others p d) ∙ before p }
+
+-- ---- the first and the last key of a list, and the moments of the fronts of queues
+
+module _ (next prev : ℕ → ℕ) (list : ℕ) where
+  pub front_in : (keys : List ℕ) (front : ℕ) → list < 5 → ring.IsChain next prev 5 list keys list → next list ≡ 5 + front → IsIn front keys
+  front_in [] front range chain is = absurd (omega (arith, range, chain.0, is))
+  front_in (first ∷ rest) front range chain is = inl (omega (arith, chain.0, is))
+
+  pub none_in : (keys : List ℕ) (key : ℕ) → ring.IsChain next prev 5 list keys list → next list < 5 → ¬ IsIn key keys
+  none_in [] key chain none found = found
+  none_in (first ∷ rest) key chain none found = omega (arith, chain.0, none)
+
+  -- the front has the least moment
+  pub front_least : (f : ℕ → ℕ) (keys : List ℕ) (front key : ℕ) → ring.IsChain next prev 5 list keys list → next list ≡ 5 + front
+      → IsRising f keys → IsIn key keys → f front ≤ f key
+  front_least f [] front key chain is rising found = absurd found
+  front_least f (first ∷ rest) front key chain is rising found =
+      let same : front ≡ first = omega (arith, chain.0, is) in
+      omega (arith, ap f same, rising_first f first key rest rising found)
+
+  module _ (next' prev' : ℕ → ℕ) where
+    same_front : (keys : List ℕ) → ring.IsChain next prev 5 list keys list → ring.IsChain next' prev' 5 list keys list
+        → next' list ≡ next list
+    same_front [] chain chain' = chain'.0 ∙ sym chain.0
+    same_front (first ∷ rest) chain chain' = chain'.0 ∙ sym chain.0
+
+    -- a front other than the last key was there before that joined
+    front_before : (keys : List ℕ) (key front : ℕ) → front ≢ key → ring.IsChain next prev 5 list keys list
+        → ring.IsChain next' prev' 5 list (keys ++ key ∷ []) list → next' list ≡ 5 + front → next list ≡ 5 + front
+    front_before [] key front d chain chain' is = absurd (d (omega (arith, chain'.0, is)))
+    front_before (first ∷ rest) key front d chain chain' is = chain.0 ∙ sym chain'.0 ∙ is
+
+  -- the key that the head leads back to is the last
+  last_from : (key from first : ℕ) (rest : List ℕ) → ring.IsChain next prev 5 from (first ∷ rest) list
+      → IsApart (first ∷ rest) → prev list ≡ 5 + key → without key (first ∷ rest) ++ key ∷ [] ≡ first ∷ rest
+  last_from key from first [] chain apart end =
+      let same : first ≡ key = omega (arith, chain.2.1, end) in
+      ap (λ ks. ks ++ key ∷ []) (without_head key first [] same) ∙ ap (λ k. k ∷ []) (sym same)
+  last_from key from first (second ∷ rest) chain apart end =
+      let rec = last_from key (5 + first) second rest chain.2 apart.1 end in
+      let there = subst (IsIn key) rec (IsIn-push_last key (without key (second ∷ rest))) in
+      ap (λ ks. ks ++ key ∷ []) (without_past key first (second ∷ rest)
+      (λ e. apart.0 (subst (λ k. IsIn k (second ∷ rest)) (sym e) there))) ∙ ap (λ ks. first ∷ ks) rec
+
+  last_at_end : (key : ℕ) (keys : List ℕ) → list < 5 → ring.IsChain next prev 5 list keys list → IsApart keys → prev list ≡ 5 + key
+      → without key keys ++ key ∷ [] ≡ keys
+  last_at_end key [] range chain apart end = absurd (omega (arith, range, chain.1, end))
+  last_at_end key (first ∷ rest) range chain apart end = last_from key list first rest chain apart end
+
+pub front_owned : (slots : Slab Slot) (heads : List Link) → HasRings slots heads → (q front : ℕ) → q < 5
+    → next_of slots heads q ≡ 5 + front → owner_of slots front ≡ Some q
+front_owned slots heads rings q front range is =
+    let ring = rings.1 q range in ring.owned front (front_in _ _ q (rings.0 q) front range ring.chained is)
+
+-- the last slot of a list is at the end of it already
+pub relists_last : (slots : Slab Slot) (heads : List Link) (key list : ℕ) → HasRings slots heads → list < 5
+    → prev_of slots heads list ≡ 5 + key → Relists slots slots heads heads key (Some list) (λ lists. pushed key list (off key lists))
+relists_last slots heads key list known range end =
+    let last : (keys : List ℕ) → IsRing slots heads list keys → without key keys ++ key ∷ [] ≡ keys =
+    λ keys ring. last_at_end _ _ list key keys range ring.chained ring.apart end in
+    let ring = known.1 list range in
+    let owned : owner_of slots key ≡ Some list =
+    ring.owned key (subst (IsIn key) (last (known.0 list) ring) (IsIn-push_last key (without key (known.0 list)))) in
+    record {
+      rings = λ lists rings l r. pushed_by (IsRing slots heads l) key list l (off key lists)
+          (λ e. subst (λ m. IsRing slots heads m (without key (lists m) ++ key ∷ [])) (sym e)
+          (subst (IsRing slots heads list) (sym (last (lists list) (rings list range))) (rings list range)))
+          (λ d. subst (IsRing slots heads l) (sym (without_absent key (lists l)
+          (λ found. d (same_Some l list (sym ((rings l r).owned key found) ∙ owned))))) (rings l r));
+      here = owned;
+      others = λ k d. refl;
+    }
+
+-- ---- the moments of fronts
+
+-- a slot gets a value
+pub oldest_written : (old new : Slab Slot) (heads : List Link) (key : ℕ) (moments : List ℕ) (slot : Option Slot) → Updates old new key slot
+    → AreOldest old heads moments → AreOldestBut key new heads moments
+oldest_written old new heads key moments slot updates oldest q range front d is =
+    oldest q range front (ap (neighbour Next) (link_at-head old heads q range ∙ sym (link_at-head new heads q range)) ∙ is)
+    ∙ sym (ap (λ o. last_by (option_map (held_of front) o)) (updates.others front d))
+
+module _ (old new : Slab Slot) (heads heads' : List Link) (key : ℕ) (moments : List ℕ) (same : SameBy except_links old new) where
+  last : (k : ℕ) → last_at (held_at new) k ≡ last_at (held_at old) k
+  last k = ap last_by (held_aside old new same k)
+
+  -- the key goes to the end of a queue
+  pub oldest_pushed : (list : ℕ) → HasRings old heads → Relists old new heads heads' key (Some list) (pushed key list)
+      → AreOldestBut key old heads moments → AreOldestBut key new heads' moments
+  oldest_pushed list known relists oldest q range front d is =
+      let ring = (known.1 q range).chained in
+      let was = pushed_by (λ keys. IsRing new heads' q keys → next_of old heads q ≡ 5 + front) key list q known.0
+      (λ e ring'. front_before _ _ q _ _ (known.0 q) key front d ring ring'.chained is)
+      (λ n ring'. sym (same_front _ _ q _ _ (known.0 q) ring ring'.chained) ∙ is)
+      (relists.rings known.0 known.1 q range) in
+      oldest q range front d was ∙ sym (last front)
+
+  -- the key leaves its queue, whose front is noted
+  pub oldest_left : (list moment : ℕ) → HasRings old heads → Relists old new heads heads' key None (off key) → owner_of old key ≡ Some list
+      → list < length moments → ((front : ℕ) → next_of new heads' list ≡ 5 + front → moment ≡ last_at (held_at new) front)
+      → AreOldestBut key old heads moments → AreOldest new heads' (set moments list moment)
+  oldest_left list moment known relists owned within noted oldest q range front is =
+      elim (cases_eq q list) [
+        | inl e ↦ ap (λ j. get_or (set moments list moment) j 0) e ∙ get_or-set_same moments list moment 0 within
+            ∙ noted front (ap (next_of new heads') (sym e) ∙ is)
+        | inr n ↦
+            let rings' = relists.rings known.0 known.1 in
+            let absent : ¬ IsIn key (known.0 q) = λ found. n (same_Some q list (sym ((known.1 q range).owned key found) ∙ owned)) in
+            let stays = subst (λ keys. ring.IsChain (next_of new heads') (prev_of new heads') 5 q keys q)
+            (without_absent key (known.0 q) absent) (rings' q range).chained in
+            let differs : front ≢ key = λ e.
+            none-some q (sym relists.here ∙ ap (owner_of new) (sym e) ∙ front_owned new heads' (off key known.0, rings') q front range is) in
+            get_or-set_other moments list q moment 0 n
+            ∙ oldest q range front differs (sym (same_front _ _ q _ _ (known.0 q) (known.1 q range).chained stays) ∙ is)
+            ∙ sym (last front)
+      ]
+
+-- a slot in no queue is no front
+pub oldest_all : (slots : Slab Slot) (heads : List Link) (key : ℕ) (moments : List ℕ) → HasRings slots heads → owner_of slots key ≡ None
+    → AreOldestBut key slots heads moments → AreOldest slots heads moments
+oldest_all slots heads key moments known free oldest q range front is =
+    oldest q range front
+    (λ e. none-some q (sym free ∙ ap (owner_of slots) (sym e) ∙ front_owned slots heads known q front range is)) is
