@@ -1,12 +1,12 @@
 -- Circular lists of slots: their keys, links, changes and fronts.
-use Rattle.aged_tracker.proofs.Names.{AreOldest, AreOldestBut, ConntrackEntry, HasRings, IfSome, Inserts, IsApart, IsIn, IsNode, IsOn, IsRing, IsRing-kept}
-use Rattle.aged_tracker.proofs.Names.{IsRing-push, IsRing-skip, IsRings, IsRising, IsSome, Joins, Link, List, ListLinks, Lists, Next, None, Option, Previous}
-use Rattle.aged_tracker.proofs.Names.{Relinks, Relists, SameBy, Slab, Slot, Some, Updates, [], ap, arith, cases_eq, cases_lt, cond, cond-false, cond-true}
-use Rattle.aged_tracker.proofs.Names.{eq-eqb, except_links, except_neighbours, free_not_on, get, get_or, get_or-set_other, get_or-set_same, held_at, held_of}
-use Rattle.aged_tracker.proofs.Names.{inl, inr, is_some, last_at, last_by, le-ltb, length, lt-ltb, link_at, link_by, nat_lt, ne_eqb, neighbour, next_of, next_on}
-use Rattle.aged_tracker.proofs.Names.{no_link, none-some, not_from_false, off, option_map, owner_by, owner_of, prev_end_on, prev_of, prev_on, pushed, refl}
-use Rattle.aged_tracker.proofs.Names.{rings_apart, same_Some, set, slice_index_or, some_of_map, subst, suc, sym, with_links, without, without_absent}
-use Rattle.aged_tracker.proofs.Names.{without_head, zero, ℕ, ◌++◌, ◌+◌, ◌-◌, ◌<◌, ◌∙◌, ◌∷◌, ◌≡◌, ◌≢◌, ◌≤◌, ◌⊎◌}
+use Rattle.aged_tracker.proofs.Names.{AreOldest, AreOldestBut, ConntrackEntry, HasRings, Inserts, IsApart, IsIn, IsNode, IsOn, IsRing, IsRing-kept, IsRing-push}
+use Rattle.aged_tracker.proofs.Names.{IsRing-skip, IsRings, IsRising, IsSome, Joins, Link, List, Lists, Next, None, Option, Previous, Relinks, Relists, SameBy}
+use Rattle.aged_tracker.proofs.Names.{Slab, Slot, Some, Updates, [], ap, arith, cases_eq, cases_lt, cond, cond-false, cond-true, eq-eqb, except_links}
+use Rattle.aged_tracker.proofs.Names.{free_not_on, get, get_or, get_or-set_other, get_or-set_same, held_at, held_of, inl, inr, is_some, last_at, last_by}
+use Rattle.aged_tracker.proofs.Names.{le-ltb, length, link_at, link_by, lt-ltb, nat_lt, ne_eqb, neighbour, next_of, next_on, no_link, none-some, not_from_false}
+use Rattle.aged_tracker.proofs.Names.{off, option_map, owner_by, owner_of, prev_end_on, prev_of, prev_on, pushed, refl, rings_apart, same_Some, set}
+use Rattle.aged_tracker.proofs.Names.{slice_index_or, some_of_map, subst, suc, sym, without, without_absent, without_head, zero, ℕ, ◌++◌, ◌+◌, ◌-◌, ◌<◌, ◌∙◌}
+use Rattle.aged_tracker.proofs.Names.{◌∷◌, ◌≡◌, ◌≢◌, ◌≤◌, ◌⊎◌}
 use Rattle.futures.specs.Links as ring
 
 -- ---- lists of distinct keys
@@ -81,25 +81,6 @@ links_but old new heads key slot updates p d =
           ∙ ap link_by (updates.others (p - 5) (λ e. d (omega arith)))
           ∙ sym (link_at-slot old heads p past)
     ]
-
-pub Relinks-slot : (old new : Slab Slot) (heads : List Link) (key : ℕ) (s : Slot) → Updates old new key (Some s)
-    → Relinks (link_at old heads) (link_at new heads) (5 + key) s.links.link
-Relinks-slot old new heads key s updates =
-    let at : 5 + key - 5 ≡ key = omega arith in
-    record {
-      here = link_at-slot new heads (5 + key) (omega arith) ∙ ap (λ k. link_by (get new k)) at ∙ ap link_by updates.changed;
-      others = links_but old new heads key (Some s) updates;
-    }
-
-module _ (old new : Slab Slot) (same : SameBy except_neighbours old new) where
-  pub bare_owner : (k : ℕ) → owner_of new k ≡ owner_of old k
-  bare_owner k = kept_by owner_by except_neighbours (λ s. refl) (get old k) (get new k) (same k)
-
-  pub bare_place : (p : ℕ) → IsNode old p → IsNode new p
-  bare_place p is above = kept_by is_some except_neighbours (λ s. refl) (get old (p - 5)) (get new (p - 5)) (same (p - 5)) ∙ is above
-
-  pub aside_kept : SameBy except_links old new
-  aside_kept k = kept_by (option_map except_links) except_neighbours (λ s. refl) (get old k) (get new k) (same k)
 
 pub aside_place : (old new : Slab Slot) → SameBy except_links old new → (p : ℕ) → IsNode old p → IsNode new p
 aside_place old new same p is above = kept_by is_some except_links (λ s. refl) (get old (p - 5)) (get new (p - 5)) (same (p - 5)) ∙ is above
@@ -243,29 +224,6 @@ relists_then a b c ha hb hc key at to f g one two =
       rings = λ lists rings. two.rings (f lists) (one.rings lists rings);
       here = two.here;
       others = λ k d. two.others k d ∙ one.others k d;
-    }
-
--- what a write of links writes and keeps
-pub record Placed (old new : Slab Slot) (key : ℕ) (links : ListLinks) : Type 0 where
-  pub link : (heads : List Link) → Relinks (link_at old heads) (link_at new heads) (5 + key) links.link
-  pub owner : owner_of new key ≡ links.list
-  pub others : (k : ℕ) → k ≢ key → owner_of new k ≡ owner_of old k
-  pub same : SameBy except_links old new
-
-pub placed : (old new : Slab Slot) (key : ℕ) (links : ListLinks) → IsSome (get old key)
-    → IfSome (get old key) (λ s. Updates old new key (Some (with_links links s))) → Placed old new key links
-placed old new key links some wrote =
-    let slot = some_of (get old key) some in
-    let updates : Updates old new key (Some (with_links links slot.0)) = rw slot.1 at wrote in
-    record {
-      link = λ heads. Relinks-slot old new heads key (with_links links slot.0) updates;
-      owner = ap owner_by updates.changed;
-      others = λ k d. ap owner_by (updates.others k d);
-      same = λ k. elim (cases_eq k key) [
-        | inl e ↦ ap (option_map except_links) (ap (get new) e ∙ updates.changed)
-            ∙ sym (ap (option_map except_links) (ap (get old) e ∙ slot.1))
-        | inr d ↦ ap (option_map except_links) (updates.others k d)
-      ];
     }
 
 -- a write of the links of one node keeps this part of all

@@ -1,15 +1,13 @@
 -- Names of other crates and of the definitions, for the proofs.
 pub use Rattle.aged_tracker.specs.declared.aged_slots.AgedSlots.{AgedSlots}
 pub use Rattle.aged_tracker.specs.declared.slot.Link.{Link}
-pub use Rattle.aged_tracker.specs.declared.slot.ListLinks.{ListLinks}
 pub use Rattle.aged_tracker.specs.declared.slot.Neighbour.TheVariants.{Next, Previous}
 pub use Rattle.aged_tracker.specs.declared.slot.Slot.{Slot}
 pub use Rattle.aged_tracker.specs.steps.Table.{AreOldest, AreOldestBut, HasRings, IsAllLive, IsIndexed, IsLiveQueue, IsNode, IsNumbered, IsRing, IsRings}
-pub use Rattle.aged_tracker.specs.steps.Table.{IsRising, IsTable, Lists, MAX_KEYS, MAX_SERIAL, Relinks, Relists, SameBy, Sets, belonging_of, connections_by}
-pub use Rattle.aged_tracker.specs.steps.Table.{cons_held, entry_at, entry_below, except_links, except_neighbours, held_at, held_by, held_from, held_of, idle_at}
-pub use Rattle.aged_tracker.specs.steps.Table.{key_in, last_at, last_by, limit_at, link_at, link_by, neighbour, next_of, no_link, number, numbered_entry, off}
-pub use Rattle.aged_tracker.specs.steps.Table.{owner_by, owner_of, picked, prev_of, pushed, queue_by, queue_number, queue_of, serial_at, serial_by, slots_of}
-pub use Rattle.aged_tracker.specs.steps.Table.{updated, with_links}
+pub use Rattle.aged_tracker.specs.steps.Table.{IsRising, IsTable, Lists, MAX_KEYS, Relinks, Relists, SameBy, Sets, belonging_of, connections_by, cons_held}
+pub use Rattle.aged_tracker.specs.steps.Table.{entry_at, entry_below, except_links, held_at, held_by, held_from, held_of, idle_at, key_in, last_at, last_by}
+pub use Rattle.aged_tracker.specs.steps.Table.{limit_at, link_at, link_by, neighbour, next_of, no_link, number, numbered_entry, off, owner_by, owner_of, picked}
+pub use Rattle.aged_tracker.specs.steps.Table.{prev_of, pushed, queue_by, queue_number, queue_of, serial_at, serial_by, slots_of, updated}
 pub use Rattle.box_file.specs.declared.idle_line.IdleKind.{IdleKind}
 pub use Rattle.box_file.specs.declared.limits.Limits.{Limits}
 pub use Rattle.conntrack.proofs.Ids.{apart-filter, apart-push, apart-touched_at, distinct-filter, distinct-push, distinct-touched_at, found_by_id}
@@ -39,12 +37,12 @@ pub use Rattle.list_laws.specs.Elements.{Contains-map, Contains-tail, Contains-u
 pub use Rattle.list_laws.specs.Lists.{Contains-head, find-filter}
 pub use Rattle.list_laws.specs.Options.{option_cases, some_of_map}
 pub use Rattle.slab.proofs.SlabLemmas.{Contains-entries, ContainsKey-within}
-pub use Rattle.slab.specs.Slab.{Slab, Updates, entries, entries_from, get, slab_len}
+pub use Rattle.slab.specs.Slab.{Slab, Updates, entries, entries_from, get}
 pub use Rattle.std.proofs.Common.{Bool, IsSome, IsTrue, List, None, Option, Some, [], add-one, ap, arith, cond, eqb, false, get_or, inl, inr, is_some, length}
 pub use Rattle.std.proofs.Common.{length-append, lt-ltb, map, not, refl, rules, set, subst, suc, sym, true, zero, ℕ, ◌&&◌, ◌++◌, ◌+◌, ◌-◌, ◌<◌, ◌||◌, ◌∙◌, ◌∷◌}
 pub use Rattle.std.proofs.Common.{◌≡◌, ◌≢◌, ◌≤◌, ◌⊎◌}
-pub use Rattle.std.proofs.lemmas.Bool.{and_parts, cases_Bool, cases_eq, cases_lt, cond-false, cond-true, eq-eqb, eqb-true, false_from_ne_true, le-ltb, ltb-true}
-pub use Rattle.std.proofs.lemmas.Bool.{ne_eqb, not-true, not_from_false, or_cases, or_parts, true≢false}
+pub use Rattle.std.proofs.lemmas.Bool.{and_parts, cases_Bool, cases_eq, cases_lt, cond-false, cond-true, eq-eqb, eqb-true, false_from_ne_true, le-ltb, ne_eqb}
+pub use Rattle.std.proofs.lemmas.Bool.{not-true, not_from_false, or_cases, or_parts, true≢false}
 pub use Rattle.std.proofs.lemmas.Bool.Decides.{nat_tests}
 pub use Rattle.std.proofs.lemmas.Iterator.{YieldsList-from_map, YieldsList-from_slice, items_from_collect}
 pub use Rattle.std.proofs.lemmas.Iterator.Consumers.{YieldsList-from_first}

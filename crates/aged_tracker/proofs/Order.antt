@@ -179,20 +179,12 @@ pub record Writes (old new : Slab Slot) (key : ℕ) (slot : Option Slot) : Type 
   pub here : option_map except_links (get new key) ≡ option_map except_links slot
   pub others : (k : ℕ) → k ≢ key → option_map except_links (get new k) ≡ option_map except_links (get old k)
 
-pub writes_first : (old mid new : Slab Slot) (key : ℕ) (slot : Option Slot) → Updates old mid key slot → SameBy except_links mid new
-    → Writes old new key slot
-writes_first old mid new key slot updates same =
+pub writes_between : (old mid mid' new : Slab Slot) (key : ℕ) (slot : Option Slot) → SameBy except_links old mid → Updates mid mid' key slot
+    → SameBy except_links mid' new → Writes old new key slot
+writes_between old mid mid' new key slot before updates after =
     record {
-      here = same key ∙ ap (option_map except_links) updates.changed;
-      others = λ k d. same k ∙ ap (option_map except_links) (updates.others k d);
-    }
-
-pub writes_last : (old mid new : Slab Slot) (key : ℕ) (slot : Option Slot) → SameBy except_links old mid → Updates mid new key slot
-    → Writes old new key slot
-writes_last old mid new key slot same updates =
-    record {
-      here = ap (option_map except_links) updates.changed;
-      others = λ k d. ap (option_map except_links) (updates.others k d) ∙ same k;
+      here = after key ∙ ap (option_map except_links) updates.changed;
+      others = λ k d. after k ∙ ap (option_map except_links) (updates.others k d) ∙ before k;
     }
 
 module _ (t : AgedSlots) (table : IsTable t) (new : Slab Slot) (key : ℕ) (slot : Option Slot) (writes : Writes t.slots new key slot) where
@@ -232,15 +224,15 @@ module _ (t : AgedSlots) (table : IsTable t) (new : Slab Slot) (key : ℕ) (slot
   rising_off keys absent =
       rising_as (last_at (slots_of t)) (last_at (held_at new)) keys (λ k found. ap last_by (sets.others k (absent k found)))
 
-  pub rising_left : (q : ℕ) → q < 5 → IsRising (last_at (held_at new)) (off key table.lists q)
+  pub rising_left : (q : ℕ) → q < 5 → IsRising (last_at (held_at new)) (off key table.rings.0 q)
   rising_left q range =
-      rising_off (without key (table.lists q)) (λ k found. (IsIn-without key k (table.lists q) found).1)
-      (IsNonDecreasingBy-filter (last_at (slots_of t)) _ (table.lists q) (table.rising q range))
+      rising_off (without key (table.rings.0 q)) (λ k found. (IsIn-without key k (table.rings.0 q) found).1)
+      (IsNonDecreasingBy-filter (last_at (slots_of t)) _ (table.rings.0 q) (table.rising q range))
 
-  pub rising_free : get t.slots key ≡ None → (q : ℕ) → q < 5 → IsRising (last_at (held_at new)) (table.lists q)
+  pub rising_free : get t.slots key ≡ None → (q : ℕ) → q < 5 → IsRising (last_at (held_at new)) (table.rings.0 q)
   rising_free free q range =
-      rising_off (table.lists q)
-      (λ k found e. none-some q (sym (ap (λ k. owner_of t.slots k) e ∙ ap owner_by free) ∙ (table.rings q range).owned k found))
+      rising_off (table.rings.0 q)
+      (λ k found e. none-some q (sym (ap (λ k. owner_of t.slots k) e ∙ ap owner_by free) ∙ (table.rings.1 q range).owned k found))
       (table.rising q range)
 
   pub rising_pushed : (to : ℕ) (lists : Lists) → ((q : ℕ) → q < 5 → IsRising (last_at (held_at new)) (lists q))
@@ -254,13 +246,12 @@ module _ (t : AgedSlots) (table : IsTable t) (new : Slab Slot) (key : ℕ) (slot
   -- the table then
   pub table_after : (heads : List Link) (to : Option ℕ) (change : Lists → Lists) (moments : List ℕ) (next : ℕ)
       → Relists t.slots new t.queues heads key to change → to ≡ option_map queue_of (option_map (held_of key) slot)
-      → ((q : ℕ) → q < 5 → IsRising (last_at (held_at new)) (change table.lists q)) → AreOldest new heads moments
+      → ((q : ℕ) → q < 5 → IsRising (last_at (held_at new)) (change table.rings.0 q)) → AreOldest new heads moments
       → IsNumbered new next → key < MAX_KEYS
       → IsTable (record { slots = new; queues = heads; oldest = moments; next_serial = next })
   table_after heads to change moments next relists queue rising oldest numbered few =
       record {
-        lists = change table.lists;
-        rings = relists.rings table.lists table.rings;
+        rings = (_, relists.rings table.rings.0 table.rings.1);
         owners = λ k. elim (cases_eq k key) [
           | inl e ↦ subst (λ k. owner_of new k ≡ option_map queue_of (held_at new k)) (sym e)
               (relists.here ∙ queue ∙ ap (λ o. option_map queue_of o) (sym sets.changed))
@@ -496,26 +487,26 @@ limit_of-at : (limits : Limits) (h : ConntrackEntry) (q : ℕ) → queue_of h �
 limit_of-at limits h q is = ap (limit_in limits) (sym (known_queue (idle_kind h.original.kind (phase_of h))).1) ∙ ap (limit_at limits) is
 
 module _ (limits : Limits) (t : AgedSlots) (now q : ℕ) (table : IsTable t) (range : q < 5) where
-  chain : ring.IsChain (next_of t.slots t.queues) (prev_of t.slots t.queues) 5 q (table.lists q) q
-  chain = (table.rings q range).chained
+  chain : ring.IsChain (next_of t.slots t.queues) (prev_of t.slots t.queues) 5 q (table.rings.0 q) q
+  chain = (table.rings.1 q range).chained
 
-  listed : (key : ℕ) (h : ConntrackEntry) → slots_of t key ≡ Some h → queue_of h ≡ q → IsIn key (table.lists q)
-  listed key h is at = (table.rings q range).listed key (table.owners key ∙ ap (λ o. option_map queue_of o) is ∙ ap Some at)
+  listed : (key : ℕ) (h : ConntrackEntry) → slots_of t key ≡ Some h → queue_of h ≡ q → IsIn key (table.rings.0 q)
+  listed key h is at = (table.rings.1 q range).listed key (table.owners key ∙ ap (λ o. option_map queue_of o) is ∙ ap Some at)
 
   pub queue_empty : next_of t.slots t.queues q < 5 → IsLiveQueue limits (slots_of t) now q
-  queue_empty none k h is at = absurd (none_in _ _ q (table.lists q) k chain none (listed k h is at))
+  queue_empty none k h is at = absurd (none_in _ _ q (table.rings.0 q) k chain none (listed k h is at))
 
   module _ (key : ℕ) (front : next_of t.slots t.queues q ≡ 5 + key) where
     pub queue_live : now - get_or t.oldest q 0 < limit_at limits q → IsLiveQueue limits (slots_of t) now q
     queue_live live k h is at =
-        let least = front_least _ _ q (last_at (slots_of t)) (table.lists q) key k chain front (table.rising q range) (listed k h is at) in
+        let least = front_least _ _ q (last_at (slots_of t)) (table.rings.0 q) key k chain front (table.rising q range) (listed k h is at) in
         lt-ltb (now - h.last) (limit_of limits h)
         (omega (arith, least, ap last_by is, table.oldest q range key front, live, limit_of-at limits h q at))
 
     pub front_expired : limit_at limits q ≤ now - get_or t.oldest q 0
         → IfSome (slots_of t key) (λ h. is_live limits now h ≡ false) × IsSome (slots_of t key)
     front_expired expired =
-        let placed = sym (table.owners key) ∙ front_owned t.slots t.queues (table.lists, table.rings) q key range front in
+        let placed = sym (table.owners key) ∙ front_owned t.slots t.queues table.rings q key range front in
         let slot = some_of_map queue_of (slots_of t key) q placed in
         let late : limit_of limits slot.0 ≤ now - slot.0.last =
         omega (arith, ap last_by slot.1, table.oldest q range key front, expired, limit_of-at limits slot.0 q slot.2) in

@@ -1,9 +1,9 @@
 //! Circular doubly linked lists of slots, each with a head. In `steps` calls count the slots that
 //! they read or write.
-ghost use Rattle.std.specs.Prelude.{◌≡◌, ◌+◌, ◌<◌, ◌≤◌, ◌==◌, [], IfSome, IfNone, Some, None};
+ghost use Rattle.std.specs.Prelude.{◌≡◌, ℕ, ◌+◌, ◌<◌, ◌≤◌, ◌==◌, [], IfSome, IfNone, Some, None};
 ghost use Rattle.slab.specs.Slab.{ContainsKey};
 ghost use Rattle.aged_tracker.specs.steps.Table.{HasRings, IsNode, IsOwned, IsRings, MAX_KEYS, Relinks, Relists, SameBy, SameSize, Slots as SlotsName};
-ghost use Rattle.aged_tracker.specs.steps.Table.{except_links, except_neighbours, link_at, next_of, number, off, owner_of, prev_of, pushed, with_neighbour};
+ghost use Rattle.aged_tracker.specs.steps.Table.{except_links, link_at, next_of, number, off, owner_of, prev_of, pushed, with_neighbour};
 
 use crate::slot::{LISTS, Link, ListLinks, Neighbour, NodeIndex};
 use crate::slots::Slots;
@@ -31,7 +31,8 @@ fn set_neighbour(
     requires { IsNode slots.old (number at) }
     ensures links { Relinks (link_at slots.old heads.old) (link_at slots.new heads.new)
         (number at) (with_neighbour neighbour to (link_at slots.old heads.old (number at))) }
-    ensures except_neighbours { SameBy except_neighbours slots.old slots.new }
+    ensures owners { (key : ℕ) → owner_of slots.new key ≡ owner_of slots.old key }
+    ensures except_links { SameBy except_links slots.old slots.new }
     ensures size { SameSize slots.old slots.new }
     ensures rises { steps.old ≤ steps.new }
     ensures steps { steps.new ≤ steps.old + 1 }
@@ -80,6 +81,7 @@ pub fn push_back(
     requires rings { HasRings slots.old heads.old }
     ensures relists { Relists slots.old slots.new heads.old heads.new key (Some list)
         (pushed key list) }
+    ensures few { key < MAX_KEYS }
     ensures except_links { SameBy except_links slots.old slots.new }
     ensures size { SameSize slots.old slots.new }
     ensures rises { steps.old ≤ steps.new }

@@ -4,7 +4,7 @@ ghost use Rattle.std.specs.Prelude.{◌≡◌, ◌+◌, ◌<◌, [], List, IsTru
 ghost use Rattle.slab.specs.Slab.{entries, get, slab_len, ContainsKey, Updates};
 ghost use Rattle.conntrack.specs.StepCounts.{Counts};
 ghost use Rattle.conntrack.specs.ConntrackEntry.{touched};
-ghost use Rattle.aged_tracker.specs.steps.Table.{Fills, SameSize, held_of, link_at, numbered_entry, owner_of, queue_of, updated, with_link, with_links};
+ghost use Rattle.aged_tracker.specs.steps.Table.{Fills, Placed, SameSize, held_of, link_at, numbered_entry, owner_of, queue_of, updated, with_link};
 ghost use Rattle.aged_tracker.specs.steps.Table.{with_neighbour};
 ghost use Rattle.aged_tracker.specs.declared.slot.Link.{Link as Linked};
 
@@ -163,8 +163,7 @@ impl Slots {
         ensures list { result.list ≡ owner_of self.old key }
         ensures link { (heads : List Linked)
             → result.link ≡ link_at self.old heads (5 + key) }
-        ensures slots { IfSome (get self.old key) (λ s. Updates self.old self.new key
-            (Some (with_links (record { list = None; link = result.link }) s))) }
+        ensures placed { Placed self.old self.new key (record { list = None; link = result.link }) }
         ensures size { SameSize self.old self.new }
         ensures steps { Counts 1 steps.old steps.new }
     {
@@ -178,8 +177,7 @@ impl Slots {
     /// Sets the links of one.
     pub fn set_links(&mut self, key: usize, links: ListLinks, steps: &mut Steps)
         requires { ContainsKey self.old key }
-        ensures slots { IfSome (get self.old key)
-            (λ s. Updates self.old self.new key (Some (with_links links s))) }
+        ensures placed { Placed self.old self.new key links }
         ensures size { SameSize self.old self.new }
         ensures steps { Counts 1 steps.old steps.new }
     {

@@ -49,11 +49,8 @@ mapping_of packed =
 
 -- ---- slots
 
-abbrev pub with_links : ListLinks → Slot → Slot
-with_links links slot = record slot { links = links }
-
 abbrev pub with_link : Link → Slot → Slot
-with_link link slot = with_links (record { list = slot.links.list; link = link }) slot
+with_link link slot = record slot { links = record { list = slot.links.list; link = link } }
 
 -- the entry in the slot of a key
 abbrev pub held_of : ℕ → Slot → ConntrackEntry
@@ -159,13 +156,16 @@ pub record Relinks (old new : ℕ → Link) (node : ℕ) (link : Link) : Type 0 
 abbrev pub SameBy : (Slot → Slot) → Slab Slot → Slab Slot → Type 0
 SameBy keep old new = (key : ℕ) → option_map keep (get new key) ≡ option_map keep (get old key)
 
--- a slot without its neighbours
-abbrev pub except_neighbours : Slot → Slot
-except_neighbours slot = with_link no_link slot
-
 -- a slot without its links
 abbrev pub except_links : Slot → Slot
-except_links slot = with_links (record { list = None; link = no_link }) slot
+except_links slot = record slot { links = record { list = None; link = no_link } }
+
+-- what a write of links writes and keeps
+pub record Placed (old new : Slab Slot) (key : ℕ) (links : ListLinks) : Type 0 where
+  pub link : (heads : List Link) → Relinks (link_at old heads) (link_at new heads) (5 + key) links.link
+  pub owner : owner_of new key ≡ links.list
+  pub others : (other : ℕ) → other ≢ key → owner_of new other ≡ owner_of old other
+  pub same : SameBy except_links old new
 
 -- ---- lists: circular and doubly linked, through the slots of a slab, each with a head: the queues
 
@@ -323,10 +323,9 @@ held_by t = held_from (entry_at t.slots) 0 t.next_serial
 
 -- each slot is in its entry's queue, and each queue is sorted by last packets
 pub record IsTable (t : AgedSlots) : Type 0 where
-  pub lists : Lists
-  pub rings : IsRings t.slots t.queues lists
+  pub rings : HasRings t.slots t.queues
   pub owners : (key : ℕ) → owner_of t.slots key ≡ option_map queue_of (slots_of t key)
-  pub rising : (q : ℕ) → q < 5 → IsRising (last_at (slots_of t)) (lists q)
+  pub rising : (q : ℕ) → q < 5 → IsRising (last_at (slots_of t)) (rings.0 q)
   pub numbered : IsNumbered t.slots t.next_serial
   pub oldest : AreOldest t.slots t.queues t.oldest
   pub few : (key : ℕ) → IsSome (slots_of t key) → key < MAX_KEYS

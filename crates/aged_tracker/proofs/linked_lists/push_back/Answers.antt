@@ -1,20 +1,15 @@
-use Rattle.aged_tracker.proofs.Names.{Next, Previous, Some, ap, arith, free_not_on, link_at, neighbour, next_of, number, owner_of, prev_end_on, prev_of, refl}
-use Rattle.aged_tracker.proofs.Names.{ℕ, ◌+◌, ◌∙◌, ◌≡◌, ◌≢◌}
-use Rattle.aged_tracker.proofs.Lists.{Placed, Spliced, aside_kept, aside_place, bare_owner, joined, on_place, placed, relists_pushed, unmoved}
+use Rattle.aged_tracker.proofs.Names.{Next, Previous, ap, arith, free_not_on, link_at, neighbour, next_of, number, owner_of, prev_end_on, prev_of, refl, ℕ, ◌+◌}
+use Rattle.aged_tracker.proofs.Names.{◌∙◌, ◌≡◌, ◌≢◌}
+use Rattle.aged_tracker.proofs.Lists.{Spliced, aside_place, joined, on_place, relists_pushed, unmoved}
 use Rattle.aged_tracker.proofs.linked_lists.push_back.Goals as goal
-use Rattle.aged_tracker.proofs.linked_lists.push_back.Goals.{After-set_links, After-set_neighbour-2}
-
--- its links are written
-own : (c : After-set_links) → Placed c.args.slots.now c.set_links.new.self c.args.key
-    (record { list = Some c.args.list; link = record { prev = c.head_link.result.prev; next = c.head-head.result } })
-own c = placed _ _ c.args.key _ c.requires.slot c.set_links.ensures.slots
+use Rattle.aged_tracker.proofs.linked_lists.push_back.Goals.{After-set_neighbour-2}
 
 pub set_neighbour-requires : goal.set_neighbour-requires
 set_neighbour-requires c =
     let keys = c.requires.rings.0 c.args.list in
     let ring = c.requires.rings.1 c.args.list c.requires.range in
     let b = ap (neighbour Previous) (c.head_link.ensures c.args.slots.now) in
-    aside_place c.args.slots.now c.set_links.new.self (own (goal.at.set_neighbour-requires c).After-set_links).same
+    aside_place c.args.slots.now c.set_links.new.self c.set_links.ensures.placed.same
     (number c.head_link.result.prev)
     (on_place c.args.slots.now c.args.heads.now c.args.list keys (number c.head_link.result.prev) c.requires.range ring
     (rw b (prev_end_on _ _ 5 c.args.list keys c.args.list ring.chained)))
@@ -24,8 +19,7 @@ spliced : (c : After-set_neighbour-2) → Spliced c.args.slots.now c.set_neighbo
 spliced c =
     let keys = c.requires.rings.0 c.args.list in
     let ring = c.requires.rings.1 c.args.list c.requires.range in
-    let p = placed _ _ c.args.key _ c.requires.slot c.set_links.ensures.slots in
-    let linked = p.link c.args.heads.now in
+    let linked = c.set_links.ensures.placed.link c.args.heads.now in
     let b = ap (neighbour Previous) (c.head_link.ensures c.args.slots.now) in
     let head : number c.head-head.result ≡ c.args.list = c.head-head.ensures in
     let here : number c.slot-slot.result ≡ 5 + c.args.key = c.slot-slot.ensures in
@@ -44,8 +38,7 @@ spliced c =
     (rw e (prev_end_on _ _ 5 c.args.list keys c.args.list ring.chained)) in
     let not_head : 5 + c.args.key ≢ c.args.list = λ e. omega (arith, c.requires.range, e) in
     let owners : (k : ℕ) → owner_of c.set_neighbour-2.new.slots k ≡ owner_of c.set_links.new.self k =
-    bare_owner c.set_links.new.self c.set_neighbour-2.new.slots
-    (λ k. c.set_neighbour-2.ensures.except_neighbours k ∙ c.set_neighbour.ensures.except_neighbours k) in
+    λ k. c.set_neighbour-2.ensures.owners k ∙ c.set_neighbour.ensures.owners k in
     record {
       links = record {
         into = next.here;
@@ -55,17 +48,11 @@ spliced c =
         nexts = λ p d e. next.others p d ∙ ap (neighbour Next) (linked.others p e);
         prevs = λ p d e. prev.others p d ∙ ap (neighbour Previous) (linked.others p e);
       };
-      joined = owners c.args.key ∙ p.owner;
-      others = λ k d. owners k ∙ p.others k d;
+      joined = owners c.args.key ∙ c.set_links.ensures.placed.owner;
+      others = λ k d. owners k ∙ c.set_links.ensures.placed.others k d;
     }
 
 pub returns-clause-relists : goal.returns-clause-relists
 returns-clause-relists c =
     relists_pushed _ _ _ _ c.args.key c.args.list (spliced (goal.at.returns-clause-relists c).After-set_neighbour-2) c.requires.range
     c.requires.free
-
-pub returns-clause-except_links : goal.returns-clause-except_links
-returns-clause-except_links c k =
-    aside_kept c.set_links.new.self c.set_neighbour-2.new.slots
-    (λ j. c.set_neighbour-2.ensures.except_neighbours j ∙ c.set_neighbour.ensures.except_neighbours j) k
-    ∙ (own (goal.at.returns-clause-except_links c).After-set_links).same k

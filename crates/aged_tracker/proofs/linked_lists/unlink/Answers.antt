@@ -1,23 +1,14 @@
-use Rattle.aged_tracker.proofs.Names.{IsNode, IsOn, Link, ListLinks, Next, None, Previous, Some, ap, arith, get, link_at, neighbour, next_on, owner_of, prev_on}
-use Rattle.aged_tracker.proofs.Names.{refl, same_Some, sym, ℕ, ◌+◌, ◌∙◌, ◌≡◌}
-use Rattle.aged_tracker.proofs.Lists.{Placed, Skipped, aside_kept, aside_place, bare_owner, bare_place, joined, on_place, owned_some, placed, relists_left}
-use Rattle.aged_tracker.proofs.Lists.{unmoved}
+use Rattle.aged_tracker.proofs.Names.{IsNode, IsOn, Link, Next, Previous, Some, ap, arith, link_at, neighbour, next_on, owner_of, prev_on, refl, same_Some, sym}
+use Rattle.aged_tracker.proofs.Names.{ℕ, ◌+◌, ◌∙◌, ◌≡◌}
+use Rattle.aged_tracker.proofs.Lists.{Skipped, aside_place, joined, on_place, relists_left, unmoved}
 use Rattle.aged_tracker.proofs.linked_lists.unlink.Goals as goal
-use Rattle.aged_tracker.proofs.linked_lists.unlink.Goals.{After-from, After-set_neighbour-2, After-take_links-links}
-
--- it is in no list, with its links
-abbrev links : After-take_links-links → ListLinks
-links c = record { list = None; link = c.take_links-links.result.link }
-
-taken : (c : After-take_links-links) → Placed c.args.slots.now c.take_links-links.new.self c.args.key (links c)
-taken c = placed c.args.slots.now c.take_links-links.new.self c.args.key (links c)
-    (owned_some (get c.args.slots.now c.args.key) c.requires.owned.0 c.requires.owned.1.1) c.take_links-links.ensures.slots
+use Rattle.aged_tracker.proofs.linked_lists.unlink.Goals.{After-set_neighbour-2, After-take_links-links}
 
 -- a neighbour exists
 place : (c : After-take_links-links) (p : ℕ) → IsOn 5 c.requires.owned.0 (c.requires.rings.0 c.requires.owned.0) p
     → IsNode c.take_links-links.new.self p
 place c p on =
-    aside_place c.args.slots.now c.take_links-links.new.self (taken c).same p
+    aside_place c.args.slots.now c.take_links-links.new.self c.take_links-links.ensures.placed.same p
     (on_place c.args.slots.now c.args.heads.now c.requires.owned.0 (c.requires.rings.0 c.requires.owned.0) p c.requires.owned.1.0
     (c.requires.rings.1 c.requires.owned.0 c.requires.owned.1.0) on)
 
@@ -31,7 +22,7 @@ set_neighbour-requires c =
 pub set_neighbour-requires-2 : goal.set_neighbour-requires-2
 set_neighbour-requires-2 c =
     let ring = c.requires.rings.1 c.requires.owned.0 c.requires.owned.1.0 in
-    bare_place c.take_links-links.new.self c.set_neighbour.new.slots c.set_neighbour.ensures.except_neighbours _
+    aside_place c.take_links-links.new.self c.set_neighbour.new.slots c.set_neighbour.ensures.except_links _
     (place (goal.at.set_neighbour-requires-2 c).After-take_links-links _
     (rw (c.take_links-links.ensures.link c.args.heads.now)
     (next_on _ _ 5 c.requires.owned.0 _ c.requires.owned.0 c.args.key ring.chained (ring.listed c.args.key c.requires.owned.1.1))))
@@ -43,8 +34,7 @@ skipped c =
     let heads = c.args.heads.now in
     let taken = c.take_links-links.new.self in
     let link = c.take_links-links.result.link in
-    let l = placed _ _ c.args.key (record { list = None; link = link })
-    (owned_some (get old c.args.key) c.requires.owned.0 c.requires.owned.1.1) c.take_links-links.ensures.slots in
+    let l = c.take_links-links.ensures.placed in
     let here = c.take_links-links.ensures.link heads in
     let same : (part : Link → ℕ) (p : ℕ) → part (link_at taken heads p) ≡ part (link_at old heads p) =
     λ part. unmoved part (link_at old heads) (link_at taken heads) (5 + c.args.key) link (l.link heads) (ap part here) in
@@ -52,8 +42,7 @@ skipped c =
     let second = c.set_neighbour-2.ensures.links in
     let new = link_at c.set_neighbour-2.new.slots c.set_neighbour-2.new.heads in
     let owners : (k : ℕ) → owner_of c.set_neighbour-2.new.slots k ≡ owner_of taken k =
-    bare_owner taken c.set_neighbour-2.new.slots
-    (λ k. c.set_neighbour-2.ensures.except_neighbours k ∙ c.set_neighbour.ensures.except_neighbours k) in
+    λ k. c.set_neighbour-2.ensures.owners k ∙ c.set_neighbour.ensures.owners k in
     record {
       next = rw here at (joined (neighbour Next) (link_at old heads) new _ _ _ _ first (same (neighbour Next))
           (unmoved (neighbour Next) _ _ _ _ second refl));
@@ -75,9 +64,3 @@ pub returns-clause-relists : goal.returns-clause-relists
 returns-clause-relists c =
     relists_left _ _ _ _ c.args.key (skipped (goal.at.returns-clause-relists c).After-set_neighbour-2) c.from.result (returns-clause-range c)
     (returns-clause-owner c)
-
-pub returns-clause-except_links : goal.returns-clause-except_links
-returns-clause-except_links c k =
-    aside_kept c.take_links-links.new.self c.set_neighbour-2.new.slots
-    (λ j. c.set_neighbour-2.ensures.except_neighbours j ∙ c.set_neighbour.ensures.except_neighbours j) k
-    ∙ (taken (goal.at.returns-clause-except_links c).After-take_links-links).same k

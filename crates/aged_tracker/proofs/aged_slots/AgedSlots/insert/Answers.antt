@@ -1,21 +1,13 @@
-use Rattle.aged_tracker.proofs.Names.{AreOldestBut, ConntrackEntry, IsNumbered, MAX_KEYS, MAX_SERIAL, Relists, Sets, Slot, Some, add-one, and_parts, ap, arith}
-use Rattle.aged_tracker.proofs.Names.{begun_with, entry_at, held_at, held_from, held_of, inl, last_at, last_by, ltb-true, nat_lt, option_map, owner_by}
-use Rattle.aged_tracker.proofs.Names.{owner_of, pushed, queue_by, queue_of, slab_len, slots_of, sym, ◌&&◌, ◌+◌, ◌<◌, ◌∙◌, ◌≡◌}
+use Rattle.aged_tracker.proofs.Names.{AreOldestBut, ConntrackEntry, IsNumbered, Relists, Sets, Slot, Some, add-one, ap, arith, begun_with, entry_at, held_at}
+use Rattle.aged_tracker.proofs.Names.{held_from, held_of, inl, last_at, last_by, option_map, owner_by, owner_of, pushed, queue_by, queue_of, refl, slots_of}
+use Rattle.aged_tracker.proofs.Names.{sym, ◌+◌, ◌∙◌, ◌≡◌}
 use Rattle.aged_tracker.proofs.Lists.{oldest_pushed, oldest_written, relists_then, relists_written}
-use Rattle.aged_tracker.proofs.Order.{Writes, held_begun, least, numbered_after, rising_free, rising_pushed, sets, table_after, writes_first}
+use Rattle.aged_tracker.proofs.Order.{Writes, held_begun, least, numbered_after, rising_free, rising_pushed, sets, table_after, writes_between}
 use Rattle.aged_tracker.proofs.aged_slots.AgedSlots.insert.Goals as goal
 use Rattle.aged_tracker.proofs.aged_slots.AgedSlots.insert.Goals.{After-fill-key, After-push_back}
 
 abbrev slot : After-push_back → Slot
 slot c = c.fill-key.ensures.fills.slot
-
-few : (c : After-push_back) → c.fill-key.result < MAX_KEYS
-few c =
-    let room = and_parts (nat_lt (slab_len c.args.self.now.slots) c.args.self.now.slots.capacity)
-    (nat_lt c.args.self.now.slots.vacant_key MAX_KEYS && nat_lt c.args.self.now.next_serial MAX_SERIAL) c.requires.room in
-    let keys = and_parts (nat_lt c.args.self.now.slots.vacant_key MAX_KEYS) (nat_lt c.args.self.now.next_serial MAX_SERIAL) room.1 in
-    let below : c.args.self.now.slots.vacant_key < MAX_KEYS = ltb-true c.args.self.now.slots.vacant_key MAX_KEYS keys.0 in
-    omega (arith, below, c.fill-key.ensures.key)
 
 made : (c : After-push_back) → held_of c.fill-key.result (slot c) ≡ begun_with (record { 0 = c.fill-key.result }) c.args.connection c.args.flags
 made c =
@@ -31,13 +23,10 @@ filled c =
 
 pub push_back-requires-clause-rings : goal.push_back-requires-clause-rings
 push_back-requires-clause-rings c =
-    (c.requires.table.lists, (filled (goal.at.push_back-requires-clause-rings c).After-fill-key).rings _ c.requires.table.rings)
-
-pub note_front-requires-clause-few : goal.note_front-requires-clause-few
-note_front-requires-clause-few c = few (goal.at.note_front-requires-clause-few c).After-push_back
+    (c.requires.table.rings.0, (filled (goal.at.push_back-requires-clause-rings c).After-fill-key).rings _ c.requires.table.rings.1)
 
 writes : (c : After-push_back) → Writes c.args.self.now.slots c.push_back.new.slots c.fill-key.result (Some (slot c))
-writes c = writes_first _ _ _ c.fill-key.result _ c.fill-key.ensures.fills.updates c.push_back.ensures.except_links
+writes c = writes_between c.args.self.now.slots _ _ _ c.fill-key.result _ (λ k. refl) c.fill-key.ensures.fills.updates c.push_back.ensures.except_links
 
 begun : (c : After-push_back) → Sets (slots_of c.args.self.now) (held_at c.push_back.new.slots) c.fill-key.result (Some (held_of c.fill-key.result (slot c)))
 begun c = sets c.args.self.now c.requires.table _ c.fill-key.result _ (writes c)
@@ -65,14 +54,14 @@ returns-clause-table c =
     ap last_by (begun at).changed ∙ ap (λ (h : ConntrackEntry). h.last) (made at) in
     let oldest : AreOldestBut key c.push_back.new.slots c.push_back.new.heads t.oldest =
     oldest_pushed c.fill-key.new.self _ t.queues _ key t.oldest c.push_back.ensures.except_links c.queue_by-queue.result
-    (table.lists, (filled known).rings _ table.rings) c.push_back.ensures.relists
+    (table.rings.0, (filled known).rings _ table.rings.1) c.push_back.ensures.relists
     (oldest_written t.slots _ _ key _ _ c.fill-key.ensures.fills.updates table.oldest) in
     table_after t table c.push_back.new.slots key (Some (slot at)) (writes at) c.push_back.new.heads _ _ c.note_front.new.oldest
     _ relists (ap Some to)
-    (rising_pushed t table _ key _ (writes at) c.queue_by-queue.result table.lists
+    (rising_pushed t table _ key _ (writes at) c.queue_by-queue.result table.rings.0
     (rising_free t table _ key _ (writes at) c.fill-key.ensures.free) (least t table _ key _ (writes at) c.args.connection.last last c.requires.later))
-    (c.note_front.ensures c.push_back.new.slots (_, relists.rings table.lists table.rings) relists.here last oldest)
-    (numbered at) (few at)
+    (c.note_front.ensures c.push_back.new.slots (_, relists.rings table.rings.0 table.rings.1) relists.here last oldest)
+    (numbered at) c.push_back.ensures.few
 
 pub returns-clause-held : goal.returns-clause-held
 returns-clause-held c =
@@ -81,6 +70,3 @@ returns-clause-held c =
     ap (held_from (entry_at c.push_back.new.slots) 0) (add-one t.next_serial)
     ∙ held_begun t c.requires.table _ c.fill-key.result _ (writes at) (numbered at) (ap (option_map (held_of c.fill-key.result)) c.fill-key.ensures.free)
     c.fill-key.ensures.fills.numbered _ (ap Some (made at))
-
-pub returns-clause-few : goal.returns-clause-few
-returns-clause-few c = few (goal.at.returns-clause-few c).After-push_back

@@ -5,8 +5,7 @@ pub returns-clause-table : goal.returns-clause-table
 returns-clause-table c =
     let rings : IsRings c.new.result c.empty_heads.result (λ list. []) = c.empty_heads.ensures c.new.result c.new.ensures.empty in
     record {
-      lists = λ list. [];
-      rings = rings;
+      rings = (λ list. [], rings);
       owners = search rules;
       rising = λ q range i j d le less. absurd (omega (arith, less));
       numbered = search rules;

@@ -2,13 +2,10 @@ use Rattle.aged_tracker.proofs.Names.{IsNumbered, IsSome, None, Relists, Some, a
 use Rattle.aged_tracker.proofs.Names.{queue_of, refl, same_id, slots_of, sym, ◌∙◌, ◌≡◌}
 use Rattle.aged_tracker.proofs.Index.{kept_if, kept_step}
 use Rattle.aged_tracker.proofs.Lists.{held_aside, oldest_all, oldest_written, relists_then, relists_written, some_of}
-use Rattle.aged_tracker.proofs.Order.{Writes, held_changed, not_none, numbered_after, queue_of-range, rising_left, table_after, writes_last}
+use Rattle.aged_tracker.proofs.Order.{Writes, held_changed, not_none, numbered_after, queue_of-range, rising_left, table_after, writes_between}
 use Rattle.conntrack.specs.ConntrackEntry.{without}
 use Rattle.aged_tracker.proofs.aged_slots.AgedSlots.remove.Goals as goal
 use Rattle.aged_tracker.proofs.aged_slots.AgedSlots.remove.Goals.{After-remove}
-
-pub take_out-requires-clause-rings : goal.take_out-requires-clause-rings
-take_out-requires-clause-rings c = (c.requires.table.lists, c.requires.table.rings)
 
 pub take_out-requires-clause-owned : goal.take_out-requires-clause-owned
 take_out-requires-clause-owned c =
@@ -24,7 +21,7 @@ value c =
     ∙ ap (option_map (held_of c.args.id.0)) c.remove.ensures.value
 
 writes : (c : After-remove) → Writes c.args.self.now.slots c.remove.new.self c.args.id.0 None
-writes c = writes_last _ _ _ c.args.id.0 None c.take_out.ensures.except_links c.remove.ensures.updates
+writes c = writes_between _ _ _ _ c.args.id.0 None c.take_out.ensures.except_links c.remove.ensures.updates (λ k. refl)
 
 emptied : (c : After-remove) → Relists c.take_out.new.slots c.remove.new.self c.take_out.new.queues c.take_out.new.queues c.args.id.0
     (owner_of c.take_out.new.slots c.args.id.0) (λ lists. lists)
@@ -46,7 +43,7 @@ returns-clause-table c =
     let relists = relists_then _ _ _ _ _ _ key _ _ (off key) (λ lists. lists) c.take_out.ensures.relists (emptied at) in
     table_after t table c.remove.new.self key None (writes at) c.take_out.new.queues _ (off key) c.take_out.new.oldest t.next_serial
     relists c.take_out.ensures.relists.here (rising_left t table _ key _ (writes at))
-    (oldest_all c.remove.new.self c.take_out.new.queues key c.take_out.new.oldest (_, relists.rings table.lists table.rings)
+    (oldest_all c.remove.new.self c.take_out.new.queues key c.take_out.new.oldest (_, relists.rings table.rings.0 table.rings.1)
     (relists.here ∙ c.take_out.ensures.relists.here)
     (oldest_written c.take_out.new.slots _ _ key _ None c.remove.ensures.updates c.take_out.ensures.oldest))
     (numbered at) (table.few key c.requires.is_held)

@@ -6,7 +6,6 @@ returns-clause-table c =
     let table = c.requires.table in
     subst (λ (s : Slab Slot). IsTable (record c.args.self.now { slots = s })) (sym c.reserve_one.ensures.rest_kept)
     (record {
-      lists = table.lists;
       rings = table.rings;
       owners = table.owners;
       rising = table.rising;

@@ -3,7 +3,7 @@ use Rattle.aged_tracker.proofs.Names.{held_at, held_of, inl, inr, last_at, last_
 use Rattle.aged_tracker.proofs.Names.{queue_of, refl, same_id, serial_by, sym, touched, touched_at, updated, ◌∙◌, ◌≡◌}
 use Rattle.aged_tracker.proofs.Lists.{oldest_written, relists_then, relists_written, some_of}
 use Rattle.aged_tracker.proofs.Order.{Writes, held_changed, least, numbered_after, queue_of-range, rising_left, rising_pushed, sets, slot_by, table_after}
-use Rattle.aged_tracker.proofs.Order.{writes_first}
+use Rattle.aged_tracker.proofs.Order.{writes_between}
 use Rattle.aged_tracker.proofs.aged_slots.AgedSlots.touch.Goals as goal
 use Rattle.aged_tracker.proofs.aged_slots.AgedSlots.touch.Goals.{After-touch-queue}
 
@@ -28,7 +28,7 @@ requeue-requires-clause-few c = c.requires.table.few c.args.id.0 c.requires.is_h
 
 pub requeue-requires-clause-rings : goal.requeue-requires-clause-rings
 requeue-requires-clause-rings c =
-    (c.requires.table.lists, (same (goal.at.requeue-requires-clause-rings c).After-touch-queue).rings _ c.requires.table.rings)
+    (c.requires.table.rings.0, (same (goal.at.requeue-requires-clause-rings c).After-touch-queue).rings _ c.requires.table.rings.1)
 
 pub requeue-requires-clause-owned : goal.requeue-requires-clause-owned
 requeue-requires-clause-owned c =
@@ -46,7 +46,7 @@ note_front-requires-clause-few c = c.requires.table.few c.args.id.0 c.requires.i
 
 writes : (c : After-touch-queue) (new : Slab Slot) → SameBy except_links c.touch-queue.new.self new
     → Writes c.args.self.now.slots new c.args.id.0 (Some (after c))
-writes c new = writes_first c.args.self.now.slots c.touch-queue.new.self new c.args.id.0 (Some (after c)) (wrote c)
+writes c new = writes_between c.args.self.now.slots _ c.touch-queue.new.self new c.args.id.0 (Some (after c)) (λ k. refl) (wrote c)
 
 numbered : (c : After-touch-queue) (new : Slab Slot) → SameBy except_links c.touch-queue.new.self new → IsNumbered new c.args.self.now.next_serial
 numbered c new same =
@@ -68,9 +68,9 @@ returns-clause-table c =
     let last : last_at (held_at c.requeue.new.slots) key ≡ c.args.now = ap last_by (sets t table _ key _ ws).changed in
     table_after t table c.requeue.new.slots key (Some (after at)) ws c.requeue.new.queues _ _ c.note_front.new.oldest _
     relists (ap Some (rw (slot at).1 at c.touch-queue.ensures.queue))
-    (rising_pushed t table _ key _ ws c.touch-queue.result (off key table.lists) (rising_left t table _ key _ ws)
+    (rising_pushed t table _ key _ ws c.touch-queue.result (off key table.rings.0) (rising_left t table _ key _ ws)
     (least t table _ key _ ws c.args.now last c.requires.later))
-    (c.note_front.ensures c.requeue.new.slots (_, relists.rings table.lists table.rings) relists.here last c.requeue.ensures.oldest)
+    (c.note_front.ensures c.requeue.new.slots (_, relists.rings table.rings.0 table.rings.1) relists.here last c.requeue.ensures.oldest)
     (numbered at c.requeue.new.slots c.requeue.ensures.except_links) (table.few key c.requires.is_held)
 
 pub returns-clause-held : goal.returns-clause-held
