@@ -1,12 +1,12 @@
 -- Circular lists of slots: their keys, links, changes and fronts.
 use Rattle.aged_tracker.proofs.Names.{AreOldest, AreOldestBut, ConntrackEntry, HasRings, Inserts, IsApart, IsIn, IsNode, IsOn, IsRing, IsRing-kept, IsRing-push}
 use Rattle.aged_tracker.proofs.Names.{IsRing-skip, IsRings, IsRising, IsSome, Joins, Link, List, Lists, Next, None, Option, Previous, Relinks, Relists, SameBy}
-use Rattle.aged_tracker.proofs.Names.{Slab, Slot, Some, Updates, [], ap, arith, cases_eq, cases_lt, cond, cond-false, cond-true, eq-eqb, except_links}
-use Rattle.aged_tracker.proofs.Names.{free_not_on, get, get_or, get_or-set_other, get_or-set_same, held_at, held_of, inl, inr, is_some, last_at, last_by}
-use Rattle.aged_tracker.proofs.Names.{le-ltb, length, link_at, link_by, lt-ltb, nat_lt, ne_eqb, neighbour, next_of, next_on, no_link, none-some, not_from_false}
-use Rattle.aged_tracker.proofs.Names.{off, option_map, owner_by, owner_of, prev_end_on, prev_of, prev_on, pushed, refl, rings_apart, same_Some, set}
-use Rattle.aged_tracker.proofs.Names.{slice_index_or, some_of_map, subst, suc, sym, without, without_absent, without_head, zero, ℕ, ◌++◌, ◌+◌, ◌-◌, ◌<◌, ◌∙◌}
-use Rattle.aged_tracker.proofs.Names.{◌∷◌, ◌≡◌, ◌≢◌, ◌≤◌, ◌⊎◌}
+use Rattle.aged_tracker.proofs.Names.{Slab, Slot, Some, Updates, [], ap, arith, cases_eq, cond, cond-false, cond-true, eq-eqb, except_links, free_not_on, get}
+use Rattle.aged_tracker.proofs.Names.{get_or, get_or-set_other, get_or-set_same, held_at, held_of, inl, inr, is_some, last_at, last_by, length, link_at}
+use Rattle.aged_tracker.proofs.Names.{link_by, lt-ltb, ne_eqb, neighbour, next_of, next_on, no_link, none-some, not_from_false, off, option_map, owner_by}
+use Rattle.aged_tracker.proofs.Names.{owner_of, prev_end_on, prev_of, prev_on, pushed, refl, rings_apart, same_Some, set, some_of_map, subst, suc, sym, without}
+use Rattle.aged_tracker.proofs.Names.{without_absent, without_head, zero, ℕ, ◌++◌, ◌+◌, ◌-◌, ◌<◌, ◌∙◌, ◌∷◌, ◌≡◌, ◌≢◌, ◌≤◌, ◌⊎◌}
+use Rattle.std.proofs.lemmas.Grind.{common_steps}
 use Rattle.futures.specs.Links as ring
 
 -- ---- lists of distinct keys
@@ -67,20 +67,11 @@ named_at slots key h is = ap (λ (x : ConntrackEntry). x.id.0) (sym (some_of_map
 pub link_at-head : (slots : Slab Slot) (heads : List Link) (p : ℕ) → p < 5 → link_at slots heads p ≡ get_or heads p no_link
 link_at-head slots heads p below = ap (λ b. cond b (get_or heads p no_link) (link_by (get slots (p - 5)))) (lt-ltb p 5 below)
 
-pub link_at-slot : (slots : Slab Slot) (heads : List Link) (p : ℕ) → 5 ≤ p
-    → link_at slots heads p ≡ link_by (get slots (p - 5))
-link_at-slot slots heads p above = ap (λ b. cond b (get_or heads p no_link) (link_by (get slots (p - 5)))) (le-ltb p 5 above)
-
--- the links of every node but a slot
-pub links_but : (old new : Slab Slot) (heads : List Link) (key : ℕ) (slot : Option Slot) → Updates old new key slot
-    → (p : ℕ) → p ≢ 5 + key → link_at new heads p ≡ link_at old heads p
-links_but old new heads key slot updates p d =
-    elim (cases_lt p 5) [
-      | inl below ↦ link_at-head new heads p below ∙ sym (link_at-head old heads p below)
-      | inr past ↦ link_at-slot new heads p past
-          ∙ ap link_by (updates.others (p - 5) (λ e. d (omega arith)))
-          ∙ sym (link_at-slot old heads p past)
-    ]
+-- the links after a write to a slot that keeps its own
+links_as : (old new : Slab Slot) (heads : List Link) (key : ℕ) (slot : Option Slot) → Updates old new key slot → (p : ℕ)
+    → (p ≡ 5 + key → link_by slot ≡ link_by (get old key)) → link_at new heads p ≡ link_at old heads p
+links_as old new heads key slot updates p kept =
+    grind (arith, common_steps, cases_eq p (5 + key), updates.others (p - 5), updates.changed)
 
 pub aside_place : (old new : Slab Slot) → SameBy except_links old new → (p : ℕ) → IsNode old p → IsNode new p
 aside_place old new same p is above = kept_by is_some except_links (λ s. refl) (get old (p - 5)) (get new (p - 5)) (same (p - 5)) ∙ is above
@@ -194,22 +185,12 @@ pub relists_written : (old new : Slab Slot) (heads : List Link) (key : ℕ) (slo
     → owner_by slot ≡ owner_of old key → (owner_of old key ≡ None) ⊎ (link_by slot ≡ link_by (get old key))
     → Relists old new heads heads key (owner_of old key) (λ lists. lists)
 relists_written old new heads key slot updates owner link =
-    let owners : (k : ℕ) → owner_of new k ≡ owner_of old k = λ k. elim (cases_eq k key) [
-      | inl e ↦ ap (owner_of new) e ∙ ap owner_by updates.changed ∙ owner ∙ sym (ap (owner_of old) e)
-      | inr d ↦ ap owner_by (updates.others k d)
-    ] in
+    let owners : (k : ℕ) → owner_of new k ≡ owner_of old k = λ k. grind (arith, cases_eq k key, updates.others k, updates.changed) in
     record {
       rings = λ lists rings l r.
-          let same : (p : ℕ) → IsOn 5 l (lists l) p → link_at new heads p ≡ link_at old heads p = λ p on. elim (cases_eq p (5 + key)) [
-            | inl e ↦ elim link [
-              | inl free ↦ absurd (off_free old heads lists rings key free l p r on e)
-              | inr kept ↦
-                  let at : p - 5 ≡ key = omega (arith, e) in
-                  ap (λ link. cond (nat_lt p 5) (slice_index_or heads p no_link) link) (ap (λ k. link_by (get new k)) at
-                  ∙ ap link_by updates.changed ∙ kept ∙ sym (ap (λ k. link_by (get old k)) at))
-            ]
-            | inr d ↦ links_but old new heads key slot updates p d
-          ] in
+          let same : (p : ℕ) → IsOn 5 l (lists l) p → link_at new heads p ≡ link_at old heads p = λ p on.
+          links_as old new heads key slot updates p
+          (λ e. elim link [ inl free ↦ absurd (off_free old heads lists rings key free l p r on e) | inr kept ↦ kept ]) in
           IsRing-kept _ _ _ _ 5 _ _ l (lists l) (rings l r) (λ p on. ap (neighbour Next) (same p on)) (λ p on. ap (neighbour Previous) (same p on))
           (λ k is. owners k ∙ is) (λ k is. sym (owners k) ∙ is);
       here = owners key;
@@ -229,11 +210,7 @@ relists_then a b c ha hb hc key at to f g one two =
 -- a write of the links of one node keeps this part of all
 pub unmoved : (part : Link → ℕ) (old new : ℕ → Link) (node : ℕ) (link : Link) → Relinks old new node link
     → part link ≡ part (old node) → (p : ℕ) → part (new p) ≡ part (old p)
-unmoved part old new node link relinks was p =
-    elim (cases_eq p node) [
-      | inl e ↦ ap (λ q. part (new q)) e ∙ ap part relinks.here ∙ was ∙ sym (ap (λ q. part (old q)) e)
-      | inr d ↦ ap part (relinks.others p d)
-    ]
+unmoved part old new node link relinks was p = grind (arith, cases_eq p node, relinks.here, relinks.others p)
 
 -- the links of one node are set between writes that keep this part of links
 pub joined : (part : Link → ℕ) (old new mid mid' : ℕ → Link) (at : ℕ) (link : Link) → Relinks mid mid' at link

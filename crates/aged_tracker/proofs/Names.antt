@@ -41,8 +41,8 @@ pub use Rattle.slab.specs.Slab.{Slab, Updates, entries, entries_from, get}
 pub use Rattle.std.proofs.Common.{Bool, IsSome, IsTrue, List, None, Option, Some, [], add-one, ap, arith, cond, eqb, false, get_or, inl, inr, is_some, length}
 pub use Rattle.std.proofs.Common.{length-append, lt-ltb, map, not, refl, rules, set, subst, suc, sym, true, zero, ℕ, ◌&&◌, ◌++◌, ◌+◌, ◌-◌, ◌<◌, ◌||◌, ◌∙◌, ◌∷◌}
 pub use Rattle.std.proofs.Common.{◌≡◌, ◌≢◌, ◌≤◌, ◌⊎◌}
-pub use Rattle.std.proofs.lemmas.Bool.{and_parts, cases_Bool, cases_eq, cases_lt, cond-false, cond-true, eq-eqb, eqb-true, false_from_ne_true, le-ltb, ne_eqb}
-pub use Rattle.std.proofs.lemmas.Bool.{not-true, not_from_false, or_cases, or_parts, true≢false}
+pub use Rattle.std.proofs.lemmas.Bool.{and_parts, cases_Bool, cases_eq, cond-false, cond-true, eq-eqb, eqb-true, false_from_ne_true, ne_eqb, not-true}
+pub use Rattle.std.proofs.lemmas.Bool.{not_from_false, or_cases, or_parts, true≢false}
 pub use Rattle.std.proofs.lemmas.Bool.Decides.{nat_tests}
 pub use Rattle.std.proofs.lemmas.Iterator.{YieldsList-from_map, YieldsList-from_slice, items_from_collect}
 pub use Rattle.std.proofs.lemmas.Iterator.Consumers.{YieldsList-from_first}
@@ -54,5 +54,5 @@ pub use Rattle.std.proofs.lemmas.Map.Keys.{IsDistinct-IsPermutation, IsDistinct-
 pub use Rattle.std.proofs.lemmas.Option.{none-some, same_Some}
 pub use Rattle.std.specs.List.{AllByRecursion, Contains, filter, find, list_any}
 pub use Rattle.std.specs.List.Sorted.{IsNonDecreasingBy, IsPermutation}
-pub use Rattle.std.specs.Prelude.{IfSome, if◌then◌else◌, nat_lt, option_map, slice_index_or, ◌==◌}
+pub use Rattle.std.specs.Prelude.{IfSome, if◌then◌else◌, option_map, ◌==◌}
 unfoldable pub use Rattle.std.specs.List.{IsDistinct}

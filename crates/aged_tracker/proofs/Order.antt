@@ -13,6 +13,7 @@ use Rattle.aged_tracker.proofs.Names.{queue_number, queue_of, refl, same_Some, s
 use Rattle.aged_tracker.proofs.Names.{true≢false, without, zero, ℕ, ◌++◌, ◌+◌, ◌-◌, ◌<◌, ◌==◌, ◌∙◌, ◌∷◌, ◌≡◌, ◌≢◌, ◌≤◌, ◌⊎◌}
 use Rattle.aged_tracker.proofs.Lists.{front_least, front_owned, kept_by, named_at, none_in, pushed_by, rising_as, some_of}
 use Rattle.box_file.specs.declared.idle_line.IdleKind.TheVariants as idle
+use Rattle.std.proofs.lemmas.Grind.{common_steps}
 use Rattle.futures.specs.Links as ring
 
 -- ---- the order of creation: the entries by rising numbers
@@ -131,9 +132,7 @@ module _ (f : ℕ → Option ConntrackEntry) where
   pub all_pass : (p : ConntrackEntry → Bool) → ((n : ℕ) (h : ConntrackEntry) → f n ≡ Some h → p h ≡ true) → (first count : ℕ)
       → filter p (held_from f first count) ≡ held_from f first count
   all_pass p pass first zero = refl
-  all_pass p pass first (suc count) =
-      let rest = all_pass p pass (suc first) count in
-      elim (option_cases (f first)) [ inl none ↦ rw none rest | inr x ↦ rw (x.1, pass first x.0 x.1) (ap (λ hs. x.0 ∷ hs) rest) ]
+  all_pass p pass first (suc count) = grind (arith, common_steps, option_cases (f first), pass first, all_pass p pass (suc first) count)
 
   later_step : (now : ℕ) (o : Option ConntrackEntry) (rest : List ConntrackEntry) → IsNoneLater now (cons_held o rest)
       → (last_by o ≤ now) × IsNoneLater now rest
@@ -252,18 +251,11 @@ module _ (t : AgedSlots) (table : IsTable t) (new : Slab Slot) (key : ℕ) (slot
   table_after heads to change moments next relists queue rising oldest numbered few =
       record {
         rings = (_, relists.rings table.rings.0 table.rings.1);
-        owners = λ k. elim (cases_eq k key) [
-          | inl e ↦ subst (λ k. owner_of new k ≡ option_map queue_of (held_at new k)) (sym e)
-              (relists.here ∙ queue ∙ ap (λ o. option_map queue_of o) (sym sets.changed))
-          | inr d ↦ relists.others k d ∙ table.owners k ∙ ap (λ o. option_map queue_of o) (sym (sets.others k d))
-        ];
+        owners = λ k. grind (arith, cases_eq k key, sets.changed, sets.others k, relists.here, relists.others k, table.owners k, queue);
         rising = rising;
         numbered = numbered;
         oldest = oldest;
-        few = λ k is. elim (cases_eq k key) [
-          | inl e ↦ omega (arith, e, few)
-          | inr d ↦ table.few k (subst IsSome (sets.others k d) is)
-        ];
+        few = λ k is. grind (arith, cases_eq k key, sets.others k, table.few k, few, is);
       }
 
   -- ---- the order of creation
