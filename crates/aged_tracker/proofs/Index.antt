@@ -4,14 +4,15 @@ use Rattle.aged_tracker.proofs.Names.{None, NotFound, Option, Reply, Some, Tuple
 use Rattle.aged_tracker.proofs.Names.{belonging_by, belonging_of, belongs_in, cases_Bool, cond, connection_ref, cons_held, distinct-filter, distinct-push}
 use Rattle.aged_tracker.proofs.Names.{distinct-touched_at, entry_at, eq-eqb, eqb-true, false, false_from_ne_true, filter, find, find-filter, found_by_id}
 use Rattle.aged_tracker.proofs.Names.{has_distinct_ids, has_id, have_disjoint_tuples, held_by, if◌then◌else◌, inl, inr, is_incoming, is_live, is_some, is_taken}
-use Rattle.aged_tracker.proofs.Names.{key_in, length, length-append, length-map, list_any, live_at, map, nat_tests, none-some, not, not-true, option_cases}
-use Rattle.aged_tracker.proofs.Names.{option_map, or_cases, or_parts, refl, rules, same_id, same_tuple, same_tuple-true, serial_at, slots_of, some_of_map, sym}
-use Rattle.aged_tracker.proofs.Names.{touched, touched_at, true, without_new, ℕ, ◌&&◌, ◌++◌, ◌+◌, ◌-◌, ◌==◌, ◌||◌, ◌∙◌, ◌∷◌, ◌≡◌}
+use Rattle.aged_tracker.proofs.Names.{key_in, length, length-append, length-map, list_any, live_at, map, nat_tests, not, not-true, option_cases, option_map}
+use Rattle.aged_tracker.proofs.Names.{or_cases, or_parts, refl, rules, same_id, same_tuple, same_tuple-true, serial_at, slots_of, some_of_map, sym, touched}
+use Rattle.aged_tracker.proofs.Names.{touched_at, true, without_new, ℕ, ◌&&◌, ◌++◌, ◌+◌, ◌-◌, ◌==◌, ◌||◌, ◌∙◌, ◌∷◌, ◌≡◌}
 use Rattle.aged_tracker.proofs.Lists.{named_at, some_of}
 use Rattle.aged_tracker.proofs.Order.{all_pass, at_slot, found_from, of_slot}
 use Rattle.conntrack.specs.ConntrackEntry.{without}
 use Rattle.ip_headers.specs.contracts.tuple.TuplePartialEq.TheImpl.{eq-value}
 use Rattle.list_laws.specs.Tests.{and-flip}
+use Rattle.std.proofs.lemmas.Grind.{common_steps}
 
 -- ---- searches in the list of entries
 
@@ -156,11 +157,7 @@ module _ (held : List ConntrackEntry) (at : Tuple → Option ℕ) (live : ℕ) (
   taken_as tuple = any_is (is_incoming tuple) held ∙ sym (ap is_some (is.keyed tuple) ∙ some_map _ (find (is_incoming tuple) held))
 
   pub unfound : (tuple : Tuple) → at tuple ≡ None → find (is_incoming tuple) held ≡ None
-  unfound tuple none =
-      elim (option_cases (find (is_incoming tuple) held)) [
-        | inl is_none ↦ is_none
-        | inr x ↦ absurd (none-some x.0.id.0 (sym none ∙ is.keyed tuple ∙ ap (option_map (λ (h : ConntrackEntry). h.id.0)) x.1))
-      ]
+  unfound tuple none = grind (arith, common_steps, option_cases (find (is_incoming tuple) held), is.keyed tuple)
 
   pub indexed_touched : (id : ConnId) (direction : Direction) (flags : Flags) (mark now : ℕ)
       → IsIndexed (touched_at id direction flags mark now held) at live

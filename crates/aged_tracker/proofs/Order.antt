@@ -59,13 +59,7 @@ module _ (s : ℕ → Option ConntrackEntry) (serial : ℕ → ℕ) (n : ℕ) wh
   to_below : ((j k : ℕ) → IsSome (s j) → IsSome (s k) → serial j ≡ serial k → j ≡ k) → (most k : ℕ) (h : ConntrackEntry) → k < most
       → s k ≡ Some h → serial k ≡ n → entry_below s serial n most ≡ Some h
   to_below apart zero k h within is at = absurd (omega (arith, within))
-  to_below apart (suc j) k h within is at =
-      elim (cases_eq j k) [
-        | inl e ↦ rw (ap s e ∙ is, eq-eqb (serial j) n (ap serial e ∙ at)) refl
-        | inr d ↦
-            picked_past (serial j == n) (s j) _ (λ b some. d (apart j k some (ap is_some is) (eqb-true (serial j) n b ∙ sym at)))
-            ∙ to_below apart j k h (omega (arith, within, d)) is at
-      ]
+  to_below apart (suc j) k h within is at = grind (arith, common_steps, cases_eq j k, apart j k, to_below apart j k h, option_cases (s j))
 
 pub at_slot : (slots : Slab Slot) (next : ℕ) → IsNumbered slots next → (k : ℕ) (h : ConntrackEntry) → held_at slots k ≡ Some h
     → entry_at slots (serial_at slots k) ≡ Some h
@@ -277,10 +271,7 @@ module _ (t : AgedSlots) (table : IsTable t) (new : Slab Slot) (key : ℕ) (slot
             | inr d ↦ table.numbered.apart j k (was j c f) (was k d g) (sym (serials j c) ∙ e ∙ serials k d)
           ]
         ];
-        below = λ k is. elim (cases_eq k key) [
-          | inl e ↦ omega (arith, ap (serial_at new) e, serial, (here (now k e is)).0)
-          | inr d ↦ omega (arith, more, serials k d, table.numbered.below k (was k d is))
-        ];
+        below = λ k is. grind (arith, more, cases_eq k key, now k, is, here, serial, serials k, was k, table.numbered.below k);
       }
 
   same_but : SameBut t.slots new key
