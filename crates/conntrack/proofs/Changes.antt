@@ -1,8 +1,7 @@
 -- The live entries, after a packet and at a later moment.
-use Rattle.std.proofs.Common.{◌≡◌, ℕ, ◌-◌, ◌<◌, ◌≤◌, List, [], ◌∷◌, true, refl, arith}
-use Rattle.std.specs.Prelude.{nat_lt}
-use Rattle.conntrack.proofs.Names.{ConnId, ConntrackEntry, Direction, Flags, IdleKind, Limits, has_distinct_ids, has_id, idle_kind, is_live, limit_in, limit_of}
-use Rattle.conntrack.proofs.Names.{live_at, lt-ltb, ltb-true, nat_tests, phase_of, touched, touched_at}
+use Rattle.conntrack.proofs.Names.{ConnId, ConntrackEntry, Direction, Flags, IdleKind, Limits, List, [], arith, has_distinct_ids, has_id, idle_kind, is_live}
+use Rattle.conntrack.proofs.Names.{limit_in, limit_of, live_at, lt-ltb, ltb-true, nat_lt, nat_tests, phase_of, refl, touched, touched_at, true, ℕ, ◌-◌, ◌<◌}
+use Rattle.conntrack.proofs.Names.{◌∷◌, ◌≡◌, ◌≤◌}
 use Rattle.conntrack.proofs.Lists.{filter_again}
 use Rattle.conntrack.proofs.Ids.{has_id-filter, touched_at_none}
 

@@ -1,16 +1,11 @@
 -- The connections of a history that no record removed, and what one more record does to them.
-use Rattle.std.proofs.Common.{◌≡◌, ℕ, suc, ◌<◌, List, [], ◌∷◌, ◌++◌, map, length, Option, None, Some, Bool, true, false, not, ◌&&◌, ◌||◌, cond, eqb, refl, ◌∙◌}
-use Rattle.std.proofs.Common.{ap, arith}
-use Rattle.std.specs.Prelude.{filter}
-use Rattle.std.proofs.lemmas.List.{map-id}
-use Rattle.std.proofs.lemmas.List.Elements.{All-append, All-cons, All-nil, All-weaker, recursion_from_All}
-use Rattle.std.specs.List.{All}
-use Rattle.conntrack.proofs.Names.{AllByRecursion, Arrival, Begins, Belonging, Confirmation, Confirmed, ConnectionChange, ConntrackEntry, Creation, Ends, Found}
-use Rattle.conntrack.proofs.Names.{Limits, Mapping, NotFound, TrackedPacket, Tuple, Unconfirmed, after_packet, append-nil, begun_in, connection_in}
-use Rattle.conntrack.proofs.Names.{change_of_packet, creation_of, ended_by_packet, entries_of, entry_of, eq-eqb, filter-append, has_distinct_ids, has_id}
-use Rattle.conntrack.proofs.Names.{is_ended, is_live, is_that, is_touch_of, live_at, live_list, map-append, nat_tests, ne_eqb, number_if_begins, or-false}
-use Rattle.conntrack.proofs.Names.{replayed, same_id, touched, with_begun}
-use Rattle.conntrack.specs.steps.Changes.{unended}
+use Rattle.conntrack.proofs.Names.{All, All-append, All-cons, All-nil, All-weaker, AllByRecursion, Arrival, Begins, Belonging, Bool, Confirmation, Confirmed}
+use Rattle.conntrack.proofs.Names.{ConnectionChange, ConntrackEntry, Creation, Ends, Found, Limits, List, Mapping, None, NotFound, Option, Some, TrackedPacket}
+use Rattle.conntrack.proofs.Names.{Tuple, Unconfirmed, [], after_packet, ap, append-nil, arith, begun_in, change_of_packet, cond, connection_in, creation_of}
+use Rattle.conntrack.proofs.Names.{ended_by_packet, entries_of, entry_of, eq-eqb, eqb, false, filter, filter-append, has_distinct_ids, has_id, is_ended}
+use Rattle.conntrack.proofs.Names.{is_live, is_that, is_touch_of, length, live_at, live_list, map, map-append, map-id, nat_tests, ne_eqb, not, number_if_begins}
+use Rattle.conntrack.proofs.Names.{or-false, recursion_from_All, refl, replayed, same_id, suc, touched, true, unended, with_begun, ℕ, ◌&&◌, ◌++◌, ◌<◌, ◌||◌}
+use Rattle.conntrack.proofs.Names.{◌∙◌, ◌∷◌, ◌≡◌}
 use Rattle.conntrack.proofs.Lists.{filter-map, filter-true, map-filter-change, map-filter-later}
 use Rattle.conntrack.proofs.Ids.{distinct-filter, distinct-push}
 

@@ -1,11 +1,9 @@
 -- Ids of entries, and lists that are equal except for ids.
-use Rattle.std.proofs.Common.{◌≡◌, ℕ, ◌+◌, ◌<◌, ◌≤◌, List, [], ◌∷◌, ◌++◌, length, Some, Bool, true, false, ◌||◌, cond, refl, ◌∙◌, ap, arith}
-use Rattle.std.specs.Prelude.{filter}
-use Rattle.conntrack.proofs.Names.{ConnId, ConntrackEntry, Direction, Flags, Tuple, and_from, and_parts, find, has_distinct_ids, has_id, has_ids_below}
-use Rattle.conntrack.proofs.Names.{have_disjoint_tuples, is_incoming, is_taken, list_any-append, nat_tests, not-true, not_from_false, or-false, or_from}
-use Rattle.conntrack.proofs.Names.{or_parts, same_id, same_tuple, same_tuple-true, touched, touched_at, without}
+use Rattle.conntrack.proofs.Names.{Bool, ConnId, ConntrackEntry, Direction, Flags, List, Some, Tuple, [], and_from, and_parts, ap, arith, cond, false, filter}
+use Rattle.conntrack.proofs.Names.{find, has_distinct_ids, has_id, has_ids_below, have_disjoint_tuples, is_incoming, is_taken, length, list_any-append}
+use Rattle.conntrack.proofs.Names.{nat_tests, not-true, not_from_false, or-false, or_from, or_parts, refl, same_id, same_tuple, same_tuple-refl}
+use Rattle.conntrack.proofs.Names.{same_tuple-true, touched, touched_at, true, without, ℕ, ◌++◌, ◌+◌, ◌<◌, ◌||◌, ◌∙◌, ◌∷◌, ◌≡◌, ◌≤◌}
 use Rattle.conntrack.proofs.Lists.{filter_where_none, list_any-filter}
-use Rattle.ip_headers.specs.steps.Equal.{same_tuple-refl}
 use Rattle.list_laws.specs.Tests.{same-tests}
 
 -- a filter adds no id

@@ -1,7 +1,6 @@
 -- Lemmas on lists: searches in filtered lists.
-use Rattle.std.proofs.Common.{◌≡◌, List, [], ◌∷◌, None, Some, map, Bool, true, false, not, ◌&&◌, ◌||◌, refl, ap, arith}
-use Rattle.std.specs.Prelude.{filter}
-use Rattle.conntrack.proofs.Names.{AllByRecursion, find, find-filter, list_any}
+use Rattle.conntrack.proofs.Names.{AllByRecursion, Bool, List, None, Some, [], ap, arith, false, filter, find, find-filter, list_any, map, not, refl, true}
+use Rattle.conntrack.proofs.Names.{◌&&◌, ◌||◌, ◌∷◌, ◌≡◌}
 
 pub ruleset find_filter_rules = (find-filter)
 

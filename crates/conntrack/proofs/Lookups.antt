@@ -1,12 +1,10 @@
 -- Two lists that are equal except for ids: lookups find the same entry, and changes agree.
-use Rattle.std.proofs.Common.{◌≡◌, ℕ, List, [], ◌∷◌, ◌++◌, map, inl, inr, Option, None, Some, Bool, true, false, not, ◌&&◌, cond, refl, sym, ◌∙◌, ap, subst}
-use Rattle.std.proofs.Common.{arith}
-use Rattle.conntrack.proofs.Names.{Belonging, ConnId, ConnectionRef, ConntrackEntry, Direction, Ends, Flags, Found, Limits, NotFound, Original, Reply, Tuple}
-use Rattle.conntrack.proofs.Names.{and_parts, both_ways, cases_Bool, false_from_ne_true, belonging_by, belongs_in, connection_ref, eq-eqb, find}
-use Rattle.conntrack.proofs.Names.{has_distinct_ids, has_id, have_disjoint_tuples, is_closing, is_live, live_at, is_lone_syn, is_taken, map-append, nat_tests}
-use Rattle.conntrack.proofs.Names.{not-true, of_original, of_reply, option_map, or_parts, same_id, same_tuple, same_tuple-true, touched, touched_at, without}
-use Rattle.conntrack.proofs.Names.{without_id}
-use Rattle.conntrack.specs.ConntrackEntry.{is_original}
+use Rattle.conntrack.proofs.Names.{Belonging, Bool, ConnId, ConnectionRef, ConntrackEntry, Direction, Ends, Flags, Found, Limits, List, None, NotFound, Option}
+use Rattle.conntrack.proofs.Names.{Original, Reply, Some, Tuple, [], and_parts, ap, arith, belonging_by, belongs_in, both_ways, cases_Bool, cond}
+use Rattle.conntrack.proofs.Names.{connection_ref, eq-eqb, false, false_from_ne_true, find, has_distinct_ids, has_id, have_disjoint_tuples, inl, inr}
+use Rattle.conntrack.proofs.Names.{is_closing, is_live, is_lone_syn, is_original, is_taken, live_at, map, map-append, nat_tests, not, not-true, of_original}
+use Rattle.conntrack.proofs.Names.{of_reply, option_map, or_parts, refl, same_id, same_tuple, same_tuple-true, subst, sym, touched, touched_at, true, without}
+use Rattle.conntrack.proofs.Names.{without_id, ℕ, ◌&&◌, ◌++◌, ◌∙◌, ◌∷◌, ◌≡◌}
 use Rattle.conntrack.proofs.Lists.{list_any_either, list_any_found}
 use Rattle.conntrack.proofs.Same.{blind}
 use Rattle.conntrack.proofs.Ids.{has_id-found, other_id, touched_at_none, without_new}

@@ -1,12 +1,11 @@
 -- The effect of one packet on a table's entries and on a history's connections.
-use Rattle.std.proofs.Common.{◌≡◌, ℕ, ◌≤◌, List, [], ◌∷◌, ◌++◌, map, length, Bool, true, not, refl, sym, subst, ◌∙◌, ap, arith}
-use Rattle.std.specs.Prelude.{filter}
-use Rattle.conntrack.proofs.Names.{Arrival, Belonging, Confirmation, Confirmed, ConnId, Connection, ConnectionRef, ConntrackEntry, Direction, DoesNotClash}
-use Rattle.conntrack.proofs.Names.{Original, Ends, Flags, Found, IsNoneLater, Limits, NotFound, TrackedPacket, Tuple, Unconfirmed, after_end, after_packet}
-use Rattle.conntrack.proofs.Names.{begun_with, belongs, belongs_in, entry_at, entry_of, filter-append, has_distinct_ids, has_id, have_disjoint_tuples, is_live}
-use Rattle.conntrack.proofs.Names.{live_at, live_list, map-append, no_flags, same_id, same_tuple, touched, touched_at, with_begun, without, without_id}
+use Rattle.conntrack.proofs.Names.{Arrival, Belonging, Bool, Confirmation, Confirmed, ConnId, Connection, ConnectionRef, ConntrackEntry, Direction}
+use Rattle.conntrack.proofs.Names.{DoesNotClash, Ends, Flags, Found, IsNoneLater, Limits, List, NotFound, Original, TrackedPacket, Tuple, Unconfirmed, []}
+use Rattle.conntrack.proofs.Names.{after_end, after_packet, ap, arith, begun_with, belongs, belongs_in, entry_at, entry_of, filter, filter-append}
+use Rattle.conntrack.proofs.Names.{has_distinct_ids, has_id, have_disjoint_tuples, is_live, length, live_at, live_list, map, map-append, no_flags, not, refl}
+use Rattle.conntrack.proofs.Names.{same_id, same_tuple, subst, sym, touched, touched_at, true, unended, with_begun, without, without_id, ℕ, ◌++◌, ◌∙◌, ◌∷◌, ◌≡◌}
+use Rattle.conntrack.proofs.Names.{◌≤◌}
 use Rattle.conntrack.proofs.Ids.{apart-filter, apart-push, apart-touched_at, distinct-filter}
-use Rattle.conntrack.specs.steps.Changes.{unended}
 use Rattle.conntrack.proofs.Histories.{live_list-unended, unended-distinct, unended_after}
 use Rattle.conntrack.proofs.Lists.{filter-map, filter-swap}
 use Rattle.conntrack.proofs.Changes.{live_at-later, live_at-touched_at, live_at_last}

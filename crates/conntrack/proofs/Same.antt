@@ -1,7 +1,6 @@
 -- Lists that are equal except for ids have the same lookups.
-use Rattle.std.proofs.Common.{◌≡◌, List, [], ◌∷◌, map, Option, Bool, refl, sym, ◌∙◌, ap, arith}
-use Rattle.conntrack.proofs.Names.{ConntrackEntry, Flags, Tuple, belonging_by, belonging_without_id, belongs_in, find, of_original, of_reply, option_map}
-use Rattle.conntrack.proofs.Names.{same_tuple, without_id}
+use Rattle.conntrack.proofs.Names.{Bool, ConntrackEntry, Flags, List, Option, Tuple, [], ap, arith, belonging_by, belonging_without_id, belongs_in, find, map}
+use Rattle.conntrack.proofs.Names.{of_original, of_reply, option_map, refl, same_tuple, sym, without_id, ◌∙◌, ◌∷◌, ◌≡◌}
 
 option_map-find : {A B : Type 0} (f : A → B) (p : B → Bool) (xs : List A) → option_map f (find (λ x. p (f x)) xs) ≡ find p (map f xs)
 option_map-find f p [] = refl

@@ -1,7 +1,5 @@
-use Rattle.std.proofs.Common.{arith, ◌≡◌, List, [], ◌∷◌, map, length, refl, sym, ◌∙◌, ap}
-use Rattle.conntrack.proofs.Names.{Belonging, ConntrackEntry, Kind, belonging_without_id, connection_of, is_incoming, is_taken, length-map, state_of}
-use Rattle.conntrack.proofs.Names.{without_id}
-use Rattle.list_laws.specs.Lists.{any_of_map}
+use Rattle.conntrack.proofs.Names.{Belonging, ConntrackEntry, Kind, List, [], any_of_map, ap, arith, belonging_without_id, connection_of, is_incoming, is_taken}
+use Rattle.conntrack.proofs.Names.{length, length-map, map, refl, state_of, sym, without_id, ◌∙◌, ◌∷◌, ◌≡◌}
 use Rattle.conntrack.proofs.Same.{same_belonging}
 use Rattle.conntrack.proofs.Packets.{ended_alike, live_alike, packet_alike}
 use Rattle.conntrack.proofs.laws.independent_of_ids.Goals as goal

@@ -1,4 +1,4 @@
-use Rattle.conntrack.specs.Tuples.{no_tuple}
+use Rattle.conntrack.proofs.Names.{no_tuple}
 use Rattle.conntrack.proofs.Packets.{live_list-distinct, live_list-later, recorded, recorded_nothing}
 use Rattle.conntrack.proofs.laws.one_more_entry.Goals as goal
 

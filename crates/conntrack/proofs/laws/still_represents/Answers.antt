@@ -1,5 +1,4 @@
-use Rattle.std.proofs.Common.{sym, ◌∙◌, ap, map, arith}
-use Rattle.conntrack.proofs.Names.{live_at, live_list, without_id}
+use Rattle.conntrack.proofs.Names.{ap, arith, live_at, live_list, map, sym, without_id, ◌∙◌}
 use Rattle.conntrack.proofs.Changes.{live_at-later}
 use Rattle.conntrack.proofs.Packets.{live_alike, live_list-later}
 use Rattle.conntrack.proofs.laws.still_represents.Goals as goal

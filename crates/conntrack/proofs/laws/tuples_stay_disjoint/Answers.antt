@@ -1,5 +1,4 @@
-use Rattle.std.proofs.Common.{refl}
-use Rattle.conntrack.specs.ConntrackEntry.{is_live}
+use Rattle.conntrack.proofs.Names.{is_live, refl}
 use Rattle.conntrack.proofs.Ids.{apart-filter}
 use Rattle.conntrack.proofs.Packets.{apart_by}
 use Rattle.conntrack.proofs.laws.tuples_stay_disjoint.Goals as goal

@@ -1,5 +1,4 @@
-use Rattle.std.proofs.Common.{rules, tests, ◌∙◌}
-use Rattle.conntrack.proofs.Names.{ConntrackEntry, YieldsList-from_slice, find_from_yields_List, same_id}
+use Rattle.conntrack.proofs.Names.{ConntrackEntry, YieldsList-from_slice, find_from_yields_List, rules, same_id, tests, ◌∙◌}
 use Rattle.conntrack.proofs.list_tracker.find_by_id.Goals as goal
 
 pub returns : goal.returns

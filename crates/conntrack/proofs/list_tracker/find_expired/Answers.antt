@@ -1,5 +1,4 @@
-use Rattle.std.proofs.Common.{rules, tests, not, ◌∙◌}
-use Rattle.conntrack.proofs.Names.{ConntrackEntry, YieldsList-from_slice, find_from_yields_List, is_live}
+use Rattle.conntrack.proofs.Names.{ConntrackEntry, YieldsList-from_slice, find_from_yields_List, is_live, not, rules, tests, ◌∙◌}
 use Rattle.conntrack.proofs.list_tracker.find_expired.Goals as goal
 
 pub returns : goal.returns

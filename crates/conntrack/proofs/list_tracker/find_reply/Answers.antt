@@ -1,5 +1,4 @@
-use Rattle.std.proofs.Common.{rules, tests, ◌&&◌, ◌∙◌}
-use Rattle.conntrack.proofs.Names.{ConntrackEntry, YieldsList-from_slice, find_from_yields_List, is_live, same_tuple}
+use Rattle.conntrack.proofs.Names.{ConntrackEntry, YieldsList-from_slice, find_from_yields_List, is_live, rules, same_tuple, tests, ◌&&◌, ◌∙◌}
 use Rattle.conntrack.proofs.list_tracker.find_reply.Goals as goal
 
 pub returns : goal.returns

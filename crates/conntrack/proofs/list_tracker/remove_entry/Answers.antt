@@ -1,4 +1,4 @@
-use Rattle.std.proofs.Common.{rules}
+use Rattle.conntrack.proofs.Names.{rules}
 use Rattle.std.proofs.lemmas.Fn.{filter_same}
 use Rattle.conntrack.proofs.list_tracker.remove_entry.Goals as goal
 

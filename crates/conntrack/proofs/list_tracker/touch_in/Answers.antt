@@ -1,6 +1,4 @@
-use Rattle.std.proofs.Common.{arith}
-use Rattle.std.specs.Prelude.{if◌then◌else◌}
-use Rattle.conntrack.proofs.Names.{ConntrackEntry, get_or_default, map_over_more, same_id, touched}
+use Rattle.conntrack.proofs.Names.{ConntrackEntry, arith, get_or_default, if◌then◌else◌, map_over_more, same_id, touched}
 use Rattle.conntrack.proofs.list_tracker.touch_in.Goals as goal
 
 pub loop-held-preserved : goal.loop-held-preserved

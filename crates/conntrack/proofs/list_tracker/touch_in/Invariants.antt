@@ -1,5 +1,4 @@
-use Rattle.std.proofs.Common.{◌≡◌, ◌++◌, take, drop}
-use Rattle.conntrack.specs.ConntrackEntry.{touched_at}
+use Rattle.conntrack.proofs.Names.{drop, take, touched_at, ◌++◌, ◌≡◌}
 use Rattle.conntrack.proofs.list_tracker.touch_in.Given as goal
 
 -- the entries so far are touched, and the rest are unchanged

@@ -1,5 +1,4 @@
-use Rattle.std.proofs.Common.{not, refl, sym, ap}
-use Rattle.conntrack.proofs.Names.{aged_of, is_live, option_map}
+use Rattle.conntrack.proofs.Names.{aged_of, ap, is_live, not, option_map, refl, sym}
 use Rattle.conntrack.proofs.Lists.{filter_where_none}
 use Rattle.conntrack.proofs.Ids.{found_by_id, has_id-found, length-without}
 use Rattle.conntrack.proofs.Lookups.{live_at-without_expired}

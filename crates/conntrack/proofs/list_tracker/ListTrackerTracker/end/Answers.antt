@@ -1,5 +1,4 @@
-use Rattle.std.proofs.Common.{sym, ◌∙◌}
-use Rattle.conntrack.proofs.Names.{same_id, true≢false}
+use Rattle.conntrack.proofs.Names.{same_id, sym, true≢false, ◌∙◌}
 use Rattle.conntrack.proofs.Lists.{none_passes}
 use Rattle.conntrack.proofs.list_tracker.ListTrackerTracker.end.Goals as goal
 
