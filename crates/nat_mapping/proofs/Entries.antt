@@ -1,10 +1,9 @@
 -- The list of mappings that entries represent.
-use Rattle.std.specs.Prelude.{◌==◌, ◌&&◌, replicate}
-use Rattle.std.proofs.Common.{◌≡◌, ℕ, ◌+◌, ◌*◌, Bool, true, cond, List, [], ◌∷◌, ◌++◌, Option, Some, None, refl, sym, ◌∙◌, ap, arith}
-use Rattle.nat_mapping.proofs.Names.{nat_tests, CountsHolders, IsDistinct, IsDistinct-tail, IsUnique, MappedPort, Mapping, SourceKey, Sources, get, held_by}
-use Rattle.nat_mapping.proofs.Names.{holders_at, holders_of, keys_of, lookup, lookup-none, from_internal, none_past_head, same_endpoint, same_kind}
-use Rattle.nat_mapping.proofs.Names.{same_mapping, same_source, source_key_of, sum_by, sum_by-append, sum_by-replicate}
-use Rattle.nat_mapping.proofs.Equal.{source_parts, source_test, equivalence}
+use Rattle.nat_mapping.proofs.Names.{Bool, CountsHolders, IsDistinct, IsDistinct-tail, IsUnique, List, MappedPort, Mapping, None, Option, Some, SourceKey}
+use Rattle.nat_mapping.proofs.Names.{Sources, [], ap, arith, cond, from_internal, get, held_by, holders_at, holders_of, keys_of, lookup, lookup-none, nat_tests}
+use Rattle.nat_mapping.proofs.Names.{none_past_head, refl, replicate, same_endpoint, same_kind, same_mapping, same_source, source_key_of, sum_by, sum_by-append}
+use Rattle.nat_mapping.proofs.Names.{sum_by-replicate, sym, true, ℕ, ◌&&◌, ◌*◌, ◌++◌, ◌+◌, ◌==◌, ◌∙◌, ◌∷◌, ◌≡◌}
+use Rattle.nat_mapping.proofs.Equal.{equivalence, source_parts, source_test}
 
 regroup : (a b c d : Bool) → (a && (b && (c && d))) ≡ ((a && (b && c)) && d)
 regroup a b c d = grind (arith, nat_tests)

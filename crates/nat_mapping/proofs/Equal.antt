@@ -1,9 +1,9 @@
 -- Equal keys and mappings.
-use Rattle.std.proofs.Common.{◌≡◌, ℕ, ◌&&◌, Bool, true, false, eqb, refl, sym, ◌∙◌, ap, subst, ◌⊎◌, inl, inr, rules}
+use Rattle.nat_mapping.proofs.Names.{Bool, Endpoint, InboundKey, IsEquivalence, PoolKey, SourceKey, and_from, and_parts, ap, both_ways, cases_Bool, eq-eqb, eqb}
+use Rattle.nat_mapping.proofs.Names.{eqb-true, false, false_from_ne_true, inl, inr, nat_tests, refl, rules, same_endpoint, same_endpoint-refl}
+use Rattle.nat_mapping.proofs.Names.{same_endpoint-true, same_inbound, same_kind, same_kind-refl, same_kind-true, same_mapping, same_pool, same_source, subst}
+use Rattle.nat_mapping.proofs.Names.{sym, true, ℕ, ◌&&◌, ◌∙◌, ◌≡◌, ◌⊎◌}
 use Rattle.list_laws.specs.Tests.{same-tests}
-use Rattle.nat_mapping.proofs.Names.{Endpoint, InboundKey, IsEquivalence, PoolKey, SourceKey, and_from, and_parts, both_ways, cases_Bool, eq-eqb, eqb-true}
-use Rattle.nat_mapping.proofs.Names.{false_from_ne_true, nat_tests, same_endpoint, same_endpoint-refl, same_endpoint-true, same_inbound, same_kind}
-use Rattle.nat_mapping.proofs.Names.{same_kind-refl, same_kind-true, same_mapping, same_pool, same_source}
 
 -- a test passes where the two are equal, and only there
 pub record IsTest {K : Type 0} (e : K → K → Bool) : Type 0 where

@@ -1,8 +1,7 @@
 -- What a search of the list finds is in it.
-use Rattle.std.proofs.Common.{◌≡◌, ℕ, ◌<◌, Bool, true, cond, List, [], ◌∷◌, Some, None, sym, ap, ◌∙◌, subst, inl, inr, arith}
-use Rattle.list_laws.specs.Decisions.{Contains-cases, Contains-none, Contains-there}
-use Rattle.nat_mapping.proofs.Names.{Contains, Contains-head, HoldsSame, IsOneToOne, Mapping, both_ways, cases_Bool, cond-false, cond-true, find, holders_cons}
-use Rattle.nat_mapping.proofs.Names.{holders_none, holders_of, none-some, same_Some, same_mapping}
+use Rattle.nat_mapping.proofs.Names.{Bool, Contains, Contains-cases, Contains-head, Contains-none, Contains-there, HoldsSame, IsOneToOne, List, Mapping, None}
+use Rattle.nat_mapping.proofs.Names.{Some, [], ap, arith, both_ways, cases_Bool, cond, cond-false, cond-true, find, holders_cons, holders_none, holders_of, inl}
+use Rattle.nat_mapping.proofs.Names.{inr, none-some, same_Some, same_mapping, subst, sym, true, ℕ, ◌<◌, ◌∙◌, ◌∷◌, ◌≡◌}
 use Rattle.nat_mapping.proofs.Equal.{apart_false, decide, here_true, mapping_test}
 
 -- what a search finds is in the list and passes

@@ -1,10 +1,9 @@
 -- What lookups by key find in a list of mappings, and after one more or one fewer.
-use Rattle.std.proofs.Common.{arith, ◌≡◌, ℕ, ◌&&◌, ◌==◌, Bool, true, cond, not, List, ◌∷◌, Option, Some, None, is_some, inl, inr, refl, sym, ap, subst, ◌∙◌}
-use Rattle.list_laws.specs.Decisions.{Contains-cases, Contains-there}
-use Rattle.list_laws.specs.Options.{option_cases, some_of_map}
-use Rattle.nat_mapping.proofs.Names.{CandidateRange, Contains, Contains-head, Endpoint, Finds, InboundKey, IsOneToOne, Kind, Mapping, SourceKey, candidates}
-use Rattle.nat_mapping.proofs.Names.{find, from_external, from_internal, inbound_key_of, inbound_of, is_port_held, none-some, option_map, or_else, order_of}
-use Rattle.nat_mapping.proofs.Names.{port_of, same_Some, same_endpoint, same_kind, source_key_of, source_of}
+use Rattle.nat_mapping.proofs.Names.{Bool, CandidateRange, Contains, Contains-cases, Contains-head, Contains-there, Endpoint, Finds, InboundKey, IsOneToOne}
+use Rattle.nat_mapping.proofs.Names.{Kind, List, Mapping, None, Option, Some, SourceKey, ap, arith, candidates, cond, find, from_external, from_internal}
+use Rattle.nat_mapping.proofs.Names.{inbound_key_of, inbound_of, inl, inr, is_port_held, is_some, none-some, not, option_cases, option_map, or_else, order_of}
+use Rattle.nat_mapping.proofs.Names.{port_of, refl, same_Some, same_endpoint, same_kind, some_of_map, source_key_of, source_of, subst, sym, true, ℕ, ◌&&◌, ◌==◌}
+use Rattle.nat_mapping.proofs.Names.{◌∙◌, ◌∷◌, ◌≡◌}
 use Rattle.nat_mapping.proofs.Equal.{IsTest, here_true, inbound_parts_test, source_parts_test}
 use Rattle.nat_mapping.proofs.Lists.{SameMembers, found_among, none_such, one_to_one-within}
 use Rattle.nat_mapping.proofs.Sets.{Sets, sets_all, sets_by}

@@ -3,13 +3,14 @@ pub use Rattle.ip_headers.specs.HashWords.{hash_word}
 pub use Rattle.ip_headers.specs.Same.{same_endpoint, same_kind}
 pub use Rattle.ip_headers.specs.declared.tuple.Endpoint.{Endpoint}
 pub use Rattle.ip_headers.specs.declared.tuple.Kind.{Kind}
-pub use Rattle.ip_headers.specs.declared.tuple.Kind.TheVariants.{EchoReply, EchoRequest, Other, Tcp, Udp}
+pub use Rattle.ip_headers.specs.declared.tuple.Kind.TheVariants.{Other}
 pub use Rattle.ip_headers.specs.declared.tuple.Mapping.{Mapping}
 pub use Rattle.ip_headers.specs.steps.Equal.{same_endpoint-refl, same_endpoint-true, same_kind-refl, same_kind-true}
 pub use Rattle.ip_headers.specs.steps.WordBytes.{first_word, words_after}
-pub use Rattle.list_laws.specs.Lists.{Contains-head}
-pub use Rattle.nat_mapping.specs.Mappings.{HoldsSame, IsOneToOne, first_free_port, has_external, has_internal, has_pool, is_port_held, or_else, order_of}
-pub use Rattle.nat_mapping.specs.Mappings.{pooled, same_mapping, share_pool, source_of}
+pub use Rattle.list_laws.specs.Decisions.{Contains-cases, Contains-none, Contains-there}
+pub use Rattle.list_laws.specs.Lists.{Contains-head, any_of_map}
+pub use Rattle.list_laws.specs.Options.{IfSome_at, option_cases, some_of_map}
+pub use Rattle.nat_mapping.specs.Mappings.{HoldsSame, IsOneToOne, has_pool, is_port_held, or_else, order_of, pooled, same_mapping, share_pool, source_of}
 unfoldable pub use Rattle.nat_mapping.specs.Mappings.{holders_of, inbound_of, pool_count_of, port_of}
 pub use Rattle.nat_mapping.specs.declared.keys.InboundKey.{InboundKey}
 pub use Rattle.nat_mapping.specs.declared.keys.MappedPort.{MappedPort}
@@ -21,32 +22,33 @@ pub use Rattle.nat_mapping.specs.declared.pools.Pools.{Pools}
 pub use Rattle.nat_mapping.specs.steps.Consistent.{ArePorts, CountsHolders, Finds, Inbounds, IsConsistent, IsTable, Sources, holders_at}
 unfoldable pub use Rattle.nat_mapping.specs.steps.Consistent.{held_by}
 pub use Rattle.nat_mapping.specs.steps.Holders.{holders_cons, holders_none}
-pub use Rattle.nat_mapping.specs.steps.Keys.{from_external, from_internal, inbound_at, inbound_key_of, one_fewer, pool_key_of, one_more, source_key_of}
 pub use Rattle.nat_mapping.specs.steps.KeyTests.{same_inbound, same_pool, same_source}
+pub use Rattle.nat_mapping.specs.steps.Keys.{from_external, from_internal, inbound_at, inbound_key_of, one_fewer, one_more, pool_key_of, source_key_of}
 pub use Rattle.nat_mapping.specs.steps.Pooled.{IsPooled, taken_in}
-pub use Rattle.nat_mapping.specs.steps.Ports.{IsSpare, is_taken_by}
+pub use Rattle.nat_mapping.specs.steps.Ports.{IsInUse, IsSpare, is_taken_by}
 unfoldable pub use Rattle.port_pool.specs.Candidates.{candidates}
 pub use Rattle.port_pool.specs.Taken.{is_taken}
 pub use Rattle.port_pool.specs.declared.order.Order.{Order}
-pub use Rattle.port_pool.specs.declared.order.Order.TheVariants.{Identifiers, Ports, Zero}
+pub use Rattle.port_pool.specs.declared.order.Order.TheVariants.{Zero}
 pub use Rattle.port_pool.specs.declared.pool.Pool.{Pool}
 pub use Rattle.port_pool.specs.declared.range.CandidateRange.{CandidateRange}
+pub use Rattle.std.proofs.Common.{Bool, Err, IfSome, IsSome, List, None, Option, Result, Some, [], ap, arith, cond, eqb, false, inl, inr, is_some, length, not}
+pub use Rattle.std.proofs.Common.{refl, rules, subst, suc, sym, true, vec_len, ℕ, ◌*◌, ◌++◌, ◌+◌, ◌-◌, ◌<◌, ◌↔◌, ◌∙◌, ◌∷◌, ◌≡◌, ◌≢◌, ◌≤◌, ◌⊎◌}
 pub use Rattle.std.proofs.lemmas.Bool.{and_from, and_parts, both_ways, cases_Bool, cond-false, cond-true, cond_both, eq-eqb, eqb-true, false_from_ne_true}
 pub use Rattle.std.proofs.lemmas.Bool.Decides.{nat_tests, same_from_decides}
-pub use Rattle.std.proofs.lemmas.List.Elements.{All-pop}
 pub use Rattle.std.proofs.lemmas.List.Folds.{sum_by-replicate}
 pub use Rattle.std.proofs.lemmas.List.Sums.{sum_by-append}
 pub use Rattle.std.proofs.lemmas.Map.{lookup-none}
-pub use Rattle.std.proofs.lemmas.Map.Entries.{length-keys_of, lookup_head, lookup_tail, none_past_head}
+pub use Rattle.std.proofs.lemmas.Map.Entries.{length-keys_of, none_past_head}
 pub use Rattle.std.proofs.lemmas.Map.Keys.{IsDistinct-tail}
-pub use Rattle.std.proofs.lemmas.Map.Made.{is_some-lookup, length-from_keys}
+pub use Rattle.std.proofs.lemmas.Map.Made.{is_member-Decides, is_some-lookup, length-from_keys}
 pub use Rattle.std.proofs.lemmas.Option.{none-some, same_Some}
-pub use Rattle.std.specs.Bool.{OnFalse, OnTrue}
 pub use Rattle.std.specs.Cmp.{IsEquivalence}
 pub use Rattle.std.specs.HashMap.{IsUnique, get, hash_map_len}
-pub use Rattle.std.specs.List.{All, Contains, find, sum_by}
+pub use Rattle.std.specs.List.{All, Contains, filter, find, list_any, sum_by}
 unfoldable pub use Rattle.std.specs.List.{IsDistinct}
 pub use Rattle.std.specs.Map.{keys_of, lookup}
 pub use Rattle.std.specs.Option.{ok_or, option_map}
+pub use Rattle.std.specs.Prelude.{if◌then◌else◌, map, replicate, ◌&&◌, ◌==◌}
 pub use Rattle.std.specs.Result.{IfOk}
 pub use Rattle.std.specs.Set.{is_member, unique_keys}

@@ -1,18 +1,11 @@
 -- The number of pools.
-use Rattle.std.specs.Prelude.{map}
-use Rattle.std.proofs.Common.{◌≡◌, ℕ, Bool, true, false, cond, is_some, List, [], ◌∷◌, Option, Some, None, suc, length, refl, sym, subst, ◌∙◌, ap, inl, inr}
-use Rattle.std.proofs.Common.{arith}
-use Rattle.std.specs.List.{filter, list_any}
-use Rattle.std.proofs.lemmas.Map.Made.{is_member-Decides}
+use Rattle.nat_mapping.proofs.Names.{Bool, Contains, Contains-cases, Contains-head, Contains-there, IfSome_at, Inbounds, IsConsistent, IsInUse, List, Mapping}
+use Rattle.nat_mapping.proofs.Names.{None, Option, Pool, PoolKey, Pools, Some, Sources, [], any_of_map, ap, arith, cond, cond_both, false, filter}
+use Rattle.nat_mapping.proofs.Names.{from_external, get, has_pool, hash_map_len, held_by, inbound_at, inl, inr, is_member, is_member-Decides, is_some}
+use Rattle.nat_mapping.proofs.Names.{is_some-lookup, is_taken_by, keys_of, length, length-from_keys, length-keys_of, list_any, map, pool_count_of, pool_key_of}
+use Rattle.nat_mapping.proofs.Names.{pooled, refl, same_from_decides, same_pool, share_pool, subst, suc, sym, true, unique_keys, ℕ, ◌∙◌, ◌∷◌, ◌≡◌}
 use Rattle.std.proofs.lemmas.List.Elements.{All-contains, All-contains_itself, All-filter, filter_passes}
-use Rattle.nat_mapping.proofs.Names.{Contains, Contains-head, IsConsistent, Inbounds, Mapping, Pool, PoolKey, Pools, Sources, cond_both, from_external, get}
-use Rattle.nat_mapping.proofs.Names.{has_pool, hash_map_len, held_by, inbound_at, is_member, is_some-lookup, is_taken_by, keys_of, length-from_keys}
-use Rattle.nat_mapping.proofs.Names.{length-keys_of, pool_count_of, pool_key_of, pooled, same_from_decides, same_pool, share_pool, unique_keys}
-use Rattle.nat_mapping.specs.steps.Ports.{IsInUse}
-use Rattle.list_laws.specs.Decisions.{Contains-cases, Contains-there}
 use Rattle.list_laws.specs.Elements.{Contains-map, Contains-unmap}
-use Rattle.list_laws.specs.Lists.{any_of_map}
-use Rattle.list_laws.specs.Options.{IfSome_at}
 use Rattle.nat_mapping.proofs.Equal.{equivalence, here_true, pool_parts, pool_test}
 use Rattle.nat_mapping.proofs.Lists.{SameMembers}
 use Rattle.nat_mapping.proofs.Represented.{port_taken}

@@ -1,14 +1,10 @@
 -- The tables represent the mappings held: what they say of one, and what a change of its holders leaves.
-use Rattle.std.specs.Prelude.{◌==◌, ◌&&◌, if◌then◌else◌}
-use Rattle.std.proofs.Common.{◌≡◌, ℕ, ◌<◌, ◌+◌, Bool, true, false, cond, is_some, not, List, ◌∷◌, Option, Some, None, IfSome, refl, sym, ◌∙◌, ap, subst, inl}
-use Rattle.std.proofs.Common.{inr, arith}
-use Rattle.list_laws.specs.Decisions.{Contains-there}
-use Rattle.list_laws.specs.Options.{IfSome_at, option_cases, some_of_map}
-use Rattle.nat_mapping.proofs.Names.{nat_tests, ArePorts, CandidateRange, Contains, Contains-head, Endpoint, Finds, HoldsSame, InboundKey, Inbounds}
-use Rattle.nat_mapping.proofs.Names.{IsConsistent, IsOneToOne, IsPooled, IsTable, Kind, MappedPort, Mapping, PoolKey, Pools, SourceKey, Sources, candidates}
-use Rattle.nat_mapping.proofs.Names.{find, from_external, from_internal, get, has_pool, held_by, holders_at, holders_cons, holders_of, inbound_at}
-use Rattle.nat_mapping.proofs.Names.{inbound_key_of, none-some, one_more, option_map, or_else, order_of, pool_key_of, same_inbound, same_source, source_key_of}
-use Rattle.nat_mapping.proofs.Names.{source_of, taken_in}
+use Rattle.nat_mapping.proofs.Names.{ArePorts, Bool, CandidateRange, Contains, Contains-head, Contains-there, Endpoint, Finds, HoldsSame, IfSome, IfSome_at}
+use Rattle.nat_mapping.proofs.Names.{InboundKey, Inbounds, IsConsistent, IsOneToOne, IsPooled, IsTable, Kind, List, MappedPort, Mapping, None, Option, PoolKey}
+use Rattle.nat_mapping.proofs.Names.{Pools, Some, SourceKey, Sources, ap, arith, candidates, cond, false, find, from_external, from_internal, get, has_pool}
+use Rattle.nat_mapping.proofs.Names.{held_by, holders_at, holders_cons, holders_of, if◌then◌else◌, inbound_at, inbound_key_of, inl, inr, is_some, nat_tests}
+use Rattle.nat_mapping.proofs.Names.{none-some, not, one_more, option_cases, option_map, or_else, order_of, pool_key_of, refl, same_inbound, same_source}
+use Rattle.nat_mapping.proofs.Names.{some_of_map, source_key_of, source_of, subst, sym, taken_in, true, ℕ, ◌&&◌, ◌+◌, ◌<◌, ◌==◌, ◌∙◌, ◌∷◌, ◌≡◌}
 use Rattle.nat_mapping.proofs.Equal.{apart_false, inbound_test, source_test}
 use Rattle.nat_mapping.proofs.Sets.{Sets, sets_all, sets_by}
 use Rattle.nat_mapping.proofs.Lists.{SameMembers, has_holder, is_among, members_alike, one_to_one_alike}

@@ -1,6 +1,6 @@
 -- Kinds with pools and without.
-use Rattle.std.proofs.Common.{arith, ◌≡◌, ◌≢◌, ℕ, Bool, true, false, cond, Option, Some, None, is_some, refl}
-use Rattle.nat_mapping.proofs.Names.{CandidateRange, Kind, Other, Zero, candidates, find, has_pool, order_of}
+use Rattle.nat_mapping.proofs.Names.{Bool, CandidateRange, Kind, None, Option, Other, Some, Zero, arith, candidates, cond, false, find, has_pool, is_some}
+use Rattle.nat_mapping.proofs.Names.{order_of, refl, true, ℕ, ◌≡◌, ◌≢◌}
 
 pub row_order : (kind : Kind) → has_pool kind ≡ true → order_of kind ≢ Zero
 row_order (Other number) is = absurd (cc)

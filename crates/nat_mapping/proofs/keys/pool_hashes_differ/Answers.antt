@@ -1,4 +1,4 @@
-use Rattle.std.proofs.Common.{[]}
+use Rattle.nat_mapping.proofs.Names.{[]}
 use Rattle.nat_mapping.proofs.keys.pool_hashes_differ.Goals as goal
 
 pub returns : goal.returns

@@ -1,5 +1,5 @@
-use Rattle.std.proofs.Common.{◌≡◌, ℕ, Bool, true, cond, not, is_some, Option, None, Some, sym, ◌∙◌, ap}
-use Rattle.nat_mapping.proofs.Names.{Endpoint, PoolKey, candidates, find, get, has_pool, inbound_at, order_of, same_inbound, taken_in}
+use Rattle.nat_mapping.proofs.Names.{Bool, Endpoint, None, Option, PoolKey, Some, ap, candidates, cond, find, get, has_pool, inbound_at, is_some, not, order_of}
+use Rattle.nat_mapping.proofs.Names.{same_inbound, sym, taken_in, true, ℕ, ◌∙◌, ◌≡◌}
 use Rattle.nat_mapping.proofs.WhichKinds.{zero_found}
 use Rattle.nat_mapping.proofs.mappings.first_free_port.Goals as goal
 

@@ -1,5 +1,4 @@
-use Rattle.std.proofs.Common.{◌-◌, ◌≤◌, vec_len}
-use Rattle.nat_mapping.proofs.Names.{All, IsSpare}
+use Rattle.nat_mapping.proofs.Names.{All, IsSpare, vec_len, ◌-◌, ◌≤◌}
 use Rattle.nat_mapping.proofs.pools.fill_spares.Given as goal
 
 abbrev pub invariant-loop-alloc : goal.invariant-loop-alloc

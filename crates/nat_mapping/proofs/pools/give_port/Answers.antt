@@ -1,11 +1,8 @@
-use Rattle.std.proofs.Common.{Some, sym, subst, ap, is_some, ◌∙◌, IfSome}
-use Rattle.list_laws.specs.Options.{IfSome_at}
-use Rattle.nat_mapping.proofs.Names.{get, same_pool}
-use Rattle.nat_mapping.specs.steps.Ports.{IsInUse}
+use Rattle.nat_mapping.proofs.Names.{IfSome, IfSome_at, IsInUse, Some, ap, get, is_some, same_pool, subst, sym, ◌∙◌}
 use Rattle.nat_mapping.proofs.Equal.{pool_test}
 use Rattle.nat_mapping.proofs.Sets.{Sets, sets_all, sets_by}
-use Rattle.nat_mapping.proofs.pools.give_port.Goals as goal
 use Rattle.nat_mapping.proofs.pools.give_port.Goals.{After-give}
+use Rattle.nat_mapping.proofs.pools.give_port.Goals as goal
 
 sets : (c : After-give) → Sets (get same_pool c.args.pools.now) (get same_pool (c.get_mut.follows.lender c.give.new.self)) c.args.key
     (Some c.give.new.self)

@@ -1,7 +1,4 @@
-use Rattle.std.specs.Prelude.{◌==◌}
-use Rattle.std.proofs.Common.{◌∙◌, true, refl, IfSome}
-use Rattle.nat_mapping.proofs.Names.{cond-true, eq-eqb, same_pool}
-use Rattle.nat_mapping.specs.steps.Ports.{IsInUse}
+use Rattle.nat_mapping.proofs.Names.{IfSome, IsInUse, cond-true, eq-eqb, refl, same_pool, true, ◌==◌, ◌∙◌}
 use Rattle.nat_mapping.proofs.Equal.{pool_test}
 use Rattle.nat_mapping.proofs.Sets.{sets_all, sets_by}
 use Rattle.nat_mapping.proofs.pools.start_pool.Goals as goal

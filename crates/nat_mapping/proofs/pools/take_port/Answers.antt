@@ -1,12 +1,8 @@
-use Rattle.std.specs.Prelude.{◌==◌}
-use Rattle.std.proofs.Common.{Some, true, sym, ap, is_some, ◌∙◌, refl, IfSome}
-use Rattle.list_laws.specs.Options.{IfSome_at}
-use Rattle.nat_mapping.proofs.Names.{cond-true, eq-eqb, get, same_pool}
-use Rattle.nat_mapping.specs.steps.Ports.{IsInUse}
+use Rattle.nat_mapping.proofs.Names.{IfSome, IfSome_at, IsInUse, Some, ap, cond-true, eq-eqb, get, is_some, refl, same_pool, sym, true, ◌==◌, ◌∙◌}
 use Rattle.nat_mapping.proofs.Equal.{pool_test}
 use Rattle.nat_mapping.proofs.Sets.{Sets, sets_all, sets_by}
-use Rattle.nat_mapping.proofs.pools.take_port.Goals as goal
 use Rattle.nat_mapping.proofs.pools.take_port.Goals.{After-take}
+use Rattle.nat_mapping.proofs.pools.take_port.Goals as goal
 
 sets : (c : After-take) → Sets (get same_pool c.args.pools.now) (get same_pool (c.get_mut.follows.lender c.take.new.self)) c.args.key
     (Some c.take.new.self)

@@ -1,4 +1,4 @@
-use Rattle.std.proofs.Common.{sym, ◌∙◌}
+use Rattle.nat_mapping.proofs.Names.{sym, ◌∙◌}
 use Rattle.nat_mapping.proofs.Lists.{more_alike, one_to_one_alike}
 use Rattle.nat_mapping.proofs.mappings.Mappings.hold.Goals as goal
 

@@ -1,11 +1,10 @@
-use Rattle.std.proofs.Common.{◌≡◌, ◌<◌, ◌∷◌, sym, ◌∙◌, ap, subst, refl, Some, IfSome}
-use Rattle.nat_mapping.proofs.Names.{HoldsSame, IsOneToOne, IsTable, MappedPort, PoolKey, SourceKey, get, has_pool, held_by, one_more, option_map, same_source}
-use Rattle.nat_mapping.proofs.Names.{source_key_of, taken_in}
+use Rattle.nat_mapping.proofs.Names.{HoldsSame, IfSome, IsOneToOne, IsTable, MappedPort, PoolKey, Some, SourceKey, ap, get, has_pool, held_by, one_more}
+use Rattle.nat_mapping.proofs.Names.{option_map, refl, same_source, source_key_of, subst, sym, taken_in, ◌<◌, ◌∙◌, ◌∷◌, ◌≡◌}
 use Rattle.nat_mapping.proofs.Equal.{source_test}
 use Rattle.nat_mapping.proofs.Sets.{Sets, sets_all, sets_by}
 use Rattle.nat_mapping.proofs.Represented.{HasMore, begun, few_holders, grown, held_more, more_live, own_port, port_at, port_free}
-use Rattle.nat_mapping.proofs.mappings.Mappings.hold_reserved.Goals as goal
 use Rattle.nat_mapping.proofs.mappings.Mappings.hold_reserved.Goals.{After-add_holder}
+use Rattle.nat_mapping.proofs.mappings.Mappings.hold_reserved.Goals as goal
 
 module _ (c : After-add_holder) where
   stays : IsOneToOne (c.args.m ∷ held_by c.self.inside.sources.entries)

@@ -1,4 +1,4 @@
-use Rattle.std.proofs.Common.{◌∙◌}
+use Rattle.nat_mapping.proofs.Names.{◌∙◌}
 use Rattle.nat_mapping.proofs.Represented.{inbound_is}
 use Rattle.nat_mapping.proofs.mappings.Mappings.inbound.Goals as goal
 

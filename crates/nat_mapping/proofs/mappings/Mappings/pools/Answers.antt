@@ -1,9 +1,8 @@
-use Rattle.std.proofs.Common.{◌≡◌, List, arith}
-use Rattle.nat_mapping.proofs.Names.{HoldsSame, Mapping, hash_map_len, pool_count_of}
+use Rattle.nat_mapping.proofs.Names.{HoldsSame, List, Mapping, arith, hash_map_len, pool_count_of, ◌≡◌}
 use Rattle.nat_mapping.proofs.Lists.{members_alike}
 use Rattle.nat_mapping.proofs.PoolCounts.{pools_counted}
-use Rattle.nat_mapping.proofs.mappings.Mappings.pools.Goals as goal
 use Rattle.nat_mapping.proofs.mappings.Mappings.pools.Goals.{After-count}
+use Rattle.nat_mapping.proofs.mappings.Mappings.pools.Goals as goal
 
 counted : (c : After-count) (held : List Mapping) → HoldsSame held c.args.self.now.held
     → hash_map_len c.self.inside.pools.pools ≡ pool_count_of held

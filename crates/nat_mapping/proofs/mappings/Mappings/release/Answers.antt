@@ -1,12 +1,11 @@
-use Rattle.std.proofs.Common.{◌≡◌, ◌<◌, ◌≤◌, ◌-◌, ◌+◌, ◌∷◌, subst, sym, ◌∙◌, ap, refl, arith, Option, Some, None, IfSome, IsSome}
-use Rattle.list_laws.specs.Options.{IfSome_at, some_of_map}
-use Rattle.nat_mapping.proofs.Names.{Contains, HoldsSame, IsTable, MappedPort, PoolKey, SourceKey, get, has_pool, held_by, none-some, one_fewer, one_more}
-use Rattle.nat_mapping.proofs.Names.{option_map, same_Some, same_source, source_key_of, taken_in}
+use Rattle.nat_mapping.proofs.Names.{Contains, HoldsSame, IfSome, IfSome_at, IsSome, IsTable, MappedPort, None, Option, PoolKey, Some, SourceKey, ap, arith}
+use Rattle.nat_mapping.proofs.Names.{get, has_pool, held_by, none-some, one_fewer, one_more, option_map, refl, same_Some, same_source, some_of_map}
+use Rattle.nat_mapping.proofs.Names.{source_key_of, subst, sym, taken_in, ◌+◌, ◌-◌, ◌<◌, ◌∙◌, ◌∷◌, ◌≡◌, ◌≤◌}
 use Rattle.nat_mapping.proofs.Equal.{source_test}
 use Rattle.nat_mapping.proofs.Sets.{Sets, sets_all, sets_by}
 use Rattle.nat_mapping.proofs.Represented.{ended, grown, has_fewer, held_more, port_at, port_taken, table_finds}
-use Rattle.nat_mapping.proofs.mappings.Mappings.release.Goals as goal
 use Rattle.nat_mapping.proofs.mappings.Mappings.release.Goals.{After-remove_holder-before}
+use Rattle.nat_mapping.proofs.mappings.Mappings.release.Goals as goal
 
 -- what is left under the key of a mapping
 record Left (c : After-remove_holder-before) : Type 0 where

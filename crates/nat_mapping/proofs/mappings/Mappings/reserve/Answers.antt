@@ -1,8 +1,7 @@
-use Rattle.std.proofs.Common.{◌≡◌, ◌<◌, IfSome, ap, refl, subst, sym}
-use Rattle.nat_mapping.proofs.Names.{HoldsSame, IsTable, MappedPort, SourceKey, held_by, option_map}
+use Rattle.nat_mapping.proofs.Names.{HoldsSame, IfSome, IsTable, MappedPort, SourceKey, ap, held_by, option_map, refl, subst, sym, ◌<◌, ◌≡◌}
 use Rattle.nat_mapping.proofs.Represented.{grown, held_same, port_at}
-use Rattle.nat_mapping.proofs.mappings.Mappings.reserve.Goals as goal
 use Rattle.nat_mapping.proofs.mappings.Mappings.reserve.Goals.{After-reserve}
+use Rattle.nat_mapping.proofs.mappings.Mappings.reserve.Goals as goal
 
 module _ (c : After-reserve) where
   table : IsTable c.reserve.new.self

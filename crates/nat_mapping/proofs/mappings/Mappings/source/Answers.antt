@@ -1,5 +1,5 @@
-use Rattle.std.proofs.Common.{◌≡◌, ◌↔◌, ℕ, sym, subst, ◌∙◌, refl, List, Option, Some, None, Result, Err}
-use Rattle.nat_mapping.proofs.Names.{HoldsSame, IfOk, MapError, Mapping, NoPort, none-some, ok_or, source_of}
+use Rattle.nat_mapping.proofs.Names.{Err, HoldsSame, IfOk, List, MapError, Mapping, NoPort, None, Option, Result, Some, none-some, ok_or, refl, source_of}
+use Rattle.nat_mapping.proofs.Names.{subst, sym, ℕ, ◌↔◌, ◌∙◌, ◌≡◌}
 use Rattle.nat_mapping.proofs.Represented.{source_is}
 use Rattle.nat_mapping.proofs.mappings.Mappings.source.Goals as goal
 

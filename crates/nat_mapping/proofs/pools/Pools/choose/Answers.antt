@@ -1,7 +1,4 @@
-use Rattle.std.proofs.Common.{not, sym, ◌∙◌, ap, Option}
-use Rattle.list_laws.specs.Options.{IfSome_at}
-use Rattle.nat_mapping.specs.steps.Ports.{IsInUse}
-use Rattle.nat_mapping.proofs.Names.{Order, Pool, candidates, find, is_taken, is_taken_by, order_of}
+use Rattle.nat_mapping.proofs.Names.{IfSome_at, IsInUse, Option, Order, Pool, ap, candidates, find, is_taken, is_taken_by, not, order_of, sym, ◌∙◌}
 use Rattle.nat_mapping.proofs.pools.Pools.choose.Goals as goal
 
 pub returns-in-Some : goal.returns-in-Some

@@ -1,6 +1,4 @@
-use Rattle.std.proofs.Common.{sym, ap, subst, IfSome}
-use Rattle.nat_mapping.proofs.Names.{is_taken_by}
-use Rattle.nat_mapping.specs.steps.Ports.{IsInUse}
+use Rattle.nat_mapping.proofs.Names.{IfSome, IsInUse, ap, is_taken_by, subst, sym}
 use Rattle.nat_mapping.proofs.pools.Pools.reserve.Goals as goal
 
 pub returns-clause-taken : goal.returns-clause-taken
