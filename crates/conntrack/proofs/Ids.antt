@@ -3,7 +3,7 @@ use Rattle.conntrack.proofs.Names.{Bool, ConnId, ConntrackEntry, Direction, Flag
 use Rattle.conntrack.proofs.Names.{find, has_distinct_ids, has_id, has_ids_below, have_disjoint_tuples, is_incoming, is_taken, length, list_any-append}
 use Rattle.conntrack.proofs.Names.{nat_tests, not-true, not_from_false, or-false, or_from, or_parts, refl, same_id, same_tuple, same_tuple-refl}
 use Rattle.conntrack.proofs.Names.{same_tuple-true, touched, touched_at, true, without, ℕ, ◌++◌, ◌+◌, ◌<◌, ◌||◌, ◌∙◌, ◌∷◌, ◌≡◌, ◌≤◌}
-use Rattle.conntrack.proofs.Lists.{filter_where_none, list_any-filter}
+use Rattle.conntrack.proofs.Lists.{filter_where_none, list_any-filter, none_passes}
 use Rattle.list_laws.specs.Tests.{same-tests}
 
 -- a filter adds no id
@@ -163,4 +163,5 @@ pub ruleset id_rules = (
   below-push,
   has_id-found,
   filter_where_none,
+  none_passes,
 )

@@ -175,3 +175,5 @@ ended_is_free held tuple flags id d a e =
     let at = (held_by tuple held _ _ (is_at held tuple flags)).1 id e in
     subst (λ i. is_taken tuple (without i held) ≡ false) at.2
     (rw (changed_first without (λ x. []) without_change (λ n. same_tuple n.original tuple) held at.0 d at.1) (free_first held at.0 tuple a at.1))
+
+pub ruleset looked_up_rules = (found_is_held, ends_is_held, nowhere_is_free, ended_is_free)

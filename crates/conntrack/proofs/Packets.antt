@@ -2,12 +2,13 @@
 use Rattle.conntrack.proofs.Names.{Arrival, Belonging, Bool, Confirmation, Confirmed, ConnId, Connection, ConnectionRef, ConntrackEntry, Direction}
 use Rattle.conntrack.proofs.Names.{DoesNotClash, Ends, Flags, Found, IsNoneLater, Limits, List, NotFound, Original, TrackedPacket, Tuple, Unconfirmed, []}
 use Rattle.conntrack.proofs.Names.{after_end, after_packet, ap, arith, begun_with, belongs, belongs_in, entry_at, entry_of, filter, filter-append}
-use Rattle.conntrack.proofs.Names.{has_distinct_ids, has_id, have_disjoint_tuples, is_live, length, live_at, live_list, map, map-append, no_flags, not, refl}
+use Rattle.conntrack.proofs.Names.{has_distinct_ids, has_id, have_disjoint_tuples, is_live, length, live_at, live_list, map, map-append, no_flags, no_tuple, not, refl}
 use Rattle.conntrack.proofs.Names.{same_id, same_tuple, subst, sym, touched, touched_at, true, unended, with_begun, without, without_id, ℕ, ◌++◌, ◌∙◌, ◌∷◌, ◌≡◌}
 use Rattle.conntrack.proofs.Names.{◌≤◌}
 use Rattle.conntrack.proofs.Ids.{apart-filter, apart-push, apart-touched_at, distinct-filter}
 use Rattle.conntrack.proofs.Histories.{live_list-unended, unended-distinct, unended_after}
 use Rattle.conntrack.proofs.Lists.{filter-map, filter-swap}
+use Rattle.conntrack.proofs.Same.{same_belonging}
 use Rattle.conntrack.proofs.Changes.{live_at-later, live_at-touched_at, live_at_last}
 use Rattle.conntrack.proofs.Lookups.{EndsThere, FoundThere, IsAt, Nowhere, Place, at_first, changed, ended_is_free, found_is_held, has_tuple, is_at}
 use Rattle.conntrack.proofs.Lookups.{nowhere_is_free, place_in, touched_change, without_change}
@@ -107,10 +108,10 @@ pub recorded : (limits : Limits) (p : Arrival) (confirmation : Confirmation) (hi
 recorded limits p confirmation history =
     recorded_by limits _ p confirmation history (found_is_held (live_list limits history p.moment) p.tuple p.flags)
 
-pub recorded_nothing : (limits : Limits) (history : List TrackedPacket) (now : ℕ) (tuple : Tuple)
+pub recorded_nothing : (limits : Limits) (history : List TrackedPacket) (now : ℕ)
     → live_list limits (entry_at now ∷ history) now ≡ live_list limits history now
-recorded_nothing limits history now tuple =
-    let p : Arrival = record { tuple = tuple; flags = no_flags; moment = now } in
+recorded_nothing limits history now =
+    let p : Arrival = record { tuple = no_tuple; flags = no_flags; moment = now } in
     recorded_by limits NotFound p Unconfirmed history (λ found e. cc)
 
 pub live_list-later : (limits : Limits) (history : List TrackedPacket) (now later : ℕ) → now ≤ later
@@ -184,3 +185,11 @@ none_later_after (Found found) id p (Confirmed mark reply source dest) held h =
 none_later_after NotFound id p confirmation held h = none_later_begun id p confirmation held h
 none_later_after (Ends k) id p confirmation held h =
     none_later_begun id p confirmation (without k held) (none_later-without k p.moment held h)
+
+pub ruleset record_rules = (recorded, recorded_nothing, live_list-later, live_list-distinct)
+
+pub ruleset moment_rules = (none_later_after, none_later-without, none_later_than)
+
+pub ruleset apart_rules = (apart_by, apart-filter)
+
+pub ruleset alike_rules = (packet_alike, ended_alike, same_belonging, live_alike)

@@ -48,6 +48,7 @@ pub fn one_more_record()
 {}
 
 /// The connections of a history with one more record, and those of a history at a later moment.
+#[tactic(auto, using(crate::proofs::Packets::record_rules))]
 pub fn one_more_entry()
     ensures packet { (limits : Limits) (history : List TrackedPacket) (p : Arrival)
         (confirmation : Confirmation)
@@ -64,6 +65,7 @@ pub fn one_more_entry()
 {}
 
 /// Lists that are equal except for ids have the same lookups, and stay so.
+#[tactic(auto, using(crate::proofs::Packets::alike_rules))]
 pub fn independent_of_ids()
     ensures packet { (held others : List ConntrackEntry) (i j : ConnId) (p : Arrival)
         (confirmation : Confirmation) → SameExceptIds held others
@@ -94,6 +96,7 @@ pub fn independent_of_ids()
 {}
 
 /// An entry that a lookup found is in the list, and a tuple without an entry is free.
+#[tactic(auto, using(crate::proofs::Lookups::looked_up_rules))]
 pub fn looked_up()
     ensures found { (held : List ConntrackEntry) (tuple : Tuple) (flags : Flags)
         (found : ConnectionRef) → belongs_in held tuple flags ≡ Found found
@@ -108,6 +111,7 @@ pub fn looked_up()
 {}
 
 /// No two entries get an incoming tuple in common, except by a creation that clashes.
+#[tactic(auto, using(crate::proofs::Packets::apart_rules))]
 pub fn tuples_stay_disjoint()
     ensures packet { (held : List ConntrackEntry) (id : ConnId) (p : Arrival)
         (confirmation : Confirmation) → IsTrue (has_distinct_ids held)
@@ -121,6 +125,7 @@ pub fn tuples_stay_disjoint()
 {}
 
 /// No entry gets a moment after that of the latest packet.
+#[tactic(auto, using(crate::proofs::Packets::moment_rules))]
 pub fn none_later()
     ensures packet { (held : List ConntrackEntry) (belonging : Belonging) (id : ConnId)
         (p : Arrival) (confirmation : Confirmation) → IsNoneLater p.moment held

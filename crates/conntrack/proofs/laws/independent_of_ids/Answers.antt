@@ -4,15 +4,6 @@ use Rattle.conntrack.proofs.Same.{same_belonging}
 use Rattle.conntrack.proofs.Packets.{ended_alike, live_alike, packet_alike}
 use Rattle.conntrack.proofs.laws.independent_of_ids.Goals as goal
 
-pub returns-clause-packet : goal.returns-clause-packet
-returns-clause-packet c = λ held others i j p confirmation e d d'. packet_alike held others e d d' i j p confirmation
-
-pub returns-clause-ended : goal.returns-clause-ended
-returns-clause-ended c = λ held others tuple flags e d d'. ended_alike held others e d d' tuple flags
-
-pub returns-clause-belonging : goal.returns-clause-belonging
-returns-clause-belonging c = same_belonging
-
 state_without_id : (kind : Kind) (b : Belonging) → state_of kind b ≡ state_of kind (belonging_without_id b)
 state_without_id kind b = grind arith
 
@@ -27,9 +18,6 @@ returns-clause-taken c held others tuple e =
 
 pub returns-clause-number : goal.returns-clause-number
 returns-clause-number c = λ held others e. sym (length-map held without_id) ∙ ap length e ∙ length-map others without_id
-
-pub returns-clause-live : goal.returns-clause-live
-returns-clause-live c = live_alike
 
 listed_without_id : (held : List ConntrackEntry) → map connection_of held ≡ map connection_of (map without_id held)
 listed_without_id [] = refl

@@ -21,5 +21,5 @@ returns-clause-none c = λ limits held history now s.
     record {
       reached = omega arith;
       live = s.live
-          ∙ ap (map without_id) (sym (recorded_nothing limits history now no_tuple));
+          ∙ ap (map without_id) (sym (recorded_nothing limits history now));
     }
