@@ -1,9 +1,9 @@
 -- The live entries, after a packet and at a later moment.
 use Rattle.conntrack.proofs.Names.{ConnId, ConntrackEntry, Direction, Flags, IdleKind, Limits, List, [], arith, has_distinct_ids, has_id, idle_kind, is_live}
-use Rattle.conntrack.proofs.Names.{limit_in, limit_of, live_at, lt-ltb, ltb-true, nat_lt, nat_tests, phase_of, refl, touched, touched_at, true, ℕ, ◌-◌, ◌<◌}
-use Rattle.conntrack.proofs.Names.{◌∷◌, ◌≡◌, ◌≤◌}
-use Rattle.conntrack.proofs.Lists.{filter_again}
-use Rattle.conntrack.proofs.Ids.{has_id-filter, touched_at_none}
+use Rattle.conntrack.proofs.Names.{limit_in, limit_of, live_at, lt-ltb, ltb-true, nat_lt, nat_tests, phase_of, refl, same_id, touched, touched_at, true, ℕ, ◌-◌}
+use Rattle.conntrack.proofs.Names.{◌<◌, ◌∷◌, ◌≡◌, ◌≤◌}
+use Rattle.conntrack.proofs.Lists.{filter_again, list_any-filter}
+use Rattle.conntrack.proofs.Ids.{changed_at_none}
 
 later_live : (now later last limit : ℕ) → now ≤ later → nat_lt (later - last) limit ≡ true → nat_lt (now - last) limit ≡ true
 later_live now later last limit le h = lt-ltb _ _ (omega (arith, ltb-true (later - last) limit h))
@@ -31,8 +31,8 @@ module _ (limits : Limits) (id : ConnId) (direction : Direction) (flags : Flags)
     arith,
     nat_tests,
     live_at_last limits now (touched direction flags mark now x) refl,
-    touched_at_none id direction flags mark now held,
-    touched_at_none id direction flags mark now (live_at limits now held),
-    has_id-filter (is_live limits now) x.id held,
+    changed_at_none id (touched direction flags mark now) held,
+    changed_at_none id (touched direction flags mark now) (live_at limits now held),
+    list_any-filter (same_id x.id) (is_live limits now) held,
     live_at-touched_at held,
   )

@@ -5,23 +5,22 @@ use Rattle.conntrack.proofs.Names.{Tuple, Unconfirmed, [], after_packet, ap, app
 use Rattle.conntrack.proofs.Names.{ended_by_packet, entries_of, entry_of, eq-eqb, eqb, false, filter, filter-append, has_distinct_ids, has_id, is_ended}
 use Rattle.conntrack.proofs.Names.{is_live, is_that, is_touch_of, length, live_at, live_list, map, map-append, map-id, nat_tests, ne_eqb, not, number_if_begins}
 use Rattle.conntrack.proofs.Names.{or-false, recursion_from_All, refl, replayed, same_id, suc, touched, true, unended, with_begun, ℕ, ◌&&◌, ◌++◌, ◌<◌, ◌||◌}
-use Rattle.conntrack.proofs.Names.{◌∙◌, ◌∷◌, ◌≡◌}
+use Rattle.conntrack.proofs.Names.{◌∙◌, ◌∷◌, ◌≡◌, ◌≤◌}
 use Rattle.conntrack.proofs.Lists.{filter-map, filter-true, map-filter-change, map-filter-later}
 use Rattle.conntrack.proofs.Ids.{distinct-filter, distinct-push}
 
-number_below : (n : ℕ) (w : ConnectionChange) → All (λ c. c < suc n) (number_if_begins n w)
-number_below n (Begins b) = All-cons (λ c. c < suc n) n [] (omega arith) (All-nil (λ c. c < suc n))
-number_below n w = All-nil (λ c. c < suc n)
+number_below : (n m : ℕ) (w : ConnectionChange) → m < n → All (λ c. c < n) (number_if_begins m w)
+number_below n m (Begins b) h = All-cons (λ c. c < n) m [] h (All-nil (λ c. c < n))
+number_below n m w h = All-nil (λ c. c < n)
 
 -- the numbers of a history's connections are below its length
-all_below : (history : List TrackedPacket) → All (λ c. c < length history) (begun_in history)
-all_below [] = All-nil (λ c. c < 0)
-all_below (e ∷ history) = All-append (λ c. c < suc (length history)) (begun_in history) (number_if_begins (length history) e.change)
-    (All-weaker (λ c. c < length history) (λ c. c < suc (length history)) (λ c below. omega (arith, below)) (begun_in history) (all_below history))
-    (number_below (length history) e.change)
+all_below : (n : ℕ) (history : List TrackedPacket) → length history ≤ n → All (λ c. c < n) (begun_in history)
+all_below n [] h = All-nil (λ c. c < n)
+all_below n (e ∷ history) h = All-append (λ c. c < n) (begun_in history) (number_if_begins (length history) e.change)
+    (all_below n history (omega arith)) (number_below n (length history) e.change (omega arith))
 
 pub begun_in-below : (history : List TrackedPacket) → AllByRecursion (λ c. c < length history) (begun_in history)
-begun_in-below history = recursion_from_All (λ c. c < length history) (begun_in history) (all_below history)
+begun_in-below history = recursion_from_All (λ c. c < length history) (begun_in history) (all_below (length history) history (omega arith))
 
 not-or : (a b : Bool) → not (a || b) ≡ (not b && not a)
 not-or a b = grind (arith, nat_tests)

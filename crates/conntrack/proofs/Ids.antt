@@ -1,25 +1,30 @@
 -- Ids of entries, and lists that are equal except for ids.
 use Rattle.conntrack.proofs.Names.{Bool, ConnId, ConntrackEntry, Direction, Flags, List, Some, Tuple, [], and_from, and_parts, ap, arith, cond, false, filter}
-use Rattle.conntrack.proofs.Names.{find, has_distinct_ids, has_id, has_ids_below, have_disjoint_tuples, is_incoming, is_taken, length, list_any-append}
+use Rattle.conntrack.proofs.Names.{find, has_distinct_ids, has_id, has_ids_below, have_disjoint_tuples, is_incoming, is_taken, length, list_any-append, map}
 use Rattle.conntrack.proofs.Names.{nat_tests, not-true, not_from_false, or-false, or_from, or_parts, refl, same_id, same_tuple, same_tuple-refl}
 use Rattle.conntrack.proofs.Names.{same_tuple-true, touched, touched_at, true, without, ℕ, ◌++◌, ◌+◌, ◌<◌, ◌||◌, ◌∙◌, ◌∷◌, ◌≡◌, ◌≤◌}
 use Rattle.conntrack.proofs.Lists.{filter_where_none, list_any-filter, none_passes}
 use Rattle.list_laws.specs.Tests.{same-tests}
 
 -- a filter adds no id
-pub has_id-filter : (p : ConntrackEntry → Bool) (id : ConnId) (held : List ConntrackEntry) → has_id id held ≡ false
-    → has_id id (filter p held) ≡ false
-has_id-filter p id held h = list_any-filter (same_id id) p held h
-
 pub distinct-filter : (p : ConntrackEntry → Bool) (held : List ConntrackEntry) → has_distinct_ids held ≡ true
     → has_distinct_ids (filter p held) ≡ true
 distinct-filter p [] h = refl
-distinct-filter p (x ∷ held) h = grind (arith, nat_tests, has_id-filter p x.id held, distinct-filter p held)
+distinct-filter p (x ∷ held) h = grind (arith, nat_tests, list_any-filter (same_id x.id) p held, distinct-filter p held)
 
 pub below-filter : (p : ConntrackEntry → Bool) (n : ℕ) (held : List ConntrackEntry) → has_ids_below n held ≡ true
     → has_ids_below n (filter p held) ≡ true
 below-filter p n [] h = refl
 below-filter p n (x ∷ held) h = grind (arith, nat_tests, below-filter p n held)
+
+-- a change of the entry with an id
+abbrev pub changed_at : ConnId → (ConntrackEntry → ConntrackEntry) → List ConntrackEntry → List ConntrackEntry
+changed_at id f held = map (λ h. cond (same_id id h) (f h) h) held
+
+pub changed_at_none : (id : ConnId) (f : ConntrackEntry → ConntrackEntry) (held : List ConntrackEntry) → has_id id held ≡ false
+    → changed_at id f held ≡ held
+changed_at_none id f [] h = refl
+changed_at_none id f (x ∷ held) h = grind (arith, changed_at_none id f held)
 
 -- a touch changes no id and no tuple
 module _ (id : ConnId) (direction : Direction) (flags : Flags) (mark now : ℕ) where
@@ -38,14 +43,9 @@ module _ (id : ConnId) (direction : Direction) (flags : Flags) (mark now : ℕ) 
   below-touched_at n [] = refl
   below-touched_at n (x ∷ held) = grind (arith, below-touched_at n held)
 
-  pub touched_at_none : (held : List ConntrackEntry) → has_id id held ≡ false → touched_at id direction flags mark now held ≡ held
-  touched_at_none [] h = refl
-  touched_at_none (x ∷ held) h = grind (arith, touched_at_none held)
-
   touched_ends : (b : Bool) (h : ConntrackEntry) → let t = cond b (touched direction flags mark now h) h in
       (t.original ≡ h.original) × (t.reply ≡ h.reply)
-  touched_ends true h = (refl, refl)
-  touched_ends false h = (refl, refl)
+  touched_ends b h = grind arith
 
   is_taken-touched_at : (tuple : Tuple) (held : List ConntrackEntry)
       → is_taken tuple (touched_at id direction flags mark now held) ≡ is_taken tuple held
@@ -164,4 +164,5 @@ pub ruleset id_rules = (
   has_id-found,
   filter_where_none,
   none_passes,
+  length-without,
 )

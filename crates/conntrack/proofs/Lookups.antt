@@ -1,83 +1,50 @@
 -- Two lists that are equal except for ids: lookups find the same entry, and changes agree.
 use Rattle.conntrack.proofs.Names.{Belonging, Bool, ConnId, ConnectionRef, ConntrackEntry, Direction, Ends, Flags, Found, Limits, List, None, NotFound, Option}
 use Rattle.conntrack.proofs.Names.{Original, Reply, Some, Tuple, [], and_parts, ap, arith, belonging_by, belongs_in, both_ways, cases_Bool, cond}
-use Rattle.conntrack.proofs.Names.{connection_ref, eq-eqb, false, false_from_ne_true, find, has_distinct_ids, has_id, have_disjoint_tuples, inl, inr}
+use Rattle.conntrack.proofs.Names.{connection_ref, eq-eqb, false, false_from_ne_true, filter, find, has_distinct_ids, has_id, have_disjoint_tuples, inl, inr}
 use Rattle.conntrack.proofs.Names.{is_closing, is_live, is_lone_syn, is_original, is_taken, live_at, map, map-append, nat_tests, not, not-true, of_original}
 use Rattle.conntrack.proofs.Names.{of_reply, option_map, or_parts, refl, same_id, same_tuple, same_tuple-true, subst, sym, touched, touched_at, true, without}
 use Rattle.conntrack.proofs.Names.{without_id, ℕ, ◌&&◌, ◌++◌, ◌∙◌, ◌∷◌, ◌≡◌}
 use Rattle.conntrack.proofs.Lists.{list_any_either, list_any_found}
 use Rattle.conntrack.proofs.Same.{blind}
-use Rattle.conntrack.proofs.Ids.{has_id-found, other_id, touched_at_none, without_new}
+use Rattle.conntrack.proofs.Ids.{changed_at, changed_at_none, has_id-found, other_id, without_new}
 
 -- the first entry that passes a test, replaced
 abbrev pub at_first : (ConntrackEntry → Bool) → (ConntrackEntry → List ConntrackEntry) → List ConntrackEntry → List ConntrackEntry
 at_first t g [] = []
 at_first t g (x ∷ held) = cond (t x) (g x ++ held) (x ∷ at_first t g held)
 
--- a change of the entry with an id, whatever the ids are
-pub record IsChange (change : ConnId → List ConntrackEntry → List ConntrackEntry) (g : ConntrackEntry → List ConntrackEntry)
-    : Type 0 where
-  pub none : (id : ConnId) (held : List ConntrackEntry) → has_id id held ≡ false → change id held ≡ held
-  pub here : (x : ConntrackEntry) (held : List ConntrackEntry) → change x.id (x ∷ held) ≡ g x ++ change x.id held
-  pub there : (id : ConnId) (x : ConntrackEntry) (held : List ConntrackEntry) → same_id id x ≡ false
-      → change id (x ∷ held) ≡ x ∷ change id held
-  pub blind : (x : ConntrackEntry) → map without_id (g x) ≡ g (without_id x)
+module _ (t : ConntrackEntry → Bool) where
+  -- where ids are distinct, a change of the entry found is one of the first such entry
+  pub without_first : (held : List ConntrackEntry) (h : ConntrackEntry) → has_distinct_ids held ≡ true → find t held ≡ Some h
+      → without h.id held ≡ at_first t (λ x. []) held
+  without_first [] h d e = cc
+  without_first (x ∷ held) h d e = grind (arith, nat_tests, without_new x.id held, other_id x held h, has_id-found t held h, without_first held h)
 
-module _ (change : ConnId → List ConntrackEntry → List ConntrackEntry) (g : ConntrackEntry → List ConntrackEntry)
-    (c : IsChange change g) (t : ConntrackEntry → Bool) where
-  changed_first : (held : List ConntrackEntry) (h : ConntrackEntry) → has_distinct_ids held ≡ true
-      → find (λ n. t (without_id n)) held ≡ Some h → change h.id held ≡ at_first (λ n. t (without_id n)) g held
-  changed_first [] h d e = cc
-  changed_first (x ∷ held) h d e = grind (
-    arith,
-    nat_tests,
-    c.here x held,
-    c.none x.id held,
-    c.there h.id x held,
-    other_id x held h,
-    has_id-found (λ n. t (without_id n)) held h,
-    changed_first held h,
-  )
+  pub changed_first : (f : ConntrackEntry → ConntrackEntry) (held : List ConntrackEntry) (h : ConntrackEntry) → has_distinct_ids held ≡ true
+      → find t held ≡ Some h → changed_at h.id f held ≡ at_first t (λ x. f x ∷ []) held
+  changed_first f [] h d e = cc
+  changed_first f (x ∷ held) h d e =
+      grind (arith, nat_tests, changed_at_none x.id f held, other_id x held h, has_id-found t held h, changed_first f held h)
 
-  at_first-blind : (held : List ConntrackEntry)
-      → map without_id (at_first (λ n. t (without_id n)) g held) ≡ at_first t g (map without_id held)
-  at_first-blind [] = refl
-  at_first-blind (x ∷ held) = grind (arith, map-append without_id (g x) held, c.blind x, at_first-blind held)
+  -- whatever the ids are
+  pub at_first-blind : (g : ConntrackEntry → List ConntrackEntry) (blind : (x : ConntrackEntry) → map without_id (g x) ≡ g (without_id x))
+      (held : List ConntrackEntry) → map without_id (at_first (λ n. t (without_id n)) g held) ≡ at_first t g (map without_id held)
+  at_first-blind g blind [] = refl
+  at_first-blind g blind (x ∷ held) = grind (arith, map-append without_id (g x) held, blind x, at_first-blind g blind held)
 
-  -- a change of the entry found is one of the first such entry, whatever the ids are
-  pub changed : (held : List ConntrackEntry) (h : ConntrackEntry) → has_distinct_ids held ≡ true
-      → find (λ n. t (without_id n)) held ≡ Some h → map without_id (change h.id held) ≡ at_first t g (map without_id held)
-  changed held h d e = ap (map without_id) (changed_first held h d e) ∙ at_first-blind held
-
-pub without_change : IsChange without (λ x. [])
-without_change = record {
-  none = without_new;
-  here = λ x held. rw (eq-eqb x.id.0 x.id.0 refl) refl;
-  there = λ id x held e. rw e refl;
-  blind = λ x. refl;
-}
-
--- removing the first expired entry keeps the live ones
-live_at-at_first : (limits : Limits) (now : ℕ) (held : List ConntrackEntry)
-    → live_at limits now (at_first (λ n. not (is_live limits now n)) (λ x. []) held) ≡ live_at limits now held
-live_at-at_first limits now [] = refl
-live_at-at_first limits now (x ∷ held) = grind (arith, live_at-at_first limits now held)
-
-pub live_at-without_expired : (limits : Limits) (now : ℕ) (held : List ConntrackEntry) (h : ConntrackEntry)
-    → has_distinct_ids held ≡ true → find (λ x. not (is_live limits now x)) held ≡ Some h
-    → live_at limits now (without h.id held) ≡ live_at limits now held
-live_at-without_expired limits now held h d e =
-    ap (live_at limits now) (changed_first without (λ x. []) without_change (λ n. not (is_live limits now n)) held h d e)
-    ∙ live_at-at_first limits now held
-
-pub touched_change : (direction : Direction) (flags : Flags) (mark now : ℕ)
-    → IsChange (λ id held. touched_at id direction flags mark now held) (λ x. touched direction flags mark now x ∷ [])
-touched_change direction flags mark now = record {
-  none = λ id held n. touched_at_none id direction flags mark now held n;
-  here = λ x held. rw (eq-eqb x.id.0 x.id.0 refl) refl;
-  there = λ id x held e. rw e refl;
-  blind = λ x. refl;
-}
+-- removing the first entry that a filter leaves out
+pub filter-without_first : (p : ConntrackEntry → Bool) (held : List ConntrackEntry) (h : ConntrackEntry)
+    → has_distinct_ids held ≡ true → find (λ x. not (p x)) held ≡ Some h → filter p (without h.id held) ≡ filter p held
+filter-without_first p [] h d e = cc
+filter-without_first p (x ∷ held) h d e = grind (
+  arith,
+  nat_tests,
+  without_new x.id held,
+  other_id x held h,
+  has_id-found (λ x. not (p x)) held h,
+  filter-without_first p held h,
+)
 
 -- what a lookup finds, whatever the ids are
 pub data Place : Type 0 where
@@ -174,6 +141,6 @@ pub ended_is_free : (held : List ConntrackEntry) (tuple : Tuple) (flags : Flags)
 ended_is_free held tuple flags id d a e =
     let at = (held_by tuple held _ _ (is_at held tuple flags)).1 id e in
     subst (λ i. is_taken tuple (without i held) ≡ false) at.2
-    (rw (changed_first without (λ x. []) without_change (λ n. same_tuple n.original tuple) held at.0 d at.1) (free_first held at.0 tuple a at.1))
+    (rw (without_first (λ n. same_tuple n.original tuple) held at.0 d at.1) (free_first held at.0 tuple a at.1))
 
 pub ruleset looked_up_rules = (found_is_held, ends_is_held, nowhere_is_free, ended_is_free)

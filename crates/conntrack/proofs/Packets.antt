@@ -2,16 +2,16 @@
 use Rattle.conntrack.proofs.Names.{Arrival, Belonging, Bool, Confirmation, Confirmed, ConnId, Connection, ConnectionRef, ConntrackEntry, Direction}
 use Rattle.conntrack.proofs.Names.{DoesNotClash, Ends, Flags, Found, IsNoneLater, Limits, List, NotFound, Original, TrackedPacket, Tuple, Unconfirmed, []}
 use Rattle.conntrack.proofs.Names.{after_end, after_packet, ap, arith, begun_with, belongs, belongs_in, entry_at, entry_of, filter, filter-append}
-use Rattle.conntrack.proofs.Names.{has_distinct_ids, has_id, have_disjoint_tuples, is_live, length, live_at, live_list, map, map-append, no_flags, no_tuple, not, refl}
-use Rattle.conntrack.proofs.Names.{same_id, same_tuple, subst, sym, touched, touched_at, true, unended, with_begun, without, without_id, ℕ, ◌++◌, ◌∙◌, ◌∷◌, ◌≡◌}
-use Rattle.conntrack.proofs.Names.{◌≤◌}
+use Rattle.conntrack.proofs.Names.{has_distinct_ids, has_id, have_disjoint_tuples, is_live, length, live_at, live_list, map, map-append, no_flags, no_tuple}
+use Rattle.conntrack.proofs.Names.{not, refl, same_id, same_tuple, subst, sym, touched, touched_at, true, unended, with_begun, without, without_id, ℕ, ◌++◌}
+use Rattle.conntrack.proofs.Names.{◌∙◌, ◌∷◌, ◌≡◌, ◌≤◌}
 use Rattle.conntrack.proofs.Ids.{apart-filter, apart-push, apart-touched_at, distinct-filter}
 use Rattle.conntrack.proofs.Histories.{live_list-unended, unended-distinct, unended_after}
 use Rattle.conntrack.proofs.Lists.{filter-map, filter-swap}
 use Rattle.conntrack.proofs.Same.{same_belonging}
 use Rattle.conntrack.proofs.Changes.{live_at-later, live_at-touched_at, live_at_last}
-use Rattle.conntrack.proofs.Lookups.{EndsThere, FoundThere, IsAt, Nowhere, Place, at_first, changed, ended_is_free, found_is_held, has_tuple, is_at}
-use Rattle.conntrack.proofs.Lookups.{nowhere_is_free, place_in, touched_change, without_change}
+use Rattle.conntrack.proofs.Lookups.{EndsThere, FoundThere, IsAt, Nowhere, Place, at_first, at_first-blind, changed_first, ended_is_free, found_is_held}
+use Rattle.conntrack.proofs.Lookups.{has_tuple, is_at, nowhere_is_free, place_in, without_first}
 
 -- the entry that a lookup found is in the list
 abbrev pub IsFoundIn : Belonging → List ConntrackEntry → Type 0
@@ -61,7 +61,7 @@ module _ (held : List ConntrackEntry) (d : has_distinct_ids held ≡ true) where
       → map without_id (after_end b held) ≡ ended_at tuple pl (map without_id held)
   end_blind tuple b Nowhere at = rw at.0 refl
   end_blind tuple b EndsThere at =
-      rw at.2 (changed without (λ x. []) without_change (λ n. same_tuple n.original tuple) held at.0 d at.1)
+      rw at.2 (ap (map without_id) (without_first (has_tuple tuple Original) held at.0 d at.1) ∙ at_first-blind (has_tuple tuple Original) (λ x. []) (λ x. refl) held)
   end_blind tuple b (FoundThere direction) at = rw at.2 refl
 
   after_blind : (i : ConnId) (p : Arrival) (confirmation : Confirmation) (b : Belonging) (pl : Place) → IsAt p.tuple held b pl
@@ -71,7 +71,8 @@ module _ (held : List ConntrackEntry) (d : has_distinct_ids held ≡ true) where
       ∙ ap (with_begun (record { 0 = 0 }) p confirmation) (end_blind p.tuple (Ends at.0.id) EndsThere (at.0, at.1, refl)))
   after_blind i p Unconfirmed b (FoundThere direction) at = rw at.2 refl
   after_blind i p (Confirmed mark reply source dest) b (FoundThere direction) at = rw at.2
-      (changed _ _ (touched_change direction p.flags mark p.moment) (has_tuple p.tuple direction) held at.0 d at.1)
+      (ap (map without_id) (changed_first (has_tuple p.tuple direction) (touched direction p.flags mark p.moment) held at.0 d at.1)
+      ∙ at_first-blind (has_tuple p.tuple direction) (λ x. touched direction p.flags mark p.moment x ∷ []) (λ x. refl) held)
 
 -- lists that are equal except for ids stay so
 module _ (held others : List ConntrackEntry) (e : map without_id held ≡ map without_id others)

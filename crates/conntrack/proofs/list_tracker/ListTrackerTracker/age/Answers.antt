@@ -1,15 +1,12 @@
 use Rattle.conntrack.proofs.Names.{aged_of, ap, is_live, not, option_map, refl, sym}
 use Rattle.conntrack.proofs.Lists.{filter_where_none}
 use Rattle.conntrack.proofs.Ids.{found_by_id, has_id-found, length-without}
-use Rattle.conntrack.proofs.Lookups.{live_at-without_expired}
+use Rattle.conntrack.proofs.Lookups.{filter-without_first}
 use Rattle.conntrack.proofs.list_tracker.ListTrackerTracker.age.Goals as goal
 
 pub returns-in-None-clause-none : goal.returns-in-None-clause-none
-returns-in-None-clause-none c = (
-  refl,
-  filter_where_none (is_live c.args.self.now.limits c.args.now) _
-      (rw c.deref.ensures.value at (sym c.in-None.ensures)),
-)
+returns-in-None-clause-none c =
+    (refl, filter_where_none (is_live c.args.self.now.limits c.args.now) _ (rw c.deref.ensures.value at (sym c.in-None.ensures)))
 
 pub returns-in-Some-clause-some : goal.returns-in-Some-clause-some
 returns-in-Some-clause-some c =
@@ -19,10 +16,5 @@ returns-in-Some-clause-some c =
           (found_by_id (λ h. not (is_live c.args.self.now.limits c.args.now h)) _ _ c.args.self.now.distinct found),
       c.remove_entry.ensures.items,
       rw c.remove_entry.ensures.items
-          (live_at-without_expired c.args.self.now.limits _ _ _ c.args.self.now.distinct found),
+          (filter-without_first (is_live c.args.self.now.limits c.args.now) _ _ c.args.self.now.distinct found),
     )
-
-pub returns-in-Some-clause-fewer : goal.returns-in-Some-clause-fewer
-returns-in-Some-clause-fewer c =
-    let found = rw c.deref.ensures.value at (sym c.in-Some.ensures) in
-    rw c.remove_entry.ensures.items (length-without _ _ (has_id-found (λ h. not (is_live c.args.self.now.limits c.args.now h)) _ _ found))
