@@ -1,11 +1,11 @@
 -- What lookups by key find in a list of mappings, and after one more or one fewer.
-use Rattle.nat_mapping.proofs.Names.{Bool, CandidateRange, Contains, Contains-cases, Contains-head, Contains-there, Endpoint, Finds, InboundKey, IsOneToOne}
-use Rattle.nat_mapping.proofs.Names.{Kind, List, Mapping, None, Option, Some, SourceKey, ap, arith, candidates, cond, find, from_external, from_internal}
-use Rattle.nat_mapping.proofs.Names.{inbound_key_of, inbound_of, inl, inr, is_port_held, is_some, none-some, not, option_cases, option_map, or_else, order_of}
-use Rattle.nat_mapping.proofs.Names.{port_of, refl, same_Some, same_endpoint, same_kind, some_of_map, source_key_of, source_of, subst, sym, true, ℕ, ◌&&◌, ◌==◌}
-use Rattle.nat_mapping.proofs.Names.{◌∙◌, ◌∷◌, ◌≡◌}
+use Rattle.nat_mapping.proofs.Names.{Bool, CandidateRange, Contains, Contains-cases, Contains-head, Contains-there, Endpoint, Finds, HoldsSame, InboundKey}
+use Rattle.nat_mapping.proofs.Names.{IsOneToOne, Kind, List, Mapping, None, Option, Some, SourceKey, ap, arith, candidates, cond, find, from_external}
+use Rattle.nat_mapping.proofs.Names.{from_internal, inbound_key_of, inbound_of, inl, inr, is_port_held, is_some, none-some, not, option_cases, option_map}
+use Rattle.nat_mapping.proofs.Names.{or_else, order_of, port_of, refl, same_Some, same_endpoint, same_kind, some_of_map, source_key_of, source_of, subst, sym}
+use Rattle.nat_mapping.proofs.Names.{true, ℕ, ◌&&◌, ◌==◌, ◌∙◌, ◌∷◌, ◌≡◌}
 use Rattle.nat_mapping.proofs.Equal.{IsTest, here_true, inbound_parts_test, source_parts_test}
-use Rattle.nat_mapping.proofs.Lists.{SameMembers, found_among, none_such, one_to_one-within}
+use Rattle.nat_mapping.proofs.Lists.{SameMembers, contains_alike, found_among, members_alike, more_alike, none_such, one_to_one-within, one_to_one_alike}
 use Rattle.nat_mapping.proofs.Sets.{Sets, sets_all, sets_by}
 
 same_options : {Y : Type 0} (o p : Option Y) → ((y : Y) → o ≡ Some y → p ≡ Some y) → ((y : Y) → p ≡ Some y → o ≡ Some y) → o ≡ p
@@ -151,9 +151,11 @@ not_some : {X : Type 0} (o : Option X) → not (is_some o) ≡ true → o ≡ No
 not_some o h = grind arith
 
 -- the mapping to the port that `source` gives
-pub source_one_to_one : (held : List Mapping) → IsOneToOne held → (key : SourceKey) (range : Option CandidateRange) (port : ℕ)
-    → source_of key.kind key.internal key.address range held ≡ Some port → IsOneToOne (from_internal key port ∷ held)
-source_one_to_one held one key range port is =
+pub source_one_to_one : (held : List Mapping) (kind : Kind) (internal : Endpoint) (address : ℕ) (range : Option CandidateRange) (port : ℕ)
+    → IsOneToOne held → source_of kind internal address range held ≡ Some port
+    → IsOneToOne (record { kind = kind; internal = internal; external = record { address = address; port = port } } ∷ held)
+source_one_to_one held kind internal address range port one is =
+    let key : SourceKey = record { kind = kind; internal = internal; address = address } in
     let ports = port_finds held one in
     let inbounds = inbound_finds held one in
     elim (option_cases (port_in held key)) [
@@ -173,17 +175,22 @@ source_one_to_one held one key range port is =
 
 -- ---- lists with the same mappings have the same lookups, where they are one to one
 
-module _ (one other : List Mapping) (same : SameMembers one other) (unique : IsOneToOne other) where
-  pub inbound_alike : (k : InboundKey) → inbound_in one k ≡ inbound_in other k
-  inbound_alike = finds_alike from_external other _ _ (finds_as from_external one other _ _ same (λ k. refl)
-      (inbound_finds one (one_to_one-within one other same.there unique))) (inbound_finds other unique)
+module _ (one other : List Mapping) (same : HoldsSame one other) (unique : IsOneToOne other) where
+  pub inbound_alike : (kind : Kind) (external : Endpoint) → inbound_of kind external one ≡ inbound_of kind external other
+  inbound_alike kind external = finds_alike from_external other _ _ (finds_as from_external one other _ _ (members_alike one other same)
+      (λ k. refl) (inbound_finds one (one_to_one_alike one other same unique))) (inbound_finds other unique)
+      (record { kind = kind; external = external })
 
-  pub port_alike : (k : SourceKey) → port_in one k ≡ port_in other k
-  port_alike = finds_alike from_internal other _ _ (finds_as from_internal one other _ _ same (λ k. refl)
-      (port_finds one (one_to_one-within one other same.there unique))) (port_finds other unique)
+  pub port_alike : (kind : Kind) (internal : Endpoint) (address : ℕ) → port_of kind internal address one ≡ port_of kind internal address other
+  port_alike kind internal address = finds_alike from_internal other _ _ (finds_as from_internal one other _ _ (members_alike one other same)
+      (λ k. refl) (port_finds one (one_to_one_alike one other same unique))) (port_finds other unique)
+      (record { kind = kind; internal = internal; address = address })
 
   pub source_alike : (kind : Kind) (internal : Endpoint) (address : ℕ) (range : Option CandidateRange)
       → source_of kind internal address range one ≡ source_of kind internal address range other
-  source_alike kind internal address range = λ i. or_else (port_alike (record { kind = kind; internal = internal; address = address }) i)
-      (find (λ p. not (is_some (inbound_alike (record { kind = kind; external = record { address = address; port = p } }) i)))
-      (candidates (order_of kind) internal.port range))
+  source_alike kind internal address range = λ i. or_else (port_alike kind internal address i)
+      (find (λ p. not (is_some (inbound_alike kind (record { address = address; port = p }) i))) (candidates (order_of kind) internal.port range))
+
+pub ruleset alike_rules = (more_alike, contains_alike, one_to_one_alike, inbound_alike, port_alike, source_alike)
+
+pub ruleset one_to_one_rules = (source_one_to_one, one_to_one-within)

@@ -3,7 +3,6 @@ pub use Rattle.ip_headers.specs.HashWords.{hash_word}
 pub use Rattle.ip_headers.specs.Same.{same_endpoint, same_kind}
 pub use Rattle.ip_headers.specs.declared.tuple.Endpoint.{Endpoint}
 pub use Rattle.ip_headers.specs.declared.tuple.Kind.{Kind}
-pub use Rattle.ip_headers.specs.declared.tuple.Kind.TheVariants.{Other}
 pub use Rattle.ip_headers.specs.declared.tuple.Mapping.{Mapping}
 pub use Rattle.ip_headers.specs.steps.Equal.{same_endpoint-refl, same_endpoint-true, same_kind-refl, same_kind-true}
 pub use Rattle.ip_headers.specs.steps.WordBytes.{first_word, words_after}

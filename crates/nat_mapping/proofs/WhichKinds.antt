@@ -1,10 +1,9 @@
 -- Kinds with pools and without.
-use Rattle.nat_mapping.proofs.Names.{Bool, CandidateRange, Kind, None, Option, Other, Some, Zero, arith, candidates, cond, false, find, has_pool, is_some}
-use Rattle.nat_mapping.proofs.Names.{order_of, refl, true, ℕ, ◌≡◌, ◌≢◌}
+use Rattle.nat_mapping.proofs.Names.{Bool, CandidateRange, Kind, None, Option, Some, Zero, arith, candidates, cond, false, find, has_pool, is_some, order_of}
+use Rattle.nat_mapping.proofs.Names.{true, ℕ, ◌≡◌, ◌≢◌}
 
 pub row_order : (kind : Kind) → has_pool kind ≡ true → order_of kind ≢ Zero
-row_order (Other number) is = absurd (cc)
-row_order kind is = λ e. absurd (cc)
+row_order kind is = grind arith
 
 pub is_none : {X : Type 0} (o : Option X) → is_some o ≡ false → o ≡ None
 is_none o e = grind arith
@@ -13,5 +12,4 @@ is_none o e = grind arith
 pub zero_found : (test : ℕ → Bool) (kind : Kind) (s : ℕ) (range : Option CandidateRange) → has_pool kind ≡ false
     → find test (candidates (order_of kind) s range) ≡ cond (test 0) (Some 0) None
 unfolding candidates
-zero_found test (Other number) s range none = refl
-zero_found test kind s range none = absurd (cc)
+zero_found test kind s range none = grind arith

@@ -9,6 +9,7 @@ ghost use Rattle.nat_mapping.specs.Mappings.{HoldsSame, IsOneToOne, inbound_of, 
 
 /// What keeps a list one to one: adding the mapping to the port that `source` gives, and removing
 /// mappings.
+#[tactic(auto, using(crate::proofs::Lookups::one_to_one_rules))]
 pub fn stays_one_to_one()
     ensures source { (held : List Mapping) (kind : Kind) (internal : Endpoint) (address : ℕ)
         (range : Option CandidateRange) (port : ℕ)
@@ -31,6 +32,7 @@ pub fn inbound_is_held()
 
 /// Lists with the same mappings and holders have the same elements, and the same lookups where they
 /// are one to one: their order doesn't matter.
+#[tactic(auto, using(crate::proofs::Lookups::alike_rules))]
 pub fn same_answers()
     ensures more { (one other : List Mapping) (m : Mapping) → HoldsSame one other
         → HoldsSame (m ∷ one) (m ∷ other) }

@@ -176,6 +176,7 @@ impl Mappings {
     /// # Errors
     ///
     /// Where no memory is reserved and none is left; the mappings stay.
+    #[tactic(auto, using(crate::proofs::Lists::more_alike, crate::proofs::Lists::one_to_one_alike))]
     pub fn hold(&mut self, m: Mapping) -> Result<(), AllocError>
         requires one_to_one { IsOneToOne (m ∷ self.old.held) }
         requires few { holders_of m self.old.held < usize.MAX }
@@ -223,6 +224,7 @@ impl Mappings {
 }
 
 /// The first candidate for an internal endpoint that isn't mapped at the external address.
+#[tactic(auto, using(crate::proofs::WhichKinds::zero_found))]
 fn first_free_port(
     inbounds: &HashMap<InboundKey, Endpoint, WordState>,
     pools: &Pools,
