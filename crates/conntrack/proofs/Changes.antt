@@ -1,17 +1,14 @@
 -- The live entries, after a packet and at a later moment.
 use Rattle.conntrack.proofs.Names.{ConnId, ConntrackEntry, Direction, Flags, IdleKind, Limits, List, [], arith, has_distinct_ids, has_id, idle_kind, is_live}
-use Rattle.conntrack.proofs.Names.{limit_in, limit_of, live_at, lt-ltb, ltb-true, nat_lt, nat_tests, phase_of, refl, same_id, touched, touched_at, true, ℕ, ◌-◌}
-use Rattle.conntrack.proofs.Names.{◌<◌, ◌∷◌, ◌≡◌, ◌≤◌}
+use Rattle.conntrack.proofs.Names.{limit_in, limit_of, live_at, lt-ltb, ltb-true, nat_tests, phase_of, refl, same_id, touched, touched_at, true, ℕ, ◌-◌, ◌<◌}
+use Rattle.conntrack.proofs.Names.{◌∷◌, ◌≡◌, ◌≤◌}
 use Rattle.conntrack.proofs.Lists.{filter_again, list_any-filter}
 use Rattle.conntrack.proofs.Ids.{changed_at_none}
-
-later_live : (now later last limit : ℕ) → now ≤ later → nat_lt (later - last) limit ≡ true → nat_lt (now - last) limit ≡ true
-later_live now later last limit le h = lt-ltb _ _ (omega (arith, ltb-true (later - last) limit h))
 
 pub live_at-later : (limits : Limits) (now later : ℕ) (held : List ConntrackEntry) → now ≤ later
     → live_at limits later (live_at limits now held) ≡ live_at limits later held
 live_at-later limits now later held le = filter_again (is_live limits later) (is_live limits now) held
-    (λ x h. later_live now later x.last (limit_of limits x) le h)
+    (λ x h. lt-ltb _ _ (omega (arith, ltb-true (later - x.last) (limit_of limits x) h)))
 
 limit_positive : (limits : Limits) (kind : IdleKind) → 0 < limit_in limits kind
 limit_positive limits kind = grind (arith, nat_tests, limits.positive)

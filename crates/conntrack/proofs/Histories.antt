@@ -1,13 +1,17 @@
 -- The connections of a history that no record removed, and what one more record does to them.
-use Rattle.conntrack.proofs.Names.{All, All-append, All-cons, All-nil, All-weaker, AllByRecursion, Arrival, Begins, Belonging, Bool, Confirmation, Confirmed}
+use Rattle.conntrack.proofs.Names.{All, All-append, All-cons, All-nil, AllByRecursion, Arrival, Begins, Belonging, Bool, Confirmation, Confirmed}
 use Rattle.conntrack.proofs.Names.{ConnectionChange, ConntrackEntry, Creation, Ends, Found, Limits, List, Mapping, None, NotFound, Option, Some, TrackedPacket}
 use Rattle.conntrack.proofs.Names.{Tuple, Unconfirmed, [], after_packet, ap, append-nil, arith, begun_in, change_of_packet, cond, connection_in, creation_of}
 use Rattle.conntrack.proofs.Names.{ended_by_packet, entries_of, entry_of, eq-eqb, eqb, false, filter, filter-append, has_distinct_ids, has_id, is_ended}
 use Rattle.conntrack.proofs.Names.{is_live, is_that, is_touch_of, length, live_at, live_list, map, map-append, map-id, nat_tests, ne_eqb, not, number_if_begins}
-use Rattle.conntrack.proofs.Names.{or-false, recursion_from_All, refl, replayed, same_id, suc, touched, true, unended, with_begun, ℕ, ◌&&◌, ◌++◌, ◌<◌, ◌||◌}
-use Rattle.conntrack.proofs.Names.{◌∙◌, ◌∷◌, ◌≡◌, ◌≤◌}
+use Rattle.conntrack.proofs.Names.{or-false, recursion_from_All, refl, replayed, same_id, touched, true, with_begun, ℕ, ◌&&◌, ◌++◌, ◌<◌, ◌||◌, ◌∙◌, ◌∷◌, ◌≡◌}
+use Rattle.conntrack.proofs.Names.{◌≤◌}
 use Rattle.conntrack.proofs.Lists.{filter-map, filter-true, map-filter-change, map-filter-later}
 use Rattle.conntrack.proofs.Ids.{distinct-filter, distinct-push}
+
+-- those that no record removed
+abbrev pub unended : List TrackedPacket → List ConntrackEntry
+unended history = map (λ c. connection_in c history) (filter (λ c. not (is_ended c history)) (begun_in history))
 
 number_below : (n m : ℕ) (w : ConnectionChange) → m < n → All (λ c. c < n) (number_if_begins m w)
 number_below n m (Begins b) h = All-cons (λ c. c < n) m [] h (All-nil (λ c. c < n))

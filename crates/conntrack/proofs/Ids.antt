@@ -1,8 +1,9 @@
 -- Ids of entries, and lists that are equal except for ids.
 use Rattle.conntrack.proofs.Names.{Bool, ConnId, ConntrackEntry, Direction, Flags, List, Some, Tuple, [], and_from, and_parts, ap, arith, cond, false, filter}
 use Rattle.conntrack.proofs.Names.{find, has_distinct_ids, has_id, has_ids_below, have_disjoint_tuples, is_incoming, is_taken, length, list_any-append, map}
-use Rattle.conntrack.proofs.Names.{nat_tests, not-true, not_from_false, or-false, or_from, or_parts, refl, same_id, same_tuple, same_tuple-refl}
-use Rattle.conntrack.proofs.Names.{same_tuple-true, touched, touched_at, true, without, ℕ, ◌++◌, ◌+◌, ◌<◌, ◌||◌, ◌∙◌, ◌∷◌, ◌≡◌, ◌≤◌}
+use Rattle.conntrack.proofs.Names.{nat_tests, not, not-true, not_from_false, or-false, or_from, or_parts, refl, same_id, same_tuple, same_tuple-refl}
+use Rattle.conntrack.proofs.Names.{same_tuple-true, touched, touched_at, true, without, ℕ, ◌++◌, ◌+◌, ◌<◌, ◌||◌, ◌∙◌, ◌∷◌, ◌≡◌}
+use Rattle.std.proofs.lemmas.List.Sums.{count_by-le-length, length-filter}
 use Rattle.conntrack.proofs.Lists.{filter_where_none, list_any-filter, none_passes}
 use Rattle.list_laws.specs.Tests.{same-tests}
 
@@ -66,15 +67,10 @@ pub has_id-below : (n : ℕ) (held : List ConntrackEntry) → has_ids_below n he
 has_id-below n [] h = refl
 has_id-below n (x ∷ held) h = grind (arith, nat_tests, has_id-below n held)
 
-has_id-push : (id : ConnId) (held : List ConntrackEntry) (new : ConntrackEntry)
-    → has_id id (held ++ new ∷ []) ≡ (has_id id held || same_id id new)
-has_id-push id [] new = grind (arith, nat_tests)
-has_id-push id (x ∷ held) new = grind (arith, nat_tests, has_id-push id held new)
-
 pub distinct-push : (held : List ConntrackEntry) (new : ConntrackEntry) → has_distinct_ids held ≡ true
     → has_id new.id held ≡ false → has_distinct_ids (held ++ new ∷ []) ≡ true
 distinct-push [] new h k = refl
-distinct-push (x ∷ held) new h k = grind (arith, nat_tests, has_id-push x.id held new, distinct-push held new)
+distinct-push (x ∷ held) new h k = grind (arith, nat_tests, list_any-append (same_id x.id) held (new ∷ []), distinct-push held new)
 
 pub below-push : (n : ℕ) (held : List ConntrackEntry) (new : ConntrackEntry) → has_ids_below n held ≡ true
     → new.id.0 ≡ n → has_ids_below (n + 1) (held ++ new ∷ []) ≡ true
@@ -142,13 +138,11 @@ apart-push (x ∷ held) new h o r =
     (or_from _ _ (same_tuple-sym new.original x.reply ∙ oo.1) (same_tuple-sym new.reply x.reply ∙ rr.1)))))
     (apart-push held new parts.1 os.1 rs.1)
 
-length-without_le : (id : ConnId) (held : List ConntrackEntry) → length (without id held) ≤ length held
-length-without_le id [] = omega arith
-length-without_le id (x ∷ held) = grind (arith, length-without_le id held)
-
 pub length-without : (id : ConnId) (held : List ConntrackEntry) → has_id id held ≡ true → length (without id held) < length held
 length-without id [] h = cc
-length-without id (x ∷ held) h = grind (arith, length-without_le id held, length-without id held)
+length-without id (x ∷ held) h =
+    let some = λ (y : ConntrackEntry). not (same_id id y) in
+    grind (arith, length-filter some held, count_by-le-length some held, length-without id held)
 
 pub ruleset id_rules = (
   distinct-filter,

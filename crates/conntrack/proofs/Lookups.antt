@@ -1,10 +1,9 @@
 -- Two lists that are equal except for ids: lookups find the same entry, and changes agree.
-use Rattle.conntrack.proofs.Names.{Belonging, Bool, ConnId, ConnectionRef, ConntrackEntry, Direction, Ends, Flags, Found, Limits, List, None, NotFound, Option}
+use Rattle.conntrack.proofs.Names.{Belonging, Bool, ConnId, ConnectionRef, ConntrackEntry, Direction, Ends, Flags, Found, List, None, NotFound, Option}
 use Rattle.conntrack.proofs.Names.{Original, Reply, Some, Tuple, [], and_parts, ap, arith, belonging_by, belongs_in, both_ways, cases_Bool, cond}
-use Rattle.conntrack.proofs.Names.{connection_ref, eq-eqb, false, false_from_ne_true, filter, find, has_distinct_ids, has_id, have_disjoint_tuples, inl, inr}
-use Rattle.conntrack.proofs.Names.{is_closing, is_live, is_lone_syn, is_original, is_taken, live_at, map, map-append, nat_tests, not, not-true, of_original}
-use Rattle.conntrack.proofs.Names.{of_reply, option_map, or_parts, refl, same_id, same_tuple, same_tuple-true, subst, sym, touched, touched_at, true, without}
-use Rattle.conntrack.proofs.Names.{without_id, ℕ, ◌&&◌, ◌++◌, ◌∙◌, ◌∷◌, ◌≡◌}
+use Rattle.conntrack.proofs.Names.{connection_ref, false, false_from_ne_true, filter, find, has_distinct_ids, has_id, have_disjoint_tuples, inl, inr}
+use Rattle.conntrack.proofs.Names.{is_closing, is_lone_syn, is_original, is_taken, map, map-append, nat_tests, not, not-true, of_original, of_reply, option_map}
+use Rattle.conntrack.proofs.Names.{or_parts, refl, same_tuple, same_tuple-true, subst, sym, true, without, without_id, ◌&&◌, ◌++◌, ◌∙◌, ◌∷◌, ◌≡◌}
 use Rattle.conntrack.proofs.Lists.{list_any_either, list_any_found}
 use Rattle.conntrack.proofs.Same.{blind}
 use Rattle.conntrack.proofs.Ids.{changed_at, changed_at_none, has_id-found, other_id, without_new}

@@ -19,7 +19,6 @@ pub use Rattle.conntrack.specs.declared.connection.ConntrackEntry.{ConntrackEntr
 pub use Rattle.conntrack.specs.declared.connection.Direction.{Direction}
 pub use Rattle.conntrack.specs.declared.connection.Direction.TheVariants.{Original, Reply}
 pub use Rattle.conntrack.specs.declared.connection.Flags.{Flags}
-pub use Rattle.conntrack.specs.steps.Changes.{unended}
 pub use Rattle.conntrack.specs.steps.Ids.{has_ids_below}
 pub use Rattle.ip_headers.specs.Same.{same_tuple}
 pub use Rattle.ip_headers.specs.declared.tuple.Kind.{Kind}
@@ -27,8 +26,8 @@ pub use Rattle.ip_headers.specs.declared.tuple.Mapping.{Mapping}
 pub use Rattle.ip_headers.specs.declared.tuple.Tuple.{Tuple}
 pub use Rattle.ip_headers.specs.steps.Equal.{same_tuple-refl, same_tuple-true}
 pub use Rattle.list_laws.specs.Lists.{any_of_map, find-filter}
-pub use Rattle.std.proofs.Common.{Bool, List, None, Option, Some, [], ap, arith, cond, drop, eqb, false, inl, inr, length, map, not, refl, rules, subst, suc}
-pub use Rattle.std.proofs.Common.{sym, take, tests, true, ℕ, ◌&&◌, ◌++◌, ◌+◌, ◌-◌, ◌<◌, ◌||◌, ◌∙◌, ◌∷◌, ◌≡◌, ◌≤◌}
+pub use Rattle.std.proofs.Common.{Bool, List, None, Option, Some, [], ap, arith, cond, drop, eqb, false, inl, inr, length, map, not, refl, rules, subst, sym}
+pub use Rattle.std.proofs.Common.{take, tests, true, ℕ, ◌&&◌, ◌++◌, ◌+◌, ◌-◌, ◌<◌, ◌||◌, ◌∙◌, ◌∷◌, ◌≡◌, ◌≤◌}
 pub use Rattle.std.proofs.Math.Bool.{or-false}
 pub use Rattle.std.proofs.lemmas.Bool.{and_from, and_parts, both_ways, cases_Bool, eq-eqb, false_from_ne_true, lt-ltb, ltb-true, ne_eqb, not-true}
 pub use Rattle.std.proofs.lemmas.Bool.{not_from_false, or_from, or_parts}
@@ -37,8 +36,8 @@ pub use Rattle.std.proofs.lemmas.Iterator.{YieldsList-from_slice}
 pub use Rattle.std.proofs.lemmas.Iterator.Search.{find_from_yields_List}
 pub use Rattle.std.proofs.lemmas.List.{append-nil, get_or_default, length-map, map-append, map-id}
 pub use Rattle.std.proofs.lemmas.List.Edits.{map_over_more}
-pub use Rattle.std.proofs.lemmas.List.Elements.{All-append, All-cons, All-nil, All-weaker, filter-append, recursion_from_All}
+pub use Rattle.std.proofs.lemmas.List.Elements.{All-append, All-cons, All-nil, filter-append, recursion_from_All}
 pub use Rattle.std.proofs.lemmas.List.Folds.{list_any-append}
 pub use Rattle.std.specs.List.{All, AllByRecursion, find, list_any}
 pub use Rattle.std.specs.Option.{option_map}
-pub use Rattle.std.specs.Prelude.{filter, if◌then◌else◌, nat_lt}
+pub use Rattle.std.specs.Prelude.{filter, if◌then◌else◌}

@@ -3,10 +3,9 @@ use Rattle.conntrack.proofs.Names.{Arrival, Belonging, Bool, Confirmation, Confi
 use Rattle.conntrack.proofs.Names.{DoesNotClash, Ends, Flags, Found, IsNoneLater, Limits, List, NotFound, Original, TrackedPacket, Tuple, Unconfirmed, []}
 use Rattle.conntrack.proofs.Names.{after_end, after_packet, ap, arith, begun_with, belongs, belongs_in, entry_at, entry_of, filter, filter-append}
 use Rattle.conntrack.proofs.Names.{has_distinct_ids, has_id, have_disjoint_tuples, is_live, length, live_at, live_list, map, map-append, no_flags, no_tuple}
-use Rattle.conntrack.proofs.Names.{not, refl, same_id, same_tuple, subst, sym, touched, touched_at, true, unended, with_begun, without, without_id, ℕ, ◌++◌}
-use Rattle.conntrack.proofs.Names.{◌∙◌, ◌∷◌, ◌≡◌, ◌≤◌}
+use Rattle.conntrack.proofs.Names.{not, refl, same_id, subst, sym, touched, touched_at, true, with_begun, without, without_id, ℕ, ◌++◌, ◌∙◌, ◌∷◌, ◌≡◌, ◌≤◌}
 use Rattle.conntrack.proofs.Ids.{apart-filter, apart-push, apart-touched_at, distinct-filter}
-use Rattle.conntrack.proofs.Histories.{live_list-unended, unended-distinct, unended_after}
+use Rattle.conntrack.proofs.Histories.{live_list-unended, unended, unended-distinct, unended_after}
 use Rattle.conntrack.proofs.Lists.{filter-map, filter-swap}
 use Rattle.conntrack.proofs.Same.{same_belonging}
 use Rattle.conntrack.proofs.Changes.{live_at-later, live_at-touched_at, live_at_last}
@@ -42,8 +41,7 @@ live_after limits (Ends ended) id p confirmation held d h = live_begun limits id
 
 begun_blind : (i : ConnId) (p : Arrival) (confirmation : Confirmation) (held : List ConntrackEntry)
     → map without_id (with_begun i p confirmation held) ≡ with_begun (record { 0 = 0 }) p confirmation (map without_id held)
-begun_blind i p Unconfirmed held = refl
-begun_blind i p (Confirmed mark reply source dest) held = rw map-append refl
+begun_blind i p confirmation held = grind (arith, map-append)
 
 -- what a packet does to the entries, whatever their ids are
 abbrev ended_at : Tuple → Place → List ConntrackEntry → List ConntrackEntry
@@ -136,15 +134,14 @@ live_list-distinct limits history now = rw (live_list-unended limits history now
 pub apart_by : (b : Belonging) (id : ConnId) (p : Arrival) (confirmation : Confirmation) (held : List ConntrackEntry)
     → has_distinct_ids held ≡ true → have_disjoint_tuples held ≡ true → belongs_in held p.tuple p.flags ≡ b
     → DoesNotClash b confirmation held → have_disjoint_tuples (after_packet b id p confirmation held) ≡ true
-apart_by (Found found) id p Unconfirmed held d a e n = a
-apart_by (Found found) id p (Confirmed mark reply source dest) held d a e n =
-    apart-touched_at found.id found.direction p.flags mark p.moment held ∙ a
-apart_by NotFound id p Unconfirmed held d a e n = a
-apart_by NotFound id p (Confirmed mark reply source dest) held d a e n =
-    apart-push held _ a (nowhere_is_free held p.tuple p.flags e) n
-apart_by (Ends k) id p Unconfirmed held d a e n = apart-filter (λ h. not (same_id k h)) held a
-apart_by (Ends k) id p (Confirmed mark reply source dest) held d a e n =
-    apart-push (without k held) _ (apart-filter (λ h. not (same_id k h)) held a) (ended_is_free held p.tuple p.flags k d a e) n
+apart_by b id p confirmation held d a e n = grind (
+  arith,
+  apart-touched_at,
+  apart-push,
+  apart-filter,
+  nowhere_is_free held p.tuple p.flags,
+  ended_is_free held p.tuple p.flags,
+)
 
 -- ---- moments
 
@@ -171,21 +168,10 @@ none_later-push : (now : ℕ) (held : List ConntrackEntry) (new : ConntrackEntry
 none_later-push now [] new h e = (e, tt)
 none_later-push now (x ∷ held) new h e = (h.0, none_later-push now held new h.1 e)
 
-none_later_begun : (id : ConnId) (p : Arrival) (confirmation : Confirmation) (held : List ConntrackEntry)
-    → IsNoneLater p.moment held → IsNoneLater p.moment (with_begun id p confirmation held)
-none_later_begun id p Unconfirmed held h = h
-none_later_begun id p (Confirmed mark reply source dest) held h =
-    none_later-push p.moment held _ h (omega arith)
-
 pub none_later_after : (b : Belonging) (id : ConnId) (p : Arrival) (confirmation : Confirmation)
     (held : List ConntrackEntry) → IsNoneLater p.moment held
     → IsNoneLater p.moment (after_packet b id p confirmation held)
-none_later_after (Found found) id p Unconfirmed held h = h
-none_later_after (Found found) id p (Confirmed mark reply source dest) held h =
-    none_later-touched_at found.id found.direction p.flags mark p.moment held h
-none_later_after NotFound id p confirmation held h = none_later_begun id p confirmation held h
-none_later_after (Ends k) id p confirmation held h =
-    none_later_begun id p confirmation (without k held) (none_later-without k p.moment held h)
+none_later_after b id p confirmation held h = grind (arith, none_later-without, none_later-touched_at, none_later-push)
 
 pub ruleset record_rules = (recorded, recorded_nothing, live_list-later, live_list-distinct)
 

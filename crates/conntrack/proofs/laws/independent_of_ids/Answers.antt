@@ -1,7 +1,6 @@
-use Rattle.conntrack.proofs.Names.{Belonging, ConntrackEntry, Kind, List, [], any_of_map, ap, arith, belonging_without_id, connection_of, is_incoming, is_taken}
-use Rattle.conntrack.proofs.Names.{length, length-map, map, refl, state_of, sym, without_id, ◌∙◌, ◌∷◌, ◌≡◌}
-use Rattle.conntrack.proofs.Same.{same_belonging}
-use Rattle.conntrack.proofs.Packets.{ended_alike, live_alike, packet_alike}
+use Rattle.conntrack.proofs.Names.{Belonging, Kind, any_of_map, ap, arith, belonging_without_id, connection_of, is_incoming, is_taken, length, length-map, map}
+use Rattle.conntrack.proofs.Names.{state_of, sym, without_id, ◌∙◌, ◌≡◌}
+use Rattle.std.proofs.lemmas.Simd.{map-map}
 use Rattle.conntrack.proofs.laws.independent_of_ids.Goals as goal
 
 state_without_id : (kind : Kind) (b : Belonging) → state_of kind b ≡ state_of kind (belonging_without_id b)
@@ -19,10 +18,6 @@ returns-clause-taken c held others tuple e =
 pub returns-clause-number : goal.returns-clause-number
 returns-clause-number c = λ held others e. sym (length-map held without_id) ∙ ap length e ∙ length-map others without_id
 
-listed_without_id : (held : List ConntrackEntry) → map connection_of held ≡ map connection_of (map without_id held)
-listed_without_id [] = refl
-listed_without_id (x ∷ held) = ap (λ cs. connection_of x ∷ cs) (listed_without_id held)
-
 pub returns-clause-listed : goal.returns-clause-listed
 returns-clause-listed c = λ held others e.
-    listed_without_id held ∙ ap (map connection_of) e ∙ sym (listed_without_id others)
+    sym (map-map connection_of without_id held) ∙ ap (map connection_of) e ∙ map-map connection_of without_id others

@@ -1,4 +1,4 @@
-use Rattle.conntrack.proofs.Names.{ap, arith, belongs_in, is_live, live_at, live_list, map, no_tuple, sym, without_id, ◌∙◌}
+use Rattle.conntrack.proofs.Names.{ap, arith, belongs_in, is_live, live_at, live_list, map, sym, without_id, ◌∙◌}
 use Rattle.conntrack.proofs.Ids.{distinct-filter}
 use Rattle.conntrack.proofs.Lookups.{found_is_held}
 use Rattle.conntrack.proofs.Packets.{live_after, live_list-distinct, packet_alike, recorded, recorded_nothing}

@@ -1,6 +1,6 @@
 use Rattle.conntrack.proofs.Names.{aged_of, ap, is_live, not, option_map, refl, sym}
 use Rattle.conntrack.proofs.Lists.{filter_where_none}
-use Rattle.conntrack.proofs.Ids.{found_by_id, has_id-found, length-without}
+use Rattle.conntrack.proofs.Ids.{found_by_id}
 use Rattle.conntrack.proofs.Lookups.{filter-without_first}
 use Rattle.conntrack.proofs.list_tracker.ListTrackerTracker.age.Goals as goal
 
