@@ -9,9 +9,7 @@ use Rattle.nat_mapping.proofs.Lists.{SameMembers, contains_alike, found_among, m
 use Rattle.nat_mapping.proofs.Sets.{Sets, sets_all, sets_by}
 
 same_options : {Y : Type 0} (o p : Option Y) → ((y : Y) → o ≡ Some y → p ≡ Some y) → ((y : Y) → p ≡ Some y → o ≡ Some y) → o ≡ p
-same_options None None to from = refl
-same_options (Some x) p to from = sym (to x refl)
-same_options None (Some y) to from = from y refl
+same_options o p to from = grind (arith, to, from)
 
 module _ {K Y : Type 0} (make : K → Y → Mapping) where
   -- in a list with the same mappings, a lookup with the same results

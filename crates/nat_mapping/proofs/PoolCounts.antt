@@ -1,9 +1,9 @@
 -- The number of pools.
 use Rattle.nat_mapping.proofs.Names.{Bool, Contains, Contains-cases, Contains-head, Contains-there, IfSome_at, Inbounds, IsConsistent, IsInUse, List, Mapping}
-use Rattle.nat_mapping.proofs.Names.{None, Option, Pool, PoolKey, Pools, Some, Sources, [], any_of_map, ap, arith, cond, cond_both, false, filter}
-use Rattle.nat_mapping.proofs.Names.{from_external, get, has_pool, hash_map_len, held_by, inbound_at, inl, inr, is_member, is_member-Decides, is_some}
-use Rattle.nat_mapping.proofs.Names.{is_some-lookup, is_taken_by, keys_of, length, length-from_keys, length-keys_of, list_any, map, pool_count_of, pool_key_of}
-use Rattle.nat_mapping.proofs.Names.{pooled, refl, same_from_decides, same_pool, share_pool, subst, suc, sym, true, unique_keys, ℕ, ◌∙◌, ◌∷◌, ◌≡◌}
+use Rattle.nat_mapping.proofs.Names.{None, Option, Pool, PoolKey, Pools, Some, Sources, [], any_of_map, ap, arith, cond_both, filter, from_external, get}
+use Rattle.nat_mapping.proofs.Names.{has_pool, hash_map_len, held_by, inbound_at, inl, inr, is_member, is_member-Decides, is_some, is_some-lookup, is_taken_by}
+use Rattle.nat_mapping.proofs.Names.{keys_of, length, length-from_keys, length-keys_of, list_any, map, pool_count_of, pool_key_of, pooled, refl}
+use Rattle.nat_mapping.proofs.Names.{same_from_decides, same_pool, share_pool, subst, sym, true, unique_keys, ℕ, ◌∙◌, ◌∷◌, ◌≡◌}
 use Rattle.std.proofs.lemmas.List.Elements.{All-contains, All-contains_itself, All-filter, filter_passes}
 use Rattle.list_laws.specs.Elements.{Contains-map, Contains-unmap}
 use Rattle.nat_mapping.proofs.Equal.{equivalence, here_true, pool_parts, pool_test}
@@ -14,15 +14,9 @@ use Rattle.nat_mapping.proofs.Represented.{port_taken}
 unique_map : (held : List Mapping) → length (unique_keys same_pool (map pool_key_of held)) ≡ length (unique_keys share_pool held)
 unique_map [] = refl
 unique_map (x ∷ held) =
-    let keys = unique_keys same_pool (map pool_key_of held) in
     let member : is_member same_pool (map pool_key_of held) (pool_key_of x) ≡ is_member share_pool held x =
     sym (any_of_map (same_pool (pool_key_of x)) pool_key_of held) ∙ (λ i. list_any (λ y. pool_parts (pool_key_of x) (pool_key_of y) i) held) in
-    ap (λ b. length (cond b keys (pool_key_of x ∷ keys))) member
-    ∙ elim (is_member share_pool held x) as (λ b. length (cond b keys (pool_key_of x ∷ keys))
-    ≡ length (cond b (unique_keys share_pool held) (x ∷ unique_keys share_pool held))) [
-      | true ↦ unique_map held
-      | false ↦ ap (λ n. suc n) (unique_map held)
-    ]
+    grind (arith, member, unique_map held)
 
 has_filter : {X : Type 0} (p : X → Bool) (xs : List X) (x : X) → Contains xs x → p x ≡ true → Contains (filter p xs) x
 has_filter p [] x among passes = among

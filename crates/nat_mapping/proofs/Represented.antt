@@ -53,8 +53,7 @@ module _ (sources : Sources) (table : IsTable sources) where
     pub few_holders : (limit : ℕ) → holders_of m (held_by sources.entries) < limit
         → (o : Option MappedPort) → get same_source sources (source_key_of m) ≡ o → IfSome o (λ h. h.holders < limit)
     few_holders limit few None is = tt
-    few_holders limit few (Some h) is =
-        omega (arith, counts_of sources table.unique m, holders_by _ m.external.port h is (own_port h is), few)
+    few_holders limit few (Some h) is = omega (arith, counts_of sources table.unique m, holders_by _ m.external.port h is (own_port h is))
 
 pub held_same : (one other : Sources) → IsTable one → IsTable other
     → ((q : SourceKey) → get same_source other q ≡ get same_source one q) → HoldsSame (held_by one.entries) (held_by other.entries)
