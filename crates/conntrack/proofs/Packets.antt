@@ -59,7 +59,8 @@ module _ (held : List ConntrackEntry) (d : has_distinct_ids held ≡ true) where
       → map without_id (after_end b held) ≡ ended_at tuple pl (map without_id held)
   end_blind tuple b Nowhere at = rw at.0 refl
   end_blind tuple b EndsThere at =
-      rw at.2 (ap (map without_id) (without_first (has_tuple tuple Original) held at.0 d at.1) ∙ at_first-blind (has_tuple tuple Original) (λ x. []) (λ x. refl) held)
+      rw at.2 (ap (map without_id) (without_first (has_tuple tuple Original) held at.0 d at.1)
+      ∙ at_first-blind (has_tuple tuple Original) (λ x. []) (λ x. refl) held)
   end_blind tuple b (FoundThere direction) at = rw at.2 refl
 
   after_blind : (i : ConnId) (p : Arrival) (confirmation : Confirmation) (b : Belonging) (pl : Place) → IsAt p.tuple held b pl
@@ -149,13 +150,10 @@ pub none_later_than : (now later : ℕ) (held : List ConntrackEntry) → now ≤
 none_later_than now later [] le h = tt
 none_later_than now later (x ∷ held) le h = (omega (arith, h.0), none_later_than now later held le h.1)
 
-none_later-filter : (test : ConntrackEntry → Bool) (now : ℕ) (held : List ConntrackEntry) → IsNoneLater now held
+pub none_later-filter : (test : ConntrackEntry → Bool) (now : ℕ) (held : List ConntrackEntry) → IsNoneLater now held
     → IsNoneLater now (filter test held)
 none_later-filter test now [] h = tt
 none_later-filter test now (x ∷ held) h = grind (arith, h.0, none_later-filter test now held h.1)
-
-pub none_later-without : (id : ConnId) (now : ℕ) (held : List ConntrackEntry) → IsNoneLater now held → IsNoneLater now (without id held)
-none_later-without id now held h = none_later-filter (λ h. not (same_id id h)) now held h
 
 module _ (id : ConnId) (direction : Direction) (flags : Flags) (mark now : ℕ) where
   none_later-touched_at : (held : List ConntrackEntry) → IsNoneLater now held
@@ -171,11 +169,11 @@ none_later-push now (x ∷ held) new h e = (h.0, none_later-push now held new h.
 pub none_later_after : (b : Belonging) (id : ConnId) (p : Arrival) (confirmation : Confirmation)
     (held : List ConntrackEntry) → IsNoneLater p.moment held
     → IsNoneLater p.moment (after_packet b id p confirmation held)
-none_later_after b id p confirmation held h = grind (arith, none_later-without, none_later-touched_at, none_later-push)
+none_later_after b id p confirmation held h = grind (arith, none_later-filter, none_later-touched_at, none_later-push)
 
 pub ruleset record_rules = (recorded, recorded_nothing, live_list-later, live_list-distinct)
 
-pub ruleset moment_rules = (none_later_after, none_later-without, none_later_than)
+pub ruleset moment_rules = (none_later_after, none_later-filter, none_later_than)
 
 pub ruleset apart_rules = (apart_by, apart-filter)
 
