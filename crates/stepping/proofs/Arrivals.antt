@@ -1,21 +1,14 @@
 -- The packet of a record, by the answers of the tests.
-use Rattle.std.proofs.Common.{◌≡◌, ℕ, ◌-◌, List, length, take, drop, Option, Some, None, Result, Ok, Err, sym, ap, ◌∙◌}
-use Rattle.std.proofs.Common.{Bor}
+use Rattle.stepping.proofs.Names.{◌-◌, Bor, Cause, Err, List, None, Ok, Option, ReceivedPacket, Recorded, Result, Setup, Some, ap, carried, carried_after}
+use Rattle.stepping.proofs.Names.{carried_by, carried_with, cause_of, drop, fault_of, input_interface, length, length-drop, link_cause, option_map, packet_of}
+use Rattle.stepping.proofs.Names.{sym, take, ℕ, ◌∙◌, ◌≡◌}
 use Rattle.std.proofs.Math.Seq.{take-length}
-use Rattle.std.proofs.lemmas.List.{length-drop}
-use Rattle.std.specs.Option.{option_map}
 use Rattle.ip_headers.specs.declared.view.HeaderFault.{HeaderFault}
-use Rattle.ip_headers.specs.Header.{fault_of, packet_of}
 use Rattle.pcap_io.specs.declared.link.Link.{Link}
 use Rattle.pcap_io.specs.declared.link.LinkCause.{LinkCause}
 use Rattle.pcap_io.specs.Links.{link_of}
-use Rattle.pcap_io.specs.Pcap.{Recorded}
-use Rattle.history.specs.declared.outcome.Cause.{Cause}
-use Rattle.history.specs.declared.outcome.Cause.TheVariants as causes
 use Rattle.rule_meaning.specs.declared.facts.Interface.{Interface}
-use Rattle.history.specs.Setup.{Setup}
-use Rattle.stepping.specs.Carried.{ReceivedPacket, carried, carried_after, carried_by, carried_with, input_interface}
-use Rattle.stepping.specs.Carried.{link_cause, cause_of}
+use Rattle.history.specs.declared.outcome.Cause.TheVariants as causes
 
 -- the bytes from an offset to the end
 from_offset : (offset : ℕ) (bytes : List ℕ) → take (length bytes - offset) (drop offset bytes) ≡ drop offset bytes

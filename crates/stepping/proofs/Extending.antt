@@ -1,89 +1,56 @@
 -- An engine represents the extended history: its connections and the history's are equal but for ids.
-use Rattle.std.proofs.Common.{◌≡◌, ℕ, ◌+◌, ◌≤◌, Bool, true, false, cond, List, [], ◌∷◌, length, map, Option, Some, None}
-use Rattle.std.proofs.Common.{refl, sym, ap, subst, ◌∙◌, arith}
-use Rattle.std.specs.Prelude.{nat_le, max, not, IsTrue, Result, Ok, Err, if◌then◌else◌}
-use Rattle.list_laws.specs.Options.{none_not_some}
-use Rattle.ip_headers.specs.declared.tuple.Mapping.{Mapping}
-use Rattle.ip_headers.specs.declared.tuple.Tuple.{Tuple}
-use Rattle.ip_headers.specs.Header.{transport_of}
-use Rattle.ip_headers.specs.Tuple.{inner_tuple_of, inverse, tuple_of}
-use Rattle.conntrack.specs.declared.belonging.Belonging.{Belonging}
-use Rattle.conntrack.specs.declared.belonging.Belonging.TheVariants.{NotFound, Ends, Found}
-use Rattle.conntrack.specs.declared.connection.ConnId.{ConnId}
-use Rattle.conntrack.specs.declared.connection.Flags.{Flags}
-use Rattle.conntrack.specs.declared.connection.ConntrackEntry.{ConntrackEntry}
+use Rattle.stepping.proofs.Names.{◌+◌, Arrival, Belonging, Bool, Cause, Confirmation, ConnId, ConntrackEntry, Continue, CtFacts, CtInfo, Drop, EngineState}
+use Rattle.stepping.proofs.Names.{Entry, Err, Event, Flags, Found, HasProcessed, Hooks, HooksAndConfirm, IsBeforeFirst, IsNoneLater, IsTrue, Limits, List}
+use Rattle.stepping.proofs.Names.{Mapping, New, Next, None, Notrack, Ok, Option, Path, PathState, ReceivedPacket, Recorded, Represents, Result, SameExceptIds}
+use Rattle.stepping.proofs.Names.{Setup, ShownEntry, Some, StepResult, Tuple, Unconfirmed, Untracked, [], after_end, after_packet, ap, arith, arrival_of}
+use Rattle.stepping.proofs.Names.{belonging_by_tuple, belonging_of, belonging_without_id, belongs, belongs_in, carried, change_of_packet, cond, confirmation_of}
+use Rattle.stepping.proofs.Names.{confirmed, ct_info_by, ct_info_by_tuple, entry_at, entry_of, entry_without_packet, error_belonging, error_ct_info, false}
+use Rattle.stepping.proofs.Names.{final_state, flags_in, goes_on, has_distinct_ids, held_by, if◌then◌else◌, inner_tuple_of, inverse, is_creation, is_live}
+use Rattle.stepping.proofs.Names.{is_taken, length, limits_of, live_at, live_at_record, live_in, live_list, looked_up_info, lookup_tuple_of, map, mappings_in}
+use Rattle.stepping.proofs.Names.{max, max_connections, moment_after, moment_of, nat_le, newest_in, newest_of, not, others_beside, refl, refusal, reply_to}
+use Rattle.stepping.proofs.Names.{shown_entry, stops, subst, sym, tracked_as, tracked_of, transport_of, true, tuple_in, tuple_of, unless_refused, with_info}
+use Rattle.stepping.proofs.Names.{without_id, ℕ, ◌∙◌, ◌∷◌, ◌≡◌, ◌≤◌}
+use Rattle.std.proofs.lemmas.Option.{none-some, same_Some}
+use Rattle.stepping.proofs.OnePath.{not_both}
 use Rattle.conntrack.specs.Phases.{no_flags}
-use Rattle.box_file.specs.declared.limits.Limits.{Limits}
-use Rattle.conntrack.specs.ConntrackEntry.{IsNoneLater, belongs_in, has_distinct_ids, is_live, is_taken, live_at}
-use Rattle.conntrack.specs.ConntrackEntry.{max_connections, without_id, belonging_without_id}
-use Rattle.conntrack.specs.Histories as connections
-use Rattle.conntrack.specs.Histories.{belongs, is_creation, live_list}
-use Rattle.conntrack.specs.Updates as updates
-use Rattle.conntrack.specs.Updates.{Arrival, Confirmation, Unconfirmed, Confirmed, after_end, after_packet, entry_at}
-use Rattle.conntrack.specs.Updates.{change_of_packet}
-use Rattle.pcap_io.specs.Pcap.{Recorded}
-use Rattle.rule_meaning.specs.declared.facts.CtFacts.{CtFacts}
-use Rattle.rule_meaning.specs.declared.facts.CtFacts.TheVariants.{Notrack}
-use Rattle.rule_meaning.specs.declared.event.Event.{Event}
-use Rattle.history.specs.declared.outcome.Cause.{Cause}
-use Rattle.history.specs.declared.outcome.Cause.TheVariants as causes
 use Rattle.history.specs.declared.outcome.Outcome.{Outcome}
-use Rattle.history.specs.Setup.{Setup, limits_of}
-use Rattle.history.specs.History.{Entry, live_in, moment_of, tracked_of}
-use Rattle.filter_vm.specs.Machine as machine
-use Rattle.translation.specs.declared.ct_info.CtInfo.{CtInfo}
-use Rattle.translation.specs.declared.ct_info.CtInfo.TheVariants.{Tracked, Related, New, Invalid, Untracked}
-use Rattle.translation.specs.LiveMappings.{mappings_in}
-use Rattle.translation.specs.CtInfos.{error_ct_info, ct_info_by}
 use Rattle.stepping.specs.declared.process.RecordResult.{RecordResult}
-use Rattle.stepping.specs.Carried.{ReceivedPacket, carried}
-use Rattle.stepping.specs.Lookups.{belonging_by_tuple, belonging_of, ct_info_by_tuple, error_belonging, flags_in}
-use Rattle.stepping.specs.Lookups.{looked_up_info, lookup_tuple_of, others_beside}
-use Rattle.stepping.specs.Paths.{PathState, StepResult, Continue, Drop, stops, goes_on, Hooks}
-use Rattle.stepping.specs.Confirmations.{confirmation_of, confirmed, refusal, reply_to, unless_refused}
-use Rattle.stepping.specs.Next.{HooksAndConfirm, Path, Next, arrival_of, entry_of, entry_without_packet, final_state}
-use Rattle.stepping.specs.Next.{live_at_record, moment_after, tracked_as, tuple_in, with_info}
-use Rattle.stepping.specs.Representing.{EngineState, Represents, ShownEntry, newest_of}
-use Rattle.stepping.specs.steps.Processing.{HasProcessed, IsBeforeFirst, held_after, held_by, newest_in}
+use Rattle.conntrack.specs.Histories as connections
+use Rattle.conntrack.specs.Updates as updates
+use Rattle.history.specs.declared.outcome.Cause.TheVariants as causes
+use Rattle.filter_vm.specs.Machine as machine
 
 -- ---- what is known of connections
 
 -- lists that are equal but for ids answer alike
 pub record AreAlike : Type 0 where
   pub packet : (held others : List ConntrackEntry) (i j : ConnId) (p : Arrival) (confirmation : Confirmation)
-      → map without_id held ≡ map without_id others → IsTrue (has_distinct_ids held) → IsTrue (has_distinct_ids others)
-      → map without_id (after_packet (belongs_in held p.tuple p.flags) i p confirmation held)
-      ≡ map without_id (after_packet (belongs_in others p.tuple p.flags) j p confirmation others)
+      → SameExceptIds held others → IsTrue (has_distinct_ids held) → IsTrue (has_distinct_ids others)
+      → SameExceptIds (after_packet (belongs_in held p.tuple p.flags) i p confirmation held)
+      (after_packet (belongs_in others p.tuple p.flags) j p confirmation others)
   pub ended : (held others : List ConntrackEntry) (tuple : Tuple) (flags : Flags)
-      → map without_id held ≡ map without_id others → IsTrue (has_distinct_ids held) → IsTrue (has_distinct_ids others)
-      → map without_id (after_end (belongs_in held tuple flags) held)
-      ≡ map without_id (after_end (belongs_in others tuple flags) others)
-  pub belonging : (held others : List ConntrackEntry) (tuple : Tuple) (flags : Flags)
-      → map without_id held ≡ map without_id others
+      → SameExceptIds held others → IsTrue (has_distinct_ids held) → IsTrue (has_distinct_ids others)
+      → SameExceptIds (after_end (belongs_in held tuple flags) held) (after_end (belongs_in others tuple flags) others)
+  pub belonging : (held others : List ConntrackEntry) (tuple : Tuple) (flags : Flags) → SameExceptIds held others
       → belonging_without_id (belongs_in held tuple flags) ≡ belonging_without_id (belongs_in others tuple flags)
-  pub taken : (held others : List ConntrackEntry) (tuple : Tuple) → map without_id held ≡ map without_id others
+  pub taken : (held others : List ConntrackEntry) (tuple : Tuple) → SameExceptIds held others
       → is_taken tuple held ≡ is_taken tuple others
-  pub number : (held others : List ConntrackEntry) → map without_id held ≡ map without_id others
-      → length held ≡ length others
-  pub live : (limits : Limits) (held others : List ConntrackEntry) (now : ℕ)
-      → map without_id held ≡ map without_id others
-      → map without_id (live_at limits now held) ≡ map without_id (live_at limits now others)
-  pub mappings : (held others : List ConntrackEntry) → map without_id held ≡ map without_id others
-      → mappings_in held ≡ mappings_in others
+  pub number : (held others : List ConntrackEntry) → SameExceptIds held others → length held ≡ length others
+  pub live : (limits : Limits) (held others : List ConntrackEntry) (now : ℕ) → SameExceptIds held others
+      → SameExceptIds (live_at limits now held) (live_at limits now others)
+  pub mappings : (held others : List ConntrackEntry) → SameExceptIds held others → mappings_in held ≡ mappings_in others
 
 -- the connections after one more entry, and those at a later time
 pub record IsTold (limits : Limits) : Type 0 where
   pub packet : (history : List connections.TrackedPacket) (p : Arrival) (confirmation : Confirmation)
-      → live_list limits (updates.entry_of (belongs limits history p.moment p.tuple p.flags) p confirmation ∷ history)
-      p.moment
+      → live_list limits (updates.entry_of (belongs limits history p.moment p.tuple p.flags) p confirmation ∷ history) p.moment
       ≡ after_packet (belongs limits history p.moment p.tuple p.flags) (record { 0 = length history }) p confirmation
       (live_list limits history p.moment)
   pub none : (history : List connections.TrackedPacket) (now : ℕ)
       → live_list limits (entry_at now ∷ history) now ≡ live_list limits history now
   pub later : (history : List connections.TrackedPacket) (now later : ℕ) → now ≤ later
       → live_list limits history later ≡ live_at limits later (live_list limits history now)
-  pub distinct : (history : List connections.TrackedPacket) (now : ℕ)
-      → IsTrue (has_distinct_ids (live_list limits history now))
+  pub distinct : (history : List connections.TrackedPacket) (now : ℕ) → IsTrue (has_distinct_ids (live_list limits history now))
 
 -- ---- the connections held, over time
 
@@ -106,86 +73,66 @@ pub none_later-aged : ((held : List ConntrackEntry) (now later : ℕ) → now �
 none_later-aged law limits latest now held aged is le h =
     rw is (none_later-live limits now now held (law held latest now le h))
 
--- nor does a packet that is looked up
-pub none_later-after : ((held : List ConntrackEntry) (belonging : Belonging) (id : ConnId) (p : Arrival)
-    (confirmation : Confirmation) → IsNoneLater p.moment held
-    → IsNoneLater p.moment (after_packet belonging id p confirmation held))
-    → (now : ℕ) (id : ConnId) (p : List ℕ) (r : StepResult) (held : List ConntrackEntry) → IsNoneLater now held
-    → IsNoneLater now (held_after now id p r held)
-none_later-after law now id p r held h = by_key (tuple_in p r)
-  where
-    by_key : (key : Option Tuple) → IsNoneLater now (held_by now id p key (confirmation_of r) held)
-    by_key None = h
-    by_key (Some t) = law held (belonging_of held p) id (arrival_of now p t) (confirmation_of r) h
+module _ (law : (held : List ConntrackEntry) (belonging : Belonging) (id : ConnId) (p : Arrival) (confirmation : Confirmation)
+    → IsNoneLater p.moment held → IsNoneLater p.moment (after_packet belonging id p confirmation held)) where
+  -- nor does a packet that is looked up
+  none_later-after : (now : ℕ) (id : ConnId) (p : List ℕ) (key : Option Tuple) (confirmation : Confirmation)
+      (held : List ConntrackEntry) → IsNoneLater now held → IsNoneLater now (held_by now id p key confirmation held)
+  none_later-after now id p None confirmation held h = h
+  none_later-after now id p (Some t) confirmation held h = law held (belonging_of held p) id (arrival_of now p t) confirmation h
 
--- nor does a record
-pub none_later-processed : ((held : List ConntrackEntry) (belonging : Belonging) (id : ConnId) (p : Arrival)
-    (confirmation : Confirmation) → IsNoneLater p.moment held
-    → IsNoneLater p.moment (after_packet belonging id p confirmation held))
-    → (setup : Setup) (arrived : Result ReceivedPacket Cause) (now : ℕ) (held new : List ConntrackEntry)
-    (ended : RecordResult) (events : List Event) (packet : List ℕ)
-    → HasProcessed setup arrived now held new ended events packet → IsNoneLater now held → IsNoneLater now new
-none_later-processed law setup (Err cause) now held new ended events packet has h = rw has.0 h
-none_later-processed law setup (Ok a) now held new ended events packet has h =
-    rw has.follows.held (none_later-after law now has.follows.id a.packet has.r held h)
+  -- nor does a record
+  pub none_later-processed : (setup : Setup) (arrived : Result ReceivedPacket Cause) (now : ℕ) (held new : List ConntrackEntry)
+      (ended : RecordResult) (events : List Event) (packet : List ℕ)
+      → HasProcessed setup arrived now held new ended events packet → IsNoneLater now held → IsNoneLater now new
+  none_later-processed setup (Err cause) now held new ended events packet has h = rw has.0 h
+  none_later-processed setup (Ok a) now held new ended events packet has h =
+      rw has.follows.held (none_later-after now has.follows.id a.packet (tuple_in a.packet has.r) (confirmation_of has.r) held h)
 
 -- ---- what doesn't depend on ids
 
 -- the state of a packet
 first_alike : (t : Tuple) (b : Belonging) → ct_info_by t b ≡ ct_info_by t (belonging_without_id b)
-first_alike t NotFound = refl
-first_alike t (Ends id) = refl
 first_alike t (Found found) = refl
+first_alike t b = refl
 
 error_alike : (b : Belonging) → error_ct_info b ≡ error_ct_info (belonging_without_id b)
-error_alike NotFound = refl
-error_alike (Ends id) = refl
 error_alike (Found found) = refl
+error_alike b = refl
 
 -- whether a connection is begun
 begins_nameless : (b : Belonging) (p : Arrival) (confirmation : Confirmation)
     → is_creation (change_of_packet b p confirmation)
     ≡ is_creation (change_of_packet (belonging_without_id b) p confirmation)
 begins_nameless b p Unconfirmed = refl
-begins_nameless NotFound p (Confirmed mark reply source dest) = refl
-begins_nameless (Ends id) p (Confirmed mark reply source dest) = refl
-begins_nameless (Found found) p (Confirmed mark reply source dest) = refl
+begins_nameless (Found found) p confirmation = refl
+begins_nameless b p confirmation = refl
 
 -- why a connection can't begin, by the number held and its reply tuple
 abbrev refused_of : ℕ → Bool → Option Cause
 refused_of number taken = if nat_le max_connections number then Some causes.Full
     else (if taken then Some causes.Clash else None)
 
--- the step that drops a path's packet isn't the look-up
-continues_not : (cause : Cause) (s t : PathState) → Drop cause s ≡ Continue t → ⊥
-continues_not cause s t is = cc
-
 -- ---- the connections held and those of the history, equal but for ids
 
-module _ (alike : AreAlike) (held live : List ConntrackEntry) (same : map without_id held ≡ map without_id live) where
+module _ (alike : AreAlike) (held live : List ConntrackEntry) (same : SameExceptIds held live) where
   refusal_same : (reply : Tuple) → refusal reply held ≡ refusal reply live
   refusal_same reply = ap (λ (n : ℕ). refused_of n (is_taken reply held)) (alike.number held live same)
       ∙ ap (refused_of (length live)) (alike.taken held live reply same)
 
   confirmed_same : (info : CtInfo) (s : PathState) → confirmed held info s ≡ confirmed live info s
   confirmed_same (New d) s = ap (λ (refused : Option Cause). unless_refused refused s) (refusal_same (reply_to d))
-  confirmed_same (Tracked connection) s = refl
-  confirmed_same (Related connection) s = refl
-  confirmed_same Invalid s = refl
-  confirmed_same Untracked s = refl
+  confirmed_same info s = refl
 
-  hooks_same : (setup : Setup) (s : PathState) (r : StepResult) → HooksAndConfirm setup held s r
-      → HooksAndConfirm setup live s r
+  beside : (setup : Setup) (s : PathState) (r : StepResult) → Hooks setup (mappings_in held) s r → Hooks setup (mappings_in live) s r
+  beside setup s r hooks = subst (λ (m : List Mapping). Hooks setup m s r) (alike.mappings held live same) hooks
+
+  hooks_same : (setup : Setup) (s : PathState) (r : StepResult) → HooksAndConfirm setup held s r → HooksAndConfirm setup live s r
   hooks_same setup s r (stops cause t hooks) = stops cause t (beside setup s (Drop cause t) hooks)
-    where
-      beside : (setup : Setup) (s : PathState) (r : StepResult) → Hooks setup (mappings_in held) s r
-          → Hooks setup (mappings_in live) s r
-      beside setup s r hooks = subst (λ (m : List Mapping). Hooks setup m s r) (alike.mappings held live same) hooks
   hooks_same setup s r (goes_on t q hooks confirm) =
-      goes_on t q (subst (λ (m : List Mapping). Hooks setup m s (Continue t)) (alike.mappings held live same) hooks)
-      (confirm ∙ confirmed_same t.info t)
+      goes_on t q (beside setup s (Continue t) hooks) (confirm ∙ confirmed_same t.info t)
 
-module _ (alike : AreAlike) (held live : List ConntrackEntry) (same : map without_id held ≡ map without_id live)
+module _ (alike : AreAlike) (held live : List ConntrackEntry) (same : SameExceptIds held live)
     (d : IsTrue (has_distinct_ids held)) (d' : IsTrue (has_distinct_ids live)) (p : List ℕ) where
   -- what the packet belongs to
   belongs_same : (key : Option Tuple) → belonging_without_id (belonging_by_tuple held (flags_in (transport_of p)) key)
@@ -225,7 +172,7 @@ module _ (alike : AreAlike) (held live : List ConntrackEntry) (same : map withou
   -- its path
   pub path_same : (setup : Setup) (s : PathState) (r : StepResult) → Path setup held p s r → Path setup live p s r
   path_same setup s r (stops cause t raw) = stops cause t raw
-  path_same setup s r (goes_on t q raw (stops cause u look)) = absurd (continues_not cause u _ look)
+  path_same setup s r (goes_on t q raw (stops cause u look)) = absurd (not_both cause u _ look)
   path_same setup s r (goes_on t q raw (goes_on u q' look after)) =
       goes_on t q raw (goes_on u q'
       (look ∙ ap (λ (info : CtInfo). Continue (with_info info t)) (info_same t.facts.ct))
@@ -245,11 +192,8 @@ module _ (alike : AreAlike) (held live : List ConntrackEntry) (same : map withou
 
 -- a packet's tuple in its entry is its own
 tuple_is : (info : CtInfo) (p : List ℕ) (t : Tuple) → lookup_tuple_of info p ≡ Some t → tuple_of p ≡ Some t
-tuple_is (Tracked connection) p t is = is
-tuple_is (Related connection) p t is = is
-tuple_is (New d) p t is = is
-tuple_is Invalid p t is = is
-tuple_is Untracked p t is = absurd (none_not_some None t refl is)
+tuple_is Untracked p t is = absurd (none-some t is)
+tuple_is info p t is = is
 
 -- the connections held after a packet are those of the extended history, but for ids
 module _ (limits : Limits) (alike : AreAlike) (told : IsTold limits) (now : ℕ) (id : ConnId)
@@ -297,71 +241,25 @@ not_begun true ready = cc
 pub latest_is : (ended : Option RecordResult) (latest : ℕ) (told : machine.EventsAndTicks) (packet : List ℕ)
     (held : List ConntrackEntry) (history : List Entry) → IsBeforeFirst ended latest packet held
     → newest_in ended latest told packet ≡ newest_of history → latest ≡ moment_of history
-latest_is None latest told packet held [] port_choice is = port_choice.0
-latest_is None latest told packet held (e ∷ history) port_choice is = absurd (none_is_some _ is)
-  where
-    none_is_some : (e : ShownEntry) → None ≡ Some e → ⊥
-    none_is_some e is = cc
-latest_is (Some ended) latest told packet held [] port_choice is = absurd (some_is_none _ is)
-  where
-    some_is_none : (e : ShownEntry) → Some e ≡ None → ⊥
-    some_is_none e is = cc
-latest_is (Some ended) latest told packet held (e ∷ history) port_choice is =
-    ap (λ (found : ShownEntry). found.moment) (same_shown _ _ is)
-  where
-    same_shown : (e other : ShownEntry) → Some e ≡ Some other → e ≡ other
-    same_shown e other is = cc
+latest_is None latest told packet held [] first is = first.0
+latest_is None latest told packet held (e ∷ history) first is = absurd (none-some (shown_entry e) is)
+latest_is (Some ended) latest told packet held [] first is = absurd (none-some _ (sym is))
+latest_is (Some ended) latest told packet held (e ∷ history) first is =
+    ap (λ (found : ShownEntry). found.moment) (same_Some _ (shown_entry e) is)
+
+abbrev shown : ℕ → ℕ → List Event → Outcome → List ℕ → Bool → ShownEntry
+shown moment long events outcome packet begun =
+    record { moment = moment; length = long; events = events; outcome = outcome; packet = packet; begun = begun }
 
 -- the entry shown, field by field
-shown_is : {moment moment' long long' : ℕ} {events events' : List Event} {outcome outcome' : Outcome} {packet
-    packet' : List ℕ} {begun begun' : Bool}
-    → moment ≡ moment' → long ≡ long' → events ≡ events' → outcome ≡ outcome' → packet ≡ packet' → begun ≡ begun'
-    → (let one : ShownEntry = record {
-      moment = moment;
-      length = long;
-      events = events;
-      outcome = outcome;
-      packet = packet;
-      begun = begun;
-    } in Some one) ≡ Some (record {
-      moment = moment';
-      length = long';
-      events = events';
-      outcome = outcome';
-      packet = packet';
-      begun = begun';
-    })
-shown_is {moment} {moment'} {long} {long'} {events} {events'} {outcome} {outcome'} {packet} {packet'} {begun} {begun'} m
-    l h o p b =
-    ap (λ (x : ℕ). let t : ShownEntry =
-    record { moment = x; length = long; events = events; outcome = outcome; packet = packet; begun = begun } in
-    Some t) m
-    ∙ ap (λ (x : ℕ). let t : ShownEntry =
-    record { moment = moment'; length = x; events = events; outcome = outcome; packet = packet; begun = begun } in
-    Some t) l
-    ∙ ap (λ (x : List Event). let t : ShownEntry =
-    record { moment = moment'; length = long'; events = x; outcome = outcome; packet = packet; begun = begun } in
-    Some t) h
-    ∙ ap (λ (x : Outcome). let t : ShownEntry =
-    record { moment = moment'; length = long'; events = events'; outcome = x; packet = packet; begun = begun } in
-    Some t) o
-    ∙ ap (λ (x : List ℕ). let t : ShownEntry =
-    record { moment = moment'; length = long'; events = events'; outcome = outcome'; packet = x; begun = begun } in
-    Some t) p
-    ∙ ap (λ (x : Bool). let t : ShownEntry =
-    record { moment = moment'; length = long'; events = events'; outcome = outcome'; packet = packet'; begun = x }
-    in Some t) b
+shown_is : {moment moment' long long' : ℕ} {events events' : List Event} {outcome outcome' : Outcome} {packet packet' : List ℕ}
+    {begun begun' : Bool} → moment ≡ moment' → long ≡ long' → events ≡ events' → outcome ≡ outcome' → packet ≡ packet' → begun ≡ begun'
+    → Some (shown moment long events outcome packet begun) ≡ Some (shown moment' long' events' outcome' packet' begun')
+shown_is m l h o p b = rw (m, l, h, o, p, b) refl
 
 -- the entry shown of a record
 abbrev pub told_at : ℕ → RecordResult → List Event → List ℕ → ShownEntry
-told_at now ended events packet = record {
-  moment = now;
-  length = ended.length;
-  events = events;
-  outcome = ended.outcome;
-  packet = packet;
-  begun = ended.begun;
-}
+told_at now ended events packet = shown now ended.length events ended.outcome packet ended.begun
 
 module _ (alike : AreAlike) (before after : EngineState) (told : IsTold (limits_of before.setup)) (history : List Entry)
     (r : Recorded) (held : List ConntrackEntry) (ended : RecordResult) (events : List Event) (packet : List ℕ)

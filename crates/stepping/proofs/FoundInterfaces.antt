@@ -1,10 +1,6 @@
 -- An interface found among those laid out.
-use Rattle.std.proofs.Common.{◌≡◌, ℕ, List, [], ◌∷◌, map, refl, arith}
-use Rattle.std.specs.Prelude.{find}
-use Rattle.std.specs.Option.{option_map}
+use Rattle.stepping.proofs.Names.{List, [], arith, find, interface_facts, interfaces_of, is_at, map, option_map, refl, ℕ, ◌∷◌, ◌≡◌}
 use Rattle.box_file.specs.Box.{Interface, PlantTree, has_index, name_of}
-use Rattle.stepping.specs.Carried.{interface_facts}
-use Rattle.stepping.specs.steps.Interfaces.{interfaces_of, is_at}
 
 found_in : (plant : PlantTree) (index : ℕ) (is : List Interface)
     → find (is_at index) (map (interface_facts plant) (map (λ i. i.index) is))

@@ -1,3 +1,4 @@
+mod Names
 mod OnePath
 mod Arrivals
 mod Confirmations

@@ -1,187 +1,136 @@
 -- A packet's path has at most one result, and one where chains have.
-use Rattle.std.proofs.Common.{◌≡◌, ℕ, Bool, List, Option, Some, None, Result, Ok, Err, refl, sym, ap, subst, ◌∙◌}
-use Rattle.conntrack.specs.declared.connection.ConntrackEntry.{ConntrackEntry}
-use Rattle.ip_headers.specs.declared.tuple.Mapping.{Mapping}
-use Rattle.pcap_io.specs.Pcap.{Recorded}
+use Rattle.stepping.proofs.Names.{Accepted, Bool, Cause, ConntrackEntry, Continue, CtInfo, DestinationNat, Drop, Entry, EntryOf, Err, Event, Facts, Hooks}
+use Rattle.stepping.proofs.Names.{HooksAndConfirm, InputOrForward, List, Mapping, NatChains, New, Next, None, Ok, Option, Path, PathState, ReceivedPacket}
+use Rattle.stepping.proofs.Names.{Recorded, Result, RunsStage, Setup, Some, SourceNat, Step, StepResult, after_chains, ap, carried, confirmed}
+use Rattle.stepping.proofs.Names.{destination_nat_result, entry_of, entry_without_packet, goes_on, interface_facts, live_at_record, looked_up_info, mappings_in}
+use Rattle.stepping.proofs.Names.{moment_after, on_arrival, others_beside, refl, routed, source_nat_result, stops, subst, sym, unless_dropped, with_info, ℕ}
+use Rattle.stepping.proofs.Names.{◌∙◌, ◌≡◌, ◌⨾◌}
 use Rattle.rule_meaning.specs.declared.facts.Interface.{Interface}
-use Rattle.rule_meaning.specs.declared.event.HookVerdict.TheVariants.{Accepted}
 use Rattle.rule_meaning.specs.Hooks.{BaseChain, Chains, HookResult}
-use Rattle.rule_meaning.specs.Laws.{AtMostOneResult}
-use Rattle.rule_laws.specs.Terminates.{Terminates}
 use Rattle.hook_runs.specs.declared.stages.HookStage.{HookStage}
-use Rattle.hook_runs.specs.declared.stages.HookStage.TheVariants as stages
 use Rattle.hook_runs.specs.Stages.{chains_in_stage}
-use Rattle.history.specs.declared.outcome.Cause.{Cause}
-use Rattle.history.specs.Setup.{Setup}
-use Rattle.history.specs.History.{Entry}
-use Rattle.translation.specs.declared.ct_info.CtInfo.{CtInfo}
-use Rattle.translation.specs.declared.ct_info.CtInfo.TheVariants.{Tracked, Related, New, Invalid, Untracked}
-use Rattle.translation.specs.LiveMappings.{mappings_in}
 use Rattle.translation.specs.Nat.{after_destination_nat, after_source_nat}
-use Rattle.stepping.specs.Carried.{ReceivedPacket, carried, interface_facts}
-use Rattle.stepping.specs.Lookups.{others_beside}
-use Rattle.stepping.specs.Paths.{PathState, StepResult, Continue, Drop, Step, ◌⨾◌, stops, goes_on, RunsStage, NatChains}
-use Rattle.stepping.specs.Paths.{DestinationNat, SourceNat, InputOrForward, Hooks, after_chains}
-use Rattle.stepping.specs.Paths.{unless_dropped, destination_nat_result, source_nat_result, on_arrival}
-use Rattle.stepping.specs.Next.{EntryOf, HooksAndConfirm, Next, Path, entry_of, live_at_record, moment_after}
+use Rattle.hook_runs.specs.declared.stages.HookStage.TheVariants as stages
 
-abbrev AtMostOne : Step → Type 0
-AtMostOne step = (s : PathState) (r other : StepResult) → step s r → step s other → r ≡ other
+-- what holds of the results of a function, and of those of one step after another
+pub record IsKept (P : (A : Type 0) → (A → Type 0) → Type 0) : Type 1 where
+  pub exact : (A : Type 0) (a : A) → P A (λ b. b ≡ a)
+  pub image : (A B : Type 0) (X : A → Type 0) (Y : B → Type 0) (f : A → B) → ((b : B) → Y b → (a : A) × X a × (b ≡ f a))
+      → ((a : A) → X a → Y (f a)) → P A X → P B Y
+  pub in_turn : (first second : Step) (s : PathState) → P StepResult (first s) → ((t : PathState) → P StepResult (second t))
+      → P StepResult ((first ⨾ second) s)
 
-abbrev AtLeastOne : Step → Type 0
-AtLeastOne step = (s : PathState) → (r : StepResult) × step s r
+-- ---- at most one result
 
-not_both : (cause : Cause) (t u : PathState) → Drop cause t ≡ Continue u → ⊥
+abbrev pub AtMostOne : (A : Type 0) → (A → Type 0) → Type 0
+AtMostOne A X = (a b : A) → X a → X b → a ≡ b
+
+pub not_both : (cause : Cause) (t u : PathState) → Drop cause t ≡ Continue u → ⊥
 not_both cause t u e = cc
 
 same_state : (t u : PathState) → Continue t ≡ Continue u → t ≡ u
 same_state t u e = cc
 
--- ---- one step after another
+one_in_turn : (first second : Step) (s : PathState) → AtMostOne StepResult (first s)
+    → ((t : PathState) → AtMostOne StepResult (second t)) → AtMostOne StepResult ((first ⨾ second) s)
+one_in_turn first second s one two r r' (stops c t x) (stops c' t' x') = one (Drop c t) (Drop c' t') x x'
+one_in_turn first second s one two r r' (stops c t x) (goes_on u q y z) =
+    absurd (not_both c t u (one (Drop c t) (Continue u) x y))
+one_in_turn first second s one two r r' (goes_on u q y z) (stops c t x) =
+    absurd (not_both c t u (one (Drop c t) (Continue u) x y))
+one_in_turn first second s one two r r' (goes_on t q y z) (goes_on u q' y' z') =
+    two t q q' z (subst (λ (x : PathState). second x q') (sym (same_state t u (one (Continue t) (Continue u) y y'))) z')
 
-module _ (first second : Step) where
-  one_then : AtMostOne first → AtMostOne second → AtMostOne (first ⨾ second)
-  one_then one two s r r' (stops c t x) (stops c' t' x') = one s (Drop c t) (Drop c' t') x x'
-  one_then one two s r r' (stops c t x) (goes_on u q y z) =
-      absurd (not_both c t u (one s (Drop c t) (Continue u) x y))
-  one_then one two s r r' (goes_on u q y z) (stops c t x) =
-      absurd (not_both c t u (one s (Drop c t) (Continue u) x y))
-  one_then one two s r r' (goes_on t q y z) (goes_on u q' y' z') =
-      two t q q' z (subst (λ (x : PathState). second x q') (sym (same_state t u (one s (Continue t) (Continue u) y y')))
-      z')
+pub at_most_one : IsKept AtMostOne
+at_most_one = record {
+  exact = λ A a b c x y. x ∙ sym y;
+  image = λ A B X Y f to from one b c x y.
+      let k = to b x in
+      let l = to c y in
+      k.2 ∙ ap f (one k.0 l.0 k.1 l.1) ∙ sym l.2;
+  in_turn = one_in_turn;
+}
 
-  some_after : AtLeastOne second → (s : PathState) (r : StepResult) → first s r
-      → (q : StepResult) × (first ⨾ second) s q
-  some_after two s (Continue t) x = let q = two t in (q.0, goes_on t q.0 x q.1)
-  some_after two s (Drop c t) x = (Drop c t, stops c t x)
+-- ---- at least one
 
-  some_then : AtLeastOne first → AtLeastOne second → AtLeastOne (first ⨾ second)
-  some_then one two s = let q = one s in some_after two s q.0 q.1
+abbrev pub AtLeastOne : (A : Type 0) → (A → Type 0) → Type 0
+AtLeastOne A X = (a : A) × X a
 
--- a step that is a function
-one_by : (f : PathState → StepResult) → AtMostOne (λ s r. r ≡ f s)
-one_by f s r other x y = x ∙ sym y
+some_after : (first second : Step) (s : PathState) → ((t : PathState) → AtLeastOne StepResult (second t)) → (r : StepResult)
+    → first s r → AtLeastOne StepResult ((first ⨾ second) s)
+some_after first second s two (Continue t) x = (_, goes_on t _ x (two t).1)
+some_after first second s two (Drop c t) x = (Drop c t, stops c t x)
 
-some_by : (f : PathState → StepResult) → AtLeastOne (λ s r. r ≡ f s)
-some_by f s = (f s, refl)
+pub at_least_one : IsKept AtLeastOne
+at_least_one = record {
+  exact = λ A a. (a, refl);
+  image = λ A B X Y f to from some. (f some.0, from some.0 some.1);
+  in_turn = λ first second s one two. some_after first second s two one.0 one.1;
+}
 
 -- ---- the path
 
-module _ (setup : Setup) where
-  module _ (one : (test : BaseChain → Bool) → AtMostOneResult (Chains setup.plant setup.rules test)) where
-    one_run : (stage : HookStage) → AtMostOne (RunsStage setup stage)
-    one_run stage s r other x y =
-        x.is ∙ ap (λ (e : HookResult). unless_dropped e.verdict (after_chains e s))
-        (one (chains_in_stage stage) s.facts s.events x.end y.end x.ran y.ran) ∙ sym y.is
+module _ (P : (A : Type 0) → (A → Type 0) → Type 0) (law : IsKept P) (setup : Setup)
+    (chains : (test : BaseChain → Bool) (f : Facts) (es : List Event) → P HookResult (Chains setup.plant setup.rules test f es))
+  where
+    abbrev Keeps : Step → Type 0
+    Keeps step = (s : PathState) → P StepResult (step s)
 
-    one_nat : (stage : HookStage) (info : CtInfo) → AtMostOneResult (NatChains setup stage info)
-    one_nat stage (New d) = one (chains_in_stage stage)
-    one_nat stage (Tracked of) = λ f es d e x y. x ∙ sym y
-    one_nat stage (Related of) = λ f es d e x y. x ∙ sym y
-    one_nat stage Invalid = λ f es d e x y. x ∙ sym y
-    one_nat stage Untracked = λ f es d e x y. x ∙ sym y
+    chain : (first second : Step) → Keeps first → Keeps second → Keeps (first ⨾ second)
+    chain first second one two s = law.in_turn first second s (one s) two
 
-    one_destination : (mappings : List Mapping) → AtMostOne (DestinationNat setup mappings)
-    one_destination mappings s r other x y =
-        x.is ∙ ap (λ (e : HookResult). destination_nat_result e.verdict (after_destination_nat setup.plant mappings
-        e.facts s.info e.verdict) (after_chains e s))
-        (one_nat stages.PreroutingNat s.info s.facts s.events x.end y.end x.ran y.ran) ∙ sym y.is
+    by_function : (f : PathState → StepResult) → Keeps (λ s r. r ≡ f s)
+    by_function f s = law.exact StepResult (f s)
 
-    one_source : (mappings : List Mapping) → AtMostOne (SourceNat setup mappings)
-    one_source mappings s r other x y =
-        x.is ∙ ap (λ (e : HookResult). source_nat_result e.verdict (after_source_nat setup.plant mappings e.facts s.info
-        e.verdict) (after_chains e s))
-        (one_nat stages.PostroutingNat s.info s.facts s.events x.end y.end x.ran y.ran) ∙ sym y.is
+    run : (stage : HookStage) → Keeps (RunsStage setup stage)
+    run stage s = law.image HookResult StepResult (Chains setup.plant setup.rules (chains_in_stage stage) s.facts s.events)
+        (RunsStage setup stage s) (λ (e : HookResult). unless_dropped e.verdict (after_chains e s)) (λ r x. (x.end, x.ran, x.is))
+        (λ e x. record { end = e; ran = x; is = refl }) (chains (chains_in_stage stage) s.facts s.events)
 
-    one_beyond : (mappings : List Mapping) (output : Option Interface)
-        → AtMostOne (InputOrForward setup mappings output)
-    one_beyond mappings None = one_run stages.Input
-    one_beyond mappings (Some i) =
-        one_then _ _ (one_run stages.Forward) (one_then _ _ (one_run stages.PostroutingBeforeNat)
-        (one_then _ _ (one_source mappings) (one_run stages.PostroutingAfterNat)))
+    run_nat : (stage : HookStage) (info : CtInfo) (f : Facts) (es : List Event) → P HookResult (NatChains setup stage info f es)
+    run_nat stage (New d) f es = chains (chains_in_stage stage) f es
+    run_nat stage info f es = law.exact HookResult (record { verdict = Accepted; facts = f; events = es })
 
-    one_hooks : (mappings : List Mapping) → AtMostOne (Hooks setup mappings)
-    one_hooks mappings =
-        one_then _ _ (one_then _ _ (one_run stages.PreroutingBeforeNat) (one_then _ _ (one_destination mappings)
-        (one_run stages.PreroutingAfterNat)))
-        (one_then _ _ (one_by _) (λ s. one_beyond mappings s.facts.output s))
+    destination : (mappings : List Mapping) → Keeps (DestinationNat setup mappings)
+    destination mappings s = law.image HookResult StepResult (NatChains setup stages.PreroutingNat s.info s.facts s.events)
+        (DestinationNat setup mappings s) (λ (e : HookResult). destination_nat_result e.verdict
+        (after_destination_nat setup.plant mappings e.facts s.info e.verdict) (after_chains e s)) (λ r x. (x.end, x.ran, x.is))
+        (λ e x. record { end = e; ran = x; is = refl }) (run_nat stages.PreroutingNat s.info s.facts s.events)
 
-    one_confirmed : (others : List ConntrackEntry) → AtMostOne (HooksAndConfirm setup others)
-    one_confirmed others = one_then _ _ (one_hooks (mappings_in others)) (one_by _)
+    source : (mappings : List Mapping) → Keeps (SourceNat setup mappings)
+    source mappings s = law.image HookResult StepResult (NatChains setup stages.PostroutingNat s.info s.facts s.events)
+        (SourceNat setup mappings s) (λ (e : HookResult). source_nat_result e.verdict
+        (after_source_nat setup.plant mappings e.facts s.info e.verdict) (after_chains e s)) (λ r x. (x.end, x.ran, x.is))
+        (λ e x. record { end = e; ran = x; is = refl }) (run_nat stages.PostroutingNat s.info s.facts s.events)
 
-    one_path : (live : List ConntrackEntry) (p : List ℕ) → AtMostOne (Path setup live p)
-    one_path live p = one_then _ _ (one_run stages.PreroutingRaw)
-        (one_then _ _ (one_by _) (λ s. one_confirmed (others_beside s.info live p) s))
+    beyond : (mappings : List Mapping) (output : Option Interface) → Keeps (InputOrForward setup mappings output)
+    beyond mappings None = run stages.Input
+    beyond mappings (Some i) = chain _ _ (run stages.Forward) (chain _ _ (run stages.PostroutingBeforeNat)
+        (chain _ _ (source mappings) (run stages.PostroutingAfterNat)))
 
-    one_entry : (live : List ConntrackEntry) (now : ℕ) (a : Result ReceivedPacket Cause) (e other : Entry)
-        → EntryOf setup live now a e → EntryOf setup live now a other → e ≡ other
-    one_entry live now (Err cause) e other x y = x ∙ sym y
-    one_entry live now (Ok a) e other x y =
-        x.2 ∙ ap (entry_of now live a.packet) (one_path live a.packet
-        (on_arrival a.packet (interface_facts setup.plant a.interface)) x.0 y.0 x.1 y.1) ∙ sym y.2
+    hooks : (mappings : List Mapping) → Keeps (Hooks setup mappings)
+    hooks mappings = chain _ _ (chain _ _ (run stages.PreroutingBeforeNat) (chain _ _ (destination mappings)
+        (run stages.PreroutingAfterNat)))
+        (chain _ _ (by_function (routed setup)) (λ s. beyond mappings s.facts.output s))
 
-    pub one_next : (history : List Entry) (r : Recorded) (e other : Entry) → Next setup history r e
-        → Next setup history r other → e ≡ other
-    one_next history r e other x y =
-        one_entry (live_at_record setup history r) (moment_after history r) (carried setup r) e other x.entry y.entry
+    confirm : (others : List ConntrackEntry) → Keeps (HooksAndConfirm setup others)
+    confirm others = chain _ _ (hooks (mappings_in others)) (by_function (λ s. confirmed others s.info s))
 
-  module _ (ends : (test : BaseChain → Bool) → Terminates (Chains setup.plant setup.rules test)) where
-    some_run : (stage : HookStage) → AtLeastOne (RunsStage setup stage)
-    some_run stage s =
-        let q = ends (chains_in_stage stage) s.facts s.events in
-        (unless_dropped q.0.verdict (after_chains q.0 s), record { end = q.0; ran = q.1; is = refl })
+    path : (live : List ConntrackEntry) (p : List ℕ) → Keeps (Path setup live p)
+    path live p = chain _ _ (run stages.PreroutingRaw) (chain _ _
+        (by_function (λ s. Continue (with_info (looked_up_info s.facts.ct live p) s)))
+        (λ s. confirm (others_beside s.info live p) s))
 
-    some_nat : (stage : HookStage) (info : CtInfo) → Terminates (NatChains setup stage info)
-    some_nat stage (New d) = ends (chains_in_stage stage)
-    some_nat stage (Tracked of) = λ f es. (record { verdict = Accepted; facts = f; events = es }, refl)
-    some_nat stage (Related of) = λ f es. (record { verdict = Accepted; facts = f; events = es }, refl)
-    some_nat stage Invalid = λ f es. (record { verdict = Accepted; facts = f; events = es }, refl)
-    some_nat stage Untracked = λ f es. (record { verdict = Accepted; facts = f; events = es }, refl)
+    entry : (live : List ConntrackEntry) (now : ℕ) (a : Result ReceivedPacket Cause) → P Entry (EntryOf setup live now a)
+    entry live now (Err cause) = law.exact Entry (entry_without_packet now cause)
+    entry live now (Ok a) =
+        let s = on_arrival a.packet (interface_facts setup.plant a.interface) in
+        law.image StepResult Entry (Path setup live a.packet s) (EntryOf setup live now (Ok a)) (entry_of now live a.packet)
+        (λ e x. x) (λ r x. (r, x, refl)) (path live a.packet s)
 
-    some_destination : (mappings : List Mapping) → AtLeastOne (DestinationNat setup mappings)
-    some_destination mappings s =
-        let q = some_nat stages.PreroutingNat s.info s.facts s.events in (
-          destination_nat_result q.0.verdict (after_destination_nat setup.plant mappings q.0.facts s.info q.0.verdict)
-              (after_chains q.0 s),
-          record { end = q.0; ran = q.1; is = refl },
-        )
-
-    some_source : (mappings : List Mapping) → AtLeastOne (SourceNat setup mappings)
-    some_source mappings s =
-        let q = some_nat stages.PostroutingNat s.info s.facts s.events in (
-          source_nat_result q.0.verdict (after_source_nat setup.plant mappings q.0.facts s.info q.0.verdict)
-              (after_chains q.0 s),
-          record { end = q.0; ran = q.1; is = refl },
-        )
-
-    some_beyond : (mappings : List Mapping) (output : Option Interface)
-        → AtLeastOne (InputOrForward setup mappings output)
-    some_beyond mappings None = some_run stages.Input
-    some_beyond mappings (Some i) =
-        some_then _ _ (some_run stages.Forward) (some_then _ _ (some_run stages.PostroutingBeforeNat)
-        (some_then _ _ (some_source mappings) (some_run stages.PostroutingAfterNat)))
-
-    some_hooks : (mappings : List Mapping) → AtLeastOne (Hooks setup mappings)
-    some_hooks mappings =
-        some_then _ _ (some_then _ _ (some_run stages.PreroutingBeforeNat) (some_then _ _ (some_destination mappings)
-        (some_run stages.PreroutingAfterNat)))
-        (some_then _ _ (some_by _) (λ s. some_beyond mappings s.facts.output s))
-
-    some_confirmed : (others : List ConntrackEntry) → AtLeastOne (HooksAndConfirm setup others)
-    some_confirmed others = some_then _ _ (some_hooks (mappings_in others)) (some_by _)
-
-    some_path : (live : List ConntrackEntry) (p : List ℕ) → AtLeastOne (Path setup live p)
-    some_path live p = some_then _ _ (some_run stages.PreroutingRaw)
-        (some_then _ _ (some_by _) (λ s. some_confirmed (others_beside s.info live p) s))
-
-    some_entry : (live : List ConntrackEntry) (now : ℕ) (a : Result ReceivedPacket Cause)
-        → (e : Entry) × EntryOf setup live now a e
-    some_entry live now (Err cause) = (_, refl)
-    some_entry live now (Ok a) =
-        let q = some_path live a.packet (on_arrival a.packet (interface_facts setup.plant a.interface)) in
-        (entry_of now live a.packet q.0, (q.0, q.1, refl))
-
-    pub some_next : (history : List Entry) (r : Recorded) → (e : Entry) × Next setup history r e
-    some_next history r =
-        let x = some_entry (live_at_record setup history r) (moment_after history r) (carried setup r) in
-        (x.0, record { entry = x.1 })
+    pub next : (history : List Entry) (r : Recorded) → P Entry (Next setup history r)
+    next history r =
+        let live = live_at_record setup history r in
+        let now = moment_after history r in
+        law.image Entry Entry (EntryOf setup live now (carried setup r)) (Next setup history r) (λ e. e)
+        (λ e x. (e, x.entry, refl)) (λ e x. record { entry = x }) (entry live now (carried setup r))

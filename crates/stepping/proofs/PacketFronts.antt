@@ -1,7 +1,5 @@
 -- What is written over the front of a buffer stands there.
-use Rattle.std.proofs.Common.{◌≡◌, ℕ, ◌≤◌, List, ◌++◌, length, take, arith}
-use Rattle.std.proofs.lemmas.Grind.{common_steps}
-use Rattle.std.proofs.lemmas.List.{take_at}
+use Rattle.stepping.proofs.Names.{◌++◌, List, arith, common_steps, length, take, take_at, ℕ, ◌≡◌, ◌≤◌}
 use borrow.Rule.Slice.PartMut.{post_of}
 
 pub fronted : (new d tail : List ℕ) (n k m : ℕ) → length new ≡ n → n ≤ m

@@ -1,5 +1,4 @@
-use Rattle.stepping.specs.Representing.{recorded_of}
-use Rattle.stepping.specs.steps.Steps.{setup_in}
+use Rattle.stepping.proofs.Names.{recorded_of, setup_in}
 use Rattle.stepping.proofs.Arrivals.{without_link, without_interface, without_header, with_packet}
 use Rattle.stepping.proofs.arrival.carried.Goals as goal
 

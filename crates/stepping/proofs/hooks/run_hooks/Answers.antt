@@ -1,6 +1,5 @@
-use Rattle.std.proofs.lemmas.Result.{err_from_is_err_and}
-use Rattle.stepping.proofs.StepsTaken.{routed, stopped, unrouted, went_on}
-use Rattle.stepping.specs.steps.Steps.{setup_in}
+use Rattle.stepping.proofs.Names.{err_from_is_err_and}
+use Rattle.stepping.proofs.StepsTaken.{at_cost, of_step, stopped, unspent, went_on}
 use Rattle.stepping.proofs.hooks.run_hooks.Goals as goal
 
 pub returns-in_err-prerouting : goal.returns-in_err-prerouting
@@ -14,13 +13,14 @@ returns-in_err-route c =
     let route = c.in_err-route.ensures in
     rw (q.1, q.2) (record {
       took = went_on c.in_ok-prerouting.ensures.took
-          (unrouted (setup_in c.args.setup.now.hooks) (route.step c.prerouting.new.events) route.info);
+          (at_cost (unspent _ _)
+          (stopped {a = 0} 0 (of_step (λ held. route.step c.prerouting.new.events) route.info (unspent _ 0))));
     })
 
 pub returns : goal.returns
 returns c =
     let route = c.in_ok-route.ensures in
     record {
-      took = went_on c.in_ok-prerouting.ensures.took (routed (setup_in c.args.setup.now.hooks)
-          (route.step c.prerouting.new.events) route.info c.after_routing.ensures.took);
+      took = went_on c.in_ok-prerouting.ensures.took (at_cost c.after_routing.ensures.took.spent (went_on
+          {a = 0} (of_step (λ held. route.step c.prerouting.new.events) route.info (unspent _ 0)) c.after_routing.ensures.took));
     }

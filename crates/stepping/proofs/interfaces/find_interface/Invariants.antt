@@ -1,6 +1,4 @@
-use Rattle.std.proofs.Common.{◌≡◌, length}
-use Rattle.std.specs.Prelude.{find}
-use Rattle.stepping.specs.steps.Interfaces.{is_at}
+use Rattle.stepping.proofs.Names.{find, is_at, length, ◌≡◌}
 use Rattle.stepping.proofs.interfaces.find_interface.Given as goal
 
 abbrev pub invariant-loop-rest : goal.invariant-loop-rest

@@ -1,5 +1,4 @@
-use Rattle.std.proofs.Common.{◌≡◌, map, take}
-use Rattle.stepping.specs.Carried.{interface_facts}
+use Rattle.stepping.proofs.Names.{interface_facts, map, take, ◌≡◌}
 use Rattle.stepping.proofs.interfaces.interfaces_at.Given as goal
 
 abbrev pub invariant-loop-index : goal.invariant-loop-index

@@ -1,14 +1,7 @@
-use Rattle.std.proofs.Common.{◌≡◌, sym, ap, ◌∙◌, refl, Some, None}
-use Rattle.ip_headers.specs.Tuple.{inner_tuple_of, tuple_of}
-use Rattle.conntrack.specs.ConntrackEntry.{belongs_in}
-use Rattle.rule_meaning.specs.declared.facts.CtFacts.{CtFacts}
-use Rattle.translation.specs.declared.ct_info.CtInfo.{CtInfo}
-use Rattle.translation.specs.CtInfos.{untranslated}
-use Rattle.stepping.specs.Lookups.{error_belonging, looked_up_info}
-use Rattle.stepping.specs.Next.{with_info}
-use Rattle.stepping.specs.steps.Steps.{path_state}
-use Rattle.stepping.proofs.Confirmations.{error_fits, error_open, still_open, untracked_open}
-use Rattle.stepping.proofs.Processing.{error_belongs, error_info, error_others, tuple_belongs, tuple_info, tuple_others}
+use Rattle.stepping.proofs.Names.{CtFacts, CtInfo, None, Some, Untracked, ap, belonging_by_tuple, belongs_in, ct_info_by, error_belonging, flags_in}
+use Rattle.stepping.proofs.Names.{inner_tuple_of, looked_up_info, path_state, refl, sym, transport_of, tuple_of, untranslated, with_info, ◌∙◌, ◌≡◌}
+use Rattle.stepping.proofs.Confirmations.{error_fits, idle_error, idle_kept, idle_open, still_open}
+use Rattle.stepping.proofs.Processing.{found_belonging, found_info, found_others}
 use Rattle.stepping.proofs.lookup.look_up.Goals as goal
 
 pub returns-in-Notrack-clause-step : goal.returns-in-Notrack-clause-step
@@ -24,7 +17,7 @@ returns-in-Notrack-clause-held g c = rw c.set_info.ensures.info refl
 
 pub returns-in-Notrack-clause-confirmable : goal.returns-in-Notrack-clause-confirmable
 returns-in-Notrack-clause-confirmable g c = λ after same.
-    untracked_open c.args.connections.now.held after (same ∙ ap untranslated c.set_info.ensures.info)
+    idle_open c.args.connections.now.held after (idle_kept Untracked after (same ∙ ap untranslated c.set_info.ensures.info) refl)
 
 pub returns-in-Notrack-clause-fits : goal.returns-in-Notrack-clause-fits
 returns-in-Notrack-clause-fits g c = rw c.set_info.ensures.info tt
@@ -38,16 +31,16 @@ returns-in_default-tuple g c =
     let b = error_belonging held (inner_tuple_of p) in
     let none : tuple_of p ≡ None = sym c.tuple.ensures ∙ c.in_default-tuple.is in
     let is = set.ensures.info ∙ c.error_ct_info.ensures in
-    let known = error_info p held ct c.in_default.not-Notrack set.new.self.info none is in
+    let known = found_info p held ct c.in_default.not-Notrack set.new.self.info None none is in
     record {
       step = λ events. set.ensures.state events ∙ ap (λ (i : CtInfo). with_info i (path_state c.args.state.now events))
           (sym set.ensures.info ∙ known);
-      belonging = error_belongs p held ct c.in_default.not-Notrack set.new.self.info none is;
-      held = error_others p held ct c.in_default.not-Notrack set.new.self.info none is;
+      belonging = found_belonging p held ct c.in_default.not-Notrack set.new.self.info None none is;
+      held = found_others p held ct c.in_default.not-Notrack set.new.self.info None none is;
       limits = refl;
       later = c.requires.later;
       room = c.requires.room;
-      confirmable = λ after same. error_open b held after (same ∙ ap untranslated is);
+      confirmable = λ after same. idle_open held after (idle_kept _ after (same ∙ ap untranslated is) (idle_error b));
       fits = rw is (error_fits b _);
     }
 
@@ -63,13 +56,14 @@ returns g c =
     let flags = c.requires.flags in
     let belongs = look.ensures.belonging ∙ ap (belongs_in held t) flags in
     let is = set.ensures.info ∙ c.of.ensures in
-    let known = tuple_info p held ct c.in_default.not-Notrack set.new.self.info t some look.result belongs is in
+    let here = is ∙ ap (ct_info_by t) (belongs ∙ ap (belonging_by_tuple held (flags_in (transport_of p))) (sym some)) in
+    let known = found_info p held ct c.in_default.not-Notrack set.new.self.info (Some t) some here in
     record {
       step = λ events. set.ensures.state events ∙ ap (λ (i : CtInfo). with_info i (path_state c.args.state.now events))
           (sym set.ensures.info ∙ known);
-      belonging = tuple_belongs p held ct c.in_default.not-Notrack set.new.self.info t some look.result belongs is;
+      belonging = belongs ∙ found_belonging p held ct c.in_default.not-Notrack set.new.self.info (Some t) some here;
       held = (rw flags at look.ensures.held)
-          ∙ tuple_others p held ct c.in_default.not-Notrack set.new.self.info t some look.result belongs is;
+          ∙ found_others p held ct c.in_default.not-Notrack set.new.self.info (Some t) some here;
       limits = look.ensures.limits;
       later = look.ensures.later;
       room = look.ensures.room c.requires.room;

@@ -1,15 +1,10 @@
-use Rattle.std.proofs.Common.{refl, arith}
-use Rattle.stepping.specs.steps.Steps.{setup_in}
+use Rattle.stepping.proofs.Names.{refl, setup_in}
 use Rattle.stepping.proofs.OldConnections.{source_kept}
+use Rattle.stepping.proofs.StepsTaken.{of_step, unspent}
 use Rattle.stepping.proofs.nat.translate_source.Goals as goal
 
 pub returns : goal.returns
 returns c = record {
-  took = record {
-    step = λ held same. rw c.update_source.ensures (source_kept (setup_in c.args.setup.now.hooks) held
-        c.args.state.now.facts c.args.events.now.events c.args.state.now.info c.in_default.not-New);
-    fits = λ held same fits. fits;
-    same = refl;
-    spent = record { events = omega arith; no_fewer = omega arith; ticks = omega arith };
-  };
+  took = of_step (λ held. rw c.update_source.ensures (source_kept (setup_in c.args.setup.now.hooks) held
+      c.args.state.now.facts c.args.events.now.events c.args.state.now.info c.in_default.not-New)) refl (unspent _ _);
 }

@@ -1,4 +1,4 @@
-use Rattle.std.proofs.Common.{◌∙◌, ap, length, arith}
+use Rattle.stepping.proofs.Names.{ap, arith, length, ◌∙◌}
 use Rattle.stepping.proofs.PacketFronts.{fronted}
 use Rattle.stepping.proofs.packet_buffer.copy_to_front.Goals as goal
 

@@ -1,5 +1,4 @@
-use Rattle.std.proofs.Common.{◌≡◌, ◌∙◌, ◌-◌, ap, length, take, arith}
-use Rattle.std.proofs.lemmas.Grind.{common_steps}
+use Rattle.stepping.proofs.Names.{◌-◌, ap, arith, common_steps, length, take, ◌∙◌, ◌≡◌}
 use Rattle.rewrite.specs.Rewritten.{rewritten}
 use Rattle.stepping.proofs.PacketFronts.{fronted}
 use Rattle.stepping.proofs.packet_buffer.rewrite_front.Goals as goal

@@ -1,11 +1,6 @@
-use Rattle.std.proofs.Common.{ap, ◌≡◌, ◌∙◌}
-use Rattle.std.proofs.lemmas.Result.{err_from_is_err_and}
-use Rattle.translation.specs.declared.ct_info.CtInfo.{CtInfo}
-use Rattle.translation.specs.CtInfos.{untranslated}
-use Rattle.stepping.specs.Lookups.{flags_in, looked_up_info, others_beside}
-use Rattle.stepping.specs.Paths.{PathState, Continue, stops, goes_on}
-use Rattle.stepping.specs.steps.Steps.{path_state}
-use Rattle.stepping.proofs.Processing.{confirmed_follows, dropped_later, dropped_raw}
+use Rattle.stepping.proofs.Names.{Continue, CtInfo, Notrack, PathState, ap, err_from_is_err_and, flags_in, goes_on, looked_up_info, others_beside, path_state}
+use Rattle.stepping.proofs.Names.{refl, stops, untranslated, ◌∙◌, ◌≡◌}
+use Rattle.stepping.proofs.Processing.{confirmed_follows, dropped_follows}
 use Rattle.stepping.proofs.process.process_packet.Goals as goal
 
 pub returns-in_err-run-clause-path : goal.returns-in_err-run-clause-path
@@ -16,8 +11,8 @@ returns-in_err-run-clause-path g c =
 pub returns-in_err-run-clause-follows : goal.returns-in_err-run-clause-follows
 returns-in_err-run-clause-follows g c =
     let q = err_from_is_err_and c.from_residual.result c.from_residual.ensures.1 in
-    rw (q.1, q.2) (dropped_raw c.args.view.now.packet.now c.args.connections.now.held c.args.now _
-    (path_state c.run.new.state c.run.new.events) (c.in_err-run.ensures.info ∙ c.requires.not_looked_up))
+    rw (q.1, q.2) (dropped_follows c.args.view.now.packet.now c.args.connections.now.held c.args.now Notrack _ _
+    (path_state c.run.new.state c.run.new.events) (ap untranslated (c.in_err-run.ensures.info ∙ c.requires.not_looked_up)) refl)
 
 pub returns-in_err-run_hooks-clause-path : goal.returns-in_err-run_hooks-clause-path
 returns-in_err-run_hooks-clause-path g c =
@@ -36,7 +31,7 @@ returns-in_err-run_hooks-clause-follows g c =
     let ct = c.run.new.state.facts.ct in
     let info : look.new.state.info ≡ looked_up_info ct old p =
     ap (λ (s : PathState). s.info) (look.ensures.step c.run.new.events) in
-    rw (q.1, q.2) (dropped_later p old c.args.now ct _ _ (path_state c.run_hooks.new.state c.run_hooks.new.events)
+    rw (q.1, q.2) (dropped_follows p old c.args.now ct _ _ (path_state c.run_hooks.new.state c.run_hooks.new.events)
     (c.in_err-run_hooks.ensures.took.same ∙ ap untranslated info)
     (look.ensures.held ∙ ap (λ (i : CtInfo). others_beside i old p) info))
 

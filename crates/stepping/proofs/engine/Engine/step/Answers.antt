@@ -1,13 +1,6 @@
-use Rattle.std.proofs.Common.{◌≤◌, ◌+◌, ℕ, length, ap, refl, subst, ◌∙◌, arith}
-use Rattle.box_file.specs.declared.limits.Limits.{Limits}
-use Rattle.conntrack.specs.ConntrackEntry.{live_at}
-use Rattle.filter_vm.specs.Machine.{EventsAndTicks}
-use Rattle.history.specs.Setup.{Setup, limits_of}
-use Rattle.stepping.specs.Carried.{carried}
-use Rattle.stepping.specs.Representing.{EngineState, recorded_of}
-use Rattle.stepping.specs.steps.Processing.{HasProcessed}
-use Rattle.stepping.proofs.Extending.{AreAlike, IsTold, latest_is, next_represents, not_begun, none_later-aged}
-use Rattle.stepping.proofs.Extending.{none_later-processed}
+use Rattle.stepping.proofs.Names.{◌+◌, EngineState, EventsAndTicks, HasProcessed, Limits, Setup, ap, arith, carried, length, limits_of, live_at, recorded_of}
+use Rattle.stepping.proofs.Names.{refl, subst, ℕ, ◌∙◌, ◌≤◌}
+use Rattle.stepping.proofs.Extending.{AreAlike, IsTold, latest_is, next_represents, not_begun, none_later-aged, none_later-processed}
 use Rattle.stepping.proofs.engine.Engine.step.Goals as goal
 
 pub process_record-ended-requires-clause-later : goal.process_record-ended-requires-clause-later

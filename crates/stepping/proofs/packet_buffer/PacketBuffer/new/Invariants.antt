@@ -1,5 +1,5 @@
 -- so many so far, in the room for all
-use Rattle.std.proofs.Common.{◌≡◌, ◌≤◌, ◌-◌, vec_len, vec_capacity}
+use Rattle.stepping.proofs.Names.{◌-◌, vec_capacity, vec_len, ◌≡◌, ◌≤◌}
 use Rattle.stepping.proofs.packet_buffer.PacketBuffer.new.Given as goal
 
 abbrev pub invariant-loop-bytes : goal.invariant-loop-bytes
