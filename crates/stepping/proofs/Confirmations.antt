@@ -29,10 +29,6 @@ confirms_refused is = record {
 
 -- ---- NAT doesn't change a packet's connection
 
-abbrev original_or : Tuple → CtInfo → Tuple
-original_or t (New d) = d.original
-original_or t _ = t
-
 -- a packet with this tuple and without a connection: its first one, or invalid
 abbrev IsFirst : Tuple → CtInfo → Type 0
 IsFirst t (Tracked connection) = ⊥
@@ -40,7 +36,7 @@ IsFirst t (New d) = d.original ≡ t
 IsFirst t _ = Unit {0}
 
 is_first : (state : LookupState) (t : Tuple) (info : CtInfo) → untranslated info ≡ untranslated (new_ct_info state t) → IsFirst t info
-is_first states.New t (New d) same = ap (original_or t) same
+is_first states.New t (New d) same = cc
 is_first state t Invalid same = tt
 is_first state t info same = cc
 

@@ -1,6 +1,7 @@
 -- An interface found among those laid out.
-use Rattle.stepping.proofs.Names.{List, [], arith, find, interface_facts, interfaces_of, is_at, map, option_map, refl, ℕ, ◌∷◌, ◌≡◌}
+use Rattle.stepping.proofs.Names.{List, [], arith, find, interface_facts, interfaces_of, is_at, map, refl, ℕ, ◌∷◌, ◌≡◌}
 use Rattle.box_file.specs.Box.{Interface, PlantTree, has_index, name_of}
+use Rattle.std.specs.Option.{option_map}
 
 found_in : (plant : PlantTree) (index : ℕ) (is : List Interface)
     → find (is_at index) (map (interface_facts plant) (map (λ i. i.index) is))

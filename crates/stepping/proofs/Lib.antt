@@ -1,6 +1,5 @@
 mod Names
 mod OnePath
-mod Arrivals
 mod Confirmations
 mod Processing
 mod Extending

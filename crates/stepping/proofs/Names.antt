@@ -14,7 +14,7 @@ pub use Rattle.filter_vm.specs.Machine.{EventsAndTicks}
 pub use Rattle.history.specs.History.{Entry, live_in, moment_of, tracked_of}
 pub use Rattle.history.specs.Setup.{Setup, limits_of}
 pub use Rattle.history.specs.declared.outcome.Cause.{Cause}
-pub use Rattle.ip_headers.specs.Header.{fault_of, packet_of, transport_of}
+pub use Rattle.ip_headers.specs.Header.{transport_of}
 pub use Rattle.ip_headers.specs.Tuple.{inner_tuple_of, inverse, tuple_of}
 pub use Rattle.ip_headers.specs.declared.tuple.Mapping.{Mapping}
 pub use Rattle.ip_headers.specs.declared.tuple.Tuple.{Tuple}
@@ -24,21 +24,21 @@ pub use Rattle.rule_meaning.specs.declared.event.HookVerdict.TheVariants.{Accept
 pub use Rattle.rule_meaning.specs.declared.facts.CtFacts.{CtFacts}
 pub use Rattle.rule_meaning.specs.declared.facts.CtFacts.TheVariants.{Notrack}
 pub use Rattle.rule_meaning.specs.declared.facts.Facts.{Facts}
-pub use Rattle.std.proofs.Common.{◌+◌, ◌++◌, ◌-◌, ◌<◌, Bool, Bor, Err, List, None, Ok, Option, Result, Some, [], ap, arith, cond, drop, false, length, map}
-pub use Rattle.std.proofs.Common.{refl, subst, sym, take, true, vec_capacity, vec_len, ℕ, ◌∙◌, ◌∷◌, ◌≡◌, ◌≤◌}
+pub use Rattle.std.proofs.Common.{◌+◌, ◌++◌, ◌-◌, ◌<◌, Bool, Err, List, None, Ok, Option, Result, Some, [], ap, arith, cond, drop, false, length, map, refl}
+pub use Rattle.std.proofs.Common.{subst, sym, take, true, vec_capacity, vec_len, ℕ, ◌∙◌, ◌∷◌, ◌≡◌, ◌≤◌}
 pub use Rattle.std.proofs.lemmas.Grind.{common_steps}
 pub use Rattle.std.proofs.lemmas.List.{length-drop, take_at}
 pub use Rattle.std.proofs.lemmas.Result.{err_from_is_err_and}
-pub use Rattle.std.specs.Option.{option_map}
 pub use Rattle.std.specs.Prelude.{IsTrue, find, if◌then◌else◌, max, nat_le, not}
-pub use Rattle.stepping.specs.Carried.{ReceivedPacket, carried, carried_after, carried_by, carried_with, cause_of, input_interface, interface_facts, link_cause}
+pub use Rattle.stepping.specs.Carried.{ReceivedPacket, carried, interface_facts}
 pub use Rattle.stepping.specs.Confirmations.{confirmation_by, confirmation_of, confirmed, mark_in, refusal, reply_to, unless_refused}
 pub use Rattle.stepping.specs.Lookups.{belonging_by_tuple, belonging_of, ct_info_by_tuple, error_belonging, flags_in, looked_up_info, lookup_tuple_of}
 pub use Rattle.stepping.specs.Lookups.{others_beside, others_in}
 pub use Rattle.stepping.specs.Next.{EntryOf, HooksAndConfirm, Next, Path, arrival_of, entry_of, entry_without_packet, final_state, live_at_record, moment_after}
 pub use Rattle.stepping.specs.Next.{tracked_as, tuple_in, with_info}
-pub use Rattle.stepping.specs.Paths.{Continue, DestinationNat, Drop, Hooks, InputOrForward, NatChains, PathState, RunsStage, SourceNat, Step, StepResult}
-pub use Rattle.stepping.specs.Paths.{after_chains, destination_nat_result, goes_on, on_arrival, routed, source_nat_result, stops, unless_dropped, ◌⨾◌}
+pub use Rattle.stepping.specs.Paths.{AfterRouting, Continue, DestinationNat, Drop, Hooks, InputOrForward, NatChains, PathState, RunsStage, SourceNat, Step}
+pub use Rattle.stepping.specs.Paths.{StepResult, after_chains, destination_nat_result, goes_on, on_arrival, routed, source_nat_result, stops, unless_dropped}
+pub use Rattle.stepping.specs.Paths.{◌⨾◌}
 pub use Rattle.stepping.specs.Representing.{EngineState, Represents, ShownEntry, newest_of, recorded_of, shown_entry}
 pub use Rattle.stepping.specs.steps.Confirming.{CanConfirm, Confirms, begins, begun_in, belonging_in, confirmed_in}
 pub use Rattle.stepping.specs.steps.Interfaces.{interfaces_of, is_at}

@@ -1,6 +1,5 @@
-use Rattle.stepping.proofs.Names.{InputOrForward, List, Mapping, Option, PathState, Setup, StepResult, subst, sym, ◌≡◌}
+use Rattle.stepping.proofs.Names.{AfterRouting, InputOrForward, List, Mapping, Option, PathState, Setup, StepResult, subst, sym, ◌≡◌}
 use Rattle.rule_meaning.specs.declared.facts.Interface.{Interface}
-use Rattle.stepping.specs.Paths.{AfterRouting}
 use Rattle.stepping.proofs.StepsTaken.{of_step, spent_both, unspent}
 use Rattle.stepping.proofs.hooks.after_routing.Goals as goal
 

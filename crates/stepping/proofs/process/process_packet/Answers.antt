@@ -11,8 +11,8 @@ returns-in_err-run-clause-path g c =
 pub returns-in_err-run-clause-follows : goal.returns-in_err-run-clause-follows
 returns-in_err-run-clause-follows g c =
     let q = err_from_is_err_and c.from_residual.result c.from_residual.ensures.1 in
-    rw (q.1, q.2) (dropped_follows c.args.view.now.packet.now c.args.connections.now.held c.args.now Notrack _ _
-    (path_state c.run.new.state c.run.new.events) (ap untranslated (c.in_err-run.ensures.info ∙ c.requires.not_looked_up)) refl)
+    rw (q.1, q.2) (dropped_follows _ _ _ Notrack _ _ _
+    (ap untranslated (c.in_err-run.ensures.info ∙ c.requires.not_looked_up)) refl)
 
 pub returns-in_err-run_hooks-clause-path : goal.returns-in_err-run_hooks-clause-path
 returns-in_err-run_hooks-clause-path g c =
@@ -26,14 +26,10 @@ pub returns-in_err-run_hooks-clause-follows : goal.returns-in_err-run_hooks-clau
 returns-in_err-run_hooks-clause-follows g c =
     let q = err_from_is_err_and c.from_residual-in_err-run_hooks.result c.from_residual-in_err-run_hooks.ensures.1 in
     let look = c.look_up-belonging in
-    let p = c.args.view.now.packet.now in
-    let old = c.args.connections.now.held in
-    let ct = c.run.new.state.facts.ct in
-    let info : look.new.state.info ≡ looked_up_info ct old p =
-    ap (λ (s : PathState). s.info) (look.ensures.step c.run.new.events) in
-    rw (q.1, q.2) (dropped_follows p old c.args.now ct _ _ (path_state c.run_hooks.new.state c.run_hooks.new.events)
+    let info = ap (λ (s : PathState). s.info) (look.ensures.step c.run.new.events) in
+    rw (q.1, q.2) (dropped_follows _ _ _ c.run.new.state.facts.ct _ _ _
     (c.in_err-run_hooks.ensures.took.same ∙ ap untranslated info)
-    (look.ensures.held ∙ ap (λ (i : CtInfo). others_beside i old p) info))
+    (look.ensures.held ∙ ap (λ (i : CtInfo). others_beside i c.args.connections.now.held c.args.view.now.packet.now) info))
 
 pub returns-clause-path : goal.returns-clause-path
 returns-clause-path g c =
