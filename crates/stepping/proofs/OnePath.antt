@@ -34,10 +34,8 @@ same_state t u e = cc
 one_in_turn : (first second : Step) (s : PathState) → AtMostOne StepResult (first s)
     → ((t : PathState) → AtMostOne StepResult (second t)) → AtMostOne StepResult ((first ⨾ second) s)
 one_in_turn first second s one two r r' (stops c t x) (stops c' t' x') = one (Drop c t) (Drop c' t') x x'
-one_in_turn first second s one two r r' (stops c t x) (goes_on u q y z) =
-    absurd (not_both c t u (one (Drop c t) (Continue u) x y))
-one_in_turn first second s one two r r' (goes_on u q y z) (stops c t x) =
-    absurd (not_both c t u (one (Drop c t) (Continue u) x y))
+one_in_turn first second s one two r r' (stops c t x) (goes_on u q y z) = cc (one (Drop c t) (Continue u) x y)
+one_in_turn first second s one two r r' (goes_on u q y z) (stops c t x) = cc (one (Drop c t) (Continue u) x y)
 one_in_turn first second s one two r r' (goes_on t q y z) (goes_on u q' y' z') =
     two t q q' z (subst (λ (x : PathState). second x q') (sym (same_state t u (one (Continue t) (Continue u) y y'))) z')
 
