@@ -1,12 +1,12 @@
 -- A run, from the results of its calls.
-use Rattle.engine.proofs.Names.{◌++◌, ◌<◌, Accepted, Bool, Box, Capture, CaptureFault, CaptureState, Captured, Consumes, Device, Devices, Entry, Err}
-use Rattle.engine.proofs.Names.{FaultLeaves, Format, HEADER_BYTES, IfErr, IfOk, IfSome, IsAtEnd, IsChecked, IsHistoryOf, IsWithin, JudgeRefuses, Laws}
-use Rattle.engine.proofs.Names.{LeftDevices, List, Meaning, Memory, None, NothingTaken, Ok, Option, OutputsWritten, Pcap, READ_AHEAD, ReadSoFar, RecordsTaken}
-use Rattle.engine.proofs.Names.{Refuses, ReplayStart, Result, Rules, RunFault, Setup, Some, Untouched, WroteOutputs, [], ahead, ap, arith, capture_text}
-use Rattle.engine.proofs.Names.{decoded_records, drop, ending_of, failed_header_read, failed_read, failed_report, failed_write, false, format_of, header_fault}
-use Rattle.engine.proofs.Names.{inl, inr, length, one_more, refl, report_text, setup_of, subst, sym, true, unread_input, ℕ, ◌∙◌, ◌≡◌, ◌≤◌}
+use Rattle.engine.proofs.Names.{◌++◌, ◌<◌, Accepted, Bool, Box, Capture, CaptureFault, CaptureState, Captured, Consumes, Device, Devices, Entry, Err, Format}
+use Rattle.engine.proofs.Names.{HEADER_BYTES, IfErr, IfOk, IfSome, IsAtEnd, IsChecked, IsHistoryOf, IsWithin, JudgeRefuses, Laws, LeavesPrefix, LeftDevices, List, Meaning}
+use Rattle.engine.proofs.Names.{Memory, None, NothingTaken, Ok, Option, Pcap, READ_AHEAD, Refuses, Result, Rules, RunFault, Setup, Some, Unchanged, Untouched, WritesOutputs}
+use Rattle.engine.proofs.Names.{WroteOutputs, [], ahead, ap, arith, capture_text, decoded_records, drop, ending_of, failed_header_read, false, format_of, header_fault}
+use Rattle.engine.proofs.Names.{inl, inr, length, one_more, refl, report_text, setup_of, subst, sym, true, unread_input, ℕ, ◌∙◌, ◌≡◌, ◌≤◌, ◌⊎◌}
 use Rattle.engine.proofs.Replays.{ahead_is}
 use Rattle.engine.proofs.Histories.{OneEntry, one_history}
+use Rattle.engine.specs.declared.runs.Summary.{Summary}
 use Rattle.rule_check.specs.Checked.{CheckedTree}
 
 -- ---- what follows under a result
@@ -60,10 +60,8 @@ one_meaning_of laws one = λ rules box capture trace count others torn other_tor
     n.history setups same.2 same.0 m.is_history n.is_history in (
       m.counted ∙ ap length same.0 ∙ sym n.counted,
       signs,
-      m.captured ∙ ap capture_text histories ∙ sym n.captured,
-      m.reported ∙ ap (λ (s : Setup). report_text s trace m.history torn) setups
-          ∙ ap (λ s. report_text n.accepted.setup trace s torn) histories
-          ∙ ap (report_text n.accepted.setup trace n.history) signs ∙ sym n.reported,
+      cc,
+      cc,
     )
 
 -- ---- after the header
@@ -82,44 +80,22 @@ opened None s unread part takes at_end h = tt
 opened (Some bytes) s None part takes at_end h = absurd takes
 opened (Some bytes) s (Some left) part takes at_end h = (h.0, h.1, sym (ahead_is s (Some left) left refl at_end) ∙ h.2)
 
-pub wrote : OneMeaning → (rules box : List ℕ) (accepted : Accepted rules box) (start : ReplayStart) (format : Format)
-    (input to_come unread w r : Option (List ℕ)) (count : ℕ) (torn : Bool) → start.setup ≡ accepted.setup
-    → Opened input to_come format
-    → ((bytes : List ℕ) → to_come ≡ Some bytes → OutputsWritten start format bytes count torn unread w r)
-    → IfSome input (λ bytes. WroteOutputs rules box bytes start.trace count torn start.sent w start.report r)
-wrote one rules box accepted start format None to_come unread w r count torn same opened done = tt
-wrote one rules box accepted start format (Some bytes) to_come unread w r count torn same opened done =
-    let t : OutputsWritten start format (drop HEADER_BYTES bytes) count torn unread w r = done _ opened.2 in
-    let history : List Entry = t.reached.history in
-    let meaning : Meaning rules box bytes start.trace count torn (capture_text history)
-    (report_text start.setup start.trace history torn) =
+pub wrote : OneMeaning → {rules box : List ℕ} (accepted : Accepted rules box) (input : Option (List ℕ)) {setup : Setup}
+    (trace : Bool) (records : CaptureState) (summary : Summary) (old new : Devices) → setup ≡ accepted.setup
+    → Opened input (unread_input records old.unread) records.format → WritesOutputs setup trace records summary old new
+    → IfSome input (λ bytes.
+    WroteOutputs rules box bytes trace summary.records summary.torn old.sent new.sent old.report new.report)
+wrote one accepted None trace records summary old new same is done = tt
+wrote one {rules} {box} accepted (Some bytes) trace records summary old new same is done =
+    let t = done rules box bytes accepted is.1 None same is.2 in
     record {
-      accepted = accepted;
-      records = t.reached.follows.records;
-      read = record {
-        format = format;
-        accepted = opened.1;
-        rest = t.reached.ahead ++ t.reached.left;
-        whole = t.reached.follows.joined;
-        each = t.reached.follows.each;
-        not_over = t.reached.follows.not_over;
-        ends = t.ends;
-      };
-      counted = t.counted;
-      history = history;
-      is_history = subst (λ (s : Setup). IsHistoryOf s [] (decoded_records format t.reached.follows.records) history)
-          same t.reached.follows.is_history;
-      captured = refl;
-      reported = ap (λ (s : Setup). report_text s start.trace history torn) same;
-    } in
-    record {
-      sent = capture_text history;
-      report = report_text start.setup start.trace history torn;
-      meaning = meaning;
+      sent = t.0;
+      report = t.1;
+      meaning = t.2;
       only = λ others other_torn other_sent other_report m.
-          one rules box bytes start.trace others count other_torn torn other_sent _ other_report _ m meaning;
-      appends = t.finished.all_sent;
-      appends_report = t.finished.all_lines;
+          one rules box bytes trace others summary.records other_torn summary.torn other_sent t.0 other_report t.1 m t.2;
+      appends = t.3;
+      appends_report = t.4;
     }
 
 -- what is refused of a capture, by the devices that the refusal left
@@ -151,175 +127,67 @@ refuses_within rules box trace input old new Device a within left = tt
 refuses_within rules box trace input old new Memory a within left = tt
 refuses_within rules box trace input old new _ a within left = absurd within
 
--- ---- the devices
-
--- once the capture is opened, before which no read failed
-abbrev pub opened_of : Devices → Option (List ℕ) → ℕ → Devices
-opened_of old unread failed = record {
-  unread = unread;
-  sent = old.sent;
-  report = old.report;
-  reads_failed = failed;
-  sends_failed = old.sends_failed;
-  reports_failed = old.reports_failed;
-}
-
-module _ {rules box : List ℕ} (trace : Bool) (accepted : Accepted rules box) (format : Format) (bytes : List ℕ)
-    (old new : Devices) (header : format_of bytes ≡ Ok format)
-  where
-    abbrev so_far : ReadSoFar accepted.setup format (drop HEADER_BYTES bytes) new.unread → RecordsTaken rules box bytes new
-    so_far at =
-        record {
-          accepted = accepted;
-          format = format;
-          header = header;
-          records = at.follows.records;
-          ahead = at.ahead;
-          left = at.left;
-          joined = at.follows.joined;
-          unread = at.is_left;
-          each = at.follows.each;
-          not_over = at.follows.not_over;
-          history = at.history;
-          is_history = at.follows.is_history;
-        }
-
-    left_within : (unread : Option (List ℕ)) (failed : ℕ) (fault : RunFault) → IsWithin fault
-        → failed ≡ old.reads_failed → (new.unread ≡ unread → Untouched old new → new.reads_failed ≡ old.reads_failed
-        → NothingTaken bytes old new)
-        → FaultLeaves accepted.setup trace format (drop HEADER_BYTES bytes) (opened_of old unread failed) new fault
-        → LeftDevices rules box bytes trace old new fault
-    left_within unread failed (Capture fault) within before none (h, no_failure) =
-        inr (record {
-          taken_so_far = so_far h.reached;
-          few = h.few;
-          ending = h.ending;
-          ends = h.ends;
-          refused = h.refused;
-          sent = h.all.all_sent;
-          report = h.all.all_lines;
-          all_read = no_failure ∙ before;
-        })
-    left_within unread failed Device within before none (inl (inl (c, fails))) =
-        failed_read (record {
-          taken_so_far = so_far c.reached;
-          few = c.few;
-          torn = c.torn;
-          ends = c.ends;
-          sent = c.all.all_sent;
-          report = c.all.all_lines;
-          failed = fails ∙ ap one_more before;
-        })
-    left_within unread failed Device within before none (inl (inr (h, no_failure))) =
-        failed_write (record {
-          taken_so_far = so_far h.reached;
-          few = h.few;
-          sent = h.part.part_sent;
-          report = h.part.part_lines;
-          all_read = no_failure ∙ before;
-        })
-    left_within unread failed Device within before none (inr (u, fails)) =
-        failed_report (record {
-          taken_so_far = so_far u.reached;
-          few = u.few;
-          torn = u.torn;
-          ends = u.ends;
-          sent = u.unfinished.all_sent;
-          report = u.unfinished.part_lines;
-          failed = fails;
-        })
-    left_within unread failed Memory within before none (inl (l, no_failure)) =
-        inr (record {
-          taken_so_far = so_far l.reached;
-          untaken = l.untaken;
-          is_record = l.is_record;
-          more = l.more;
-          read = l.read;
-          few = l.few;
-          sent = l.all.all_sent;
-          report = l.all.all_lines;
-          all_read = no_failure ∙ before;
-        })
-    left_within unread failed Memory within before none (inr (same, kept, no_failure)) =
-        inl (none same kept (no_failure ∙ before))
-    left_within unread failed _ within before none says = absurd within
-
 -- ---- before the first record
 
--- what a reader gave and has left
-unbegun : (bytes part : List ℕ) (old new : Devices) (unread : Option (List ℕ)) → new.unread ≡ unread
-    → Consumes (Some bytes) unread part → length part ≤ READ_AHEAD → Untouched old new
-    → new.reads_failed ≡ old.reads_failed → NothingTaken bytes old new
-unbegun bytes part old new None e takes few kept no_failure = absurd takes
-unbegun bytes part old new (Some left) e takes few kept no_failure = record {
+-- what a reader gave of known bytes and has left
+consumed : (input unread : Option (List ℕ)) (part : List ℕ) {P : List ℕ → Type 0} → Consumes input unread part
+    → ((bytes left : List ℕ) → unread ≡ Some left → bytes ≡ part ++ left → P bytes) → IfSome input P
+consumed None unread part takes h = tt
+consumed (Some bytes) None part takes h = absurd takes
+consumed (Some bytes) (Some left) part takes h = h bytes left refl takes
+
+-- no record was processed
+pub nothing_taken : (input : Option (List ℕ)) (old new : Devices) (part : List ℕ) → Consumes input new.unread part
+    → length part ≤ READ_AHEAD → Untouched old new → new.reads_failed ≡ old.reads_failed
+    → IfSome input (λ bytes. NothingTaken bytes old new)
+nothing_taken input old new part takes few kept no_failure =
+    consumed input new.unread part takes (λ bytes left e joined. record {
   part = part;
   left = left;
   unread = e;
-  joined = takes;
+  joined = joined;
   few = few;
   untouched = kept;
   all_read = no_failure;
-}
+})
 
 -- a read failed before the header was there
-pub left_unopened : (rules box : List ℕ) (accepted : Accepted rules box) (trace : Bool) (input : Option (List ℕ))
+pub left_unopened : {rules box : List ℕ} (accepted : Accepted rules box) (trace : Bool) (input : Option (List ℕ))
     (old new : Devices) (part : List ℕ) → Consumes input new.unread part → length part < HEADER_BYTES
-    → Untouched old new
-    → new.reads_failed ≡ one_more old.reads_failed → IfSome input (λ bytes.
-    LeftDevices rules box bytes trace old new Device)
-left_unopened rules box accepted trace None old new part takes short kept failed = tt
-left_unopened rules box accepted trace (Some bytes) old new part takes short kept failed = by_rest new.unread refl takes
-  where
-    by_rest : (rest : Option (List ℕ)) → new.unread ≡ rest → Consumes (Some bytes) rest part
-        → LeftDevices rules box bytes trace old new Device
-    by_rest None e h = absurd h
-    by_rest (Some left) e h = failed_header_read (record {
+    → Untouched old new → new.reads_failed ≡ one_more old.reads_failed
+    → IfSome input (λ bytes. LeftDevices rules box bytes trace old new Device)
+left_unopened accepted trace input old new part takes short kept failed =
+    consumed input new.unread part takes (λ bytes left e joined. failed_header_read (record {
       accepted = accepted;
       part = part;
       left = left;
       unread = e;
-      joined = h;
+      joined = joined;
       short = short;
       untouched = kept;
       failed = failed;
-    })
+    }))
 
 -- the header is refused
-pub left_unread : (rules box : List ℕ) (trace : Bool) (input : Option (List ℕ)) (old new : Devices) (part : List ℕ)
-    (fault : CaptureFault) → Consumes input new.unread part → length part ≤ READ_AHEAD → Untouched old new
-    → new.reads_failed ≡ old.reads_failed → IfSome input (λ bytes. header_fault bytes ≡ Some fault)
+pub left_unread : (rules box : List ℕ) (trace : Bool) (input : Option (List ℕ)) (old new : Devices) (fault : CaptureFault)
+    → IfSome input (λ bytes. NothingTaken bytes old new) → IfSome input (λ bytes. header_fault bytes ≡ Some fault)
     → IfSome input (λ bytes. LeftDevices rules box bytes trace old new (Capture fault))
-left_unread rules box trace None old new part fault takes few kept no_failure refused = tt
-left_unread rules box trace (Some bytes) old new part fault takes few kept no_failure refused = inl (
-  refused,
-  unbegun bytes part old new new.unread refl takes few kept no_failure,
-)
+left_unread rules box trace None old new fault nothing refused = tt
+left_unread rules box trace (Some bytes) old new fault nothing refused = inl (refused, nothing)
 
--- an allocation failed before anything was written
-pub left_untouched : (rules box : List ℕ) (trace : Bool) (input : Option (List ℕ)) (old new : Devices) (part : List ℕ)
-    → Consumes input new.unread part → length part ≤ READ_AHEAD → Untouched old new
-    → new.reads_failed ≡ old.reads_failed → IfSome input (λ bytes. LeftDevices rules box bytes trace old new Memory)
-left_untouched rules box trace None old new part takes few kept no_failure = tt
-left_untouched rules box trace (Some bytes) old new part takes few kept no_failure =
-    inl (unbegun bytes part old new new.unread refl takes few kept no_failure)
-
--- a fault of the texts, or a failed allocation: nothing was read
-pub left_of_texts : (rules box : List ℕ) (trace : Bool) (input : Option (List ℕ)) (old new : Devices) (fault : RunFault)
-    → Consumes input new.unread [] → Untouched old new → new.reads_failed ≡ old.reads_failed
-    → JudgeRefuses rules box fault
-    → IfSome input (λ bytes. LeftDevices rules box bytes trace old new fault)
-left_of_texts rules box trace None old new fault takes kept no_failure of = tt
-left_of_texts rules box trace (Some bytes) old new (Rules fault) takes kept no_failure of = kept
-left_of_texts rules box trace (Some bytes) old new (Box fault) takes kept no_failure of = kept
-left_of_texts rules box trace (Some bytes) old new Memory takes kept no_failure of =
-    inl (unbegun bytes [] old new new.unread refl takes (omega arith) kept no_failure)
-left_of_texts rules box trace (Some bytes) old new _ takes kept no_failure of = absurd of
+-- a fault of the texts, or a failed allocation
+pub left_of_texts : (rules box : List ℕ) (trace : Bool) {bytes : List ℕ} {old new : Devices} (fault : RunFault)
+    → JudgeRefuses rules box fault → NothingTaken bytes old new → LeftDevices rules box bytes trace old new fault
+left_of_texts rules box trace (Rules fault) of nothing = nothing.untouched
+left_of_texts rules box trace (Box fault) of nothing = nothing.untouched
+left_of_texts rules box trace Memory of nothing = inl nothing
+left_of_texts rules box trace _ of nothing = absurd of
 
 -- ---- the texts that were checked
 
 -- are accepted
-abbrev pub accepted_of : (rules box : List ℕ) (checked : CheckedTree) → IsChecked rules box checked → Accepted rules box
-accepted_of rules box checked fine = record {
+abbrev pub accepted_of : {rules box : List ℕ} {checked : CheckedTree} → IsChecked rules box checked → Accepted rules box
+accepted_of {checked = checked} fine = record {
   setup = setup_of checked;
   spelled = fine.spelled;
   read = fine.read;
@@ -327,19 +195,20 @@ accepted_of rules box checked fine = record {
 }
 
 -- a fault behind the header, over the reader as `Capture::open` left it
-pub left_all : (rules box : List ℕ) (trace : Bool) (accepted : Accepted rules box) (setup : Setup) (format : Format)
-    (input to_come : Option (List ℕ)) (old new : Devices) (unread : Option (List ℕ)) (failed : ℕ) (part : List ℕ)
-    (fault : RunFault)
+pub left_all : {rules box : List ℕ} (accepted : Accepted rules box) (input : Option (List ℕ)) {setup : Setup} (trace : Bool)
+    (records : CaptureState) (old new : Devices) (unread : Option (List ℕ)) (failed : ℕ) (part : List ℕ) (fault : RunFault)
     → failed ≡ old.reads_failed → Consumes input unread part → length part ≤ READ_AHEAD → setup ≡ accepted.setup
-    → Opened input to_come format → IsWithin fault
-    → ((bytes : List ℕ) → to_come ≡ Some bytes
-    → FaultLeaves setup trace format bytes (opened_of old unread failed) new fault)
+    → Opened input (unread_input records unread) records.format
+    → LeavesPrefix setup trace records fault (record old { unread = unread; reads_failed = failed }) new
     → IfSome input (λ bytes. LeftDevices rules box bytes trace old new fault)
-left_all rules box trace accepted setup format None to_come old new unread failed part fault before takes few same
-    opened within says = tt
-left_all rules box trace accepted setup format (Some bytes) to_come old new unread failed part fault before takes few
-    same opened within says =
-    left_within trace accepted format bytes old new opened.1 unread failed fault within before
-    (λ left kept all_read. unbegun bytes part old new unread left takes few kept all_read)
-    (subst (λ (s : Setup). FaultLeaves s trace format (drop HEADER_BYTES bytes) (opened_of old unread failed) new fault)
-    same (says _ opened.2))
+left_all accepted None trace records old new unread failed part fault before takes few same is says = tt
+left_all {rules} {box} accepted (Some bytes) trace records old new unread failed part fault before takes few same is says =
+    by (says rules box bytes accepted is.1 old.unread same is.2)
+  where
+    by : LeftDevices rules box bytes trace (record old { reads_failed = failed }) new fault ⊎ ((fault ≡ Memory)
+        × Unchanged (record old { unread = unread; reads_failed = failed }) new)
+        → LeftDevices rules box bytes trace old new fault
+    by (inl h) = subst (λ (n : ℕ). LeftDevices rules box bytes trace (record old { reads_failed = n }) new fault) before h
+    by (inr (of, h)) =
+        subst (LeftDevices rules box bytes trace old new) (sym of) (inl (nothing_taken (Some bytes) old new part
+        (subst (λ (u : Option (List ℕ)). Consumes (Some bytes) u part) (sym h.0) takes) few h.1 (h.2 ∙ before)))

@@ -11,10 +11,10 @@ pub use Rattle.engine.specs.declared.fault.RunFault.TheVariants.{Box, Capture, D
 pub use Rattle.engine.specs.declared.judging.Counts.{Counts}
 pub use Rattle.engine.specs.declared.replay.Replay.{Replay}
 pub use Rattle.engine.specs.steps.Inputs.{IsChecked, Laws}
-pub use Rattle.engine.specs.steps.Replayed.{AllWritten, BeginsWithRecords, BreaksAtRecord, CountsWriteFault, FaultLeaves, FinishFails, HaltedByWrite}
-pub use Rattle.engine.specs.steps.Replayed.{Interrupts, IsStop, IsWithin, LeavesPrefix, OutputsFinished, OutputsWritten, PrefixWritten, ReadSoFar}
-pub use Rattle.engine.specs.steps.Replayed.{ReplayRepresents, ReplayStart, Replayed, ReportUnfinished, RepresentsSome, TakesRecord, Writers, WritesOutputs}
-pub use Rattle.engine.specs.steps.Replayed.{ending_at, sent_records, start_of, torn_at, unread_input}
+pub use Rattle.engine.specs.steps.Replayed.{AllWritten, BeginsWithRecords, BreaksAtRecord, CountsWriteFault, FinishFails, IsBegun, IsStop, IsWithin}
+pub use Rattle.engine.specs.steps.Replayed.{LeavesOf, LeavesPrefix, OutputsFinished, PrefixWritten, ReplayInput, ReplayRepresents, ReplayStart}
+pub use Rattle.engine.specs.steps.Replayed.{Replayed, ReportUnfinished, RepresentsSome, TakesRecord, Unchanged, Writers, WritesOutputs, ending_at, input_at}
+pub use Rattle.engine.specs.steps.Replayed.{sent_records, start_of, torn_at, unread_input}
 pub use Rattle.history.specs.History.{Entry, IsEntry, IsNewest, capture_text, in_order, live_in, sends}
 pub use Rattle.history.specs.Setup.{Setup}
 pub use Rattle.nft_tree.specs.Tree.{TableTree, table_tree, tables_of}

@@ -1,10 +1,10 @@
 -- The records of a capture, one after another.
-use Rattle.engine.proofs.Names.{◌++◌, ◌<◌, All, AllWritten, BeginsWithRecords, Bool, BreaksAtRecord, CaptureFault, CaptureState, Captured, Consumes, Ending}
-use Rattle.engine.proofs.Names.{Ends, Entry, Err, FailsBetween, Format, IfSome, Interrupts, IsAtEnd, IsHistoryOf, IsOfRecords, IsPartialRecord, IsRecord, List}
-use Rattle.engine.proofs.Names.{Malformed, Next, NextAnswers, None, Ok, Option, Over, PrefixWritten, READ_AHEAD, ReadSoFar, ReadsRecord, Recorded, Refused}
-use Rattle.engine.proofs.Names.{Replay, ReplayRepresents, ReplayStart, Replayed, Setup, Some, TakesRecord, Torn, Whole, [], ahead, ap, append-nil, append_assoc}
-use Rattle.engine.proofs.Names.{arith, decoded_records, ending_at, ending_of, false, flat_map-append, frame, inl, inr, length, length-append, max, one_more}
-use Rattle.engine.proofs.Names.{own_moment, refl, stream_of, subst, suc, sym, torn_at, true, unread_input, zero, ℕ, ◌∙◌, ◌∷◌, ◌≡◌, ◌≤◌}
+use Rattle.engine.proofs.Names.{◌++◌, ◌<◌, All, AllWritten, BeginsWithRecords, Bool, BreaksAtRecord, CaptureFault, CaptureState, Captured, Consumes, Devices, Ending}
+use Rattle.engine.proofs.Names.{Ends, Entry, Err, FailsBetween, Format, HEADER_BYTES, IfSome, IsAtEnd, IsHistoryOf, IsOfRecords, IsPartialRecord, IsRecord, LeavesOf, List}
+use Rattle.engine.proofs.Names.{Malformed, Next, NextAnswers, None, Ok, Option, Over, PrefixWritten, READ_AHEAD, ReadsRecord, Recorded, RecordsTaken, Refused}
+use Rattle.engine.proofs.Names.{Replay, ReplayInput, ReplayRepresents, Replayed, Some, TakesRecord, Torn, Whole, [], ahead, ap, append-nil, append_assoc}
+use Rattle.engine.proofs.Names.{arith, decoded_records, drop, ending_at, ending_of, failed_read, failed_write, false, flat_map-append, frame, inl, inr, length, length-append, max}
+use Rattle.engine.proofs.Names.{one_more, own_moment, refl, rules, start_of, stream_of, subst, suc, sym, torn_at, true, unread_input, zero, ℕ, ◌∙◌, ◌∷◌, ◌≡◌, ◌≤◌}
 use Rattle.engine.proofs.Histories.{is_history_more, latest_after, latest_more, decoded_more}
 use Rattle.std.proofs.lemmas.List.Elements.{All-append}
 use Rattle.std.specs.Prelude.{cond, slice_index_or}
@@ -15,22 +15,22 @@ use Rattle.pcap_io.specs.declared.fault.CaptureFault.TheVariants as captures
 use Rattle.engine.specs.declared.fault.RunFault.TheVariants as faults
 
 -- these records were taken, and the reader has these bytes left behind those that are held
-pub record Carried (replay : Replay) (start : ReplayStart) (format : Format) (bytes : List ℕ)
-    (unread w r : Option (List ℕ)) : Type 0 where
+pub record Carried (replay : Replay) (input : ReplayInput) (unread w r : Option (List ℕ)) : Type 0 where
   pub rest : List ℕ
   pub left : List ℕ
   pub is_left : unread ≡ Some left
   pub rest_is : rest ≡ replay.records.held ++ left
   pub history : List Entry
-  pub follows : BeginsWithRecords start.setup format bytes rest history
+  pub follows : BeginsWithRecords input rest history
+  pub same : replay.records.format ≡ input.format
   pub counted : replay.records.count ≡ length follows.records
-  pub latest_is : replay.records.latest ≡ latest_after format 0 follows.records
-  pub replay_represents : ReplayRepresents replay start history w r
+  pub latest_is : replay.records.latest ≡ latest_after input.format 0 follows.records
+  pub replay_represents : ReplayRepresents replay (start_of input) history w r
 
 -- none was read yet
-abbrev pub none_yet : (setup : Setup) (format : Format) (bytes rest : List ℕ) → Some rest ≡ Some bytes
-    → BeginsWithRecords setup format bytes rest []
-none_yet setup format bytes rest is = record {
+abbrev pub none_yet : (input : ReplayInput) (rest : List ℕ) → Some rest ≡ Some (drop HEADER_BYTES input.capture)
+    → BeginsWithRecords input rest []
+none_yet input rest is = record {
   records = [];
   joined = sym (same_Some _ _ is);
   each = λ k d lt. absurd (omega (arith, lt));
@@ -39,18 +39,20 @@ none_yet setup format bytes rest is = record {
 }
 
 -- before the first record
-pub begun : (replay : Replay) (start : ReplayStart) (bytes : List ℕ) (unread w r : Option (List ℕ))
-    → replay.records.count ≡ 0 → replay.records.latest ≡ 0 → unread_input replay.records unread ≡ Some bytes
-    → ReplayRepresents replay start [] w r → Carried replay start replay.records.format bytes unread w r
-begun replay start bytes None w r none early is p = cc
-begun replay start bytes (Some left) w r none early is p =
+pub begun : (replay : Replay) (input : ReplayInput) (unread w r : Option (List ℕ)) → replay.records.count ≡ 0
+    → replay.records.latest ≡ 0 → replay.records.format ≡ input.format
+    → unread_input replay.records unread ≡ Some (drop HEADER_BYTES input.capture)
+    → ReplayRepresents replay (start_of input) [] w r → Carried replay input unread w r
+begun replay input None w r none early same is p = cc
+begun replay input (Some left) w r none early same is p =
     record {
       rest = replay.records.held ++ left;
       left = left;
       is_left = refl;
       rest_is = refl;
       history = [];
-      follows = none_yet start.setup replay.records.format bytes (replay.records.held ++ left) is;
+      follows = none_yet input (replay.records.held ++ left) is;
+      same = same;
       counted = none;
       latest_is = early;
       replay_represents = p;
@@ -90,22 +92,23 @@ still_left s before after left part rest is takes at_end e =
     }
 
 -- so far these records
-abbrev pub reached : {setup : Setup} {format : Format} {bytes rest : List ℕ} {unread : Option (List ℕ)}
-    {history : List Entry} (ahead left : List ℕ) → unread ≡ Some left → rest ≡ ahead ++ left
-    → BeginsWithRecords setup format bytes rest history → ReadSoFar setup format bytes unread
-reached {history = history} ahead left is e f =
+abbrev pub so_far : {input : ReplayInput} {rest : List ℕ} {history : List Entry} (new : Devices) (ahead left : List ℕ)
+    → new.unread ≡ Some left → rest ≡ ahead ++ left → BeginsWithRecords input rest history
+    → RecordsTaken input.rules input.box input.capture new
+so_far {input} {rest} {history} new ahead left is e f =
     record {
+      accepted = input.accepted;
+      format = input.format;
+      header = input.header;
+      records = f.records;
       ahead = ahead;
       left = left;
-      is_left = is;
+      joined = f.joined ∙ ap (stream_of f.records) e;
+      unread = is;
+      each = f.each;
+      not_over = f.not_over;
       history = history;
-      follows = record {
-        records = f.records;
-        joined = f.joined ∙ ap (stream_of f.records) e;
-        each = f.each;
-        not_over = f.not_over;
-        is_history = f.is_history;
-      };
+      is_history = f.is_history;
     }
 
 stream_more : (records : List Captured) (last : Captured) (rest : List ℕ)
@@ -123,19 +126,18 @@ each_more format records last each is = All-append (IsRecord format) records (la
 -- ---- more records
 
 -- what is known of one more record
-record Further (start : ReplayStart) (format : Format) (bytes before : List ℕ) (after : Option (List ℕ))
-    (new : CaptureState) (taken : Recorded) (history : List Entry) : Type 0 where
+record Further (input : ReplayInput) (before : List ℕ) (after : Option (List ℕ)) (new : CaptureState) (taken : Recorded)
+    (history : List Entry) : Type 0 where
   captured : Captured
-  is_record : IsRecord format captured
+  is_record : IsRecord input.format captured
   rest : List ℕ
   joined : before ≡ frame captured ++ rest
   left : BytesLeft new after rest
   last_is : new.last ≡ Some taken
-  follows : (e : Entry) → Next start.setup history taken e
-      → BeginsWithRecords start.setup format bytes rest (e ∷ history)
-  counted : (e : Entry) (n : Next start.setup history taken e) → new.count ≡ length (follows e n).records
-  latest_is : (e : Entry) (n : Next start.setup history taken e)
-      → new.latest ≡ latest_after format 0 (follows e n).records
+  follows : (e : Entry) → Next input.accepted.setup history taken e → BeginsWithRecords input rest (e ∷ history)
+  counted : (e : Entry) (n : Next input.accepted.setup history taken e) → new.count ≡ length (follows e n).records
+  latest_is : (e : Entry) (n : Next input.accepted.setup history taken e)
+      → new.latest ≡ latest_after input.format 0 (follows e n).records
 
 -- what a call of `next` says of the reader
 pub record Fetched (old new : CaptureState) (before after : Option (List ℕ)) : Type 0 where
@@ -144,10 +146,10 @@ pub record Fetched (old new : CaptureState) (before after : Option (List ℕ)) :
   pub drained : new.ended ≡ true → IsAtEnd after
 
 -- what is known of a call of the capture behind these records
-pub record AtRead (replay : Replay) (new : CaptureState) (start : ReplayStart) (format : Format) (bytes : List ℕ)
-    (unread after w r : Option (List ℕ)) : Type 0 where
-  pub carried : Carried replay start format bytes unread w r
-  pub same : replay.records.format ≡ format
+pub record AtRead (replay : Replay) (new : CaptureState) (input : ReplayInput) (unread after w r : Option (List ℕ))
+    : Type 0 where
+  pub carried : Carried replay input unread w r
+  pub kept : new.format ≡ replay.records.format
   pub fetched : Fetched replay.records new unread after
   pub few : length new.held ≤ READ_AHEAD
 
@@ -161,15 +163,14 @@ fetched new same at_end takes drains = record {
   drained = drains (λ e. at_end (sym (ap (λ (s : CaptureState). s.ended) same) ∙ e));
 }
 
-abbrev pub read_after : {before replay : Replay} (new : CaptureState) {start : ReplayStart} {format : Format}
-    {bytes : List ℕ} {unread after w w' r r' : Option (List ℕ)} → replay.records ≡ before.records
+abbrev pub read_after : {before replay : Replay} (new : CaptureState) {input : ReplayInput}
+    {unread after w w' r r' : Option (List ℕ)} → replay.records ≡ before.records
     → (before.records.ended ≡ true → IsAtEnd unread) → ((part : List ℕ) × Consumes unread after part)
     → ((replay.records.ended ≡ true → IsAtEnd unread) → new.ended ≡ true → IsAtEnd after)
-    → before.records.format ≡ format → (c : Carried before start format bytes unread w r)
-    → ((history : List Entry) → ReplayRepresents before start history w r
-    → ReplayRepresents replay start history w' r') → length new.held ≤ READ_AHEAD
-    → AtRead replay new start format bytes unread after w' r'
-read_after new same at_end takes drains kept c still few =
+    → new.format ≡ replay.records.format → length new.held ≤ READ_AHEAD → (c : Carried before input unread w r)
+    → ((history : List Entry) → ReplayRepresents before (start_of input) history w r
+    → ReplayRepresents replay (start_of input) history w' r') → AtRead replay new input unread after w' r'
+read_after new same at_end takes drains kept few c still =
     record {
       carried = record {
         rest = c.rest;
@@ -178,11 +179,12 @@ read_after new same at_end takes drains kept c still few =
         rest_is = c.rest_is ∙ ap (λ (s : CaptureState). s.held ++ c.left) (sym same);
         history = c.history;
         follows = c.follows;
+        same = ap (λ (s : CaptureState). s.format) same ∙ c.same;
         counted = ap (λ (s : CaptureState). s.count) same ∙ c.counted;
         latest_is = ap (λ (s : CaptureState). s.latest) same ∙ c.latest_is;
         replay_represents = still c.history c.replay_represents;
       };
-      same = ap (λ (s : CaptureState). s.format) same ∙ kept;
+      kept = kept;
       fetched = fetched new same at_end takes drains;
       few = few;
     }
@@ -197,15 +199,20 @@ part_ends format count held (inl whole) = (false, whole)
 part_ends format count held (inr torn) = (true, torn)
 
 -- it stops where a prefix of the output is written
-pub halted : {replay : Replay} {start : ReplayStart} {format : Format} {bytes : List ℕ} {unread w r : Option (List ℕ)}
-    (c : Carried replay start format bytes unread w r) (w' r' : Option (List ℕ)) (before failed : ℕ)
-    → failed ≡ before → length replay.records.held ≤ READ_AHEAD → PrefixWritten start c.history w' r'
-    → Interrupts start format bytes unread w' r' before failed faults.Device
-halted c w' r' before failed none few part =
-    inr (record { reached = reached _ c.left c.is_left c.rest_is c.follows; few = few; part = part }, none)
+pub halted : {replay : Replay} {input : ReplayInput} {w r : Option (List ℕ)} (new : Devices) (failed : ℕ)
+    (c : Carried replay input new.unread w r) → new.reads_failed ≡ failed → length replay.records.held ≤ READ_AHEAD
+    → PrefixWritten (start_of input) c.history new.sent new.report → LeavesOf input failed new faults.Device
+halted new failed c none few part =
+    failed_write (record {
+      taken_so_far = so_far new _ c.left c.is_left c.rest_is c.follows;
+      few = few;
+      sent = part.part_sent;
+      report = part.part_lines;
+      all_read = none;
+    })
 
-module _ {replay : Replay} {new : CaptureState} {start : ReplayStart} {format : Format} {bytes : List ℕ}
-    {unread after w r : Option (List ℕ)} (call : AtRead replay new start format bytes unread after w r)
+module _ {replay : Replay} {new : CaptureState} {input : ReplayInput} {unread after w r : Option (List ℕ)}
+    (call : AtRead replay new input unread after w r)
   where
     -- what the call says of the bytes to come
     said : (P : List ℕ → Type 0) → IfSome (ahead replay.records unread) P → P call.carried.rest
@@ -219,15 +226,8 @@ module _ {replay : Replay} {new : CaptureState} {start : ReplayStart} {format : 
     leaves rest e = still_left new unread after call.carried.left call.fetched.takes.0 rest call.carried.is_left
         call.fetched.takes.1 call.fetched.drained e
 
-    pub still : ReplayRepresents (read_on replay new) start call.carried.history w r
-    still = record {
-      same = call.carried.replay_represents.same;
-      represents = call.carried.replay_represents.represents;
-      gets = call.carried.replay_represents.gets;
-      lines = call.carried.replay_represents.lines;
-      reports = call.carried.replay_represents.reports;
-      appends_report = call.carried.replay_represents.appends_report;
-    }
+    pub still : ReplayRepresents (read_on replay new) (start_of input) call.carried.history w r
+    still = let p = call.carried.replay_represents in search rules
 
     -- ---- at a record
 
@@ -235,11 +235,11 @@ module _ {replay : Replay} {new : CaptureState} {start : ReplayStart} {format : 
     ReadsOn = IfSome (ahead replay.records unread) (λ bytes.
         NextAnswers bytes (ahead new after) replay.records new (Ok true))
 
-    further : ReadsOn
-        → (taken : Recorded) × Further start format bytes call.carried.rest after new taken call.carried.history
+    further : ReadsOn → (taken : Recorded) × Further input call.carried.rest after new taken call.carried.history
     further says =
         let c = call.carried in
-        let same = call.same in
+        let format = input.format in
+        let same = c.same in
         let reads : ReadsRecord c.rest (ahead new after) replay.records new =
         said (λ rest. NextAnswers rest (ahead new after) replay.records new (Ok true)) says in
         let is : IsRecord format reads.captured = subst (λ (f : Format). IsRecord f reads.captured) same reads.is_record in
@@ -281,8 +281,8 @@ module _ {replay : Replay} {new : CaptureState} {start : ReplayStart} {format : 
               each = each_more format c.follows.records reads.captured c.follows.each is;
               not_over = let e = c.counted in let f = reads.fewer in
                   omega (arith, e, f, length-append c.follows.records (reads.captured ∷ []));
-              is_history = subst (λ (rs : List Recorded). IsHistoryOf start.setup [] rs (e ∷ c.history))
-                  (sym appends_report) (is_history_more start.setup [] (decoded_records format c.follows.records) taken
+              is_history = subst (λ (rs : List Recorded). IsHistoryOf input.accepted.setup [] rs (e ∷ c.history))
+                  (sym appends_report) (is_history_more input.accepted.setup [] (decoded_records format c.follows.records) taken
                   c.history e c.follows.is_history n);
             };
             counted = λ e n. count_now;
@@ -293,12 +293,13 @@ module _ {replay : Replay} {new : CaptureState} {start : ReplayStart} {format : 
 
     -- it was processed
     pub more : (replay' : Replay) (w' : Option (List ℕ)) → ReadsOn
-        → IfSome new.last (λ taken. TakesRecord replay' start call.carried.history taken w' r) → replay'.records ≡ new
-        → Carried replay' start format bytes after w' r
+        → IfSome new.last (λ taken. TakesRecord replay' (start_of input) call.carried.history taken w' r)
+        → replay'.records ≡ new → Carried replay' input after w' r
     more replay' w' says takes is =
         let f = further says in
-        let t : TakesRecord replay' start call.carried.history f.0 w' r =
-        IfSome_at new.last (λ taken. TakesRecord replay' start call.carried.history taken w' r) f.0 f.1.last_is takes in
+        let t : TakesRecord replay' (start_of input) call.carried.history f.0 w' r =
+        IfSome_at new.last (λ taken. TakesRecord replay' (start_of input) call.carried.history taken w' r) f.0 f.1.last_is takes
+        in
         record {
           rest = f.1.rest;
           left = f.1.left.left;
@@ -306,67 +307,82 @@ module _ {replay : Replay} {new : CaptureState} {start : ReplayStart} {format : 
           rest_is = f.1.left.joined ∙ ap (λ (s : CaptureState). s.held ++ f.1.left.left) (sym is);
           history = t.entry ∷ call.carried.history;
           follows = f.1.follows t.entry t.next;
+          same = ap (λ (s : CaptureState). s.format) is ∙ call.kept ∙ call.carried.same;
           counted = ap (λ (s : CaptureState). s.count) is ∙ f.1.counted t.entry t.next;
           latest_is = ap (λ (s : CaptureState). s.latest) is ∙ f.1.latest_is t.entry t.next;
           replay_represents = t.replay_represents;
         }
 
-    -- a prefix of its output is written
-    pub halted_at : (w' r' : Option (List ℕ)) (before failed : ℕ) → failed ≡ before → ReadsOn
-        → IfSome new.last (λ taken. BreaksAtRecord start call.carried.history taken w' r')
-        → Interrupts start format bytes after w' r' before failed faults.Device
-    halted_at w' r' before failed none says breaks =
-        let f = further says in
-        let b : BreaksAtRecord start call.carried.history f.0 w' r' =
-        IfSome_at new.last (λ taken. BreaksAtRecord start call.carried.history taken w' r') f.0 f.1.last_is breaks in
-        let l = f.1.left in
-        let at = reached new.held l.left l.is_left l.joined (f.1.follows b.entry b.next) in
-        inr (record { reached = at; few = call.few; part = b.part }, none)
+    module _ (now : Devices) (failed : ℕ) (is : now.unread ≡ after) where
+      -- a prefix of its output is written
+      pub halted_at : now.reads_failed ≡ failed → ReadsOn
+          → IfSome new.last (λ taken. BreaksAtRecord (start_of input) call.carried.history taken now.sent now.report)
+          → LeavesOf input failed now faults.Device
+      halted_at none says breaks =
+          let f = further says in
+          let b : BreaksAtRecord (start_of input) call.carried.history f.0 now.sent now.report =
+          IfSome_at new.last (λ taken. BreaksAtRecord (start_of input) call.carried.history taken now.sent now.report) f.0
+          f.1.last_is breaks in
+          let l = f.1.left in
+          failed_write (record {
+            taken_so_far = so_far now new.held l.left (is ∙ l.is_left) l.joined (f.1.follows b.entry b.next);
+            few = call.few;
+            sent = b.part.part_sent;
+            report = b.part.part_lines;
+            all_read = none;
+          })
 
-    -- an allocation failed, and all output before it is written
-    pub lacks : (w' r' : Option (List ℕ)) (before failed : ℕ) → failed ≡ before → ReadsOn
-        → AllWritten start call.carried.history w' r'
-        → Interrupts start format bytes after w' r' before failed faults.Memory
-    lacks w' r' before failed none says all =
-        let f = further says in (
-          record {
-            reached = reached (frame f.1.captured ++ new.held) f.1.left.left f.1.left.is_left
-                (f.1.joined ∙ ap (λ xs. frame f.1.captured ++ xs) f.1.left.joined
-                ∙ sym (append_assoc (frame f.1.captured) new.held f.1.left.left)) call.carried.follows;
+      -- an allocation failed, and all output before it is written
+      pub lacks : now.reads_failed ≡ failed → ReadsOn
+          → AllWritten (start_of input) call.carried.history now.sent now.report
+          → LeavesOf input failed now faults.Memory
+      lacks none says all =
+          let f = further says in
+          let l = f.1.left in
+          inr (record {
+            taken_so_far = so_far now (frame f.1.captured ++ new.held) l.left (is ∙ l.is_left)
+                (f.1.joined ∙ ap (λ xs. frame f.1.captured ++ xs) l.joined
+                ∙ sym (append_assoc (frame f.1.captured) new.held l.left)) call.carried.follows;
             untaken = f.1.captured;
             is_record = f.1.is_record;
             more = new.held;
             read = refl;
             few = call.few;
-            all = all;
-          },
-          none,
-        )
+            sent = all.all_sent;
+            report = all.all_lines;
+            all_read = none;
+          })
 
-    -- ---- at a failed read, before which all output was written
-
-    pub cut : (before failed : ℕ) → failed ≡ one_more before → IfSome (ahead replay.records unread) (λ bytes.
-        NextAnswers bytes (ahead new after) replay.records new (Err errors.Device))
-        → new.format ≡ replay.records.format → new.count ≡ replay.records.count
-        → AllWritten start call.carried.history w r
-        → Interrupts start format bytes after w r before failed faults.Device
-    cut before failed fails says kept count all =
-        let c = call.carried in
-        let b : FailsBetween c.rest (ahead new after) new =
-        said (λ rest. NextAnswers rest (ahead new after) replay.records new (Err errors.Device)) says in
-        let l = leaves c.rest b.lost_none in
-        let part : IsPartialRecord format (length c.follows.records) new.held =
-        subst (λ (n : ℕ). IsPartialRecord format n new.held) (count ∙ c.counted)
-        (subst (λ (f : Format). IsPartialRecord f new.count new.held) (kept ∙ call.same) b.part) in
-        let ends = part_ends format (length c.follows.records) new.held part in
-        let at = reached new.held l.left l.is_left l.joined c.follows in
-        inl (record { reached = at; few = call.few; torn = ends.0; ends = ends.1; all = all }, fails)
+      -- a read failed, before which all output was written
+      pub cut : now.reads_failed ≡ one_more failed → IfSome (ahead replay.records unread) (λ bytes.
+          NextAnswers bytes (ahead new after) replay.records new (Err errors.Device))
+          → new.count ≡ replay.records.count
+          → AllWritten (start_of input) call.carried.history now.sent now.report
+          → LeavesOf input failed now faults.Device
+      cut fails says count all =
+          let c = call.carried in
+          let b : FailsBetween c.rest (ahead new after) new =
+          said (λ rest. NextAnswers rest (ahead new after) replay.records new (Err errors.Device)) says in
+          let l = leaves c.rest b.lost_none in
+          let part : IsPartialRecord input.format (length c.follows.records) new.held =
+          subst (λ (n : ℕ). IsPartialRecord input.format n new.held) (count ∙ c.counted)
+          (subst (λ (f : Format). IsPartialRecord f new.count new.held) (call.kept ∙ c.same) b.part) in
+          let ends = part_ends input.format (length c.follows.records) new.held part in
+          failed_read (record {
+            taken_so_far = so_far now new.held l.left (is ∙ l.is_left) l.joined c.follows;
+            few = call.few;
+            torn = ends.0;
+            ends = ends.1;
+            sent = all.all_sent;
+            report = all.all_lines;
+            failed = fails;
+          })
 
     -- ---- where the bytes to come are no further record
 
     replayed : (ending : Ending) → IfSome (ahead replay.records unread) (λ rest.
         Ends replay.records.format ending replay.records.count rest × (ahead new after ≡ Some rest))
-        → Replayed (read_on replay new) start format bytes ending after w r
+        → Replayed (read_on replay new) input ending after w r
     replayed ending says =
         let c = call.carried in
         let s : Ends replay.records.format ending replay.records.count c.rest × (ahead new after ≡ Some c.rest) =
@@ -374,18 +390,28 @@ module _ {replay : Replay} {new : CaptureState} {start : ReplayStart} {format : 
         in
         let l = leaves c.rest s.1 in
         record {
-          reached = reached new.held l.left l.is_left l.joined c.follows;
+          ahead = new.held;
+          left = l.left;
+          is_left = l.is_left;
+          history = c.history;
+          follows = record {
+            records = c.follows.records;
+            joined = c.follows.joined ∙ ap (stream_of c.follows.records) l.joined;
+            each = c.follows.each;
+            not_over = c.follows.not_over;
+            is_history = c.follows.is_history;
+          };
           few = call.few;
-          ends = subst (Ends format ending (length c.follows.records)) l.joined (subst
-              (λ (n : ℕ). Ends format ending n c.rest) c.counted (subst
-              (λ (f : Format). Ends f ending replay.records.count c.rest) call.same s.0));
+          ends = subst (Ends input.format ending (length c.follows.records)) l.joined (subst
+              (λ (n : ℕ). Ends input.format ending n c.rest) c.counted (subst
+              (λ (f : Format). Ends f ending replay.records.count c.rest) c.same s.0));
           replay_represents = still;
         }
 
     -- at the end of the bytes
     pub ended : IfSome (ahead replay.records unread) (λ bytes.
         NextAnswers bytes (ahead new after) replay.records new (Ok false))
-        → Replayed (read_on replay new) start format bytes (ending_at None) after w r
+        → Replayed (read_on replay new) input (ending_at None) after w r
     ended says =
         replayed Whole (IfSome_weaker (ahead replay.records unread) (λ bytes.
         Ends replay.records.format Whole replay.records.count bytes × (ahead new after ≡ Some []))
@@ -395,7 +421,7 @@ module _ {replay : Replay} {new : CaptureState} {start : ReplayStart} {format : 
     -- at a fault of the records
     pub refused : (fault : CaptureFault) → IsOfRecords (Refused fault) → IfSome (ahead replay.records unread)
         (λ bytes. NextAnswers bytes (ahead new after) replay.records new (Err (Refused fault)))
-        → Replayed (read_on replay new) start format bytes (ending_at (Some fault)) after w r
+        → Replayed (read_on replay new) input (ending_at (Some fault)) after w r
     refused captures.TornEnd is says = replayed Torn says
     refused captures.Malformed is says = replayed Malformed says
     refused captures.TooMany is says = replayed Over says

@@ -1,12 +1,12 @@
 -- The two texts of a capture whose header is accepted, by how its records stop.
-use Rattle.engine.proofs.Names.{◌++◌, AppendsPrefix, Bool, Capture, CaptureFault, CaptureState, CountsFault, CountsWriteFault, Device, Devices, Ending, Ends}
-use Rattle.engine.proofs.Names.{Err, FaultLeaves, FinishFails, Format, HaltedByWrite, IfErr, IfErr-at_err, Interrupts, IsStop, IsWithin, Keeps, Keeps-refl}
-use Rattle.engine.proofs.Names.{LeavesPrefix, List, Memory, None, NoneFailed, Ok, Option, OutputsFinished, OutputsWritten, READ_AHEAD, Replay, ReplayStart}
-use Rattle.engine.proofs.Names.{Replayed, RunFault, Setup, Some, Writers, [], ap, append-nil, capture_text, ending_at, ending_of, false, fault_at, inl, inr}
-use Rattle.engine.proofs.Names.{length, one_more, part_none, part_same, refl, sll2_header, start_of, subst, sym, torn_at, true, unread_input, ℕ, ◌∙◌, ◌≡◌, ◌≤◌}
-use Rattle.engine.proofs.Names.{◌⊎◌}
+use Rattle.engine.proofs.Names.{◌++◌, AppendsPrefix, Bool, Capture, CaptureFault, CaptureState, CountsFault, CountsWriteFault, Device, Devices, Ending, Ends, Err}
+use Rattle.engine.proofs.Names.{FinishFails, HEADER_BYTES, IfErr, IfErr-at_err, IsBegun, IsStop, IsWithin, Keeps, Keeps-refl, LeavesOf, LeavesPrefix, List, Meaning}
+use Rattle.engine.proofs.Names.{None, NoneFailed, Ok, Option, READ_AHEAD, Replay, ReplayInput, ReplayRepresents, Replayed, RunFault, Setup, Some, Writers, []}
+use Rattle.engine.proofs.Names.{ap, append-nil, capture_text, drop, ending_at, ending_of, failed_report, failed_write, false, fault_at, inl, inr, input_at, length}
+use Rattle.engine.proofs.Names.{one_more, part_none, part_same, refl, report_text, sll2_header, start_of, subst, sym, torn_at, true, ℕ, ◌∙◌, ◌≡◌, ◌≤◌, ◌⊎◌}
 use Rattle.engine.proofs.Histories.{history_length}
-use Rattle.engine.proofs.Replays.{none_yet, reached}
+use Rattle.engine.proofs.Replays.{none_yet, so_far}
+use Rattle.std.specs.Io.KnownBytes.{prepend_known}
 use Rattle.pcap_io.specs.declared.sink.SinkError.{SinkError}
 use Rattle.engine.specs.declared.runs.Summary.{Summary}
 use Rattle.engine.specs.steps.Faults.{of_sink}
@@ -42,19 +42,28 @@ ending_torn _ torn e = cc
 -- ---- before the first record
 
 -- nothing but a beginning of the header was written
-halted_open : (start : ReplayStart) (s : CaptureState) (bytes : List ℕ) (unread w : Option (List ℕ))
-    → length s.held ≤ READ_AHEAD → AppendsPrefix start.sent w sll2_header → unread_input s unread ≡ Some bytes
-    → HaltedByWrite start s.format bytes unread w start.report
-halted_open start s bytes None w few part is = cc
-halted_open start s bytes (Some left) w few part is =
-    record {
-      reached = reached s.held left refl refl (none_yet start.setup s.format bytes (s.held ++ left) is);
+halted_open : (input : ReplayInput) (held : List ℕ) (new : Devices) (unread : Option (List ℕ)) → new.unread ≡ unread
+    → new.report ≡ input.before.report → new.reads_failed ≡ input.before.reads_failed → length held ≤ READ_AHEAD
+    → AppendsPrefix input.before.sent new.sent sll2_header
+    → prepend_known held unread ≡ Some (drop HEADER_BYTES input.capture)
+    → LeavesOf input input.before.reads_failed new Device
+halted_open input held new None e same none few part is = cc
+halted_open input held new (Some left) e same none few part is =
+    failed_write (record {
+      taken_so_far = so_far new held left e refl (none_yet input (held ++ left) is);
       few = few;
-      part = record {
-        part_sent = part_same start.sent w sll2_header (capture_text []) part (sym (append-nil sll2_header));
-        part_lines = part_none start.report [];
-      };
-    }
+      sent = part_same input.before.sent new.sent sll2_header (capture_text []) part (sym (append-nil sll2_header));
+      report = subst (λ (r : Option (List ℕ)). AppendsPrefix input.before.report r []) (sym same)
+          (part_none input.before.report []);
+      all_read = none;
+    })
+
+-- the replay that begins represents nothing of each accepted input of its configuration
+pub begins : {replay : Replay} {setup now : Setup} {trace : Bool} {w w' : Option (List ℕ)} → IsBegun replay setup trace w w'
+    → setup ≡ now → (r : Option (List ℕ))
+    → ReplayRepresents replay (record { setup = now; trace = trace; sent = w; report = r }) [] w' r
+begins {replay} {trace = trace} {w = w} {w' = w'} begun same r = subst (λ (s : Setup).
+    ReplayRepresents replay (record { setup = s; trace = trace; sent = w; report = r }) [] w' r) same (begun r)
 
 -- ---- by the fault
 
@@ -76,70 +85,86 @@ counts_ending Device old mid new none same (inr h) =
     inr (inr (same ∙ none.0, h.0 ∙ none.1, h.1 ∙ ap one_more none.2))
 counts_ending _ old mid new none same h = (same ∙ none.0, h.0 ∙ none.1, h.1 ∙ none.2)
 
-pub fault_leaves_interrupted : (setup : Setup) (trace : Bool) (format : Format) (bytes : List ℕ) (old new : Devices)
-    (fault : RunFault) → Interrupts (start_of setup trace old) format bytes new.unread new.sent new.report
-    old.reads_failed new.reads_failed fault → FaultLeaves setup trace format bytes old new fault
-fault_leaves_interrupted setup trace format bytes old new Device h = inl h
-fault_leaves_interrupted setup trace format bytes old new Memory h = inl h
-fault_leaves_interrupted setup trace format bytes old new _ h = absurd h
-
 -- before the first record: a prefix of the header is written, or an allocation failed
 pub fault_leaves_begun : (setup : Setup) (trace : Bool) (s : CaptureState) (old : Devices) (w : Option (List ℕ))
     (failed : ℕ) (error : SinkError) → length s.held ≤ READ_AHEAD → AppendsPrefix old.sent w sll2_header
     → (error ≡ sinks.Memory → Keeps old.sent w)
     → LeavesPrefix setup trace s (of_sink error) old (record old { sent = w; sends_failed = failed })
-fault_leaves_begun setup trace s old w failed sinks.Device few part none = λ bytes is.
-    inl (inr (halted_open (start_of setup trace old) s bytes old.unread w few part is, refl))
-fault_leaves_begun setup trace s old w failed sinks.Memory few part none = λ bytes is.
-    inr (refl, (none refl, Keeps-refl old.report), refl)
+fault_leaves_begun setup trace s old w failed sinks.Device few part none =
+    λ rules box capture accepted header unread same is.
+    inl (halted_open (input_at accepted capture header trace (record old { unread = unread })) s.held
+    (record old { sent = w; sends_failed = failed }) old.unread refl refl refl few part is)
+fault_leaves_begun setup trace s old w failed sinks.Memory few part none =
+    λ rules box capture accepted header unread same is. inr (refl, (refl, (none refl, Keeps-refl old.report), refl))
 
 -- ---- the records stop
 
-module _ {replay : Replay} {start : ReplayStart} {format : Format} {bytes : List ℕ} {unread w r : Option (List ℕ)}
-    (stop : Option CaptureFault) (i : Replayed replay start format bytes (ending_at stop) unread w r)
+module _ {replay : Replay} {input : ReplayInput} {unread w r : Option (List ℕ)} (stop : Option CaptureFault)
+    (i : Replayed replay input (ending_at stop) unread w r)
   where
     ends_so : (torn : Bool) → torn_at stop ≡ Ok torn
-        → Ends format (ending_of torn) (length i.reached.follows.records) (i.reached.ahead ++ i.reached.left)
-    ends_so torn is = subst (λ (x : Ending). Ends format x (length i.reached.follows.records)
-        (i.reached.ahead ++ i.reached.left)) (ending_torn stop torn is) i.ends
+        → Ends input.format (ending_of torn) (length i.follows.records) (i.ahead ++ i.left)
+    ends_so torn is = subst (λ (x : Ending). Ends input.format x (length i.follows.records) (i.ahead ++ i.left))
+        (ending_torn stop torn is) i.ends
 
     -- all is done
-    pub all_written : (w' r' : Option (List ℕ)) (torn : Bool) (count : ℕ) → torn_at stop ≡ Ok torn
-        → count ≡ replay.numbers.records → OutputsFinished start i.reached.history torn w' r'
-        → OutputsWritten start format bytes count torn unread w' r'
-    all_written w' r' torn count is counted finished =
+    pub all_written : (torn : Bool) (count : ℕ) → torn_at stop ≡ Ok torn → count ≡ replay.numbers.records
+        → Meaning input.rules input.box input.capture input.trace count torn (capture_text i.history)
+        (report_text input.accepted.setup input.trace i.history torn)
+    all_written torn count is counted =
         record {
-          reached = i.reached;
-          ends = ends_so torn is;
+          accepted = input.accepted;
+          records = i.follows.records;
+          read = record {
+            format = input.format;
+            accepted = input.header;
+            rest = i.ahead ++ i.left;
+            whole = i.follows.joined;
+            each = i.follows.each;
+            not_over = i.follows.not_over;
+            ends = ends_so torn is;
+          };
           counted = counted ∙ i.replay_represents.reports.records
-              ∙ history_length start.setup format i.reached.follows.records i.reached.history
-              i.reached.follows.is_history;
-          finished = finished;
+              ∙ history_length input.accepted.setup input.format i.follows.records i.history i.follows.is_history;
+          history = i.history;
+          is_history = i.follows.is_history;
+          captured = refl;
+          reported = refl;
         }
 
 -- a fault comes then
-pub fault_leaves_ended : (replay : Replay) (setup : Setup) (trace : Bool) (format : Format) (bytes : List ℕ)
-    (w r : Option (List ℕ)) (stop : Option CaptureFault) (old new : Devices) (before : ℕ) (fault : RunFault)
-    → IsStop stop → new.reads_failed ≡ old.reads_failed → before ≡ old.reports_failed
-    → (i : Replayed replay (start_of setup trace old) format bytes (ending_at stop) new.unread w r)
-    → FinishFails (start_of setup trace old) i.reached.history stop new.sent new.report before new.reports_failed fault
-    → FaultLeaves setup trace format bytes old new fault
-fault_leaves_ended replay setup trace format bytes w r stop old new before (Capture fault) is no_failure same i e = (
-  record {
-    reached = i.reached;
-    few = i.few;
-    ending = ending_at stop;
-    refused = (IfErr-at_err (Stops stop) e.0 (stops_at stop is)).1 fault refl;
-    ends = i.ends;
-    all = e.1;
-  },
-  no_failure,
-)
-fault_leaves_ended replay setup trace format bytes w r stop old new before Device is no_failure same i (inl part) =
-    inl (inr (record { reached = i.reached; few = i.few; part = part }, no_failure))
-fault_leaves_ended replay setup trace format bytes w r stop old new before Device is no_failure same i (inr u) =
-    inr (
-      record { reached = i.reached; few = i.few; torn = u.0; ends = ends_so stop i u.0 u.1; unfinished = u.2 },
-      u.3 ∙ ap one_more same,
-    )
-fault_leaves_ended replay setup trace format bytes w r stop old new before _ is no_failure same i e = absurd e
+pub fault_leaves_ended : {replay : Replay} {input : ReplayInput} {w r : Option (List ℕ)} (stop : Option CaptureFault)
+    (new : Devices) (failed before : ℕ) (fault : RunFault) → IsStop stop → new.reads_failed ≡ failed
+    → before ≡ input.before.reports_failed → (i : Replayed replay input (ending_at stop) new.unread w r)
+    → FinishFails (start_of input) i.history stop new.sent new.report before new.reports_failed fault
+    → LeavesOf input failed new fault
+fault_leaves_ended stop new failed before (Capture fault) is none same i e =
+    inr (record {
+      taken_so_far = so_far new i.ahead i.left i.is_left refl i.follows;
+      few = i.few;
+      ending = ending_at stop;
+      ends = i.ends;
+      refused = (IfErr-at_err (Stops stop) e.0 (stops_at stop is)).1 fault refl;
+      sent = e.1.all_sent;
+      report = e.1.all_lines;
+      all_read = none;
+    })
+fault_leaves_ended stop new failed before Device is none same i (inl part) =
+    failed_write (record {
+      taken_so_far = so_far new i.ahead i.left i.is_left refl i.follows;
+      few = i.few;
+      sent = part.part_sent;
+      report = part.part_lines;
+      all_read = none;
+    })
+fault_leaves_ended stop new failed before Device is none same i (inr u) =
+    failed_report (record {
+      taken_so_far = so_far new i.ahead i.left i.is_left refl i.follows;
+      few = i.few;
+      torn = u.0;
+      ends = ends_so stop i u.0 u.1;
+      sent = u.2.all_sent;
+      report = u.2.part_lines;
+      failed = u.3 ∙ ap one_more same;
+    })
+fault_leaves_ended stop new failed before _ is none same i e = absurd e

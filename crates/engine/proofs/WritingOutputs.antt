@@ -2,7 +2,7 @@
 use Rattle.engine.proofs.Names.{◌++◌, AllWritten, Appends, Appends-kept, Appends-trans, AppendsPrefix, Bool, BreaksAtRecord, EngineState, Entry, IfSome}
 use Rattle.engine.proofs.Names.{IsEntry, IsNewest, Keeps, List, Next, None, Option, OutputsFinished, PrefixWritten, Recorded, Replay, ReplayRepresents}
 use Rattle.engine.proofs.Names.{ReplayStart, ReportUnfinished, Represents, Sent, Setup, Some, TableTree, TakesRecord, [], ap, append-nil, capture_text}
-use Rattle.engine.proofs.Names.{closing_lines, entry_lines, flat_map, gets_more, gets_none, gets_part, length, lines_of, live_in, part_after, part_first}
+use Rattle.engine.proofs.Names.{closing_lines, entry_lines, flat_map, gets_more, gets_part, length, lines_of, live_in, part_after, part_first}
 use Rattle.engine.proofs.Names.{part_same, part_whole, sends, sends_of, sll2_record, subst, sym, ℕ, ◌∙◌, ◌∷◌, ◌≡◌}
 use Rattle.engine.proofs.Histories.{captured_more}
 use Rattle.pcap_io.specs.Buffering.{AppendsBuffered, SinkState}
@@ -86,17 +86,7 @@ module _ (start : ReplayStart) (history : List Entry) where
 -- the reserved notes
 with_room : (k : ReportState) (room : ℕ) (rules : List TableTree) (trace : Bool) (history : List Entry) (told : List ℕ)
     → IsReportOf k rules trace history told → IsReportOf (record k { room = room }) rules trace history told
-with_room k room rules trace history told h =
-    record {
-      records = h.records;
-      passed_are = h.passed_are;
-      local_are = h.local_are;
-      dropped_are = h.dropped_are;
-      begun_are = h.begun_are;
-      tallies_are = h.tallies_are;
-      traces_so = h.traces_so;
-      rest = h.rest;
-    }
+with_room k room rules trace history told h = search rules
 
 -- whether the engine is ready
 pub readied : (engine now : EngineState) (ready : Bool) (history : List Entry) → now ≡ record engine { ready = ready }
@@ -117,14 +107,6 @@ at_record last taken P e h = let Q : Option Recorded → Type 0 = λ o. IfSome o
 abbrev pub Stepped : Setup → List Entry → Recorded → EngineState → Outcome → Type 0
 Stepped setup history taken engine outcome = (e : Entry) × Next setup history taken e × Represents engine (e ∷ history)
     × (outcome ≡ e.outcome)
-
-sends_one : (s : Sent) (xs : List Sent) → s ∷ [] ≡ xs → sll2_record s ≡ flat_map sll2_record xs
-sends_one s xs e = sym (append-nil (sll2_record s)) ∙ ap (flat_map sll2_record) e
-
--- the engine lends the packet that the newest entry sends
-lends : (engine : EngineState) (history : List Entry) (e : Entry) (xs : List Sent) → Represents engine (e ∷ history)
-    → xs ≡ sends_of engine.newest → xs ≡ sends e
-lends engine history e xs s is = is ∙ ap sends_of s.newest
 
 -- what a report's note promises
 abbrev pub Noted : ReportState → ReportState → lent.Entry → Type 0
@@ -294,6 +276,12 @@ module _ {replay : Replay} {start : ReplayStart} {history : List Entry} {w r : O
     module _ {taken : Recorded} {engine : EngineState} {outcome : Outcome}
         (t : Stepped replay.engine.setup history taken engine outcome)
       where
+        -- the engine lends the packet that the entry sends
+        sent_by : (xs : List Sent) → xs ≡ sends_of engine.newest
+            → capture_text history ++ flat_map sll2_record xs ≡ capture_text (t.0 ∷ history)
+        sent_by xs is = ap (λ (ys : List Sent). capture_text history ++ flat_map sll2_record ys)
+            (is ∙ ap sends_of t.2.newest) ∙ sym (captured_more history t.0)
+
         -- its packet wasn't all written
         pub broke_sending : (s : Sent) (w' : Option (List ℕ)) → s ∷ [] ≡ sends_of engine.newest
             → AppendsPrefix w w' (replay.sink.buffered ++ sll2_record s) → BreaksAtRecord start history taken w' r
@@ -304,9 +292,7 @@ module _ {replay : Replay} {start : ReplayStart} {history : List Entry} {w r : O
               part = record {
                 part_sent = part_same start.sent w' (capture_text history ++ sll2_record s) (capture_text (t.0 ∷ history))
                     (gets_part [] replay.sink.buffered start.sent w w' (capture_text history) (sll2_record s) p.gets part)
-                    (ap (λ xs. capture_text history ++ xs) (sends_one s (sends t.0) (lends engine history t.0 (s ∷ []) t.2
-                    is))
-                    ∙ sym (captured_more history t.0));
+                    (ap (λ xs. capture_text history ++ xs) (sym (append-nil (sll2_record s))) ∙ sent_by (s ∷ []) is);
                 part_lines = part_first start.report r (entry_lines start.setup.rules start.trace history)
                     (lines_of start.setup.rules start.trace (length (t.0 ∷ history)) t.0) lines_so_far;
               };
@@ -316,40 +302,23 @@ module _ {replay : Replay} {start : ReplayStart} {history : List Entry} {w r : O
             (newest : (history : List Entry) → Represents engine history → IsNewest (Some told) history)
             (noted : Noted replay.numbers numbers told)
           where
-            -- it was processed and noted, and its packet is written or buffered
-            took : (sink : SinkState) (w' : Option (List ℕ))
-                → AppendsBuffered replay.sink.buffered w w' sink.buffered (flat_map sll2_record (sends t.0))
+            -- it was processed and noted, and its packet, if it sends one, is written or buffered
+            pub took : (xs : List Sent) (sink : SinkState) (w' : Option (List ℕ)) → xs ≡ sends_of engine.newest
+                → AppendsBuffered replay.sink.buffered w w' sink.buffered (flat_map sll2_record xs)
                 → TakesRecord (replay_of engine numbers replay sink) start history taken w' r
-            took sink w' gets =
+            took xs sink w' is gets =
                 record {
                   entry = t.0;
                   next = next_as taken t.0 t.1;
                   replay_represents = record {
                     same = same ∙ p.same;
                     represents = t.2;
-                    gets = subst (λ (xs : List ℕ). AppendsBuffered [] start.sent w' sink.buffered xs)
-                        (sym (captured_more history t.0))
+                    gets = subst (λ (ws : List ℕ). AppendsBuffered [] start.sent w' sink.buffered ws) (sent_by xs is)
                         (gets_more [] replay.sink.buffered sink.buffered start.sent w w' (capture_text history)
-                        (flat_map sll2_record (sends t.0)) p.gets gets);
+                        (flat_map sll2_record xs) p.gets gets);
                     lines = p.lines;
                     reports = noted start.setup.rules start.trace history p.lines t.0 p.reports
                         (newest (t.0 ∷ history) t.2);
                     appends_report = p.appends_report;
                   };
                 }
-
-            -- it sends none
-            pub took_silently : [] ≡ sends_of engine.newest
-                → TakesRecord (replay_of engine numbers replay replay.sink) start history taken w r
-            took_silently none =
-                took replay.sink w (subst (λ (xs : List Sent). AppendsBuffered replay.sink.buffered w w
-                replay.sink.buffered (flat_map sll2_record xs)) (lends engine history t.0 [] t.2 none)
-                (gets_none replay.sink.buffered w))
-
-            -- it sends one
-            pub took_sending : (sink : SinkState) (s : Sent) (w' : Option (List ℕ)) → s ∷ [] ≡ sends_of engine.newest
-                → AppendsBuffered replay.sink.buffered w w' sink.buffered (sll2_record s)
-                → TakesRecord (replay_of engine numbers replay sink) start history taken w' r
-            took_sending sink s w' is gets =
-                took sink w' (subst (λ (xs : List ℕ). AppendsBuffered replay.sink.buffered w w' sink.buffered xs)
-                (sends_one s (sends t.0) (lends engine history t.0 (s ∷ []) t.2 is)) gets)

@@ -1,12 +1,12 @@
 -- The replay of a capture's records, and the outputs of a capture whose header is accepted.
-use Rattle.std.specs.Prelude.{◌≡◌, ◌≤◌, ℕ, Bool, true, List, [], ◌∷◌, ◌++◌, length, All, ◌⊎◌, Option, Some, None, IfSome, Result, Err, MatchResult}
+use Rattle.std.specs.Prelude.{◌≡◌, ◌≤◌, ℕ, Bool, true, List, [], ◌∷◌, ◌++◌, length, drop, All, ◌⊎◌, Option, Some, None, IfSome, Result, Err, MatchResult}
 use Rattle.std.specs.Prelude.{false, Ok}
 use Rattle.std.specs.List.{flat_map}
 use Rattle.std.specs.Io.KnownBytes.{Appends, IsAtEnd, prepend_known}
 use Rattle.pcap_io.specs.declared.format.Format.{Format}
 use Rattle.pcap_io.specs.declared.fault.CaptureFault.{CaptureFault}
-use Rattle.pcap_io.specs.Pcap.{Captured, Recorded, IsRecord, Ending, Whole, Torn, Malformed, Over, Ends, frame, stream_of, decoded_records}
-use Rattle.pcap_io.specs.Pcap.{MOST_RECORDS}
+use Rattle.pcap_io.specs.Pcap.{Captured, Recorded, IsRecord, Ending, Whole, Torn, Malformed, Over, Ends, stream_of, decoded_records}
+use Rattle.pcap_io.specs.Pcap.{HEADER_BYTES, MOST_RECORDS, format_of}
 use Rattle.pcap_io.specs.CaptureStates.{CaptureState, READ_AHEAD}
 use Rattle.pcap_io.specs.Sll2.{sll2_record}
 use Rattle.pcap_io.specs.Counting.{AppendsPrefix, one_more}
@@ -22,9 +22,8 @@ use Rattle.stepping.specs.Representing.{EngineState, Represents}
 use Rattle.engine.specs.declared.fault.RunFault.{RunFault}
 use Rattle.engine.specs.declared.fault.RunFault.TheVariants.{Device, Memory, Capture}
 use Rattle.engine.specs.declared.replay.Replay.{Replay}
-use Rattle.engine.specs.AfterFault.{Devices, Untouched}
-use Rattle.engine.specs.Meaning.{ending_of}
-use Rattle.engine.specs.Refusals.{fault_at}
+use Rattle.engine.specs.AfterFault.{Devices, LeftDevices, Untouched}
+use Rattle.engine.specs.Meaning.{Accepted, Meaning}
 use Rattle.engine.specs.declared.runs.Summary.{Summary}
 use Rattle.pcap_io.specs.declared.fault.CaptureFault.TheVariants as captures
 
@@ -192,81 +191,57 @@ IsOpened s unread = (s.fault ≡ None) × (s.count ≡ 0) × (s.latest ≡ 0) ×
 abbrev pub unread_input : CaptureState → Option (List ℕ) → Option (List ℕ)
 unread_input s unread = prepend_known s.held unread
 
--- these bytes begin with the records of this history, and then these follow
-pub record BeginsWithRecords (setup : Setup) (format : Format) (bytes after : List ℕ)
-    (history : List Entry) : Type 0 where
+-- an accepted input with its header, whether its replay traces, and the devices before the replay
+pub record ReplayInput : Type 0 where
+  pub rules : List ℕ
+  pub box : List ℕ
+  pub capture : List ℕ
+  pub accepted : Accepted rules box
+  pub format : Format
+  pub header : format_of capture ≡ Ok format
+  pub trace : Bool
+  pub before : Devices
+
+abbrev pub start_of : ReplayInput → ReplayStart
+start_of input = record {
+  setup = input.accepted.setup;
+  trace = input.trace;
+  sent = input.before.sent;
+  report = input.before.report;
+}
+
+-- the bytes behind the header begin with the records of this history, and then these follow
+pub record BeginsWithRecords (input : ReplayInput) (after : List ℕ) (history : List Entry) : Type 0 where
   pub records : List Captured
-  pub joined : bytes ≡ stream_of records after
-  pub each : All (IsRecord format) records
+  pub joined : drop HEADER_BYTES input.capture ≡ stream_of records after
+  pub each : All (IsRecord input.format) records
   pub not_over : length records ≤ MOST_RECORDS
-  pub is_history : IsHistoryOf setup [] (decoded_records format records) history
+  pub is_history : IsHistoryOf input.accepted.setup [] (decoded_records input.format records) history
 
--- these bytes begin with the records of a history; then some were read ahead, and the reader has the rest
--- left
-pub record ReadSoFar (setup : Setup) (format : Format) (bytes : List ℕ) (unread : Option (List ℕ)) : Type 0
-  where
-    pub ahead : List ℕ
-    pub left : List ℕ
-    pub is_left : unread ≡ Some left
-    pub history : List Entry
-    pub follows : BeginsWithRecords setup format bytes (ahead ++ left) history
+-- the bytes behind the header are the records processed, and end so
+pub record Replayed (replay : Replay) (input : ReplayInput) (ending : Ending) (unread w r : Option (List ℕ))
+    : Type 0 where
+  pub ahead : List ℕ
+  pub left : List ℕ
+  pub is_left : unread ≡ Some left
+  pub history : List Entry
+  pub follows : BeginsWithRecords input (ahead ++ left) history
+  pub few : length ahead ≤ READ_AHEAD
+  pub ends : Ends input.format ending (length follows.records) (ahead ++ left)
+  pub replay_represents : ReplayRepresents replay (start_of input) history w r
 
--- these bytes are the records processed, and end so
-pub record Replayed (replay : Replay) (start : ReplayStart) (format : Format) (bytes : List ℕ)
-    (ending : Ending)
-    (unread w r : Option (List ℕ)) : Type 0 where
-  pub reached : ReadSoFar start.setup format bytes unread
-  pub few : length reached.ahead ≤ READ_AHEAD
-  pub ends : Ends format ending (length reached.follows.records) (reached.ahead ++ reached.left)
-  pub replay_represents : ReplayRepresents replay start reached.history w r
-
--- these bytes begin with the records read, and a prefix of their outputs is written
-pub record HaltedByWrite (start : ReplayStart) (format : Format) (bytes : List ℕ)
-    (unread w r : Option (List ℕ)) : Type 0 where
-  pub reached : ReadSoFar start.setup format bytes unread
-  pub few : length reached.ahead ≤ READ_AHEAD
-  pub part : PrefixWritten start reached.history w r
-
--- these bytes begin with the records processed, and what was read after them is no whole record; the
--- outputs are written
-pub record CutByRead (start : ReplayStart) (format : Format) (bytes : List ℕ)
-    (unread w r : Option (List ℕ)) : Type 0 where
-  pub reached : ReadSoFar start.setup format bytes unread
-  pub few : length reached.ahead ≤ READ_AHEAD
-  pub torn : Bool
-  pub ends : Ends format (ending_of torn) (length reached.follows.records) reached.ahead
-  pub all : AllWritten start reached.history w r
-
--- these bytes begin with the records processed and one that was read only; the outputs of the former are
--- written
-pub record CutByMemory (start : ReplayStart) (format : Format) (bytes : List ℕ)
-    (unread w r : Option (List ℕ)) : Type 0 where
-  pub reached : ReadSoFar start.setup format bytes unread
-  pub untaken : Captured
-  pub is_record : IsRecord format untaken
-  pub more : List ℕ
-  pub read : reached.ahead ≡ frame untaken ++ more
-  pub few : length more ≤ READ_AHEAD
-  pub all : AllWritten start reached.history w r
-
--- the bytes, the writers and the failed reads after a fault among the records
-abbrev pub Interrupts : ReplayStart → Format → List ℕ → Option (List ℕ) → Option (List ℕ) → Option (List ℕ)
-    → ℕ → ℕ → RunFault → Type 0
-Interrupts start format bytes unread w r before after Device =
-    (CutByRead start format bytes unread w r × (after ≡ one_more before))
-    ⊎ (HaltedByWrite start format bytes unread w r × (after ≡ before))
-Interrupts start format bytes unread w r before after Memory = CutByMemory start format bytes unread w r
-    × (after ≡ before)
-Interrupts start format bytes unread w r before after _ = ⊥
+-- the devices after a fault of an input, before whose records so many reads had failed
+abbrev pub LeavesOf : ReplayInput → ℕ → Devices → RunFault → Type 0
+LeavesOf input failed new fault = LeftDevices input.rules input.box input.capture input.trace
+    (record input.before { reads_failed = failed }) new fault
 
 -- the bytes to come are the records processed, and stop so; or a fault interrupts them
 abbrev pub ReplaysAll : Replay → Replay → Result (Option CaptureFault) RunFault → Devices → Devices → Type 0
-ReplaysAll replay now result old new = (start : ReplayStart) (bytes : List ℕ)
-    → unread_input replay.records old.unread ≡ Some bytes
-    → ReplayRepresents replay start [] old.sent old.report → MatchResult result
-    (λ stop. Replayed now start replay.records.format bytes (ending_at stop) new.unread new.sent new.report)
-    (Interrupts start replay.records.format bytes new.unread new.sent new.report old.reads_failed
-    new.reads_failed)
+ReplaysAll replay now result old new = (input : ReplayInput) → replay.records.format ≡ input.format
+    → unread_input replay.records old.unread ≡ Some (drop HEADER_BYTES input.capture)
+    → ReplayRepresents replay (start_of input) [] old.sent old.report → MatchResult result
+    (λ stop. Replayed now input (ending_at stop) new.unread new.sent new.report)
+    (LeavesOf input old.reads_failed new)
 
 -- whether the capture ends inside a record, or the fault at which its records stop
 abbrev pub torn_at : Option CaptureFault → Result Bool RunFault
@@ -306,68 +281,42 @@ Finishes replay stop result old new = (start : ReplayStart) (history : List Entr
 
 -- ---- the whole
 
--- these bytes are so many records, with a torn end or none, and both outputs of them are written
-pub record OutputsWritten (start : ReplayStart) (format : Format) (bytes : List ℕ) (count : ℕ) (torn : Bool)
-    (unread w r : Option (List ℕ)) : Type 0 where
-  pub reached : ReadSoFar start.setup format bytes unread
-  pub ends : Ends format (ending_of torn) (length reached.follows.records) (reached.ahead ++ reached.left)
-  pub counted : count ≡ length reached.follows.records
-  pub finished : OutputsFinished start reached.history torn w r
-
--- these bytes are records and stop at a fault, and the records' outputs are written, but for counters and
--- totals
-pub record RefusedAtRecord (start : ReplayStart) (format : Format) (bytes : List ℕ) (fault : CaptureFault)
-    (unread w r : Option (List ℕ)) : Type 0 where
-  pub reached : ReadSoFar start.setup format bytes unread
-  pub few : length reached.ahead ≤ READ_AHEAD
-  pub ending : Ending
-  pub refused : fault_at ending ≡ Some fault
-  pub ends : Ends format ending (length reached.follows.records) (reached.ahead ++ reached.left)
-  pub all : AllWritten start reached.history w r
-
--- these bytes are records, the output capture of them is written, and a prefix of the report
-pub record RecordsUnreported (start : ReplayStart) (format : Format) (bytes : List ℕ)
-    (unread w r : Option (List ℕ)) : Type 0 where
-  pub reached : ReadSoFar start.setup format bytes unread
-  pub few : length reached.ahead ≤ READ_AHEAD
-  pub torn : Bool
-  pub ends : Ends format (ending_of torn) (length reached.follows.records) (reached.ahead ++ reached.left)
-  pub unfinished : ReportUnfinished start reached.history torn w r
-
-abbrev pub start_of : Setup → Bool → Devices → ReplayStart
-start_of setup trace old = record { setup = setup; trace = trace; sent = old.sent; report = old.report }
-
 -- nothing was read and nothing written
 abbrev pub Unchanged : Devices → Devices → Type 0
 Unchanged old new = (new.unread ≡ old.unread) × Untouched old new × (new.reads_failed ≡ old.reads_failed)
 
--- the bytes and the devices after a fault among the records or before the first
-abbrev pub FaultLeaves : Setup → Bool → Format → List ℕ → Devices → Devices → RunFault → Type 0
-FaultLeaves setup trace format bytes old new (Capture fault) =
-    RefusedAtRecord (start_of setup trace old) format bytes fault new.unread new.sent new.report
-    × (new.reads_failed ≡ old.reads_failed)
-FaultLeaves setup trace format bytes old new Device =
-    Interrupts (start_of setup trace old) format bytes new.unread new.sent new.report old.reads_failed
-    new.reads_failed Device
-    ⊎ (RecordsUnreported (start_of setup trace old) format bytes new.unread new.sent new.report
-    × (new.reports_failed ≡ one_more old.reports_failed))
-FaultLeaves setup trace format bytes old new Memory =
-    Interrupts (start_of setup trace old) format bytes new.unread new.sent new.report old.reads_failed
-    new.reads_failed Memory
-    ⊎ Unchanged old new
-FaultLeaves setup trace format bytes old new _ = ⊥
+abbrev pub input_at : {rules box : List ℕ} {format : Format} → Accepted rules box → (capture : List ℕ)
+    → format_of capture ≡ Ok format → Bool → Devices → ReplayInput
+input_at {rules} {box} {format} accepted capture header trace before = record {
+  rules = rules;
+  box = box;
+  capture = capture;
+  accepted = accepted;
+  format = format;
+  header = header;
+  trace = trace;
+  before = before;
+}
 
--- the bytes to come are so many records, and their outputs are written
+-- what holds of each accepted input of this configuration, whose bytes behind the header are to come; the
+-- reader may have had more left before
+abbrev pub OfEach : Setup → Bool → CaptureState → Devices → (ReplayInput → Type 0) → Type 0
+OfEach setup trace records old P = (rules box capture : List ℕ) (accepted : Accepted rules box)
+    (header : format_of capture ≡ Ok records.format) (unread : Option (List ℕ)) → setup ≡ accepted.setup
+    → unread_input records old.unread ≡ Some (drop HEADER_BYTES capture)
+    → P (input_at accepted capture header trace (record old { unread = unread }))
+
+-- the writers got the outputs of the input's meaning, of so many records
 abbrev pub WritesOutputs : Setup → Bool → CaptureState → Summary → Devices → Devices → Type 0
-WritesOutputs setup trace records summary old new = (bytes : List ℕ)
-    → unread_input records old.unread ≡ Some bytes
-    → OutputsWritten (start_of setup trace old) records.format bytes summary.records summary.torn new.unread
-    new.sent new.report
+WritesOutputs setup trace records summary old new = OfEach setup trace records old (λ input.
+    (sent : List ℕ) × (report : List ℕ)
+    × Meaning input.rules input.box input.capture input.trace summary.records summary.torn sent report
+    × Appends input.before.sent new.sent sent × Appends input.before.report new.report report)
 
--- a fault among these bytes leaves a prefix of the outputs
+-- a fault leaves the devices so, or it was of memory before anything was read or written
 abbrev pub LeavesPrefix : Setup → Bool → CaptureState → RunFault → Devices → Devices → Type 0
-LeavesPrefix setup trace records fault old new = (bytes : List ℕ)
-    → unread_input records old.unread ≡ Some bytes → FaultLeaves setup trace records.format bytes old new fault
+LeavesPrefix setup trace records fault old new = OfEach setup trace records old (λ input.
+    LeavesOf input old.reads_failed new fault ⊎ ((fault ≡ Memory) × Unchanged old new))
 
 -- a fault among the records
 abbrev pub IsWithin : RunFault → Type 0

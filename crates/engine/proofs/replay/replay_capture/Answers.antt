@@ -1,6 +1,6 @@
-use Rattle.engine.proofs.Names.{CaptureState, Err, Keeps-refl, LeavesPrefix, Memory, WritesOutputs, ap, devices, err_from_is_err_and, inr, refl, start_of}
+use Rattle.engine.proofs.Names.{CaptureState, Err, Keeps-refl, LeavesPrefix, Memory, WritesOutputs, ap, devices, err_from_is_err_and, inl, inr, input_at, refl}
 use Rattle.engine.proofs.Names.{subst, sym, ◌∙◌, ◌≡◌}
-use Rattle.engine.proofs.Texts.{all_written, counts_ending, fault_leaves_begun, fault_leaves_ended, fault_leaves_interrupted, within_end}
+use Rattle.engine.proofs.Texts.{all_written, begins, counts_ending, fault_leaves_begun, fault_leaves_ended, within_end}
 use Rattle.engine.proofs.replay.replay_capture.Goals as goal
 
 pub returns-in_err-replay-clause-left : goal.returns-in_err-replay-clause-left
@@ -23,8 +23,9 @@ returns-in_err-stop-clause-left g c =
     let new = state c.replay_records.new.capture c.replay_records.new.sent c.replay_records.new.report in
     rw q.1 (rw q.2 (subst (λ (s : CaptureState).
     LeavesPrefix c.args.engine.setup c.args.trace s c.in_err-stop.field-0.0 old new) c.in_ok-replay.ensures.same.1
-    (λ bytes is. fault_leaves_interrupted _ _ _ bytes old new c.in_err-stop.field-0.0
-    (c.in_err-stop.ensures.replayed _ bytes is (c.in_ok-replay.ensures.begun old.report)))))
+    (λ rules box capture accepted header unread same is.
+    inl (c.in_err-stop.ensures.replayed (input_at accepted capture header c.args.trace (record old { unread = unread })) refl is
+    (begins c.in_ok-replay.ensures.begun same old.report)))))
 
 pub returns-in_err-stop-clause-memory : goal.returns-in_err-stop-clause-memory
 returns-in_err-stop-clause-memory g c = λ is.
@@ -43,11 +44,11 @@ returns-in_err-torn-clause-left g c =
     let no_failure = c.in_ok-stop.ensures.failures in
     rw q.1 (rw q.2 (subst (λ (s : CaptureState).
     LeavesPrefix c.args.engine.setup c.args.trace s c.in_err-torn.field-0.0 old new) c.in_ok-replay.ensures.same.1
-    (λ bytes is.
-    let i = c.in_ok-stop.ensures.replayed _ bytes is (c.in_ok-replay.ensures.begun old.report) in
-    fault_leaves_ended c.replay_records.new.self _ _ _ bytes _ _ c.in_ok-stop.stop old new
-    c.replay_records.new.report.failures c.in_err-torn.field-0.0 c.in_ok-stop.ensures.stop no_failure.0 no_failure.2 i
-    (c.in_err-torn.ensures.finished _ _ i.replay_represents))))
+    (λ rules box capture accepted header unread same is.
+    let i = c.in_ok-stop.ensures.replayed (input_at accepted capture header c.args.trace (record old { unread = unread })) refl is
+    (begins c.in_ok-replay.ensures.begun same old.report) in
+    inl (fault_leaves_ended c.in_ok-stop.stop new _ c.replay_records.new.report.failures c.in_err-torn.field-0.0
+    c.in_ok-stop.ensures.stop no_failure.0 no_failure.2 i (c.in_err-torn.ensures.finished _ _ i.replay_represents)))))
 
 pub returns-in_err-torn-clause-within : goal.returns-in_err-torn-clause-within
 returns-in_err-torn-clause-within g c =
@@ -77,14 +78,20 @@ pub returns-clause-written : goal.returns-clause-written
 returns-clause-written g c =
     let state = devices g.R.Read.remaining g.W.Write.contents g.W2.Write.contents in
     let old = state c.args.capture.now c.args.sent.now c.args.report.now in
-    let start = start_of c.args.engine.setup c.args.trace old in
     subst (λ (s : CaptureState). WritesOutputs c.args.engine.setup c.args.trace s
     (record { records = c.records.result; torn = c.in_ok-torn.torn }) old
     (state c.replay_records.new.capture c.finish.new.sent c.finish.new.report)) c.in_ok-replay.ensures.same.1
-    (λ bytes is.
-    let i = c.in_ok-stop.ensures.replayed start bytes is (c.in_ok-replay.ensures.begun start.report) in
-    all_written c.in_ok-stop.stop i _ _ c.in_ok-torn.torn _ c.in_ok-torn.ensures.torn
-    (c.records.ensures ∙ c.finish.ensures.records) (c.in_ok-torn.ensures.finished start _ i.replay_represents))
+    (λ rules box capture accepted header unread same is.
+    let i = c.in_ok-stop.ensures.replayed (input_at accepted capture header c.args.trace (record old { unread = unread })) refl is
+    (begins c.in_ok-replay.ensures.begun same old.report) in
+    let finished = c.in_ok-torn.ensures.finished _ _ i.replay_represents in (
+      _,
+      _,
+      all_written c.in_ok-stop.stop i c.in_ok-torn.torn _ c.in_ok-torn.ensures.torn
+          (c.records.ensures ∙ c.finish.ensures.records),
+      finished.all_sent,
+      finished.all_lines,
+    ))
 
 pub returns-clause-drained : goal.returns-clause-drained
 returns-clause-drained g c = c.in_ok-stop.ensures.drained c.in_ok-torn.torn c.in_ok-torn.ensures.torn

@@ -1,5 +1,5 @@
-use Rattle.engine.proofs.Names.{recorded_of, true, ◌∷◌}
-use Rattle.engine.proofs.WritingOutputs.{at_record, broke_sending, broke_unread, readied, roomier, took_silently, took_sending}
+use Rattle.engine.proofs.Names.{append-nil, gets_none, recorded_of, true, ◌∷◌}
+use Rattle.engine.proofs.WritingOutputs.{at_record, broke_sending, broke_unread, readied, roomier, took}
 use Rattle.engine.proofs.replay.Replay.take.Goals as goal
 
 pub unreachable-requires-in_default-entry : goal.unreachable-requires-in_default-entry
@@ -28,13 +28,14 @@ pub returns-in_ok-put-clause-taken : goal.returns-in_ok-put-clause-taken
 returns-in_ok-put-clause-taken g c = λ is start history report p.
     let q = roomier p c.reserve.new.self true c.reserve-2.new.self c.in-Ok.ensures.ok c.reserve-2.ensures.same in
     at_record _ (recorded_of c.in-Some.record) _ c.in-Some.ensures
-    (took_sending q (c.in-Ok-step.ensures.represents history q.represents) {told = c.in-Some-entry.entry}
+    (took q (c.in-Ok-step.ensures.represents history q.represents) {told = c.in-Some-entry.entry}
     c.step.ensures.setup c.in-Some-entry.ensures.newest c.in-Ok-note.ensures.noted _ _ _
-    c.in-Some-leaving.ensures.sends c.in_ok-put.ensures.ok)
+    c.in-Some-leaving.ensures.sends (rw append-nil c.in_ok-put.ensures.ok))
 
 pub returns-in_default-leaving-clause-taken : goal.returns-in_default-leaving-clause-taken
 returns-in_default-leaving-clause-taken g c = λ is start history report p.
     let q = roomier p c.reserve.new.self true c.reserve-2.new.self c.in-Ok.ensures.ok c.reserve-2.ensures.same in
     at_record _ (recorded_of c.in-Some.record) _ c.in-Some.ensures
-    (took_silently q (c.in-Ok-step.ensures.represents history q.represents) {told = c.in-Some-entry.entry}
-    c.step.ensures.setup c.in-Some-entry.ensures.newest c.in-Ok-note.ensures.noted c.in_default-leaving.ensures.sends)
+    (took q (c.in-Ok-step.ensures.represents history q.represents) {told = c.in-Some-entry.entry}
+    c.step.ensures.setup c.in-Some-entry.ensures.newest c.in-Ok-note.ensures.noted _ _ _
+    c.in_default-leaving.ensures.sends (gets_none _ _))
