@@ -139,30 +139,17 @@ record Further (input : ReplayInput) (before : List ℕ) (after : Option (List �
   latest_is : (e : Entry) (n : Next input.accepted.setup history taken e)
       → new.latest ≡ latest_after input.format 0 (follows e n).records
 
--- what a call of `next` says of the reader
-pub record Fetched (old new : CaptureState) (before after : Option (List ℕ)) : Type 0 where
-  pub at_end : old.ended ≡ true → IsAtEnd before
-  pub takes : (part : List ℕ) × Consumes before after part
-  pub drained : new.ended ≡ true → IsAtEnd after
-
 -- what is known of a call of the capture behind these records
 pub record AtRead (replay : Replay) (new : CaptureState) (input : ReplayInput) (unread after w r : Option (List ℕ))
     : Type 0 where
   pub carried : Carried replay input unread w r
   pub kept : new.format ≡ replay.records.format
-  pub fetched : Fetched replay.records new unread after
+  pub at_end : replay.records.ended ≡ true → IsAtEnd unread
+  pub takes : (part : List ℕ) × Consumes unread after part
+  pub drained : new.ended ≡ true → IsAtEnd after
   pub few : length new.held ≤ READ_AHEAD
 
--- the reader over the call, before which the pending output was written
-pub fetched : {old mid : CaptureState} (new : CaptureState) {before after : Option (List ℕ)} → mid ≡ old
-    → (old.ended ≡ true → IsAtEnd before) → ((part : List ℕ) × Consumes before after part)
-    → ((mid.ended ≡ true → IsAtEnd before) → new.ended ≡ true → IsAtEnd after) → Fetched mid new before after
-fetched new same at_end takes drains = record {
-  at_end = λ e. at_end (sym (ap (λ (s : CaptureState). s.ended) same) ∙ e);
-  takes = takes;
-  drained = drains (λ e. at_end (sym (ap (λ (s : CaptureState). s.ended) same) ∙ e));
-}
-
+-- and before it, of the replay whose pending output was written
 abbrev pub read_after : {before replay : Replay} (new : CaptureState) {input : ReplayInput}
     {unread after w w' r r' : Option (List ℕ)} → replay.records ≡ before.records
     → (before.records.ended ≡ true → IsAtEnd unread) → ((part : List ℕ) × Consumes unread after part)
@@ -185,7 +172,9 @@ read_after new same at_end takes drains kept few c still =
         replay_represents = still c.history c.replay_represents;
       };
       kept = kept;
-      fetched = fetched new same at_end takes drains;
+      at_end = rw same at_end;
+      takes = takes;
+      drained = drains (rw same at_end);
       few = few;
     }
 
@@ -218,13 +207,13 @@ module _ {replay : Replay} {new : CaptureState} {input : ReplayInput} {unread af
     said : (P : List ℕ → Type 0) → IfSome (ahead replay.records unread) P → P call.carried.rest
     said P h =
         IfSome_at (ahead replay.records unread) P call.carried.rest
-        (ahead_is replay.records unread call.carried.left call.carried.is_left call.fetched.at_end
+        (ahead_is replay.records unread call.carried.left call.carried.is_left call.at_end
         ∙ ap Some (sym call.carried.rest_is)) h
 
     -- and what it leaves of them
     leaves : (rest : List ℕ) → ahead new after ≡ Some rest → BytesLeft new after rest
-    leaves rest e = still_left new unread after call.carried.left call.fetched.takes.0 rest call.carried.is_left
-        call.fetched.takes.1 call.fetched.drained e
+    leaves rest e = still_left new unread after call.carried.left call.takes.0 rest call.carried.is_left
+        call.takes.1 call.drained e
 
     pub still : ReplayRepresents (read_on replay new) (start_of input) call.carried.history w r
     still = let p = call.carried.replay_represents in search rules
@@ -255,12 +244,7 @@ module _ {replay : Replay} {new : CaptureState} {input : ReplayInput} {unread af
           link = format.link;
           bytes = reads.captured.bytes;
         } =
-        ap (λ m. record { moment = m; link = replay.records.format.link; bytes = reads.captured.bytes }) latest_now
-        ∙ ap (λ (f : Format). record {
-          moment = max replay.records.latest (own_moment format reads.captured);
-          link = f.link;
-          bytes = reads.captured.bytes;
-        }) same in
+        cc in
         let appends_report : decoded_records format (c.follows.records ++ reads.captured ∷ [])
         ≡ decoded_records format c.follows.records ++ taken ∷ [] =
         decoded_more format c.follows.records reads.captured taken replay.records.latest c.latest_is taken_is in
@@ -389,22 +373,18 @@ module _ {replay : Replay} {new : CaptureState} {input : ReplayInput} {unread af
         said (λ rest. Ends replay.records.format ending replay.records.count rest × (ahead new after ≡ Some rest)) says
         in
         let l = leaves c.rest s.1 in
+        let Is : List ℕ → Type 0 = λ xs. (f : BeginsWithRecords input xs c.history)
+        × Ends input.format ending (length f.records) xs in
+        let both : Is (new.held ++ l.left) = subst Is l.joined (c.follows, subst (λ (n : ℕ). Ends input.format ending n c.rest)
+        c.counted (subst (λ (f : Format). Ends f ending replay.records.count c.rest) c.same s.0)) in
         record {
           ahead = new.held;
           left = l.left;
           is_left = l.is_left;
           history = c.history;
-          follows = record {
-            records = c.follows.records;
-            joined = c.follows.joined ∙ ap (stream_of c.follows.records) l.joined;
-            each = c.follows.each;
-            not_over = c.follows.not_over;
-            is_history = c.follows.is_history;
-          };
+          follows = both.0;
           few = call.few;
-          ends = subst (Ends input.format ending (length c.follows.records)) l.joined (subst
-              (λ (n : ℕ). Ends input.format ending n c.rest) c.counted (subst
-              (λ (f : Format). Ends f ending replay.records.count c.rest) c.same s.0));
+          ends = both.1;
           replay_represents = still;
         }
 

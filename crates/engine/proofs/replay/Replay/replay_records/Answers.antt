@@ -1,5 +1,5 @@
 use Rattle.engine.proofs.Names.{CaptureState, Err, Ok, Refused, [], ap, arith, err_from_is_err_and, false, is_ready, refl, rules, sym, ◌∙◌, ◌≡◌}
-use Rattle.engine.proofs.Replays.{begun, cut, ended, fetched, halted, halted_at, lacks, more, read_after, refused, still, torn_only}
+use Rattle.engine.proofs.Replays.{begun, cut, ended, halted, halted_at, lacks, more, read_after, refused, still, torn_only}
 use Rattle.engine.proofs.WritingOutputs.{broke_writing}
 use Rattle.std.proofs.lemmas.Bool.{false_from_ne_true}
 use Rattle.engine.proofs.replay.Replay.replay_records.Goals as goal
@@ -30,8 +30,7 @@ each-preserved g c =
       write_calm = search rules;
       write_without_failure = search rules;
       few = rw c.take.ensures.same c.next.ensures.room;
-      drained = λ e. (fetched c.next.new.self c.flush_before_read.ensures.same.1 c.each.invariant.drained c.next.ensures.read
-    c.next.ensures.drained).drained (ap (λ (s : CaptureState). s.ended) (sym c.take.ensures.same) ∙ e);
+      drained = λ e. c.next.ensures.drained (rw c.flush_before_read.ensures.same.1 c.each.invariant.drained) (ap (λ (s : CaptureState). s.ended) (sym c.take.ensures.same) ∙ e);
       represents = c.in_ok-is_taken.ensures.represents went;
       carried = λ input same is p. let call = read_after c.next.new.self c.flush_before_read.ensures.same.1 c.each.invariant.drained c.next.ensures.read
     c.next.ensures.drained c.next.ensures.format c.next.ensures.room (c.each.invariant.carried input same is p)
@@ -56,14 +55,12 @@ returns-in-Ok-false-clause-replayed g c = λ input same is p.
 
 pub returns-in-Ok-false-clause-drained : goal.returns-in-Ok-false-clause-drained
 returns-in-Ok-false-clause-drained g c = λ torn e.
-    (fetched c.next.new.self c.flush_before_read.ensures.same.1 c.each.invariant.drained c.next.ensures.read
-    c.next.ensures.drained).drained
+    c.next.ensures.drained (rw c.flush_before_read.ensures.same.1 c.each.invariant.drained)
     (c.in-Ok-false.ensures.finished (ap Ok c.in-Ok-false.field-0-test)).1
 
 pub returns-in-Err-Refused-clause-drained : goal.returns-in-Err-Refused-clause-drained
 returns-in-Err-Refused-clause-drained g c = λ torn e.
-    (fetched c.next.new.self c.flush_before_read.ensures.same.1 c.each.invariant.drained c.next.ensures.read
-    c.next.ensures.drained).drained (c.in-Err-Refused.ensures.torn
+    c.next.ensures.drained (rw c.flush_before_read.ensures.same.1 c.each.invariant.drained) (c.in-Err-Refused.ensures.torn
     (ap Err c.in-Err-Refused.field-0-is ∙ ap (λ f. Err (Refused f)) (torn_only c.in-Err-Refused.fault torn e))
     (search rules))
 
