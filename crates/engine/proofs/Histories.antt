@@ -1,7 +1,7 @@
 -- Histories, record by record.
 use Rattle.engine.proofs.Names.{◌+◌, ◌++◌, Captured, Entry, Format, IsHistoryOf, List, Next, Recorded, Setup, WellFormed, [], ap, append-nil, append_assoc}
-use Rattle.engine.proofs.Names.{arith, capture_text, decoded_after, decoded_records, flat_map, flat_map-append, in_order, length, max, own_moment, refl, sends}
-use Rattle.engine.proofs.Names.{sent_records, sll2_header, sll2_record, subst, suc, sym, zero-add, ℕ, ◌∙◌, ◌∷◌, ◌≡◌}
+use Rattle.engine.proofs.Names.{arith, capture_text, decoded_after, decoded_records, flat_map, flat_map-append, in_order, length, max, own_moment, refl}
+use Rattle.engine.proofs.Names.{sends, sent_records, sll2_header, sll2_record, subst, suc, sym, zero-add, ℕ, ◌∙◌, ◌∷◌, ◌≡◌}
 
 -- each record has an entry after a history, if the ruleset is well-formed
 abbrev pub OneEntry : Type 0

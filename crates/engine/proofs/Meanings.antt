@@ -1,9 +1,9 @@
 -- A run, from the results of its calls.
-use Rattle.engine.proofs.Names.{◌++◌, ◌<◌, Accepted, Bool, Box, Capture, CaptureFault, CaptureState, Captured, Consumes, Device, Devices, Entry, Err, Format}
-use Rattle.engine.proofs.Names.{HEADER_BYTES, IfErr, IfOk, IfSome, IsAtEnd, IsChecked, IsHistoryOf, IsWithin, JudgeRefuses, Laws, LeavesPrefix, LeftDevices, List, Meaning}
-use Rattle.engine.proofs.Names.{Memory, None, NothingTaken, Ok, Option, Pcap, READ_AHEAD, Refuses, Result, Rules, RunFault, Setup, Some, Unchanged, Untouched, WritesOutputs}
-use Rattle.engine.proofs.Names.{WroteOutputs, [], ahead, ap, arith, capture_text, decoded_records, drop, ending_of, failed_header_read, false, format_of, header_fault}
-use Rattle.engine.proofs.Names.{inl, inr, length, one_more, refl, report_text, setup_of, subst, sym, true, unread_input, ℕ, ◌∙◌, ◌≡◌, ◌≤◌, ◌⊎◌}
+use Rattle.engine.proofs.Names.{Recorded, JudgeRefuses, ◌++◌, ◌<◌, Accepted, Bool, Box, Capture, CaptureFault, CaptureState, Consumes, Device, Devices, Err}
+use Rattle.engine.proofs.Names.{Format, HEADER_BYTES, IfErr, IfOk, IfSome, IsAtEnd, IsChecked, IsHistoryOf, IsWithin, Refuses, Laws, LeavesPrefix}
+use Rattle.engine.proofs.Names.{LeftDevices, List, Meaning, Memory, None, NothingTaken, Ok, Option, Pcap, READ_AHEAD, Result, Rules, RunFault, Setup, Some}
+use Rattle.engine.proofs.Names.{Unchanged, Untouched, WritesOutputs, WroteOutputs, [], ahead, ap, decoded_records, drop, ending_of, failed_header_read, false}
+use Rattle.engine.proofs.Names.{format_of, header_fault, inl, inr, length, one_more, refl, setup_of, subst, sym, true, unread_input, ℕ, ◌∙◌, ◌≡◌, ◌≤◌, ◌⊎◌}
 use Rattle.engine.proofs.Replays.{ahead_is}
 use Rattle.engine.proofs.Histories.{OneEntry, one_history}
 use Rattle.engine.specs.declared.runs.Summary.{Summary}
@@ -40,24 +40,17 @@ same_sign true true e = refl
 same_sign false false e = refl
 same_sign _ _ e = cc
 
--- histories of one configuration and one reading
-same_history : OneEntry → (s t : Setup) (f g : Format) (xs ys : List Captured) (a b : List Entry) → s ≡ t → f ≡ g
-    → xs ≡ ys → IsHistoryOf s [] (decoded_records f xs) a → IsHistoryOf t [] (decoded_records g ys) b → a ≡ b
-same_history one s t f g xs ys a b setup format records is_history other =
-    one_history one t [] (decoded_records g ys) a b
-    (subst (λ (x : List Captured). IsHistoryOf t [] (decoded_records g x) a) records (subst
-    (λ (x : Format). IsHistoryOf t [] (decoded_records x xs) a) format (subst
-    (λ (x : Setup). IsHistoryOf x [] (decoded_records f xs) a) setup is_history)))
-    other
-
 pub one_meaning_of : Laws → OneEntry → OneMeaning
 one_meaning_of laws one = λ rules box capture trace count others torn other_torn sent other_sent report other_report m n.
     let same = laws.reading capture m.records n.records (ending_of torn) (ending_of other_torn) m.read n.read in
     let signs : torn ≡ other_torn = same_sign torn other_torn same.1 in
     let setups : m.accepted.setup ≡ n.accepted.setup = same_setup laws rules box m.accepted n.accepted in
-    let histories : m.history ≡ n.history =
-    same_history one m.accepted.setup n.accepted.setup m.read.format n.read.format m.records n.records m.history
-    n.history setups same.2 same.0 m.is_history n.is_history in (
+    let mine : IsHistoryOf n.accepted.setup [] (decoded_records n.read.format n.records) m.history =
+    subst (λ (rs : List Recorded). IsHistoryOf n.accepted.setup [] rs m.history) (ap (decoded_records m.read.format) same.0
+    ∙ ap (λ (f : Format). decoded_records f n.records) same.2)
+    (subst (λ (s : Setup). IsHistoryOf s [] (decoded_records m.read.format m.records) m.history) setups m.is_history) in
+    let histories : m.history ≡ n.history = one_history one n.accepted.setup [] (decoded_records n.read.format n.records)
+    m.history n.history mine n.is_history in (
       m.counted ∙ ap length same.0 ∙ sym n.counted,
       signs,
       cc,
@@ -142,14 +135,14 @@ pub nothing_taken : (input : Option (List ℕ)) (old new : Devices) (part : List
     → IfSome input (λ bytes. NothingTaken bytes old new)
 nothing_taken input old new part takes few kept no_failure =
     consumed input new.unread part takes (λ bytes left e joined. record {
-  part = part;
-  left = left;
-  unread = e;
-  joined = joined;
-  few = few;
-  untouched = kept;
-  all_read = no_failure;
-})
+      part = part;
+      left = left;
+      unread = e;
+      joined = joined;
+      few = few;
+      untouched = kept;
+      all_read = no_failure;
+    })
 
 -- a read failed before the header was there
 pub left_unopened : {rules box : List ℕ} (accepted : Accepted rules box) (trace : Bool) (input : Option (List ℕ))

@@ -11,17 +11,17 @@ pub use Rattle.engine.specs.declared.fault.RunFault.TheVariants.{Box, Capture, D
 pub use Rattle.engine.specs.declared.judging.Counts.{Counts}
 pub use Rattle.engine.specs.declared.replay.Replay.{Replay}
 pub use Rattle.engine.specs.steps.Inputs.{IsChecked, Laws}
-pub use Rattle.engine.specs.steps.Replayed.{AllWritten, BeginsWithRecords, BreaksAtRecord, CountsWriteFault, FinishFails, IsBegun, IsStop, IsWithin}
-pub use Rattle.engine.specs.steps.Replayed.{LeavesOf, LeavesPrefix, OutputsFinished, PrefixWritten, ReplayInput, ReplayRepresents, ReplayStart}
-pub use Rattle.engine.specs.steps.Replayed.{Replayed, ReportUnfinished, RepresentsSome, TakesRecord, Unchanged, Writers, WritesOutputs, ending_at, input_at}
+pub use Rattle.engine.specs.steps.Replayed.{AllWritten, BeginsWithRecords, BreaksAtRecord, CountsWriteFault, FinishFails, IsBegun, IsStop, IsWithin, LeavesOf}
+pub use Rattle.engine.specs.steps.Replayed.{LeavesPrefix, OutputsFinished, PrefixWritten, ReplayInput, ReplayRepresents, ReplayStart, Replayed}
+pub use Rattle.engine.specs.steps.Replayed.{ReportUnfinished, RepresentsSome, TakesRecord, Unchanged, Writers, WritesOutputs, ending_at, input_at}
 pub use Rattle.engine.specs.steps.Replayed.{sent_records, start_of, torn_at, unread_input}
 pub use Rattle.history.specs.History.{Entry, IsEntry, IsNewest, capture_text, in_order, live_in, sends}
 pub use Rattle.history.specs.Setup.{Setup}
 pub use Rattle.nft_tree.specs.Tree.{TableTree, table_tree, tables_of}
 pub use Rattle.pcap_io.specs.CaptureStates.{CaptureState, FailsBetween, IsOfRecords, IsPartialRecord, NextAnswers, READ_AHEAD, ReadsRecord, ahead, is_ready}
 pub use Rattle.pcap_io.specs.Counting.{AppendsPrefix, one_more}
-pub use Rattle.pcap_io.specs.Pcap.{Captured, Ending, Ends, HEADER_BYTES, IsRecord, Malformed, Over, Pcap, Recorded, Torn, Whole, decoded_after, decoded_records}
-pub use Rattle.pcap_io.specs.Pcap.{format_of, frame, header_fault, own_moment, stream_of}
+pub use Rattle.pcap_io.specs.Pcap.{Captured, Ending, Ends, HEADER_BYTES, IsRecord, Malformed, Over, Pcap, Recorded, Torn, Whole, decoded_after}
+pub use Rattle.pcap_io.specs.Pcap.{decoded_records, format_of, frame, header_fault, own_moment, stream_of}
 pub use Rattle.pcap_io.specs.Sll2.{Sent, sll2_header, sll2_record}
 pub use Rattle.pcap_io.specs.declared.fault.CaptureError.TheVariants.{Refused}
 pub use Rattle.pcap_io.specs.declared.fault.CaptureFault.{CaptureFault}

@@ -1,10 +1,11 @@
 -- The records of a capture, one after another.
-use Rattle.engine.proofs.Names.{◌++◌, ◌<◌, All, AllWritten, BeginsWithRecords, Bool, BreaksAtRecord, CaptureFault, CaptureState, Captured, Consumes, Devices, Ending}
-use Rattle.engine.proofs.Names.{Ends, Entry, Err, FailsBetween, Format, HEADER_BYTES, IfSome, IsAtEnd, IsHistoryOf, IsOfRecords, IsPartialRecord, IsRecord, LeavesOf, List}
-use Rattle.engine.proofs.Names.{Malformed, Next, NextAnswers, None, Ok, Option, Over, PrefixWritten, READ_AHEAD, ReadsRecord, Recorded, RecordsTaken, Refused}
-use Rattle.engine.proofs.Names.{Replay, ReplayInput, ReplayRepresents, Replayed, Some, TakesRecord, Torn, Whole, [], ahead, ap, append-nil, append_assoc}
-use Rattle.engine.proofs.Names.{arith, decoded_records, drop, ending_at, ending_of, failed_read, failed_write, false, flat_map-append, frame, inl, inr, length, length-append, max}
-use Rattle.engine.proofs.Names.{one_more, own_moment, refl, rules, start_of, stream_of, subst, suc, sym, torn_at, true, unread_input, zero, ℕ, ◌∙◌, ◌∷◌, ◌≡◌, ◌≤◌}
+use Rattle.engine.proofs.Names.{◌++◌, ◌<◌, All, AllWritten, BeginsWithRecords, Bool, BreaksAtRecord, CaptureFault, CaptureState, Captured, Consumes, Devices}
+use Rattle.engine.proofs.Names.{Ending, Ends, Entry, Err, FailsBetween, Format, HEADER_BYTES, IfSome, IsAtEnd, IsHistoryOf, IsOfRecords, IsPartialRecord}
+use Rattle.engine.proofs.Names.{IsRecord, LeavesOf, List, Malformed, Next, NextAnswers, None, Ok, Option, Over, PrefixWritten, READ_AHEAD, ReadsRecord}
+use Rattle.engine.proofs.Names.{Recorded, RecordsTaken, Refused, Replay, ReplayInput, ReplayRepresents, Replayed, Some, TakesRecord, Torn, Whole, [], ahead}
+use Rattle.engine.proofs.Names.{ap, append-nil, append_assoc, arith, decoded_records, drop, ending_at, ending_of, failed_read, failed_write, false}
+use Rattle.engine.proofs.Names.{flat_map-append, frame, inl, inr, length, length-append, max, one_more, own_moment, refl, rules, start_of, stream_of, subst}
+use Rattle.engine.proofs.Names.{suc, sym, torn_at, true, unread_input, zero, ℕ, ◌∙◌, ◌∷◌, ◌≡◌, ◌≤◌}
 use Rattle.engine.proofs.Histories.{is_history_more, latest_after, latest_more, decoded_more}
 use Rattle.std.proofs.lemmas.List.Elements.{All-append}
 use Rattle.std.specs.Prelude.{cond, slice_index_or}
@@ -239,15 +240,9 @@ module _ {replay : Replay} {new : CaptureState} {input : ReplayInput} {unread af
           link = replay.records.format.link;
           bytes = reads.captured.bytes;
         } in
-        let taken_is : taken ≡ record {
-          moment = max replay.records.latest (own_moment format reads.captured);
-          link = format.link;
-          bytes = reads.captured.bytes;
-        } =
-        cc in
         let appends_report : decoded_records format (c.follows.records ++ reads.captured ∷ [])
         ≡ decoded_records format c.follows.records ++ taken ∷ [] =
-        decoded_more format c.follows.records reads.captured taken replay.records.latest c.latest_is taken_is in
+        decoded_more format c.follows.records reads.captured taken replay.records.latest c.latest_is cc in
         let count_now : new.count ≡ length (c.follows.records ++ reads.captured ∷ []) = let e = c.counted in
         let f = reads.counted in omega (arith, e, f, length-append c.follows.records (reads.captured ∷ [])) in (
           taken,
@@ -375,8 +370,11 @@ module _ {replay : Replay} {new : CaptureState} {input : ReplayInput} {unread af
         let l = leaves c.rest s.1 in
         let Is : List ℕ → Type 0 = λ xs. (f : BeginsWithRecords input xs c.history)
         × Ends input.format ending (length f.records) xs in
-        let both : Is (new.held ++ l.left) = subst Is l.joined (c.follows, subst (λ (n : ℕ). Ends input.format ending n c.rest)
-        c.counted (subst (λ (f : Format). Ends f ending replay.records.count c.rest) c.same s.0)) in
+        let both : Is (new.held ++ l.left) = subst Is l.joined (
+          c.follows,
+          subst (λ (n : ℕ). Ends input.format ending n c.rest)
+              c.counted (subst (λ (f : Format). Ends f ending replay.records.count c.rest) c.same s.0),
+        ) in
         record {
           ahead = new.held;
           left = l.left;

@@ -30,11 +30,12 @@ each-preserved g c =
       write_calm = search rules;
       write_without_failure = search rules;
       few = rw c.take.ensures.same c.next.ensures.room;
-      drained = λ e. c.next.ensures.drained (rw c.flush_before_read.ensures.same.1 c.each.invariant.drained) (ap (λ (s : CaptureState). s.ended) (sym c.take.ensures.same) ∙ e);
+      drained = λ e. c.next.ensures.drained (rw c.flush_before_read.ensures.same.1 c.each.invariant.drained)
+          (ap (λ (s : CaptureState). s.ended) (sym c.take.ensures.same) ∙ e);
       represents = c.in_ok-is_taken.ensures.represents went;
       carried = λ input same is p. let call = read_after c.next.new.self c.flush_before_read.ensures.same.1 c.each.invariant.drained c.next.ensures.read
-    c.next.ensures.drained c.next.ensures.format c.next.ensures.room (c.each.invariant.carried input same is p)
-    (c.in_ok-flush_before_read.ensures.kept _) in
+          c.next.ensures.drained c.next.ensures.format c.next.ensures.room (c.each.invariant.carried input same is p)
+          (c.in_ok-flush_before_read.ensures.kept _) in
           more call c.take.new.self _ (rw c.in-Ok-true.field-0-test at (c.in-Ok-true.ensures.next_answers (search rules)))
           (c.in_ok-is_taken.ensures.taken went _ _ _ (still call)) c.take.ensures.same;
     }
