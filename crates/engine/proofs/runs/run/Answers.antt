@@ -13,10 +13,8 @@ returns-in_err-checked-clause-refusals g c =
 pub returns-in_err-checked-clause-left : goal.returns-in_err-checked-clause-left
 returns-in_err-checked-clause-left g c =
     let p = err_from_is_err_and c.from_residual.result c.from_residual.ensures.1 in
-    let state = devices g.R.Read.remaining g.W.Write.contents g.W2.Write.contents in
-    let old = state c.args.capture.now c.args.sent.now c.args.report.now in
     rw p.1 (rw p.2 (IfSome_weaker _ _ _ (λ bytes. left_of_texts _ _ _ c.in_err-checked.field-0.0 c.in_err-checked.ensures.refused)
-    (nothing_taken _ old old [] (Consumes-nil _) (omega arith) (Keeps-refl _, Keeps-refl _) refl)))
+    (nothing_taken _ _ _ [] (Consumes-nil _) (omega arith) (Keeps-refl _, Keeps-refl _) refl)))
 
 pub returns-in-Err-Refused-clause-left : goal.returns-in-Err-Refused-clause-left
 returns-in-Err-Refused-clause-left g c =
