@@ -1,40 +1,29 @@
 -- Rules keep the interfaces and the earlier events; a NAT statement and a `notrack` that take effect are among their events.
-use Rattle.std.proofs.Common.{◌≡◌, ℕ, Bool, true, false, IsTrue, List, [], ◌∷◌, ◌++◌, Option, Some, None}
-use Rattle.std.proofs.Common.{refl, sym, ◌||◌, ap, append_assoc, append-nil, subst, ◌∙◌}
-use Rattle.std.specs.List.{list_any}
-use Rattle.std.proofs.Math.Bool.{or-false}
-use Rattle.std.proofs.lemmas.Bool.{or_left, or_parts, or_right}
-use Rattle.std.proofs.lemmas.List.Folds.{list_any-append}
+use Rattle.translation_laws.proofs.Names.{◌++◌, Bool, CtFacts, Event, Facts, HookResult, HookVerdict, Interface, IsTrue, Known, List, NatAction, None}
+use Rattle.translation_laws.proofs.Names.{NotLookedUp, Notrack, Option, PlantTree, Some, Translated, [], ap, append-nil, append_assoc, false, or_left, or_right}
+use Rattle.translation_laws.proofs.Names.{refl, subst, sym, true, ◌||◌, ℕ, ◌∙◌, ◌∷◌, ◌≡◌}
+use Rattle.nft_tree.specs.Tree.{Statement, TableTree, VerdictTree}
 use Rattle.nft_tree.specs.declared.chain.Policy.{Policy}
 use Rattle.nft_tree.specs.declared.statement.MarkField.{MarkField}
-use Rattle.nft_tree.specs.Tree.{Statement, TableTree, VerdictTree}
-use Rattle.box_file.specs.Box.{PlantTree}
-use Rattle.rule_meaning.specs.declared.facts.Facts.{Facts}
-use Rattle.rule_meaning.specs.declared.facts.Interface.{Interface}
-use Rattle.rule_meaning.specs.declared.facts.CtFacts.{CtFacts}
-use Rattle.rule_meaning.specs.declared.facts.CtFacts.TheVariants.{NotLookedUp, Notrack, Known}
+use Rattle.rule_meaning.specs.Hooks.{BaseChain, Chains, InTurn, NoChain, RunsBaseChain, Then, Traversal, policy_of, policy_verdict, with_policy}
+use Rattle.rule_meaning.specs.Runs.{Program, Remainder, RunResult, Runs, at_end, over, table_program}
+use Rattle.rule_meaning.specs.Sets.{Scope, data_verdict, looked_up}
+use Rattle.rule_meaning.specs.Statements.{StatementEffect, give, nat_action_of, note, operand_number, passes_if, rule_verdict_of, sets_notrack}
+use Rattle.rule_meaning.specs.Statements.{statement_effect, with_value, writes, writes_connection}
 use Rattle.rule_meaning.specs.declared.event.ChainNo.{ChainNo}
+use Rattle.rule_meaning.specs.declared.event.Event.TheVariants.{Counted, Logged, Marked, TookPolicy, Untracked}
 use Rattle.rule_meaning.specs.declared.event.RuleVerdict.TheVariants.{Translate}
-use Rattle.rule_meaning.specs.declared.event.HookVerdict.{HookVerdict}
-use Rattle.rule_meaning.specs.declared.event.HookVerdict.TheVariants.{Translated}
-use Rattle.rule_meaning.specs.declared.event.Event.{Event}
-use Rattle.rule_meaning.specs.declared.event.Event.TheVariants.{Counted, Logged, Marked, TookPolicy}
-use Rattle.rule_meaning.specs.declared.event.Event.TheVariants.{Untracked}
 use Rattle.rule_meaning.specs.declared.event.StatementPosition.{StatementPosition}
-use Rattle.rule_meaning.specs.declared.event.NatAction.{NatAction}
-use Rattle.rule_meaning.specs.Sets.{Scope, looked_up, data_verdict}
-use Rattle.rule_meaning.specs.Statements.{StatementEffect, note, give, passes_if, with_value, writes}
-use Rattle.rule_meaning.specs.Statements.{writes_connection, statement_effect, sets_notrack, rule_verdict_of}
-use Rattle.rule_meaning.specs.Statements.{operand_number, nat_action_of}
-use Rattle.rule_meaning.specs.Runs.{Program, Remainder, RunResult, at_end, over, Runs, table_program}
-use Rattle.rule_meaning.specs.Hooks.{BaseChain, HookResult, Traversal, RunsBaseChain, NoChain, Then, InTurn}
-use Rattle.rule_meaning.specs.Hooks.{Chains, with_policy, policy_of, policy_verdict}
+use Rattle.std.proofs.Math.Bool.{or-false}
+use Rattle.std.proofs.lemmas.Bool.{or_parts}
+use Rattle.std.proofs.lemmas.List.Folds.{list_any-append}
+use Rattle.std.specs.List.{list_any}
 use Rattle.translation_laws.specs.Laws.{did_translate, did_untrack}
-use Rattle.nft_tree.specs.declared.chain.Policy.TheVariants as policies
-use Rattle.nft_tree.specs.declared.statement.MarkField.TheVariants as marks
-use Rattle.nft_tree.specs.Tree as tree
-use Rattle.rule_meaning.specs.Runs as runs
 use Rattle.rule_meaning.specs.Hooks as hooks
+use Rattle.nft_tree.specs.declared.statement.MarkField.TheVariants as marks
+use Rattle.nft_tree.specs.declared.chain.Policy.TheVariants as policies
+use Rattle.rule_meaning.specs.Runs as runs
+use Rattle.nft_tree.specs.Tree as tree
 
 -- ==== Rules keep the interfaces and the earlier events; a NAT statement and a `notrack` that take effect are among their events.
 

@@ -1,73 +1,28 @@
 -- Facts of connections, of mappings and of what a packet belongs to.
-use Rattle.std.proofs.Common.{◌≡◌, ℕ, Bool, true, false, cond, not, List, [], ◌∷◌, Option, Some, None}
-use Rattle.std.proofs.Common.{◌⊎◌, inl, inr, sym, ap, subst, arith, is_some, refl, ◌∙◌, ◌&&◌, ◌||◌, IsTrue}
-use Rattle.std.specs.List.{All, Contains, find}
-use Rattle.std.proofs.lemmas.List.Elements.{All-contains, All-contains_itself, All-map}
-use Rattle.std.proofs.lemmas.List.Elements.{All-weaker, Contains-append_cases, Contains-append_left}
-use Rattle.std.proofs.lemmas.List.Elements.{Contains-append_right}
-use Rattle.list_laws.specs.Lists.{Contains-head}
-use Rattle.list_laws.specs.Elements.{Contains-cases, Contains-tail}
-use Rattle.ip_headers.specs.declared.tuple.Mapping.{Mapping}
-use Rattle.ip_headers.specs.declared.tuple.Tuple.{Tuple}
-use Rattle.conntrack.specs.declared.belonging.Belonging.{Belonging}
-use Rattle.conntrack.specs.declared.belonging.Belonging.TheVariants.{Ends, Found, NotFound}
-use Rattle.conntrack.specs.declared.connection.ConnId.{ConnId}
-use Rattle.conntrack.specs.declared.connection.Direction.{Direction}
-use Rattle.conntrack.specs.declared.connection.Flags.{Flags}
-use Rattle.conntrack.specs.declared.connection.ConntrackEntry.{ConntrackEntry}
-use Rattle.conntrack.specs.ConntrackEntry.{begun_with, same_id, touched, touched_at, have_disjoint_tuples}
-use Rattle.conntrack.specs.ConntrackEntry.{belonging_by, belongs_in, is_incoming, is_taken, of_original}
-use Rattle.conntrack.specs.ConntrackEntry.{of_reply, connection_ref}
-use Rattle.conntrack.specs.Updates.{Arrival}
-use Rattle.translation.specs.LiveMappings.{listed, mappings_in, mappings_of}
-use Rattle.std.proofs.lemmas.Option.{none-some, same_Some}
-use Rattle.list_laws.specs.Options.{option_cases, some_of_map}
-use Rattle.nat_mapping.proofs.Lists.{found_among, none_such}
-use Rattle.box_file.specs.Box.{PlantTree}
-use Rattle.ip_headers.specs.declared.tuple.Endpoint.{Endpoint}
-use Rattle.ip_headers.specs.declared.tuple.Kind.{Kind}
-use Rattle.ip_headers.specs.declared.tuple.Kind.TheVariants.{Tcp, Udp}
-use Rattle.rewrite.specs.Endpoints.{PortsMatchKind}
-use Rattle.nat_mapping.specs.Mappings.{inbound_of, source_of, has_internal, has_external, port_of}
-use Rattle.rule_meaning.specs.declared.facts.Facts.{Facts}
-use Rattle.rule_meaning.specs.declared.event.HookVerdict.{HookVerdict}
-use Rattle.rule_meaning.specs.declared.event.HookVerdict.TheVariants.{Accepted, Dropped, Translated}
-use Rattle.rule_meaning.specs.declared.event.NatAction.{NatAction}
-use Rattle.translation.specs.declared.external.ExternalSource.{ExternalSource}
-use Rattle.translation.specs.declared.ct_info.NewConnection.{NewConnection}
-use Rattle.translation.specs.CtInfos.{new_connection_of}
-use Rattle.translation.specs.Nat.{statement_destination, internal_endpoint, with_source_nat}
-use Rattle.translation.specs.Nat.{with_destination_nat, has_ports, to_internal, with_source_mapping}
-use Rattle.translation.specs.Nat.{port_named, range_of}
-use Rattle.std.specs.Option.{option_map}
-use Rattle.std.proofs.lemmas.Bool.{and_parts, and_from, both_ways, eq-eqb}
-use Rattle.std.proofs.lemmas.Bool.{eqb-true, or_left, or_right, not-true, or_cases}
-use Rattle.std.proofs.lemmas.Bool.{false_from_ne_true}
-use Rattle.ip_headers.specs.steps.Equal.{same_kind-refl, same_kind-true, same_endpoint-refl}
-use Rattle.ip_headers.specs.steps.Equal.{same_endpoint-true, same_tuple-true}
-use Rattle.ip_headers.specs.Same.{same_tuple}
-use Rattle.conntrack.specs.declared.connection.Direction.TheVariants.{Original, Reply}
+use Rattle.translation_laws.proofs.Names.{All, All-contains, All-weaker, Belonging, Bool, ConnId, ConnectionRef, ConntrackEntry, Contains, Contains-append_left}
+use Rattle.translation_laws.proofs.Names.{Contains-append_right, Contains-cases, Contains-head, Contains-tail, Direction, Endpoint, Ends, Flags, Found, IsTrue}
+use Rattle.translation_laws.proofs.Names.{Kind, List, Mapping, None, Option, Original, Reply, Some, Touches, Tuple, [], and_from, and_parts, ap, arith}
+use Rattle.translation_laws.proofs.Names.{belongs_in, both_ways, cond, connection_ref, does_end, false, found_among, have_disjoint_tuples, inbound_of, inl, inr}
+use Rattle.translation_laws.proofs.Names.{is_incoming, is_taken, listed, mappings_in, not, or_left, or_right, port_of, refl, same_id, same_tuple}
+use Rattle.translation_laws.proofs.Names.{same_tuple-true, some_of_map, subst, sym, touch_of, touched, touched_at, true, ◌||◌, ℕ, ◌∙◌, ◌∷◌, ◌≡◌, ◌⊎◌}
+use Rattle.conntrack.specs.ConntrackEntry.{belonging_by, of_original, of_reply}
 use Rattle.conntrack.specs.Phases.{is_closing, is_lone_syn}
-use Rattle.translation_laws.specs.Laws.{given_to, does_end, touch_of}
-use Rattle.conntrack.specs.declared.belonging.ConnectionRef.{ConnectionRef}
-use Rattle.conntrack.specs.Histories.{Touches}
-use Rattle.rule_meaning.specs.declared.event.NatAction.TheVariants as translations
+use Rattle.conntrack.specs.declared.belonging.Belonging.TheVariants.{NotFound}
+use Rattle.ip_headers.specs.steps.Equal.{same_endpoint-refl, same_endpoint-true, same_kind-refl, same_kind-true}
+use Rattle.list_laws.specs.Options.{option_cases}
+use Rattle.nat_mapping.proofs.Lists.{none_such}
+use Rattle.nat_mapping.specs.Mappings.{has_external, has_internal}
+use Rattle.std.proofs.Common.{◌&&◌}
+use Rattle.std.proofs.lemmas.Bool.{eq-eqb, eqb-true, false_from_ne_true, not-true, or_cases}
+use Rattle.std.proofs.lemmas.List.Elements.{All-contains_itself, All-map, Contains-append_cases}
+use Rattle.std.specs.List.{find}
+use Rattle.std.specs.Option.{option_map}
+use Rattle.translation.specs.LiveMappings.{mappings_of}
+use Rattle.translation_laws.specs.Laws.{given_to}
 
 -- ==== Facts of each connection held, and of each mapping.
 
 -- ---- connections
-
--- the connection that a packet begins
-abbrev pub begun_by : ConnId → Arrival → ℕ → Tuple → Option Mapping → Option Mapping → ConntrackEntry
-begun_by id p mark reply source dest =
-    begun_with id (record {
-      original = p.tuple;
-      reply = reply;
-      mark = mark;
-      last = p.moment;
-      source = source;
-      dest = dest;
-    }) p.flags
 
 -- what a touch keeps of one is kept of all
 pub each_touched : (P : ConntrackEntry → Type 0) (id : ConnId) (direction : Direction) (flags : Flags) (mark now : ℕ)
@@ -136,124 +91,13 @@ pub each_holder : (Q : Mapping → Type 0) (held : List ConntrackEntry)
 each_holder Q held all = All-weaker (Contains held) (MappingsAre Q)
     (λ h among m has. all m (mapping_of_holder held h m among has)) held (All-contains_itself held)
 
--- ==== Destination NAT and source NAT of a new connection.
+-- ==== What the searches for mappings find.
 
 abbrev pub mapping_at : Kind → Endpoint → Endpoint → Mapping
 mapping_at kind internal external = record { kind = kind; internal = internal; external = external }
 
 abbrev pub end_at : ℕ → ℕ → Endpoint
 end_at address port = record { address = address; port = port }
-
--- ---- behind destination NAT
-
--- its destination was found by the mapping that it goes to
-abbrev pub DestSo : List Mapping → Tuple → NewConnection → Type 0
-DestSo mappings t d =
-    (m : Mapping) → d.dest ≡ Some m
-    → (m ≡ mapping_at t.kind d.tuple.destination t.destination)
-    × (inbound_of t.kind t.destination mappings ≡ Some d.tuple.destination)
-
-pub record IsTurned (mappings : List Mapping) (t : Tuple) (d : NewConnection) : Type 0 where
-  pub kind : d.tuple.kind ≡ t.kind
-  pub source : d.tuple.source ≡ t.source
-  pub none : d.source ≡ None
-  pub dest : DestSo mappings t d
-  pub shape : PortsMatchKind t.kind t.source.port t.destination.port
-      → PortsMatchKind t.kind t.source.port d.tuple.destination.port
-
-pub ported_suits : (kind : Kind) (from to : ℕ) → has_ports kind ≡ true → PortsMatchKind kind from to
-ported_suits Tcp from to h = tt
-ported_suits Udp from to h = tt
-ported_suits _ from to h = cc
-
-named_suits : (kind : Kind) (port : Option ℕ) (from old : ℕ) → PortsMatchKind kind from old
-    → PortsMatchKind kind from (port_named kind port old)
-named_suits kind None from old h = h
-named_suits Tcp (Some port) from old h = tt
-named_suits _ (Some port) from old h = h
-
-module _ (plant : PlantTree) (mappings : List Mapping) (f : Facts) (t : Tuple) where
-  aimed_suits : (how : NatAction) → PortsMatchKind t.kind t.source.port t.destination.port
-      → PortsMatchKind t.kind t.source.port (statement_destination plant f (new_connection_of t) how).port
-  aimed_suits (translations.Destination address port) h = named_suits t.kind port t.source.port t.destination.port h
-  aimed_suits (translations.Redirect port) h = named_suits t.kind port t.source.port t.destination.port h
-  aimed_suits _ h = h
-
-  -- what is behind an endpoint of a kind that has ports
-  behind_parts : (b : Bool) (o : Option Endpoint) (i : Endpoint) → cond b o None ≡ Some i → (b ≡ true) × (o ≡ Some i)
-  behind_parts true o i e = (refl, e)
-  behind_parts false o i e = cc
-
-  unturned : IsTurned mappings t (new_connection_of t)
-  unturned = record { kind = refl; source = refl; none = refl; dest = λ m e. cc; shape = λ h. h }
-
-  pub turned_so : (verdict : HookVerdict) → IsTurned mappings t (with_destination_nat plant mappings f (new_connection_of t)
-      verdict)
-  turned_so (Translated how) =
-      record { kind = refl; source = refl; none = refl; dest = λ m e. absurd (none-some m e); shape = aimed_suits how }
-  turned_so Dropped = unturned
-  turned_so Accepted = by_found (internal_endpoint mappings (new_connection_of t)) refl
-    where
-      by_found : (o : Option Endpoint) → internal_endpoint mappings (new_connection_of t) ≡ o
-          → IsTurned mappings t (to_internal (new_connection_of t) o)
-      by_found None e = unturned
-      by_found (Some i) e =
-          let parts = behind_parts (has_ports t.kind) (inbound_of t.kind t.destination mappings) i e in
-          record {
-            kind = refl;
-            source = refl;
-            none = refl;
-            dest = λ m k. (sym (same_Some (mapping_at t.kind i t.destination) m k), parts.1);
-            shape = λ h. ported_suits t.kind t.source.port i.port parts.0;
-          }
-
--- ---- behind source NAT
-
--- its source stayed, or was mapped to the port that it has there or got there
-pub data SourceSo (mappings : List Mapping) (t : Tuple) (d : NewConnection) : Type 0 where
-  stayed : d.source ≡ None → d.tuple.source ≡ t.source → SourceSo mappings t d
-  went : (x : ExternalSource) (port : ℕ) → source_of t.kind t.source x.address (range_of x.ports) mappings ≡ Some port
-      → d.source ≡ Some (mapping_at t.kind t.source (end_at x.address port)) → d.tuple.source ≡ end_at x.address port
-      → d.has_port_range ≡ is_some x.ports → SourceSo mappings t d
-
-pub record NewConnectionSo (mappings : List Mapping) (t : Tuple) (d : NewConnection) : Type 0 where
-  pub kind : d.tuple.kind ≡ t.kind
-  pub source : SourceSo mappings t d
-  pub dest : DestSo mappings t d
-  pub shape : PortsMatchKind t.kind t.source.port t.destination.port
-      → PortsMatchKind t.kind t.source.port d.tuple.destination.port
-
-module _ (mappings : List Mapping) (t : Tuple) (d : NewConnection) (turned : IsTurned mappings t d) where
-  -- its source is still the packet's
-  its_source : (x : ExternalSource) (port : ℕ)
-      → source_of d.tuple.kind d.tuple.source x.address (range_of x.ports) mappings ≡ Some port
-      → (source_of t.kind t.source x.address (range_of x.ports) mappings ≡ Some port)
-      × (mapping_at d.tuple.kind d.tuple.source (end_at x.address port)
-      ≡ mapping_at t.kind t.source (end_at x.address port))
-  its_source x port e = (rw (← turned.kind, ← turned.source) e, rw (turned.kind, turned.source) refl)
-
-  pub left_so : (x : Option ExternalSource) (after : NewConnection) → with_source_nat mappings d x ≡ Some after
-      → NewConnectionSo mappings t after
-  left_so None after e =
-      subst (NewConnectionSo mappings t) (same_Some d after e)
-      (record {
-        kind = turned.kind;
-        source = stayed turned.none turned.source;
-        dest = turned.dest;
-        shape = turned.shape;
-      })
-  left_so (Some x) after e =
-      let r = some_of_map (with_source_mapping d x)
-      (source_of d.tuple.kind d.tuple.source x.address (range_of x.ports) mappings) after e in
-      subst (NewConnectionSo mappings t) r.2
-      (record {
-        kind = turned.kind;
-        source = went x r.0 (its_source x r.0 r.1).0 (ap Some (its_source x r.0 r.1).1) refl refl;
-        dest = turned.dest;
-        shape = turned.shape;
-      })
-
--- ==== What the searches for mappings find.
 
 -- where one passes one is found
 one_found : {X : Type 0} (p : X → Bool) (xs : List X) (x : X) → Contains xs x → p x ≡ true

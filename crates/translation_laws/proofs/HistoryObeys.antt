@@ -1,52 +1,22 @@
--- The laws of NAT in each history, put together. To be read before it: Chains, Paths, Connections, HistorySteps, Preserved,
--- EntryLaws.
-use Rattle.std.proofs.Common.{◌≡◌, List, [], ◌∷◌, ◌++◌, ◌⊎◌, inl, inr, refl, sym, ap, subst, ℕ, Bool}
-use Rattle.std.proofs.Common.{true, not, arith, drop, Option, Some, None, Result, Ok, Err}
-use Rattle.std.proofs.Common.{◌∙◌}
-use Rattle.pcap_io.specs.Pcap.{Recorded}
-use Rattle.history.specs.Setup.{Setup, limits_of}
-use Rattle.history.specs.History.{Entry, tracked_of}
-use Rattle.stepping.specs.Next.{IsHistoryOf, Next, live_at_record, moment_after}
-use Rattle.translation_laws.specs.Histories.{EntriesFollow, IsHistory, alive_at, listed_at}
-use Rattle.std.specs.Prelude.{filter, map}
-use Rattle.std.specs.List.{Contains}
-use Rattle.std.proofs.lemmas.Bool.{cond_both, lt-ltb, ltb-true, and_parts, and_from, both_ways, not_from_false}
-use Rattle.std.proofs.lemmas.Bool.{or_left, or_right}
-use Rattle.std.proofs.lemmas.List.Elements.{All-contains, All-weaker, filter_passes}
-use Rattle.list_laws.specs.Lists.{Contains-head}
-use Rattle.list_laws.specs.Elements.{Contains-cases, Contains-tail, Contains-unmap}
-use Rattle.conntrack.specs.ConntrackEntry.{is_live, have_disjoint_tuples, connection_of, is_incoming}
-use Rattle.conntrack.specs.ConntrackEntry.{is_taken}
-use Rattle.conntrack.specs.Histories.{TrackedPacket, begun_in, connection_in, is_alive, is_ended}
-use Rattle.translation_laws.specs.Laws.{LivesOn, names_of, AreApart, HasIncoming, HoldsMapping}
-use Rattle.translation_laws.specs.Laws.{BeginsOne, Hairpins}
-use Rattle.translation_laws.specs.Laws.{HistoryLaws, IsAccepted, LeavesTranslated, LiveLaws}
-use Rattle.ip_headers.specs.declared.tuple.Mapping.{Mapping}
-use Rattle.ip_headers.specs.declared.tuple.Tuple.{Tuple}
-use Rattle.ip_headers.specs.Same.{same_tuple}
-use Rattle.ip_headers.specs.steps.Equal.{same_tuple-refl}
+-- The laws of NAT in each history, put together. To be read before it: Chains, Paths, Connections, Preserved, EntryLaws.
+use Rattle.translation_laws.proofs.Names.{◌++◌, All-contains, Bool, ConntrackEntry, Contains, Contains-cases, Contains-head, Contains-tail, Entry, IsHistory}
+use Rattle.translation_laws.proofs.Names.{IsHistoryOf, List, LivesOn, Mapping, Next, Recorded, Setup, TrackedPacket, Tuple, [], alive_at, and_from, and_parts}
+use Rattle.translation_laws.proofs.Names.{ap, arith, both_ways, cond_both, have_disjoint_tuples, inl, inr, is_incoming, is_live, is_taken, limits_of, listed}
+use Rattle.translation_laws.proofs.Names.{mappings_in, moment_after, not, or_left, or_right, refl, same_tuple, subst, sym, tracked_of, true, ℕ, ◌∙◌, ◌∷◌, ◌≡◌}
+use Rattle.translation_laws.proofs.Names.{◌⊎◌}
+use Rattle.conntrack.specs.ConntrackEntry.{connection_of}
+use Rattle.conntrack.specs.Histories.{begun_in, connection_in, is_alive, is_ended}
 use Rattle.conntrack.specs.declared.connection.Connection.{Connection}
-use Rattle.conntrack.specs.declared.connection.ConntrackEntry.{ConntrackEntry}
-use Rattle.translation.specs.LiveMappings.{mappings_in}
-use Rattle.translation_laws.proofs.Connections.{mapping_of_holder, not_behind, parts, taken_by, each_mapping}
-use Rattle.translation_laws.proofs.Connections.{MappingsAre, given_one}
-use Rattle.ip_headers.specs.declared.view.HeaderFault.{HeaderFault}
-use Rattle.ip_headers.specs.Header.{fault_of, packet_of}
-use Rattle.ip_headers.specs.Passing.{Passes}
-use Rattle.ip_headers.proofs.Faults.{packet_passes}
-use Rattle.pcap_io.specs.declared.link.Link.{Link}
-use Rattle.pcap_io.specs.declared.link.LinkCause.{LinkCause}
-use Rattle.pcap_io.specs.Links.{link_of}
-use Rattle.history.specs.declared.outcome.Cause.{Cause}
-use Rattle.stepping.specs.Carried.{ReceivedPacket, carried, carried_after, carried_by, carried_with}
-use Rattle.stepping.specs.Carried.{input_interface}
-use Rattle.translation_laws.proofs.EntryLaws.{allocates_so, begins_one, turns_back}
-use Rattle.translation_laws.proofs.EntryLaws.{BetweenEnds, GoesSo, goes_so, touches_own}
-use Rattle.translation_laws.proofs.Preserved.{CandidatesAlike, IsChosen, IsMade, MappingLaws, Preserved, StillApart}
-use Rattle.translation_laws.proofs.Preserved.{ended, preserved}
-use Rattle.translation_laws.proofs.HistorySteps.{Always, IsKept, OneEntryMore, lifted}
-use Rattle.translation_laws.proofs.Paths.{accepted_with, belongs_by, dropped_none}
-use Rattle.translation_laws.proofs.Paths.{passes_accepted}
+use Rattle.ip_headers.specs.steps.Equal.{same_tuple-refl}
+use Rattle.list_laws.specs.Elements.{Contains-unmap}
+use Rattle.std.proofs.lemmas.Bool.{lt-ltb, ltb-true, not_from_false}
+use Rattle.std.proofs.lemmas.List.Elements.{filter_passes}
+use Rattle.std.specs.Prelude.{filter, map}
+use Rattle.translation_laws.specs.Histories.{EntriesFollow}
+use Rattle.translation_laws.specs.Laws.{AreApart, HasIncoming, HistoryLaws, HoldsMapping, names_of}
+use Rattle.translation_laws.proofs.Connections.{given_one, mapping_of_holder, not_behind, parts, taken_by}
+use Rattle.translation_laws.proofs.Preserved.{Known, allocated, preserved}
+use Rattle.translation_laws.proofs.EntryLaws.{entry_laws}
 
 -- ==== Each entry of a history extends the history before it.
 
@@ -146,53 +116,13 @@ listed_mapping held c m among holds =
     let u = Contains-unmap connection_of held c among in
     mapping_of_holder held u.0 m u.1 (subst (λ (d : Connection). HoldsMapping d m) (sym u.2) holds)
 
--- ==== A packet that a record carries has no fault.
-
--- what is known of faults
-pub record FaultLaws : Type 0 where
-  pub passes : (bytes : List ℕ) → fault_of bytes ≡ None → Passes bytes
-  pub faultless : (bytes : List ℕ) → Passes bytes → fault_of bytes ≡ None
-
-abbrev pub IsFaultless : Result ReceivedPacket Cause → Type 0
-IsFaultless (Ok a) = fault_of a.packet ≡ None
-IsFaultless (Err cause) = Unit {0}
-
-module _ (laws : FaultLaws) (setup : Setup) (bytes : List ℕ) where
-  by_fault : (index : ℕ) (o : Option HeaderFault) → fault_of bytes ≡ o → IsFaultless (carried_with index bytes o)
-  by_fault index (Some fault) e = tt
-  by_fault index None e = laws.faultless (packet_of bytes) (packet_passes bytes (laws.passes bytes e))
-
-  by_interface : (o : Option ℕ) → IsFaultless (carried_by bytes o)
-  by_interface None = tt
-  by_interface (Some index) = by_fault index (fault_of bytes) refl
-
-pub carried_faultless : FaultLaws → (setup : Setup) (r : Recorded) → IsFaultless (carried setup r)
-carried_faultless laws setup r = by_link (link_of r.link r.bytes)
-  where
-    by_link : (l : Result Link LinkCause) → IsFaultless (carried_after setup r.bytes l)
-    by_link (Err cause) = tt
-    by_link (Ok link) =
-        by_interface laws setup (drop link.packet r.bytes) (input_interface setup link.interface)
-
 -- ==== The laws, in each history.
 
--- what the laws follow from
-pub record Known : Type 0 where
-  pub more : OneEntryMore
-  pub still : StillApart
-  pub laws : MappingLaws
-  pub all : CandidatesAlike
-  pub sending : BetweenEnds
-  pub faults : FaultLaws
-
-module _ (known : Known) (setup : Setup) where
-  kept : IsKept Preserved
-  kept = preserved known.still known.laws known.all
-
-  live_always : Always setup (λ history now. LiveLaws setup history now (listed_at setup history now))
-  live_always history is now le =
+pub history_obeys : Known → (setup : Setup) (history : List Entry) → IsHistory setup history → HistoryLaws setup history
+history_obeys known setup history is = record {
+  live = λ now le.
       let alive = alive_at setup history now in
-      let k = lifted known.more setup Preserved kept history is now le in
+      let k = preserved known setup history is now le in
       record {
         listed = refl;
         apart = apart_listed alive k.apart;
@@ -201,63 +131,11 @@ module _ (known : Known) (setup : Setup) where
         one_port = λ c d m n a b from other.
             k.mapped.one.one_port m n (listed_mapping alive c m a (inl from)) (listed_mapping alive d n b (inl other));
         class = λ c m live holds ports latest. k.mapped.class m ports latest;
-        chosen = λ c m live holds. each_mapping (IsChosen history) alive
-            (All-weaker (IsMade history) (MappingsAre (IsChosen history)) (λ h one. one.chosen) alive k.mapped.all) m
-            (listed_mapping alive c m live holds);
+        chosen = λ c m live holds. (allocated known history alive k.mapped m (listed_mapping alive c m live holds)).1;
         given = λ h t flags. given_one t alive flags h k.apart;
         lives = lives_always setup history now;
-      }
-
-  -- the entry of a record
-  module _ (history : List Entry) (is : IsHistory setup history) (r : Recorded) (e : Entry) where
-    abbrev held : List ConntrackEntry
-    held = live_at_record setup history r
-
-    abbrev now : ℕ
-    now = moment_after history r
-
-    before : Preserved history held
-    before = lifted known.more setup Preserved kept history is now (omega arith)
-
-    faultless : (a : ReceivedPacket) → carried setup r ≡ Ok a → fault_of a.packet ≡ None
-    faultless a arrived = subst IsFaultless arrived (carried_faultless known.faults setup r)
-
-    leaves_so : Next setup history r e → LeavesTranslated setup history r e
-    leaves_so n a t comes h among incoming unended = record {
-      touched = λ accepted. (goes accepted).touched;
-      leaves = λ interface passed. (goes (passes_accepted e interface passed)).leaves interface passed;
-    }
-      where
-        goes : IsAccepted e → GoesSo h t e
-        goes accepted =
-            goes_so setup held now a t e (accepted_with setup history r e n a t comes accepted) known.sending (faultless a comes.carries)
-            history h
-            (All-contains (IsMade history) held h before.mapped.all among) before.apart among incoming unended
-
-    begins_so : Next setup history r e → BeginsOne setup history r e
-    begins_so n a t comes new free accepted =
-        begins_one setup held now a t e (accepted_with setup history r e n a t comes accepted) new free
-
-    hairpins_so : Next setup history r e → Hairpins setup history r e
-    hairpins_so n a t comes ports m among kind external other begins untold interface passed =
-        turns_back setup held now a t e (accepted_with setup history r e n a t comes (passes_accepted e interface passed)) interface passed
-        begins known.laws known.sending (faultless a comes.carries)
-        (ended known.laws history held before.mapped (belongs_by held a.packet t)).one ports m among kind external other
-        untold
-
-  pub history_obeys : (history : List Entry) → IsHistory setup history → HistoryLaws setup history
-  history_obeys history is = record {
-    live = live_always history is;
-    next = λ r e n.
-        let live = live_always history is (moment_after history r) (omega arith) in
-        record {
-          given = live.given;
-          lives = live.lives;
-          leaves = leaves_so history is r e n;
-          touches = touches_own setup history r e n;
-          begins = begins_so history is r e n;
-          dropped = dropped_none setup history r e n;
-          hairpins = hairpins_so history is r e n;
-          allocates = allocates_so setup history r e n;
-        };
-  }
+      };
+  next = λ r e.
+      entry_laws known setup history r e (preserved known setup history is (moment_after history r) (omega arith))
+      (lives_always setup history (moment_after history r));
+}

@@ -1,7 +1,7 @@
+mod Names
 mod Chains
 mod Paths
 mod Connections
-mod HistorySteps
 mod Preserved
 mod EntryLaws
 mod HistoryObeys

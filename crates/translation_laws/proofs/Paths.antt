@@ -1,66 +1,37 @@
 -- The path of a packet through the hooks, and its entry.
-use Rattle.std.proofs.Common.{◌≡◌, ℕ, Bool, true, false, List, [], ◌++◌, Option, Some, None, refl, sym, ap}
-use Rattle.std.proofs.Common.{subst, append_assoc, append-nil, ◌∙◌, Ok, Result, Err}
-use Rattle.std.specs.Prelude.{nat_lt}
-use Rattle.std.proofs.lemmas.Bool.{both_ways, cond_both}
-use Rattle.std.proofs.lemmas.Option.{same_Some, none-some}
-use Rattle.list_laws.specs.Options.{none_not_some, some_of_map, some_unique}
+use Rattle.translation_laws.proofs.Names.{◌++◌, Accepted, Belonging, Bool, Cause, ConnectionRef, ConntrackEntry, CtFacts, CtInfo, Dropped, Entry, Err, Event}
+use Rattle.translation_laws.proofs.Names.{ExternalSource, Facts, Found, HookResult, HookVerdict, Interface, Invalid, IsAccepted, Known, List, Mapping, New}
+use Rattle.translation_laws.proofs.Names.{NewConnection, Next, NoChange, None, NotLookedUp, Notrack, Ok, Option, PathState, ReceivedPacket, Recorded, Result}
+use Rattle.translation_laws.proofs.Names.{Setup, Some, Tracked, TrackedPacket, Translated, Tuple, Unconfirmed, [], after_end, ap, append-nil, append_assoc}
+use Rattle.translation_laws.proofs.Names.{arrival_of, belongs_in, both_ways, carried, cond_both, confirmation_by, entry_at, external_source, false, first_state}
+use Rattle.translation_laws.proofs.Names.{flags_in, interface_facts, live_at_record, mappings_in, mark_in, moment_after, new_connection_of, none-some}
+use Rattle.translation_laws.proofs.Names.{none_not_some, outcome_by, port_choice_for, refl, refusal, reply_to, same_Some, sent_on, some_of_map, subst, sym}
+use Rattle.translation_laws.proofs.Names.{tracked_connection, transport_of, true, tuple_of, with_destination_nat, with_source_nat, ℕ, ◌∙◌, ◌≡◌}
 use Rattle.box_file.specs.Box.{is_own, route}
-use Rattle.ip_headers.specs.declared.tuple.Mapping.{Mapping}
-use Rattle.rule_meaning.specs.declared.facts.Facts.{Facts}
-use Rattle.rule_meaning.specs.declared.facts.Interface.{Interface}
-use Rattle.rule_meaning.specs.declared.event.Event.{Event}
-use Rattle.rule_meaning.specs.declared.event.HookVerdict.{HookVerdict}
-use Rattle.rule_meaning.specs.declared.event.HookVerdict.TheVariants.{Accepted, Dropped, Translated}
-use Rattle.rule_meaning.specs.Hooks.{Chains, HookResult}
-use Rattle.hook_runs.specs.declared.stages.HookStage.{HookStage}
-use Rattle.hook_runs.specs.Stages.{chains_in_stage}
-use Rattle.history.specs.Setup.{Setup}
-use Rattle.translation.specs.declared.ct_info.CtInfo.{CtInfo}
-use Rattle.translation.specs.declared.ct_info.CtInfo.TheVariants.{Invalid, New, Related, Tracked, Untracked}
-use Rattle.translation.specs.declared.ct_info.NewConnection.{NewConnection}
-use Rattle.translation.specs.declared.external.ExternalSource.{ExternalSource}
-use Rattle.translation.specs.Nat.{after_source_nat, external_source}
-use Rattle.translation.specs.Nat.{with_destination_nat, with_source_nat}
-use Rattle.stepping.specs.Paths.{PathState, StepResult, Continue, Drop, Step, ◌⨾◌, stops, goes_on}
-use Rattle.stepping.specs.Paths.{after_chains, RunsStage, unless_dropped, NatChains, DestinationNat}
-use Rattle.stepping.specs.Paths.{destination_nat_result, SourceNat, source_nat_result, forwarded_by}
-use Rattle.stepping.specs.Paths.{forwarded_facts, Routing, InputOrForward, AfterRouting, Hooks, on_arrival}
-use Rattle.conntrack.specs.declared.connection.ConntrackEntry.{ConntrackEntry}
-use Rattle.history.specs.declared.outcome.Cause.{Cause}
-use Rattle.stepping.specs.Confirmations.{confirmed, refusal, reply_to, unless_refused}
-use Rattle.stepping.specs.Confirmations.{confirmation_by, confirmation_of, mark_in, port_choice_for}
-use Rattle.translation_laws.proofs.Chains.{KeepsEnd, Kept, RecordsNat, chains_kept, did_nat_act, nothing_kept}
-use Rattle.translation_laws.proofs.Chains.{IfLookedUp, TellExempt, did_exempt}
-use Rattle.rule_meaning.specs.declared.facts.CtFacts.{CtFacts}
-use Rattle.rule_meaning.specs.declared.facts.CtFacts.TheVariants.{NotLookedUp, Notrack, Known}
-use Rattle.translation.specs.CtInfos.{ct_facts_after_nat, ct_facts_of, error_ct_info, ct_info_by}
-use Rattle.translation.specs.CtInfos.{facts_after_destination_nat, facts_after_source_nat, new_ct_info}
-use Rattle.translation.specs.CtInfos.{new_connection_of, tracked_connection}
-use Rattle.pcap_io.specs.Pcap.{Recorded}
-use Rattle.stepping.specs.Next.{Next, live_at_record, moment_after, AfterLookUp, EntryOf, HooksAndConfirm}
-use Rattle.stepping.specs.Next.{LookUp, Path, arrival_of, entry_of, outcome_by, sent_on, tracked_as, tuple_in}
-use Rattle.stepping.specs.Carried.{carried, ReceivedPacket, interface_facts}
-use Rattle.stepping.specs.Lookups.{error_belonging, belonging_by_tuple, belonging_of, ct_info_by_tuple}
-use Rattle.stepping.specs.Lookups.{flags_in, looked_up_info, lookup_tuple_of, others_beside, others_in}
-use Rattle.ip_headers.specs.Tuple.{inner_tuple_of, tuple_of}
-use Rattle.ip_headers.specs.declared.tuple.Tuple.{Tuple}
-use Rattle.ip_headers.specs.Header.{transport_of}
-use Rattle.conntrack.specs.declared.belonging.Belonging.{Belonging}
-use Rattle.conntrack.specs.declared.belonging.Belonging.TheVariants.{Found}
 use Rattle.conntrack.specs.declared.belonging.LookupState.{LookupState}
-use Rattle.conntrack.specs.ConntrackEntry.{belongs_in, first_state}
-use Rattle.conntrack.specs.declared.belonging.ConnectionRef.{ConnectionRef}
-use Rattle.conntrack.specs.Histories.{NoChange, TrackedPacket}
-use Rattle.conntrack.specs.Updates.{Unconfirmed, after_end, entry_at}
-use Rattle.history.specs.History.{Entry}
-use Rattle.translation.specs.LiveMappings.{mappings_in}
-use Rattle.translation_laws.specs.Laws.{ComesWith, IsAccepted}
-use Rattle.hook_runs.specs.declared.stages.HookStage.TheVariants as stages
+use Rattle.hook_runs.specs.Stages.{chains_in_stage}
+use Rattle.hook_runs.specs.declared.stages.HookStage.{HookStage}
+use Rattle.ip_headers.specs.Tuple.{inner_tuple_of}
+use Rattle.list_laws.specs.Options.{some_unique}
+use Rattle.std.specs.Prelude.{nat_lt}
+use Rattle.stepping.specs.Confirmations.{confirmation_of, confirmed, unless_refused}
+use Rattle.stepping.specs.Lookups.{belonging_by_tuple, belonging_of, ct_info_by_tuple, error_belonging, looked_up_info, lookup_tuple_of, others_beside}
+use Rattle.stepping.specs.Lookups.{others_in}
+use Rattle.stepping.specs.Next.{AfterLookUp, EntryOf, HooksAndConfirm, LookUp, Path, entry_of, tracked_as, tuple_in}
+use Rattle.stepping.specs.Paths.{AfterRouting, Continue, DestinationNat, Drop, Hooks, InputOrForward, NatChains, Routing, RunsStage, SourceNat, Step}
+use Rattle.stepping.specs.Paths.{StepResult, after_chains, destination_nat_result, forwarded_by, forwarded_facts, goes_on, on_arrival, source_nat_result, stops}
+use Rattle.stepping.specs.Paths.{unless_dropped, ◌⨾◌}
+use Rattle.translation.specs.CtInfos.{ct_facts_after_nat, ct_facts_of, ct_info_by, error_ct_info, facts_after_destination_nat, facts_after_source_nat}
+use Rattle.translation.specs.CtInfos.{new_ct_info}
+use Rattle.translation.specs.Nat.{after_destination_nat, after_source_nat}
+use Rattle.translation.specs.declared.ct_info.CtInfo.TheVariants.{Related, Untracked}
+use Rattle.translation_laws.specs.Laws.{ComesWith}
+use Rattle.translation_laws.proofs.Chains.{IfLookedUp, KeepsEnd, Kept, RecordsNat, TellExempt, chains_kept, did_exempt, did_nat_act, nothing_kept}
 use Rattle.history.specs.declared.outcome.Cause.TheVariants as causes
+use Rattle.history.specs.declared.outcome.Outcome.TheVariants as outcomes
+use Rattle.hook_runs.specs.declared.stages.HookStage.TheVariants as stages
 use Rattle.conntrack.specs.declared.belonging.LookupState.TheVariants as states
 use Rattle.conntrack.specs.Updates as updates
-use Rattle.history.specs.declared.outcome.Outcome.TheVariants as outcomes
 
 -- ==== What NAT makes of the state of a packet that isn't dropped.
 
@@ -129,22 +100,18 @@ after_nat_tells : (info : CtInfo) (ct : CtFacts) (at_look_up : Option Bool) (exe
 after_nat_tells (New new_connection) (Known c) at_look_up exempt told = told
 after_nat_tells _ ct at_look_up exempt told = told
 
--- ---- where a `notrack` took effect before the look-up, or not, as its facts tell
-
-module _ (exempt : Bool) where
-  abbrev Told : (PathState → Type 0) → PathState → Type 0
-  Told P s = P s × TellExempt s.facts.ct (Some exempt) (did_exempt s.events)
-
-  told_kept : (P : PathState → Type 0) → IsKeptByChains P → IsKeptByChains (Told P)
-  told_kept P kept s end k h = (kept s end k h.0, k.exempt (Some exempt) h.1)
-
 -- ---- NAT
 
--- on a path with these events the nat chains of postrouting gave this result
-pub record IsAsked (setup : Setup) (asked : HookResult) (es : List Event) : Type 0 where
+-- not the state of the first packet of a connection
+abbrev pub IsOld : CtInfo → Type 0
+IsOld (New new_connection) = ⊥
+IsOld _ = Unit {0}
+
+-- on a path with these events the nat chains of postrouting gave this result, for a packet in this state
+pub record IsAsked (setup : Setup) (info : CtInfo) (asked : HookResult) (es : List Event) : Type 0 where
   pub facts : Facts
   pub before : List Event
-  pub ran : Chains setup.plant setup.rules (chains_in_stage stages.PostroutingNat) facts before asked
+  pub ran : NatChains setup stages.PostroutingNat info facts before asked
   pub later : List Event
   pub among : es ≡ asked.events ++ later
 
@@ -156,18 +123,11 @@ module _ (setup : Setup) (mappings : List Mapping) (input : Interface) where
   -- the external source of a new connection behind destination NAT; none where the packet is for the box
   pub data HasSource (turned : NewConnection) (x : Option ExternalSource) (s : PathState) : Type 0 where
     delivered : s.facts.output ≡ None → x ≡ None → HasSource turned x s
-    forwarded_on : (asked : HookResult) → IsAsked setup asked s.events
+    forwarded_on : (asked : HookResult) → IsAsked setup (New turned) asked s.events
         → (did_nat_act s.events ≡ false → asked.verdict ≡ Accepted) → asked.facts.input ≡ input
         → external_source setup.plant asked.facts turned asked.verdict ≡ x → HasSource turned x s
 
-  -- a new connection behind destination NAT; without a NAT statement the chains of type nat accepted the packet
-  record IsTurned (d : NewConnection) (s : PathState) : Type 0 where
-    pub asked : HookResult
-    pub accepted : did_nat_act s.events ≡ false → asked.verdict ≡ Accepted
-    pub entered : s.facts.input ≡ input
-    pub is : s.info ≡ New (turned_by d asked)
-
-  -- and behind source NAT
+  -- a new connection behind destination and source NAT; without a NAT statement the chains of type nat accepted the packet
   pub record IsTranslated (d : NewConnection) (s : PathState) : Type 0 where
     pub asked : HookResult
     pub accepted : did_nat_act s.events ≡ false → asked.verdict ≡ Accepted
@@ -177,186 +137,175 @@ module _ (setup : Setup) (mappings : List Mapping) (input : Interface) where
     pub drafted : with_source_nat mappings (turned_by d asked) external ≡ Some left
     pub is : s.info ≡ New left
 
-  -- what is true where the hooks begin, between destination and source NAT, and after both: NAT keeps the state of a
-  -- packet that isn't the first of its connection
-  abbrev First : CtInfo → PathState → Type 0
-  First info s = (s.facts.input ≡ input) × (s.info ≡ info)
+  -- the state behind destination NAT, by the result of its chains
+  abbrev behind : CtInfo → HookResult → CtInfo
+  behind info asked = after_destination_nat setup.plant mappings asked.facts info asked.verdict
 
-  abbrev Between : CtInfo → PathState → Type 0
-  Between (New d) s = IsTurned d s
-  Between info s = s.info ≡ info
+  -- and behind source NAT, which a packet for the box doesn't pass
+  data Leaves (turned : CtInfo) (s : PathState) : Type 0 where
+    kept_for_box : s.facts.output ≡ None → s.info ≡ turned → Leaves turned s
+    sent : (asked : HookResult) → IsAsked setup turned asked s.events
+        → (did_nat_act s.events ≡ false → asked.verdict ≡ Accepted) → asked.facts.input ≡ input
+        → after_source_nat setup.plant mappings asked.facts turned asked.verdict ≡ Some s.info → Leaves turned s
 
-  abbrev pub AfterNat : CtInfo → PathState → Type 0
-  AfterNat (New d) s = IsTranslated d s
-  AfterNat info s = s.info ≡ info
+  -- what is true where the hooks begin, between destination and source NAT, and after both, where a `notrack` took effect
+  -- before the look-up, or not, as its facts tell
+  module _ (exempt : Bool) (info : CtInfo) where
+    record First (s : PathState) : Type 0 where
+      pub entered : s.facts.input ≡ input
+      pub is : s.info ≡ info
+      pub told : TellExempt s.facts.ct (Some exempt) (did_exempt s.events)
 
-  first_kept : (info : CtInfo) → IsKeptByChains (First info)
-  first_kept info s end k h = (ap (λ x. x.0) k.interfaces ∙ h.0, h.1)
+    record Between (s : PathState) : Type 0 where
+      pub asked : HookResult
+      pub accepted : did_nat_act s.events ≡ false → asked.verdict ≡ Accepted
+      pub entered : s.facts.input ≡ input
+      pub is : s.info ≡ behind info asked
+      pub told : TellExempt s.facts.ct (Some exempt) (did_exempt s.events)
 
-  between_kept : (info : CtInfo) → IsKeptByChains (Between info)
-  between_kept (New d) s end k b = record {
-    asked = b.asked;
-    accepted = λ none. b.accepted (k.untold none);
-    entered = ap (λ x. x.0) k.interfaces ∙ b.entered;
-    is = b.is;
-  }
-  between_kept info s end k b = b
+    record AfterNat (s : PathState) : Type 0 where
+      pub asked : HookResult
+      pub accepted : did_nat_act s.events ≡ false → asked.verdict ≡ Accepted
+      pub leaves : Leaves (behind info asked) s
+      pub told : TellExempt s.facts.ct (Some exempt) (did_exempt s.events)
 
-  source_kept : (turned : NewConnection) (x : Option ExternalSource) → IsKeptByChains (HasSource turned x)
-  source_kept turned x s end k (delivered none is) = delivered (ap (λ x. x.1) k.interfaces ∙ none) is
-  source_kept turned x s end k (forwarded_on asked q on entered is) =
-      forwarded_on asked
-      (record {
-        facts = q.facts;
-        before = q.before;
-        ran = q.ran;
-        later = q.later ++ k.grown.0;
-        among = k.grown.1 ∙ ap (λ (l : List Event). l ++ k.grown.0) q.among
-            ∙ append_assoc asked.events q.later k.grown.0;
-      })
-      (λ none. on (k.untold none)) entered is
+    first_kept : IsKeptByChains First
+    first_kept s end k h =
+        record { entered = ap (λ x. x.0) k.interfaces ∙ h.entered; is = h.is; told = k.exempt (Some exempt) h.told }
 
-  after_kept : (info : CtInfo) → IsKeptByChains (AfterNat info)
-  after_kept (New d) s end k n = record {
-    asked = n.asked;
-    accepted = λ none. n.accepted (k.untold none);
-    external = n.external;
-    source = source_kept (turned_by d n.asked) n.external s end k n.source;
-    left = n.left;
-    drafted = n.drafted;
-    is = n.is;
-  }
-  after_kept info s end k n = n
+    between_kept : IsKeptByChains Between
+    between_kept s end k b = record {
+      asked = b.asked;
+      accepted = λ none. b.accepted (k.untold none);
+      entered = ap (λ x. x.0) k.interfaces ∙ b.entered;
+      is = b.is;
+      told = k.exempt (Some exempt) b.told;
+    }
 
-  forwarded_between : (info : CtInfo) (s : PathState) (interface : ℕ) → Between info s
-      → Between info (record s { facts = forwarded_facts setup interface s.facts })
-  forwarded_between (New d) s interface b =
-      record { asked = b.asked; accepted = b.accepted; entered = b.entered; is = b.is }
-  forwarded_between info s interface b = b
+    after_kept : IsKeptByChains AfterNat
+    after_kept s end k n = record {
+      asked = n.asked;
+      accepted = λ none. n.accepted (k.untold none);
+      leaves = by_place n.leaves;
+      told = k.exempt (Some exempt) n.told;
+    }
+      where
+        by_place : Leaves (behind info n.asked) s → Leaves (behind info n.asked) (after_chains end s)
+        by_place (kept_for_box none is) = kept_for_box (ap (λ x. x.1) k.interfaces ∙ none) is
+        by_place (sent asked q on entered is) =
+            sent asked
+            (record {
+              facts = q.facts;
+              before = q.before;
+              ran = q.ran;
+              later = q.later ++ k.grown.0;
+              among = k.grown.1 ∙ ap (λ (l : List Event). l ++ k.grown.0) q.among
+                  ∙ append_assoc asked.events q.later k.grown.0;
+            })
+            (λ none. on (k.untold none)) entered is
 
-  delivered_after : (info : CtInfo) (s : PathState) → s.facts.output ≡ None → Between info s → AfterNat info s
-  delivered_after (New d) s e b = record {
-    asked = b.asked;
-    accepted = b.accepted;
-    external = None;
-    source = delivered e refl;
-    left = turned_by d b.asked;
-    drafted = refl;
-    is = b.is;
-  }
-  delivered_after info s e b = b
+    destination_leads : Leads First (DestinationNat setup mappings) Between
+    destination_leads s r x h =
+        let k = nat_chains_kept setup stages.PreroutingNat s.info s.facts s.events x.end x.ran in
+        let turned = behind s.info x.end in
+        subst (IfContinues Between) (sym x.is)
+        (unless_destination_drops Between x.end.verdict turned (after_chains x.end s) (λ on. record {
+          asked = x.end;
+          accepted = accepts x.end.verdict x.end.events on k.1;
+          entered = ap (λ i. i.0) k.0.interfaces ∙ h.entered;
+          is = ap (λ (w : CtInfo). behind w x.end) h.is;
+          told = after_nat_tells turned x.end.facts.ct (Some exempt) (did_exempt x.end.events) (k.0.exempt (Some exempt) h.told);
+        }))
 
-  module _ (exempt : Bool) where
-    turns : (info : CtInfo) (s : PathState) (r : StepResult) → Told exempt (First info) s
-        → DestinationNat setup mappings (record s { info = info }) r → IfContinues (Told exempt (Between info)) r
-    turns (New d) s r h x =
-        let k = nat_chains_kept setup stages.PreroutingNat (New d) s.facts s.events x.end x.ran in
-        subst (IfContinues (Told exempt (Between (New d)))) (sym x.is)
-        (unless_destination_drops (Told exempt (Between (New d))) x.end.verdict (New (turned_by d x.end))
-        (after_chains x.end (record s { info = New d })) (λ on. (
-          record {
-            asked = x.end;
-            accepted = accepts x.end.verdict x.end.events on k.1;
-            entered = ap (λ i. i.0) k.0.interfaces ∙ h.0.0;
-            is = refl;
-          },
-          after_nat_tells (New (turned_by d x.end)) x.end.facts.ct (Some exempt) (did_exempt x.end.events)
-              (k.0.exempt (Some exempt) h.1),
-        )))
-    turns info s r h x =
-        let k = nat_chains_kept setup stages.PreroutingNat info s.facts s.events x.end x.ran in
-        subst (IfContinues (Told exempt (Between info))) (sym x.is)
-        (unless_destination_drops (Told exempt (Between info)) x.end.verdict info
-        (after_chains x.end (record s { info = info }))
-        (λ on. (refl, k.0.exempt (Some exempt) h.1)))
-
-    destination_leads : (info : CtInfo) → Leads (Told exempt (First info)) (DestinationNat setup mappings) (Told exempt (Between info))
-    destination_leads info s r x h =
-        turns info s r h (subst (λ (w : CtInfo). DestinationNat setup mappings (record s { info = w }) r) h.0.1 x)
-
-    source_leads : (info : CtInfo) → Leads (Told exempt (Between info)) (SourceNat setup mappings) (Told exempt (AfterNat info))
-    source_leads (New d) s r y h =
-        let b = h.0 in
-        let turned = turned_by d b.asked in
+    source_leads : Leads Between (SourceNat setup mappings) AfterNat
+    source_leads s r y b =
+        let turned = behind info b.asked in
         let x = subst (λ (w : CtInfo). SourceNat setup mappings (record s { info = w }) r) b.is y in
-        let k = nat_chains_kept setup stages.PostroutingNat (New turned) s.facts s.events x.end x.ran in
-        let external = external_source setup.plant x.end.facts turned x.end.verdict in
-        subst (IfContinues (Told exempt (AfterNat (New d)))) (sym x.is)
-        (unless_source_drops (Told exempt (AfterNat (New d))) x.end.verdict
-        (after_source_nat setup.plant mappings x.end.facts (New turned) x.end.verdict)
-        (after_chains x.end (record s { info = New turned }))
-        (λ on info e.
-        let left = some_of_map (λ (n : NewConnection). New n) (with_source_nat mappings turned external) info e in (
+        let k = nat_chains_kept setup stages.PostroutingNat turned s.facts s.events x.end x.ran in
+        subst (IfContinues AfterNat) (sym x.is)
+        (unless_source_drops AfterNat x.end.verdict (after_source_nat setup.plant mappings x.end.facts turned x.end.verdict)
+        (after_chains x.end (record s { info = turned })) (λ on left e. record {
+          asked = b.asked;
+          accepted = λ none. b.accepted (k.0.untold none);
+          leaves = sent x.end
+              (record { facts = s.facts; before = s.events; ran = x.ran; later = []; among = sym (append-nil x.end.events) })
+              (accepts x.end.verdict x.end.events on k.1) (ap (λ i. i.0) k.0.interfaces ∙ b.entered) e;
+          told = after_nat_tells left x.end.facts.ct (Some exempt) (did_exempt x.end.events) (k.0.exempt (Some exempt) b.told);
+        }))
+
+    routing_leads : Leads Between (Routing setup) Between
+    routing_leads s r is b =
+        subst (IfContinues Between) (sym is)
+        (cond_both (is_own setup.plant s.facts.packet.destination) (Continue s)
+        (forwarded_by setup (route setup.plant s.facts.packet.destination) s) (IfContinues Between)
+        (λ _. b) (λ _. by_route (route setup.plant s.facts.packet.destination)))
+      where
+        by_route : (o : Option ℕ) → IfContinues Between (forwarded_by setup o s)
+        by_route None = tt
+        by_route (Some interface) =
+            cond_both (nat_lt s.facts.packet.ttl 2) (Drop causes.Ttl s)
+            (Continue (record s { facts = forwarded_facts setup interface s.facts })) (IfContinues Between) (λ _. tt)
+            (λ _. record { asked = b.asked; accepted = b.accepted; entered = b.entered; is = b.is; told = b.told })
+
+    between_leads : (stage : HookStage) → Leads Between (RunsStage setup stage) Between
+    between_leads = stage_leads setup Between between_kept
+
+    after_leads : (stage : HookStage) → Leads AfterNat (RunsStage setup stage) AfterNat
+    after_leads = stage_leads setup AfterNat after_kept
+
+    after_routing_leads : Leads Between (AfterRouting setup mappings) AfterNat
+    after_routing_leads s r x b = by_output s.facts.output refl x
+      where
+        by_output : (o : Option Interface) → s.facts.output ≡ o → InputOrForward setup mappings o s r → IfContinues AfterNat r
+        by_output None e y = after_leads stages.Input s r y
+            (record { asked = b.asked; accepted = b.accepted; leaves = kept_for_box e b.is; told = b.told })
+        by_output (Some output) e y =
+            leads_then _ _ _ _ _ (between_leads stages.Forward)
+            (leads_then _ _ _ _ _ (between_leads stages.PostroutingBeforeNat)
+            (leads_then _ _ _ _ _ source_leads (after_leads stages.PostroutingAfterNat))) s r y b
+
+    hooks_lead : Leads First (Hooks setup mappings) AfterNat
+    hooks_lead =
+        leads_then _ _ _ _ _
+        (leads_then _ _ _ _ _ (stage_leads setup First first_kept stages.PreroutingBeforeNat)
+        (leads_then _ _ _ _ _ destination_leads (between_leads stages.PreroutingAfterNat)))
+        (leads_then _ _ _ _ _ routing_leads after_routing_leads)
+
+  -- NAT keeps the state of a packet that isn't the first of its connection
+  old_kept : (exempt : Bool) (info : CtInfo) (s : PathState) → IsOld info → AfterNat exempt info s → s.info ≡ info
+  old_kept exempt (New d) s old n = absurd old
+  old_kept exempt info s old n = by_place n.leaves
+    where
+      by_place : Leaves info s → s.info ≡ info
+      by_place (kept_for_box none is) = is
+      by_place (sent asked q on entered is) = sym (same_Some info s.info is)
+
+  translated : (exempt : Bool) (d : NewConnection) (s : PathState) → AfterNat exempt (New d) s → IsTranslated d s
+  translated exempt d s n = by_place n.leaves
+    where
+      by_place : Leaves (New (turned_by d n.asked)) s → IsTranslated d s
+      by_place (kept_for_box none is) = record {
+        asked = n.asked;
+        accepted = n.accepted;
+        external = None;
+        source = delivered none refl;
+        left = turned_by d n.asked;
+        drafted = refl;
+        is = is;
+      }
+      by_place (sent asked q on entered is) =
+          let turned = turned_by d n.asked in
+          let external = external_source setup.plant asked.facts turned asked.verdict in
+          let left = some_of_map (λ (x : NewConnection). New x) (with_source_nat mappings turned external) s.info is in
           record {
-            asked = b.asked;
-            accepted = λ none. b.accepted (k.0.untold none);
+            asked = n.asked;
+            accepted = n.accepted;
             external = external;
-            source = forwarded_on x.end
-                (record {
-                  facts = s.facts;
-                  before = s.events;
-                  ran = x.ran;
-                  later = [];
-                  among = sym (append-nil x.end.events);
-                })
-                (accepts x.end.verdict x.end.events on k.1) (ap (λ i. i.0) k.0.interfaces ∙ b.entered) refl;
+            source = forwarded_on asked q on entered refl;
             left = left.0;
             drafted = left.1;
             is = sym left.2;
-          },
-          after_nat_tells info x.end.facts.ct (Some exempt) (did_exempt x.end.events) (k.0.exempt (Some exempt) h.1),
-        )))
-    source_leads old s r y h =
-        let x = subst (λ (w : CtInfo). SourceNat setup mappings (record s { info = w }) r) h.0 y in
-        let k = nat_chains_kept setup stages.PostroutingNat old s.facts s.events x.end x.ran in
-        subst (IfContinues (Told exempt (AfterNat old))) (sym x.is)
-        (unless_source_drops (Told exempt (AfterNat old)) x.end.verdict (Some old)
-        (after_chains x.end (record s { info = old }))
-        (λ on info e. (
-          sym (same_Some old info e),
-          after_nat_tells info x.end.facts.ct (Some exempt) (did_exempt x.end.events) (k.0.exempt (Some exempt) h.1),
-        )))
-
-    module _ (info : CtInfo) where
-      routing_leads : Leads (Told exempt (Between info)) (Routing setup) (Told exempt (Between info))
-      routing_leads s r is b =
-          subst (IfContinues (Told exempt (Between info))) (sym is)
-          (cond_both (is_own setup.plant s.facts.packet.destination) (Continue s)
-          (forwarded_by setup (route setup.plant s.facts.packet.destination) s) (IfContinues (Told exempt (Between info)))
-          (λ _. b) (λ _. by_route (route setup.plant s.facts.packet.destination)))
-        where
-          by_route : (o : Option ℕ) → IfContinues (Told exempt (Between info)) (forwarded_by setup o s)
-          by_route None = tt
-          by_route (Some interface) =
-              cond_both (nat_lt s.facts.packet.ttl 2) (Drop causes.Ttl s)
-              (Continue (record s { facts = forwarded_facts setup interface s.facts }))
-              (IfContinues (Told exempt (Between info)))
-              (λ _. tt) (λ _. (forwarded_between info s interface b.0, b.1))
-
-      between_leads : (stage : HookStage) → Leads (Told exempt (Between info)) (RunsStage setup stage) (Told exempt (Between info))
-      between_leads = stage_leads setup (Told exempt (Between info)) (told_kept exempt (Between info) (between_kept info))
-
-      after_leads : (stage : HookStage) → Leads (Told exempt (AfterNat info)) (RunsStage setup stage) (Told exempt (AfterNat info))
-      after_leads = stage_leads setup (Told exempt (AfterNat info)) (told_kept exempt (AfterNat info) (after_kept info))
-
-      after_routing_leads : Leads (Told exempt (Between info)) (AfterRouting setup mappings) (Told exempt (AfterNat info))
-      after_routing_leads s r x b = by_output s.facts.output refl x
-        where
-          by_output : (o : Option Interface) → s.facts.output ≡ o → InputOrForward setup mappings o s r
-              → IfContinues (Told exempt (AfterNat info)) r
-          by_output None e y = after_leads stages.Input s r y (delivered_after info s e b.0, b.1)
-          by_output (Some output) e y =
-              leads_then _ _ _ _ _ (between_leads stages.Forward)
-              (leads_then _ _ _ _ _ (between_leads stages.PostroutingBeforeNat)
-              (leads_then _ _ _ _ _ (source_leads info) (after_leads stages.PostroutingAfterNat))) s r y b
-
-      hooks_lead : Leads (Told exempt (First info)) (Hooks setup mappings) (Told exempt (AfterNat info))
-      hooks_lead =
-          leads_then _ _ _ _ _
-          (leads_then _ _ _ _ _ (stage_leads setup (Told exempt (First info)) (told_kept exempt (First info) (first_kept info))
-          stages.PreroutingBeforeNat)
-          (leads_then _ _ _ _ _ (destination_leads info) (between_leads stages.PreroutingAfterNat)))
-          (leads_then _ _ _ _ _ routing_leads after_routing_leads)
+          }
 
 -- ---- confirmation
 
@@ -393,11 +342,6 @@ belongs_is live p t read = ap (belonging_by_tuple live (flags_in (transport_of p
 abbrev pub IsNone : Belonging → Type 0
 IsNone (Found place) = ⊥
 IsNone _ = Unit {0}
-
--- NAT left it no first packet
-abbrev pub IsOld : CtInfo → Type 0
-IsOld (New new_connection) = ⊥
-IsOld _ = Unit {0}
 
 abbrev is_notrack : CtFacts → Bool
 is_notrack Notrack = true
@@ -437,22 +381,26 @@ module _ (setup : Setup) (input : Interface) (live : List ConntrackEntry) (p : L
     seen : (t : Tuple) → tuple_of p ≡ Some t → did_exempt s.events ≡ false → IsLookedUp (belongs_by live p t) t s
         → IsThrough s
 
-  module _ (s : PathState) where
+  module _ (exempt : Bool) (s : PathState) where
     -- NAT beside these others, and confirmed
     abbrev IsConfirmed : List ConntrackEntry → CtInfo → Type 0
-    IsConfirmed others info = AfterNat setup (mappings_in others) input info s × IsUnrefused others s.info
+    IsConfirmed others info = AfterNat setup (mappings_in others) input exempt info s × IsUnrefused others s.info
+
+    old_is : (others : List ConntrackEntry) (info : CtInfo) → IsOld info → IsConfirmed others info → s.info ≡ info
+    old_is others info old c = old_kept setup (mappings_in others) input exempt info s old c.0
 
     by_state : (t : Tuple) (b : Belonging) → belonging_of live p ≡ b → IsNone b → (state : LookupState)
         → first_state t.kind ≡ state
         → IsConfirmed (others_beside (new_ct_info state t) live p) (new_ct_info state t)
         → IsLookedUp (belonging_of live p) t s
     by_state t b is none states.New new c =
-        begins (subst IsNone (sym is) none) new c.0 (subst (IsUnrefused (others_in live p)) c.0.is c.1)
-    by_state t b is none _ other c = is_invalid (subst IsNone (sym is) none) (λ new. cc (new, other)) c.0
+        let n = translated setup (mappings_in (others_in live p)) input exempt (new_connection_of t) s c.0 in
+        begins (subst IsNone (sym is) none) new n (subst (IsUnrefused (others_in live p)) n.is c.1)
+    by_state t b is none _ other c = is_invalid (subst IsNone (sym is) none) (λ new. cc (new, other)) (old_is _ Invalid tt c)
 
     by_belonging : (t : Tuple) (b : Belonging) → belonging_of live p ≡ b
         → IsConfirmed (others_beside (ct_info_by t b) live p) (ct_info_by t b) → IsLookedUp (belonging_of live p) t s
-    by_belonging t (Found place) is c = refreshes place is c.0
+    by_belonging t (Found place) is c = refreshes place is (old_is _ _ tt c)
     by_belonging t b is c = by_state t b is tt (first_state t.kind) refl c
 
     unseen_by : (info : CtInfo) → s.info ≡ info → IsOld info → lookup_tuple_of info p ≡ None
@@ -463,9 +411,10 @@ module _ (setup : Setup) (input : Interface) (live : List ConntrackEntry) (p : L
     by_error : tuple_of p ≡ None → (b : Belonging)
         → IsConfirmed (others_beside (error_ct_info b) live p) (error_ct_info b) → IsThrough s
     by_error none (Found place) c =
-        unseen_by (Related (tracked_connection place)) c.0 tt none
+        unseen_by _ (old_is _ (Related (tracked_connection place)) tt c) tt none
         (λ t read tracked. none_not_some (tuple_of p) t none read)
-    by_error none _ c = unseen_by Invalid c.0 tt none (λ t read tracked. none_not_some (tuple_of p) t none read)
+    by_error none _ c =
+        unseen_by _ (old_is _ Invalid tt c) tt none (λ t read tracked. none_not_some (tuple_of p) t none read)
 
     by_tuple : did_exempt s.events ≡ false → (o : Option Tuple) → tuple_of p ≡ o
         → IsConfirmed (others_beside (ct_info_by_tuple live p o) live p) (ct_info_by_tuple live p o) → IsThrough s
@@ -477,7 +426,7 @@ module _ (setup : Setup) (input : Interface) (live : List ConntrackEntry) (p : L
     by_facts : (ct : CtFacts) → did_exempt s.events ≡ is_notrack ct
         → IsConfirmed (others_beside (looked_up_info ct live p) live p) (looked_up_info ct live p) → IsThrough s
     by_facts Notrack exempt c =
-        unseen_by Untracked c.0 tt refl (λ t read tracked. both_ways (did_exempt s.events) tracked exempt)
+        unseen_by _ (old_is _ Untracked tt c) tt refl (λ t read tracked. both_ways (did_exempt s.events) tracked exempt)
     by_facts _ tracked c = by_tuple tracked (tuple_of p) refl c
 
   -- it came by this interface, and wasn't looked up
@@ -487,19 +436,18 @@ module _ (setup : Setup) (input : Interface) (live : List ConntrackEntry) (p : L
   -- it has the state of its look-up, by what rules could read of its connection before
   abbrev LookedUp : PathState → Type 0
   LookedUp s = (ct : CtFacts)
-      × Told (is_notrack ct) (λ s. (s.facts.input ≡ input)
-      × (s.info ≡ looked_up_info ct live p)) s
+      × First setup (mappings_in (others_beside (looked_up_info ct live p) live p)) input (is_notrack ct) (looked_up_info ct live p) s
 
   look_up_leads : Leads HasArrived (LookUp live p) LookedUp
   look_up_leads s r is h =
-      let info = looked_up_info s.facts.ct live p in
       subst (IfContinues LookedUp) (sym is) (
         s.facts.ct,
-        (
-          (h.0, refl),
-          info_tells info (Some (is_notrack s.facts.ct)) (did_exempt s.events)
-              (told_before s.facts.ct (did_exempt s.events) h.1),
-        ),
+        record {
+          entered = h.0;
+          is = refl;
+          told = info_tells (looked_up_info s.facts.ct live p) (Some (is_notrack s.facts.ct)) (did_exempt s.events)
+              (told_before s.facts.ct (did_exempt s.events) h.1);
+        },
       )
 
   after_look_up_leads : Leads LookedUp (AfterLookUp setup live p) IsThrough
@@ -508,12 +456,11 @@ module _ (setup : Setup) (input : Interface) (live : List ConntrackEntry) (p : L
       let others = others_beside info live p in
       let exempt = is_notrack k.0 in
       let y : HooksAndConfirm setup others s r =
-      subst (λ (w : CtInfo). HooksAndConfirm setup (others_beside w live p) s r) k.1.0.1 x in
-      leads_then _ (Told exempt (AfterNat setup (mappings_in others) input info))
-      IsThrough _ _ (hooks_lead setup (mappings_in others) input exempt info)
-      (λ u q is c.
+      subst (λ (w : CtInfo). HooksAndConfirm setup (others_beside w live p) s r) k.1.is x in
+      leads_then _ (AfterNat setup (mappings_in others) input exempt info) IsThrough _ _
+      (hooks_lead setup (mappings_in others) input exempt info) (λ u q is c.
       subst (IfContinues IsThrough) (sym is) (unless_confirmation_drops others IsThrough u u.info (λ free.
-      by_facts u k.0 (told_after u.facts.ct exempt (did_exempt u.events) c.1) (c.0, free)))) s r y k.1
+      by_facts exempt u k.0 (told_after u.facts.ct exempt (did_exempt u.events) c.told) (c, free)))) s r y k.1
 
   pub path_so : (r : StepResult) → Path setup live p (on_arrival p input) r → IfContinues IsThrough r
   path_so r x =

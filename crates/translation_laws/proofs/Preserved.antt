@@ -1,112 +1,86 @@
 -- What each entry preserves: tuples in no two connections, mappings one to one, tuples that packets can have, allocated ports.
-use Rattle.std.proofs.Common.{◌≡◌, ℕ, Bool, IsTrue, List, [], ◌∷◌, ◌++◌, Option, Some, inl, inr, refl, sym}
-use Rattle.std.proofs.Common.{subst, ◌∙◌, arith, not, None, ap, ◌≢◌, true, false, cond, is_some, ◌⊎◌}
-use Rattle.std.specs.List.{All, Contains, filter}
-use Rattle.std.proofs.lemmas.List.Elements.{All-filter, Contains-append_left, Contains-append_right, All-nil}
-use Rattle.std.proofs.lemmas.List.Elements.{All-push, All-weaker}
-use Rattle.ip_headers.specs.declared.tuple.Endpoint.{Endpoint}
-use Rattle.ip_headers.specs.declared.tuple.Kind.{Kind}
-use Rattle.ip_headers.specs.declared.tuple.Mapping.{Mapping}
-use Rattle.ip_headers.specs.declared.tuple.Tuple.{Tuple}
-use Rattle.port_pool.specs.declared.range.CandidateRange.{CandidateRange}
-use Rattle.nat_mapping.specs.Mappings.{IsOneToOne, inbound_of, source_of, first_free_port, is_port_held}
-use Rattle.nat_mapping.specs.Mappings.{or_else, port_of, same_mapping}
-use Rattle.conntrack.specs.declared.belonging.Belonging.{Belonging}
-use Rattle.conntrack.specs.declared.belonging.Belonging.TheVariants.{Ends, Found}
-use Rattle.conntrack.specs.declared.connection.ConnId.{ConnId}
-use Rattle.conntrack.specs.declared.connection.ConntrackEntry.{ConntrackEntry}
+use Rattle.translation_laws.proofs.Names.{◌++◌, Accepted, All, All-weaker, Arrival, Belonging, Bool, Confirmed, ConnId, ConntrackEntry, Contains}
+use Rattle.translation_laws.proofs.Names.{Contains-append_left, Contains-append_right, Contains-cases, Direction, Dropped, EchoRequest, Endpoint, Ends, Entry}
+use Rattle.translation_laws.proofs.Names.{ExternalSource, Facts, Flags, Found, HookVerdict, Interface, IsHistory, IsHistoryOf, IsTrue, Kind, List, Mapping}
+use Rattle.translation_laws.proofs.Names.{NatAction, NewConnection, Next, None, Option, PathState, PlantTree, ReceivedPacket, Recorded, Setup, Some}
+use Rattle.translation_laws.proofs.Names.{TrackedPacket, Translated, Tuple, Unconfirmed, [], after_end, alive_at, ap, arith, arrival_of, begun, belongs_in}
+use Rattle.translation_laws.proofs.Names.{between, carried, cond, cond-false, cond-true, confirmation_by, entry_at, false, fault_of, first_state, found_among}
+use Rattle.translation_laws.proofs.Names.{has_ports, have_disjoint_tuples, inbound_of, inl, inr, interface_facts, inverse, inverse_kind, is_live, is_some}
+use Rattle.translation_laws.proofs.Names.{is_taken, kind_of, limits_of, listed, live_at_record, mappings_in, mark_in, moment_after, new_connection_of}
+use Rattle.translation_laws.proofs.Names.{none-some, none_not_some, not, payload_of, port_choice_by, port_choice_for, port_choice_in, port_of, protocol}
+use Rattle.translation_laws.proofs.Names.{range_of, refl, refusal, reply_to, rewritten, same_Some, same_id, some_of_map, source_of, subst, sym, to_internal}
+use Rattle.translation_laws.proofs.Names.{touched_at, tracked_of, true, tuple_of, tuple_with, with_destination_nat, with_source_mapping, with_source_nat, ℕ}
+use Rattle.translation_laws.proofs.Names.{◌∙◌, ◌∷◌, ◌≡◌, ◌≢◌, ◌⊎◌}
 use Rattle.box_file.specs.declared.limits.Limits.{Limits}
-use Rattle.conntrack.specs.ConntrackEntry.{have_disjoint_tuples, belongs_in, has_distinct_ids, is_live}
-use Rattle.conntrack.specs.declared.connection.Direction.{Direction}
-use Rattle.conntrack.specs.declared.connection.Flags.{Flags}
-use Rattle.conntrack.specs.ConntrackEntry.{first_state, live_at, same_id, touched_at}
-use Rattle.conntrack.specs.Updates.{Arrival, Confirmation, Unconfirmed, Confirmed, DoesNotClash, after_end}
-use Rattle.conntrack.specs.Updates.{after_packet}
-use Rattle.translation.specs.declared.ct_info.NewConnection.{NewConnection}
-use Rattle.translation.specs.LiveMappings.{listed, mappings_in}
-use Rattle.translation.specs.Nat.{range_of, has_ports}
-use Rattle.translation_laws.proofs.HistorySteps.{IsBegun, IsCounted, IsKept}
-use Rattle.translation_laws.proofs.Connections.{NewConnectionSo, SourceSo, stayed, went}
-use Rattle.translation_laws.proofs.Connections.{MappingsAre, begun_by, each_holder, each_mapping, each_touched}
-use Rattle.translation_laws.proofs.Connections.{is_listed, mapping_at}
-use Rattle.translation_laws.proofs.Connections.{end_at, port_held}
-use Rattle.nat_mapping.proofs.Lists.{found_among}
+use Rattle.conntrack.specs.ConntrackEntry.{begun_with, has_distinct_ids, live_at, max_connections}
+use Rattle.conntrack.specs.Histories.{belongs, live_list}
+use Rattle.conntrack.specs.Updates.{Confirmation, DoesNotClash, after_packet}
+use Rattle.history.specs.History.{moment_of}
+use Rattle.ip_headers.specs.Passing.{Passes}
+use Rattle.ip_headers.specs.declared.tuple.Kind.TheVariants.{EchoReply, Other, Tcp, Udp}
 use Rattle.nat_mapping.proofs.Equal.{mapping_test}
-use Rattle.list_laws.specs.Options.{some_of_map, none_not_some, some_unique}
-use Rattle.list_laws.specs.Elements.{Contains-cases}
-use Rattle.ip_headers.specs.declared.tuple.Kind.TheVariants.{EchoRequest, EchoReply, Other}
-use Rattle.ip_headers.specs.Header.{protocol, payload_of}
-use Rattle.ip_headers.specs.Tuple.{inverse, inverse_kind, kind_of, tuple_of, tuple_with}
+use Rattle.nat_mapping.specs.Mappings.{IsOneToOne, first_free_port, is_port_held, or_else, order_of, same_mapping}
 use Rattle.port_pool.specs.Candidates.{candidates, same_class_and_parity}
+use Rattle.port_pool.specs.declared.range.CandidateRange.{CandidateRange}
 use Rattle.rewrite.specs.Endpoints.{PortsMatchKind}
-use Rattle.std.proofs.lemmas.Bool.{cases_Bool, cond-true, cond-false}
-use Rattle.std.proofs.lemmas.Option.{none-some}
-use Rattle.conntrack.specs.Histories.{TrackedPacket, begun}
 use Rattle.rule_meaning.specs.declared.event.PortInterval.{PortInterval}
-use Rattle.history.specs.History.{Entry}
-use Rattle.translation.specs.declared.external.ExternalSource.{ExternalSource}
-use Rattle.stepping.specs.Confirmations.{port_choice_by, port_choice_in}
+use Rattle.std.proofs.Common.{◌≤◌}
+use Rattle.std.proofs.lemmas.Bool.{cases_Bool}
+use Rattle.std.proofs.lemmas.List.Elements.{All-filter, All-nil, All-push}
+use Rattle.std.specs.List.{filter}
+use Rattle.std.specs.Prelude.{length, nat_le}
+use Rattle.translation.specs.Nat.{internal_endpoint, port_named, statement_destination}
 use Rattle.translation_laws.specs.Histories.{choice_in, is_mapping, latest_choice, or_earlier}
+use Rattle.translation_laws.proofs.Paths.{AcceptedWith, EntryCase, IsLookedUp, IsNone, IsTranslated, accepted_so, begins, belongs_by, beside, dropped_so}
+use Rattle.translation_laws.proofs.Paths.{entry_case, is_invalid, refreshes, turned_by, unseen_so}
+use Rattle.translation_laws.proofs.Connections.{MappingsAre, each_holder, each_mapping, each_touched, end_at, is_listed, mapping_at, parts, port_held}
+use Rattle.history.specs.declared.outcome.Cause.TheVariants as causes
 use Rattle.port_pool.specs.declared.order.Order.TheVariants as orders
 use Rattle.conntrack.specs.declared.belonging.LookupState.TheVariants as states
+use Rattle.rule_meaning.specs.declared.event.NatAction.TheVariants as translations
 use Rattle.conntrack.specs.Updates as updates
 
--- ==== What is preserved of the connections held: their tuples are apart, their mappings one to one and allocated.
+-- ==== What is known of the parts.
 
--- ---- no tuple in common
-
--- what is known of connections that are apart
-pub record StillApart : Type 0 where
-  pub packet : (held : List ConntrackEntry) (id : ConnId) (p : Arrival) (confirmation : Confirmation)
+-- what the laws follow from
+pub record Known : Type 0 where
+  -- the connections of one more entry, and of a later moment
+  pub packet : (limits : Limits) (history : List TrackedPacket) (p : Arrival) (confirmation : Confirmation)
+      → live_list limits (updates.entry_of (belongs limits history p.moment p.tuple p.flags) p confirmation ∷ history) p.moment
+      ≡ after_packet (belongs limits history p.moment p.tuple p.flags) (record { 0 = length history }) p confirmation
+      (live_list limits history p.moment)
+  pub none : (limits : Limits) (history : List TrackedPacket) (now : ℕ)
+      → live_list limits (entry_at now ∷ history) now ≡ live_list limits history now
+  pub later : (limits : Limits) (history : List TrackedPacket) (now later : ℕ) → now ≤ later
+      → live_list limits history later ≡ live_at limits later (live_list limits history now)
+  pub distinct : (limits : Limits) (history : List TrackedPacket) (now : ℕ) → IsTrue (has_distinct_ids (live_list limits history now))
+  -- they stay apart
+  pub apart : (held : List ConntrackEntry) (id : ConnId) (p : Arrival) (confirmation : Confirmation)
       → IsTrue (has_distinct_ids held) → IsTrue (have_disjoint_tuples held)
       → DoesNotClash (belongs_in held p.tuple p.flags) confirmation held
       → IsTrue (have_disjoint_tuples (after_packet (belongs_in held p.tuple p.flags) id p confirmation held))
-  pub live : (limits : Limits) (held : List ConntrackEntry) (now : ℕ) → IsTrue (have_disjoint_tuples held)
+  pub apart_later : (limits : Limits) (held : List ConntrackEntry) (now : ℕ) → IsTrue (have_disjoint_tuples held)
       → IsTrue (have_disjoint_tuples (live_at limits now held))
-
-begun_apart : (port_choice : Option Bool) (confirmation : Confirmation) (b : Belonging) (t : Tuple)
-    (held : List ConntrackEntry) → IsCounted port_choice confirmation b t held
-    → DoesNotClash b confirmation held
-begun_apart port_choice confirmation (Found place) t held c = tt
-begun_apart port_choice Unconfirmed b t held c = tt
-begun_apart port_choice (Confirmed mark reply source dest) b t held c = c.free
-
--- ---- one to one
-
--- what is known of lists of mappings
-pub record MappingLaws : Type 0 where
-  pub source : (held : List Mapping) (kind : Kind) (internal : Endpoint) (address : ℕ) (range : Option CandidateRange)
-      (port : ℕ)
+  -- lists of mappings
+  pub source : (held : List Mapping) (kind : Kind) (internal : Endpoint) (address : ℕ) (range : Option CandidateRange) (port : ℕ)
       → IsOneToOne held → source_of kind internal address range held ≡ Some port
-      → IsOneToOne (record { kind = kind; internal = internal; external = record { address = address; port = port } }
-      ∷ held)
-  pub within : (some all : List Mapping) → ((m : Mapping) → Contains some m → Contains all m) → IsOneToOne all
-      → IsOneToOne some
+      → IsOneToOne (mapping_at kind internal (end_at address port) ∷ held)
+  pub within : (some all : List Mapping) → ((m : Mapping) → Contains some m → Contains all m) → IsOneToOne all → IsOneToOne some
   pub inbound : (held : List Mapping) (kind : Kind) (internal external : Endpoint)
-      → inbound_of kind external held ≡ Some internal
-      → Contains held (record { kind = kind; internal = internal; external = external })
+      → inbound_of kind external held ≡ Some internal → Contains held (mapping_at kind internal external)
+  -- candidates for a port
+  pub alike : (s p : ℕ) → Contains (candidates orders.Ports s None) p → same_class_and_parity s p ≡ true
+  -- packets that are sent on
+  pub sending : (packet : List ℕ) (t : Tuple) (remaining : Option ℕ) → fault_of packet ≡ None
+      → kind_of (protocol packet) (payload_of packet) ≡ Some t.kind → PortsMatchKind t.kind t.source.port t.destination.port
+      → tuple_of (rewritten packet (between t remaining)) ≡ Some t
+  -- faults
+  pub passes : (bytes : List ℕ) → fault_of bytes ≡ None → Passes bytes
+  pub faultless : (bytes : List ℕ) → Passes bytes → fault_of bytes ≡ None
 
-module _ (laws : MappingLaws) where
-  -- with the mapping of its source all stay one to one
-  source_one : (mappings : List Mapping) (t : Tuple) (d : NewConnection) → NewConnectionSo mappings t d
-      → IsOneToOne mappings
-      → IsOneToOne (listed d.source ++ mappings)
-  source_one mappings t d drafted one = by_source drafted.source
-    where
-      by_source : SourceSo mappings t d → IsOneToOne (listed d.source ++ mappings)
-      by_source (stayed none same) = subst (λ (o : Option Mapping). IsOneToOne (listed o ++ mappings)) (sym none) one
-      by_source (went x port chosen is to has_port_range) =
-          subst (λ (o : Option Mapping). IsOneToOne (listed o ++ mappings)) (sym is)
-          (laws.source mappings t.kind t.source x.address (range_of x.ports) port one chosen)
+-- ==== The shape of a tuple and of a mapping.
 
-  -- that of its destination is live already
-  pub dest_held : (mappings : List Mapping) (t : Tuple) (d : NewConnection) → NewConnectionSo mappings t d
-      → (m : Mapping) → d.dest ≡ Some m → Contains mappings m
-  dest_held mappings t d drafted m is =
-      let r = drafted.dest m is in
-      subst (Contains mappings) (sym r.0) (laws.inbound mappings t.kind d.tuple.destination t.destination r.1)
-
--- ---- the shape of a tuple: a port is 0 where its kind has none
+-- ---- a port of a tuple is 0 where its kind has none
 
 abbrev pub IsShaped : Tuple → Type 0
 IsShaped t = PortsMatchKind t.kind t.source.port t.destination.port
@@ -125,12 +99,23 @@ read_shaped EchoReply datagram payload = refl
 read_shaped (Other number) datagram payload = (refl, refl)
 read_shaped _ datagram payload = tt
 
-tuple_shaped : (p : List ℕ) (t : Tuple) → tuple_of p ≡ Some t → IsShaped t
+pub tuple_shaped : (p : List ℕ) (t : Tuple) → tuple_of p ≡ Some t → IsShaped t
 tuple_shaped p t e =
     let r = some_of_map (λ (one : Kind). tuple_with one p (payload_of p)) (kind_of (protocol p) (payload_of p)) t e in
     subst IsShaped r.2 (read_shaped r.0 p (payload_of p))
 
--- ---- the external port of a mapping: 0 where its kind has neither ports nor identifiers
+pub ported_suits : (kind : Kind) (from to : ℕ) → has_ports kind ≡ true → PortsMatchKind kind from to
+ported_suits Tcp from to h = tt
+ported_suits Udp from to h = tt
+ported_suits _ from to h = cc
+
+named_suits : (kind : Kind) (port : Option ℕ) (from old : ℕ) → PortsMatchKind kind from old
+    → PortsMatchKind kind from (port_named kind port old)
+named_suits kind None from old h = h
+named_suits Tcp (Some port) from old h = tt
+named_suits _ (Some port) from old h = h
+
+-- ---- the external port of a mapping is 0 where its kind has neither ports nor identifiers
 
 abbrev pub OutsideSuits : Kind → ℕ → Type 0
 OutsideSuits (Other number) port = port ≡ 0
@@ -139,120 +124,145 @@ OutsideSuits _ port = Unit {0}
 abbrev pub IsPlain : Mapping → Type 0
 IsPlain m = OutsideSuits m.kind m.external.port
 
-zero_alone : (s : ℕ) (range : Option CandidateRange) (port : ℕ) → Contains (candidates orders.Zero s range) port
-    → port ≡ 0
+candidate_plain : (kind : Kind) (s : ℕ) (range : Option CandidateRange) (port : ℕ)
+    → Contains (candidates (order_of kind) s range) port → OutsideSuits kind port
 unfolding candidates
-zero_alone s range port among =
+candidate_plain (Other number) s range port among =
     elim (Contains-cases 0 [] port among) [ inl e ↦ sym e | inr none ↦ absurd (omega (arith, none.1)) ]
+candidate_plain _ s range port among = tt
 
-module _ (mappings : List Mapping) (plain : (m : Mapping) → Contains mappings m → IsPlain m) where
-  fresh_plain : (kind : Kind) (internal : Endpoint) (address : ℕ) (range : Option CandidateRange) (port : ℕ)
-      → first_free_port kind internal address range mappings ≡ Some port → OutsideSuits kind port
-  fresh_plain (Other number) internal address range port e =
-      zero_alone internal.port range port
-      (found_among (λ q. not (is_port_held (Other number) address mappings q)) (candidates orders.Zero internal.port range)
-      port e).0
-  fresh_plain _ internal address range port e = tt
+chosen_suits : (kind : Kind) (from to port : ℕ) → first_state kind ≡ states.New → PortsMatchKind kind from to
+    → OutsideSuits kind port → PortsMatchKind kind port to
+chosen_suits EchoReply from to port new h o = cc
+chosen_suits (Other number) from to port new h o = (o, h.1)
+chosen_suits _ from to port new h o = h
 
-  source_plain : (kind : Kind) (internal : Endpoint) (address : ℕ) (range : Option CandidateRange) (port : ℕ)
-      → source_of kind internal address range mappings ≡ Some port → OutsideSuits kind port
-  source_plain kind internal address range port e = by_port (port_of kind internal address mappings) refl e
-    where
-      by_port : (o : Option ℕ) → port_of kind internal address mappings ≡ o
-          → or_else o (first_free_port kind internal address range mappings) ≡ Some port → OutsideSuits kind port
-      by_port (Some p) k g = plain (mapping_at kind internal (end_at address port)) (port_held kind internal address
-          port mappings (k ∙ g))
-      by_port None k g = fresh_plain kind internal address range port g
+-- ==== What NAT gives a new connection.
 
-  chosen_suits : (kind : Kind) (from to port : ℕ) → first_state kind ≡ states.New → PortsMatchKind kind from to
-      → OutsideSuits kind port
-      → PortsMatchKind kind port to
-  chosen_suits EchoReply from to port new h o = cc
-  chosen_suits (Other number) from to port new h o = (o, h.1)
-  chosen_suits _ from to port new h o = h
+-- by what an entry tells of a mapping's port: it was live before, or has the class and parity of the internal one
+abbrev pub PortChosen : List Mapping → Option Bool → Mapping → Type 0
+PortChosen mappings port_choice m = (port_choice ≡ None → Contains mappings m)
+    × (port_choice ≡ Some false → has_ports m.kind ≡ true → same_class_and_parity m.internal.port m.external.port ≡ true)
 
-  module _ (t : Tuple) (d : NewConnection) (new : first_state t.kind ≡ states.New) (shaped : IsShaped t)
-      (drafted : NewConnectionSo mappings t d) where
-    -- with its source after NAT
-    source_suits : PortsMatchKind t.kind d.tuple.source.port d.tuple.destination.port
-    source_suits = by_source drafted.source
-      where
-        by_source : SourceSo mappings t d → PortsMatchKind t.kind d.tuple.source.port d.tuple.destination.port
-        by_source (stayed none same) =
-            subst (λ (s : Endpoint). PortsMatchKind t.kind s.port d.tuple.destination.port) (sym same)
-            (drafted.shape shaped)
-        by_source (went x port chosen is to has_port_range) =
-            subst (λ (s : Endpoint). PortsMatchKind t.kind s.port d.tuple.destination.port) (sym to)
-            (chosen_suits t.kind t.source.port d.tuple.destination.port port new (drafted.shape shaped)
-            (source_plain t.kind t.source x.address (range_of x.ports) port chosen))
+-- behind destination NAT
+pub record IsTurned (mappings : List Mapping) (t : Tuple) (d : NewConnection) : Type 0 where
+  pub kind : d.tuple.kind ≡ t.kind
+  pub none : d.source ≡ None
+  pub dest : (m : Mapping) → d.dest ≡ Some m → Contains mappings m
+  pub shape : IsShaped t → IsShaped d.tuple
 
-    pub new_connection_shaped : IsShaped d.tuple
-    new_connection_shaped = subst (λ (k : Kind). PortsMatchKind k d.tuple.source.port d.tuple.destination.port)
-        (sym drafted.kind) source_suits
-
-    source_is_plain : (m : Mapping) → d.source ≡ Some m → IsPlain m
-    source_is_plain m e = by_source drafted.source
-      where
-        by_source : SourceSo mappings t d → IsPlain m
-        by_source (stayed none same) = absurd (none_not_some d.source m none e)
-        by_source (went x port chosen is to has_port_range) =
-            subst IsPlain (some_unique d.source _ m is e) (source_plain t.kind t.source x.address (range_of x.ports)
-            port chosen)
-
--- ==== A port allocated without a range has the class and the parity of the internal one, and the port of each live mapping was allocated by an entry.
-
--- ---- which ports
-
--- what is known of candidates
-abbrev pub CandidatesAlike : Type 0
-CandidatesAlike = (s p : ℕ) → Contains (candidates orders.Ports s None) p → same_class_and_parity s p ≡ true
-
-fresh_alike : CandidatesAlike → (mappings : List Mapping) (kind : Kind) (internal : Endpoint) (address port : ℕ)
-    → has_ports kind ≡ true
-    → first_free_port kind internal address None mappings ≡ Some port → same_class_and_parity internal.port port ≡ true
-fresh_alike all mappings EchoRequest internal address port ports e = cc
-fresh_alike all mappings EchoReply internal address port ports e = cc
-fresh_alike all mappings (Other number) internal address port ports e = cc
-fresh_alike all mappings kind internal address port ports e =
-    all internal.port port (found_among (λ q. not (is_port_held kind address mappings q))
-    (candidates orders.Ports internal.port None) port e).0
+-- and behind source NAT
+pub record IsDrafted (mappings : List Mapping) (t : Tuple) (d : NewConnection) : Type 0 where
+  pub kind : d.tuple.kind ≡ t.kind
+  pub dest : (m : Mapping) → d.dest ≡ Some m → Contains mappings m
+  pub one : IsOneToOne (listed d.source ++ mappings)
+  pub shaped : IsShaped d.tuple
+  pub source : (m : Mapping) → d.source ≡ Some m
+      → IsPlain m × PortChosen mappings (port_choice_in mappings d.has_port_range d.source) m
 
 -- an allocation from all ports
 unnamed : (ports : Option PortInterval) → is_some ports ≡ false → range_of ports ≡ None
 unnamed None e = refl
 unnamed (Some ports) e = cc
 
--- by what an entry tells of a mapping's port: it was live before, or has the class and parity of the internal one
-abbrev pub PortChosen : List Mapping → Option Bool → Mapping → Type 0
-PortChosen mappings port_choice m = (port_choice ≡ None → Contains mappings m)
-    × (port_choice ≡ Some false → CandidatesAlike → has_ports m.kind ≡ true
-    → same_class_and_parity m.internal.port m.external.port ≡ true)
+module _ (known : Known) where
+  -- ---- behind destination NAT
 
-pub port_chosen : (mappings : List Mapping) (t : Tuple) (x : ExternalSource) (port : ℕ)
-    → source_of t.kind t.source x.address (range_of x.ports) mappings ≡ Some port → (has_port_range : Bool)
-    → has_port_range ≡ is_some x.ports
-    → PortChosen mappings (port_choice_by has_port_range (port_of t.kind t.source x.address mappings))
-    (mapping_at t.kind t.source (end_at x.address port))
-port_chosen mappings t x port chosen has_port_range is = by_port (port_of t.kind t.source x.address mappings) refl chosen
-  where
-    by_port : (o : Option ℕ) → port_of t.kind t.source x.address mappings ≡ o
-        → or_else o (first_free_port t.kind t.source x.address (range_of x.ports) mappings) ≡ Some port
-        → PortChosen mappings (port_choice_by has_port_range o) (mapping_at t.kind t.source (end_at x.address port))
-    by_port (Some p) there same =
-        (λ untold. port_held t.kind t.source x.address port mappings (there ∙ same), λ told. cc)
-    by_port None there found = (
-      λ untold. cc,
-      λ told all ports.
-          let named : has_port_range ≡ false = cc in
-          let range : range_of x.ports ≡ None = unnamed x.ports (sym is ∙ named) in
-          fresh_alike all mappings t.kind t.source x.address port ports
-          (ap (λ (r : Option CandidateRange). first_free_port t.kind t.source x.address r mappings) (sym range) ∙ found),
-    )
+  module _ (plant : PlantTree) (mappings : List Mapping) (f : Facts) (t : Tuple) where
+    aimed_suits : (how : NatAction) → IsShaped t
+        → PortsMatchKind t.kind t.source.port (statement_destination plant f (new_connection_of t) how).port
+    aimed_suits (translations.Destination address port) h = named_suits t.kind port t.source.port t.destination.port h
+    aimed_suits (translations.Redirect port) h = named_suits t.kind port t.source.port t.destination.port h
+    aimed_suits _ h = h
 
--- ---- the port that an entry allocates
+    -- what is behind an endpoint of a kind that has ports
+    behind_parts : (b : Bool) (o : Option Endpoint) (i : Endpoint) → cond b o None ≡ Some i → (b ≡ true) × (o ≡ Some i)
+    behind_parts true o i e = (refl, e)
+    behind_parts false o i e = cc
+
+    unturned : IsTurned mappings t (new_connection_of t)
+    unturned = record { kind = refl; none = refl; dest = λ m e. absurd (none-some m e); shape = λ h. h }
+
+    pub turned_so : (verdict : HookVerdict) → IsTurned mappings t (with_destination_nat plant mappings f (new_connection_of t) verdict)
+    turned_so (Translated how) = record { kind = refl; none = refl; dest = λ m e. absurd (none-some m e); shape = aimed_suits how }
+    turned_so Dropped = unturned
+    turned_so Accepted = by_found (internal_endpoint mappings (new_connection_of t)) refl
+      where
+        by_found : (o : Option Endpoint) → internal_endpoint mappings (new_connection_of t) ≡ o
+            → IsTurned mappings t (to_internal (new_connection_of t) o)
+        by_found None e = unturned
+        by_found (Some i) e =
+            let parts = behind_parts (has_ports t.kind) (inbound_of t.kind t.destination mappings) i e in
+            record {
+              kind = refl;
+              none = refl;
+              dest = λ m k. subst (Contains mappings) (same_Some (mapping_at t.kind i t.destination) m k)
+                  (known.inbound mappings t.kind i t.destination parts.1);
+              shape = λ h. ported_suits t.kind t.source.port i.port parts.0;
+            }
+
+  -- ---- behind source NAT
+
+  candidate_alike : (kind : Kind) (s port : ℕ) → has_ports kind ≡ true → Contains (candidates (order_of kind) s None) port
+      → same_class_and_parity s port ≡ true
+  candidate_alike Tcp s port ports among = known.alike s port among
+  candidate_alike Udp s port ports among = known.alike s port among
+  candidate_alike _ s port ports among = cc
+
+  module _ (mappings : List Mapping) (one : IsOneToOne mappings) (plain : (m : Mapping) → Contains mappings m → IsPlain m) where
+    -- a source that is mapped gets the port that it has there, or the first free one
+    port_so : (kind : Kind) (internal : Endpoint) (x : ExternalSource) (port : ℕ)
+        → source_of kind internal x.address (range_of x.ports) mappings ≡ Some port
+        → IsPlain (mapping_at kind internal (end_at x.address port))
+        × PortChosen mappings (port_choice_by (is_some x.ports) (port_of kind internal x.address mappings))
+        (mapping_at kind internal (end_at x.address port))
+    port_so kind internal x port e = by_port (port_of kind internal x.address mappings) refl e
+      where
+        by_port : (o : Option ℕ) → port_of kind internal x.address mappings ≡ o
+            → or_else o (first_free_port kind internal x.address (range_of x.ports) mappings) ≡ Some port
+            → IsPlain (mapping_at kind internal (end_at x.address port))
+            × PortChosen mappings (port_choice_by (is_some x.ports) o) (mapping_at kind internal (end_at x.address port))
+        by_port (Some p) there same =
+            let among = port_held kind internal x.address port mappings (there ∙ same) in
+            (plain _ among, (λ untold. among, λ told. cc))
+        by_port None there found =
+            let among = (found_among (λ q. not (is_port_held kind x.address mappings q))
+            (candidates (order_of kind) internal.port (range_of x.ports)) port found).0 in (
+              candidate_plain kind internal.port (range_of x.ports) port among,
+              (λ untold. cc, λ told ports. candidate_alike kind internal.port port ports
+                  (subst (λ (r : Option CandidateRange). Contains (candidates (order_of kind) internal.port r) port)
+                  (unnamed x.ports (same_Some _ false told)) among)),
+            )
+
+    module _ (t : Tuple) (new : first_state t.kind ≡ states.New) (shaped : IsShaped t) (d : NewConnection)
+        (turned : IsTurned mappings t d) where
+      pub drafted : (x : Option ExternalSource) (after : NewConnection) → with_source_nat mappings d x ≡ Some after
+          → IsDrafted mappings t after
+      drafted None after e = subst (IsDrafted mappings t) (same_Some d after e) (record {
+        kind = turned.kind;
+        dest = turned.dest;
+        one = subst (λ (o : Option Mapping). IsOneToOne (listed o ++ mappings)) (sym turned.none) one;
+        shaped = turned.shape shaped;
+        source = λ m of. absurd (none_not_some d.source m turned.none of);
+      })
+      drafted (Some x) after e =
+          let r = some_of_map (with_source_mapping d x)
+          (source_of d.tuple.kind d.tuple.source x.address (range_of x.ports) mappings) after e in
+          let so = port_so d.tuple.kind d.tuple.source x r.0 r.1 in
+          subst (IsDrafted mappings t) r.2 (record {
+            kind = turned.kind;
+            dest = turned.dest;
+            one = known.source mappings d.tuple.kind d.tuple.source x.address (range_of x.ports) r.0 one r.1;
+            shaped = chosen_suits d.tuple.kind d.tuple.source.port d.tuple.destination.port r.0 (ap first_state turned.kind ∙ new)
+                (turned.shape shaped) so.0;
+            source = λ m of. subst (λ (n : Mapping). IsPlain n × PortChosen mappings
+                (port_choice_by (is_some x.ports) (port_of d.tuple.kind d.tuple.source x.address mappings)) n) (same_Some _ m of) so;
+          })
+
+-- ==== The latest allocation of a mapping's port.
 
 -- by what is recorded of it
-abbrev choice_by : Mapping → Option Bool → Option Mapping → Option Bool
+abbrev pub choice_by : Mapping → Option Bool → Option Mapping → Option Bool
 choice_by m port_choice source = cond (is_mapping m source) port_choice None
 
 chosen_or_earlier : (o earlier : Option Bool) → (o ≢ None) ⊎ (earlier ≢ None) → or_earlier o earlier ≢ None
@@ -260,42 +270,37 @@ chosen_or_earlier None earlier (inl some) = absurd (some refl)
 chosen_or_earlier None earlier (inr some) = some
 chosen_or_earlier (Some has_port_range) earlier some = λ none. none-some has_port_range (sym none)
 
-module _ (m : Mapping) (history : List Entry) (e : Entry) where
-  -- an entry that allocates no port keeps the latest choice
-  none_chosen : choice_in m e ≡ None → latest_choice m (e ∷ history) ≡ latest_choice m history
-  none_chosen none = ap (λ (o : Option Bool). or_earlier o (latest_choice m history)) none
-
-  -- the latest choice is the entry's, or an earlier one
-  choice_or_earlier : (o : Option Bool) (has_port_range : Bool)
-      → or_earlier o (latest_choice m history) ≡ Some has_port_range
-      → (o ≡ Some has_port_range) ⊎ (latest_choice m history ≡ Some has_port_range)
-  choice_or_earlier None has_port_range e = inr e
-  choice_or_earlier (Some other) has_port_range e = inl e
+-- it is this entry's, or an earlier one
+choice_or_earlier : (o earlier : Option Bool) (has_port_range : Bool) → or_earlier o earlier ≡ Some has_port_range
+    → (o ≡ Some has_port_range) ⊎ (earlier ≡ Some has_port_range)
+choice_or_earlier None earlier has_port_range e = inr e
+choice_or_earlier (Some other) earlier has_port_range e = inl e
 
 chosen_by : (m : Mapping) (port_choice : Option Bool) (source : Option Mapping) (has_port_range : Bool)
     → choice_by m port_choice source ≡ Some has_port_range
     → (source ≡ Some m) × (port_choice ≡ Some has_port_range)
 chosen_by m port_choice None has_port_range e = absurd (none-some {A = Bool} has_port_range e)
-chosen_by m port_choice (Some n) has_port_range e = by_test (cases_Bool (same_mapping m n))
-  where
-    by_test : (same_mapping m n ≡ true) ⊎ (same_mapping m n ≡ false) → (Some n ≡ Some m)
-        × (port_choice ≡ Some has_port_range)
-    by_test (inl t) = (ap Some (sym (mapping_test.exact m n t)), sym (cond-true (same_mapping m n) port_choice None t) ∙ e)
-    by_test (inr f) = absurd (none_not_some (cond (same_mapping m n) port_choice None) has_port_range
-        (cond-false (same_mapping m n) port_choice None f) e)
+chosen_by m port_choice (Some n) has_port_range e = elim (cases_Bool (same_mapping m n)) [
+  | inl t ↦ (ap Some (sym (mapping_test.exact m n t)), sym (cond-true (same_mapping m n) port_choice None t) ∙ e)
+  | inr f ↦ absurd (none_not_some (cond (same_mapping m n) port_choice None) has_port_range
+      (cond-false (same_mapping m n) port_choice None f) e)
+]
 
--- ==== Together.
+-- ==== The invariant.
 
-abbrev pub IsChosen : List Entry → Mapping → Type 0
-IsChosen history m = latest_choice m history ≢ None
+-- a port of this mapping was allocated
+abbrev pub IsAllocated : List Entry → Mapping → Type 0
+IsAllocated history m = IsPlain m × (latest_choice m history ≢ None)
+
+-- the tuples of a connection
+pub record HasShapes (from back : Tuple) : Type 0 where
+  pub kinds : back.kind ≡ inverse_kind from.kind
+  pub original : IsShaped from
+  pub reply : IsShaped back
 
 -- a connection
-pub record IsMade (history : List Entry) (h : ConntrackEntry) : Type 0 where
-  pub kinds : h.reply.kind ≡ inverse_kind h.original.kind
-  pub original : IsShaped h.original
-  pub reply : IsShaped h.reply
-  pub plain : MappingsAre IsPlain h
-  pub chosen : MappingsAre (IsChosen history) h
+abbrev pub IsMade : List Entry → ConntrackEntry → Type 0
+IsMade history h = HasShapes h.original h.reply × MappingsAre (IsAllocated history) h
 
 -- the mappings held, and the ports that entries allocated
 pub record Mapped (history : List Entry) (held : List ConntrackEntry) : Type 0 where
@@ -309,19 +314,36 @@ pub record Preserved (history : List Entry) (held : List ConntrackEntry) : Type 
   pub apart : IsTrue (have_disjoint_tuples held)
   pub mapped : Mapped history held
 
-module _ (laws : MappingLaws) (history : List Entry) (held : List ConntrackEntry) (k : Mapped history held) where
-  -- connections with mappings of those held
-  its_mappings : (left : List ConntrackEntry) → All (MappingsAre (Contains (mappings_in held))) left
-      → IsOneToOne (mappings_in left)
-  its_mappings left all =
-      laws.within (mappings_in left) (mappings_in held) (each_mapping (Contains (mappings_in held)) left all) k.one
+-- the connection that a packet begins
+abbrev begun_by : ConnId → Arrival → ℕ → NewConnection → ConntrackEntry
+begun_by id p mark d =
+    begun_with id (record {
+      original = p.tuple;
+      reply = reply_to d;
+      mark = mark;
+      last = p.moment;
+      source = d.source;
+      dest = d.dest;
+    }) p.flags
 
-  itself : All (MappingsAre (Contains (mappings_in held))) held
-  itself = each_holder (Contains (mappings_in held)) held (λ m among. among)
+module _ (known : Known) (history : List Entry) (held : List ConntrackEntry) (k : Mapped history held) where
+  abbrev mappings : List Mapping
+  mappings = mappings_in held
+
+  pub allocated : (m : Mapping) → Contains mappings m → IsAllocated history m
+  allocated = each_mapping (IsAllocated history) held
+      (All-weaker (IsMade history) (MappingsAre (IsAllocated history)) (λ h one. one.1) held k.all)
+
+  -- connections with mappings of those held
+  its_mappings : (left : List ConntrackEntry) → All (MappingsAre (Contains mappings)) left → IsOneToOne (mappings_in left)
+  its_mappings left all = known.within (mappings_in left) mappings (each_mapping (Contains mappings) left all) k.one
+
+  itself : All (MappingsAre (Contains mappings)) held
+  itself = each_holder (Contains mappings) held (λ m among. among)
 
   filtered : (p : ConntrackEntry → Bool) → Mapped history (filter p held)
   filtered p = record {
-    one = its_mappings (filter p held) (All-filter p (MappingsAre (Contains (mappings_in held))) held itself);
+    one = its_mappings (filter p held) (All-filter p (MappingsAre (Contains mappings)) held itself);
     class = k.class;
     all = All-filter p (IsMade history) held k.all;
   }
@@ -334,134 +356,203 @@ module _ (laws : MappingLaws) (history : List Entry) (held : List ConntrackEntry
       → Mapped history (touched_at id direction flags mark now held)
   refreshed id direction flags mark now = record {
     one = its_mappings (touched_at id direction flags mark now held)
-        (each_touched (MappingsAre (Contains (mappings_in held))) id direction flags mark now (λ h one. one) held itself);
+        (each_touched (MappingsAre (Contains mappings)) id direction flags mark now (λ h one. one) held itself);
     class = k.class;
-    all = each_touched (IsMade history) id direction flags mark now (λ h one. record {
-      kinds = one.kinds;
-      original = one.original;
-      reply = one.reply;
-      plain = one.plain;
-      chosen = one.chosen;
-    }) held k.all;
+    all = each_touched (IsMade history) id direction flags mark now (λ h one. one) held k.all;
   }
 
+  -- what NAT gives the first packet of a connection beside these
+  pub its_draft : (setup : Setup) (input : Interface) (t : Tuple) → first_state t.kind ≡ states.New → IsShaped t → (s : PathState)
+      → (n : IsTranslated setup mappings input (new_connection_of t) s) → IsDrafted mappings t n.left
+  its_draft setup input t new shaped s n =
+      drafted known mappings k.one (λ m among. (allocated m among).0) t new shaped
+      (turned_by setup mappings input (new_connection_of t) n.asked)
+      (turned_so known setup.plant mappings n.asked.facts t n.asked.verdict) n.external n.left n.drafted
+
   module _ (e : Entry) where
+    still_allocated : (m : Mapping) → IsAllocated history m → IsAllocated (e ∷ history) m
+    still_allocated m so = (so.0, chosen_or_earlier (choice_in m e) (latest_choice m history) (inr so.1))
+
     made_later : All (IsMade (e ∷ history)) held
-    made_later = All-weaker (IsMade history) (IsMade (e ∷ history)) (λ h one. record {
-      kinds = one.kinds;
-      original = one.original;
-      reply = one.reply;
-      plain = one.plain;
-      chosen = λ m has. chosen_or_earlier (choice_in m e) (latest_choice m history) (inr (one.chosen m has));
-    }) held k.all
+    made_later = All-weaker (IsMade history) (IsMade (e ∷ history))
+        (λ h one. (one.0, λ m has. still_allocated m (one.1 m has))) held k.all
 
     -- an entry that begins no connection with a mapping of its source
     unchosen : (begun e.tracked.change).source ≡ None → Mapped (e ∷ history) held
     unchosen none = record {
       one = k.one;
-      class = λ m ports latest.
-          k.class m ports (sym (none_chosen m history e (ap (choice_by m e.port_choice) none)) ∙ latest);
+      class = λ m ports latest. k.class m ports (sym (ap (λ (o : Option Bool). or_earlier o (latest_choice m history))
+          (ap (choice_by m e.port_choice) none)) ∙ latest);
       all = made_later;
     }
 
-    -- one that begins a connection beside these others
-    module _ (alike : CandidatesAlike) (id : ConnId) (p : Arrival) (shaped : IsShaped p.tuple) (mark : ℕ) (reply : Tuple)
-        (source dest : Option Mapping) (is : (begun e.tracked.change).source ≡ source)
-        (b : IsBegun held p.tuple reply source dest e.port_choice) where
-      abbrev mappings : List Mapping
-      mappings = mappings_in held
-
+    -- one that begins this connection beside the others
+    module _ (id : ConnId) (p : Arrival) (mark : ℕ) (d : NewConnection) (is : (begun e.tracked.change).source ≡ d.source)
+        (shaped : IsShaped p.tuple) (draft : IsDrafted mappings p.tuple d)
+        (chosen : e.port_choice ≡ port_choice_in mappings d.has_port_range d.source) where
       -- its mappings are that of its source, and a live one
       begun_mappings : (Q : Mapping → Type 0) → ((m : Mapping) → Contains mappings m → Q m)
-          → ((m : Mapping) → source ≡ Some m → Q m) → MappingsAre Q (begun_by id p mark reply source dest)
+          → ((m : Mapping) → d.source ≡ Some m → Q m) → MappingsAre Q (begun_by id p mark d)
       begun_mappings Q live own m (inl of) = own m of
-      begun_mappings Q live own m (inr to) =
-          live m (dest_held laws mappings p.tuple b.new_connection b.drafted m (sym b.to ∙ to))
+      begun_mappings Q live own m (inr to) = live m (draft.dest m to)
 
       -- the port of its source was allocated now, or was live before
-      source_so : (m : Mapping) → source ≡ Some m → SourceSo mappings p.tuple b.new_connection
-          → PortChosen mappings e.port_choice m
-      source_so m of (stayed none same) = absurd (none_not_some b.new_connection.source m none (sym b.from ∙ of))
-      source_so m of (went x port chosen from to has_port_range) =
-          let same : mapping_at p.tuple.kind p.tuple.source (end_at x.address port) ≡ m =
-          some_unique b.new_connection.source _ m from (sym b.from ∙ of) in
-          let tells = b.chosen ∙ ap (port_choice_in mappings b.new_connection.has_port_range) from in
-          subst (PortChosen mappings e.port_choice) same
-          (subst (λ (o : Option Bool). PortChosen mappings o (mapping_at p.tuple.kind p.tuple.source
-          (end_at x.address port))) (sym tells)
-          (port_chosen mappings p.tuple x port chosen b.new_connection.has_port_range has_port_range))
+      source_so : (m : Mapping) → d.source ≡ Some m → PortChosen mappings e.port_choice m
+      source_so m of = subst (λ (o : Option Bool). PortChosen mappings o m) (sym chosen) (draft.source m of).1
 
-      source_chosen : (m : Mapping) → source ≡ Some m → (o : Option Bool) → e.port_choice ≡ o
-          → IsChosen (e ∷ history) m
-      source_chosen m of None untold =
-          chosen_or_earlier (choice_in m e) (latest_choice m history)
-          (inr (each_mapping (IsChosen history) held (All-weaker (IsMade history) (MappingsAre (IsChosen history))
-          (λ h one. one.chosen) held k.all) m ((source_so m of b.drafted.source).0 untold)))
-      source_chosen m of (Some named) told =
-          chosen_or_earlier (choice_in m e) (latest_choice m history)
-          (inl (λ none. none_not_some (choice_in m e) named none (ap (choice_by m e.port_choice) (is ∙ of)
-          ∙ cond-true (same_mapping m m) e.port_choice None (mapping_test.same m) ∙ told)))
+      source_allocated : (m : Mapping) → d.source ≡ Some m → (o : Option Bool) → e.port_choice ≡ o → IsAllocated (e ∷ history) m
+      source_allocated m of None untold = still_allocated m (allocated m ((source_so m of).0 untold))
+      source_allocated m of (Some named) told = (
+        (draft.source m of).0,
+        chosen_or_earlier (choice_in m e) (latest_choice m history)
+            (inl (λ none. none_not_some (choice_in m e) named none (ap (choice_by m e.port_choice) (is ∙ of)
+            ∙ cond-true (same_mapping m m) e.port_choice None (mapping_test.same m) ∙ told))),
+      )
 
-      begun_made : IsMade (e ∷ history) (begun_by id p mark reply source dest)
-      begun_made =
-          let plain = each_mapping IsPlain held (All-weaker (IsMade history) (MappingsAre IsPlain) (λ h one. one.plain)
-          held k.all) in
-          record {
-            kinds = ap (λ (u : Tuple). u.kind) b.answers ∙ ap inverse_kind b.drafted.kind;
-            original = shaped;
-            reply = subst IsShaped (sym b.answers) (inverse_shaped b.new_connection.tuple (new_connection_shaped mappings
-                plain p.tuple b.new_connection b.new shaped b.drafted));
-            plain = begun_mappings IsPlain plain (λ m of. source_is_plain mappings plain p.tuple b.new_connection b.new
-                shaped b.drafted m (sym b.from ∙ of));
-            chosen = begun_mappings (IsChosen (e ∷ history))
-                (λ m among. each_mapping (IsChosen (e ∷ history)) held (All-weaker (IsMade (e ∷ history))
-                (MappingsAre (IsChosen (e ∷ history))) (λ h one. one.chosen) held made_later) m among)
-                (λ m of. source_chosen m of e.port_choice refl);
-          }
-
-      begun_mapped : Mapped (e ∷ history) (held ++ begun_by id p mark reply source dest ∷ [])
+      begun_mapped : Mapped (e ∷ history) (held ++ begun_by id p mark d ∷ [])
       begun_mapped =
-          let new = begun_by id p mark reply source dest in
-          let all = listed source ++ mappings in
+          let new = begun_by id p mark d in
+          let all = listed d.source ++ mappings in
           record {
-            one = laws.within (mappings_in (held ++ new ∷ [])) all
+            one = known.within (mappings_in (held ++ new ∷ [])) all
                 (each_mapping (Contains all) (held ++ new ∷ [])
                 (All-push (MappingsAre (Contains all)) held new
-                (each_holder (Contains all) held (Contains-append_right (listed source) mappings))
-                (begun_mappings (Contains all) (Contains-append_right (listed source) mappings)
-                (λ m of. Contains-append_left (listed source) mappings m (is_listed source m of)))))
-                (subst (λ (o : Option Mapping). IsOneToOne (listed o ++ mappings)) (sym b.from)
-                (source_one laws mappings p.tuple b.new_connection b.drafted k.one));
-            class = λ m ports latest. elim (choice_or_earlier m history e (choice_in m e) false latest) [
+                (each_holder (Contains all) held (Contains-append_right (listed d.source) mappings))
+                (begun_mappings (Contains all) (Contains-append_right (listed d.source) mappings)
+                (λ m of. Contains-append_left (listed d.source) mappings m (is_listed d.source m of))))) draft.one;
+            class = λ m ports latest. elim (choice_or_earlier (choice_in m e) (latest_choice m history) false latest) [
               | inl here ↦
-                  let so = chosen_by m e.port_choice source false (sym (ap (choice_by m e.port_choice) is) ∙ here) in
-                  (source_so m so.0 b.drafted.source).1 so.1 alike ports
+                  let so = chosen_by m e.port_choice d.source false (sym (ap (choice_by m e.port_choice) is) ∙ here) in
+                  (source_so m so.0).1 so.1 ports
               | inr earlier ↦ k.class m ports earlier
             ];
-            all = All-push (IsMade (e ∷ history)) held new made_later begun_made;
+            all = All-push (IsMade (e ∷ history)) held new made_later (
+              record {
+                kinds = ap inverse_kind draft.kind;
+                original = shaped;
+                reply = inverse_shaped d.tuple draft.shaped;
+              },
+              begun_mappings (IsAllocated (e ∷ history)) (λ m among. still_allocated m (allocated m among))
+                  (λ m of. source_allocated m of e.port_choice refl),
+            );
           }
 
--- with the entry of a packet
-packet_mapped : MappingLaws → CandidatesAlike → (history : List Entry) (held : List ConntrackEntry) (e : Entry)
-    (b : Belonging) (id : ConnId) (x : Arrival) (confirmation : Confirmation) → IsShaped x.tuple
-    → e.tracked ≡ updates.entry_of b x confirmation → IsCounted e.port_choice confirmation b x.tuple held
-    → Mapped history held → Mapped (e ∷ history) (after_packet b id x confirmation held)
-packet_mapped laws alike history held e (Found place) id x Unconfirmed shaped is c k =
-    unchosen laws history held k e (ap (λ (t : TrackedPacket). (begun t.change).source) is)
-packet_mapped laws alike history held e (Found place) id x (Confirmed mark reply source dest) shaped is c k =
-    unchosen laws history (touched_at place.id place.direction x.flags mark x.moment held)
-    (refreshed laws history held k place.id place.direction x.flags mark x.moment) e
-    (ap (λ (t : TrackedPacket). (begun t.change).source) is)
-packet_mapped laws alike history held e b id x Unconfirmed shaped is c k =
-    unchosen laws history (after_end b held) (ended laws history held k b) e
-    (ap (λ (t : TrackedPacket). (begun t.change).source) is)
-packet_mapped laws alike history held e b id x (Confirmed mark reply source dest) shaped is c k =
-    begun_mapped laws history (after_end b held) (ended laws history held k b) e alike id x shaped mark reply source dest
-    (ap (λ (t : TrackedPacket). (begun t.change).source) is) c
+-- ==== It is true in each history, at its time and at each later one.
 
-pub preserved : StillApart → MappingLaws → CandidatesAlike → IsKept Preserved
-preserved still laws alike = record {
-  first = record {
+abbrev source_begun : TrackedPacket → Option Mapping
+source_begun t = (begun t.change).source
+
+-- a connection that isn't refused is answered by a tuple that is free
+untaken : (reply : Tuple) (others : List ConntrackEntry) → refusal reply others ≡ None → is_taken reply others ≡ false
+untaken reply others e = by_tests (nat_le max_connections (length others)) (is_taken reply others) e
+  where
+    by_tests : (full taken : Bool) → cond full (Some causes.Full) (cond taken (Some causes.Clash) None) ≡ None
+        → taken ≡ false
+    by_tests true taken k = cc
+    by_tests false true k = cc
+    by_tests false false k = refl
+
+module _ (known : Known) (setup : Setup) where
+  abbrev Holds : List Entry → Type 0
+  Holds history = (now : ℕ) → moment_of history ≤ now → Preserved history (alive_at setup history now)
+
+  -- one record more
+  module _ (history : List Entry) (r : Recorded) (e : Entry) (before : Holds history) where
+    abbrev held : List ConntrackEntry
+    held = live_at_record setup history r
+
+    abbrev m : ℕ
+    m = moment_after history r
+
+    here : Preserved history held
+    here = before m (omega arith)
+
+    -- after a packet that belongs so
+    module _ (b : Belonging) (x : Arrival) where
+      abbrev id : ConnId
+      id = record { 0 = length (tracked_of history) }
+
+      abbrev KeptAfter : Confirmation → Type 0
+      KeptAfter confirmation = DoesNotClash b confirmation held × Mapped (e ∷ history) (after_packet b id x confirmation held)
+
+    unconfirmed : (b : Belonging) (x : Arrival) → e.tracked ≡ updates.entry_of b x Unconfirmed → KeptAfter b x Unconfirmed
+    unconfirmed (Found place) x is = (tt, unchosen known history held here.mapped e (ap source_begun is))
+    unconfirmed b x is = (tt, unchosen known history (after_end b held) (ended known history held here.mapped b) e (ap source_begun is))
+
+    begun_so : (b : Belonging) → IsNone b → (x : Arrival) (mark : ℕ) (d : NewConnection)
+        → e.tracked ≡ updates.entry_of b x (Confirmed mark (reply_to d) d.source d.dest) → IsShaped x.tuple
+        → IsDrafted (mappings_in (after_end b held)) x.tuple d
+        → e.port_choice ≡ port_choice_in (mappings_in (after_end b held)) d.has_port_range d.source
+        → is_taken (reply_to d) (after_end b held) ≡ false → KeptAfter b x (Confirmed mark (reply_to d) d.source d.dest)
+    begun_so (Found place) none x mark d is shaped draft chosen free = absurd none
+    begun_so b none x mark d is shaped draft chosen free = (
+      free,
+      begun_mapped known history (after_end b held) (ended known history held here.mapped b) e (id b x) x mark d (ap source_begun is)
+          shaped draft chosen,
+    )
+
+    accepted_kept : (a : ReceivedPacket) (t : Tuple) (q : AcceptedWith setup held m a t e)
+        → IsLookedUp setup (interface_facts setup.plant a.interface) held a.packet (belongs_by held a.packet t) t q.end
+        → KeptAfter (belongs_by held a.packet t) (arrival_of m a.packet t) (confirmation_by q.end.info (mark_in q.end.facts.ct))
+    accepted_kept a t q (refreshes place found is) =
+        let none : source_begun e.tracked ≡ None = rw (is, found) at (ap source_begun q.tracked) in
+        let x = arrival_of m a.packet t in
+        rw (is, found) (tt, unchosen known history (touched_at place.id place.direction x.flags (mark_in q.end.facts.ct) m held)
+        (refreshed known history held here.mapped place.id place.direction x.flags (mark_in q.end.facts.ct) m) e none)
+    accepted_kept a t q (is_invalid none new is) = rw is (unconfirmed _ _ (rw is at q.tracked))
+    accepted_kept a t q (begins none new n free) =
+        let b = belongs_by held a.packet t in
+        let shaped = tuple_shaped a.packet t q.read in
+        rw n.is (begun_so b none (arrival_of m a.packet t) (mark_in q.end.facts.ct) n.left (rw n.is at q.tracked) shaped
+        (its_draft known history (after_end b held) (ended known history held here.mapped b) setup
+        (interface_facts setup.plant a.interface) t new shaped q.end n)
+        (q.port_choice ∙ ap (port_choice_for (beside held a.packet t)) n.is) (untaken (reply_to n.left) (after_end b held) free))
+
+    -- the entry is of this moment, and at once so it is
+    abbrev AtOnce : Type 0
+    AtOnce = (e.tracked.moment ≡ m) × Preserved (e ∷ history) (alive_at setup (e ∷ history) m)
+
+    after_seen : (p : List ℕ) (t : Tuple) (confirmation : Confirmation)
+        → e.tracked ≡ updates.entry_of (belongs_by held p t) (arrival_of m p t) confirmation
+        → KeptAfter (belongs_by held p t) (arrival_of m p t) confirmation → AtOnce
+    after_seen p t confirmation is k =
+        let limits = limits_of setup in
+        let tracked = tracked_of history in (
+          ap (λ (x : TrackedPacket). x.moment) is,
+          subst (λ (x : TrackedPacket). Preserved (e ∷ history) (live_list limits (x ∷ tracked) m)) (sym is)
+              (subst (Preserved (e ∷ history)) (sym (known.packet limits tracked (arrival_of m p t) confirmation)) (record {
+                apart = known.apart held (record { 0 = length tracked }) (arrival_of m p t) confirmation
+                    (known.distinct limits tracked m) here.apart k.0;
+                mapped = k.1;
+              })),
+        )
+
+    at_once : EntryCase setup held m (carried setup r) e → AtOnce
+    at_once (unseen_so is untold other) = (
+      ap (λ (x : TrackedPacket). x.moment) is,
+      subst (λ (x : TrackedPacket). Preserved (e ∷ history) (live_list (limits_of setup) (x ∷ tracked_of history) m)) (sym is)
+          (subst (Preserved (e ∷ history)) (sym (known.none (limits_of setup) (tracked_of history) m))
+          (record { apart = here.apart; mapped = unchosen known history held here.mapped e (ap source_begun is) })),
+    )
+    at_once (dropped_so p t read is untold cause dropped) = after_seen p t Unconfirmed is (unconfirmed _ _ is)
+    at_once (accepted_so a arrived t q) = after_seen a.packet t _ q.tracked (accepted_kept a t q q.state)
+
+    next_holds : Next setup history r e → Holds (e ∷ history)
+    next_holds n now le =
+        let so = at_once (entry_case setup history r e n) in
+        let reached : m ≤ now = subst (λ (i : ℕ). i ≤ now) so.0 le in
+        subst (Preserved (e ∷ history)) (sym (known.later (limits_of setup) (tracked_of (e ∷ history)) m now reached)) (record {
+          apart = known.apart_later (limits_of setup) _ now so.1.apart;
+          mapped = filtered known (e ∷ history) _ so.1.mapped (is_live (limits_of setup) now);
+        })
+
+  grown : (records : List Recorded) (history after : List Entry) → IsHistoryOf setup history records after
+      → Holds history → Holds after
+  grown [] history after g h = subst Holds (sym g) h
+  grown (r ∷ records) history after g h = grown records (g.0 ∷ history) after g.2 (next_holds history r g.0 h g.1)
+
+  pub preserved : (history : List Entry) → IsHistory setup history → Holds history
+  preserved history is = grown is.records [] history is.is_history (λ now le. record {
     apart = refl;
     mapped = record {
       one = record {
@@ -471,21 +562,4 @@ preserved still laws alike = record {
       class = λ m ports e. absurd (none-some {A = Bool} false e);
       all = All-nil (IsMade []);
     };
-  };
-  live = λ limits history held now k. record {
-    apart = still.live limits held now k.apart;
-    mapped = filtered laws history held k.mapped (is_live limits now);
-  };
-  none = λ history held e now is k. record {
-    apart = k.apart;
-    mapped = unchosen laws history held k.mapped e (ap (λ (t : TrackedPacket). (begun t.change).source) is);
-  };
-  packet = λ history held e id x confirmation p distinct read is counted k.
-      let b = belongs_in held x.tuple x.flags in
-      record {
-        apart = still.packet held id x confirmation distinct k.apart
-            (begun_apart e.port_choice confirmation b x.tuple held counted);
-        mapped = packet_mapped laws alike history held e b id x confirmation (tuple_shaped p x.tuple read) is counted
-            k.mapped;
-      };
-}
+  })

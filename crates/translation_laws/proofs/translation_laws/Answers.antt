@@ -12,12 +12,18 @@ returns-clause-obeys c =
     let m = c.one_more_entry.ensures in
     let s = c.tuples_stay_disjoint.ensures in
     let o = c.stays_one_to_one.ensures in
-    let f = c.no_fault.ensures in
     history_obeys (record {
-      more = record { packet = m.packet; none = m.none; later = m.later; distinct = m.distinct };
-      still = record { packet = s.packet; live = s.live };
-      laws = record { source = o.source; within = o.within; inbound = c.inbound_is_held.ensures };
-      all = c.candidates_keep_class_and_parity.ensures.candidates;
+      packet = m.packet;
+      none = m.none;
+      later = m.later;
+      distinct = m.distinct;
+      apart = s.packet;
+      apart_later = s.live;
+      source = o.source;
+      within = o.within;
+      inbound = c.inbound_is_held.ensures;
+      alike = c.candidates_keep_class_and_parity.ensures.candidates;
       sending = c.rewritten_has_tuple.ensures;
-      faults = record { passes = f.passes; faultless = f.faultless };
+      passes = c.no_fault.ensures.passes;
+      faultless = c.no_fault.ensures.faultless;
     })
