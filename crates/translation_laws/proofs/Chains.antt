@@ -47,20 +47,15 @@ nat_acted_last es e is =
 abbrev pub did_exempt : List Event → Bool
 did_exempt es = list_any did_untrack es
 
--- of a packet that wasn't looked up yet (`None`), and of one that was, with what was so at its look-up (`Some`)
-abbrev pub IfNotLookedUp : Bool → Option Bool → Bool → Type 0
-IfNotLookedUp so None exempt = exempt ≡ so
-IfNotLookedUp so (Some then) exempt = ⊥
-
-abbrev pub IfLookedUp : Option Bool → Bool → Type 0
-IfLookedUp None exempt = ⊥
-IfLookedUp (Some then) exempt = exempt ≡ then
-
--- what the facts tell of it
+-- what the facts tell of it: of a packet that wasn't looked up yet (`None`), and of one that was, with what was so at its
+-- look-up (`Some`)
 abbrev pub TellExempt : CtFacts → Option Bool → Bool → Type 0
-TellExempt NotLookedUp at_look_up exempt = IfNotLookedUp false at_look_up exempt
-TellExempt Notrack at_look_up exempt = IfNotLookedUp true at_look_up exempt
-TellExempt _ at_look_up exempt = IfLookedUp at_look_up exempt
+TellExempt NotLookedUp None exempt = exempt ≡ false
+TellExempt Notrack None exempt = exempt ≡ true
+TellExempt _ None exempt = ⊥
+TellExempt NotLookedUp (Some then) exempt = ⊥
+TellExempt Notrack (Some then) exempt = ⊥
+TellExempt _ (Some then) exempt = exempt ≡ then
 
 -- other events don't change it
 no_more : (es later : List Event) → did_exempt later ≡ false → did_exempt (es ++ later) ≡ did_exempt es
@@ -123,15 +118,20 @@ kept_then f g h es mid later one two = record {
 
 -- ---- statements
 
--- with this event the facts become those
-abbrev NoteKept : Facts → Event → Facts → Type 0
-NoteKept f e g = (interfaces_of g ≡ interfaces_of f)
-    × ((at_look_up : Option Bool) (es : List Event) → TellExempt f.ct at_look_up (did_exempt es)
-    → TellExempt g.ct at_look_up (did_exempt (es ++ e ∷ [])))
-
 abbrev WayKept : Facts → StatementEffect → Type 0
-WayKept f (note e g) = NoteKept f e g
+WayKept f (note e g) = (es : List Event) → Kept f g es (es ++ e ∷ [])
 WayKept f _ = Unit {0}
+
+-- with this event the facts become those
+note_kept : (f g : Facts) (e : Event) → interfaces_of g ≡ interfaces_of f
+    → ((at_look_up : Option Bool) (es : List Event) → TellExempt f.ct at_look_up (did_exempt es)
+    → TellExempt g.ct at_look_up (did_exempt (es ++ e ∷ []))) → WayKept f (note e g)
+note_kept f g e same tells es = record {
+  interfaces = same;
+  grown = (e ∷ [], refl);
+  untold = none_earlier es (e ∷ []);
+  exempt = λ at_look_up told. tells at_look_up es told;
+}
 
 passes_kept : (b : Bool) (f : Facts) → WayKept f (passes_if b)
 passes_kept true f = tt
@@ -143,28 +143,26 @@ value_kept f k all None = tt
 value_kept f k all (Some x) = all x
 
 connection_kept : (f : Facts) (t : CtFacts) (n : ℕ) → f.ct ≡ t → WayKept f (writes_connection f t n)
-connection_kept f (Known c) n is = (
-  refl,
-  λ at_look_up es told. told_still (Known c) at_look_up es (Marked marks.Ct n ∷ []) refl (rw is at told),
-)
+connection_kept f (Known c) n is = note_kept f _ (Marked marks.Ct n) refl
+    (λ at_look_up es told. told_still (Known c) at_look_up es (Marked marks.Ct n ∷ []) refl (rw is at told))
 connection_kept f _ n is = tt
 
 writes_kept : (field : MarkField) (f : Facts) (n : ℕ) → WayKept f (writes field f n)
 writes_kept marks.Meta f n =
-    (refl, λ at_look_up es told. told_still f.ct at_look_up es (Marked marks.Meta n ∷ []) refl told)
+    note_kept f _ (Marked marks.Meta n) refl (λ at_look_up es told. told_still f.ct at_look_up es (Marked marks.Meta n ∷ []) refl told)
 writes_kept marks.Ct f n = connection_kept f f.ct n refl
 
 skips_kept : (f : Facts) (t : CtFacts) → f.ct ≡ t → WayKept f (sets_notrack f t)
-skips_kept f NotLookedUp is = (refl, λ at_look_up es told. exempted at_look_up es (rw is at told))
+skips_kept f NotLookedUp is = note_kept f _ Untracked refl (λ at_look_up es told. exempted at_look_up es (rw is at told))
 skips_kept f _ is = tt
 
 statement_effect_kept : (scope : Scope) (statement_position : StatementPosition) (s : Statement) (f : Facts)
     → WayKept f (statement_effect scope statement_position s f)
 statement_effect_kept scope statement_position (tree.matching m) f = passes_kept _ f
 statement_effect_kept scope statement_position (tree.counter start) f =
-    (refl, λ at_look_up es told. told_still f.ct at_look_up es (Counted statement_position ∷ []) refl told)
+    λ es. kept_more f es (Counted statement_position ∷ []) refl
 statement_effect_kept scope statement_position (tree.log text) f =
-    (refl, λ at_look_up es told. told_still f.ct at_look_up es (Logged statement_position ∷ []) refl told)
+    λ es. kept_more f es (Logged statement_position ∷ []) refl
 statement_effect_kept scope statement_position (tree.set_mark field operand) f =
     value_kept f (writes field f) (writes_kept field f) (operand_number scope operand f)
 statement_effect_kept scope statement_position (tree.verdict_map s m) f =
@@ -188,17 +186,6 @@ behind f g es mid (over e h later) one two = (kept_then f g h es mid later one t
 module _ {S : Type 0} (p : Program S)
     (kept : (statement_position : StatementPosition) (s : S) (f : Facts)
     → WayKept f (p.effect_of statement_position s f)) where
-  noted : (f g : Facts) (es : List Event) (e : Event) (q : StatementEffect) → q ≡ note e g → WayKept f q
-      → Kept f g es (es ++ e ∷ [])
-  noted f g es e q is k =
-      let so : NoteKept f e g = subst (WayKept f) is k in
-      record {
-        interfaces = so.0;
-        grown = (e ∷ [], refl);
-        untold = none_earlier es (e ∷ []);
-        exempt = λ at_look_up told. so.1 at_look_up es told;
-      }
-
   taken : (f : Facts) (es later : List Event) (o : RunResult) → RunKept f (es ++ later) o → did_exempt later ≡ false
       → RunKept f es o
   taken f es later o two none = behind f f es (es ++ later) o (kept_more f es later none) two
@@ -211,8 +198,7 @@ module _ {S : Type 0} (p : Program S)
   runs_kept (runs.passes w r) = runs_kept r
   runs_kept (runs.fails w r) = runs_kept r
   runs_kept (runs.notes {c = c} {n = n} {k = k} {s = s} {f = f} e g {es = es} {o = o} w r) =
-      behind f g es (es ++ e ∷ []) o (noted f g es e (p.effect_of (runs.statement_position p c n k) s f) w
-      (kept (runs.statement_position p c n k) s f)) (runs_kept r)
+      behind f g es (es ++ e ∷ []) o (subst (WayKept f) w (kept (runs.statement_position p c n k) s f) es) (runs_kept r)
   runs_kept (runs.accepts {f = f} {es = es} w) = (kept_more f es _ refl, tt)
   runs_kept (runs.drops {f = f} {es = es} w) = (kept_more f es _ refl, tt)
   runs_kept (runs.translates t {f = f} {es = es} w) = (kept_more f es _ refl, nat_acted_last es _ refl)

@@ -164,10 +164,8 @@ taken_by t (x ∷ held) h among incoming = elim (Contains-cases x held h among) 
   | inr later ↦ or_right (is_incoming t x) (is_taken t held) (taken_by t held h later incoming)
 ]
 
-abbrev pub Parts : ConntrackEntry → List ConntrackEntry → Type 0
-Parts x held = (is_taken x.original held ≡ false) × (is_taken x.reply held ≡ false) × (have_disjoint_tuples held ≡ true)
-
-pub parts : (x : ConntrackEntry) (held : List ConntrackEntry) → have_disjoint_tuples (x ∷ held) ≡ true → Parts x held
+pub parts : (x : ConntrackEntry) (held : List ConntrackEntry) → have_disjoint_tuples (x ∷ held) ≡ true
+    → (is_taken x.original held ≡ false) × (is_taken x.reply held ≡ false) × (have_disjoint_tuples held ≡ true)
 parts x held apart =
     let two = and_parts (not (is_taken x.original held || is_taken x.reply held)) (have_disjoint_tuples held) apart in
     let neither = not-true (is_taken x.original held || is_taken x.reply held) two.0 in
@@ -176,11 +174,10 @@ parts x held apart =
 -- no tuple of the first is one of those behind it
 pub not_behind : (x : ConntrackEntry) (held : List ConntrackEntry) (t : Tuple)
     → have_disjoint_tuples (x ∷ held) ≡ true → is_incoming t x ≡ true → is_taken t held ≡ false
-not_behind x held t apart incoming = by_tuple (or_cases (same_tuple x.original t) (same_tuple x.reply t) incoming)
-  where
-    by_tuple : (same_tuple x.original t ≡ true) ⊎ (same_tuple x.reply t ≡ true) → is_taken t held ≡ false
-    by_tuple (inl e) = ap (λ (u : Tuple). is_taken u held) (sym (same_tuple-true x.original t e)) ∙ (parts x held apart).0
-    by_tuple (inr e) = ap (λ (u : Tuple). is_taken u held) (sym (same_tuple-true x.reply t e)) ∙ (parts x held apart).1
+not_behind x held t apart incoming = elim (or_cases (same_tuple x.original t) (same_tuple x.reply t) incoming) [
+  | inl e ↦ ap (λ (u : Tuple). is_taken u held) (sym (same_tuple-true x.original t e)) ∙ (parts x held apart).0
+  | inr e ↦ ap (λ (u : Tuple). is_taken u held) (sym (same_tuple-true x.reply t e)) ∙ (parts x held apart).1
+]
 
 module _ (t : Tuple) where
   -- only one connection has a tuple
@@ -249,12 +246,11 @@ module _ (t : Tuple) (held : List ConntrackEntry) (flags : Flags) where
   -- where no tuple is in two connections
   pub given_one : (h : ConntrackEntry) → have_disjoint_tuples held ≡ true → Contains held h
       → is_incoming t h ≡ true → belongs_in held t flags ≡ given_to h t flags
-  given_one h apart among incoming = by_holder its_holder
-    where
-      by_holder : ItsHolder → belongs_in held t flags ≡ given_to h t flags
-      by_holder (no_holder is none) = absurd (none h among incoming)
-      by_holder (holder g its first is) =
-          is ∙ ap (λ (x : ConntrackEntry). given_to x t flags) (only_one t held g h apart its among first incoming)
+  given_one h apart among incoming = elim its_holder [
+    | no_holder is none ↦ absurd (none h among incoming)
+    | holder g its first is ↦
+        is ∙ ap (λ (x : ConntrackEntry). given_to x t flags) (only_one t held g h apart its among first incoming)
+  ]
 
   module _ (place : ConnectionRef) where
     -- one that has its tuple, and that it doesn't remove
@@ -279,10 +275,9 @@ module _ (t : Tuple) (held : List ConntrackEntry) (flags : Flags) where
         (refl, ap (λ (x : ConnectionRef). x.id) same, ap (λ (x : ConnectionRef). Touches x.id.0 x.direction) same)
 
     pub found_one : belongs_in held t flags ≡ Found place → FoundOne
-    found_one e = by_holder its_holder
-      where
-        by_holder : ItsHolder → FoundOne
-        by_holder (no_holder is none) = cc
-        by_holder (holder h among incoming is) =
-            let so = found_by h (does_end h t flags) (same_tuple h.original t) (sym is ∙ e) in
-            record { h = h; among = among; incoming = incoming; unended = so.0; named = so.1; touched = so.2 }
+    found_one e = elim its_holder [
+      | no_holder is none ↦ cc
+      | holder h among incoming is ↦
+          let so = found_by h (does_end h t flags) (same_tuple h.original t) (sym is ∙ e) in
+          record { h = h; among = among; incoming = incoming; unended = so.0; named = so.1; touched = so.2 }
+    ]

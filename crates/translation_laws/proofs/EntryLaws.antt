@@ -146,7 +146,7 @@ module _ (known : Known) (setup : Setup) (history : List Entry) (r : Recorded) (
 
     -- what its look-up made of it: it refreshes its connection, begins one, or does nothing
     abbrev Does : Type 0
-    Does = IsLookedUp setup input held a.packet b t p.end
+    Does = IsLookedUp setup held a b t p.end
 
     -- with this state at its end
     module _ (info : CtInfo) (is : p.end.info ≡ info) where

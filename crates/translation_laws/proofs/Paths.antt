@@ -26,7 +26,7 @@ use Rattle.translation.specs.CtInfos.{new_ct_info}
 use Rattle.translation.specs.Nat.{after_destination_nat, after_source_nat}
 use Rattle.translation.specs.declared.ct_info.CtInfo.TheVariants.{Related, Untracked}
 use Rattle.translation_laws.specs.Laws.{ComesWith}
-use Rattle.translation_laws.proofs.Chains.{IfLookedUp, KeepsEnd, Kept, RecordsNat, TellExempt, chains_kept, did_exempt, did_nat_act, nothing_kept}
+use Rattle.translation_laws.proofs.Chains.{KeepsEnd, Kept, RecordsNat, TellExempt, chains_kept, did_exempt, did_nat_act, nothing_kept}
 use Rattle.history.specs.declared.outcome.Cause.TheVariants as causes
 use Rattle.history.specs.declared.outcome.Outcome.TheVariants as outcomes
 use Rattle.hook_runs.specs.declared.stages.HookStage.TheVariants as stages
@@ -357,118 +357,9 @@ told_after NotLookedUp before exempt told = absurd told
 told_after Notrack before exempt told = absurd told
 told_after _ before exempt told = told
 
-info_tells : (info : CtInfo) (at_look_up : Option Bool) (exempt : Bool) → IfLookedUp at_look_up exempt
-    → TellExempt (ct_facts_of info) at_look_up exempt
-info_tells (Tracked connection) at_look_up exempt told = told
-info_tells _ at_look_up exempt told = told
-
--- ---- the path
-
-module _ (setup : Setup) (input : Interface) (live : List ConntrackEntry) (p : List ℕ) where
-  -- what became of a packet with this tuple that belongs so
-  pub data IsLookedUp (b : Belonging) (t : Tuple) (s : PathState) : Type 0 where
-    refreshes : (place : ConnectionRef) → b ≡ Found place → s.info ≡ Tracked (tracked_connection place)
-        → IsLookedUp b t s
-    begins : IsNone b → first_state t.kind ≡ states.New
-        → (n : IsTranslated setup (mappings_in (after_end b live)) input (new_connection_of t) s)
-        → refusal (reply_to n.left) (after_end b live) ≡ None → IsLookedUp b t s
-    is_invalid : IsNone b → (first_state t.kind ≡ states.New → ⊥) → s.info ≡ Invalid → IsLookedUp b t s
-
-  -- a packet that wasn't looked up with a tuple of its own, since a `notrack` took effect or it has none; or one that was
-  pub data IsThrough (s : PathState) : Type 0 where
-    unseen : lookup_tuple_of s.info p ≡ None → IsOld s.info
-        → ((t : Tuple) → tuple_of p ≡ Some t → did_exempt s.events ≡ false → ⊥) → IsThrough s
-    seen : (t : Tuple) → tuple_of p ≡ Some t → did_exempt s.events ≡ false → IsLookedUp (belongs_by live p t) t s
-        → IsThrough s
-
-  module _ (exempt : Bool) (s : PathState) where
-    -- NAT beside these others, and confirmed
-    abbrev IsConfirmed : List ConntrackEntry → CtInfo → Type 0
-    IsConfirmed others info = AfterNat setup (mappings_in others) input exempt info s × IsUnrefused others s.info
-
-    old_is : (others : List ConntrackEntry) (info : CtInfo) → IsOld info → IsConfirmed others info → s.info ≡ info
-    old_is others info old c = old_kept setup (mappings_in others) input exempt info s old c.0
-
-    by_state : (t : Tuple) (b : Belonging) → belonging_of live p ≡ b → IsNone b → (state : LookupState)
-        → first_state t.kind ≡ state
-        → IsConfirmed (others_beside (new_ct_info state t) live p) (new_ct_info state t)
-        → IsLookedUp (belonging_of live p) t s
-    by_state t b is none states.New new c =
-        let n = translated setup (mappings_in (others_in live p)) input exempt (new_connection_of t) s c.0 in
-        begins (subst IsNone (sym is) none) new n (subst (IsUnrefused (others_in live p)) n.is c.1)
-    by_state t b is none _ other c = is_invalid (subst IsNone (sym is) none) (λ new. cc (new, other)) (old_is _ Invalid tt c)
-
-    by_belonging : (t : Tuple) (b : Belonging) → belonging_of live p ≡ b
-        → IsConfirmed (others_beside (ct_info_by t b) live p) (ct_info_by t b) → IsLookedUp (belonging_of live p) t s
-    by_belonging t (Found place) is c = refreshes place is (old_is _ _ tt c)
-    by_belonging t b is c = by_state t b is tt (first_state t.kind) refl c
-
-    unseen_by : (info : CtInfo) → s.info ≡ info → IsOld info → lookup_tuple_of info p ≡ None
-        → ((t : Tuple) → tuple_of p ≡ Some t → did_exempt s.events ≡ false → ⊥) → IsThrough s
-    unseen_by info is old none other =
-        unseen (ap (λ (w : CtInfo). lookup_tuple_of w p) is ∙ none) (subst IsOld (sym is) old) other
-
-    by_error : tuple_of p ≡ None → (b : Belonging)
-        → IsConfirmed (others_beside (error_ct_info b) live p) (error_ct_info b) → IsThrough s
-    by_error none (Found place) c =
-        unseen_by _ (old_is _ (Related (tracked_connection place)) tt c) tt none
-        (λ t read tracked. none_not_some (tuple_of p) t none read)
-    by_error none _ c =
-        unseen_by _ (old_is _ Invalid tt c) tt none (λ t read tracked. none_not_some (tuple_of p) t none read)
-
-    by_tuple : did_exempt s.events ≡ false → (o : Option Tuple) → tuple_of p ≡ o
-        → IsConfirmed (others_beside (ct_info_by_tuple live p o) live p) (ct_info_by_tuple live p o) → IsThrough s
-    by_tuple tracked None none c = by_error none (error_belonging live (inner_tuple_of p)) c
-    by_tuple tracked (Some t) read c =
-        seen t read tracked (subst (λ (b : Belonging). IsLookedUp b t s) (belongs_is live p t read)
-        (by_belonging t (belonging_of live p) refl c))
-
-    by_facts : (ct : CtFacts) → did_exempt s.events ≡ is_notrack ct
-        → IsConfirmed (others_beside (looked_up_info ct live p) live p) (looked_up_info ct live p) → IsThrough s
-    by_facts Notrack exempt c =
-        unseen_by _ (old_is _ Untracked tt c) tt refl (λ t read tracked. both_ways (did_exempt s.events) tracked exempt)
-    by_facts _ tracked c = by_tuple tracked (tuple_of p) refl c
-
-  -- it came by this interface, and wasn't looked up
-  abbrev HasArrived : PathState → Type 0
-  HasArrived s = (s.facts.input ≡ input) × TellExempt s.facts.ct None (did_exempt s.events)
-
-  -- it has the state of its look-up, by what rules could read of its connection before
-  abbrev LookedUp : PathState → Type 0
-  LookedUp s = (ct : CtFacts)
-      × First setup (mappings_in (others_beside (looked_up_info ct live p) live p)) input (is_notrack ct) (looked_up_info ct live p) s
-
-  look_up_leads : Leads HasArrived (LookUp live p) LookedUp
-  look_up_leads s r is h =
-      subst (IfContinues LookedUp) (sym is) (
-        s.facts.ct,
-        record {
-          entered = h.0;
-          is = refl;
-          told = info_tells (looked_up_info s.facts.ct live p) (Some (is_notrack s.facts.ct)) (did_exempt s.events)
-              (told_before s.facts.ct (did_exempt s.events) h.1);
-        },
-      )
-
-  after_look_up_leads : Leads LookedUp (AfterLookUp setup live p) IsThrough
-  after_look_up_leads s r x k =
-      let info = looked_up_info k.0 live p in
-      let others = others_beside info live p in
-      let exempt = is_notrack k.0 in
-      let y : HooksAndConfirm setup others s r =
-      subst (λ (w : CtInfo). HooksAndConfirm setup (others_beside w live p) s r) k.1.is x in
-      leads_then _ (AfterNat setup (mappings_in others) input exempt info) IsThrough _ _
-      (hooks_lead setup (mappings_in others) input exempt info) (λ u q is c.
-      subst (IfContinues IsThrough) (sym is) (unless_confirmation_drops others IsThrough u u.info (λ free.
-      by_facts exempt u k.0 (told_after u.facts.ct exempt (did_exempt u.events) c.told) (c, free)))) s r y k.1
-
-  pub path_so : (r : StepResult) → Path setup live p (on_arrival p input) r → IfContinues IsThrough r
-  path_so r x =
-      leads_then _ _ _ _ _
-      (stage_leads setup HasArrived (λ s end k h. (ap (λ x. x.0) k.interfaces ∙ h.0, k.exempt None h.1))
-      stages.PreroutingRaw)
-      (leads_then _ LookedUp _ (LookUp live p) _ look_up_leads after_look_up_leads)
-      (on_arrival p input) r x (refl, refl)
+info_tells : (info : CtInfo) (then exempt : Bool) → exempt ≡ then → TellExempt (ct_facts_of info) (Some then) exempt
+info_tells (Tracked connection) then exempt told = told
+info_tells _ then exempt told = told
 
 -- ==== The entry of a record.
 
@@ -476,10 +367,6 @@ module _ (setup : Setup) (input : Interface) (live : List ConntrackEntry) (p : L
 its_tuple : (p : List ℕ) (t : Tuple) (info : CtInfo) → lookup_tuple_of info p ≡ Some t → tuple_of p ≡ Some t
 its_tuple p t Untracked e = absurd (none-some t e)
 its_tuple p t _ e = e
-
-old_tells_none : (mappings : List Mapping) (info : CtInfo) → IsOld info → port_choice_for mappings info ≡ None
-old_tells_none mappings (New d) old = absurd old
-old_tells_none mappings _ old = refl
 
 undropped : (o : Option Interface) (cause : Cause) → outcome_by o ≡ outcomes.Dropped cause → ⊥
 undropped None cause e = cc
@@ -489,21 +376,29 @@ undropped (Some output) cause e = cc
 pub passes_accepted : (e : Entry) (interface : ℕ) → e.outcome ≡ outcomes.Passed interface → IsAccepted e
 passes_accepted e interface passed cause dropped = cc
 
+-- what became of a packet with this tuple that belongs so
+pub data IsLookedUp (setup : Setup) (held : List ConntrackEntry) (a : ReceivedPacket) (b : Belonging) (t : Tuple) (s : PathState)
+    : Type 0 where
+  refreshes : (place : ConnectionRef) → b ≡ Found place → s.info ≡ Tracked (tracked_connection place)
+      → IsLookedUp setup held a b t s
+  begins : IsNone b → first_state t.kind ≡ states.New
+      → (n : IsTranslated setup (mappings_in (after_end b held)) (interface_facts setup.plant a.interface) (new_connection_of t) s)
+      → refusal (reply_to n.left) (after_end b held) ≡ None → IsLookedUp setup held a b t s
+  is_invalid : IsNone b → (first_state t.kind ≡ states.New → ⊥) → s.info ≡ Invalid → IsLookedUp setup held a b t s
+
 module _ (setup : Setup) (held : List ConntrackEntry) (now : ℕ) where
-  module _ (a : ReceivedPacket) (t : Tuple) (e : Entry) where
-    -- it was looked up with this tuple and isn't dropped, and this is its entry
-    pub record AcceptedWith : Type 0 where
-      pub end : PathState
-      pub read : tuple_of a.packet ≡ Some t
-      pub untouched : did_exempt e.events ≡ false
-      pub state : IsLookedUp setup (interface_facts setup.plant a.interface) held a.packet (belongs_by held a.packet t)
-          t end
-      pub tracked : e.tracked ≡ updates.entry_of (belongs_by held a.packet t) (arrival_of now a.packet t)
-          (confirmation_by end.info (mark_in end.facts.ct))
-      pub port_choice : e.port_choice ≡ port_choice_for (beside held a.packet t) end.info
-      pub events : e.events ≡ end.events
-      pub outcome : e.outcome ≡ outcome_by end.facts.output
-      pub packet : e.packet ≡ sent_on a.packet end.info (outcome_by end.facts.output)
+  -- it was looked up with this tuple and isn't dropped, and this is its entry
+  pub record AcceptedWith (a : ReceivedPacket) (t : Tuple) (e : Entry) : Type 0 where
+    pub end : PathState
+    pub read : tuple_of a.packet ≡ Some t
+    pub untouched : did_exempt e.events ≡ false
+    pub state : IsLookedUp setup held a (belongs_by held a.packet t) t end
+    pub tracked : e.tracked ≡ updates.entry_of (belongs_by held a.packet t) (arrival_of now a.packet t)
+        (confirmation_by end.info (mark_in end.facts.ct))
+    pub port_choice : e.port_choice ≡ port_choice_for (beside held a.packet t) end.info
+    pub events : e.events ≡ end.events
+    pub outcome : e.outcome ≡ outcome_by end.facts.output
+    pub packet : e.packet ≡ sent_on a.packet end.info (outcome_by end.facts.output)
 
   -- the entry of a record without a look-up, of a packet that was looked up and is dropped, or of one that isn't
   pub data EntryCase (carries : Result ReceivedPacket Cause) (e : Entry) : Type 0 where
@@ -516,62 +411,148 @@ module _ (setup : Setup) (held : List ConntrackEntry) (now : ℕ) where
     accepted_so : (a : ReceivedPacket) → carries ≡ Ok a → (t : Tuple) → AcceptedWith a t e → EntryCase carries e
 
   module _ (a : ReceivedPacket) where
-    tracked_is : (t : Tuple) (r : StepResult) → tuple_of a.packet ≡ Some t → tuple_in a.packet r ≡ Some t
-        → (entry_of now held a.packet r).tracked
-        ≡ updates.entry_of (belongs_by held a.packet t) (arrival_of now a.packet t) (confirmation_of r)
+    abbrev input : Interface
+    input = interface_facts setup.plant a.interface
+
+    abbrev p : List ℕ
+    p = a.packet
+
+    tracked_is : (t : Tuple) (r : StepResult) → tuple_of p ≡ Some t → tuple_in p r ≡ Some t
+        → (entry_of now held p r).tracked ≡ updates.entry_of (belongs_by held p t) (arrival_of now p t) (confirmation_of r)
     tracked_is t r read e =
-        ap (λ (o : Option Tuple). tracked_as now held a.packet o (confirmation_of r)) e
-        ∙ ap (λ (b : Belonging). updates.entry_of b (arrival_of now a.packet t) (confirmation_of r))
-        (belongs_is held a.packet t read)
+        ap (λ (o : Option Tuple). tracked_as now held p o (confirmation_of r)) e
+        ∙ ap (λ (b : Belonging). updates.entry_of b (arrival_of now p t) (confirmation_of r)) (belongs_is held p t read)
 
-    looked_up_tuple : (t : Tuple) (s : PathState) → tuple_of a.packet ≡ Some t
-        → IsLookedUp setup (interface_facts setup.plant a.interface) held a.packet (belongs_by held a.packet t) t s
-        → lookup_tuple_of s.info a.packet ≡ Some t
-    looked_up_tuple t s read (refreshes place found is) = ap (λ (w : CtInfo). lookup_tuple_of w a.packet) is ∙ read
-    looked_up_tuple t s read (begins none new n free) = ap (λ (w : CtInfo). lookup_tuple_of w a.packet) n.is ∙ read
-    looked_up_tuple t s read (is_invalid none new is) = ap (λ (w : CtInfo). lookup_tuple_of w a.packet) is ∙ read
+    looked_up_tuple : (t : Tuple) (s : PathState) → tuple_of p ≡ Some t → IsLookedUp setup held a (belongs_by held p t) t s
+        → lookup_tuple_of s.info p ≡ Some t
+    looked_up_tuple t s read (refreshes place found is) = ap (λ (w : CtInfo). lookup_tuple_of w p) is ∙ read
+    looked_up_tuple t s read (begins none new n free) = ap (λ (w : CtInfo). lookup_tuple_of w p) n.is ∙ read
+    looked_up_tuple t s read (is_invalid none new is) = ap (λ (w : CtInfo). lookup_tuple_of w p) is ∙ read
 
-    by_through : (s : PathState) → IsThrough setup (interface_facts setup.plant a.interface) held a.packet s
-        → EntryCase (Ok a) (entry_of now held a.packet (Continue s))
-    by_through s (unseen none old other) =
-        unseen_so (ap (λ (o : Option Tuple). tracked_as now held a.packet o (confirmation_of (Continue s))) none)
-        (old_tells_none (mappings_in (others_in held a.packet)) s.info old)
-        (λ b t is read tracked accepted.
-        let same : a ≡ b = cc in other t (ap (λ (x : ReceivedPacket). tuple_of x.packet) same ∙ read) tracked)
-    by_through s (seen t read tracked state) = accepted_so a refl t (record {
-      end = s;
-      read = read;
-      untouched = tracked;
-      state = state;
-      tracked = tracked_is t (Continue s) read (looked_up_tuple t s read state);
-      port_choice = ap (λ (b : Belonging). port_choice_for (mappings_in (after_end b held)) s.info)
-          (belongs_is held a.packet t read);
-      events = refl;
-      outcome = refl;
-      packet = refl;
-    })
+    -- where it isn't dropped
+    abbrev IsThrough : PathState → Type 0
+    IsThrough s = EntryCase (Ok a) (entry_of now held p (Continue s))
 
-    by_drop : (cause : Cause) (s : PathState) (o : Option Tuple) → lookup_tuple_of s.info a.packet ≡ o
-        → EntryCase (Ok a) (entry_of now held a.packet (Drop cause s))
-    by_drop cause s None none =
-        unseen_so (ap (λ (o : Option Tuple). tracked_as now held a.packet o Unconfirmed) none) refl
-        (λ b t is read tracked accepted. accepted cause refl)
-    by_drop cause s (Some t) some =
-        let read = its_tuple a.packet t s.info some in
-        dropped_so a.packet t read (tracked_is t (Drop cause s) read some) refl cause refl
+    module _ (exempt : Bool) (s : PathState) where
+      -- NAT beside these others, and confirmed
+      abbrev IsConfirmed : List ConntrackEntry → CtInfo → Type 0
+      IsConfirmed others info = AfterNat setup (mappings_in others) input exempt info s × IsUnrefused others s.info
 
-    by_result : (r : StepResult)
-        → IfContinues (IsThrough setup (interface_facts setup.plant a.interface) held a.packet) r
-        → EntryCase (Ok a) (entry_of now held a.packet r)
-    by_result (Continue s) through = by_through s through
-    by_result (Drop cause s) through = by_drop cause s (lookup_tuple_of s.info a.packet) refl
+      old_is : (others : List ConntrackEntry) (info : CtInfo) → IsOld info → IsConfirmed others info → s.info ≡ info
+      old_is others info old c = old_kept setup (mappings_in others) input exempt info s old c.0
+
+      by_state : (t : Tuple) (b : Belonging) → belonging_of held p ≡ b → IsNone b → (state : LookupState) → first_state t.kind ≡ state
+          → IsConfirmed (others_beside (new_ct_info state t) held p) (new_ct_info state t) → IsLookedUp setup held a b t s
+      by_state t b is none states.New new c =
+          let k : IsConfirmed (after_end b held) (New (new_connection_of t)) =
+          subst (λ (x : Belonging). IsConfirmed (after_end x held) (New (new_connection_of t))) is c in
+          let n = translated setup (mappings_in (after_end b held)) input exempt (new_connection_of t) s k.0 in
+          begins none new n (subst (IsUnrefused (after_end b held)) n.is k.1)
+      by_state t b is none _ other c = is_invalid none (λ new. cc (new, other)) (old_is _ Invalid tt c)
+
+      by_belonging : (t : Tuple) (b : Belonging) → belonging_of held p ≡ b
+          → IsConfirmed (others_beside (ct_info_by t b) held p) (ct_info_by t b) → IsLookedUp setup held a b t s
+      by_belonging t (Found place) is c = refreshes place refl (old_is _ _ tt c)
+      by_belonging t b is c = by_state t b is tt (first_state t.kind) refl c
+
+      -- it wasn't looked up with a tuple of its own, since a `notrack` took effect or it has none
+      unseen : (info : CtInfo) → s.info ≡ info → port_choice_for (mappings_in (others_in held p)) info ≡ None
+          → lookup_tuple_of info p ≡ None → ((t : Tuple) → tuple_of p ≡ Some t → did_exempt s.events ≡ false → ⊥) → IsThrough s
+      unseen info is untold none other =
+          unseen_so
+          (ap (λ (o : Option Tuple). tracked_as now held p o (confirmation_of (Continue s)))
+          (ap (λ (w : CtInfo). lookup_tuple_of w p) is ∙ none)) (ap (port_choice_for (mappings_in (others_in held p))) is ∙ untold)
+          (λ b t is read tracked accepted.
+          let same : a ≡ b = cc in other t (ap (λ (x : ReceivedPacket). tuple_of x.packet) same ∙ read) tracked)
+
+      by_error : tuple_of p ≡ None → (b : Belonging)
+          → IsConfirmed (others_beside (error_ct_info b) held p) (error_ct_info b) → IsThrough s
+      by_error none (Found place) c =
+          unseen _ (old_is _ (Related (tracked_connection place)) tt c) refl none
+          (λ t read tracked. none_not_some (tuple_of p) t none read)
+      by_error none _ c =
+          unseen _ (old_is _ Invalid tt c) refl none (λ t read tracked. none_not_some (tuple_of p) t none read)
+
+      by_tuple : did_exempt s.events ≡ false → (o : Option Tuple) → tuple_of p ≡ o
+          → IsConfirmed (others_beside (ct_info_by_tuple held p o) held p) (ct_info_by_tuple held p o) → IsThrough s
+      by_tuple tracked None none c = by_error none (error_belonging held (inner_tuple_of p)) c
+      by_tuple tracked (Some t) read c =
+          let state = subst (λ (b : Belonging). IsLookedUp setup held a b t s) (belongs_is held p t read)
+          (by_belonging t (belonging_of held p) refl c) in
+          accepted_so a refl t (record {
+            end = s;
+            read = read;
+            untouched = tracked;
+            state = state;
+            tracked = tracked_is t (Continue s) read (looked_up_tuple t s read state);
+            port_choice = ap (λ (b : Belonging). port_choice_for (mappings_in (after_end b held)) s.info) (belongs_is held p t read);
+            events = refl;
+            outcome = refl;
+            packet = refl;
+          })
+
+      by_facts : (ct : CtFacts) → did_exempt s.events ≡ is_notrack ct
+          → IsConfirmed (others_beside (looked_up_info ct held p) held p) (looked_up_info ct held p) → IsThrough s
+      by_facts Notrack exempt c =
+          unseen _ (old_is _ Untracked tt c) refl refl (λ t read tracked. both_ways (did_exempt s.events) tracked exempt)
+      by_facts _ tracked c = by_tuple tracked (tuple_of p) refl c
+
+    -- it came by this interface, and wasn't looked up
+    abbrev HasArrived : PathState → Type 0
+    HasArrived s = (s.facts.input ≡ input) × TellExempt s.facts.ct None (did_exempt s.events)
+
+    -- it has the state of its look-up, by what rules could read of its connection before
+    abbrev LookedUp : PathState → Type 0
+    LookedUp s = (ct : CtFacts)
+        × First setup (mappings_in (others_beside (looked_up_info ct held p) held p)) input (is_notrack ct) (looked_up_info ct held p) s
+
+    look_up_leads : Leads HasArrived (LookUp held p) LookedUp
+    look_up_leads s r is h =
+        let ct = s.facts.ct in
+        subst (IfContinues LookedUp) (sym is) (
+          ct,
+          record {
+            entered = h.0;
+            is = refl;
+            told = info_tells (looked_up_info ct held p) (is_notrack ct) (did_exempt s.events)
+                (told_before ct (did_exempt s.events) h.1);
+          },
+        )
+
+    after_look_up_leads : Leads LookedUp (AfterLookUp setup held p) IsThrough
+    after_look_up_leads s r x k =
+        let info = looked_up_info k.0 held p in
+        let others = others_beside info held p in
+        let exempt = is_notrack k.0 in
+        let y : HooksAndConfirm setup others s r =
+        subst (λ (w : CtInfo). HooksAndConfirm setup (others_beside w held p) s r) k.1.is x in
+        leads_then _ (AfterNat setup (mappings_in others) input exempt info) IsThrough _ _
+        (hooks_lead setup (mappings_in others) input exempt info) (λ u q is c.
+        subst (IfContinues IsThrough) (sym is) (unless_confirmation_drops others IsThrough u u.info (λ free.
+        by_facts exempt u k.0 (told_after u.facts.ct exempt (did_exempt u.events) c.told) (c, free)))) s r y k.1
+
+    by_result : (r : StepResult) → IfContinues IsThrough r → EntryCase (Ok a) (entry_of now held p r)
+    by_result (Continue s) through = through
+    by_result (Drop cause s) through = by_drop (lookup_tuple_of s.info p) refl
+      where
+        by_drop : (o : Option Tuple) → lookup_tuple_of s.info p ≡ o → EntryCase (Ok a) (entry_of now held p (Drop cause s))
+        by_drop None none =
+            unseen_so (ap (λ (o : Option Tuple). tracked_as now held p o Unconfirmed) none) refl
+            (λ b t is read tracked accepted. accepted cause refl)
+        by_drop (Some t) some =
+            let read = its_tuple p t s.info some in
+            dropped_so p t read (tracked_is t (Drop cause s) read some) refl cause refl
+
+    path_so : (r : StepResult) → Path setup held p (on_arrival p input) r → EntryCase (Ok a) (entry_of now held p r)
+    path_so r x = by_result r
+        (leads_then _ _ _ _ _
+        (stage_leads setup HasArrived (λ s end k h. (ap (λ x. x.0) k.interfaces ∙ h.0, k.exempt None h.1)) stages.PreroutingRaw)
+        (leads_then _ LookedUp _ (LookUp held p) _ look_up_leads after_look_up_leads) (on_arrival p input) r x (refl, refl))
 
   by_carried : (x : Result ReceivedPacket Cause) (e : Entry) → EntryOf setup held now x e → EntryCase x e
   by_carried (Err cause) e is =
       subst (EntryCase (Err cause)) (sym is) (unseen_so refl refl (λ a t carries read tracked accepted. accepted cause refl))
-  by_carried (Ok a) e q =
-      subst (EntryCase (Ok a)) (sym q.2) (by_result a q.0
-      (path_so setup (interface_facts setup.plant a.interface) held a.packet q.0 q.1))
+  by_carried (Ok a) e q = subst (EntryCase (Ok a)) (sym q.2) (path_so a q.0 q.1)
 
 module _ (setup : Setup) (history : List Entry) (r : Recorded) (e : Entry) (next : Next setup history r e) where
   abbrev held : List ConntrackEntry

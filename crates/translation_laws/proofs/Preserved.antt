@@ -492,7 +492,7 @@ module _ (known : Known) (setup : Setup) where
     )
 
     accepted_kept : (a : ReceivedPacket) (t : Tuple) (q : AcceptedWith setup held m a t e)
-        → IsLookedUp setup (interface_facts setup.plant a.interface) held a.packet (belongs_by held a.packet t) t q.end
+        → IsLookedUp setup held a (belongs_by held a.packet t) t q.end
         → KeptAfter (belongs_by held a.packet t) (arrival_of m a.packet t) (confirmation_by q.end.info (mark_in q.end.facts.ct))
     accepted_kept a t q (refreshes place found is) =
         let none : source_begun e.tracked ≡ None = rw (is, found) at (ap source_begun q.tracked) in
