@@ -1,11 +1,11 @@
 -- Rules keep the interfaces and the earlier events; a NAT statement and a `notrack` that take effect are among their events.
-use Rattle.translation_laws.proofs.Names.{◌++◌, Bool, CtFacts, Event, Facts, HookResult, HookVerdict, Interface, IsTrue, Known, List, NatAction, None}
-use Rattle.translation_laws.proofs.Names.{NotLookedUp, Notrack, Option, PlantTree, Some, Translated, [], ap, append-nil, append_assoc, false, or_left, or_right}
-use Rattle.translation_laws.proofs.Names.{refl, subst, sym, true, ◌||◌, ℕ, ◌∙◌, ◌∷◌, ◌≡◌}
+use Rattle.translation_laws.proofs.Names.{◌++◌, BaseChain, Bool, Chains, CtFacts, Event, Facts, HookResult, HookVerdict, InTurn, Interface, IsTrue, Known, List}
+use Rattle.translation_laws.proofs.Names.{NatAction, NoChain, None, NotLookedUp, Notrack, Option, PlantTree, RunsBaseChain, Some, Then, Translated, Traversal}
+use Rattle.translation_laws.proofs.Names.{[], ap, append-nil, append_assoc, did_translate, did_untrack, false, list_any, or_left, or_parts, or_right, policy_of}
+use Rattle.translation_laws.proofs.Names.{policy_verdict, refl, subst, sym, true, with_policy, ℕ, ◌∙◌, ◌∷◌, ◌≡◌}
 use Rattle.nft_tree.specs.Tree.{Statement, TableTree, VerdictTree}
 use Rattle.nft_tree.specs.declared.chain.Policy.{Policy}
 use Rattle.nft_tree.specs.declared.statement.MarkField.{MarkField}
-use Rattle.rule_meaning.specs.Hooks.{BaseChain, Chains, InTurn, NoChain, RunsBaseChain, Then, Traversal, policy_of, policy_verdict, with_policy}
 use Rattle.rule_meaning.specs.Runs.{Program, Remainder, RunResult, Runs, at_end, over, table_program}
 use Rattle.rule_meaning.specs.Sets.{Scope, data_verdict, looked_up}
 use Rattle.rule_meaning.specs.Statements.{StatementEffect, give, nat_action_of, note, operand_number, passes_if, rule_verdict_of, sets_notrack}
@@ -15,17 +15,12 @@ use Rattle.rule_meaning.specs.declared.event.Event.TheVariants.{Counted, Logged,
 use Rattle.rule_meaning.specs.declared.event.RuleVerdict.TheVariants.{Translate}
 use Rattle.rule_meaning.specs.declared.event.StatementPosition.{StatementPosition}
 use Rattle.std.proofs.Math.Bool.{or-false}
-use Rattle.std.proofs.lemmas.Bool.{or_parts}
 use Rattle.std.proofs.lemmas.List.Folds.{list_any-append}
-use Rattle.std.specs.List.{list_any}
-use Rattle.translation_laws.specs.Laws.{did_translate, did_untrack}
 use Rattle.rule_meaning.specs.Hooks as hooks
 use Rattle.nft_tree.specs.declared.statement.MarkField.TheVariants as marks
 use Rattle.nft_tree.specs.declared.chain.Policy.TheVariants as policies
 use Rattle.rule_meaning.specs.Runs as runs
 use Rattle.nft_tree.specs.Tree as tree
-
--- ==== Rules keep the interfaces and the earlier events; a NAT statement and a `notrack` that take effect are among their events.
 
 -- ---- events
 
@@ -58,13 +53,9 @@ TellExempt Notrack (Some then) exempt = ⊥
 TellExempt _ (Some then) exempt = exempt ≡ then
 
 -- other events don't change it
-no_more : (es later : List Event) → did_exempt later ≡ false → did_exempt (es ++ later) ≡ did_exempt es
-no_more es later none =
-    list_any-append did_untrack es later ∙ ap (λ (b : Bool). did_exempt es || b) none ∙ or-false (did_exempt es)
-
 told_still : (ct : CtFacts) (at_look_up : Option Bool) (es later : List Event) → did_exempt later ≡ false
     → TellExempt ct at_look_up (did_exempt es) → TellExempt ct at_look_up (did_exempt (es ++ later))
-told_still ct at_look_up es later none told = subst (TellExempt ct at_look_up) (sym (no_more es later none)) told
+told_still ct at_look_up es later none told = rw (list_any-append did_untrack es later, none, or-false (did_exempt es)) told
 
 exempted : (at_look_up : Option Bool) (es : List Event) → TellExempt NotLookedUp at_look_up (did_exempt es)
     → TellExempt Notrack at_look_up (did_exempt (es ++ Untracked ∷ []))

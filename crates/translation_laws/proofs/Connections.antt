@@ -1,24 +1,14 @@
 -- Facts of connections, of mappings and of what a packet belongs to.
-use Rattle.translation_laws.proofs.Names.{All, All-contains, All-weaker, Belonging, Bool, ConnId, ConnectionRef, ConntrackEntry, Contains, Contains-append_left}
-use Rattle.translation_laws.proofs.Names.{Contains-append_right, Contains-cases, Contains-head, Contains-tail, Direction, Endpoint, Ends, Flags, Found, IsTrue}
-use Rattle.translation_laws.proofs.Names.{Kind, List, Mapping, None, Option, Original, Reply, Some, Touches, Tuple, [], and_from, and_parts, ap, arith}
-use Rattle.translation_laws.proofs.Names.{belongs_in, both_ways, cond, connection_ref, does_end, false, found_among, have_disjoint_tuples, inbound_of, inl, inr}
-use Rattle.translation_laws.proofs.Names.{is_incoming, is_taken, listed, mappings_in, not, or_left, or_right, port_of, refl, same_id, same_tuple}
-use Rattle.translation_laws.proofs.Names.{same_tuple-true, some_of_map, subst, sym, touch_of, touched, touched_at, true, ◌||◌, ℕ, ◌∙◌, ◌∷◌, ◌≡◌, ◌⊎◌}
-use Rattle.conntrack.specs.ConntrackEntry.{belonging_by, of_original, of_reply}
-use Rattle.conntrack.specs.Phases.{is_closing, is_lone_syn}
-use Rattle.conntrack.specs.declared.belonging.Belonging.TheVariants.{NotFound}
-use Rattle.ip_headers.specs.steps.Equal.{same_endpoint-refl, same_endpoint-true, same_kind-refl, same_kind-true}
-use Rattle.list_laws.specs.Options.{option_cases}
-use Rattle.nat_mapping.proofs.Lists.{none_such}
-use Rattle.nat_mapping.specs.Mappings.{has_external, has_internal}
-use Rattle.std.proofs.Common.{◌&&◌}
-use Rattle.std.proofs.lemmas.Bool.{eq-eqb, eqb-true, false_from_ne_true, not-true, or_cases}
-use Rattle.std.proofs.lemmas.List.Elements.{All-contains_itself, All-map, Contains-append_cases}
-use Rattle.std.specs.List.{find}
+use Rattle.translation_laws.proofs.Names.{All, All-contains, All-contains_itself, All-map, All-weaker, Bool, ConnId, ConnectionRef, ConntrackEntry, Contains}
+use Rattle.translation_laws.proofs.Names.{Contains-append_cases, Contains-append_left, Contains-append_right, Contains-cases, Contains-head, Contains-tail}
+use Rattle.translation_laws.proofs.Names.{Direction, Endpoint, Ends, Flags, Found, IsTrue, Kind, List, Mapping, None, NotFound, Option, Original, Reply, Some}
+use Rattle.translation_laws.proofs.Names.{Touches, Tuple, [], and_from, and_parts, ap, arith, belongs_in, both_ways, cond, connection_ref, does_end, eq-eqb}
+use Rattle.translation_laws.proofs.Names.{eqb-true, false, false_from_ne_true, find, found_among, given_to, has_external, has_internal, have_disjoint_tuples}
+use Rattle.translation_laws.proofs.Names.{inbound_of, inl, inr, is_incoming, is_taken, listed, mappings_in, mappings_of, none_such, not, not-true, of_original}
+use Rattle.translation_laws.proofs.Names.{of_reply, option_cases, or_cases, or_left, or_right, port_of, refl, same_endpoint-refl, same_endpoint-true, same_id}
+use Rattle.translation_laws.proofs.Names.{same_kind-refl, same_kind-true, same_tuple, same_tuple-true, some_of_map, subst, sym, touch_of, touched, touched_at}
+use Rattle.translation_laws.proofs.Names.{true, ◌||◌, ℕ, ◌∙◌, ◌∷◌, ◌≡◌, ◌⊎◌}
 use Rattle.std.specs.Option.{option_map}
-use Rattle.translation.specs.LiveMappings.{mappings_of}
-use Rattle.translation_laws.specs.Laws.{given_to}
 
 -- ==== Facts of each connection held, and of each mapping.
 
@@ -110,9 +100,7 @@ one_found p xs x among passes = elim (option_cases (find p xs)) [
 pub parts_same : (m : Mapping) (kind : Kind) (internal external : Endpoint) → m.kind ≡ kind → m.internal ≡ internal
     → m.external ≡ external
     → m ≡ mapping_at kind internal external
-parts_same m kind internal external k i e =
-    ap (λ (x : Kind). mapping_at x m.internal m.external) k ∙ ap (λ (x : Endpoint). mapping_at kind x m.external) i
-    ∙ ap (λ (x : Endpoint). mapping_at kind internal x) e
+parts_same m kind internal external k i e = rw (← k, ← i, ← e) refl
 
 -- ---- those that are live
 
@@ -124,7 +112,6 @@ unfolding port_of
 port_held kind internal address port mappings e =
     let r = some_of_map (λ (m : Mapping). m.external.port) (find (has_internal kind internal address) mappings) port e
     in
-    let n = r.0 in
     let so = found_among (has_internal kind internal address) mappings r.0 r.1 in
     let kinds = and_parts _ _ so.1 in
     let ends = and_parts _ _ kinds.1 in
@@ -201,11 +188,6 @@ module _ (t : Tuple) where
 
 -- ==== The connection that a packet belongs to.
 
--- what a packet belongs to, were this the only connection, by whether it has its original tuple
-abbrev given_by : ConntrackEntry → Flags → Bool → Belonging
-given_by h flags original = cond (original && (is_lone_syn flags && is_closing h)) (Ends h.id)
-    (cond original (Found (connection_ref h Original)) (Found (connection_ref h Reply)))
-
 module _ (t : Tuple) (held : List ConntrackEntry) (flags : Flags) where
   abbrev by_original : ConntrackEntry → Bool
   by_original h = same_tuple h.original t
@@ -223,21 +205,16 @@ module _ (t : Tuple) (held : List ConntrackEntry) (flags : Flags) where
   its_holder : ItsHolder
   its_holder = by_searches (of_original held t) (of_reply held t) refl refl
     where
-      belongs_as : (x y : Option ConntrackEntry) → of_original held t ≡ x → of_reply held t ≡ y
-          → belongs_in held t flags ≡ belonging_by flags x y
-      belongs_as x y o r = ap (λ z. belonging_by flags z (of_reply held t)) o ∙ ap (belonging_by flags x) r
-
       by_searches : (x y : Option ConntrackEntry) → of_original held t ≡ x → of_reply held t ≡ y → ItsHolder
       by_searches (Some h) y o r =
           let so = found_among by_original held h o in
-          holder h so.0 (or_left (by_original h) (by_reply h) so.1)
-          (belongs_as (Some h) y o r ∙ sym (ap (given_by h flags) so.1))
+          holder h so.0 (or_left (by_original h) (by_reply h) so.1) (rw (o, so.1) refl)
       by_searches None (Some h) o r =
           let so = found_among by_reply held h r in
-          holder h so.0 (or_right (by_original h) (by_reply h) so.1) (belongs_as None (Some h) o r
-          ∙ sym (ap (given_by h flags) (false_from_ne_true (by_original h) (none_such by_original held h o so.0))))
+          holder h so.0 (or_right (by_original h) (by_reply h) so.1)
+          (rw (o, r, false_from_ne_true (by_original h) (none_such by_original held h o so.0)) refl)
       by_searches None None o r =
-          no_holder (belongs_as None None o r) (λ h among incoming.
+          no_holder (rw (o, r) refl) (λ h among incoming.
           elim (or_cases (by_original h) (by_reply h) incoming) [
             | inl e ↦ none_such by_original held h o among e
             | inr e ↦ none_such by_reply held h r among e

@@ -1,22 +1,442 @@
--- The laws of NAT in each history, put together. To be read before it: Chains, Paths, Connections, Preserved, EntryLaws.
-use Rattle.translation_laws.proofs.Names.{◌++◌, All-contains, Bool, ConntrackEntry, Contains, Contains-cases, Contains-head, Contains-tail, Entry, IsHistory}
-use Rattle.translation_laws.proofs.Names.{IsHistoryOf, List, LivesOn, Mapping, Next, Recorded, Setup, TrackedPacket, Tuple, [], alive_at, and_from, and_parts}
-use Rattle.translation_laws.proofs.Names.{ap, arith, both_ways, cond_both, have_disjoint_tuples, inl, inr, is_incoming, is_live, is_taken, limits_of, listed}
-use Rattle.translation_laws.proofs.Names.{mappings_in, moment_after, not, or_left, or_right, refl, same_tuple, subst, sym, tracked_of, true, ℕ, ◌∙◌, ◌∷◌, ◌≡◌}
-use Rattle.translation_laws.proofs.Names.{◌⊎◌}
-use Rattle.conntrack.specs.ConntrackEntry.{connection_of}
-use Rattle.conntrack.specs.Histories.{begun_in, connection_in, is_alive, is_ended}
+-- The laws of NAT: of one entry, which connection it begins or refreshes, how the packet leaves, and the port that it
+-- allocates; and of each history. To be read before it: Chains, Paths, Connections, Preserved.
+use Rattle.translation_laws.proofs.Names.{◌++◌, ◌-◌, Accepted, All-contains, AllocatedAmong, AreApart, Arrival, Begins, Belonging, Bool, Cause, Confirmed}
+use Rattle.translation_laws.proofs.Names.{ConnId, ConnectionChange, ConnectionRef, ConntrackEntry, Contains, Contains-cases, Contains-head, Contains-tail}
+use Rattle.translation_laws.proofs.Names.{Contains-unmap, Creation, CtInfo, Direction, Dropped, EchoRequest, Endpoint, EndsSourceNat, EntriesFollow, Entry}
+use Rattle.translation_laws.proofs.Names.{EntryLaws, Err, Event, ExternalSource, Facts, Flags, Found, HasIncoming, HistoryLaws, HoldsMapping, HookResult}
+use Rattle.translation_laws.proofs.Names.{HookVerdict, Interface, Invalid, IsAccepted, IsHairpinned, IsHistory, IsHistoryOf, IsTrue, Kind, LeavesWith, List}
+use Rattle.translation_laws.proofs.Names.{LivesOn, Mapping, New, NewConnection, Next, NoChange, None, NotFound, Ok, Option, Original, PlantTree, ReceivedPacket}
+use Rattle.translation_laws.proofs.Names.{Recorded, Reply, Result, Setup, Some, Touches, TouchesLive, Tracked, TrackedPacket, Translated, Tuple, [], after_end}
+use Rattle.translation_laws.proofs.Names.{alive_at, and_from, and_parts, ap, arith, arrival_of, begun, begun_in, between, both_ways, carried, carried_after}
+use Rattle.translation_laws.proofs.Names.{carried_by, carried_with, change_of, change_of_packet, cond, cond_both, confirmation_by, connection_in, connection_of}
+use Rattle.translation_laws.proofs.Names.{connection_ref, does_end, drop, external_source, false, fault_of, filter_passes, first_state, flags_in, hairpin}
+use Rattle.translation_laws.proofs.Names.{hairpinned, has_ports, have_disjoint_tuples, inbound_of, inl, input_interface, inr, interface_facts, inverse}
+use Rattle.translation_laws.proofs.Names.{inverse_kind, is_alive, is_creation, is_ended, is_incoming, is_live, is_same_interface, is_some, is_taken, kind_of}
+use Rattle.translation_laws.proofs.Names.{limits_of, listed, live_at_record, lt-ltb, ltb-true, mappings_in, mark_in, moment_after, names_of, names_ports}
+use Rattle.translation_laws.proofs.Names.{new_connection_of, none-some, none_not_some, not, not_from_false, or_left, or_right, outcome_by, outgoing, owner}
+use Rattle.translation_laws.proofs.Names.{packet_of, payload_of, port_choice_by, port_choice_for, port_choice_in, port_of, protocol, range_of, refl, reply_to}
+use Rattle.translation_laws.proofs.Names.{rewritten, same_Some, same_tuple, same_tuple-refl, same_tuple-true, sent_on, some_of_map, source_of, subst, sym}
+use Rattle.translation_laws.proofs.Names.{to_internal, touch_of, touched, tracked_connection, tracked_of, transport_of, true, ttl, tuple_of, tuple_with}
+use Rattle.translation_laws.proofs.Names.{with_destination_nat, with_source_mapping, with_source_nat, ℕ, ◌∙◌, ◌∷◌, ◌≡◌, ◌≢◌, ◌⊎◌}
 use Rattle.conntrack.specs.declared.connection.Connection.{Connection}
-use Rattle.ip_headers.specs.steps.Equal.{same_tuple-refl}
-use Rattle.list_laws.specs.Elements.{Contains-unmap}
-use Rattle.std.proofs.lemmas.Bool.{lt-ltb, ltb-true, not_from_false}
-use Rattle.std.proofs.lemmas.List.Elements.{filter_passes}
+use Rattle.history.specs.declared.outcome.Outcome.TheVariants.{Local, Passed}
+use Rattle.ip_headers.proofs.Faults.{packet_passes}
+use Rattle.ip_headers.specs.declared.view.HeaderFault.{HeaderFault}
+use Rattle.pcap_io.specs.Links.{link_of}
+use Rattle.pcap_io.specs.declared.link.Link.{Link}
+use Rattle.pcap_io.specs.declared.link.LinkCause.{LinkCause}
+use Rattle.rule_meaning.specs.declared.event.NatAction.TheVariants.{Masquerade, Source}
 use Rattle.std.specs.Prelude.{filter, map}
-use Rattle.translation_laws.specs.Histories.{EntriesFollow}
-use Rattle.translation_laws.specs.Laws.{AreApart, HasIncoming, HistoryLaws, HoldsMapping, names_of}
-use Rattle.translation_laws.proofs.Connections.{given_one, mapping_of_holder, not_behind, parts, taken_by}
-use Rattle.translation_laws.proofs.Preserved.{Known, allocated, preserved}
-use Rattle.translation_laws.proofs.EntryLaws.{entry_laws}
+use Rattle.translation_laws.proofs.Chains.{did_nat_act}
+use Rattle.translation_laws.proofs.Paths.{AcceptedWith, EntryCase, HasSource, IsLookedUp, IsNone, IsTranslated, accepted_so, accepted_with, begins, belongs_by}
+use Rattle.translation_laws.proofs.Paths.{beside, delivered, dropped_none, dropped_so, entry_case, forwarded_on, is_invalid, passes_accepted, refreshes}
+use Rattle.translation_laws.proofs.Paths.{turned_by, unseen_so}
+use Rattle.translation_laws.proofs.Connections.{found_one, given_one, inbound_found, mapping_at, mapping_of_holder, not_behind, parts, parts_same, port_found}
+use Rattle.translation_laws.proofs.Connections.{taken_by}
+use Rattle.translation_laws.proofs.Preserved.{HasShapes, IsMade, IsShaped, Known, Preserved, allocated, drafted, ended, inverse_shaped, its_draft, ported_suits}
+use Rattle.translation_laws.proofs.Preserved.{preserved, tuple_shaped, turned_so}
+use Rattle.conntrack.specs.declared.belonging.LookupState.TheVariants as states
+
+-- ==== A packet that a record carries has no fault.
+
+abbrev IsFaultless : Result ReceivedPacket Cause → Type 0
+IsFaultless (Ok a) = fault_of a.packet ≡ None
+IsFaultless (Err cause) = Unit {0}
+
+carried_faultless : Known → (setup : Setup) (r : Recorded) → IsFaultless (carried setup r)
+carried_faultless known setup r = by_link (link_of r.link r.bytes)
+  where
+    by_fault : (bytes : List ℕ) (index : ℕ) (o : Option HeaderFault) → fault_of bytes ≡ o → IsFaultless (carried_with index bytes o)
+    by_fault bytes index (Some fault) e = tt
+    by_fault bytes index None e = known.faultless (packet_of bytes) (packet_passes bytes (known.passes bytes e))
+
+    by_interface : (bytes : List ℕ) (o : Option ℕ) → IsFaultless (carried_by bytes o)
+    by_interface bytes None = tt
+    by_interface bytes (Some index) = by_fault bytes index (fault_of bytes) refl
+
+    by_link : (l : Result Link LinkCause) → IsFaultless (carried_after setup r.bytes l)
+    by_link (Err cause) = tt
+    by_link (Ok link) = by_interface (drop link.packet r.bytes) (input_interface setup link.interface)
+
+-- ==== What changes and statements tell.
+
+-- a packet that begins a connection does so whatever it ended
+abbrev begins_as : Arrival → NewConnection → ConnectionChange
+begins_as p d = change_of_packet NotFound p (Confirmed 0 (reply_to d) d.source d.dest)
+
+change_begun : (b : Belonging) → IsNone b → (p : Arrival) (mark : ℕ) (d : NewConnection)
+    → change_of_packet b p (Confirmed mark (reply_to d) d.source d.dest) ≡ begins_as p d
+change_begun (Found place) none p mark d = absurd none
+change_begun _ none p mark d = refl
+
+abbrev IsTouch : ConnectionChange → Type 0
+IsTouch (Touches c direction) = Unit {0}
+IsTouch _ = ⊥
+
+same_touch : (c d : ℕ) (one other : Direction) → Touches c one ≡ Touches d other → c ≡ d
+same_touch c d one other e = cc
+
+same_found : (x y : ConnectionRef) → Found x ≡ Found y → x ≡ y
+same_found x y e = cc
+
+abbrev source_begun : ConnectionChange → Option Mapping
+source_begun change = (begun change).source
+
+twice : (kind : Kind) → inverse_kind (inverse_kind kind) ≡ kind
+twice EchoRequest = refl
+twice _ = refl
+
+-- whether the statement that gave a source names ports
+hairpin_names_none : (plant : PlantTree) (entered : ℕ) (dest : Option Mapping) (x : ExternalSource)
+    → hairpin plant entered dest ≡ Some x → is_some x.ports ≡ false
+hairpin_names_none plant entered None x e = cc
+hairpin_names_none plant entered (Some m) x e = by_owner (is_same_interface entered (owner plant m.external.address)) e
+  where
+    by_owner : (b : Bool) → cond b None (let y : ExternalSource =
+        record { address = m.external.address; ports = None } in Some y) ≡ Some x → is_some x.ports ≡ false
+    by_owner true k = cc
+    by_owner false k = ap (λ (y : ExternalSource). is_some y.ports) (sym (same_Some _ x k))
+
+named_so : (plant : PlantTree) (f : Facts) (d : NewConnection) (verdict : HookVerdict) (x : ExternalSource)
+    → external_source plant f d verdict ≡ Some x → is_some x.ports ≡ names_ports verdict
+named_so plant f d Accepted x e = hairpin_names_none plant f.input.index d.dest x e
+named_so plant f d Dropped x e = absurd (none-some x e)
+named_so plant f d (Translated (Source address ports)) x e = ap (λ (y : ExternalSource). is_some y.ports) (sym (same_Some _ x e))
+named_so plant f d (Translated (Masquerade ports)) x e = ap (λ (y : ExternalSource). is_some y.ports) (sym (same_Some _ x e))
+named_so plant f d (Translated _) x e = absurd (none-some x e)
+
+told_some : (named : Bool) (o : Option ℕ) → (port_choice_by named o ≡ None → ⊥) → port_choice_by named o ≡ Some named
+told_some named None allocated = refl
+told_some named (Some port) allocated = absurd (allocated refl)
+
+-- ==== The entry of a record.
+
+module _ (known : Known) (setup : Setup) (history : List Entry) (r : Recorded) (e : Entry)
+    (before : Preserved history (live_at_record setup history r)) where
+  abbrev held : List ConntrackEntry
+  held = live_at_record setup history r
+
+  abbrev now : ℕ
+  now = moment_after history r
+
+  -- ==== What an accepted packet does.
+
+  module _ (a : ReceivedPacket) (arrived : carried setup r ≡ Ok a) (t : Tuple) (p : AcceptedWith setup held now a t e) where
+    abbrev b : Belonging
+    b = belongs_by held a.packet t
+
+    abbrev flags : Flags
+    flags = flags_in (transport_of a.packet)
+
+    abbrev input : Interface
+    input = interface_facts setup.plant a.interface
+
+    -- the live mappings beside it
+    abbrev others : List Mapping
+    others = beside held a.packet t
+
+    -- what its look-up made of it: it refreshes its connection, begins one, or does nothing
+    abbrev Does : Type 0
+    Does = IsLookedUp setup held a b t p.end
+
+    -- with this state at its end
+    module _ (info : CtInfo) (is : p.end.info ≡ info) where
+      change_is : e.tracked.change
+          ≡ change_of_packet b (arrival_of now a.packet t) (confirmation_by info (mark_in p.end.facts.ct))
+      change_is = rw is at (ap (λ (x : TrackedPacket). x.change) p.tracked)
+
+      choice_is : e.port_choice ≡ port_choice_for others info
+      choice_is = rw is at p.port_choice
+
+      left_as : (interface : ℕ) → e.outcome ≡ Passed interface
+          → tuple_of e.packet ≡ tuple_of (rewritten a.packet (change_of info a.packet (ttl a.packet - 1)))
+      left_as interface passed = rw is at (ap tuple_of (p.packet ∙ ap (sent_on a.packet p.end.info) (sym p.outcome ∙ passed)))
+
+    refreshed : (place : ConnectionRef) → b ≡ Found place → p.end.info ≡ Tracked (tracked_connection place)
+        → e.tracked.change ≡ Touches place.id.0 place.direction
+    refreshed place found is = rw found at (change_is _ is)
+
+    begun_so : IsNone b → (d : NewConnection) → p.end.info ≡ New d
+        → e.tracked.change ≡ begins_as (arrival_of now a.packet t) d
+    begun_so none d is = change_is _ is ∙ change_begun b none (arrival_of now a.packet t) (mark_in p.end.facts.ct) d
+
+    unchanged : p.end.info ≡ Invalid → e.tracked.change ≡ NoChange
+    unchanged is = change_is _ is
+
+    -- it leaves with these endpoints
+    leaves_between : (out : Tuple) → out.kind ≡ t.kind → IsShaped out
+        → tuple_of (rewritten a.packet (between out (Some (ttl a.packet - 1)))) ≡ Some out
+    leaves_between out kind shaped =
+        let its = some_of_map (λ (one : Kind). tuple_with one a.packet (payload_of a.packet))
+        (kind_of (protocol a.packet) (payload_of a.packet)) t p.read in
+        known.sending a.packet out (Some (ttl a.packet - 1)) (subst IsFaultless arrived (carried_faultless known setup r))
+        (its.1 ∙ ap (λ (x : Tuple). Some x.kind) its.2 ∙ ap Some (sym kind)) shaped
+
+    -- ---- the first packet of a connection begins it, where no connection has its tuple but one that it removes
+
+    begins_one : first_state t.kind ≡ states.New
+        → ((h : ConntrackEntry) → Contains held h → IsTrue (is_incoming t h) → does_end h t flags ≡ true)
+        → Does → (c : Creation) × (e.tracked.change ≡ Begins c) × (c.original ≡ t)
+    begins_one new free (begins none first n unrefused) = (_, begun_so none n.left n.is, refl)
+    begins_one new free (is_invalid none other is) = absurd (other new)
+    begins_one new free (refreshes place found is) =
+        let f = found_one t held flags place found in
+        absurd (both_ways (does_end f.h t flags) f.unended (free f.h f.among f.incoming))
+
+    -- ---- a packet of a connection refreshes it, and leaves with the inverse of the other direction's tuple
+
+    module _ (h : ConntrackEntry) (among : Contains held h) (incoming : IsTrue (is_incoming t h))
+        (unended : does_end h t flags ≡ false) where
+      given : (original : Bool) → same_tuple h.original t ≡ original
+          → b ≡ cond original (Found (connection_ref h Original)) (Found (connection_ref h Reply))
+      given original is = rw (unended, is) at (given_one t held flags h before.apart among incoming)
+
+      belongs_so : (original : Bool) → same_tuple h.original t ≡ original → IsNone b → ⊥
+      belongs_so true is none = subst IsNone (given true is) none
+      belongs_so false is none = subst IsNone (given false is) none
+
+      shapes : HasShapes h.original h.reply
+      shapes = (All-contains (IsMade history) held h before.mapped.all among).0
+
+      -- in this direction
+      module _ (place : ConnectionRef) (found : b ≡ Found place) (stayed : p.end.info ≡ Tracked (tracked_connection place))
+          (x : ConnectionRef) (is : b ≡ Found x) where
+        at_place : place ≡ x
+        at_place = same_found place x (sym found ∙ is)
+
+        touches_so : e.tracked.change ≡ Touches x.id.0 x.direction
+        touches_so = rw at_place at (refreshed place found stayed)
+
+        left_so : (interface : ℕ) → e.outcome ≡ Passed interface → (outgoing (tracked_connection x)).kind ≡ t.kind
+            → IsShaped (outgoing (tracked_connection x)) → tuple_of e.packet ≡ Some (outgoing (tracked_connection x))
+        left_so interface passed kind shaped =
+            left_as (Tracked (tracked_connection x)) (rw at_place at stayed) interface passed
+            ∙ leaves_between (outgoing (tracked_connection x)) kind shaped
+
+      goes_so : Does → (e.tracked.change ≡ touch_of h t) × ((interface : ℕ) → e.outcome ≡ Passed interface → LeavesWith h t e)
+      goes_so (begins none new n free) = absurd (belongs_so _ refl none)
+      goes_so (is_invalid none new stayed) = absurd (belongs_so _ refl none)
+      goes_so (refreshes place found stayed) = by_direction (same_tuple h.original t) refl
+        where
+          by_direction : (original : Bool) → same_tuple h.original t ≡ original → (e.tracked.change ≡ touch_of h t)
+              × ((interface : ℕ) → e.outcome ≡ Passed interface → LeavesWith h t e)
+          by_direction true is =
+              let same = same_tuple-true h.original t is in (
+                rw is (touches_so place found stayed _ (given true is)),
+                λ interface passed.
+                    let leaves : tuple_of e.packet ≡ Some (inverse h.reply) =
+                    left_so place found stayed _ (given true is) interface passed
+                    (ap inverse_kind shapes.kinds ∙ twice h.original.kind ∙ ap (λ (x : Tuple). x.kind) same)
+                    (inverse_shaped h.reply shapes.reply) in
+                    record {
+                      original = λ o. leaves;
+                      reply = λ o. leaves ∙ ap (λ (x : Tuple). Some (inverse x)) (same_tuple-true h.reply t o ∙ sym same);
+                    },
+              )
+          by_direction false is = (
+            rw is (touches_so place found stayed _ (given false is)),
+            λ interface passed. record {
+              original = λ o. absurd (both_ways (same_tuple h.original t) is o);
+              reply = λ o. left_so place found stayed _ (given false is) interface passed
+                  (sym shapes.kinds ∙ ap (λ (x : Tuple). x.kind) (same_tuple-true h.reply t o))
+                  (inverse_shaped h.original shapes.original);
+            },
+          )
+
+    -- ---- a connection that is refreshed was live, and the packet has its tuple
+
+    touches_live : (c : ℕ) (direction : Direction) → e.tracked.change ≡ Touches c direction → Does
+        → TouchesLive setup history r e c
+    touches_live c direction touches (refreshes place found is) =
+        let change = refreshed place found is in
+        let f = found_one t held flags place found in
+        record {
+          a = a;
+          t = t;
+          comes = record { carries = arrived; tuple = p.read; tracked = p.untouched };
+          h = f.h;
+          named = ap (λ (x : ConnId). x.0) f.named ∙ same_touch place.id.0 c place.direction direction (sym change ∙ touches);
+          live = f.among;
+          incoming = f.incoming;
+          unended = f.unended;
+          touched = change ∙ sym f.touched;
+        }
+    touches_live c direction touches (begins none new n free) =
+        absurd (subst IsTouch (sym touches ∙ begun_so none n.left n.is) tt)
+    touches_live c direction touches (is_invalid none new is) = absurd (subst IsTouch (sym touches ∙ unchanged is) tt)
+
+    -- ---- hairpinning
+
+    module _ (interface : ℕ) (passed : e.outcome ≡ Passed interface) (created : IsTrue (is_creation e.tracked.change))
+        (ports : has_ports t.kind ≡ true) (m : Mapping) (among : Contains others m) (kind : m.kind ≡ t.kind)
+        (external : m.external ≡ t.destination)
+        (other : is_same_interface a.interface (owner setup.plant m.external.address) ≡ false)
+        (untold : did_nat_act e.events ≡ false) where
+      -- the mapping, by the packet's tuple
+      abbrev own : Mapping
+      own = mapping_at t.kind m.internal t.destination
+
+      inbound_is : inbound_of t.kind t.destination others ≡ Some m.internal
+      inbound_is =
+          let r = inbound_found m others among in
+          let found : inbound_of t.kind t.destination others ≡ Some r.0 =
+          subst (λ (x : Endpoint). inbound_of t.kind x others ≡ Some r.0) external
+          (subst (λ (k : Kind). inbound_of k m.external others ≡ Some r.0) kind r.1) in
+          found ∙ ap Some ((ended known history held before.mapped b).one.one_internal (mapping_at t.kind r.0 t.destination) m
+          (known.inbound others t.kind r.0 t.destination found) among (sym kind) (sym external))
+
+      -- inside the hooks
+      abbrev run_inside : NewConnection
+      run_inside = to_internal (new_connection_of t) (Some m.internal)
+
+      turned : (f : Facts) (verdict : HookVerdict) → verdict ≡ Accepted
+          → with_destination_nat setup.plant others f (new_connection_of t) verdict ≡ run_inside
+      turned f verdict accepted = rw (accepted, ports, inbound_is) refl
+
+      -- its source is mapped at the external address
+      abbrev at_external : ExternalSource
+      at_external = record { address = t.destination.address; ports = None }
+
+      none_told : did_nat_act p.end.events ≡ false
+      none_told = subst (λ (es : List Event). did_nat_act es ≡ false) p.events untold
+
+      external_is : (x : Option ExternalSource) → HasSource setup others input run_inside x p.end → x ≡ Some at_external
+      external_is x (delivered none is) = absurd (local_passes (ap outcome_by (sym none) ∙ sym p.outcome ∙ passed))
+        where
+          local_passes : Local ≡ Passed interface → ⊥
+          local_passes same = cc
+      external_is x (forwarded_on asked ran accepted same is) =
+          let entered : is_same_interface a.interface (owner setup.plant t.destination.address) ≡ false = rw external at other in
+          sym (rw (accepted none_told, same, entered) at is)
+
+      turns_by : Does → IsHairpinned t own others e
+      turns_by (refreshes place found is) =
+          absurd (both_ways (is_creation e.tracked.change) (ap is_creation (refreshed place found is)) created)
+      turns_by (is_invalid none new is) =
+          absurd (both_ways (is_creation e.tracked.change) (ap is_creation (unchanged is)) created)
+      turns_by (begins none new n free) =
+          let is = turned n.asked.facts n.asked.verdict (n.accepted none_told) in
+          let source = subst (λ (d : NewConnection). HasSource setup others input d n.external p.end) is n.source in
+          let mapped = some_of_map (with_source_mapping run_inside at_external)
+          (source_of t.kind t.source t.destination.address None others) n.left
+          (rw (is, external_is n.external source) at n.drafted) in
+          record {
+            port = mapped.0;
+            chosen = mapped.1;
+            began = begun_so none n.left n.is ∙ ap (begins_as (arrival_of now a.packet t)) (sym mapped.2);
+            left = left_as _ n.is interface passed
+                ∙ ap (λ (d : NewConnection). tuple_of (rewritten a.packet (between d.tuple (Some (ttl a.packet - 1)))))
+                (sym mapped.2)
+                ∙ leaves_between (hairpinned t own mapped.0) refl (ported_suits t.kind mapped.0 m.internal.port ports);
+          }
+
+      turns_back : Does → IsHairpinned t m others e
+      turns_back does =
+          subst (λ (x : Mapping). IsHairpinned t x others e)
+          (sym (parts_same m t.kind m.internal t.destination kind refl external)) (turns_by does)
+
+    -- ---- the port that it allocates, and whether the NAT statement that acted names ports
+
+    module _ (n : IsTranslated setup others input (new_connection_of t) p.end) where
+      abbrev behind : NewConnection
+      behind = turned_by setup others input (new_connection_of t) n.asked
+
+      -- the result that source NAT took, and what it tells
+      who_allocates : (m : Mapping) → n.left.source ≡ Some m → (x : Option ExternalSource) → HasSource setup others input behind x p.end
+          → with_source_nat others behind x ≡ Some n.left
+          → (end : HookResult) × EndsSourceNat setup e end × (n.left.has_port_range ≡ names_ports end.verdict)
+      who_allocates m from None source drafted =
+          absurd (none_not_some behind.source m (turned_so known setup.plant others n.asked.facts t n.asked.verdict).none
+          (ap (λ (d : NewConnection). d.source) (same_Some behind n.left drafted) ∙ from))
+      who_allocates m from (Some x) (delivered output none) drafted = absurd (none-some x (sym none))
+      who_allocates m from (Some x) (forwarded_on end asked on entered is) drafted =
+          let r = some_of_map (with_source_mapping behind x)
+          (source_of behind.tuple.kind behind.tuple.source x.address (range_of x.ports) others) n.left drafted in (
+            end,
+            record {
+              facts = asked.facts;
+              before = asked.before;
+              ran = asked.ran;
+              later = asked.later;
+              among = p.events ∙ asked.among;
+            },
+            sym (ap (λ (d : NewConnection). d.has_port_range) r.2) ∙ named_so setup.plant end.facts behind end.verdict x is,
+          )
+
+    allocated_among : Does → (m : Mapping) → source_begun e.tracked.change ≡ Some m → AllocatedAmong setup e others m
+    allocated_among (refreshes place found is) m from =
+        absurd (none_not_some (source_begun e.tracked.change) m (ap source_begun (refreshed place found is)) from)
+    allocated_among (is_invalid none new is) m from =
+        absurd (none_not_some (source_begun e.tracked.change) m (ap source_begun (unchanged is)) from)
+    allocated_among (begins none new n free) m from =
+        let source : n.left.source ≡ Some m = sym (ap source_begun (begun_so none n.left n.is)) ∙ from in
+        let draft = its_draft known history (after_end b held) (ended known history held before.mapped b) setup input t new
+        (tuple_shaped a.packet t p.read) p.end n in
+        let port = port_of m.kind m.internal m.external.address others in
+        let tells : e.port_choice ≡ port_choice_by n.left.has_port_range port =
+        choice_is _ n.is ∙ ap (port_choice_in others n.left.has_port_range) source in
+        let q = who_allocates n m source n.external n.source n.drafted in
+        record {
+          reused = λ among. tells ∙ ap (port_choice_by n.left.has_port_range) (port_found m others among).1;
+          allocated = λ absent. (
+            q.0,
+            q.1,
+            tells ∙ told_some n.left.has_port_range port (λ none. absent ((draft.source m source).1.0
+                (sym (choice_is _ n.is) ∙ tells ∙ none))) ∙ ap Some q.2,
+          );
+        }
+
+    allocated_only : Does → e.port_choice ≢ None → source_begun e.tracked.change ≢ None
+    allocated_only (refreshes place found is) told unbegun = told (choice_is _ is)
+    allocated_only (is_invalid none new is) told unbegun = told (choice_is _ is)
+    allocated_only (begins none new n free) told unbegun =
+        told (choice_is _ n.is ∙ ap (port_choice_in others n.left.has_port_range)
+        (sym (ap source_begun (begun_so none n.left n.is)) ∙ unbegun))
+
+  -- ==== Its laws.
+
+  touches_by : (c : ℕ) (direction : Direction) → e.tracked.change ≡ Touches c direction
+      → EntryCase setup held now (carried setup r) e → TouchesLive setup history r e c
+  touches_by c direction touches (unseen_so is untold other) =
+      absurd (subst IsTouch (sym touches ∙ ap (λ (x : TrackedPacket). x.change) is) tt)
+  touches_by c direction touches (dropped_so p t read is untold cause dropped) =
+      absurd (subst IsTouch (sym touches ∙ ap (λ (x : TrackedPacket). x.change) is) tt)
+  touches_by c direction touches (accepted_so a arrived t p) = touches_live a arrived t p c direction touches p.state
+
+  allocated_by_case : EntryCase setup held now (carried setup r) e → e.port_choice ≢ None → source_begun e.tracked.change ≢ None
+  allocated_by_case (unseen_so is untold other) told = absurd (told untold)
+  allocated_by_case (dropped_so p t read is untold cause dropped) told = absurd (told untold)
+  allocated_by_case (accepted_so a arrived t p) told = allocated_only a arrived t p p.state told
+
+  entry_laws : LivesOn setup history now → Next setup history r e → EntryLaws setup history r e
+  entry_laws lives n =
+      let the_case = entry_case setup history r e n in
+      let accepted = accepted_with setup history r e n in
+      record {
+        given = λ h t flags. given_one t held flags h before.apart;
+        lives = lives;
+        leaves = λ a t comes h among incoming unended.
+            let goes = λ (so : IsAccepted e). let p = accepted a t comes so in
+            goes_so a comes.carries t p h among incoming unended p.state in
+            record {
+              touched = λ so. (goes so).0;
+              leaves = λ interface passed. (goes (passes_accepted e interface passed)).1 interface passed;
+            };
+        touches = λ c direction touches. touches_by c direction touches the_case;
+        begins = λ a t comes new free so.
+            let p = accepted a t comes so in begins_one a comes.carries t p new free p.state;
+        dropped = dropped_none setup history r e n;
+        hairpins = λ a t comes ports m among kind external other begins untold interface passed.
+            let p = accepted a t comes (passes_accepted e interface passed) in
+            turns_back a comes.carries t p interface passed begins ports m among kind external other untold p.state;
+        allocates = record {
+          only = allocated_by_case the_case;
+          mapped = λ a t comes m from.
+              let p = accepted a t comes (λ cause dropped. none_not_some (source_begun e.tracked.change) m
+              (ap source_begun (dropped_none setup history r e n cause dropped)) from) in
+              allocated_among a comes.carries t p p.state m from;
+        };
+      }
 
 -- ==== Each entry of a history extends the history before it.
 
@@ -78,19 +498,18 @@ has_filter p (d ∷ cs) c among passes = elim (Contains-cases d cs c among) [
 ]
 
 -- a connection that wasn't ended is listed exactly while its last packet is less than its limit ago
-pub lives_always : (setup : Setup) (history : List Entry) (now : ℕ) → LivesOn setup history now
+lives_always : (setup : Setup) (history : List Entry) (now : ℕ) → LivesOn setup history now
 lives_always setup history now c among unended =
-    let alive : ℕ → Bool = λ k. is_alive (limits_of setup) k (tracked_of history) now in
-    let same = their_names (tracked_of history) (filter alive (begun_in (tracked_of history))) in (
-      λ listed. ltb-true _ _ (and_parts (not (is_ended c (tracked_of history)))
-          (is_live (limits_of setup) now (connection_in c (tracked_of history)))
-          (All-contains (λ (k : ℕ). alive k ≡ true) (filter alive (begun_in (tracked_of history))) c
-          (filter_passes alive (begun_in (tracked_of history)))
+    let tracked = tracked_of history in
+    let alive : ℕ → Bool = λ k. is_alive (limits_of setup) k tracked now in
+    let ended = is_ended c tracked in
+    let live = is_live (limits_of setup) now (connection_in c tracked) in
+    let same = their_names tracked (filter alive (begun_in tracked)) in (
+      λ listed. ltb-true _ _ (and_parts (not ended) live
+          (All-contains (λ (k : ℕ). alive k ≡ true) (filter alive (begun_in tracked)) c (filter_passes alive (begun_in tracked))
           (subst (λ (l : List ℕ). Contains l c) same listed))).1,
-      λ lt. subst (λ (l : List ℕ). Contains l c) (sym same) (has_filter alive (begun_in (tracked_of history)) c among
-          (and_from (not (is_ended c (tracked_of history)))
-          (is_live (limits_of setup) now (connection_in c (tracked_of history)))
-          (not_from_false (is_ended c (tracked_of history)) unended) (lt-ltb _ _ lt))),
+      λ lt. subst (λ (l : List ℕ). Contains l c) (sym same) (has_filter alive (begun_in tracked) c among
+          (and_from (not ended) live (not_from_false ended unended) (lt-ltb _ _ lt))),
     )
 
 -- ==== What is true of connections is true of them as they are listed.
@@ -99,7 +518,7 @@ comes_to : (h : ConntrackEntry) (t : Tuple) → HasIncoming (connection_of h) t 
 comes_to h t (inl e) = or_left (same_tuple h.original t) (same_tuple h.reply t) (rw e (same_tuple-refl t))
 comes_to h t (inr e) = or_right (same_tuple h.original t) (same_tuple h.reply t) (rw e (same_tuple-refl t))
 
-pub apart_listed : (held : List ConntrackEntry) → have_disjoint_tuples held ≡ true → AreApart (map connection_of held)
+apart_listed : (held : List ConntrackEntry) → have_disjoint_tuples held ≡ true → AreApart (map connection_of held)
 apart_listed [] apart = tt
 apart_listed (x ∷ held) apart = (
   λ d t among first later.
@@ -110,7 +529,7 @@ apart_listed (x ∷ held) apart = (
   apart_listed held (parts x held apart).2,
 )
 
-pub listed_mapping : (held : List ConntrackEntry) (c : Connection) (m : Mapping) → Contains (map connection_of held) c
+listed_mapping : (held : List ConntrackEntry) (c : Connection) (m : Mapping) → Contains (map connection_of held) c
     → HoldsMapping c m → Contains (mappings_in held) m
 listed_mapping held c m among holds =
     let u = Contains-unmap connection_of held c among in

@@ -3,5 +3,4 @@ mod Chains
 mod Paths
 mod Connections
 mod Preserved
-mod EntryLaws
 mod HistoryObeys

@@ -1,31 +1,23 @@
 -- The path of a packet through the hooks, and its entry.
-use Rattle.translation_laws.proofs.Names.{◌++◌, Accepted, Belonging, Bool, Cause, ConnectionRef, ConntrackEntry, CtFacts, CtInfo, Dropped, Entry, Err, Event}
-use Rattle.translation_laws.proofs.Names.{ExternalSource, Facts, Found, HookResult, HookVerdict, Interface, Invalid, IsAccepted, Known, List, Mapping, New}
-use Rattle.translation_laws.proofs.Names.{NewConnection, Next, NoChange, None, NotLookedUp, Notrack, Ok, Option, PathState, ReceivedPacket, Recorded, Result}
-use Rattle.translation_laws.proofs.Names.{Setup, Some, Tracked, TrackedPacket, Translated, Tuple, Unconfirmed, [], after_end, ap, append-nil, append_assoc}
-use Rattle.translation_laws.proofs.Names.{arrival_of, belongs_in, both_ways, carried, cond_both, confirmation_by, entry_at, external_source, false, first_state}
-use Rattle.translation_laws.proofs.Names.{flags_in, interface_facts, live_at_record, mappings_in, mark_in, moment_after, new_connection_of, none-some}
-use Rattle.translation_laws.proofs.Names.{none_not_some, outcome_by, port_choice_for, refl, refusal, reply_to, same_Some, sent_on, some_of_map, subst, sym}
-use Rattle.translation_laws.proofs.Names.{tracked_connection, transport_of, true, tuple_of, with_destination_nat, with_source_nat, ℕ, ◌∙◌, ◌≡◌}
-use Rattle.box_file.specs.Box.{is_own, route}
+use Rattle.translation_laws.proofs.Names.{◌++◌, Accepted, AfterLookUp, AfterRouting, Belonging, Bool, Cause, ComesWith, ConnectionRef, ConntrackEntry, Continue}
+use Rattle.translation_laws.proofs.Names.{CtFacts, CtInfo, DestinationNat, Drop, Dropped, Entry, EntryOf, Err, Event, ExternalSource, Facts, Found, HookResult}
+use Rattle.translation_laws.proofs.Names.{HookVerdict, Hooks, HooksAndConfirm, InputOrForward, Interface, Invalid, IsAccepted, Known, List, LookUp, Mapping}
+use Rattle.translation_laws.proofs.Names.{NatChains, New, NewConnection, Next, NoChange, None, NotLookedUp, Notrack, Ok, Option, Path, PathState}
+use Rattle.translation_laws.proofs.Names.{ReceivedPacket, Recorded, Related, Result, Routing, RunsStage, Setup, Some, SourceNat, Step, StepResult, Tracked}
+use Rattle.translation_laws.proofs.Names.{TrackedPacket, Translated, Tuple, Unconfirmed, Untracked, [], after_chains, after_destination_nat, after_end}
+use Rattle.translation_laws.proofs.Names.{after_source_nat, ap, append-nil, append_assoc, arrival_of, belonging_of, belongs_in, both_ways, carried, cond_both}
+use Rattle.translation_laws.proofs.Names.{confirmation_by, confirmation_of, confirmed, ct_facts_after_nat, ct_facts_of, ct_info_by, ct_info_by_tuple}
+use Rattle.translation_laws.proofs.Names.{destination_nat_result, entry_at, entry_of, error_belonging, error_ct_info, external_source}
+use Rattle.translation_laws.proofs.Names.{facts_after_destination_nat, facts_after_source_nat, false, first_state, flags_in, forwarded_by, forwarded_facts}
+use Rattle.translation_laws.proofs.Names.{goes_on, inner_tuple_of, interface_facts, is_own, live_at_record, looked_up_info, lookup_tuple_of, mappings_in}
+use Rattle.translation_laws.proofs.Names.{mark_in, moment_after, new_connection_of, new_ct_info, none-some, none_not_some, on_arrival, others_beside, others_in}
+use Rattle.translation_laws.proofs.Names.{outcome_by, port_choice_for, refl, refusal, reply_to, route, same_Some, sent_on, some_of_map, some_unique}
+use Rattle.translation_laws.proofs.Names.{source_nat_result, stops, subst, sym, tracked_connection, transport_of, true, tuple_in, tuple_of, unless_dropped}
+use Rattle.translation_laws.proofs.Names.{unless_refused, with_destination_nat, with_source_nat, ℕ, ◌∙◌, ◌≡◌, ◌⨾◌}
 use Rattle.conntrack.specs.declared.belonging.LookupState.{LookupState}
 use Rattle.hook_runs.specs.Stages.{chains_in_stage}
 use Rattle.hook_runs.specs.declared.stages.HookStage.{HookStage}
-use Rattle.ip_headers.specs.Tuple.{inner_tuple_of}
-use Rattle.list_laws.specs.Options.{some_unique}
 use Rattle.std.specs.Prelude.{nat_lt}
-use Rattle.stepping.specs.Confirmations.{confirmation_of, confirmed, unless_refused}
-use Rattle.stepping.specs.Lookups.{belonging_by_tuple, belonging_of, ct_info_by_tuple, error_belonging, looked_up_info, lookup_tuple_of, others_beside}
-use Rattle.stepping.specs.Lookups.{others_in}
-use Rattle.stepping.specs.Next.{AfterLookUp, EntryOf, HooksAndConfirm, LookUp, Path, entry_of, tracked_as, tuple_in}
-use Rattle.stepping.specs.Paths.{AfterRouting, Continue, DestinationNat, Drop, Hooks, InputOrForward, NatChains, Routing, RunsStage, SourceNat, Step}
-use Rattle.stepping.specs.Paths.{StepResult, after_chains, destination_nat_result, forwarded_by, forwarded_facts, goes_on, on_arrival, source_nat_result, stops}
-use Rattle.stepping.specs.Paths.{unless_dropped, ◌⨾◌}
-use Rattle.translation.specs.CtInfos.{ct_facts_after_nat, ct_facts_of, ct_info_by, error_ct_info, facts_after_destination_nat, facts_after_source_nat}
-use Rattle.translation.specs.CtInfos.{new_ct_info}
-use Rattle.translation.specs.Nat.{after_destination_nat, after_source_nat}
-use Rattle.translation.specs.declared.ct_info.CtInfo.TheVariants.{Related, Untracked}
-use Rattle.translation_laws.specs.Laws.{ComesWith}
 use Rattle.translation_laws.proofs.Chains.{KeepsEnd, Kept, RecordsNat, TellExempt, chains_kept, did_exempt, did_nat_act, nothing_kept}
 use Rattle.history.specs.declared.outcome.Cause.TheVariants as causes
 use Rattle.history.specs.declared.outcome.Outcome.TheVariants as outcomes
@@ -169,19 +161,6 @@ module _ (setup : Setup) (mappings : List Mapping) (input : Interface) where
       pub leaves : Leaves (behind info asked) s
       pub told : TellExempt s.facts.ct (Some exempt) (did_exempt s.events)
 
-    first_kept : IsKeptByChains First
-    first_kept s end k h =
-        record { entered = ap (λ x. x.0) k.interfaces ∙ h.entered; is = h.is; told = k.exempt (Some exempt) h.told }
-
-    between_kept : IsKeptByChains Between
-    between_kept s end k b = record {
-      asked = b.asked;
-      accepted = λ none. b.accepted (k.untold none);
-      entered = ap (λ x. x.0) k.interfaces ∙ b.entered;
-      is = b.is;
-      told = k.exempt (Some exempt) b.told;
-    }
-
     after_kept : IsKeptByChains AfterNat
     after_kept s end k n = record {
       asked = n.asked;
@@ -248,7 +227,13 @@ module _ (setup : Setup) (mappings : List Mapping) (input : Interface) where
             (λ _. record { asked = b.asked; accepted = b.accepted; entered = b.entered; is = b.is; told = b.told })
 
     between_leads : (stage : HookStage) → Leads Between (RunsStage setup stage) Between
-    between_leads = stage_leads setup Between between_kept
+    between_leads = stage_leads setup Between (λ s end k b. record {
+      asked = b.asked;
+      accepted = λ none. b.accepted (k.untold none);
+      entered = ap (λ x. x.0) k.interfaces ∙ b.entered;
+      is = b.is;
+      told = k.exempt (Some exempt) b.told;
+    })
 
     after_leads : (stage : HookStage) → Leads AfterNat (RunsStage setup stage) AfterNat
     after_leads = stage_leads setup AfterNat after_kept
@@ -267,7 +252,11 @@ module _ (setup : Setup) (mappings : List Mapping) (input : Interface) where
     hooks_lead : Leads First (Hooks setup mappings) AfterNat
     hooks_lead =
         leads_then _ _ _ _ _
-        (leads_then _ _ _ _ _ (stage_leads setup First first_kept stages.PreroutingBeforeNat)
+        (leads_then _ _ _ _ _ (stage_leads setup First (λ s end k h. record {
+          entered = ap (λ x. x.0) k.interfaces ∙ h.entered;
+          is = h.is;
+          told = k.exempt (Some exempt) h.told;
+        }) stages.PreroutingBeforeNat)
         (leads_then _ _ _ _ _ destination_leads (between_leads stages.PreroutingAfterNat)))
         (leads_then _ _ _ _ _ routing_leads after_routing_leads)
 
@@ -334,10 +323,6 @@ belongs_by live p t = belongs_in live t (flags_in (transport_of p))
 -- the live mappings then, without those of a connection that its own lone SYN removes
 abbrev pub beside : List ConntrackEntry → List ℕ → Tuple → List Mapping
 beside live p t = mappings_in (after_end (belongs_by live p t) live)
-
-pub belongs_is : (live : List ConntrackEntry) (p : List ℕ) (t : Tuple) → tuple_of p ≡ Some t
-    → belonging_of live p ≡ belongs_by live p t
-belongs_is live p t read = ap (belonging_by_tuple live (flags_in (transport_of p))) read
 
 abbrev pub IsNone : Belonging → Type 0
 IsNone (Found place) = ⊥
@@ -419,9 +404,7 @@ module _ (setup : Setup) (held : List ConntrackEntry) (now : ℕ) where
 
     tracked_is : (t : Tuple) (r : StepResult) → tuple_of p ≡ Some t → tuple_in p r ≡ Some t
         → (entry_of now held p r).tracked ≡ updates.entry_of (belongs_by held p t) (arrival_of now p t) (confirmation_of r)
-    tracked_is t r read e =
-        ap (λ (o : Option Tuple). tracked_as now held p o (confirmation_of r)) e
-        ∙ ap (λ (b : Belonging). updates.entry_of b (arrival_of now p t) (confirmation_of r)) (belongs_is held p t read)
+    tracked_is t r read e = rw (e, read) refl
 
     looked_up_tuple : (t : Tuple) (s : PathState) → tuple_of p ≡ Some t → IsLookedUp setup held a (belongs_by held p t) t s
         → lookup_tuple_of s.info p ≡ Some t
@@ -459,11 +442,8 @@ module _ (setup : Setup) (held : List ConntrackEntry) (now : ℕ) where
       unseen : (info : CtInfo) → s.info ≡ info → port_choice_for (mappings_in (others_in held p)) info ≡ None
           → lookup_tuple_of info p ≡ None → ((t : Tuple) → tuple_of p ≡ Some t → did_exempt s.events ≡ false → ⊥) → IsThrough s
       unseen info is untold none other =
-          unseen_so
-          (ap (λ (o : Option Tuple). tracked_as now held p o (confirmation_of (Continue s)))
-          (ap (λ (w : CtInfo). lookup_tuple_of w p) is ∙ none)) (ap (port_choice_for (mappings_in (others_in held p))) is ∙ untold)
-          (λ b t is read tracked accepted.
-          let same : a ≡ b = cc in other t (ap (λ (x : ReceivedPacket). tuple_of x.packet) same ∙ read) tracked)
+          unseen_so (rw (is, none) refl) (rw is untold)
+          (λ b t is read tracked accepted. let same : a ≡ b = cc in other t (ap (λ (x : ReceivedPacket). tuple_of x.packet) same ∙ read) tracked)
 
       by_error : tuple_of p ≡ None → (b : Belonging)
           → IsConfirmed (others_beside (error_ct_info b) held p) (error_ct_info b) → IsThrough s
@@ -477,15 +457,14 @@ module _ (setup : Setup) (held : List ConntrackEntry) (now : ℕ) where
           → IsConfirmed (others_beside (ct_info_by_tuple held p o) held p) (ct_info_by_tuple held p o) → IsThrough s
       by_tuple tracked None none c = by_error none (error_belonging held (inner_tuple_of p)) c
       by_tuple tracked (Some t) read c =
-          let state = subst (λ (b : Belonging). IsLookedUp setup held a b t s) (belongs_is held p t read)
-          (by_belonging t (belonging_of held p) refl c) in
+          let state : IsLookedUp setup held a (belongs_by held p t) t s = rw read at (by_belonging t (belonging_of held p) refl c) in
           accepted_so a refl t (record {
             end = s;
             read = read;
             untouched = tracked;
             state = state;
             tracked = tracked_is t (Continue s) read (looked_up_tuple t s read state);
-            port_choice = ap (λ (b : Belonging). port_choice_for (mappings_in (after_end b held)) s.info) (belongs_is held p t read);
+            port_choice = rw read refl;
             events = refl;
             outcome = refl;
             packet = refl;
@@ -537,8 +516,7 @@ module _ (setup : Setup) (held : List ConntrackEntry) (now : ℕ) where
       where
         by_drop : (o : Option Tuple) → lookup_tuple_of s.info p ≡ o → EntryCase (Ok a) (entry_of now held p (Drop cause s))
         by_drop None none =
-            unseen_so (ap (λ (o : Option Tuple). tracked_as now held p o Unconfirmed) none) refl
-            (λ b t is read tracked accepted. accepted cause refl)
+            unseen_so (rw none refl) refl (λ b t is read tracked accepted. accepted cause refl)
         by_drop (Some t) some =
             let read = its_tuple p t s.info some in
             dropped_so p t read (tracked_is t (Drop cause s) read some) refl cause refl

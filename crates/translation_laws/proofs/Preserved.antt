@@ -1,36 +1,26 @@
 -- What each entry preserves: tuples in no two connections, mappings one to one, tuples that packets can have, allocated ports.
-use Rattle.translation_laws.proofs.Names.{◌++◌, Accepted, All, All-weaker, Arrival, Belonging, Bool, Confirmed, ConnId, ConntrackEntry, Contains}
-use Rattle.translation_laws.proofs.Names.{Contains-append_left, Contains-append_right, Contains-cases, Direction, Dropped, EchoRequest, Endpoint, Ends, Entry}
-use Rattle.translation_laws.proofs.Names.{ExternalSource, Facts, Flags, Found, HookVerdict, Interface, IsHistory, IsHistoryOf, IsTrue, Kind, List, Mapping}
-use Rattle.translation_laws.proofs.Names.{NatAction, NewConnection, Next, None, Option, PathState, PlantTree, ReceivedPacket, Recorded, Setup, Some}
-use Rattle.translation_laws.proofs.Names.{TrackedPacket, Translated, Tuple, Unconfirmed, [], after_end, alive_at, ap, arith, arrival_of, begun, belongs_in}
-use Rattle.translation_laws.proofs.Names.{between, carried, cond, cond-false, cond-true, confirmation_by, entry_at, false, fault_of, first_state, found_among}
-use Rattle.translation_laws.proofs.Names.{has_ports, have_disjoint_tuples, inbound_of, inl, inr, interface_facts, inverse, inverse_kind, is_live, is_some}
-use Rattle.translation_laws.proofs.Names.{is_taken, kind_of, limits_of, listed, live_at_record, mappings_in, mark_in, moment_after, new_connection_of}
-use Rattle.translation_laws.proofs.Names.{none-some, none_not_some, not, payload_of, port_choice_by, port_choice_for, port_choice_in, port_of, protocol}
-use Rattle.translation_laws.proofs.Names.{range_of, refl, refusal, reply_to, rewritten, same_Some, same_id, some_of_map, source_of, subst, sym, to_internal}
-use Rattle.translation_laws.proofs.Names.{touched_at, tracked_of, true, tuple_of, tuple_with, with_destination_nat, with_source_mapping, with_source_nat, ℕ}
-use Rattle.translation_laws.proofs.Names.{◌∙◌, ◌∷◌, ◌≡◌, ◌≢◌, ◌⊎◌}
+use Rattle.translation_laws.proofs.Names.{◌++◌, Accepted, All, All-filter, All-nil, All-push, All-weaker, Arrival, Belonging, Bool, Confirmation, Confirmed}
+use Rattle.translation_laws.proofs.Names.{ConnId, ConntrackEntry, Contains, Contains-append_left, Contains-append_right, Contains-cases, Direction}
+use Rattle.translation_laws.proofs.Names.{DoesNotClash, Dropped, EchoReply, EchoRequest, Endpoint, Ends, Entry, ExternalSource, Facts, Flags, Found}
+use Rattle.translation_laws.proofs.Names.{HookVerdict, Interface, IsHistory, IsHistoryOf, IsOneToOne, IsTrue, Kind, List, Mapping, NatAction, NewConnection}
+use Rattle.translation_laws.proofs.Names.{Next, None, Option, Other, PathState, PlantTree, PortsMatchKind, ReceivedPacket, Recorded, Setup, Some, Tcp}
+use Rattle.translation_laws.proofs.Names.{TrackedPacket, Translated, Tuple, Udp, Unconfirmed, [], after_end, after_packet, alive_at, ap, arith, arrival_of}
+use Rattle.translation_laws.proofs.Names.{begun, begun_with, belongs, belongs_in, between, carried, cases_Bool, choice_in, cond, cond-true, confirmation_by}
+use Rattle.translation_laws.proofs.Names.{entry_at, false, fault_of, filter, first_free_port, first_state, found_among, has_distinct_ids, has_ports}
+use Rattle.translation_laws.proofs.Names.{have_disjoint_tuples, inbound_of, inl, inr, interface_facts, internal_endpoint, inverse, inverse_kind, is_live}
+use Rattle.translation_laws.proofs.Names.{is_mapping, is_port_held, is_some, is_taken, kind_of, latest_choice, limits_of, listed, live_at, live_at_record}
+use Rattle.translation_laws.proofs.Names.{live_list, mappings_in, mark_in, max_connections, moment_after, moment_of, new_connection_of, none-some}
+use Rattle.translation_laws.proofs.Names.{none_not_some, not, or_earlier, or_else, order_of, payload_of, port_choice_by, port_choice_for, port_choice_in}
+use Rattle.translation_laws.proofs.Names.{port_named, port_of, protocol, range_of, refl, reply_to, rewritten, same_Some, same_id, same_mapping, some_of_map}
+use Rattle.translation_laws.proofs.Names.{source_of, statement_destination, subst, sym, to_internal, touched_at, tracked_of, true, tuple_of, tuple_with}
+use Rattle.translation_laws.proofs.Names.{with_destination_nat, with_source_mapping, with_source_nat, ℕ, ◌∙◌, ◌∷◌, ◌≡◌, ◌≢◌, ◌≤◌, ◌⊎◌}
 use Rattle.box_file.specs.declared.limits.Limits.{Limits}
-use Rattle.conntrack.specs.ConntrackEntry.{begun_with, has_distinct_ids, live_at, max_connections}
-use Rattle.conntrack.specs.Histories.{belongs, live_list}
-use Rattle.conntrack.specs.Updates.{Confirmation, DoesNotClash, after_packet}
-use Rattle.history.specs.History.{moment_of}
 use Rattle.ip_headers.specs.Passing.{Passes}
-use Rattle.ip_headers.specs.declared.tuple.Kind.TheVariants.{EchoReply, Other, Tcp, Udp}
 use Rattle.nat_mapping.proofs.Equal.{mapping_test}
-use Rattle.nat_mapping.specs.Mappings.{IsOneToOne, first_free_port, is_port_held, or_else, order_of, same_mapping}
 use Rattle.port_pool.specs.Candidates.{candidates, same_class_and_parity}
 use Rattle.port_pool.specs.declared.range.CandidateRange.{CandidateRange}
-use Rattle.rewrite.specs.Endpoints.{PortsMatchKind}
 use Rattle.rule_meaning.specs.declared.event.PortInterval.{PortInterval}
-use Rattle.std.proofs.Common.{◌≤◌}
-use Rattle.std.proofs.lemmas.Bool.{cases_Bool}
-use Rattle.std.proofs.lemmas.List.Elements.{All-filter, All-nil, All-push}
-use Rattle.std.specs.List.{filter}
 use Rattle.std.specs.Prelude.{length, nat_le}
-use Rattle.translation.specs.Nat.{internal_endpoint, port_named, statement_destination}
-use Rattle.translation_laws.specs.Histories.{choice_in, is_mapping, latest_choice, or_earlier}
 use Rattle.translation_laws.proofs.Paths.{AcceptedWith, EntryCase, IsLookedUp, IsNone, IsTranslated, accepted_so, begins, belongs_by, beside, dropped_so}
 use Rattle.translation_laws.proofs.Paths.{entry_case, is_invalid, refreshes, turned_by, unseen_so}
 use Rattle.translation_laws.proofs.Connections.{MappingsAre, each_holder, each_mapping, each_touched, end_at, is_listed, mapping_at, parts, port_held}
@@ -281,9 +271,8 @@ chosen_by : (m : Mapping) (port_choice : Option Bool) (source : Option Mapping) 
     → (source ≡ Some m) × (port_choice ≡ Some has_port_range)
 chosen_by m port_choice None has_port_range e = absurd (none-some {A = Bool} has_port_range e)
 chosen_by m port_choice (Some n) has_port_range e = elim (cases_Bool (same_mapping m n)) [
-  | inl t ↦ (ap Some (sym (mapping_test.exact m n t)), sym (cond-true (same_mapping m n) port_choice None t) ∙ e)
-  | inr f ↦ absurd (none_not_some (cond (same_mapping m n) port_choice None) has_port_range
-      (cond-false (same_mapping m n) port_choice None f) e)
+  | inl t ↦ (ap Some (sym (mapping_test.exact m n t)), rw t at e)
+  | inr f ↦ absurd (none-some {A = Bool} has_port_range (rw f at e))
 ]
 
 -- ==== The invariant.
@@ -381,8 +370,7 @@ module _ (known : Known) (history : List Entry) (held : List ConntrackEntry) (k 
     unchosen : (begun e.tracked.change).source ≡ None → Mapped (e ∷ history) held
     unchosen none = record {
       one = k.one;
-      class = λ m ports latest. k.class m ports (sym (ap (λ (o : Option Bool). or_earlier o (latest_choice m history))
-          (ap (choice_by m e.port_choice) none)) ∙ latest);
+      class = λ m ports latest. k.class m ports (rw none at latest);
       all = made_later;
     }
 
@@ -443,14 +431,10 @@ abbrev source_begun : TrackedPacket → Option Mapping
 source_begun t = (begun t.change).source
 
 -- a connection that isn't refused is answered by a tuple that is free
-untaken : (reply : Tuple) (others : List ConntrackEntry) → refusal reply others ≡ None → is_taken reply others ≡ false
-untaken reply others e = by_tests (nat_le max_connections (length others)) (is_taken reply others) e
-  where
-    by_tests : (full taken : Bool) → cond full (Some causes.Full) (cond taken (Some causes.Clash) None) ≡ None
-        → taken ≡ false
-    by_tests true taken k = cc
-    by_tests false true k = cc
-    by_tests false false k = refl
+unrefused : (full taken : Bool) → cond full (Some causes.Full) (cond taken (Some causes.Clash) None) ≡ None → taken ≡ false
+unrefused true taken k = cc
+unrefused false true k = cc
+unrefused false false k = refl
 
 module _ (known : Known) (setup : Setup) where
   abbrev Holds : List Entry → Type 0
@@ -506,7 +490,8 @@ module _ (known : Known) (setup : Setup) where
         rw n.is (begun_so b none (arrival_of m a.packet t) (mark_in q.end.facts.ct) n.left (rw n.is at q.tracked) shaped
         (its_draft known history (after_end b held) (ended known history held here.mapped b) setup
         (interface_facts setup.plant a.interface) t new shaped q.end n)
-        (q.port_choice ∙ ap (port_choice_for (beside held a.packet t)) n.is) (untaken (reply_to n.left) (after_end b held) free))
+        (q.port_choice ∙ ap (port_choice_for (beside held a.packet t)) n.is) 
+        (unrefused (nat_le max_connections (length (after_end b held))) (is_taken (reply_to n.left) (after_end b held)) free))
 
     -- the entry is of this moment, and at once so it is
     abbrev AtOnce : Type 0
@@ -520,7 +505,7 @@ module _ (known : Known) (setup : Setup) where
         let tracked = tracked_of history in (
           ap (λ (x : TrackedPacket). x.moment) is,
           subst (λ (x : TrackedPacket). Preserved (e ∷ history) (live_list limits (x ∷ tracked) m)) (sym is)
-              (subst (Preserved (e ∷ history)) (sym (known.packet limits tracked (arrival_of m p t) confirmation)) (record {
+              (rw (known.packet limits tracked (arrival_of m p t) confirmation) (record {
                 apart = known.apart held (record { 0 = length tracked }) (arrival_of m p t) confirmation
                     (known.distinct limits tracked m) here.apart k.0;
                 mapped = k.1;
@@ -531,7 +516,7 @@ module _ (known : Known) (setup : Setup) where
     at_once (unseen_so is untold other) = (
       ap (λ (x : TrackedPacket). x.moment) is,
       subst (λ (x : TrackedPacket). Preserved (e ∷ history) (live_list (limits_of setup) (x ∷ tracked_of history) m)) (sym is)
-          (subst (Preserved (e ∷ history)) (sym (known.none (limits_of setup) (tracked_of history) m))
+          (rw (known.none (limits_of setup) (tracked_of history) m)
           (record { apart = here.apart; mapped = unchosen known history held here.mapped e (ap source_begun is) })),
     )
     at_once (dropped_so p t read is untold cause dropped) = after_seen p t Unconfirmed is (unconfirmed _ _ is)
