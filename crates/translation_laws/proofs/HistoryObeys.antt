@@ -8,9 +8,9 @@ use Rattle.translation_laws.proofs.Names.{HookVerdict, Interface, Invalid, IsAcc
 use Rattle.translation_laws.proofs.Names.{LivesOn, Mapping, New, NewConnection, Next, NoChange, None, NotFound, Ok, Option, Original, PlantTree, ReceivedPacket}
 use Rattle.translation_laws.proofs.Names.{Recorded, Reply, Result, Setup, Some, Touches, TouchesLive, Tracked, TrackedPacket, Translated, Tuple, [], after_end}
 use Rattle.translation_laws.proofs.Names.{alive_at, and_from, and_parts, ap, arith, arrival_of, begun, begun_in, between, both_ways, carried, carried_after}
-use Rattle.translation_laws.proofs.Names.{carried_by, carried_with, change_of, change_of_packet, cond, cond_both, confirmation_by, connection_in, connection_of}
-use Rattle.translation_laws.proofs.Names.{connection_ref, does_end, drop, external_source, false, fault_of, filter_passes, first_state, flags_in, hairpin}
-use Rattle.translation_laws.proofs.Names.{hairpinned, has_ports, have_disjoint_tuples, inbound_of, inl, input_interface, inr, interface_facts, inverse}
+use Rattle.translation_laws.proofs.Names.{carried_by, carried_with, cases_Bool, change_of, change_of_packet, cond, cond_both, confirmation_by, connection_in}
+use Rattle.translation_laws.proofs.Names.{connection_of, connection_ref, does_end, drop, external_source, false, fault_of, filter_passes, first_state, flags_in}
+use Rattle.translation_laws.proofs.Names.{hairpin, hairpinned, has_ports, have_disjoint_tuples, inbound_of, inl, input_interface, inr, interface_facts, inverse}
 use Rattle.translation_laws.proofs.Names.{inverse_kind, is_alive, is_creation, is_ended, is_incoming, is_live, is_same_interface, is_some, is_taken, kind_of}
 use Rattle.translation_laws.proofs.Names.{limits_of, listed, live_at_record, lt-ltb, ltb-true, mappings_in, mark_in, moment_after, names_of, names_ports}
 use Rattle.translation_laws.proofs.Names.{new_connection_of, none-some, none_not_some, not, not_from_false, or_left, or_right, outcome_by, outgoing, owner}
@@ -90,12 +90,10 @@ twice _ = refl
 hairpin_names_none : (plant : PlantTree) (entered : ℕ) (dest : Option Mapping) (x : ExternalSource)
     → hairpin plant entered dest ≡ Some x → is_some x.ports ≡ false
 hairpin_names_none plant entered None x e = cc
-hairpin_names_none plant entered (Some m) x e = by_owner (is_same_interface entered (owner plant m.external.address)) e
-  where
-    by_owner : (b : Bool) → cond b None (let y : ExternalSource =
-        record { address = m.external.address; ports = None } in Some y) ≡ Some x → is_some x.ports ≡ false
-    by_owner true k = cc
-    by_owner false k = ap (λ (y : ExternalSource). is_some y.ports) (sym (same_Some _ x k))
+hairpin_names_none plant entered (Some m) x e = elim (cases_Bool (is_same_interface entered (owner plant m.external.address))) [
+  | inl t ↦ absurd (none-some x (rw t at e))
+  | inr f ↦ ap (λ (y : ExternalSource). is_some y.ports) (sym (same_Some _ x (rw f at e)))
+]
 
 named_so : (plant : PlantTree) (f : Facts) (d : NewConnection) (verdict : HookVerdict) (x : ExternalSource)
     → external_source plant f d verdict ≡ Some x → is_some x.ports ≡ names_ports verdict
@@ -381,7 +379,7 @@ module _ (known : Known) (setup : Setup) (history : List Entry) (r : Recorded) (
           allocated = λ absent. (
             q.0,
             q.1,
-            tells ∙ told_some n.left.has_port_range port (λ none. absent ((draft.source m source).1.0
+            tells ∙ told_some n.left.has_port_range port (λ none. absent ((draft.source m source).1
                 (sym (choice_is _ n.is) ∙ tells ∙ none))) ∙ ap Some q.2,
           );
         }
@@ -440,21 +438,17 @@ module _ (known : Known) (setup : Setup) (history : List Entry) (r : Recorded) (
 
 -- ==== Each entry of a history extends the history before it.
 
-module _ (setup : Setup) (history : List Entry) (e : Entry) where
-  -- an extended history, without its newest entry
-  abbrev Before : List Entry → Type 0
-  Before first = (records : List Recorded) × IsHistoryOf setup first records history × ((r : Recorded)
-      × Next setup history r e)
-
-  grown_before : (records : List Recorded) (first : List Entry) → IsHistoryOf setup first records (e ∷ history)
-      → (first ≡ e ∷ history) ⊎ Before first
-  grown_before [] first g = inl (sym g)
-  grown_before (r ∷ records) first g = elim (grown_before records (g.0 ∷ first) g.2) [
-    | inl same ↦
-        let rest : first ≡ history = cc in
-        let newest : g.0 ≡ e = cc in inr ([], sym rest, (r, rw (← rest, ← newest) g.1))
-    | inr b ↦ inr (r ∷ b.0, (g.0, g.1, b.1), b.2)
-  ]
+-- an extended history, without its newest entry
+grown_before : (setup : Setup) (history : List Entry) (e : Entry) (records : List Recorded) (first : List Entry)
+    → IsHistoryOf setup first records (e ∷ history) → (first ≡ e ∷ history)
+    ⊎ ((before : List Recorded) × IsHistoryOf setup first before history × ((r : Recorded) × Next setup history r e))
+grown_before setup history e [] first g = inl (sym g)
+grown_before setup history e (r ∷ records) first g = elim (grown_before setup history e records (g.0 ∷ first) g.2) [
+  | inl same ↦
+      let rest : first ≡ history = cc in
+      let newest : g.0 ≡ e = cc in inr ([], sym rest, (r, rw (← rest, ← newest) g.1))
+  | inr b ↦ inr (r ∷ b.0, (g.0, g.1, b.1), b.2)
+]
 
 before_last : (setup : Setup) (history : List Entry) (e : Entry) → IsHistory setup (e ∷ history)
     → IsHistory setup history × ((r : Recorded) × Next setup history r e)
@@ -468,9 +462,6 @@ one_more : (setup : Setup) (records : List Recorded) (first history : List Entry
     → IsHistoryOf setup first (records ++ r ∷ []) (e ∷ history)
 one_more setup [] first history r e g n = (e, rw (← g) n, ap (λ (s : List Entry). e ∷ s) g)
 one_more setup (x ∷ records) first history r e g n = (g.0, g.1, one_more setup records (g.0 ∷ first) history r e g.2 n)
-
-pub no_records : (setup : Setup) → IsHistory setup []
-no_records setup = record { records = []; is_history = refl }
 
 pub entries_follow : (setup : Setup) → EntriesFollow setup
 entries_follow setup history e = (
@@ -523,9 +514,8 @@ apart_listed [] apart = tt
 apart_listed (x ∷ held) apart = (
   λ d t among first later.
       let u = Contains-unmap connection_of held d among in
-      let taken = taken_by t held u.0 u.1 (comes_to u.0 t (subst (λ (c : Connection). HasIncoming c t) (sym u.2) later))
-      in
-      both_ways (is_taken t held) (not_behind x held t apart (comes_to x t first)) taken,
+      both_ways (is_taken t held) (not_behind x held t apart (comes_to x t first))
+      (taken_by t held u.0 u.1 (comes_to u.0 t (subst (λ (c : Connection). HasIncoming c t) (sym u.2) later))),
   apart_listed held (parts x held apart).2,
 )
 

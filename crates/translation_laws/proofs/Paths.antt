@@ -165,14 +165,9 @@ module _ (setup : Setup) (mappings : List Mapping) (input : Interface) where
     after_kept s end k n = record {
       asked = n.asked;
       accepted = λ none. n.accepted (k.untold none);
-      leaves = by_place n.leaves;
-      told = k.exempt (Some exempt) n.told;
-    }
-      where
-        by_place : Leaves (behind info n.asked) s → Leaves (behind info n.asked) (after_chains end s)
-        by_place (kept_for_box none is) = kept_for_box (ap (λ x. x.1) k.interfaces ∙ none) is
-        by_place (sent asked q on entered is) =
-            sent asked
+      leaves = elim n.leaves [
+        | kept_for_box none is ↦ kept_for_box (ap (λ x. x.1) k.interfaces ∙ none) is
+        | sent asked q on entered is ↦ sent asked
             (record {
               facts = q.facts;
               before = q.before;
@@ -182,6 +177,9 @@ module _ (setup : Setup) (mappings : List Mapping) (input : Interface) where
                   ∙ append_assoc asked.events q.later k.grown.0;
             })
             (λ none. on (k.untold none)) entered is
+      ];
+      told = k.exempt (Some exempt) n.told;
+    }
 
     destination_leads : Leads First (DestinationNat setup mappings) Between
     destination_leads s r x h =
@@ -263,38 +261,36 @@ module _ (setup : Setup) (mappings : List Mapping) (input : Interface) where
   -- NAT keeps the state of a packet that isn't the first of its connection
   old_kept : (exempt : Bool) (info : CtInfo) (s : PathState) → IsOld info → AfterNat exempt info s → s.info ≡ info
   old_kept exempt (New d) s old n = absurd old
-  old_kept exempt info s old n = by_place n.leaves
-    where
-      by_place : Leaves info s → s.info ≡ info
-      by_place (kept_for_box none is) = is
-      by_place (sent asked q on entered is) = sym (same_Some info s.info is)
+  old_kept exempt info s old n = elim n.leaves [
+    | kept_for_box none is ↦ is
+    | sent asked q on entered is ↦ sym (same_Some info s.info is)
+  ]
 
   translated : (exempt : Bool) (d : NewConnection) (s : PathState) → AfterNat exempt (New d) s → IsTranslated d s
-  translated exempt d s n = by_place n.leaves
-    where
-      by_place : Leaves (New (turned_by d n.asked)) s → IsTranslated d s
-      by_place (kept_for_box none is) = record {
-        asked = n.asked;
-        accepted = n.accepted;
-        external = None;
-        source = delivered none refl;
-        left = turned_by d n.asked;
-        drafted = refl;
-        is = is;
-      }
-      by_place (sent asked q on entered is) =
-          let turned = turned_by d n.asked in
-          let external = external_source setup.plant asked.facts turned asked.verdict in
-          let left = some_of_map (λ (x : NewConnection). New x) (with_source_nat mappings turned external) s.info is in
-          record {
-            asked = n.asked;
-            accepted = n.accepted;
-            external = external;
-            source = forwarded_on asked q on entered refl;
-            left = left.0;
-            drafted = left.1;
-            is = sym left.2;
-          }
+  translated exempt d s n = elim n.leaves [
+    | kept_for_box none is ↦ record {
+      asked = n.asked;
+      accepted = n.accepted;
+      external = None;
+      source = delivered none refl;
+      left = turned_by d n.asked;
+      drafted = refl;
+      is = is;
+    }
+    | sent asked q on entered is ↦
+        let turned = turned_by d n.asked in
+        let external = external_source setup.plant asked.facts turned asked.verdict in
+        let left = some_of_map (λ (x : NewConnection). New x) (with_source_nat mappings turned external) s.info is in
+        record {
+          asked = n.asked;
+          accepted = n.accepted;
+          external = external;
+          source = forwarded_on asked q on entered refl;
+          left = left.0;
+          drafted = left.1;
+          is = sym left.2;
+        }
+  ]
 
 -- ---- confirmation
 
@@ -427,8 +423,7 @@ module _ (setup : Setup) (held : List ConntrackEntry) (now : ℕ) where
       by_state : (t : Tuple) (b : Belonging) → belonging_of held p ≡ b → IsNone b → (state : LookupState) → first_state t.kind ≡ state
           → IsConfirmed (others_beside (new_ct_info state t) held p) (new_ct_info state t) → IsLookedUp setup held a b t s
       by_state t b is none states.New new c =
-          let k : IsConfirmed (after_end b held) (New (new_connection_of t)) =
-          subst (λ (x : Belonging). IsConfirmed (after_end x held) (New (new_connection_of t))) is c in
+          let k : IsConfirmed (after_end b held) (New (new_connection_of t)) = rw is at c in
           let n = translated setup (mappings_in (after_end b held)) input exempt (new_connection_of t) s k.0 in
           begins none new n (subst (IsUnrefused (after_end b held)) n.is k.1)
       by_state t b is none _ other c = is_invalid none (λ new. cc (new, other)) (old_is _ Invalid tt c)
@@ -544,23 +539,19 @@ module _ (setup : Setup) (history : List Entry) (r : Recorded) (e : Entry) (next
 
   pub accepted_with : (a : ReceivedPacket) (t : Tuple) → ComesWith setup r e a t → IsAccepted e
       → AcceptedWith setup held now a t e
-  accepted_with a t comes accepted = by_case entry_case
-    where
-      by_case : EntryCase setup held now (carried setup r) e → AcceptedWith setup held now a t e
-      by_case (unseen_so is untold other) = absurd (other a t comes.carries comes.tuple comes.tracked accepted)
-      by_case (dropped_so p u read is untold cause dropped) = absurd (accepted cause dropped)
-      by_case (accepted_so b arrived u q) =
-          let one : b ≡ a = cc (arrived, comes.carries) in
-          let moved = subst (λ (x : ReceivedPacket). AcceptedWith setup held now x u e) one q in
-          subst (λ (x : Tuple). AcceptedWith setup held now a x e)
-          (some_unique (tuple_of a.packet) u t moved.read comes.tuple) moved
+  accepted_with a t comes accepted = elim entry_case [
+    | unseen_so is untold other ↦ absurd (other a t comes.carries comes.tuple comes.tracked accepted)
+    | dropped_so p u read is untold cause dropped ↦ absurd (accepted cause dropped)
+    | accepted_so b arrived u q ↦
+        let one : b ≡ a = cc (arrived, comes.carries) in
+        let moved = subst (λ (x : ReceivedPacket). AcceptedWith setup held now x u e) one q in
+        subst (λ (x : Tuple). AcceptedWith setup held now a x e) (some_unique (tuple_of a.packet) u t moved.read comes.tuple) moved
+  ]
 
   -- a dropped packet changes no connection
   pub dropped_none : (cause : Cause) → e.outcome ≡ outcomes.Dropped cause → e.tracked.change ≡ NoChange
-  dropped_none cause dropped = by_case entry_case
-    where
-      by_case : EntryCase setup held now (carried setup r) e → e.tracked.change ≡ NoChange
-      by_case (unseen_so is untold other) = ap (λ (x : TrackedPacket). x.change) is
-      by_case (dropped_so p u read is untold c d) = ap (λ (x : TrackedPacket). x.change) is
-      by_case (accepted_so a arrived t p) =
-          absurd (undropped p.end.facts.output cause (sym p.outcome ∙ dropped))
+  dropped_none cause dropped = elim entry_case [
+    | unseen_so is untold other ↦ ap (λ (x : TrackedPacket). x.change) is
+    | dropped_so p u read is untold c d ↦ ap (λ (x : TrackedPacket). x.change) is
+    | accepted_so a arrived t p ↦ absurd (undropped p.end.facts.output cause (sym p.outcome ∙ dropped))
+  ]

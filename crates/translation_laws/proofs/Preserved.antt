@@ -12,8 +12,8 @@ use Rattle.translation_laws.proofs.Names.{is_mapping, is_port_held, is_some, is_
 use Rattle.translation_laws.proofs.Names.{live_list, mappings_in, mark_in, max_connections, moment_after, moment_of, new_connection_of, none-some}
 use Rattle.translation_laws.proofs.Names.{none_not_some, not, or_earlier, or_else, order_of, payload_of, port_choice_by, port_choice_for, port_choice_in}
 use Rattle.translation_laws.proofs.Names.{port_named, port_of, protocol, range_of, refl, reply_to, rewritten, same_Some, same_id, same_mapping, some_of_map}
-use Rattle.translation_laws.proofs.Names.{source_of, statement_destination, subst, sym, to_internal, touched_at, tracked_of, true, tuple_of, tuple_with}
-use Rattle.translation_laws.proofs.Names.{with_destination_nat, with_source_mapping, with_source_nat, ℕ, ◌∙◌, ◌∷◌, ◌≡◌, ◌≢◌, ◌≤◌, ◌⊎◌}
+use Rattle.translation_laws.proofs.Names.{source_of, statement_destination, subst, sym, to_internal, touched, touched_at, tracked_of, true, tuple_of}
+use Rattle.translation_laws.proofs.Names.{tuple_with, with_destination_nat, with_source_mapping, with_source_nat, ℕ, ◌∙◌, ◌∷◌, ◌≡◌, ◌≢◌, ◌≤◌, ◌⊎◌}
 use Rattle.box_file.specs.declared.limits.Limits.{Limits}
 use Rattle.ip_headers.specs.Passing.{Passes}
 use Rattle.nat_mapping.proofs.Equal.{mapping_test}
@@ -131,7 +131,7 @@ chosen_suits _ from to port new h o = h
 
 -- by what an entry tells of a mapping's port: it was live before, or has the class and parity of the internal one
 abbrev pub PortChosen : List Mapping → Option Bool → Mapping → Type 0
-PortChosen mappings port_choice m = (port_choice ≡ None → Contains mappings m)
+PortChosen mappings port_choice m = IsPlain m × (port_choice ≡ None → Contains mappings m)
     × (port_choice ≡ Some false → has_ports m.kind ≡ true → same_class_and_parity m.internal.port m.external.port ≡ true)
 
 -- behind destination NAT
@@ -147,8 +147,7 @@ pub record IsDrafted (mappings : List Mapping) (t : Tuple) (d : NewConnection) :
   pub dest : (m : Mapping) → d.dest ≡ Some m → Contains mappings m
   pub one : IsOneToOne (listed d.source ++ mappings)
   pub shaped : IsShaped d.tuple
-  pub source : (m : Mapping) → d.source ≡ Some m
-      → IsPlain m × PortChosen mappings (port_choice_in mappings d.has_port_range d.source) m
+  pub source : (m : Mapping) → d.source ≡ Some m → PortChosen mappings (port_choice_in mappings d.has_port_range d.source) m
 
 -- an allocation from all ports
 unnamed : (ports : Option PortInterval) → is_some ports ≡ false → range_of ports ≡ None
@@ -203,25 +202,24 @@ module _ (known : Known) where
     -- a source that is mapped gets the port that it has there, or the first free one
     port_so : (kind : Kind) (internal : Endpoint) (x : ExternalSource) (port : ℕ)
         → source_of kind internal x.address (range_of x.ports) mappings ≡ Some port
-        → IsPlain (mapping_at kind internal (end_at x.address port))
-        × PortChosen mappings (port_choice_by (is_some x.ports) (port_of kind internal x.address mappings))
+        → PortChosen mappings (port_choice_by (is_some x.ports) (port_of kind internal x.address mappings))
         (mapping_at kind internal (end_at x.address port))
     port_so kind internal x port e = by_port (port_of kind internal x.address mappings) refl e
       where
         by_port : (o : Option ℕ) → port_of kind internal x.address mappings ≡ o
             → or_else o (first_free_port kind internal x.address (range_of x.ports) mappings) ≡ Some port
-            → IsPlain (mapping_at kind internal (end_at x.address port))
-            × PortChosen mappings (port_choice_by (is_some x.ports) o) (mapping_at kind internal (end_at x.address port))
+            → PortChosen mappings (port_choice_by (is_some x.ports) o) (mapping_at kind internal (end_at x.address port))
         by_port (Some p) there same =
             let among = port_held kind internal x.address port mappings (there ∙ same) in
-            (plain _ among, (λ untold. among, λ told. cc))
+            (plain _ among, λ untold. among, λ told. cc)
         by_port None there found =
             let among = (found_among (λ q. not (is_port_held kind x.address mappings q))
             (candidates (order_of kind) internal.port (range_of x.ports)) port found).0 in (
               candidate_plain kind internal.port (range_of x.ports) port among,
-              (λ untold. cc, λ told ports. candidate_alike kind internal.port port ports
+              λ untold. cc,
+              λ told ports. candidate_alike kind internal.port port ports
                   (subst (λ (r : Option CandidateRange). Contains (candidates (order_of kind) internal.port r) port)
-                  (unnamed x.ports (same_Some _ false told)) among)),
+                  (unnamed x.ports (same_Some _ false told)) among),
             )
 
     module _ (t : Tuple) (new : first_state t.kind ≡ states.New) (shaped : IsShaped t) (d : NewConnection)
@@ -245,8 +243,9 @@ module _ (known : Known) where
             one = known.source mappings d.tuple.kind d.tuple.source x.address (range_of x.ports) r.0 one r.1;
             shaped = chosen_suits d.tuple.kind d.tuple.source.port d.tuple.destination.port r.0 (ap first_state turned.kind ∙ new)
                 (turned.shape shaped) so.0;
-            source = λ m of. subst (λ (n : Mapping). IsPlain n × PortChosen mappings
-                (port_choice_by (is_some x.ports) (port_of d.tuple.kind d.tuple.source x.address mappings)) n) (same_Some _ m of) so;
+            source = λ m of. subst
+                (PortChosen mappings (port_choice_by (is_some x.ports) (port_of d.tuple.kind d.tuple.source x.address mappings)))
+                (same_Some _ m of) so;
           })
 
 -- ==== The latest allocation of a mapping's port.
@@ -323,19 +322,19 @@ module _ (known : Known) (history : List Entry) (held : List ConntrackEntry) (k 
   allocated = each_mapping (IsAllocated history) held
       (All-weaker (IsMade history) (MappingsAre (IsAllocated history)) (λ h one. one.1) held k.all)
 
-  -- connections with mappings of those held
-  its_mappings : (left : List ConntrackEntry) → All (MappingsAre (Contains mappings)) left → IsOneToOne (mappings_in left)
-  its_mappings left all = known.within (mappings_in left) mappings (each_mapping (Contains mappings) left all) k.one
-
-  itself : All (MappingsAre (Contains mappings)) held
-  itself = each_holder (Contains mappings) held (λ m among. among)
+  -- connections of which all is true that is true of those held, whatever a packet touches
+  still : (left : List ConntrackEntry)
+      → ((P : ConntrackEntry → Type 0) → ((direction : Direction) (flags : Flags) (mark now : ℕ) (h : ConntrackEntry) → P h
+      → P (touched direction flags mark now h)) → All P held → All P left) → Mapped history left
+  still left all = record {
+    one = known.within (mappings_in left) mappings (each_mapping (Contains mappings) left (all (MappingsAre (Contains mappings))
+        (λ direction flags mark now h one. one) (each_holder (Contains mappings) held (λ m among. among)))) k.one;
+    class = k.class;
+    all = all (IsMade history) (λ direction flags mark now h one. one) k.all;
+  }
 
   filtered : (p : ConntrackEntry → Bool) → Mapped history (filter p held)
-  filtered p = record {
-    one = its_mappings (filter p held) (All-filter p (MappingsAre (Contains mappings)) held itself);
-    class = k.class;
-    all = All-filter p (IsMade history) held k.all;
-  }
+  filtered p = still (filter p held) (λ P keeps. All-filter p P held)
 
   pub ended : (b : Belonging) → Mapped history (after_end b held)
   ended (Ends id) = filtered (λ h. not (same_id id h))
@@ -343,12 +342,8 @@ module _ (known : Known) (history : List Entry) (held : List ConntrackEntry) (k 
 
   refreshed : (id : ConnId) (direction : Direction) (flags : Flags) (mark now : ℕ)
       → Mapped history (touched_at id direction flags mark now held)
-  refreshed id direction flags mark now = record {
-    one = its_mappings (touched_at id direction flags mark now held)
-        (each_touched (MappingsAre (Contains mappings)) id direction flags mark now (λ h one. one) held itself);
-    class = k.class;
-    all = each_touched (IsMade history) id direction flags mark now (λ h one. one) held k.all;
-  }
+  refreshed id direction flags mark now = still (touched_at id direction flags mark now held)
+      (λ P keeps. each_touched P id direction flags mark now (keeps direction flags mark now) held)
 
   -- what NAT gives the first packet of a connection beside these
   pub its_draft : (setup : Setup) (input : Interface) (t : Tuple) → first_state t.kind ≡ states.New → IsShaped t → (s : PathState)
@@ -386,12 +381,12 @@ module _ (known : Known) (history : List Entry) (held : List ConntrackEntry) (k 
 
       -- the port of its source was allocated now, or was live before
       source_so : (m : Mapping) → d.source ≡ Some m → PortChosen mappings e.port_choice m
-      source_so m of = subst (λ (o : Option Bool). PortChosen mappings o m) (sym chosen) (draft.source m of).1
+      source_so m of = subst (λ (o : Option Bool). PortChosen mappings o m) (sym chosen) (draft.source m of)
 
       source_allocated : (m : Mapping) → d.source ≡ Some m → (o : Option Bool) → e.port_choice ≡ o → IsAllocated (e ∷ history) m
-      source_allocated m of None untold = still_allocated m (allocated m ((source_so m of).0 untold))
+      source_allocated m of None untold = still_allocated m (allocated m ((source_so m of).1 untold))
       source_allocated m of (Some named) told = (
-        (draft.source m of).0,
+        (source_so m of).0,
         chosen_or_earlier (choice_in m e) (latest_choice m history)
             (inl (λ none. none_not_some (choice_in m e) named none (ap (choice_by m e.port_choice) (is ∙ of)
             ∙ cond-true (same_mapping m m) e.port_choice None (mapping_test.same m) ∙ told))),
@@ -411,7 +406,7 @@ module _ (known : Known) (history : List Entry) (held : List ConntrackEntry) (k 
             class = λ m ports latest. elim (choice_or_earlier (choice_in m e) (latest_choice m history) false latest) [
               | inl here ↦
                   let so = chosen_by m e.port_choice d.source false (sym (ap (choice_by m e.port_choice) is) ∙ here) in
-                  (source_so m so.0).1 so.1 ports
+                  (source_so m so.0).2 so.1 ports
               | inr earlier ↦ k.class m ports earlier
             ];
             all = All-push (IsMade (e ∷ history)) held new made_later (

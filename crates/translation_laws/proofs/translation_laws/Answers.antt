@@ -1,8 +1,9 @@
-use Rattle.translation_laws.proofs.HistoryObeys.{history_obeys, entries_follow, no_records}
+use Rattle.std.proofs.Common.{[], refl}
+use Rattle.translation_laws.proofs.HistoryObeys.{history_obeys, entries_follow}
 use Rattle.translation_laws.proofs.translation_laws.Goals as goal
 
 pub returns-clause-begins : goal.returns-clause-begins
-returns-clause-begins c = no_records
+returns-clause-begins c setup = record { records = []; is_history = refl }
 
 pub returns-clause-entries : goal.returns-clause-entries
 returns-clause-entries c = entries_follow
