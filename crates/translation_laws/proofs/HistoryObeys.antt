@@ -1,5 +1,5 @@
 -- The laws of NAT: of one entry, which connection it begins or refreshes, how the packet leaves, and the port that it
--- allocates; and of each history. To be read before it: Chains, Paths, Connections, Preserved.
+-- allocates; and of each history. To be read before it: Chains, Paths, Preserved.
 use Rattle.translation_laws.proofs.Names.{◌++◌, ◌-◌, Accepted, All-contains, AllocatedAmong, AreApart, Arrival, Begins, Belonging, Bool, Cause, Confirmed}
 use Rattle.translation_laws.proofs.Names.{ConnId, ConnectionChange, ConnectionRef, ConntrackEntry, Contains, Contains-cases, Contains-head, Contains-tail}
 use Rattle.translation_laws.proofs.Names.{Contains-unmap, Creation, CtInfo, Direction, Dropped, EchoRequest, Endpoint, EndsSourceNat, EntriesFollow, Entry}
@@ -19,7 +19,7 @@ use Rattle.translation_laws.proofs.Names.{rewritten, same_Some, same_tuple, same
 use Rattle.translation_laws.proofs.Names.{to_internal, touch_of, touched, tracked_connection, tracked_of, transport_of, true, ttl, tuple_of, tuple_with}
 use Rattle.translation_laws.proofs.Names.{with_destination_nat, with_source_mapping, with_source_nat, ℕ, ◌∙◌, ◌∷◌, ◌≡◌, ◌≢◌, ◌⊎◌}
 use Rattle.conntrack.specs.declared.connection.Connection.{Connection}
-use Rattle.history.specs.declared.outcome.Outcome.TheVariants.{Local, Passed}
+use Rattle.history.specs.declared.outcome.Outcome.TheVariants.{Passed}
 use Rattle.ip_headers.proofs.Faults.{packet_passes}
 use Rattle.ip_headers.specs.declared.view.HeaderFault.{HeaderFault}
 use Rattle.pcap_io.specs.Links.{link_of}
@@ -31,10 +31,9 @@ use Rattle.translation_laws.proofs.Chains.{did_nat_act}
 use Rattle.translation_laws.proofs.Paths.{AcceptedWith, EntryCase, HasSource, IsLookedUp, IsNone, IsTranslated, accepted_so, accepted_with, begins, belongs_by}
 use Rattle.translation_laws.proofs.Paths.{beside, delivered, dropped_none, dropped_so, entry_case, forwarded_on, is_invalid, passes_accepted, refreshes}
 use Rattle.translation_laws.proofs.Paths.{turned_by, unseen_so}
-use Rattle.translation_laws.proofs.Connections.{found_one, given_one, inbound_found, mapping_at, mapping_of_holder, not_behind, parts, parts_same, port_found}
-use Rattle.translation_laws.proofs.Connections.{taken_by}
-use Rattle.translation_laws.proofs.Preserved.{HasShapes, IsMade, IsShaped, Known, Preserved, allocated, drafted, ended, inverse_shaped, its_draft, ported_suits}
-use Rattle.translation_laws.proofs.Preserved.{preserved, tuple_shaped, turned_so}
+use Rattle.translation_laws.proofs.Preserved.{HasShapes, IsMade, IsShaped, Known, Preserved, allocated, drafted, ended, found_one, given_one, inbound_found}
+use Rattle.translation_laws.proofs.Preserved.{inverse_shaped, its_draft, mapping_at, mapping_of_holder, not_behind, parts, parts_same, port_found, ported_suits}
+use Rattle.translation_laws.proofs.Preserved.{preserved, taken_by, tuple_shaped, turned_so}
 use Rattle.conntrack.specs.declared.belonging.LookupState.TheVariants as states
 
 -- ==== A packet that a record carries has no fault.
@@ -299,10 +298,7 @@ module _ (known : Known) (setup : Setup) (history : List Entry) (r : Recorded) (
       none_told = subst (λ (es : List Event). did_nat_act es ≡ false) p.events untold
 
       external_is : (x : Option ExternalSource) → HasSource setup others input run_inside x p.end → x ≡ Some at_external
-      external_is x (delivered none is) = absurd (local_passes (ap outcome_by (sym none) ∙ sym p.outcome ∙ passed))
-        where
-          local_passes : Local ≡ Passed interface → ⊥
-          local_passes same = cc
+      external_is x (delivered none is) = cc (ap outcome_by (sym none) ∙ sym p.outcome ∙ passed)
       external_is x (forwarded_on asked ran accepted same is) =
           let entered : is_same_interface a.interface (owner setup.plant t.destination.address) ≡ false = rw external at other in
           sym (rw (accepted none_told, same, entered) at is)

@@ -1,6 +1,5 @@
 mod Names
 mod Chains
 mod Paths
-mod Connections
 mod Preserved
 mod HistoryObeys

@@ -28,7 +28,6 @@ pub use Rattle.ip_headers.specs.steps.Equal.{same_endpoint-refl, same_endpoint-t
 pub use Rattle.list_laws.specs.Elements.{Contains-cases, Contains-tail, Contains-unmap}
 pub use Rattle.list_laws.specs.Lists.{Contains-head}
 pub use Rattle.list_laws.specs.Options.{none_not_some, option_cases, some_of_map, some_unique}
-pub use Rattle.nat_mapping.proofs.Lists.{found_among, none_such}
 pub use Rattle.nat_mapping.specs.Mappings.{IsOneToOne, first_free_port, has_external, has_internal, is_port_held, or_else, order_of, same_mapping, source_of}
 unfoldable pub use Rattle.nat_mapping.specs.Mappings.{inbound_of, port_of}
 pub use Rattle.pcap_io.specs.Pcap.{Recorded}
