@@ -446,13 +446,6 @@ grown_before setup history e (r ∷ records) first g = elim (grown_before setup 
   | inr b ↦ inr (r ∷ b.0, (g.0, g.1, b.1), b.2)
 ]
 
-before_last : (setup : Setup) (history : List Entry) (e : Entry) → IsHistory setup (e ∷ history)
-    → IsHistory setup history × ((r : Recorded) × Next setup history r e)
-before_last setup history e is = elim (grown_before setup history e is.records [] is.is_history) [
-  | inl none ↦ cc
-  | inr b ↦ (record { records = b.0; is_history = b.1 }, b.2)
-]
-
 one_more : (setup : Setup) (records : List Recorded) (first history : List Entry) (r : Recorded) (e : Entry)
     → IsHistoryOf setup first records history → Next setup history r e
     → IsHistoryOf setup first (records ++ r ∷ []) (e ∷ history)
@@ -461,7 +454,10 @@ one_more setup (x ∷ records) first history r e g n = (g.0, g.1, one_more setup
 
 pub entries_follow : (setup : Setup) → EntriesFollow setup
 entries_follow setup history e = (
-  before_last setup history e,
+  λ is. elim (grown_before setup history e is.records [] is.is_history) [
+    | inl none ↦ cc
+    | inr b ↦ (record { records = b.0; is_history = b.1 }, b.2)
+  ],
   λ so. record {
     records = so.0.records ++ so.1.0 ∷ [];
     is_history = one_more setup so.0.records [] history so.1.0 e so.0.is_history so.1.1;

@@ -44,8 +44,8 @@ pub use Rattle.rule_meaning.specs.declared.facts.Facts.{Facts}
 pub use Rattle.rule_meaning.specs.declared.facts.Interface.{Interface}
 pub use Rattle.std.proofs.Common.{◌++◌, ◌-◌, Bool, Err, IsTrue, List, None, Ok, Option, Result, Some, [], ap, append-nil, append_assoc, arith, cond, drop}
 pub use Rattle.std.proofs.Common.{false, inl, inr, is_some, not, refl, subst, sym, true, ◌||◌, ℕ, ◌∙◌, ◌∷◌, ◌≡◌, ◌≢◌, ◌≤◌, ◌⊎◌}
-pub use Rattle.std.proofs.lemmas.Bool.{and_from, and_parts, both_ways, cases_Bool, cond-true, cond_both, eq-eqb, eqb-true, false_from_ne_true, lt-ltb, ltb-true}
-pub use Rattle.std.proofs.lemmas.Bool.{not-true, not_from_false, or_cases, or_left, or_parts, or_right}
+pub use Rattle.std.proofs.lemmas.Bool.{and_from, and_parts, both_ways, cases_Bool, cond_both, eq-eqb, eqb-true, false_from_ne_true, lt-ltb, ltb-true, not-true}
+pub use Rattle.std.proofs.lemmas.Bool.{not_from_false, or_cases, or_left, or_parts, or_right}
 pub use Rattle.std.proofs.lemmas.List.Elements.{All-contains, All-contains_itself, All-filter, All-map, All-nil, All-push, All-weaker, Contains-append_cases}
 pub use Rattle.std.proofs.lemmas.List.Elements.{Contains-append_left, Contains-append_right, filter_passes}
 pub use Rattle.std.proofs.lemmas.Option.{none-some, same_Some}

@@ -8,15 +8,15 @@ use Rattle.translation_laws.proofs.Names.{IsHistory, IsHistoryOf, IsOneToOne, Is
 use Rattle.translation_laws.proofs.Names.{Option, Original, Other, PathState, PlantTree, PortsMatchKind, ReceivedPacket, Recorded, Reply, Setup, Some, Tcp}
 use Rattle.translation_laws.proofs.Names.{Touches, TrackedPacket, Translated, Tuple, Udp, Unconfirmed, [], after_end, after_packet, alive_at, and_from}
 use Rattle.translation_laws.proofs.Names.{and_parts, ap, arith, arrival_of, begun, begun_with, belongs, belongs_in, between, both_ways, carried, cases_Bool}
-use Rattle.translation_laws.proofs.Names.{choice_in, cond, cond-true, confirmation_by, connection_ref, does_end, entry_at, eq-eqb, eqb-true, false}
-use Rattle.translation_laws.proofs.Names.{false_from_ne_true, fault_of, filter, find, first_free_port, first_state, given_to, has_distinct_ids, has_external}
-use Rattle.translation_laws.proofs.Names.{has_internal, has_ports, have_disjoint_tuples, inbound_of, inl, inr, interface_facts, internal_endpoint, inverse}
-use Rattle.translation_laws.proofs.Names.{inverse_kind, is_incoming, is_live, is_mapping, is_port_held, is_some, is_taken, kind_of, latest_choice, limits_of}
-use Rattle.translation_laws.proofs.Names.{listed, live_at, live_at_record, live_list, mappings_in, mappings_of, mark_in, max_connections, moment_after}
-use Rattle.translation_laws.proofs.Names.{moment_of, new_connection_of, none-some, none_not_some, not, not-true, of_original, of_reply, option_cases, or_cases}
-use Rattle.translation_laws.proofs.Names.{or_earlier, or_else, or_left, or_right, order_of, payload_of, port_choice_by, port_choice_for, port_choice_in}
-use Rattle.translation_laws.proofs.Names.{port_named, port_of, protocol, range_of, refl, reply_to, rewritten, same_Some, same_endpoint-refl, same_endpoint-true}
-use Rattle.translation_laws.proofs.Names.{same_id, same_kind-refl, same_kind-true, same_mapping, same_tuple, same_tuple-true, some_of_map, source_of}
+use Rattle.translation_laws.proofs.Names.{choice_in, cond, confirmation_by, connection_ref, does_end, entry_at, eq-eqb, eqb-true, false, false_from_ne_true}
+use Rattle.translation_laws.proofs.Names.{fault_of, filter, find, first_free_port, first_state, given_to, has_distinct_ids, has_external, has_internal}
+use Rattle.translation_laws.proofs.Names.{has_ports, have_disjoint_tuples, inbound_of, inl, inr, interface_facts, internal_endpoint, inverse, inverse_kind}
+use Rattle.translation_laws.proofs.Names.{is_incoming, is_live, is_mapping, is_port_held, is_some, is_taken, kind_of, latest_choice, limits_of, listed, live_at}
+use Rattle.translation_laws.proofs.Names.{live_at_record, live_list, mappings_in, mappings_of, mark_in, max_connections, moment_after, moment_of}
+use Rattle.translation_laws.proofs.Names.{new_connection_of, none-some, none_not_some, not, not-true, of_original, of_reply, option_cases, or_cases, or_earlier}
+use Rattle.translation_laws.proofs.Names.{or_else, or_left, or_right, order_of, payload_of, port_choice_by, port_choice_for, port_choice_in, port_named}
+use Rattle.translation_laws.proofs.Names.{port_of, protocol, range_of, refl, reply_to, rewritten, same_Some, same_endpoint-refl, same_endpoint-true, same_id}
+use Rattle.translation_laws.proofs.Names.{same_kind-refl, same_kind-true, same_mapping, same_tuple, same_tuple-true, some_of_map, source_of}
 use Rattle.translation_laws.proofs.Names.{statement_destination, subst, sym, to_internal, touch_of, touched, touched_at, tracked_of, true, tuple_of, tuple_with}
 use Rattle.translation_laws.proofs.Names.{with_destination_nat, with_source_mapping, with_source_nat, ◌||◌, ℕ, ◌∙◌, ◌∷◌, ◌≡◌, ◌≢◌, ◌≤◌, ◌⊎◌}
 use Rattle.box_file.specs.declared.limits.Limits.{Limits}
@@ -643,8 +643,7 @@ module _ (known : Known) (history : List Entry) (held : List ConntrackEntry) (k 
       source_allocated m of (Some named) told = (
         (source_so m of).0,
         chosen_or_earlier (choice_in m e) (latest_choice m history)
-            (inl (λ none. none_not_some (choice_in m e) named none (ap (choice_by m e.port_choice) (is ∙ of)
-            ∙ cond-true (same_mapping m m) e.port_choice None (mapping_test.same m) ∙ told))),
+            (inl (λ none. none_not_some (choice_in m e) named none (rw (is, of, mapping_test.same m) told))),
       )
 
       begun_mapped : Mapped (e ∷ history) (held ++ begun_by id p mark d ∷ [])
@@ -701,13 +700,12 @@ module _ (known : Known) (setup : Setup) where
     here : Preserved history held
     here = before m (omega arith)
 
-    -- after a packet that belongs so
-    module _ (b : Belonging) (x : Arrival) where
-      abbrev id : ConnId
-      id = record { 0 = length (tracked_of history) }
+    abbrev id : ConnId
+    id = record { 0 = length (tracked_of history) }
 
-      abbrev KeptAfter : Confirmation → Type 0
-      KeptAfter confirmation = DoesNotClash b confirmation held × Mapped (e ∷ history) (after_packet b id x confirmation held)
+    -- after a packet that belongs so
+    abbrev KeptAfter : Belonging → Arrival → Confirmation → Type 0
+    KeptAfter b x confirmation = DoesNotClash b confirmation held × Mapped (e ∷ history) (after_packet b id x confirmation held)
 
     unconfirmed : (b : Belonging) (x : Arrival) → e.tracked ≡ updates.entry_of b x Unconfirmed → KeptAfter b x Unconfirmed
     unconfirmed (Found place) x is = (tt, unchosen known history held here.mapped e (ap source_begun is))
@@ -721,7 +719,7 @@ module _ (known : Known) (setup : Setup) where
     begun_so (Found place) none x mark d is shaped draft chosen free = absurd none
     begun_so b none x mark d is shaped draft chosen free = (
       free,
-      begun_mapped known history (after_end b held) (ended known history held here.mapped b) e (id b x) x mark d (ap source_begun is)
+      begun_mapped known history (after_end b held) (ended known history held here.mapped b) e id x mark d (ap source_begun is)
           shaped draft chosen,
     )
 
@@ -756,7 +754,7 @@ module _ (known : Known) (setup : Setup) where
           ap (λ (x : TrackedPacket). x.moment) is,
           subst (λ (x : TrackedPacket). Preserved (e ∷ history) (live_list limits (x ∷ tracked) m)) (sym is)
               (rw (known.packet limits tracked (arrival_of m p t) confirmation) (record {
-                apart = known.apart held (record { 0 = length tracked }) (arrival_of m p t) confirmation
+                apart = known.apart held id (arrival_of m p t) confirmation
                     (known.distinct limits tracked m) here.apart k.0;
                 mapped = k.1;
               })),

@@ -10,18 +10,15 @@ returns-clause-entries c = entries_follow
 
 pub returns-clause-obeys : goal.returns-clause-obeys
 returns-clause-obeys c =
-    let m = c.one_more_entry.ensures in
-    let s = c.tuples_stay_disjoint.ensures in
-    let o = c.stays_one_to_one.ensures in
     history_obeys (record {
-      packet = m.packet;
-      none = m.none;
-      later = m.later;
-      distinct = m.distinct;
-      apart = s.packet;
-      apart_later = s.live;
-      source = o.source;
-      within = o.within;
+      packet = c.one_more_entry.ensures.packet;
+      none = c.one_more_entry.ensures.none;
+      later = c.one_more_entry.ensures.later;
+      distinct = c.one_more_entry.ensures.distinct;
+      apart = c.tuples_stay_disjoint.ensures.packet;
+      apart_later = c.tuples_stay_disjoint.ensures.live;
+      source = c.stays_one_to_one.ensures.source;
+      within = c.stays_one_to_one.ensures.within;
       inbound = c.inbound_is_held.ensures;
       alike = c.candidates_keep_class_and_parity.ensures.candidates;
       sending = c.rewritten_has_tuple.ensures;
