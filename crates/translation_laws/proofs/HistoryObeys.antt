@@ -178,7 +178,7 @@ module _ (known : Known) (setup : Setup) (history : List Entry) (r : Recorded) (
     begins_one new free (is_invalid none other is) = absurd (other new)
     begins_one new free (refreshes place found is) =
         let f = found_one t held flags place found in
-        absurd (both_ways (does_end f.h t flags) f.unended (free f.h f.among f.incoming))
+        absurd (both_ways (does_end f.0 t flags) f.3 (free f.0 f.1 f.2))
 
     -- ---- a packet of a connection refreshes it, and leaves with the inverse of the other direction's tuple
 
@@ -251,12 +251,12 @@ module _ (known : Known) (setup : Setup) (history : List Entry) (r : Recorded) (
           a = a;
           t = t;
           comes = record { carries = arrived; tuple = p.read; tracked = p.untouched };
-          h = f.h;
-          named = ap (λ (x : ConnId). x.0) f.named ∙ same_touch place.id.0 c place.direction direction (sym change ∙ touches);
-          live = f.among;
-          incoming = f.incoming;
-          unended = f.unended;
-          touched = change ∙ sym f.touched;
+          h = f.0;
+          named = ap (λ (x : ConnId). x.0) f.4 ∙ same_touch place.id.0 c place.direction direction (sym change ∙ touches);
+          live = f.1;
+          incoming = f.2;
+          unended = f.3;
+          touched = change ∙ sym f.5;
         }
     touches_live c direction touches (begins none new n free) =
         absurd (subst IsTouch (sym touches ∙ begun_so none n.left n.is) tt)
@@ -323,11 +323,6 @@ module _ (known : Known) (setup : Setup) (history : List Entry) (r : Recorded) (
                 (sym mapped.2)
                 ∙ leaves_between (hairpinned t own mapped.0) refl (ported_suits t.kind mapped.0 m.internal.port ports);
           }
-
-      turns_back : Does → IsHairpinned t m others e
-      turns_back does =
-          subst (λ (x : Mapping). IsHairpinned t x others e)
-          (sym (parts_same m t.kind m.internal t.destination kind refl external)) (turns_by does)
 
     -- ---- the port that it allocates, and whether the NAT statement that acted names ports
 
@@ -422,7 +417,9 @@ module _ (known : Known) (setup : Setup) (history : List Entry) (r : Recorded) (
         dropped = dropped_none setup history r e n;
         hairpins = λ a t comes ports m among kind external other begins untold interface passed.
             let p = accepted a t comes (passes_accepted e interface passed) in
-            turns_back a comes.carries t p interface passed begins ports m among kind external other untold p.state;
+            subst (λ (x : Mapping). IsHairpinned t x (beside held a.packet t) e)
+            (sym (parts_same m t.kind m.internal t.destination kind refl external))
+            (turns_by a comes.carries t p interface passed begins ports m among kind external other untold p.state);
         allocates = record {
           only = allocated_by_case the_case;
           mapped = λ a t comes m from.

@@ -256,15 +256,6 @@ module _ (t : Tuple) (held : List ConntrackEntry) (flags : Flags) where
   ]
 
   module _ (place : ConnectionRef) where
-    -- one that has its tuple, and that it doesn't remove
-    pub record FoundOne : Type 0 where
-      pub h : ConntrackEntry
-      pub among : Contains held h
-      pub incoming : IsTrue (is_incoming t h)
-      pub unended : does_end h t flags ≡ false
-      pub named : h.id ≡ place.id
-      pub touched : touch_of h t ≡ Touches place.id.0 place.direction
-
     found_by : (h : ConntrackEntry) (ended original : Bool) → cond ended (Ends h.id) (cond original
         (Found (connection_ref h Original)) (Found (connection_ref h Reply))) ≡ Found place
         → (ended ≡ false) × (h.id ≡ place.id) × (cond original (Touches h.id.0 Original) (Touches h.id.0 Reply)
@@ -277,12 +268,14 @@ module _ (t : Tuple) (held : List ConntrackEntry) (flags : Flags) where
         let same : connection_ref h Reply ≡ place = cc in
         (refl, ap (λ (x : ConnectionRef). x.id) same, ap (λ (x : ConnectionRef). Touches x.id.0 x.direction) same)
 
-    pub found_one : belongs_in held t flags ≡ Found place → FoundOne
+    -- one has its tuple, and isn't removed by it
+    pub found_one : belongs_in held t flags ≡ Found place → (h : ConntrackEntry) × Contains held h × IsTrue (is_incoming t h)
+        × (does_end h t flags ≡ false) × (h.id ≡ place.id) × (touch_of h t ≡ Touches place.id.0 place.direction)
     found_one e = elim its_holder [
       | no_holder is none ↦ cc
       | holder h among incoming is ↦
           let so = found_by h (does_end h t flags) (same_tuple h.original t) (sym is ∙ e) in
-          record { h = h; among = among; incoming = incoming; unended = so.0; named = so.1; touched = so.2 }
+          (h, among, incoming, so.0, so.1, so.2)
     ]
 
 -- ==== What is known of the parts.
@@ -484,7 +477,7 @@ module _ (known : Known) where
       drafted None after e = subst (IsDrafted mappings t) (same_Some d after e) (record {
         kind = turned.kind;
         dest = turned.dest;
-        one = subst (λ (o : Option Mapping). IsOneToOne (listed o ++ mappings)) (sym turned.none) one;
+        one = rw turned.none one;
         shaped = turned.shape shaped;
         source = λ m of. absurd (none_not_some d.source m turned.none of);
       })
@@ -729,8 +722,8 @@ module _ (known : Known) (setup : Setup) where
     accepted_kept a t q (refreshes place found is) =
         let none : source_begun e.tracked ≡ None = rw (is, found) at (ap source_begun q.tracked) in
         let x = arrival_of m a.packet t in
-        rw (is, found) (tt, unchosen known history (touched_at place.id place.direction x.flags (mark_in q.end.facts.ct) m held)
-        (refreshed known history held here.mapped place.id place.direction x.flags (mark_in q.end.facts.ct) m) e none)
+        let k = refreshed known history held here.mapped place.id place.direction x.flags (mark_in q.end.facts.ct) m in
+        rw (is, found) (tt, unchosen known history _ k e none)
     accepted_kept a t q (is_invalid none new is) = rw is (unconfirmed _ _ (rw is at q.tracked))
     accepted_kept a t q (begins none new n free) =
         let b = belongs_by held a.packet t in
@@ -738,7 +731,7 @@ module _ (known : Known) (setup : Setup) where
         rw n.is (begun_so b none (arrival_of m a.packet t) (mark_in q.end.facts.ct) n.left (rw n.is at q.tracked) shaped
         (its_draft known history (after_end b held) (ended known history held here.mapped b) setup
         (interface_facts setup.plant a.interface) t new shaped q.end n)
-        (q.port_choice ∙ ap (port_choice_for (beside held a.packet t)) n.is) 
+        (q.port_choice ∙ ap (port_choice_for (beside held a.packet t)) n.is)
         (unrefused (nat_le max_connections (length (after_end b held))) (is_taken (reply_to n.left) (after_end b held)) free))
 
     -- the entry is of this moment, and at once so it is
