@@ -8,15 +8,15 @@ use Rattle.translation_laws.proofs.Names.{IsHistory, IsHistoryOf, IsOneToOne, Is
 use Rattle.translation_laws.proofs.Names.{Option, Original, Other, PathState, PlantTree, PortsMatchKind, ReceivedPacket, Recorded, Reply, Setup, Some, Tcp}
 use Rattle.translation_laws.proofs.Names.{Touches, TrackedPacket, Translated, Tuple, Udp, Unconfirmed, [], after_end, after_packet, alive_at, and_from}
 use Rattle.translation_laws.proofs.Names.{and_parts, ap, arith, arrival_of, begun, begun_with, belongs, belongs_in, between, both_ways, carried, cases_Bool}
-use Rattle.translation_laws.proofs.Names.{choice_in, cond, confirmation_by, connection_ref, does_end, entry_at, eq-eqb, eqb-true, false, false_from_ne_true}
-use Rattle.translation_laws.proofs.Names.{fault_of, filter, find, first_free_port, first_state, given_to, has_distinct_ids, has_external, has_internal}
-use Rattle.translation_laws.proofs.Names.{has_ports, have_disjoint_tuples, inbound_of, inl, inr, interface_facts, internal_endpoint, inverse, inverse_kind}
-use Rattle.translation_laws.proofs.Names.{is_incoming, is_live, is_mapping, is_port_held, is_some, is_taken, kind_of, latest_choice, limits_of, listed, live_at}
-use Rattle.translation_laws.proofs.Names.{live_at_record, live_list, mappings_in, mappings_of, mark_in, max_connections, moment_after, moment_of}
-use Rattle.translation_laws.proofs.Names.{new_connection_of, none-some, none_not_some, not, not-true, of_original, of_reply, option_cases, or_cases, or_earlier}
-use Rattle.translation_laws.proofs.Names.{or_else, or_left, or_right, order_of, payload_of, port_choice_by, port_choice_for, port_choice_in, port_named}
-use Rattle.translation_laws.proofs.Names.{port_of, protocol, range_of, refl, reply_to, rewritten, same_Some, same_endpoint-refl, same_endpoint-true, same_id}
-use Rattle.translation_laws.proofs.Names.{same_kind-refl, same_kind-true, same_mapping, same_tuple, same_tuple-true, some_of_map, source_of}
+use Rattle.translation_laws.proofs.Names.{choice_in, cond, cond_both, confirmation_by, connection_ref, does_end, entry_at, eq-eqb, eqb-true, false}
+use Rattle.translation_laws.proofs.Names.{false_from_ne_true, fault_of, filter, find, first_free_port, first_state, given_to, has_distinct_ids, has_external}
+use Rattle.translation_laws.proofs.Names.{has_internal, has_ports, have_disjoint_tuples, inbound_of, inl, inr, interface_facts, internal_endpoint, inverse}
+use Rattle.translation_laws.proofs.Names.{inverse_kind, is_incoming, is_live, is_mapping, is_port_held, is_some, is_taken, kind_of, latest_choice, limits_of}
+use Rattle.translation_laws.proofs.Names.{listed, live_at, live_at_record, live_list, mappings_in, mappings_of, mark_in, max_connections, moment_after}
+use Rattle.translation_laws.proofs.Names.{moment_of, new_connection_of, none-some, none_not_some, not, not-true, of_original, of_reply, option_cases, or_cases}
+use Rattle.translation_laws.proofs.Names.{or_earlier, or_else, or_left, or_right, order_of, payload_of, port_choice_by, port_choice_for, port_choice_in}
+use Rattle.translation_laws.proofs.Names.{port_named, port_of, protocol, range_of, refl, reply_to, rewritten, same_Some, same_endpoint-refl, same_endpoint-true}
+use Rattle.translation_laws.proofs.Names.{same_id, same_kind-refl, same_kind-true, same_mapping, same_tuple, same_tuple-true, some_of_map, source_of}
 use Rattle.translation_laws.proofs.Names.{statement_destination, subst, sym, to_internal, touch_of, touched, touched_at, tracked_of, true, tuple_of, tuple_with}
 use Rattle.translation_laws.proofs.Names.{with_destination_nat, with_source_mapping, with_source_nat, ◌||◌, ℕ, ◌∙◌, ◌∷◌, ◌≡◌, ◌≢◌, ◌≤◌, ◌⊎◌}
 use Rattle.box_file.specs.declared.limits.Limits.{Limits}
@@ -46,11 +46,7 @@ pub each_touched : (P : ConntrackEntry → Type 0) (id : ConnId) (direction : Di
     → All P (touched_at id direction flags mark now held)
 each_touched P id direction flags mark now keeps held all =
     All-map P (λ h. cond (same_id id h) (touched direction flags mark now h) h) held
-    (All-weaker P _ (λ h one. by_test (same_id id h) h one) held all)
-  where
-    by_test : (b : Bool) (h : ConntrackEntry) → P h → P (cond b (touched direction flags mark now h) h)
-    by_test true h one = keeps h one
-    by_test false h one = one
+    (All-weaker P _ (λ h one. cond_both (same_id id h) (touched direction flags mark now h) h P (λ _. keeps h one) (λ _. one)) held all)
 
 -- ---- mappings
 
