@@ -12,11 +12,11 @@ use Rattle.translation_laws.proofs.Names.{carried_by, carried_with, cases_Bool, 
 use Rattle.translation_laws.proofs.Names.{connection_of, connection_ref, does_end, drop, external_source, false, fault_of, filter_passes, first_state, flags_in}
 use Rattle.translation_laws.proofs.Names.{hairpin, hairpinned, has_ports, have_disjoint_tuples, inbound_of, inl, input_interface, inr, interface_facts, inverse}
 use Rattle.translation_laws.proofs.Names.{inverse_kind, is_alive, is_creation, is_ended, is_incoming, is_live, is_same_interface, is_some, is_taken, kind_of}
-use Rattle.translation_laws.proofs.Names.{limits_of, listed, live_at_record, lt-ltb, ltb-true, mappings_in, mark_in, moment_after, names_of, names_ports}
+use Rattle.translation_laws.proofs.Names.{limits_of, live_at_record, lt-ltb, ltb-true, mappings_in, mark_in, moment_after, names_of, names_ports}
 use Rattle.translation_laws.proofs.Names.{new_connection_of, none-some, none_not_some, not, not_from_false, or_left, or_right, outcome_by, outgoing, owner}
 use Rattle.translation_laws.proofs.Names.{packet_of, payload_of, port_choice_by, port_choice_for, port_choice_in, port_of, protocol, range_of, refl, reply_to}
 use Rattle.translation_laws.proofs.Names.{rewritten, same_Some, same_tuple, same_tuple-refl, same_tuple-true, sent_on, some_of_map, source_of, subst, sym}
-use Rattle.translation_laws.proofs.Names.{to_internal, touch_of, touched, tracked_connection, tracked_of, transport_of, true, ttl, tuple_of, tuple_with}
+use Rattle.translation_laws.proofs.Names.{to_internal, touch_of, tracked_connection, tracked_of, transport_of, true, ttl, tuple_of, tuple_with}
 use Rattle.translation_laws.proofs.Names.{with_destination_nat, with_source_mapping, with_source_nat, ℕ, ◌∙◌, ◌∷◌, ◌≡◌, ◌≢◌, ◌⊎◌}
 use Rattle.conntrack.specs.declared.connection.Connection.{Connection}
 use Rattle.history.specs.declared.outcome.Outcome.TheVariants.{Passed}
