@@ -19,7 +19,8 @@ use Rattle.port_pool.specs.declared.order.Order.TheVariants.{Ports, Identifiers,
 use Rattle.port_pool.specs.declared.range.CandidateRange.{CandidateRange}
 use Rattle.port_pool.specs.Candidates.{numbers, ports_of, class_of, same_parity, same_class_and_parity}
 use Rattle.port_pool.specs.Candidates.{or_these, preferred, starting_at, candidates}
-use Rattle.port_pool.proofs.Spans.{find-numbers, or_these-left, starting_at-find, has_filter, numbers_has}
+use Rattle.list_laws.specs.Filters.{has_filter}
+use Rattle.port_pool.proofs.Spans.{find-numbers, or_these-left, starting_at-find, numbers_has}
 use Rattle.port_pool.proofs.Spans.{or_these-first}
 use Rattle.std.proofs.lemmas.Bool.Decides.{nat_tests}
 

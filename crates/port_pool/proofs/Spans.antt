@@ -1,13 +1,13 @@
 -- The first number of an interval that passes, and the preferred ports as one interval.
 use Rattle.std.proofs.Common.{◌≡◌, ℕ, zero, suc, ◌+◌, ◌-◌, ◌<◌, ◌≤◌, Bool, true, false, List, [], Option}
-use Rattle.std.proofs.Common.{Some, None, refl, sym, ap, subst, ◌∙◌, ⊎_elim, arith, ◌∷◌, length, get_or, inl}
-use Rattle.std.proofs.Common.{inr, ◌%◌, max, min, ◌&&◌, not, cond, w64, ◌^◌, ◌/◌}
+use Rattle.std.proofs.Common.{Some, None, refl, sym, ap, subst, ◌∙◌, ⊎_elim, arith, ◌∷◌, length, get_or}
+use Rattle.std.proofs.Common.{◌%◌, max, min, ◌&&◌, not, cond, w64, ◌^◌, ◌/◌}
 use Rattle.std.specs.List.{Contains, filter, find, range_with_len}
-use Rattle.std.proofs.lemmas.Bool.{cases_Bool, cases_eq, cases_lt, both_ways, cond_both, eq-eqb, and_parts}
+use Rattle.std.proofs.lemmas.Bool.{cases_Bool, cases_eq, cases_lt, both_ways, eq-eqb, and_parts}
 use Rattle.std.proofs.lemmas.Bool.{le-leb, lt-leb, lt-ltb, le-ltb}
 use Rattle.std.proofs.lemmas.List.FromFn.{length-range_with_len, get_or-range_with_len}
-use Rattle.list_laws.specs.Lists.{Contains-head, find-filter}
-use Rattle.list_laws.specs.Elements.{Contains-cases, Contains-tail}
+use Rattle.list_laws.specs.Lists.{find-filter}
+use Rattle.list_laws.specs.Filters.{has_filter}
 use Rattle.port_pool.specs.Candidates.{numbers, or_these, class_of, same_parity, same_class_and_parity}
 use Rattle.port_pool.specs.Candidates.{preferred, starting_at}
 use Rattle.port_pool.specs.steps.First.{IsFirst, is_open}
@@ -123,19 +123,6 @@ widened q p a b low to (Some k) la bt same under over f =
     }
 
 -- ---- the first list that isn't empty
-
-pub has_filter : (p : ℕ → Bool) (xs : List ℕ) (x : ℕ) → Contains xs x → p x ≡ true → Contains (filter p xs) x
-has_filter p [] x among passes = among
-has_filter p (d ∷ xs) x among passes =
-    cond_both (p d) (d ∷ filter p xs) (filter p xs) (λ l. Contains l x)
-    (λ yes. elim (Contains-cases d xs x among) [
-      | inl e ↦ subst (λ (n : ℕ). Contains (d ∷ filter p xs) n) e (Contains-head d (filter p xs))
-      | inr k ↦ Contains-tail d (filter p xs) x (has_filter p xs x k passes)
-    ])
-    (λ no. elim (Contains-cases d xs x among) [
-      | inl e ↦ absurd (both_ways (p d) no (subst (λ (n : ℕ). p n ≡ true) (sym e) passes))
-      | inr k ↦ has_filter p xs x k passes
-    ])
 
 pub numbers_has : (low high w : ℕ) → low ≤ w → w ≤ high → Contains (numbers low high) w
 unfolding numbers
