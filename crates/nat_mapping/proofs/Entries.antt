@@ -1,7 +1,7 @@
 -- The list of mappings that entries represent.
-use Rattle.nat_mapping.proofs.Names.{Bool, CountsHolders, IsDistinct, IsDistinct-tail, IsUnique, List, MappedPort, Mapping, None, Option, Some, SourceKey}
-use Rattle.nat_mapping.proofs.Names.{Sources, [], ap, arith, cond, from_internal, get, held_by, holders_at, holders_of, keys_of, lookup, lookup-none, nat_tests}
-use Rattle.nat_mapping.proofs.Names.{none_past_head, refl, replicate, same_endpoint, same_kind, same_mapping, same_source, source_key_of, sum_by, sum_by-append}
+use Rattle.nat_mapping.proofs.Names.{Bool, IsDistinct, IsDistinct-tail, IsUnique, List, MappedPort, Mapping, None, Option, Some, SourceKey, Sources, [], ap}
+use Rattle.nat_mapping.proofs.Names.{arith, cond, from_internal, get, held_by, holders_at, holders_of, keys_of, lookup, lookup-none, nat_tests, none_past_head}
+use Rattle.nat_mapping.proofs.Names.{refl, replicate, same_endpoint, same_kind, same_mapping, same_source, source_key_of, sum_by, sum_by-append}
 use Rattle.nat_mapping.proofs.Names.{sum_by-replicate, sym, true, ℕ, ◌&&◌, ◌*◌, ◌++◌, ◌+◌, ◌==◌, ◌∙◌, ◌∷◌, ◌≡◌}
 use Rattle.nat_mapping.proofs.Equal.{equivalence, source_parts, source_test}
 
@@ -41,5 +41,6 @@ count_entries (e ∷ es) distinct m =
     (λ t. lookup-none test es (none_past_head (equivalence same_source source_test) (source_key_of m) e es distinct t))
 
 -- the list that a table represents has each mapping as often as the table says
-pub counts_of : (sources : Sources) → IsUnique same_source sources → CountsHolders (get same_source sources) (held_by sources.entries)
+pub counts_of : (sources : Sources) → IsUnique same_source sources → (m : Mapping)
+    → holders_of m (held_by sources.entries) ≡ holders_at (get same_source sources (source_key_of m)) m.external.port
 counts_of sources unique m = count_entries sources.entries unique m

@@ -1,8 +1,8 @@
 -- Equal keys and mappings.
-use Rattle.nat_mapping.proofs.Names.{Bool, Endpoint, InboundKey, IsEquivalence, PoolKey, SourceKey, and_from, and_parts, ap, both_ways, cases_Bool, eq-eqb, eqb}
-use Rattle.nat_mapping.proofs.Names.{eqb-true, false, false_from_ne_true, inl, inr, nat_tests, refl, rules, same_endpoint, same_endpoint-refl}
+use Rattle.nat_mapping.proofs.Names.{Bool, Endpoint, InboundKey, IsEquivalence, PoolKey, SourceKey, and_from, and_parts, ap, eq-eqb}
+use Rattle.nat_mapping.proofs.Names.{eqb, eqb-true, false, false_from_ne_true, nat_tests, refl, rules, same_endpoint, same_endpoint-refl}
 use Rattle.nat_mapping.proofs.Names.{same_endpoint-true, same_inbound, same_kind, same_kind-refl, same_kind-true, same_mapping, same_pool, same_source, subst}
-use Rattle.nat_mapping.proofs.Names.{sym, true, ℕ, ◌&&◌, ◌∙◌, ◌≡◌, ◌⊎◌}
+use Rattle.nat_mapping.proofs.Names.{sym, true, ℕ, ◌&&◌, ◌∙◌, ◌≡◌}
 use Rattle.list_laws.specs.Tests.{same-tests}
 
 -- a test passes where the two are equal, and only there
@@ -15,14 +15,6 @@ here_true e test x y same = ap (e x) (sym same) ∙ test.same x
 
 pub apart_false : {K : Type 0} (e : K → K → Bool) → IsTest e → (x y : K) → ¬ (x ≡ y) → e x y ≡ false
 apart_false e test x y apart = false_from_ne_true (e x y) (λ t. apart (test.exact x y t))
-
--- the two are equal or they are not
-pub decide : {K : Type 0} (e : K → K → Bool) → IsTest e → (x y : K) → (x ≡ y) ⊎ (¬ (x ≡ y))
-decide e test x y =
-    elim (cases_Bool (e x y)) [
-      | inl t ↦ inl (test.exact x y t)
-      | inr f ↦ inr (λ same. both_ways (e x y) f (here_true e test x y same))
-    ]
 
 pub equivalence : {K : Type 0} (e : K → K → Bool) → IsTest e → IsEquivalence e
 equivalence e test = record {
@@ -56,7 +48,7 @@ pair_test p q f g make whole one other = record {
 pub source_parts : (a b : SourceKey) → same_source a b ≡ (same_kind a.kind b.kind && (same_endpoint a.internal b.internal && eqb a.address b.address))
 source_parts a b = search (rules, nat_tests)
 
-inbound_parts : (a b : InboundKey) → same_inbound a b ≡ (same_kind a.kind b.kind && same_endpoint a.external b.external)
+pub inbound_parts : (a b : InboundKey) → same_inbound a b ≡ (same_kind a.kind b.kind && same_endpoint a.external b.external)
 inbound_parts a b = search (rules, nat_tests)
 
 pub pool_parts : (a b : PoolKey) → same_pool a b ≡ (same_kind a.kind b.kind && eqb a.address b.address)

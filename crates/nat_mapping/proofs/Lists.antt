@@ -1,56 +1,43 @@
 -- What a search of the list finds is in it.
 use Rattle.nat_mapping.proofs.Names.{Bool, Contains, Contains-cases, Contains-head, Contains-none, Contains-there, HoldsSame, IsOneToOne, List, Mapping, None}
-use Rattle.nat_mapping.proofs.Names.{Some, [], ap, arith, both_ways, cases_Bool, cond, cond-false, cond-true, find, holders_cons, holders_none, holders_of, inl}
-use Rattle.nat_mapping.proofs.Names.{inr, none-some, same_Some, same_mapping, subst, sym, true, ℕ, ◌<◌, ◌∙◌, ◌∷◌, ◌≡◌}
-use Rattle.nat_mapping.proofs.Equal.{apart_false, decide, here_true, mapping_test}
+use Rattle.nat_mapping.proofs.Names.{Some, [], ap, arith, cond-true, cond_both, filter, find, get_or, holders_cons}
+use Rattle.nat_mapping.proofs.Names.{holders_of, inl, inr, none-some, refl, same_Some, same_mapping, subst, sym, true, ◌<◌, ◌∙◌, ◌∷◌, ◌≡◌}
+use Rattle.std.proofs.lemmas.List.Elements.{All-contains, All-contains_itself, All-filter, filter_passes}
+use Rattle.std.proofs.lemmas.List.Sums.{length-filter}
+use Rattle.list_laws.specs.Elements.{Contains-at}
+use Rattle.list_laws.specs.Filters.{has_filter}
+use Rattle.nat_mapping.proofs.Equal.{mapping_test}
 
 -- what a search finds is in the list and passes
 pub found_among : {X : Type 0} (p : X → Bool) (xs : List X) (x : X) → find p xs ≡ Some x → Contains xs x × (p x ≡ true)
 found_among p [] x e = absurd (none-some x e)
-found_among p (y ∷ xs) x e =
-    elim (cases_Bool (p y)) [
-      | inl t ↦
-          let same : y ≡ x = same_Some y x (sym (cond-true (p y) (Some y) (find p xs) t) ∙ e) in
-          (subst (Contains (y ∷ xs)) same (Contains-head y xs), ap p (sym same) ∙ t)
-      | inr f ↦
-          let rest = found_among p xs x (sym (cond-false (p y) (Some y) (find p xs) f) ∙ e) in
-          (Contains-there y x xs rest.0, rest.1)
-    ]
+found_among p (y ∷ xs) x e = cond_both (p y) (Some y) (find p xs) (λ o. o ≡ Some x → Contains (y ∷ xs) x × (p x ≡ true))
+    (λ t is. (subst (Contains (y ∷ xs)) (same_Some y x is) (Contains-head y xs), ap p (sym (same_Some y x is)) ∙ t))
+    (λ f is. let rest = found_among p xs x is in (Contains-there y x xs rest.0, rest.1)) e
 
 -- where it finds nothing, nothing passes
 pub none_such : {X : Type 0} (p : X → Bool) (xs : List X) (x : X) → find p xs ≡ None → Contains xs x → p x ≡ true → ⊥
 none_such p [] x e among passes = Contains-none x among
-none_such p (y ∷ xs) x e among passes =
-    elim (cases_Bool (p y)) [
-      | inl t ↦ none-some y (sym e ∙ cond-true (p y) (Some y) (find p xs) t)
-      | inr f ↦ elim (Contains-cases y x xs among) [
-        | inl same ↦ both_ways (p y) f (ap p same ∙ passes)
-        | inr there ↦ none_such p xs x (sym (cond-false (p y) (Some y) (find p xs) f) ∙ e) there passes
-      ]
-    ]
+none_such p (y ∷ xs) x e among passes = elim (Contains-cases y x xs among) [
+  | inl same ↦ none-some y (sym e ∙ cond-true (p y) (Some y) (find p xs) (ap p same ∙ passes))
+  | inr there ↦ cond_both (p y) (Some y) (find p xs) (λ o. o ≡ None → ⊥) (λ t none. none-some y (sym none))
+      (λ f none. none_such p xs x none there passes) e
+]
 
 -- ---- a mapping with a holder is in the list
 
 pub has_holder : (m : Mapping) (held : List Mapping) → Contains held m → 0 < holders_of m held
-has_holder m [] among = absurd (Contains-none m among)
-has_holder m (x ∷ held) among =
-    elim (Contains-cases x m held among) [
-      | inl same ↦
-          let one : ◌≡◌ {A = ℕ} (cond (same_mapping m x) 1 0) 1 =
-          cond-true (same_mapping m x) 1 0 (here_true same_mapping mapping_test m x (sym same)) in omega (arith, one, holders_cons m x held)
-      | inr behind ↦ omega (arith, has_holder m held behind, holders_cons m x held)
-    ]
+unfolding holders_of
+has_holder m held among =
+    omega (arith, (has_filter (same_mapping m) held m among (mapping_test.same m)).1, length-filter (same_mapping m) held)
 
 pub is_among : (m : Mapping) (held : List Mapping) → 0 < holders_of m held → Contains held m
-is_among m [] some = absurd (omega (arith, some, holders_none m))
-is_among m (x ∷ held) some =
-    elim (decide same_mapping mapping_test m x) [
-      | inl same ↦ subst (Contains (x ∷ held)) (sym same) (Contains-head x held)
-      | inr apart ↦
-          let none : ◌≡◌ {A = ℕ} (cond (same_mapping m x) 1 0) 0 =
-          cond-false (same_mapping m x) 1 0 (apart_false same_mapping mapping_test m x apart) in
-          Contains-there x m held (is_among m held (omega (arith, some, none, holders_cons m x held)))
-    ]
+unfolding holders_of
+is_among m held some =
+    let p = same_mapping m in
+    let first = Contains-at (filter p held) 0 m (get_or (filter p held) 0 m) (omega (arith, some, length-filter p held)) refl in
+    subst (Contains held) (sym (mapping_test.exact m _ (All-contains (λ x. p x ≡ true) (filter p held) _ (filter_passes p held) first)))
+    (All-contains (Contains held) (filter p held) _ (All-filter p (Contains held) held (All-contains_itself held)) first)
 
 -- ---- lists with the same mappings
 

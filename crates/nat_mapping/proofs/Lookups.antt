@@ -1,12 +1,12 @@
 -- What lookups by key find in a list of mappings, and after one more or one fewer.
-use Rattle.nat_mapping.proofs.Names.{Bool, CandidateRange, Contains, Contains-cases, Contains-head, Contains-there, Endpoint, Finds, HoldsSame, InboundKey}
+use Rattle.nat_mapping.proofs.Names.{Bool, CandidateRange, Contains, Contains-cases, Endpoint, Finds, HoldsSame, InboundKey}
 use Rattle.nat_mapping.proofs.Names.{IsOneToOne, Kind, List, Mapping, None, Option, Some, SourceKey, ap, arith, candidates, cond, find, from_external}
 use Rattle.nat_mapping.proofs.Names.{from_internal, inbound_key_of, inbound_of, inl, inr, is_port_held, is_some, none-some, not, option_cases, option_map}
-use Rattle.nat_mapping.proofs.Names.{or_else, order_of, port_of, refl, same_Some, same_endpoint, same_kind, some_of_map, source_key_of, source_of, subst, sym}
-use Rattle.nat_mapping.proofs.Names.{true, ℕ, ◌&&◌, ◌==◌, ◌∙◌, ◌∷◌, ◌≡◌}
-use Rattle.nat_mapping.proofs.Equal.{IsTest, here_true, inbound_parts_test, source_parts_test}
+use Rattle.nat_mapping.proofs.Names.{or_else, order_of, port_of, refl, same_Some, same_endpoint, same_inbound, same_kind, some_of_map, source_key_of}
+use Rattle.nat_mapping.proofs.Names.{source_of, subst, sym, true, ℕ, ◌&&◌, ◌==◌, ◌∙◌, ◌∷◌, ◌≡◌}
+use Rattle.nat_mapping.proofs.Equal.{IsTest, here_true, inbound_parts, inbound_parts_test, source_parts_test}
 use Rattle.nat_mapping.proofs.Lists.{SameMembers, contains_alike, found_among, members_alike, more_alike, none_such, one_to_one-within, one_to_one_alike}
-use Rattle.nat_mapping.proofs.Sets.{Sets, sets_all, sets_by}
+use Rattle.nat_mapping.proofs.Sets.{sets_all}
 
 same_options : {Y : Type 0} (o p : Option Y) → ((y : Y) → o ≡ Some y → p ≡ Some y) → ((y : Y) → p ≡ Some y → o ≡ Some y) → o ≡ p
 same_options o p to from = grind (arith, to, from)
@@ -59,42 +59,21 @@ module _ {K Y : Type 0} (make : K → Y → Mapping) (e : K → K → Bool) (by 
     ];
   }
 
-  pub more : (held : List Mapping) (f g : K → Option Y) (k : K) (y : Y) → Finds make held f
-      → ((z : Y) → Contains held (make k z) → y ≡ z) → Sets f g k (Some y) → Finds make (make k y ∷ held) g
-  more held f g k y old one sets = record {
-    some = sets_all e by.test f g k (Some y) sets (λ q o. (z : Y) → o ≡ Some z → Contains (make k y ∷ held) (make q z))
-        (λ q apart z is. Contains-there _ _ held (old.some q z is))
-        (λ z is. subst (λ v. Contains (make k y ∷ held) (make k v)) (same_Some y z is) (Contains-head (make k y) held));
-    all = sets_all e by.test f g k (Some y) sets (λ q o. (z : Y) → Contains (make k y ∷ held) (make q z) → o ≡ Some z)
-        (λ q apart z among. elim (Contains-cases _ _ held among) [
-          | inl same ↦ absurd (apart (sym (by.is_key k y) ∙ ap by.key same ∙ by.is_key q z))
-          | inr there ↦ old.all q z there
-        ])
-        (λ z among. ap Some (elim (Contains-cases _ _ held among) [
-          | inl same ↦ sym (by.is_value k y) ∙ ap by.value same ∙ by.is_value k z
-          | inr there ↦ one z there
-        ]));
-  }
-
-  pub more_free : (held : List Mapping) (f : K → Option Y) (k : K) (y : Y) → Finds make held f → f k ≡ None
-      → Finds make (make k y ∷ held) (λ q. cond (e k q) (Some y) (f q))
-  more_free held f k y old free =
-      more held f _ k y old (λ z among. absurd (none-some z (sym free ∙ old.all k z among))) (sets_by e by.test f _ k (Some y) (λ q. refl))
-
-  pub fewer : (left : List Mapping) (f g : K → Option Y) (k : K) (y : Y) → Finds make (make k y ∷ left) f
-      → (Contains left (make k y) → ⊥) → Sets f g k None → Finds make left g
-  fewer left f g k y old absent sets = record {
-    some = sets_all e by.test f g k None sets (λ q o. (z : Y) → o ≡ Some z → Contains left (make q z))
-        (λ q apart z is. elim (Contains-cases _ _ left (old.some q z is)) [
-          | inl same ↦ absurd (apart (sym (by.is_key k y) ∙ ap by.key same ∙ by.is_key q z))
-          | inr there ↦ there
-        ])
-        (λ z no. absurd (none-some z no));
-    all = sets_all e by.test f g k None sets (λ q o. (z : Y) → Contains left (make q z) → o ≡ Some z)
-        (λ q apart z there. old.all q z (Contains-there _ _ left there))
-        (λ z there. absurd (absent (subst (λ v. Contains left (make k v))
-        (one_value make _ f old k k refl z y (Contains-there _ _ left there) (Contains-head _ left)) there)));
-  }
+  -- one more, under a key that had none
+  pub fresh : (held : List Mapping) (f : K → Option Y) (k : K) (y : Y) → Finds make held f → f k ≡ None
+      → Finds make (make k y ∷ held) (look (make k y ∷ held))
+  fresh held f k y old free =
+      let value = sets_all e by.test f (λ q. cond (e k q) (Some y) (f q)) k (Some y) (λ q. refl)
+      (λ q o. (z : Y) → Contains (make k y ∷ held) (make q z) → o ≡ Some z)
+      (λ q apart z among. elim (Contains-cases _ _ held among) [
+        | inl same ↦ absurd (apart (sym (by.is_key k y) ∙ ap by.key same ∙ by.is_key q z))
+        | inr there ↦ old.all q z there
+      ])
+      (λ z among. elim (Contains-cases _ _ held among) [
+        | inl same ↦ ap Some (sym (by.is_value k y) ∙ ap by.value same ∙ by.is_value k z)
+        | inr there ↦ absurd (none-some z (sym free ∙ old.all k z there))
+      ]) in
+      listed (make k y ∷ held) (λ q v w at also. same_Some v w (sym (value q v at) ∙ value q w also))
 
 -- ---- the two lookups
 
@@ -130,6 +109,16 @@ unfolding inbound_of
 inbound_finds held one =
     listed from_external _ by_external held (λ k y z at also. one.one_internal (from_external k y) (from_external k z) at also refl refl)
 
+map_cond : (b : Bool) (m : Mapping) (o : Option Mapping)
+    → option_map (λ x. x.internal) (cond b (Some m) o) ≡ cond b (Some m.internal) (option_map (λ x. x.internal) o)
+map_cond b m o = grind arith
+
+pub inbound_cons : (m : Mapping) (held : List Mapping) (k : InboundKey)
+    → inbound_in (m ∷ held) k ≡ cond (same_inbound (inbound_key_of m) k) (Some m.internal) (inbound_in held k)
+unfolding inbound_of
+inbound_cons m held k =
+    map_cond _ m _ ∙ ap (λ b. cond b (Some m.internal) (inbound_in held k)) (sym (inbound_parts (inbound_key_of m) k))
+
 pub port_finds : (held : List Mapping) → IsOneToOne held → Finds from_internal held (port_in held)
 unfolding port_of
 port_finds held one =
@@ -161,8 +150,8 @@ source_one_to_one held kind internal address range port one is =
           let free = found_among (λ p. not (is_port_held key.kind key.address held p)) (candidates (order_of key.kind) key.internal.port range) port
           (rw none at is) in
           one_to_one_by (from_internal key port ∷ held) _ _
-          (more_free from_external _ by_external held _ (inbound_key_of (from_internal key port)) key.internal inbounds (not_some _ free.1))
-          (more_free from_internal _ by_internal held _ key port ports none)
+          (fresh from_external _ by_external held _ (inbound_key_of (from_internal key port)) key.internal inbounds (not_some _ free.1))
+          (fresh from_internal _ by_internal held _ key port ports none)
       | inr some ↦
           let there = ports.some key port (some.1 ∙ (rw some.1 at is)) in
           one_to_one-within (from_internal key port ∷ held) held (λ n among. elim (Contains-cases _ n held among) [

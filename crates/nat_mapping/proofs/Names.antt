@@ -1,4 +1,8 @@
 -- Names of other crates and of the definitions, for the proofs.
+unfoldable pub use Rattle.nat_mapping.specs.Mappings.{holders_of, inbound_of, pool_count_of, port_of}
+unfoldable pub use Rattle.nat_mapping.specs.steps.Consistent.{held_by}
+unfoldable pub use Rattle.port_pool.specs.Candidates.{candidates}
+unfoldable pub use Rattle.std.specs.List.{IsDistinct}
 pub use Rattle.ip_headers.specs.HashWords.{hash_word}
 pub use Rattle.ip_headers.specs.Same.{same_endpoint, same_kind}
 pub use Rattle.ip_headers.specs.declared.tuple.Endpoint.{Endpoint}
@@ -10,7 +14,6 @@ pub use Rattle.list_laws.specs.Decisions.{Contains-cases, Contains-none, Contain
 pub use Rattle.list_laws.specs.Lists.{Contains-head, any_of_map}
 pub use Rattle.list_laws.specs.Options.{IfSome_at, option_cases, some_of_map}
 pub use Rattle.nat_mapping.specs.Mappings.{HoldsSame, IsOneToOne, has_pool, is_port_held, or_else, order_of, pooled, same_mapping, share_pool, source_of}
-unfoldable pub use Rattle.nat_mapping.specs.Mappings.{holders_of, inbound_of, pool_count_of, port_of}
 pub use Rattle.nat_mapping.specs.declared.keys.InboundKey.{InboundKey}
 pub use Rattle.nat_mapping.specs.declared.keys.MappedPort.{MappedPort}
 pub use Rattle.nat_mapping.specs.declared.keys.PoolKey.{PoolKey}
@@ -18,21 +21,19 @@ pub use Rattle.nat_mapping.specs.declared.keys.SourceKey.{SourceKey}
 pub use Rattle.nat_mapping.specs.declared.mappings.MapError.{MapError}
 pub use Rattle.nat_mapping.specs.declared.mappings.MapError.TheVariants.{NoPort}
 pub use Rattle.nat_mapping.specs.declared.pools.Pools.{Pools}
-pub use Rattle.nat_mapping.specs.steps.Consistent.{ArePorts, CountsHolders, Finds, Inbounds, IsConsistent, IsTable, Sources, holders_at}
-unfoldable pub use Rattle.nat_mapping.specs.steps.Consistent.{held_by}
+pub use Rattle.nat_mapping.specs.steps.Consistent.{ArePorts, Finds, Inbounds, IsConsistent, IsTable, Sources, holders_at}
 pub use Rattle.nat_mapping.specs.steps.Holders.{holders_cons, holders_none}
 pub use Rattle.nat_mapping.specs.steps.KeyTests.{same_inbound, same_pool, same_source}
 pub use Rattle.nat_mapping.specs.steps.Keys.{from_external, from_internal, inbound_at, inbound_key_of, one_fewer, one_more, pool_key_of, source_key_of}
 pub use Rattle.nat_mapping.specs.steps.Pooled.{IsPooled, taken_in}
 pub use Rattle.nat_mapping.specs.steps.Ports.{IsInUse, IsSpare, is_taken_by}
-unfoldable pub use Rattle.port_pool.specs.Candidates.{candidates}
 pub use Rattle.port_pool.specs.Taken.{is_taken}
 pub use Rattle.port_pool.specs.declared.order.Order.{Order}
 pub use Rattle.port_pool.specs.declared.order.Order.TheVariants.{Zero}
 pub use Rattle.port_pool.specs.declared.pool.Pool.{Pool}
 pub use Rattle.port_pool.specs.declared.range.CandidateRange.{CandidateRange}
-pub use Rattle.std.proofs.Common.{Bool, Err, IfSome, IsSome, List, None, Option, Result, Some, [], ap, arith, cond, eqb, false, inl, inr, is_some, length, not}
-pub use Rattle.std.proofs.Common.{refl, rules, subst, sym, true, vec_len, ℕ, ◌*◌, ◌++◌, ◌+◌, ◌-◌, ◌<◌, ◌↔◌, ◌∙◌, ◌∷◌, ◌≡◌, ◌≢◌, ◌≤◌, ◌⊎◌}
+pub use Rattle.std.proofs.Common.{Bool, Err, IfSome, IsSome, List, None, Option, Result, Some, [], ap, arith, cond, eqb, false, get_or, inl, inr, is_some}
+pub use Rattle.std.proofs.Common.{length, not, refl, rules, subst, sym, true, vec_len, ℕ, ◌*◌, ◌++◌, ◌+◌, ◌-◌, ◌<◌, ◌↔◌, ◌∙◌, ◌∷◌, ◌≡◌, ◌≢◌, ◌≤◌, ◌⊎◌}
 pub use Rattle.std.proofs.lemmas.Bool.{and_from, and_parts, both_ways, cases_Bool, cond-false, cond-true, cond_both, eq-eqb, eqb-true, false_from_ne_true}
 pub use Rattle.std.proofs.lemmas.Bool.Decides.{nat_tests, same_from_decides}
 pub use Rattle.std.proofs.lemmas.List.Folds.{sum_by-replicate}
@@ -45,7 +46,6 @@ pub use Rattle.std.proofs.lemmas.Option.{none-some, same_Some}
 pub use Rattle.std.specs.Cmp.{IsEquivalence}
 pub use Rattle.std.specs.HashMap.{IsUnique, get, hash_map_len}
 pub use Rattle.std.specs.List.{All, Contains, filter, find, list_any, sum_by}
-unfoldable pub use Rattle.std.specs.List.{IsDistinct}
 pub use Rattle.std.specs.Map.{keys_of, lookup}
 pub use Rattle.std.specs.Option.{ok_or, option_map}
 pub use Rattle.std.specs.Prelude.{if◌then◌else◌, map, replicate, ◌&&◌, ◌==◌}

@@ -1,11 +1,12 @@
 -- The number of pools.
-use Rattle.nat_mapping.proofs.Names.{Bool, Contains, Contains-cases, Contains-head, Contains-there, IfSome_at, Inbounds, IsConsistent, IsInUse, List, Mapping}
-use Rattle.nat_mapping.proofs.Names.{None, Option, Pool, PoolKey, Pools, Some, Sources, [], any_of_map, ap, arith, cond_both, filter, from_external, get}
-use Rattle.nat_mapping.proofs.Names.{has_pool, hash_map_len, held_by, inbound_at, inl, inr, is_member, is_member-Decides, is_some, is_some-lookup, is_taken_by}
+use Rattle.nat_mapping.proofs.Names.{Contains, IfSome_at, Inbounds, IsConsistent, IsInUse, List, Mapping}
+use Rattle.nat_mapping.proofs.Names.{None, Option, Pool, PoolKey, Pools, Some, Sources, [], any_of_map, ap, arith, from_external, get}
+use Rattle.nat_mapping.proofs.Names.{has_pool, hash_map_len, held_by, inbound_at, is_member, is_member-Decides, is_some, is_some-lookup, is_taken_by}
 use Rattle.nat_mapping.proofs.Names.{keys_of, length, length-from_keys, length-keys_of, list_any, map, pool_count_of, pool_key_of, pooled, refl}
 use Rattle.nat_mapping.proofs.Names.{same_from_decides, same_pool, share_pool, subst, sym, true, unique_keys, ℕ, ◌∙◌, ◌∷◌, ◌≡◌}
 use Rattle.std.proofs.lemmas.List.Elements.{All-contains, All-contains_itself, All-filter, filter_passes}
 use Rattle.list_laws.specs.Elements.{Contains-map, Contains-unmap}
+use Rattle.list_laws.specs.Filters.{has_filter}
 use Rattle.nat_mapping.proofs.Equal.{equivalence, here_true, pool_parts, pool_test}
 use Rattle.nat_mapping.proofs.Lists.{SameMembers}
 use Rattle.nat_mapping.proofs.Represented.{port_taken}
@@ -17,15 +18,6 @@ unique_map (x ∷ held) =
     let member : is_member same_pool (map pool_key_of held) (pool_key_of x) ≡ is_member share_pool held x =
     sym (any_of_map (same_pool (pool_key_of x)) pool_key_of held) ∙ (λ i. list_any (λ y. pool_parts (pool_key_of x) (pool_key_of y) i) held) in
     grind (arith, member, unique_map held)
-
-has_filter : {X : Type 0} (p : X → Bool) (xs : List X) (x : X) → Contains xs x → p x ≡ true → Contains (filter p xs) x
-has_filter p [] x among passes = among
-has_filter p (y ∷ xs) x among passes = elim (Contains-cases y x xs among) [
-  | inl same ↦ rw (ap p same ∙ passes) (subst (Contains (y ∷ filter p xs)) same (Contains-head y (filter p xs)))
-  | inr behind ↦
-      let rest = has_filter p xs x behind passes in
-      cond_both (p y) (y ∷ filter p xs) (filter p xs) (λ l. Contains l x) (λ t. Contains-there y x (filter p xs) rest) (λ f. rest)
-]
 
 some_of : {X : Type 0} (o : Option X) → is_some o ≡ true → (x : X) × (o ≡ Some x)
 some_of None e = absurd (cc)

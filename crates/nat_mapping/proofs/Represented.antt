@@ -1,14 +1,15 @@
 -- The tables represent the mappings held: what they say of one, and what a change of its holders leaves.
 use Rattle.nat_mapping.proofs.Names.{ArePorts, Bool, CandidateRange, Contains, Contains-head, Contains-there, Endpoint, Finds, HoldsSame, IfSome, IfSome_at}
 use Rattle.nat_mapping.proofs.Names.{InboundKey, Inbounds, IsConsistent, IsOneToOne, IsPooled, IsTable, Kind, List, MappedPort, Mapping, None, Option, PoolKey}
-use Rattle.nat_mapping.proofs.Names.{Pools, Some, SourceKey, Sources, ap, arith, candidates, cond, false, find, from_external, from_internal, get, has_pool}
-use Rattle.nat_mapping.proofs.Names.{held_by, holders_at, holders_cons, holders_of, if◌then◌else◌, inbound_at, inbound_key_of, inl, inr, is_some, nat_tests}
-use Rattle.nat_mapping.proofs.Names.{none-some, not, one_more, option_cases, option_map, or_else, order_of, pool_key_of, refl, same_inbound, same_source}
-use Rattle.nat_mapping.proofs.Names.{some_of_map, source_key_of, source_of, subst, sym, taken_in, true, ℕ, ◌&&◌, ◌+◌, ◌<◌, ◌==◌, ◌∙◌, ◌∷◌, ◌≡◌}
+use Rattle.nat_mapping.proofs.Names.{Pools, Some, SourceKey, Sources, ap, arith, candidates, cond, cond-false, false, find, from_external, from_internal, get}
+use Rattle.nat_mapping.proofs.Names.{has_pool, held_by, holders_at, holders_cons, holders_of, if◌then◌else◌, inbound_at, inbound_key_of, inl, inr, is_some}
+use Rattle.nat_mapping.proofs.Names.{nat_tests, none-some, not, one_fewer, one_more, option_cases, option_map, or_else, order_of, pool_key_of, refl}
+use Rattle.nat_mapping.proofs.Names.{same_inbound, same_source, some_of_map, source_key_of, source_of, subst, sym, taken_in, true, ℕ, ◌&&◌, ◌+◌, ◌<◌, ◌==◌}
+use Rattle.nat_mapping.proofs.Names.{◌∙◌, ◌∷◌, ◌≡◌}
 use Rattle.nat_mapping.proofs.Equal.{apart_false, inbound_test, source_test}
-use Rattle.nat_mapping.proofs.Sets.{Sets, sets_all, sets_by}
-use Rattle.nat_mapping.proofs.Lists.{SameMembers, has_holder, is_among, members_alike, one_to_one_alike}
-use Rattle.nat_mapping.proofs.Lookups.{by_external, fewer, finds_alike, finds_as, inbound_finds, inbound_in, more, one_to_one_by, port_finds, port_in}
+use Rattle.nat_mapping.proofs.Sets.{set_at, sets_all, sets_back}
+use Rattle.nat_mapping.proofs.Lists.{has_holder, is_among, members_alike, one_to_one-within, one_to_one_alike}
+use Rattle.nat_mapping.proofs.Lookups.{finds_alike, finds_as, inbound_alike, inbound_cons, inbound_finds, inbound_in, one_to_one_by, port_finds, source_alike}
 use Rattle.nat_mapping.proofs.Entries.{counts_of, same_by}
 
 -- ---- entries and mappings
@@ -65,24 +66,29 @@ held_same one other here there same m =
 -- the table `more` has one more holder of the mapping
 pub record HasMore (m : Mapping) (less more : Sources) : Type 0 where
   pub fits : (h : MappedPort) → get same_source less (source_key_of m) ≡ Some h → h.port ≡ m.external.port
-  pub sets : Sets (get same_source less) (get same_source more) (source_key_of m)
-      (Some (one_more m.external.port (get same_source less (source_key_of m))))
+  pub sets : (q : SourceKey) → get same_source more q
+      ≡ cond (same_source (source_key_of m) q) (Some (one_more m.external.port (get same_source less (source_key_of m)))) (get same_source less q)
 
 more_at : (o : Option MappedPort) (port p : ℕ) → ((h : MappedPort) → o ≡ Some h → h.port ≡ port)
     → holders_at (Some (one_more port o)) p ≡ cond (p == port) 1 0 + holders_at o p
 more_at o port p fits = grind (arith, nat_tests, fits)
 
+whole : (h : MappedPort) → 0 < h.holders → one_more h.port (one_fewer h) ≡ h
+whole h some = grind (arith, nat_tests)
+
+pub fewer_live : (h : MappedPort) → IfSome (one_fewer h) (λ x. 0 < x.holders)
+fewer_live h = grind (arith, nat_tests)
+
 -- so has the table before a holder was removed
-pub has_fewer : (m : Mapping) (old new : Sources) (before : MappedPort) (w : Option MappedPort)
-    → Sets (get same_source old) (get same_source new) (source_key_of m) w → get same_source old (source_key_of m) ≡ Some before
-    → before.port ≡ m.external.port → one_more before.port w ≡ before → HasMore m new old
-has_fewer m old new before w sets was port more = record {
-  fits = λ h is. ap (λ (x : MappedPort). x.port) (ap (one_more before.port) (sym (sym sets.at ∙ is)) ∙ more) ∙ port;
-  sets = record {
-    at = was ∙ ap Some (sym more ∙ (λ i. one_more (port i) (sym sets.at i)));
-    off = λ q apart. sym (sets.off q apart);
-  };
-}
+pub has_fewer : (m : Mapping) (old new : Sources) (before : MappedPort)
+    → ((q : SourceKey) → get same_source new q ≡ cond (same_source (source_key_of m) q) (one_fewer before) (get same_source old q))
+    → get same_source old (source_key_of m) ≡ Some before → before.port ≡ m.external.port → 0 < before.holders → HasMore m new old
+has_fewer m old new before sets was port some =
+    let at = set_at same_source source_test _ _ _ _ sets in
+    let more = whole before some in record {
+      fits = λ h is. ap (λ (x : MappedPort). x.port) (ap (one_more before.port) (sym (sym at ∙ is)) ∙ more) ∙ port;
+      sets = sets_back same_source source_test _ _ _ _ sets _ (was ∙ ap Some (sym more ∙ (λ i. one_more (port i) (sym at i))));
+    }
 
 pub more_live : (port : ℕ) (o : Option MappedPort) → 0 < (one_more port o).holders
 more_live port o = grind arith
@@ -119,17 +125,12 @@ PortSet old new key port b = (q : PoolKey) (p : ℕ) → has_pool q.kind ≡ tru
 abbrev pub InboundSet : Inbounds → Inbounds → InboundKey → Option Endpoint → Type 0
 InboundSet old new key w = (q : InboundKey) → get same_inbound new q ≡ cond (same_inbound key q) w (get same_inbound old q)
 
-some_set : (b : Bool) (w o : Option Endpoint) → is_some (cond b w o) ≡ cond b (is_some w) (is_some o)
-some_set b w o = grind arith
-
 -- the taken ports are again those that are mapped
 ports_set : (inbounds inbounds' : Inbounds) (pools pools' : Pools) (key : PoolKey) (port : ℕ) (w : Option Endpoint)
     → ArePorts (get same_inbound inbounds) (taken_in pools) → InboundSet inbounds inbounds' (inbound_at key port) w
     → PortSet pools pools' key port (is_some w) → ArePorts (get same_inbound inbounds') (taken_in pools')
 ports_set inbounds inbounds' pools pools' key port w ports set set_port q p some =
-    let at = inbound_at q p in
-    set_port q p some ∙ ap (λ t. if same_inbound (inbound_at key port) at then is_some w else t) (ports q p some)
-    ∙ sym (ap is_some (set at) ∙ some_set (same_inbound (inbound_at key port) at) w (get same_inbound inbounds at))
+    grind (arith, set_port q p some, ports q p some, set (inbound_at q p))
 
 -- the port by the tables: the one found, else the first free candidate
 abbrev pub source_by : Inbounds → Kind → Endpoint → ℕ → Option CandidateRange → Option MappedPort → Option ℕ
@@ -141,30 +142,21 @@ module _ (sources : Sources) (inbounds : Inbounds) (pools : Pools) (kept : IsCon
   pub one_to_one : IsOneToOne (held_by sources.entries)
   one_to_one = one_to_one_by (held_by sources.entries) _ _ kept.inbound (table_finds sources kept.table)
 
-  module _ (held : List Mapping) (same : HoldsSame held (held_by sources.entries)) where
-    back : SameMembers (held_by sources.entries) held
-    back = members_alike (held_by sources.entries) held (λ m. sym (same m))
+  -- the lookups of the list
+  pub inbound_is : (k : InboundKey) → get same_inbound inbounds k ≡ inbound_in (held_by sources.entries) k
+  inbound_is = finds_alike from_external _ _ _ kept.inbound (inbound_finds (held_by sources.entries) one_to_one)
 
-    one : IsOneToOne held
-    one = one_to_one_alike held (held_by sources.entries) same one_to_one
-
-    -- the lookups of a list with the same mappings
-    pub inbound_is : (k : InboundKey) → get same_inbound inbounds k ≡ inbound_in held k
-    inbound_is = finds_alike from_external held _ _
-        (finds_as from_external (held_by sources.entries) held _ _ back (λ k. refl) kept.inbound) (inbound_finds held one)
-
-    port_is : (k : SourceKey) → port_in held k ≡ port_at sources k
-    port_is = finds_alike from_internal held _ _ (port_finds held one)
-        (finds_as from_internal (held_by sources.entries) held _ _ back (λ k. refl) (table_finds sources kept.table))
-
-    pub source_is : (kind : Kind) (internal : Endpoint) (address : ℕ) (range : Option CandidateRange) (found : Option MappedPort)
-        → get same_source sources (record { kind = kind; internal = internal; address = address }) ≡ found
-        → source_of kind internal address range held ≡ source_by inbounds kind internal address range found
-    source_is kind internal address range found is =
-        (λ i. or_else (port_is (record { kind = kind; internal = internal; address = address }) i)
-        (find (λ p. not (is_some (sym (inbound_is (record { kind = kind; external = record { address = address; port = p } })) i)))
-        (candidates (order_of kind) internal.port range)))
-        ∙ ap (source_by inbounds kind internal address range) is
+  pub source_is : (held : List Mapping) (kind : Kind) (internal : Endpoint) (address : ℕ) (range : Option CandidateRange)
+      (found : Option MappedPort) → HoldsSame held (held_by sources.entries)
+      → get same_source sources (record { kind = kind; internal = internal; address = address }) ≡ found
+      → source_of kind internal address range held ≡ source_by inbounds kind internal address range found
+  source_is held kind internal address range found same is =
+      let port_is = finds_alike from_internal _ _ _ (port_finds (held_by sources.entries) one_to_one) (table_finds sources kept.table) in
+      source_alike held _ same one_to_one kind internal address range
+      ∙ (λ i. or_else (port_is (record { kind = kind; internal = internal; address = address }) i)
+      (find (λ p. not (is_some (sym (inbound_is (record { kind = kind; external = record { address = address; port = p } })) i)))
+      (candidates (order_of kind) internal.port range)))
+      ∙ ap (source_by inbounds kind internal address range) is
 
   pub port_taken : (m : Mapping) → Contains (held_by sources.entries) m → has_pool m.kind ≡ true
       → taken_in pools (pool_key_of m) m.external.port ≡ true
@@ -211,11 +203,10 @@ module _ (sources : Sources) (inbounds : Inbounds) (pools : Pools) (kept : IsCon
           → PortSet pools pools' (pool_key_of m) m.external.port true → IsConsistent sources' inbounds' pools'
       begun same one set set_port = record {
         table = table;
-        inbound = finds_as from_external (m ∷ held_by sources.entries) (held_by sources'.entries) _ _ (members_alike _ _ same) (λ k. refl)
-            (more from_external _ by_external (held_by sources.entries) _ _ (inbound_key_of m) m.internal kept.inbound
-            (λ i also. one.one_internal m (from_external (inbound_key_of m) i) (Contains-head m (held_by sources.entries))
-            (Contains-there m _ (held_by sources.entries) also) refl refl)
-            (sets_by same_inbound inbound_test _ _ (inbound_key_of m) _ set));
+        inbound = finds_as from_external (m ∷ held_by sources.entries) (held_by sources'.entries) _ _ (members_alike _ _ same)
+            (λ q. set q ∙ ap (cond (same_inbound (inbound_key_of m) q) (Some m.internal)) (inbound_is q)
+            ∙ sym (inbound_cons m (held_by sources.entries) q))
+            (inbound_finds (m ∷ held_by sources.entries) one);
         ports = ports_set inbounds inbounds' pools pools' (pool_key_of m) m.external.port (Some m.internal) kept.ports set set_port;
         pooled = pooled;
       }
@@ -224,11 +215,23 @@ module _ (sources : Sources) (inbounds : Inbounds) (pools : Pools) (kept : IsCon
       pub ended : HoldsSame (held_by sources.entries) (m ∷ held_by sources'.entries) → (Contains (held_by sources'.entries) m → ⊥)
           → InboundSet inbounds inbounds' (inbound_key_of m) None
           → PortSet pools pools' (pool_key_of m) m.external.port false → IsConsistent sources' inbounds' pools'
-      ended same absent set set_port = record {
-        table = table;
-        inbound = fewer from_external _ by_external (held_by sources'.entries) _ _ (inbound_key_of m) m.internal
-            (finds_as from_external (held_by sources.entries) (m ∷ held_by sources'.entries) _ _ (members_alike _ _ same) (λ k. refl) kept.inbound)
-            absent (sets_by same_inbound inbound_test _ _ (inbound_key_of m) _ set);
-        ports = ports_set inbounds inbounds' pools pools' (pool_key_of m) m.external.port None kept.ports set set_port;
-        pooled = pooled;
-      }
+      ended same absent set set_port =
+          let left = held_by sources'.entries in
+          let all = one_to_one_alike (m ∷ left) (held_by sources.entries) (λ q. sym (same q)) one_to_one in
+          let finds = inbound_finds left (one_to_one-within left (m ∷ left) (λ n. Contains-there m n left) all) in record {
+            table = table;
+            inbound = finds_as from_external left left _ _ (record { there = λ n x. x; back = λ n x. x })
+                (sets_all same_inbound inbound_test _ _ (inbound_key_of m) None set (λ q o. o ≡ inbound_in left q)
+                (λ q apart. inbound_is q ∙ inbound_alike _ (m ∷ left) same all q.kind q.external ∙ inbound_cons m left q
+                ∙ cond-false _ _ (inbound_in left q) (apart_false same_inbound inbound_test _ q apart))
+                (elim (option_cases (inbound_in left (inbound_key_of m))) [
+                  | inl none ↦ sym none
+                  | inr some ↦
+                      let there = finds.some (inbound_key_of m) some.0 some.1 in
+                      absurd (absent (subst (λ i. Contains left (from_external (inbound_key_of m) i)) (all.one_internal
+                      (from_external (inbound_key_of m) some.0) m (Contains-there m _ left there) (Contains-head m left) refl refl) there))
+                ]))
+                finds;
+            ports = ports_set inbounds inbounds' pools pools' (pool_key_of m) m.external.port None kept.ports set set_port;
+            pooled = pooled;
+          }

@@ -47,12 +47,8 @@ impl Hash for SourceKey {
     ghost respects_eq = { Prim.search (hashing, rules) };
 
     fn hash<H: Hasher>(&self, state: &mut H) {
-        let external = Endpoint {
-            address: self.address,
-            port: 0,
-        };
         state.write_u64(self.internal.hash_word(self.kind));
-        state.write_u64(external.hash_word(self.kind));
+        state.write_u64(without_port(self.address).hash_word(self.kind));
     }
 }
 
@@ -72,12 +68,15 @@ impl Hash for PoolKey {
     ghost respects_eq = { Prim.search (hashing, rules) };
 
     fn hash<H: Hasher>(&self, state: &mut H) {
-        let external = Endpoint {
-            address: self.address,
-            port: 0,
-        };
-        state.write_u64(external.hash_word(self.kind));
+        state.write_u64(without_port(self.address).hash_word(self.kind));
     }
+}
+
+/// An external address, as the endpoint of its port 0.
+pub(crate) fn without_port(address: u32) -> Endpoint
+    ensures { result ≡ record { address = address; port = 0 } }
+{
+    Endpoint { address, port: 0 }
 }
 
 /// The bytes of a hash word tell its kind and endpoint. It does nothing.
@@ -95,14 +94,8 @@ fn source_hashes_differ(one: SourceKey, other: SourceKey)
     ensures { ⟦<SourceKey as Hash>⟧.hash_input one ≡ ⟦<SourceKey as Hash>⟧.hash_input other
         → one ≡ other }
 {
-    let first = Endpoint {
-        address: one.address,
-        port: 0,
-    };
-    let second = Endpoint {
-        address: other.address,
-        port: 0,
-    };
+    let first = without_port(one.address);
+    let second = without_port(other.address);
     word_tells(one.kind, one.internal, other.kind, other.internal);
     word_tells(one.kind, first, other.kind, second);
 }
@@ -120,14 +113,8 @@ fn pool_hashes_differ(one: PoolKey, other: PoolKey)
     ensures { ⟦<PoolKey as Hash>⟧.hash_input one ≡ ⟦<PoolKey as Hash>⟧.hash_input other
         → one ≡ other }
 {
-    let first = Endpoint {
-        address: one.address,
-        port: 0,
-    };
-    let second = Endpoint {
-        address: other.address,
-        port: 0,
-    };
+    let first = without_port(one.address);
+    let second = without_port(other.address);
     word_tells(one.kind, first, other.kind, second);
 }
 

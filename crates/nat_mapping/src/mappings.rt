@@ -12,6 +12,7 @@ ghost use Rattle.nat_mapping.specs.steps.Pooled.{taken_in, IsPooled};
 
 use crate::keys::{
     InboundKey, MappedPort, PoolKey, SourceKey, has_pool, inbound_key, pool_key, source_key,
+    without_port,
 };
 use crate::pools::Pools;
 use crate::tables::{add_holder, find_inbound, insert_inbound, remove_holder, spare_of};
@@ -245,17 +246,11 @@ fn first_free_port(
         return pools.choose(pool, key.internal.port, range);
     }
     // A kind without ports has one mapping for each external address.
-    let external = Endpoint {
-        address: key.address,
-        port: 0,
+    let inbound = InboundKey {
+        kind: key.kind,
+        external: without_port(key.address),
     };
-    match find_inbound(
-        inbounds,
-        InboundKey {
-            kind: key.kind,
-            external,
-        },
-    ) {
+    match find_inbound(inbounds, inbound) {
         Some(_) => None,
         None => Some(0),
     }

@@ -71,10 +71,8 @@ pub(crate) fn remove_holder<K: Eq + Hash + Drop + Copy>(
 ) -> MappedPort
     requires { IsSome (get K.eq sources.old key) }
     ensures before { get K.eq sources.old key ≡ Some result }
-    ensures fewer { 1 < result.holders → (q : K) → get K.eq sources.new q
-        ≡ cond (K.eq key q) (Some (one_fewer result)) (get K.eq sources.old q) }
-    ensures last { result.holders ≤ 1 → (q : K) → get K.eq sources.new q
-        ≡ cond (K.eq key q) None (get K.eq sources.old q) }
+    ensures values { (q : K) → get K.eq sources.new q
+        ≡ cond (K.eq key q) (one_fewer result) (get K.eq sources.old q) }
     ensures spare { spare sources.old ≤ spare sources.new }
     ensures unique { IsUnique K.eq sources.new }
 {

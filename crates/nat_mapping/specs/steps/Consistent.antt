@@ -9,9 +9,9 @@ use Rattle.nat_mapping.specs.declared.keys.InboundKey.{InboundKey}
 use Rattle.nat_mapping.specs.declared.keys.PoolKey.{PoolKey}
 use Rattle.nat_mapping.specs.declared.keys.MappedPort.{MappedPort}
 use Rattle.nat_mapping.specs.declared.pools.Pools.{Pools}
-use Rattle.nat_mapping.specs.Mappings.{holders_of, has_pool}
+use Rattle.nat_mapping.specs.Mappings.{has_pool}
 use Rattle.nat_mapping.specs.steps.KeyTests.{same_inbound, same_source}
-use Rattle.nat_mapping.specs.steps.Keys.{from_external, from_internal, inbound_at, source_key_of}
+use Rattle.nat_mapping.specs.steps.Keys.{from_external, from_internal, inbound_at}
 use Rattle.nat_mapping.specs.steps.Pooled.{taken_in, IsPooled}
 
 abbrev pub Sources : Type 0
@@ -28,11 +28,6 @@ held_by (e ∷ es) = replicate e.1.holders (from_internal e.0 e.1.port) ++ held_
 abbrev pub holders_at : Option MappedPort → ℕ → ℕ
 holders_at None port = 0
 holders_at (Some h) port = if port == h.port then h.holders else 0
-
--- each mapping is in the list as often as the table says
-abbrev pub CountsHolders : (SourceKey → Option MappedPort) → List Mapping → Type 0
-CountsHolders sources held =
-    (m : Mapping) → holders_of m held ≡ holders_at (sources (source_key_of m)) m.external.port
 
 -- the taken ports of a pool are those that are mapped
 abbrev pub ArePorts : (InboundKey → Option Endpoint) → (PoolKey → ℕ → Bool) → Type 0

@@ -1,5 +1,5 @@
 -- The keys of mappings.
-use Rattle.std.specs.Prelude.{ℕ, ◌+◌, ◌-◌, List, ◌++◌, Option, Some, None}
+use Rattle.std.specs.Prelude.{ℕ, ◌+◌, ◌-◌, nat_lt, if◌then◌else◌, List, ◌++◌, Option, Some, None}
 use Rattle.std.specs.Hash as fed
 use Rattle.ip_headers.specs.declared.tuple.Endpoint.{Endpoint}
 use Rattle.ip_headers.specs.declared.tuple.Mapping.{Mapping}
@@ -32,9 +32,10 @@ abbrev pub one_more : ℕ → Option MappedPort → MappedPort
 one_more port None = record { port = port; holders = 1 }
 one_more port (Some mapped) = record { port = mapped.port; holders = mapped.holders + 1 }
 
--- with one holder fewer
-abbrev pub one_fewer : MappedPort → MappedPort
-one_fewer mapped = record { port = mapped.port; holders = mapped.holders - 1 }
+-- with one holder fewer: none, after the last
+abbrev pub one_fewer : MappedPort → Option MappedPort
+one_fewer mapped =
+    if nat_lt 1 mapped.holders then Some (record { port = mapped.port; holders = mapped.holders - 1 }) else None
 
 -- the key of a port of a pool
 abbrev pub inbound_at : PoolKey → ℕ → InboundKey

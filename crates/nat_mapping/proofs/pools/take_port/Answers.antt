@@ -1,18 +1,13 @@
-use Rattle.nat_mapping.proofs.Names.{IfSome, IfSome_at, IsInUse, Some, ap, cond-true, eq-eqb, get, is_some, refl, same_pool, sym, true, ◌==◌, ◌∙◌}
+use Rattle.nat_mapping.proofs.Names.{IfSome, IfSome_at, IsInUse, ap, cond-true, eq-eqb, is_some, refl, same_pool, sym, true, ◌==◌, ◌∙◌}
 use Rattle.nat_mapping.proofs.Equal.{pool_test}
-use Rattle.nat_mapping.proofs.Sets.{Sets, sets_all, sets_by}
-use Rattle.nat_mapping.proofs.pools.take_port.Goals.{After-take}
+use Rattle.nat_mapping.proofs.Sets.{sets_all}
 use Rattle.nat_mapping.proofs.pools.take_port.Goals as goal
-
-sets : (c : After-take) → Sets (get same_pool c.args.pools.now) (get same_pool (c.get_mut.follows.lender c.take.new.self)) c.args.key
-    (Some c.take.new.self)
-sets c = sets_by same_pool pool_test _ _ _ _ ((c.get_mut.follows.holds c.take.new.self).3 (ap is_some (sym c.in-Some.ensures.value))).0
 
 pub returns-in-Some-clause-used : goal.returns-in-Some-clause-used
 returns-in-Some-clause-used c =
     let port = c.args.port in
     let in_use = IfSome_at _ (IsInUse c.args.key) c.in-Some.pool.now (sym c.in-Some.ensures.value) (c.requires.used c.args.key) in
-    sets_all same_pool pool_test _ _ _ _ (sets (goal.at.returns-in-Some-clause-used c).After-take) (λ q o. IfSome o (IsInUse q))
+    sets_all same_pool pool_test _ _ _ _ ((c.get_mut.follows.holds c.take.new.self).3 (ap is_some (sym c.in-Some.ensures.value))).0 (λ q o. IfSome o (IsInUse q))
     (λ q apart. c.requires.used q) (record {
       order = c.take.ensures.order ∙ in_use.order;
       bitmap = in_use.bitmap;

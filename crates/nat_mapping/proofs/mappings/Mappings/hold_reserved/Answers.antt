@@ -1,7 +1,7 @@
 use Rattle.nat_mapping.proofs.Names.{HoldsSame, IfSome, IsOneToOne, IsTable, MappedPort, PoolKey, Some, SourceKey, ap, get, has_pool, held_by, one_more}
 use Rattle.nat_mapping.proofs.Names.{option_map, refl, same_source, source_key_of, subst, sym, taken_in, ◌<◌, ◌∙◌, ◌∷◌, ◌≡◌}
 use Rattle.nat_mapping.proofs.Equal.{source_test}
-use Rattle.nat_mapping.proofs.Sets.{Sets, sets_all, sets_by}
+use Rattle.nat_mapping.proofs.Sets.{sets_all}
 use Rattle.nat_mapping.proofs.Represented.{HasMore, begun, few_holders, grown, held_more, more_live, own_port, port_at, port_free}
 use Rattle.nat_mapping.proofs.mappings.Mappings.hold_reserved.Goals.{After-add_holder}
 use Rattle.nat_mapping.proofs.mappings.Mappings.hold_reserved.Goals as goal
@@ -17,9 +17,7 @@ module _ (c : After-add_holder) where
   has : HasMore c.args.m c.self.inside.sources c.add_holder.new.sources
   has = record {
     fits = own_port _ c.self.invariant.table c.args.m stays;
-    sets = subst (λ o. Sets (get same_source c.self.inside.sources) (get same_source c.add_holder.new.sources) (source_key_of c.args.m)
-        (Some (one_more c.args.m.external.port o))) (sym before)
-        (sets_by same_source source_test _ _ _ _ (rw c.source_key.ensures at c.add_holder.ensures.values));
+    sets = rw (c.source_key.ensures, ← before) at c.add_holder.ensures.values;
   }
 
   table : IsTable c.add_holder.new.sources

@@ -1,4 +1,4 @@
-use Rattle.nat_mapping.proofs.Names.{Err, HoldsSame, IfOk, List, MapError, Mapping, NoPort, None, Option, Result, Some, none-some, ok_or, refl, source_of}
+use Rattle.nat_mapping.proofs.Names.{Err, HoldsSame, IfOk, List, MapError, Mapping, NoPort, None, Option, Result, Some, none-some, ok_or, refl}
 use Rattle.nat_mapping.proofs.Names.{subst, sym, ℕ, ◌↔◌, ◌∙◌, ◌≡◌}
 use Rattle.nat_mapping.proofs.Represented.{source_is}
 use Rattle.nat_mapping.proofs.mappings.Mappings.source.Goals as goal
@@ -13,15 +13,14 @@ answered (Some port) want is = (is, (λ e. absurd (cc), λ none. absurd (none-so
 
 pub returns-in-Some : goal.returns-in-Some
 returns-in-Some c =
-    let both = λ (held : List Mapping) (same : HoldsSame held c.args.self.now.held).
-    answered _ (source_of c.args.kind c.args.internal c.args.address c.args.range held)
-    (source_is _ _ _ c.self.invariant held (rw (← c.self.view_is) at same) _ _ _ _ _ (sym c.in-Some.ensures.value)) in
+    let both = λ (held : List Mapping) (same : HoldsSame held c.args.self.now.held). answered _ _
+    (source_is _ _ _ c.self.invariant held c.args.kind c.args.internal c.args.address c.args.range _ (rw (← c.self.view_is) at same)
+    (sym c.in-Some.ensures.value)) in
     record { ok = λ held same. (both held same).0; no_port = λ held same. (both held same).1 }
 
 pub returns-in-None : goal.returns-in-None
 returns-in-None c =
-    let both = λ (held : List Mapping) (same : HoldsSame held c.args.self.now.held).
-    subst (Answers (source_of c.args.kind c.args.internal c.args.address c.args.range held)) (sym c.ok_or.ensures.value)
-    (answered c.first_free_port.result _ (source_is _ _ _ c.self.invariant held (rw (← c.self.view_is) at same) _ _ _ _ _
+    let both = λ (held : List Mapping) (same : HoldsSame held c.args.self.now.held). subst (Answers _) (sym c.ok_or.ensures.value) (answered _ _
+    (source_is _ _ _ c.self.invariant held c.args.kind c.args.internal c.args.address c.args.range _ (rw (← c.self.view_is) at same)
     (sym c.in-None.ensures.value) ∙ sym c.first_free_port.ensures)) in
     record { ok = λ held same. (both held same).0; no_port = λ held same. (both held same).1 }
