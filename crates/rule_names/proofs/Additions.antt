@@ -1,26 +1,24 @@
 -- One more item in a table.
-use Rattle.std.proofs.Common.{◌≡◌, ℕ, ◌+◌, ◌<◌, List, [], ◌∷◌, ◌++◌, Bool, true, false, length, get_or, map, take}
-use Rattle.std.proofs.Common.{drop, sym, ap, ap₂, ◌∙◌, subst, inl, inr, ⊎_elim}
-use Rattle.std.specs.Borrow.{Bor}
+use Rattle.rule_names.proofs.Names.{Bool, Bor, HasDuplicate, IsAdded, List, Text, [], ap, ap₂, false, get_or, inr, item_tree, length, map, map-append}
+use Rattle.rule_names.proofs.Names.{map-more, subst, sym, take, true, ℕ, ⊎_elim, ◌++◌, ◌+◌, ◌<◌, ◌∙◌, ◌∷◌, ◌≡◌}
+use Rattle.std.proofs.Common.{drop, inl}
 use Rattle.std.specs.List.{filter_map}
-use Rattle.std.proofs.lemmas.List.{map-append, append-nil}
+use Rattle.std.proofs.lemmas.List.{append-nil}
 use Rattle.std.proofs.lemmas.List.Elements.{filter_map-append}
-use Rattle.list_laws.specs.Lists.{map-more}
 use Rattle.nft_tree.specs.declared.chain.Chain.{Chain}
 use Rattle.nft_tree.specs.declared.set.SetDecl.{SetDecl}
 use Rattle.nft_tree.specs.declared.set.MapDecl.{MapDecl}
 use Rattle.nft_tree.specs.declared.ruleset.Item.{Item}
-use Rattle.nft_tree.specs.Tree as tree
-use Rattle.nft_tree.specs.Tree.{Text, ItemTree, chain_tree, set_tree, map_tree, item_tree}
+use Rattle.nft_tree.specs.Tree.{ItemTree, chain_tree, map_tree, set_tree}
 use Rattle.nft_tree.specs.TableItems.{chain_in}
 use Rattle.rule_names.specs.declared.table.Named.{Named}
 use Rattle.rule_names.specs.declared.table.NamedItems.{NamedItems}
-use Rattle.rule_names.specs.Names.{HasDuplicate, set_or_map_name}
-use Rattle.rule_names.specs.steps.Index.{IsAdded}
-use Rattle.rule_names.specs.steps.Table.{AreNamed, Represents, RepresentsOrHasDuplicate, HasDuplicateIn}
-use Rattle.rule_names.proofs.Items.{sets-repeat, maps-repeat}
+use Rattle.rule_names.specs.Names.{set_or_map_name}
+use Rattle.rule_names.specs.steps.Table.{AreNamed, HasDuplicateIn, Represents, RepresentsOrHasDuplicate}
+use Rattle.rule_names.proofs.Items.{maps-repeat, sets-repeat}
 use Rattle.rule_names.proofs.Lists.{map-around}
 use Rattle.rule_names.proofs.Duplicates.{repeats-on}
+use Rattle.nft_tree.specs.Tree as tree
 
 -- a list with a duplicate has one when it is longer
 pub repeats-in-on : (items more : List ItemTree) → HasDuplicateIn items → HasDuplicateIn (items ++ more)

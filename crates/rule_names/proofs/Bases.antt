@@ -1,14 +1,12 @@
 -- Looking up a base chain.
-use Rattle.std.proofs.Common.{◌≡◌, List, [], ◌∷◌, Bool, true, false, ◌||◌, ◌&&◌, cond, Option, Some, None, map, sym, refl, ap, ◌∙◌, subst, ⊎_elim, arith}
+use Rattle.rule_names.proofs.Names.{Bool, HasDuplicate, List, None, Option, Some, Text, [], ap, arith, bytes_eq, cond, false, list_any, map, option_map, refl}
+use Rattle.rule_names.proofs.Names.{subst, sym, true, ⊎_elim, ◌||◌, ◌∙◌, ◌∷◌, ◌≡◌}
+use Rattle.std.proofs.Common.{◌&&◌}
 use Rattle.std.specs.Prelude.{is_some}
-use Rattle.std.specs.List.{list_any}
-use Rattle.std.specs.Option.{option_map}
-use Rattle.std.specs.Str.{bytes_eq}
 use Rattle.std.specs.Cmp.Lexicographic.{same_text}
-use Rattle.std.proofs.lemmas.Bool.{or_cases, false_from_ne_true}
+use Rattle.std.proofs.lemmas.Bool.{false_from_ne_true, or_cases}
 use Rattle.std.proofs.Math.Bool.{or-false}
-use Rattle.nft_tree.specs.Tree.{Text, ChainTree}
-use Rattle.rule_names.specs.Names.{HasDuplicate}
+use Rattle.nft_tree.specs.Tree.{ChainTree}
 use Rattle.rule_names.proofs.Duplicates.{Among, among-more, repeats-here, repeats-more}
 use Rattle.rule_names.proofs.IndexLookup.{first_named}
 

@@ -1,13 +1,11 @@
 -- Whether some name is declared twice is decidable.
-use Rattle.std.proofs.Common.{◌≡◌, ◌⊎◌, List, [], ◌∷◌, Bool, true, false, refl, inl, inr, ⊎_elim, Contains}
-use Rattle.std.specs.List.{list_any}
-use Rattle.std.specs.Str.{bytes_eq}
+use Rattle.rule_names.proofs.Names.{Bool, HasDuplicate, List, TableTree, Text, [], bytes_eq, false, inr, list_any, refl, table_names, true, ⊎_elim, ◌∷◌, ◌≡◌}
+use Rattle.std.proofs.Common.{Contains, inl, ◌⊎◌}
 use Rattle.nft_tree.specs.declared.ruleset.Family.{Family}
-use Rattle.nft_tree.specs.declared.ruleset.Family.TheVariants as families
-use Rattle.nft_tree.specs.Tree.{Text, TableTree}
-use Rattle.rule_names.specs.Names.{HasDuplicate, DuplicateName, two_tables, two_chains, two_sets_or_maps, table_names, chain_names, set_and_map_names}
+use Rattle.rule_names.specs.Names.{DuplicateName, chain_names, set_and_map_names, two_chains, two_sets_or_maps, two_tables}
 use Rattle.rule_names.proofs.Duplicates.{Among, any-named, named-any, repeats-here, repeats-more, repeats-none, repeats-split}
-use Rattle.list_laws.specs.Decisions.{Decided, some_decided, decided_as, either_decided}
+use Rattle.list_laws.specs.Decisions.{Decided, decided_as, either_decided, some_decided}
+use Rattle.nft_tree.specs.declared.ruleset.Family.TheVariants as families
 
 by_test : (names : List Text) (name : Text) (stands : Bool) → list_any (bytes_eq name) names ≡ stands → Decided (Among names name)
 by_test names name true t = inl (any-named names name t)

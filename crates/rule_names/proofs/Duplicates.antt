@@ -1,17 +1,13 @@
 -- Duplicate names in lists.
-use Rattle.std.proofs.Common.{◌≡◌, ◌⊎◌, ℕ, zero, suc, ◌<◌, List, [], ◌∷◌, ◌++◌, Bool, true, false, ◌||◌, not, length}
-use Rattle.std.proofs.Common.{get_or, sym, refl, ap, ◌∙◌, inl, inr, ⊎_elim, subst, arith}
+use Rattle.rule_names.proofs.Names.{Bool, Bor, HasDuplicate, IsAdded, List, Text, [], any_of_map, ap, arith, bytes_eq, false, get_or, inr, length, list_any}
+use Rattle.rule_names.proofs.Names.{map-append, refl, subst, sym, true, ℕ, ⊎_elim, ◌++◌, ◌<◌, ◌||◌, ◌∙◌, ◌∷◌, ◌≡◌}
+use Rattle.std.proofs.Common.{inl, not, suc, zero, ◌⊎◌}
 use Rattle.std.specs.Prelude.{if◌then◌else◌}
-use Rattle.std.specs.Borrow.{Bor}
-use Rattle.std.specs.List.{list_any}
 use Rattle.std.specs.Cmp.Lexicographic.{same_text}
-use Rattle.std.specs.Str.{bytes_eq}
-use Rattle.std.proofs.lemmas.Bool.{cases_lt, or_right, or_cases}
-use Rattle.std.proofs.lemmas.List.{get_or_append_left, get_or_push, length-append, length_push, map-append}
-use Rattle.list_laws.specs.Lists.{any_of_map, text-refl}
-use Rattle.nft_tree.specs.Tree.{Text}
-use Rattle.rule_names.specs.Names.{HasDuplicate}
-use Rattle.rule_names.specs.steps.Index.{IsAdded, texts}
+use Rattle.std.proofs.lemmas.Bool.{cases_lt, or_cases, or_right}
+use Rattle.std.proofs.lemmas.List.{get_or_append_left, get_or_push, length-append, length_push}
+use Rattle.list_laws.specs.Lists.{text-refl}
+use Rattle.rule_names.specs.steps.Index.{texts}
 use Rattle.rule_names.proofs.Texts.{named}
 
 -- the list contains the name

@@ -1,13 +1,10 @@
 -- The element at the index of a name.
-use Rattle.std.proofs.Common.{◌≡◌, ℕ, ◌<◌, ◌≤◌, suc, List, [], ◌∷◌, Bool, true, false, ◌||◌, cond, Option, Some, None}
-use Rattle.std.proofs.Common.{length, get_or, map, sym, refl, ap, ap₂, ◌∙◌}
-use Rattle.std.specs.Prelude.{find, slice_get, is_some, IfSome, MatchOption}
-use Rattle.std.specs.Borrow.{Bor}
-use Rattle.std.specs.List.{list_any}
-use Rattle.std.specs.Option.{option_map, option_copied}
-use Rattle.std.specs.Str.{bytes_eq}
+use Rattle.rule_names.proofs.Names.{Bool, Bor, List, MatchOption, None, Option, Some, Text, [], ap, ap₂, bytes_eq, cond, false, get_or, length, list_any, map}
+use Rattle.rule_names.proofs.Names.{option_map, refl, sym, true, ℕ, ◌<◌, ◌||◌, ◌∙◌, ◌∷◌, ◌≡◌}
+use Rattle.std.proofs.Common.{suc, ◌≤◌}
+use Rattle.std.specs.Prelude.{IfSome, find, is_some, slice_get}
+use Rattle.std.specs.Option.{option_copied}
 use Rattle.std.proofs.lemmas.Option.{slice_get-map, slice_get_past, slice_get_read}
-use Rattle.nft_tree.specs.Tree.{Text}
 use Rattle.rule_names.specs.Names.{index_in}
 use Rattle.rule_names.specs.steps.Index.{at_index}
 use Rattle.rule_names.proofs.Texts.{text-sym}

@@ -1,11 +1,11 @@
 -- A duplicate set or a duplicate map is a duplicate among sets and maps.
-use Rattle.std.proofs.Common.{List, [], ◌∷◌, map, sym, subst, ⊎_elim}
+use Rattle.rule_names.proofs.Names.{HasDuplicate, List, Text, [], map, subst, sym, ⊎_elim, ◌∷◌}
 use Rattle.std.specs.List.{filter_map}
-use Rattle.nft_tree.specs.Tree as tree
-use Rattle.nft_tree.specs.Tree.{Text, ItemTree}
-use Rattle.nft_tree.specs.TableItems.{set_in, map_in}
-use Rattle.rule_names.specs.Names.{HasDuplicate, set_or_map_name}
+use Rattle.nft_tree.specs.Tree.{ItemTree}
+use Rattle.nft_tree.specs.TableItems.{map_in, set_in}
+use Rattle.rule_names.specs.Names.{set_or_map_name}
 use Rattle.rule_names.proofs.Duplicates.{Among, among-here, among-more, among-split, repeats-here, repeats-more, repeats-split}
+use Rattle.nft_tree.specs.Tree as tree
 
 -- the names of sets, of maps and of both among these items
 abbrev pub of_sets : List ItemTree → List Text

@@ -1,3 +1,4 @@
+mod Names
 pub mod Texts
 pub mod Duplicates
 pub mod Lists

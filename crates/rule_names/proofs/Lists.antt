@@ -1,9 +1,9 @@
 -- Lists that are read one item at a time.
-use Rattle.std.proofs.Common.{◌≡◌, ℕ, ◌+◌, ◌<◌, List, [], ◌∷◌, ◌++◌, length, get_or, map, take, drop, sym, ap, ◌∙◌, arith}
+use Rattle.rule_names.proofs.Names.{List, [], ap, arith, get_or, length, map, map-append, map-more, sym, take, ℕ, ◌++◌, ◌+◌, ◌<◌, ◌∙◌, ◌∷◌, ◌≡◌}
+use Rattle.std.proofs.Common.{drop}
 use Rattle.std.specs.Prelude.{Contains}
-use Rattle.std.proofs.lemmas.List.{length-map, map-append, take-append-drop}
+use Rattle.std.proofs.lemmas.List.{length-map, take-append-drop}
 use Rattle.std.proofs.Math.ListN.{get_or-map}
-use Rattle.list_laws.specs.Lists.{map-more}
 
 pub Contains-map : {X Y : Type 0} (h : X → Y) (xs : List X) (i : ℕ) (x : X) → i < length xs → x ≡ get_or xs i x → Contains (map h xs) (h x)
 Contains-map h xs i x l e = let n = length-map xs h in (i, omega arith, get_or-map h xs i x ∙ ap h (sym e))

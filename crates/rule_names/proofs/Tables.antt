@@ -1,20 +1,20 @@
 -- Duplicate names in a ruleset.
-use Rattle.std.proofs.Common.{◌≡◌, ℕ, ◌+◌, ◌<◌, Bool, true, false, List, [], ◌∷◌, ◌++◌, cond, length, get_or, map}
-use Rattle.std.proofs.Common.{take, drop, Option, Some, None, Result, Ok, Err, refl, sym, ap, ◌∙◌, subst, ⊎_elim}
+use Rattle.rule_names.proofs.Names.{All, Bool, HasDuplicate, HasUniqueNames, List, MatchOption, None, Option, Some, TableTree, [], ap, cond, false, get_or}
+use Rattle.rule_names.proofs.Names.{length, map, map-append, map-more, refl, subst, sym, table_names, table_tree, take, true, ℕ, ⊎_elim, ◌++◌, ◌+◌, ◌<◌, ◌∙◌}
+use Rattle.rule_names.proofs.Names.{◌∷◌, ◌≡◌}
+use Rattle.std.proofs.Common.{Err, Ok, Result, drop}
 use denote.Enum.Bare.{sameb}
-use Rattle.std.specs.Prelude.{All, IsTrue, IfOk, IfSome, MatchOption}
+use Rattle.std.specs.Prelude.{IfOk, IfSome, IsTrue}
 use Rattle.std.proofs.lemmas.List.Elements.{All-contains, filter-append}
-use Rattle.std.proofs.lemmas.List.{append-nil, map-append}
-use Rattle.list_laws.specs.Lists.{map-more}
+use Rattle.std.proofs.lemmas.List.{append-nil}
 use Rattle.nft_tree.specs.contracts.ruleset.Family.{the_type}
 use Rattle.nft_tree.specs.declared.ruleset.Family.{Family}
-use Rattle.nft_tree.specs.declared.ruleset.Family.TheVariants as families
 use Rattle.nft_tree.specs.declared.ruleset.Table.{Table}
-use Rattle.nft_tree.specs.Tree.{TableTree, table_tree}
-use Rattle.rule_names.specs.Names.{DuplicateName, two_tables, two_chains, two_sets_or_maps, HasDuplicate, same_family, table_names}
-use Rattle.rule_names.specs.steps.Table.{HasUniqueNames, SomeTableHasDuplicate}
+use Rattle.rule_names.specs.Names.{DuplicateName, same_family, two_chains, two_sets_or_maps, two_tables}
+use Rattle.rule_names.specs.steps.Table.{SomeTableHasDuplicate}
 use Rattle.rule_names.proofs.Lists.{map-around}
 use Rattle.rule_names.proofs.Duplicates.{repeats-on}
+use Rattle.nft_tree.specs.declared.ruleset.Family.TheVariants as families
 
 pub is-not-true : (b : Bool) → b ≡ false → IsTrue b → ⊥
 is-not-true b e h = let q : true ≡ false = sym h ∙ e in cc

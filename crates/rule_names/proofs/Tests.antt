@@ -1,10 +1,9 @@
 -- `any` over lists of lists.
-use Rattle.std.proofs.Common.{◌≡◌, Bool, true, false, ◌||◌, List, [], ◌∷◌, Option, Some, None, sym, refl, ap, ◌∙◌}
+use Rattle.rule_names.proofs.Names.{Bool, List, None, Option, Some, Text, [], ap, false, list_any, refl, sym, true, ◌||◌, ◌∙◌, ◌∷◌, ◌≡◌}
 use Rattle.std.specs.Prelude.{flat_map}
-use Rattle.std.specs.List.{list_any, filter_map, cons_option}
+use Rattle.std.specs.List.{cons_option, filter_map}
 use Rattle.std.proofs.lemmas.List.Folds.{list_any-append}
 use Rattle.rule_names.specs.Names.{one_or_none}
-use Rattle.nft_tree.specs.Tree.{Text}
 
 pub any-flat : {X Y : Type 0} (p : Y → Bool) (f : X → List Y) (xs : List X) → list_any (λ x. list_any p (f x)) xs ≡ list_any p (flat_map f xs)
 any-flat p f [] = refl

@@ -1,15 +1,13 @@
 -- Equal names, and indices of names.
-use Rattle.std.proofs.Common.{◌≡◌, ℕ, suc, ◌+◌, List, [], ◌∷◌, Bool, true, false, cond, Option, Some, None, sym, refl, ap, ◌∙◌, arith}
-use Rattle.std.specs.Prelude.{position, nat_eq}
-use Rattle.std.specs.Borrow.{Bor}
+use Rattle.rule_names.proofs.Names.{Bool, Bor, List, None, Option, Some, Text, [], ap, arith, bytes_eq, cond, false, option_map, refl, sym, true, ℕ, ◌+◌, ◌∙◌}
+use Rattle.rule_names.proofs.Names.{◌∷◌, ◌≡◌}
+use Rattle.std.proofs.Common.{suc}
+use Rattle.std.specs.Prelude.{nat_eq, position}
 use Rattle.std.specs.List.{position_from}
-use Rattle.std.specs.Option.{option_map}
 use Rattle.std.specs.Cmp.Lexicographic.{pointwise, same_text}
-use Rattle.std.specs.Str.{bytes_eq}
 use Rattle.std.proofs.lemmas.Iterator.Adapters.{position_from-zero}
 use Rattle.list_laws.specs.Tests.{same-tests}
 use Rattle.list_laws.specs.Lists.{text-refl}
-use Rattle.nft_tree.specs.Tree.{Text}
 use Rattle.rule_names.specs.Names.{index_in}
 use Rattle.rule_names.specs.steps.Index.{texts}
 

@@ -1,9 +1,7 @@
-use Rattle.std.proofs.Common.{◌∙◌, ◌++◌, ◌∷◌, [], refl, sym, subst, ap₂, arith}
-use Rattle.rule_names.specs.Names.{HasDuplicate}
-use Rattle.rule_names.specs.steps.Index.{IsAdded}
-use Rattle.rule_names.proofs.Tables.{same-family, names-more, names-same, names-duplicate}
+use Rattle.rule_names.proofs.Names.{HasDuplicate, IsAdded, [], ap₂, arith, refl, subst, sym, ◌++◌, ◌∙◌, ◌∷◌}
+use Rattle.rule_names.proofs.Tables.{names-duplicate, names-more, names-same, same-family}
+use Rattle.rule_names.proofs.table.has_duplicate_table.Goals.{else-eq, then-eq+in_ok-add+else-not-branch}
 use Rattle.rule_names.proofs.table.has_duplicate_table.Goals as goal
-use Rattle.rule_names.proofs.table.has_duplicate_table.Goals.{then-eq+in_ok-add+else-not-branch, else-eq}
 
 pub returns-then-not-branch : goal.returns-then-not-branch
 returns-then-not-branch c =

@@ -1,6 +1,4 @@
-use Rattle.std.proofs.Common.{◌≡◌, map, take}
-use Rattle.nft_tree.specs.Tree.{table_tree}
-use Rattle.rule_names.specs.Names.{HasDuplicate, table_names}
+use Rattle.rule_names.proofs.Names.{HasDuplicate, map, table_names, table_tree, take, ◌≡◌}
 use Rattle.rule_names.proofs.table.has_duplicate_table.Given as goal
 
 -- the names of the tables so far, which are distinct

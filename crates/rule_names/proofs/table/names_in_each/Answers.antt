@@ -1,10 +1,8 @@
-use Rattle.std.proofs.Common.{◌≡◌, ◌∙◌, ◌++◌, ◌∷◌, [], ap₂, sym, subst, arith}
-use Rattle.std.specs.Prelude.{All, IfSome, MatchOption}
+use Rattle.rule_names.proofs.Names.{All, HasUniqueNames, MatchOption, TableTree, [], ap₂, arith, map-more, subst, sym, table_tree, ◌++◌, ◌∙◌, ◌∷◌, ◌≡◌}
+use Rattle.std.specs.Prelude.{IfSome}
 use Rattle.std.proofs.lemmas.Option.{MatchOption-at_none}
 use Rattle.std.proofs.lemmas.List.Elements.{All-push}
-use Rattle.list_laws.specs.Lists.{map-more}
-use Rattle.nft_tree.specs.Tree.{TableTree, table_tree}
-use Rattle.rule_names.specs.steps.Table.{HasUniqueNames, HasDuplicateIn}
+use Rattle.rule_names.specs.steps.Table.{HasDuplicateIn}
 use Rattle.rule_names.proofs.Lists.{Contains-map}
 use Rattle.rule_names.proofs.table.names_in_each.Goals as goal
 

@@ -1,7 +1,4 @@
-use Rattle.std.proofs.Common.{◌≡◌, map, take}
-use Rattle.std.specs.Prelude.{All}
-use Rattle.nft_tree.specs.Tree.{table_tree}
-use Rattle.rule_names.specs.steps.Table.{HasUniqueNames}
+use Rattle.rule_names.proofs.Names.{All, HasUniqueNames, map, table_tree, take, ◌≡◌}
 use Rattle.rule_names.proofs.table.names_in_each.Given as goal
 
 -- the tables so far

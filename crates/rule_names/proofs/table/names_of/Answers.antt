@@ -1,10 +1,11 @@
-use Rattle.std.proofs.Common.{◌≡◌, ◌∙◌, ap, map, subst, Vec, Global}
-use Rattle.std.specs.Prelude.{All, IfOk, MatchOption}
+use Rattle.rule_names.proofs.Names.{All, HasDuplicate, HasUniqueNames, MatchOption, TableTree, ap, map, subst, table_names, table_tree, ◌∙◌, ◌≡◌}
+use Rattle.std.proofs.Common.{Global, Vec}
+use Rattle.std.specs.Prelude.{IfOk}
+use Rattle.nft_tree.specs.Tree.{tables_of}
+use Rattle.rule_names.specs.Names.{DuplicateName, two_tables}
+use Rattle.rule_names.specs.steps.Table.{SomeTableHasDuplicate}
+use Rattle.rule_names.proofs.Tables.{is-not-true, none-duplicate, ok-none, ok-some, some-duplicate}
 use Rattle.nft_tree.specs.declared.ruleset.Family.TheVariants as families
-use Rattle.nft_tree.specs.Tree.{TableTree, table_tree, tables_of}
-use Rattle.rule_names.specs.Names.{DuplicateName, two_tables, HasDuplicate, table_names}
-use Rattle.rule_names.specs.steps.Table.{HasUniqueNames, SomeTableHasDuplicate}
-use Rattle.rule_names.proofs.Tables.{is-not-true, some-duplicate, none-duplicate, ok-none, ok-some}
 use Rattle.rule_names.proofs.table.names_of.Goals as goal
 
 pub returns-then-branch-clause-names : goal.returns-then-branch-clause-names

@@ -1,7 +1,4 @@
-use Rattle.std.proofs.Common.{ap, ◌∙◌}
-use Rattle.std.specs.List.{list_any}
-use Rattle.std.specs.Str.{bytes_eq}
-use Rattle.list_laws.specs.Lists.{any_of_map}
+use Rattle.rule_names.proofs.Names.{any_of_map, ap, bytes_eq, list_any, ◌∙◌}
 use Rattle.rule_names.proofs.index.NameIndex.contains.Goals as goal
 
 pub returns : goal.returns

@@ -1,4 +1,4 @@
-use Rattle.std.proofs.Common.{ap, ◌∙◌}
+use Rattle.rule_names.proofs.Names.{ap, ◌∙◌}
 use Rattle.rule_names.specs.Names.{index_in}
 use Rattle.rule_names.proofs.Texts.{position-index}
 use Rattle.rule_names.proofs.index.NameIndex.index.Goals as goal

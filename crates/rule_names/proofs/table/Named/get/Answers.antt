@@ -1,4 +1,4 @@
-use Rattle.std.proofs.Common.{◌∙◌, ap, sym}
+use Rattle.rule_names.proofs.Names.{ap, sym, ◌∙◌}
 use Rattle.std.specs.Prelude.{slice_get}
 use Rattle.rule_names.specs.steps.Index.{at_index}
 use Rattle.rule_names.proofs.IndexLookup.{read-copied}

@@ -1,8 +1,7 @@
-use Rattle.std.proofs.Common.{inr, subst}
+use Rattle.rule_names.proofs.Names.{IsAdded, inr, subst}
 use Rattle.std.proofs.lemmas.Result.{IfOk-weaker}
 use Rattle.std.proofs.lemmas.List.Elements.{filter_map-append}
-use Rattle.rule_names.specs.steps.Index.{IsAdded}
-use Rattle.rule_names.proofs.Additions.{comment-added, chain-added, set-added, map-added, shared-duplicate}
+use Rattle.rule_names.proofs.Additions.{chain-added, comment-added, map-added, set-added, shared-duplicate}
 use Rattle.rule_names.proofs.table.NamedItems.add.Goals as goal
 
 pub returns-then-not-branch : goal.returns-then-not-branch

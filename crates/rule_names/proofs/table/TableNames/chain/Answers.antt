@@ -1,5 +1,4 @@
-use Rattle.std.proofs.Common.{◌∙◌, ap}
-use Rattle.std.specs.Option.{option_map}
+use Rattle.rule_names.proofs.Names.{ap, option_map, ◌∙◌}
 use Rattle.nft_tree.specs.Tree.{chain_tree}
 use Rattle.rule_names.specs.Names.{chain_named}
 use Rattle.rule_names.proofs.IndexLookup.{looked}

@@ -1,8 +1,5 @@
-use Rattle.std.proofs.Common.{◌∙◌, ap}
+use Rattle.rule_names.proofs.Names.{ap, bytes_eq, list_any, table_tree, ◌∙◌}
 use Rattle.std.specs.Prelude.{is_some}
-use Rattle.std.specs.List.{list_any}
-use Rattle.std.specs.Str.{bytes_eq}
-use Rattle.nft_tree.specs.Tree.{table_tree}
 use Rattle.nft_tree.specs.TableItems.{chains_of}
 use Rattle.rule_names.specs.Names.{chain_named}
 use Rattle.rule_names.proofs.IndexLookup.{any-found}

@@ -1,5 +1,4 @@
-use Rattle.std.proofs.Common.{◌∙◌, ap}
-use Rattle.std.specs.Option.{option_map}
+use Rattle.rule_names.proofs.Names.{ap, option_map, ◌∙◌}
 use Rattle.nft_tree.specs.Tree.{map_tree}
 use Rattle.rule_names.specs.Names.{map_named}
 use Rattle.rule_names.proofs.IndexLookup.{looked}

@@ -1,9 +1,8 @@
-use Rattle.std.proofs.Common.{◌∙◌, List, ap, arith, get_or, length, map, subst}
+use Rattle.rule_names.proofs.Names.{List, ap, arith, get_or, item_tree, length, map, subst, ◌∙◌}
 use Rattle.std.proofs.lemmas.List.{take_all}
 use Rattle.nft_tree.specs.declared.ruleset.Item.{Item}
-use Rattle.nft_tree.specs.Tree.{item_tree}
 use Rattle.rule_names.specs.steps.Table.{Represents}
-use Rattle.rule_names.proofs.Additions.{item-held, item-duplicate}
+use Rattle.rule_names.proofs.Additions.{item-duplicate, item-held}
 use Rattle.rule_names.proofs.table.TableNames.new.Goals as goal
 
 pub returns-then-not-branch-clause-is : goal.returns-then-not-branch-clause-is

@@ -1,5 +1,4 @@
-use Rattle.std.proofs.Common.{map, take}
-use Rattle.nft_tree.specs.Tree.{item_tree}
+use Rattle.rule_names.proofs.Names.{item_tree, map, take}
 use Rattle.rule_names.specs.steps.Table.{Represents}
 use Rattle.rule_names.proofs.table.TableNames.new.Given as goal
 

@@ -1,11 +1,5 @@
-use Rattle.std.proofs.Common.{rules, tests, ◌∙◌, ap, map}
-use Rattle.std.specs.List.{list_any}
-use Rattle.std.proofs.lemmas.Iterator.{YieldsList-from_slice}
-use Rattle.std.proofs.lemmas.Iterator.Search.{any_from_yields_List}
-use Rattle.list_laws.specs.Lists.{any_of_map}
-use Rattle.nft_tree.specs.Tree.{item_tree}
+use Rattle.rule_names.proofs.Names.{YieldsList-from_slice, any_from_yields_List, any_of_map, ap, item_tree, list_any, map, passes, rules, tests, ◌∙◌}
 use Rattle.rule_names.specs.Names.{item_targets, targets_of}
-use Rattle.rule_names.specs.steps.TargetTests.{passes}
 use Rattle.rule_names.proofs.Tests.{any-flat}
 use Rattle.rule_names.proofs.targets.TargetTest.of_table.Goals as goal
 

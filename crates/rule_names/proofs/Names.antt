@@ -1,0 +1,17 @@
+-- Names of other crates and of the definitions, for the proofs.
+pub use Rattle.list_laws.specs.Lists.{any_of_map, map-more}
+pub use Rattle.nft_tree.specs.Tree.{TableTree, Text, item_tree, table_tree}
+pub use Rattle.rule_names.specs.Names.{HasDuplicate, table_names}
+pub use Rattle.rule_names.specs.steps.Index.{IsAdded}
+pub use Rattle.rule_names.specs.steps.Table.{HasUniqueNames}
+pub use Rattle.rule_names.specs.steps.TargetTests.{passes}
+pub use Rattle.std.proofs.Common.{Bool, List, None, Option, Some, [], ap, ap₂, arith, cond, false, get_or, inr, length, map, refl, rules, subst, sym, take}
+pub use Rattle.std.proofs.Common.{tests, true, ℕ, ⊎_elim, ◌++◌, ◌+◌, ◌<◌, ◌||◌, ◌∙◌, ◌∷◌, ◌≡◌}
+pub use Rattle.std.proofs.lemmas.Iterator.{YieldsList-from_slice}
+pub use Rattle.std.proofs.lemmas.Iterator.Search.{any_from_yields_List}
+pub use Rattle.std.proofs.lemmas.List.{map-append}
+pub use Rattle.std.specs.Borrow.{Bor}
+pub use Rattle.std.specs.List.{list_any}
+pub use Rattle.std.specs.Option.{option_map}
+pub use Rattle.std.specs.Prelude.{All, MatchOption}
+pub use Rattle.std.specs.Str.{bytes_eq}
