@@ -1,9 +1,8 @@
 -- Paths of calls, and paths of their targets.
-use Rattle.std.proofs.Common.{ℕ, List, [], ◌∷◌, sym, subst, ◌∙◌, map}
-use Rattle.chain_graph.specs.Graph.{Call, IsPath, HasCycle}
-use Rattle.chain_graph.specs.Nodes.{Graph, Calls, targets_of}
-use Rattle.chain_graph.specs.steps.Targets.{IsTargetPath, HasTargetCycle}
-use Rattle.chain_graph.proofs.NodeLaws.{edge-of, call-of}
+use Rattle.chain_graph.proofs.Names.{Call, Calls, Graph, List, [], map, subst, sym, targets_of, ℕ, ◌∙◌, ◌∷◌}
+use Rattle.chain_graph.specs.Graph.{HasCycle, IsPath}
+use Rattle.chain_graph.specs.steps.Targets.{HasTargetCycle, IsTargetPath}
+use Rattle.chain_graph.proofs.NodeLaws.{call-of, edge-of}
 
 pub path-of-calls : (g : Graph) (a b : ℕ) (es : List (Call ℕ)) → IsPath (Calls g) a es b → IsTargetPath (targets_of g) a (map (λ (e : Call ℕ). e.to) es) b
 path-of-calls g a b [] p = p

@@ -1,13 +1,13 @@
 -- The depth of a chain from the depths of its targets.
-use Rattle.std.proofs.Common.{◌≡◌, ◌⊎◌, ℕ, ◌+◌, ◌≤◌, List, [], ◌∷◌, ◌++◌, get_or, refl, ap, subst, ◌∙◌, inl, inr, ⊎_elim, arith, max}
-use Rattle.std.specs.Prelude.{Contains}
-use Rattle.std.proofs.lemmas.Bool.{cases_lt}
+use Rattle.chain_graph.proofs.Names.{Call, Calls, Contains, Graph, List, [], arith, cases_lt, deepest, get_or, inl, inr, max, refl, saturated, subst, ℕ}
+use Rattle.chain_graph.proofs.Names.{⊎_elim, ◌++◌, ◌+◌, ◌∙◌, ◌∷◌, ◌≡◌, ◌≤◌}
+use Rattle.std.proofs.Common.{◌⊎◌}
 use Rattle.list_laws.specs.Lists.{Contains-head}
-use Rattle.chain_graph.specs.Graph.{Call, IsPath, jumps}
-use Rattle.chain_graph.specs.Measures.{saturated, IsDepth}
-use Rattle.chain_graph.specs.Nodes.{Graph, calls_of, Calls}
-use Rattle.chain_graph.specs.steps.Passes.{jump_of, deepest}
-use Rattle.list_laws.specs.Elements.{Contains-tail, Contains-cases}
+use Rattle.chain_graph.specs.Graph.{IsPath, jumps}
+use Rattle.chain_graph.specs.Measures.{IsDepth}
+use Rattle.chain_graph.specs.Nodes.{calls_of}
+use Rattle.chain_graph.specs.steps.Passes.{jump_of}
+use Rattle.list_laws.specs.Elements.{Contains-cases, Contains-tail}
 
 pub deepest-append : (f : ℕ → ℕ) (xs ys : List (Call ℕ)) → deepest f (xs ++ ys) ≡ max (deepest f xs) (deepest f ys)
 deepest-append f [] ys = omega arith
@@ -45,9 +45,3 @@ module _ (g : Graph) (c : ℕ) (table : List ℕ) (known : (e : Call ℕ) → Ca
       let is = r.2 in
       record { most = depth-most; to = more.to; along = r.0 ∷ more.along; path = (r.1, more.path); deep = omega arith })
       (deepest-found (λ k. get_or table k 0) (calls_of g c))
-
-pub deepest-more : (f : ℕ → ℕ) (all now rest : List (Call ℕ)) (most most' d total : ℕ) → all ≡ now ++ rest → d
-    ≡ deepest f now → most' ≡ max most d → max most (deepest f all) ≡ total → max most' (deepest f rest) ≡ total
-deepest-more f all now rest most most' d total e h m before =
-    let split = ap (deepest f) e ∙ deepest-append f now rest in
-    omega arith

@@ -1,4 +1,5 @@
-pub mod Once
+mod Names
+pub mod EachLaws
 pub mod NodeLaws
 pub mod CostLaws
 pub mod DepthLaws

@@ -1,22 +1,23 @@
 -- Nodes, their targets, and the nodes before a node.
-use Rattle.std.proofs.Common.{◌≡◌, ℕ, zero, suc, ◌+◌, ◌<◌, List, [], ◌∷◌, ◌++◌, length, get_or, sym, refl, ap, subst, ◌∙◌, Vec, Global, arith, take, map, drop}
-use Rattle.std.specs.Prelude.{Contains, flat_map}
-use Rattle.std.proofs.lemmas.List.{get_or_default, length-map, drop_more}
+use Rattle.chain_graph.proofs.Names.{Call, Calls, Contains, Global, Graph, HasEdge, List, Vec, [], ap, arith, call_of, calls_in, drop, flat_map, get_or}
+use Rattle.chain_graph.proofs.Names.{get_or_default, graph_of, identity, length, map, node_of, statements_of, subst, suc, sym, take, targets_of, zero, ℕ, ◌++◌}
+use Rattle.chain_graph.proofs.Names.{◌+◌, ◌<◌, ◌∙◌, ◌∷◌, ◌≡◌, ◌≤◌}
+use Rattle.std.proofs.Common.{set, take_all}
+use Rattle.std.proofs.lemmas.List.{drop_more, get_or-map, length-map}
 use Rattle.std.proofs.lemmas.List.Elements.{Contains-append_left, Contains-append_right, Contains-get_or}
 use Rattle.chain_graph.specs.declared.node.Edge.{Edge}
 use Rattle.chain_graph.specs.declared.node.Node.{Node}
 use Rattle.chain_graph.specs.declared.node.Node.TheVariants.{Chain, Map}
-use Rattle.chain_graph.specs.Graph.{Call, calls_in, identity}
-use Rattle.chain_graph.specs.Nodes.{call_of, statements_of, node_of, Graph, graph_of, node_at, calls_of, Calls, InRange, targets_of}
-use Rattle.chain_graph.specs.Order.{HasEdge, IsTopologicalOrder}
+use Rattle.chain_graph.specs.Graph.{chain}
+use Rattle.chain_graph.specs.Nodes.{InRange, calls_of, node_at}
+use Rattle.chain_graph.specs.Order.{IsTopologicalOrder}
 use Rattle.chain_graph.specs.steps.Passes.{IsWithin}
 use Rattle.chain_graph.specs.steps.Targets.{TargetsInRange}
-use Rattle.list_laws.specs.Elements.{Contains-map, Contains-unmap}
+use Rattle.list_laws.specs.Elements.{Contains-map, Contains-unmap, set-known}
+use Rattle.std.proofs.Math.ListN as seq
 
 pub node-is : (nodes : List Node) (c : ℕ) (n : Node) → c < length nodes → n ≡ get_or nodes c n → node_at (graph_of nodes) c ≡ node_of n
-node-is [] c n h e = absurd (omega (arith, h))
-node-is (x ∷ xs) zero n h e = ap node_of (sym e)
-node-is (x ∷ xs) (suc c) n h e = node-is xs c n (omega (arith, h)) e
+node-is nodes c n h e = get_or-map node_of nodes c n (chain []) h ∙ ap node_of (sym e)
 
 pub graph-long : (nodes : List Node) → length (graph_of nodes) ≡ length nodes
 graph-long nodes = length-map nodes node_of
@@ -25,9 +26,7 @@ pub targets-long : (g : Graph) → length (targets_of g) ≡ length g
 targets-long g = length-map g (λ n. map (λ e. e.to) (calls_in n))
 
 pub targets-row : (g : Graph) (c : ℕ) → get_or (targets_of g) c [] ≡ map (λ e. e.to) (calls_of g c)
-targets-row [] c = refl
-targets-row (x ∷ xs) zero = refl
-targets-row (x ∷ xs) (suc c) = targets-row xs c
+targets-row g c = seq.get_or-map (λ n. map (λ e. e.to) (calls_in n)) g c (chain [])
 
 pub edge-of : (g : Graph) (c : ℕ) (e : Call ℕ) → Calls g c e → HasEdge (targets_of g) c e.to
 edge-of g c e h = subst (λ xs. Contains xs e.to) (sym (targets-row g c)) (Contains-map (λ (e : Call ℕ). e.to) (calls_of g c) e h)
@@ -73,11 +72,39 @@ pub order-before : (g : Graph) (order : List ℕ) (i c : ℕ) → IsTopologicalO
 order-before g order i c o h e call k = o.after i call.to h
     (subst (λ x. HasEdge (targets_of g) x call.to) (e ∙ get_or_default order i c 0 h) (edge-of g c call k))
 
--- the node of this iteration is in range
-pub inside-nodes : (nodes : List Node) (order : List ℕ) (i : ℕ) → IsTopologicalOrder (targets_of (graph_of nodes))
-    order → i < length order → get_or order i 0 < length nodes
-inside-nodes nodes order i o h =
-    let below = o.below i 0 h in
+-- each node stands among the first nodes of the order, if these are all
+pub all-before : (nodes : List Node) (order : List ℕ) (i x : ℕ) → IsTopologicalOrder (targets_of (graph_of nodes)) order
+    → length order ≤ i → x < length nodes → Contains (take i order) x
+all-before nodes order i x o h l =
     let long = graph-long nodes in
     let long' = targets-long (graph_of nodes) in
-    omega arith
+    subst (λ xs. Contains xs x) (sym (take_all i order h)) (o.all x (omega arith))
+
+-- a pass over the nodes in topological order, at one index of the order
+module _ (nodes : List Node) (order : List ℕ) (i : ℕ) (node : Node) (o : IsTopologicalOrder (targets_of (graph_of nodes)) order)
+    (inside : i < length order) (read : node ≡ get_or nodes (get_or order i 0) node) where
+  pub pass-below : get_or order i 0 < length nodes
+  pass-below =
+      let below = o.below i 0 inside in
+      let long = graph-long nodes in
+      let long' = targets-long (graph_of nodes) in
+      omega arith
+
+  pub pass-node : node_of node ≡ node_at (graph_of nodes) (get_or order i 0)
+  pass-node = sym (node-is nodes (get_or order i 0) node pass-below read)
+
+  pub pass-within : {X : Type 0} {table seen : List X} → InRange (graph_of nodes) (length nodes) → length table ≡ length nodes
+      → seen ≡ table → IsWithin (length seen) node
+  pass-within range long same = node-within nodes (get_or order i 0) _ node pass-below read
+      (subst (InRange (graph_of nodes)) (sym (ap length same ∙ long)) range)
+
+  -- what is known of the nodes so far, and of this node if of all its targets, is known of one node more
+  pub pass-more : {X : Type 0} (P : ℕ → X → Type 0) (table : List X) (v d : X) → length table ≡ length nodes
+      → (((e : Call ℕ) → Calls (graph_of nodes) (get_or order i 0) e → P e.to (get_or table e.to d)) → P (get_or order i 0) v)
+      → ((x : ℕ) → Contains (take i order) x → P x (get_or table x d)) → (x : ℕ) → Contains (take (i + 1) order) x
+      → P x (get_or (set table (get_or order i 0) v) x d)
+  pass-more P table v d long now before =
+      let is = get_or_default order i 0 (get_or order i 0) inside in
+      let below = pass-below in
+      set-known P order table i (get_or order i 0) v d inside is (omega arith)
+      (now (λ e k. before e.to (order-before (graph_of nodes) order i (get_or order i 0) o inside is e k))) before

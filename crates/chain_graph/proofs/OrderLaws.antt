@@ -1,49 +1,36 @@
 -- The initial state of the search, and its result.
-use Rattle.std.proofs.Common.{◌≡◌, ◌≢◌, ◌⊎◌, ℕ, zero, suc, ◌<◌, List, [], ◌∷◌, length, get_or, sym, refl, subst, ◌∙◌}
-use Rattle.std.proofs.Common.{inl, inr, ⊎_elim, arith, replicate, map, le_of_eq}
-use Rattle.std.specs.Prelude.{Contains}
-use Rattle.std.proofs.lemmas.Bool.{cases_lt}
-use Rattle.std.proofs.lemmas.List.{get_or_default, length-map, length-replicate, get_or_past}
+use Rattle.chain_graph.proofs.Names.{Contains, HasEdge, List, New, [], arith, cases_lt, get_or, get_or_default, inl, inr, length, map, refl, subst, suc, sym}
+use Rattle.chain_graph.proofs.Names.{zero, ℕ, ⊎_elim, ◌<◌, ◌∙◌, ◌∷◌, ◌≡◌, ◌≢◌}
+use Rattle.std.proofs.Common.{le_of_eq, replicate, ◌⊎◌}
+use Rattle.std.proofs.lemmas.List.{get_or_past, length-map, length-replicate}
 use Rattle.chain_graph.specs.declared.search.Mark.{Mark}
-use Rattle.chain_graph.specs.declared.search.Mark.TheVariants.{New, Open, Done}
-use Rattle.chain_graph.specs.Order.{HasEdge, IsTopologicalOrder}
+use Rattle.chain_graph.specs.declared.search.Mark.TheVariants.{Done, Open}
+use Rattle.chain_graph.specs.Order.{IsTopologicalOrder}
 use Rattle.chain_graph.specs.steps.Search.{IsSound}
-use Rattle.chain_graph.specs.steps.Targets.{IsTargetPath, HasTargetCycle}
-use Rattle.list_laws.specs.Elements.{none-in-empty, empty-All, take-index}
-
-pub get_or-lengths : (g : List (List ℕ)) (c : ℕ) → get_or (map length g) c 0 ≡ length (get_or g c [])
-get_or-lengths [] c = refl
-get_or-lengths (x ∷ xs) zero = refl
-get_or-lengths (x ∷ xs) (suc c) = get_or-lengths xs c
+use Rattle.chain_graph.specs.steps.Targets.{HasTargetCycle, IsTargetPath}
+use Rattle.list_laws.specs.Elements.{none-in-empty, take-index}
+use Rattle.std.proofs.Math.ListN.{get_or-map}
+use Rattle.std.proofs.lemmas.List.Elements.{Contains-get_or}
+use Rattle.chain_graph.proofs.StepLaws.{marked_below}
 
 pub all-new : (n c : ℕ) → get_or (replicate n New) c New ≡ New
 all-new zero c = refl
 all-new (suc n) zero = refl
 all-new (suc n) (suc c) = all-new n c
 
-pub fresh : (g : List (List ℕ)) (marks : List Mark) (left path order : List ℕ) → marks ≡ replicate (length g) New
-    → left ≡ map length g → path ≡ [] → order ≡ [] → IsSound g marks left path order
-fresh g marks left path order m l p o =
-    let start : IsSound g (replicate (length g) New) (map length g) [] [] = record {
-      marks_long = length-replicate (length g) New;
-      left_long = length-map g length;
-      within = empty-All (λ c. c < length g);
-      below = empty-All (λ c. c < length g);
-      fits = λ c. le_of_eq (get_or-lengths g c);
-      scanned = λ c k h j. let n = get_or-lengths g c in absurd (omega arith);
-      ended = λ c e. let n = all-new (length g) c in let q : New ≡ Done = sym n ∙ e in cc;
-      opened = λ c e. let n = all-new (length g) c in let q : New ≡ Open = sym n ∙ e in cc;
-      listed = λ c h. absurd (none-in-empty c h);
-      on_path = λ c h. absurd (none-in-empty c h);
-      order_once = λ i h. absurd (omega (arith, h));
-      path_once = λ i h. absurd (omega (arith, h));
-      chained = λ i h. absurd (omega (arith, h));
-      after = λ i t h. absurd (omega (arith, h));
-    } in
-    subst (λ x. IsSound g x left path order) (sym m)
-    (subst (λ x. IsSound g (replicate (length g) New) x path order) (sym l)
-    (subst (λ x. IsSound g (replicate (length g) New) (map length g) x order) (sym p)
-    (subst (λ x. IsSound g (replicate (length g) New) (map length g) [] x) (sym o) start)))
+pub fresh : (g : List (List ℕ)) → IsSound g (replicate (length g) New) (map length g) [] []
+fresh g = record {
+  marks_long = length-replicate (length g) New;
+  left_long = length-map g length;
+  fits = λ c. le_of_eq (get_or-map length g c []);
+  scanned = λ c k h j. let n = get_or-map length g c [] in absurd (omega arith);
+  done = λ c. (λ h. absurd (none-in-empty c h), λ e. let q : New ≡ Done = sym (all-new (length g) c) ∙ e in cc);
+  opened = λ c. (λ h. absurd (none-in-empty c h), λ e. let q : New ≡ Open = sym (all-new (length g) c) ∙ e in cc);
+  order_once = λ i h. absurd (omega (arith, h));
+  path_once = λ i h. absurd (omega (arith, h));
+  chained = λ i h. absurd (omega (arith, h));
+  after = λ i h. absurd (omega (arith, h));
+}
 
 pub mark-cases : (m : Mark) → (m ≡ New) ⊎ ((m ≡ Open) ⊎ (m ≡ Done))
 mark-cases New = inl refl
@@ -53,12 +40,16 @@ mark-cases Done = inr (inr refl)
 pub all-done : (g : List (List ℕ)) (marks : List Mark) (left path order : List ℕ) → IsSound g marks left path order
     → path ≡ [] → ((c : ℕ) → c < length g → get_or marks c New ≢ New) → IsTopologicalOrder g order
 all-done g marks left path order s none visited = record {
-  below = s.below;
+  below = λ k d h.
+      let done : get_or marks (get_or order k d) New ≡ Done = (s.done (get_or order k d)).0 (Contains-get_or order k d h) in
+      let l = marked_below marks (get_or order k d) (λ e. let q : Done ≡ New = sym done ∙ e in cc) in
+      let long = s.marks_long in
+      omega arith;
   all = λ c h. ⊎_elim (λ e. absurd (visited c h e))
-      (λ r. ⊎_elim (λ e. absurd (none-in-empty c (subst (λ p. Contains p c) none (s.opened c e)))) (λ e. s.ended c e)
-      r) (mark-cases (get_or marks c New));
+      (λ r. ⊎_elim (λ e. absurd (none-in-empty c (subst (λ p. Contains p c) none ((s.opened c).1 e)))) (s.done c).1 r)
+      (mark-cases (get_or marks c New));
   once = s.order_once;
-  after = s.after;
+  after = λ i t h e. s.after i h t e;
 }
 
 pub reaching-before : (g : List (List ℕ)) (order : List ℕ) → IsTopologicalOrder g order → (i c b : ℕ) (cs : List ℕ)

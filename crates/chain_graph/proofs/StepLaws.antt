@@ -1,18 +1,15 @@
 -- Each step preserves the search's invariant.
-use Rattle.std.proofs.Common.{◌≡◌, ◌≢◌, ◌⊎◌, ℕ, zero, suc, ◌+◌, ◌-◌, ◌<◌, ◌≤◌, List, [], ◌∷◌, ◌++◌, length, get_or}
-use Rattle.std.proofs.Common.{set, sym, refl, ap, subst, ◌∙◌, inl, inr, ⊎_elim, arith, length-set, get_or-set_same}
-use Rattle.std.proofs.Common.{get_or-set_other}
-use Rattle.std.specs.Prelude.{Contains}
-use Rattle.std.proofs.lemmas.Bool.{cases_eq, cases_lt}
-use Rattle.std.proofs.lemmas.List.{get_or_append_left, get_or_push, take-append-le, take_at, length_push, get_or_default}
-use Rattle.std.proofs.lemmas.List.Elements.{All-push, Contains-append_left, Contains-push, Contains-push_cases}
+use Rattle.chain_graph.proofs.Names.{Contains, HasEdge, List, New, [], ap, arith, cases_lt, get_or, get_or_default, inl, inr, length, length-set, length_push}
+use Rattle.chain_graph.proofs.Names.{refl, subst, suc, sym, take, zero, ℕ, ⊎_elim, ◌++◌, ◌+◌, ◌-◌, ◌<◌, ◌↔◌, ◌∙◌, ◌∷◌, ◌≡◌, ◌≢◌, ◌≤◌}
+use Rattle.std.proofs.Common.{get_or-set_other, get_or-set_same, set, ◌⊎◌}
+use Rattle.std.proofs.lemmas.Bool.{cases_eq}
+use Rattle.std.proofs.lemmas.List.{get_or_past, get_or_push, take_more}
+use Rattle.std.proofs.lemmas.List.Elements.{Contains-append_left, Contains-push, Contains-push_cases}
 use Rattle.chain_graph.specs.declared.search.Mark.{Mark}
-use Rattle.chain_graph.specs.declared.search.Mark.TheVariants.{New, Open, Done}
-use Rattle.chain_graph.specs.Order.{HasEdge}
-use Rattle.chain_graph.specs.steps.Search.{IsSound, KeepsVisited}
-use Rattle.chain_graph.specs.steps.Targets.{IsTargetPath, HasTargetCycle}
-use Rattle.list_laws.specs.Elements.{All-front, All-last}
-use Rattle.chain_graph.proofs.Once.{once-push, once-front, once-last}
+use Rattle.chain_graph.specs.declared.search.Mark.TheVariants.{Done, Open}
+use Rattle.chain_graph.specs.steps.Search.{AreMarked, EachAfter, Follows, HasTargetsIn, IsSound, KeepsVisited}
+use Rattle.chain_graph.specs.steps.Targets.{HasTargetCycle, IsTargetPath}
+use Rattle.chain_graph.proofs.EachLaws.{each-front, each-last, each-push}
 
 -- a mark that is set
 pub set-mark : (marks : List Mark) (c d : ℕ) (m : Mark) → c < length marks
@@ -24,79 +21,87 @@ set-mark marks c d m h =
 pub keeps_visited : (marks : List Mark) (c : ℕ) (m : Mark) → c < length marks → m ≢ New → KeepsVisited marks (set marks c m)
 keeps_visited marks c m h ne = record { keeps = λ d visited e. ⊎_elim (λ p. ne (sym p.1 ∙ e)) (λ p. visited (sym p.1 ∙ e)) (set-mark marks c d m h) }
 
+-- a node with a mark is in range
+pub marked_below : (marks : List Mark) (c : ℕ) → get_or marks c New ≢ New → c < length marks
+marked_below marks c ne = elim (cases_lt c (length marks)) [ inl h ↦ h | inr h ↦ absurd (ne (get_or_past marks c New h)) ]
+
+module _ (marks : List Mark) (c : ℕ) (m : Mark) (at : c < length marks) where
+  pub marked-push : (xs : List ℕ) → AreMarked marks m xs → AreMarked (set marks c m) m (xs ++ c ∷ [])
+  marked-push xs s d = elim (set-mark marks c d m at) [
+    | inl p ↦ (λ h. p.1, λ e. subst (Contains (xs ++ c ∷ [])) (sym p.0) (Contains-push xs c))
+    | inr p ↦ (
+      λ h. p.1 ∙ (s d).0 (elim (Contains-push_cases xs c d h) [ inl r ↦ r | inr r ↦ absurd (p.0 (sym r)) ]),
+      λ e. Contains-append_left xs (c ∷ []) d ((s d).1 (sym p.1 ∙ e)),
+    )
+  ]
+
+  pub marked-others : (n : Mark) (xs : List ℕ) → n ≢ m → (Contains xs c → ⊥)
+      → ((d : ℕ) → d ≢ c → Contains xs d ↔ (get_or marks d New ≡ n)) → AreMarked (set marks c m) n xs
+  marked-others n xs ne out s d = elim (set-mark marks c d m at) [
+    | inl p ↦ (λ h. absurd (out (subst (Contains xs) p.0 h)), λ e. absurd (ne (sym e ∙ p.1)))
+    | inr p ↦ (λ h. p.1 ∙ (s d p.0).0 h, λ e. (s d p.0).1 (sym p.1 ∙ e))
+  ]
+
+-- a node on the path is in range
+pub path_below : {g : List (List ℕ)} {marks : List Mark} {left path order : List ℕ} {c : ℕ} → IsSound g marks left path order
+    → Contains path c → c < length g
+path_below {marks = marks} {c = c} s at =
+    let is_open : get_or marks c New ≡ Open = (s.opened c).0 at in
+    let below = marked_below marks c (λ e. let q : Open ≡ New = sym is_open ∙ e in cc) in
+    let long = s.marks_long in
+    omega arith
+
+abbrev IsNew : List ℕ → ℕ → Type 0
+IsNew before x = Contains before x → ⊥
+
 module _ (g : List (List ℕ)) (marks : List Mark) (left rest order : List ℕ) (c : ℕ) where
   -- the path's last node has no target left
   pub finished : IsSound g marks left (rest ++ c ∷ []) order → get_or left c 0 ≡ 0 → IsSound g (set marks c Done) left rest (order ++ c ∷ [])
   finished s none =
-      let here : c < length g = All-last (λ c. c < length g) rest c s.within in
-      let long = s.marks_long in
-      let at : c < length marks = omega arith in
+      let is_open : get_or marks c New ≡ Open = (s.opened c).0 (Contains-push rest c) in
+      let at = marked_below marks c (λ e. let q : Open ≡ New = sym is_open ∙ e in cc) in
       record {
         marks_long = length-set marks c Done ∙ s.marks_long;
         left_long = s.left_long;
-        within = All-front (λ c. c < length g) rest c s.within;
-        below = All-push (λ c. c < length g) order c s.below here;
         fits = s.fits;
         scanned = λ d k h l. Contains-append_left order (c ∷ []) (get_or (get_or g d []) k 0) (s.scanned d k h l);
-        ended = λ d e. ⊎_elim (λ p. subst (Contains (order ++ c ∷ [])) (sym p.0) (Contains-push order c))
-            (λ p. Contains-append_left order (c ∷ []) d (s.ended d (sym p.1 ∙ e))) (set-mark marks c d Done at);
-        listed = λ d h. ⊎_elim (λ p. p.1) (λ p. p.1
-            ∙ s.listed d (⊎_elim (λ r. r) (λ r. absurd (p.0 (sym r))) (Contains-push_cases order c d h)))
-            (set-mark marks c d Done at);
-        on_path = λ d h. ⊎_elim (λ p. absurd (once-last rest c s.path_once (subst (Contains rest) p.0 h)))
-            (λ p. p.1 ∙ s.on_path d (Contains-append_left rest (c ∷ []) d h)) (set-mark marks c d Done at);
-        order_once = once-push order c s.order_once (λ h. let q : Done ≡ Open = sym (s.listed c h) ∙ s.on_path c (Contains-push rest c) in cc);
-        path_once = once-front rest c s.path_once;
-        opened = λ d e. ⊎_elim (λ p. let q : Done ≡ Open = sym p.1 ∙ e in cc)
-            (λ p. ⊎_elim (λ r. r) (λ r. absurd (p.0 (sym r)))
-            (Contains-push_cases rest c d (s.opened d (sym p.1 ∙ e)))) (set-mark marks c d Done at);
-        chained = λ i h. let n = length_push rest c in
-            subst (λ x. HasEdge g x (get_or rest (i + 1) 0)) (get_or_append_left rest (c ∷ []) 0 i (omega arith))
-            (subst (λ x. HasEdge g (get_or (rest ++ c ∷ []) i 0) x) (get_or_append_left rest (c ∷ []) 0 (i + 1) h)
-            (s.chained i (omega arith)));
-        after = λ i t h e. ⊎_elim
-            (λ l. subst (λ xs. Contains xs t) (sym (take-append-le i order (c ∷ []) (omega (arith, l))))
-            (s.after i t l (subst (λ x. HasEdge g x t) (get_or_append_left order (c ∷ []) 0 i l) e)))
-            (λ l. let n = length_push order c in
-            let same : length order ≡ i = omega (arith, l, n, h) in
-            let found : HasEdge g c t = subst (λ x. HasEdge g x t) (get_or_push order c 0 i same) e in
-            let is : get_or (get_or g c []) found.0 0 ≡ t = get_or_default (get_or g c []) found.0 0 t found.1 ∙ found.2 in
-            subst (λ xs. Contains xs t) (sym (take_at order (c ∷ []) i same)) (subst (Contains order) is (s.scanned c found.0 (omega arith) found.1)))
-            (cases_lt i (length order));
+        done = marked-push marks c Done at order s.done;
+        opened = marked-others marks c Done at Open rest (λ e. (cc)) (each-last IsNew rest c s.path_once)
+            (λ d ne. (
+              λ h. (s.opened d).0 (Contains-append_left rest (c ∷ []) d h),
+              λ e. elim (Contains-push_cases rest c d ((s.opened d).1 e)) [ inl r ↦ r | inr r ↦ absurd (ne (sym r)) ],
+            ));
+        order_once = each-push IsNew order c s.order_once (λ h. let q : Done ≡ Open = sym ((s.done c).0 h) ∙ is_open in cc);
+        path_once = each-front IsNew rest c s.path_once;
+        chained = each-front (Follows g) rest c s.chained;
+        after = each-push (HasTargetsIn g) order c s.after
+            (λ t e. subst (Contains order) (get_or_default (get_or g c []) e.0 0 t e.1 ∙ e.2) (s.scanned c e.0 (omega arith) e.1));
       }
 
   -- the target looked at is done
-  pub scanned_on : (k : ℕ) → IsSound g marks left (rest ++ c ∷ []) order → get_or left c 0 ≡ k + 1
+  pub scanned_on : (k : ℕ) → IsSound g marks left (rest ++ c ∷ []) order → c < length left → get_or left c 0 ≡ k + 1
       → get_or marks (get_or (get_or g c []) k 0) New ≡ Done → IsSound g marks (set left c k) (rest ++ c ∷ []) order
-  scanned_on k s here is =
-      let inside : c < length g = All-last (λ c. c < length g) rest c s.within in
-      let long = s.left_long in
-      let at : c < length left = omega arith in
+  scanned_on k s at here is =
       let least = s.fits c in
-      let target = s.ended (get_or (get_or g c []) k 0) is in
+      let same = get_or-set_same left c k 0 at in
       record {
         marks_long = s.marks_long;
         left_long = length-set left c k ∙ s.left_long;
-        within = s.within;
-        below = s.below;
-        fits = λ d. ⊎_elim (λ e. subst (λ x. get_or (set left c k) x 0 ≤ length (get_or g x [])) (sym e)
-            (let n = get_or-set_same left c k 0 at in omega arith))
-            (λ ne. let n = get_or-set_other left c d k 0 ne in let m = s.fits d in omega arith) (cases_eq d c);
-        scanned = λ d j h l. ⊎_elim
-            (λ e. ⊎_elim
-            (λ ej. let same : get_or (get_or g d []) j 0 ≡ get_or (get_or g c []) k 0 =
-            ap (λ x. get_or (get_or g x []) j 0) e ∙ ap (λ x. get_or (get_or g c []) x 0) ej in subst
-            (Contains order) (sym same) target)
-            (λ nej. s.scanned d j (let n = get_or-set_same left c k 0 at in let h' : get_or (set left c k) c 0 ≤ j =
-            subst (λ x. get_or (set left c k) x 0 ≤ j) e h in let goal : get_or left c 0 ≤ j =
-            omega arith in subst (λ x. get_or left x 0 ≤ j) (sym e) goal) l)
-            (cases_eq j k))
-            (λ ne. s.scanned d j (let n = get_or-set_other left c d k 0 ne in omega arith) l)
-            (cases_eq d c);
-        ended = s.ended;
+        fits = λ d. elim (cases_eq d c) [
+          | inl e ↦ subst (λ x. get_or (set left c k) x 0 ≤ length (get_or g x [])) (sym e) (omega arith)
+          | inr ne ↦ let n = get_or-set_other left c d k 0 ne in let m = s.fits d in omega arith
+        ];
+        scanned = λ d j h l. elim (cases_eq d c) [
+          | inl e ↦
+              let below : k ≤ j = let h' = subst (λ x. get_or (set left c k) x 0 ≤ j) e h in omega arith in
+              subst (λ x. Contains order (get_or (get_or g x []) j 0)) (sym e) (elim (cases_eq j k) [
+                | inl ej ↦ subst (λ x. Contains order (get_or (get_or g c []) x 0)) (sym ej) ((s.done (get_or (get_or g c []) k 0)).1 is)
+                | inr nej ↦ s.scanned c j (omega arith) (subst (λ x. j < length (get_or g x [])) e l)
+              ])
+          | inr ne ↦ s.scanned d j (let n = get_or-set_other left c d k 0 ne in omega arith) l
+        ];
+        done = s.done;
         opened = s.opened;
-        listed = s.listed;
-        on_path = s.on_path;
         order_once = s.order_once;
         path_once = s.path_once;
         chained = s.chained;
@@ -104,56 +109,39 @@ module _ (g : List (List ℕ)) (marks : List Mark) (left rest order : List ℕ) 
       }
 
 -- a new node at the end of the path
-module _ (g : List (List ℕ)) (marks : List Mark) (left path order : List ℕ) (t : ℕ) where
-  pub entered : IsSound g marks left path order → get_or marks t New ≡ New → t < length g
-      → ((i : ℕ) → i + 1 ≡ length path → HasEdge g (get_or path i 0) t)
-      → IsSound g (set marks t Open) left (path ++ t ∷ []) order
-  entered s new here last =
-      let long = s.marks_long in
-      let at : t < length marks = omega arith in
-      record {
-        marks_long = length-set marks t Open ∙ s.marks_long;
-        left_long = s.left_long;
-        within = All-push (λ c. c < length g) path t s.within here;
-        below = s.below;
-        fits = s.fits;
-        scanned = s.scanned;
-        ended = λ d e. ⊎_elim (λ p. let q : Open ≡ Done = sym p.1 ∙ e in cc) (λ p. s.ended d (sym p.1 ∙ e)) (set-mark marks t d Open at);
-        listed = λ d h. ⊎_elim (λ p. let q : New ≡ Done = sym new ∙ s.listed t (subst (Contains order) p.0 h) in cc)
-            (λ p. p.1 ∙ s.listed d h) (set-mark marks t d Open at);
-        on_path = λ d h. ⊎_elim (λ p. p.1) (λ p. p.1
-            ∙ s.on_path d (⊎_elim (λ r. r) (λ r. absurd (p.0 (sym r))) (Contains-push_cases path t d h)))
-            (set-mark marks t d Open at);
-        order_once = s.order_once;
-        path_once = once-push path t s.path_once (λ h. let q : New ≡ Open = sym new ∙ s.on_path t h in cc);
-        opened = λ d e. ⊎_elim (λ p. subst (Contains (path ++ t ∷ [])) (sym p.0) (Contains-push path t))
-            (λ p. Contains-append_left path (t ∷ []) d (s.opened d (sym p.1 ∙ e))) (set-mark marks t d Open at);
-        chained = λ i h. let n = length_push path t in
-            let front : i < length path = omega arith in
-            subst (λ x. HasEdge g x (get_or (path ++ t ∷ []) (i + 1) 0)) (sym (get_or_append_left path (t ∷ []) 0 i front))
-            (⊎_elim
-            (λ l. subst (HasEdge g (get_or path i 0)) (sym (get_or_append_left path (t ∷ []) 0 (i + 1) l)) (s.chained i l))
-            (λ l. let same : length path ≡ i + 1 = omega (arith, l, front) in subst (HasEdge g (get_or path i 0))
-            (sym (get_or_push path t 0 (i + 1) same)) (last i (sym same)))
-            (cases_lt (i + 1) (length path)));
-        after = s.after;
-      }
+pub entered : (g : List (List ℕ)) (marks : List Mark) (left path order : List ℕ) (t : ℕ) → IsSound g marks left path order
+    → get_or marks t New ≡ New → t < length g → Follows g path t → IsSound g (set marks t Open) left (path ++ t ∷ []) order
+entered g marks left path order t s new here last =
+    let long = s.marks_long in
+    let at : t < length marks = omega arith in
+    record {
+      marks_long = length-set marks t Open ∙ s.marks_long;
+      left_long = s.left_long;
+      fits = s.fits;
+      scanned = s.scanned;
+      done = marked-others marks t Open at Done order (λ e. (cc))
+          (λ h. let q : New ≡ Done = sym new ∙ (s.done t).0 h in cc) (λ d ne. s.done d);
+      opened = marked-push marks t Open at path s.opened;
+      order_once = s.order_once;
+      path_once = each-push IsNew path t s.path_once (λ h. let q : New ≡ Open = sym new ∙ (s.opened t).0 h in cc);
+      chained = each-push (Follows g) path t s.chained last;
+      after = s.after;
+    }
 
 pub IsTargetPath-more : (g : List (List ℕ)) (a : ℕ) (cs : List ℕ) (b c : ℕ) → IsTargetPath g a cs b → HasEdge g b c → IsTargetPath g a (cs ++ c ∷ []) c
 IsTargetPath-more g a [] b c p e = (subst (λ x. HasEdge g x c) (sym p) e, refl)
 IsTargetPath-more g a (d ∷ cs) b c p e = (p.0, IsTargetPath-more g d cs b c p.1 e)
 
 -- along the path from index j on
-pub along : (g : List (List ℕ)) (path : List ℕ)
-    → ((i : ℕ) → i + 1 < length path → HasEdge g (get_or path i 0) (get_or path (i + 1) 0)) → (j m : ℕ) → j
-    + m < length path → (cs : List ℕ) × IsTargetPath g (get_or path j 0) cs (get_or path (j + m) 0)
+pub along : (g : List (List ℕ)) (path : List ℕ) → EachAfter (Follows g) path → (j m : ℕ) → j + m < length path
+    → (cs : List ℕ) × IsTargetPath g (get_or path j 0) cs (get_or path (j + m) 0)
 along g path chained j zero h = ([], ap (λ k. get_or path k 0) (let e : j ≡ j + 0 = omega arith in e))
 along g path chained j (suc m) h =
     let before = along g path chained j m (omega arith) in
-    let e : HasEdge g (get_or path (j + m) 0) (get_or path (j + suc m) 0) =
-    subst (λ k. HasEdge g (get_or path (j + m) 0) (get_or path k 0))
-    (let e : j + m + 1 ≡ j + suc m = omega arith in e) (chained (j + m) (omega arith)) in
-    (before.0 ++ get_or path (j + suc m) 0 ∷ [], IsTargetPath-more g (get_or path j 0) before.0 (get_or path (j + m) 0) (get_or path (j + suc m) 0) before.1 e)
+    let e : j + suc m ≡ j + m + 1 = omega arith in
+    let edge = chained (j + suc m) h (take (j + m) path) (get_or path (j + m) 0)
+    (ap (λ k. take k path) e ∙ take_more path (j + m) 0 (omega arith)) in
+    (before.0 ++ get_or path (j + suc m) 0 ∷ [], IsTargetPath-more g (get_or path j 0) before.0 (get_or path (j + m) 0) (get_or path (j + suc m) 0) before.1 edge)
 
 -- a path that ends with an edge isn't empty
 pub closed : (g : List (List ℕ)) (a : ℕ) (cs : List ℕ) (b : ℕ) → IsTargetPath g a cs b → HasEdge g b a → HasTargetCycle g
@@ -164,7 +152,7 @@ closed g a (c ∷ cs) b p e = record { node = a; first = c; rest = cs ++ a ∷ [
 pub visited_again : (g : List (List ℕ)) (marks : List Mark) (left rest order : List ℕ) (c t : ℕ)
     → IsSound g marks left (rest ++ c ∷ []) order → HasEdge g c t → get_or marks t New ≡ Open → HasTargetCycle g
 visited_again g marks left rest order c t s e is =
-    let found = s.opened t is in
+    let found = (s.opened t).1 is in
     let n = length_push rest c in
     let inside = found.1 in
     let start : get_or (rest ++ c ∷ []) found.0 0 ≡ t = get_or_default (rest ++ c ∷ []) found.0 0 t found.1 ∙ found.2 in

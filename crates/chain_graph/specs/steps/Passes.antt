@@ -1,5 +1,6 @@
 -- What the passes over the nodes compute from one node's calls.
-use Rattle.std.specs.Prelude.{ℕ, ◌+◌, ◌<◌, max, List, [], ◌∷◌, All, Bool, false, ◌||◌, if◌then◌else◌}
+use Rattle.std.specs.Prelude.{ℕ, ◌+◌, ◌<◌, max, List, [], ◌∷◌, All, Bool, if◌then◌else◌}
+use Rattle.std.specs.List.{list_any}
 use Rattle.chain_graph.specs.Graph.{Call}
 use Rattle.chain_graph.specs.Measures.{saturated}
 use Rattle.chain_graph.specs.declared.node.Node.{Node}
@@ -20,5 +21,4 @@ deepest depth (e ∷ es) = max (saturated (depth e.to + jump_of e)) (deepest dep
 
 -- the target of one of these calls passes the test
 abbrev pub some_call : (ℕ → Bool) → List (Call ℕ) → Bool
-some_call test [] = false
-some_call test (e ∷ es) = test e.to || some_call test es
+some_call test calls = list_any (λ e. test e.to) calls

@@ -1,5 +1,5 @@
 -- The invariant and the measure of the depth-first search.
-use Rattle.std.specs.Prelude.{◌≡◌, ◌≢◌, ℕ, ◌+◌, ◌<◌, ◌≤◌, List, [], length, get_or, take, All, Contains, sum_by, Bool, true, false}
+use Rattle.std.specs.Prelude.{◌≡◌, ◌≢◌, ◌↔◌, ℕ, ◌+◌, ◌<◌, ◌≤◌, List, [], ◌∷◌, ◌++◌, length, get_or, take, Contains, sum_by, Bool, true, false}
 use Rattle.chain_graph.specs.Order.{HasEdge, IsRepeatFree, IsTopologicalOrder}
 use Rattle.chain_graph.specs.steps.Targets.{HasTargetCycle}
 use Rattle.chain_graph.specs.declared.search.Mark.{Mark}
@@ -8,24 +8,36 @@ use Rattle.chain_graph.specs.declared.search.Search.{Search}
 use Rattle.chain_graph.specs.declared.search.SortResult.{SortResult}
 use Rattle.chain_graph.specs.declared.search.SortResult.TheVariants.{Order, Cycle}
 
+-- `R` holds of those before each element and of that element
+abbrev pub EachAfter : (List ℕ → ℕ → Type 0) → List ℕ → Type 0
+EachAfter R xs = (i : ℕ) → i < length xs → R (take i xs) (get_or xs i 0)
+
+-- the last of these nodes has an edge to this one
+abbrev pub Follows : List (List ℕ) → List ℕ → ℕ → Type 0
+Follows g before x = (rest : List ℕ) (c : ℕ) → before ≡ rest ++ c ∷ [] → HasEdge g c x
+
+-- these nodes have all targets of this one
+abbrev pub HasTargetsIn : List (List ℕ) → List ℕ → ℕ → Type 0
+HasTargetsIn g before x = (t : ℕ) → HasEdge g x t → Contains before t
+
+-- the nodes with this mark are those of the list
+abbrev pub AreMarked : List Mark → Mark → List ℕ → Type 0
+AreMarked marks m xs = (c : ℕ) → Contains xs c ↔ (get_or marks c New ≡ m)
+
 -- each node on the path has an edge to the next, those in the order come after all their targets, and the
 -- targets of each node from `left` on are in the order
 pub record IsSound (g : List (List ℕ)) (marks : List Mark) (left path order : List ℕ) : Type 0 where
   pub marks_long : length marks ≡ length g
   pub left_long : length left ≡ length g
-  pub within : All (λ c. c < length g) path
-  pub below : All (λ c. c < length g) order
   pub fits : (c : ℕ) → get_or left c 0 ≤ length (get_or g c [])
   pub scanned : (c k : ℕ) → get_or left c 0 ≤ k → k < length (get_or g c [])
       → Contains order (get_or (get_or g c []) k 0)
-  pub ended : (c : ℕ) → get_or marks c New ≡ Done → Contains order c
-  pub opened : (c : ℕ) → get_or marks c New ≡ Open → Contains path c
-  pub listed : (c : ℕ) → Contains order c → get_or marks c New ≡ Done
-  pub on_path : (c : ℕ) → Contains path c → get_or marks c New ≡ Open
+  pub done : AreMarked marks Done order
+  pub opened : AreMarked marks Open path
   pub order_once : IsRepeatFree order
   pub path_once : IsRepeatFree path
-  pub chained : (i : ℕ) → i + 1 < length path → HasEdge g (get_or path i 0) (get_or path (i + 1) 0)
-  pub after : (i t : ℕ) → i < length order → HasEdge g (get_or order i 0) t → Contains (take i order) t
+  pub chained : EachAfter (Follows g) path
+  pub after : EachAfter (HasTargetsIn g) order
 
 abbrev pub IsSearch : List (List ℕ) → Search → Type 0
 IsSearch g s = IsSound g s.marks.items s.left.items s.path.items s.order.items

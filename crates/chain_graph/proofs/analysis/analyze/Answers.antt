@@ -1,11 +1,10 @@
-use Rattle.std.proofs.Common.{◌≡◌, ℕ, List, length, sym, ap, subst, ◌∙◌, arith}
+use Rattle.chain_graph.proofs.Names.{List, ap, arith, graph_of, length, rows_of, subst, sym, ℕ, ◌∙◌, ◌≡◌}
 use Rattle.chain_graph.specs.declared.search.SortResult.{SortResult}
-use Rattle.chain_graph.specs.declared.search.SortResult.TheVariants.{Order, Cycle}
-use Rattle.chain_graph.specs.Nodes.{graph_of, targets_of}
+use Rattle.chain_graph.specs.declared.search.SortResult.TheVariants.{Cycle, Order}
 use Rattle.chain_graph.specs.steps.Search.{IsSortResult}
-use Rattle.chain_graph.specs.steps.Targets.{rows_of, TargetsInRange}
+use Rattle.chain_graph.specs.steps.Targets.{TargetsInRange}
 use Rattle.chain_graph.proofs.CostLaws.{has-costs}
-use Rattle.chain_graph.proofs.CycleLaws.{cycle-to-calls, cycle-of-calls}
+use Rattle.chain_graph.proofs.CycleLaws.{cycle-of-calls, cycle-to-calls}
 use Rattle.chain_graph.proofs.NodeLaws.{graph-long, range-of}
 use Rattle.chain_graph.proofs.analysis.analyze.Goals as goal
 
@@ -20,16 +19,13 @@ topological_sort-requires c =
 pub returns-in-Cycle : goal.returns-in-Cycle
 returns-in-Cycle c =
     cycle-to-calls (graph_of c.args.nodes.now)
-    (is_sort_result-as (rows_of c.deref.result.now) (targets_of (graph_of c.args.nodes.now))
-    c.in_ok-topological_sort.field-0 Cycle (ap rows_of c.deref.ensures.value ∙ c.in_ok-targets.ensures)
-    c.in-Cycle.is c.in_ok-topological_sort.ensures)
+    (is_sort_result-as _ _ _ Cycle (ap rows_of c.deref.ensures.value ∙ c.in_ok-targets.ensures) c.in-Cycle.is c.in_ok-topological_sort.ensures)
 
 pub returns : goal.returns
 returns c =
     let long = graph-long c.args.nodes.now in
-    let found = is_sort_result-as (rows_of c.deref.result.now) (targets_of (graph_of c.args.nodes.now))
-    c.in_ok-topological_sort.field-0 (Order c.in-Order.order)
-    (ap rows_of c.deref.ensures.value ∙ c.in_ok-targets.ensures) c.in-Order.is c.in_ok-topological_sort.ensures in
+    let found = is_sort_result-as _ _ _ (Order c.in-Order.order) (ap rows_of c.deref.ensures.value ∙ c.in_ok-targets.ensures) c.in-Order.is
+    c.in_ok-topological_sort.ensures in
     record {
       acyclic = λ k. found.1 (cycle-of-calls (graph_of c.args.nodes.now) k);
       order = found.0;

@@ -1,7 +1,6 @@
-use Rattle.std.proofs.Common.{◌≡◌, ◌+◌, ◌-◌, ◌≤◌, get_or, ◌^◌, drop}
+use Rattle.chain_graph.proofs.Names.{drop, get_or, saturated, statements_of, ◌+◌, ◌-◌, ◌≡◌, ◌≤◌}
+use Rattle.std.proofs.Common.{◌^◌}
 use Rattle.chain_graph.specs.Graph.{chain_cost}
-use Rattle.chain_graph.specs.Measures.{saturated}
-use Rattle.chain_graph.specs.Nodes.{statements_of}
 use Rattle.chain_graph.proofs.costs.chain_cost.Given as goal
 
 abbrev pub invariant-loop-calls : goal.invariant-loop-calls

@@ -1,6 +1,5 @@
-use Rattle.std.proofs.Common.{◌≡◌, get_or, map, max, drop}
+use Rattle.chain_graph.proofs.Names.{call_of, drop, get_or, map, max, ◌≡◌}
 use Rattle.chain_graph.specs.Graph.{greatest}
-use Rattle.chain_graph.specs.Nodes.{call_of}
 use Rattle.chain_graph.proofs.costs.greatest.Given as goal
 
 abbrev pub invariant-loop-call : goal.invariant-loop-call

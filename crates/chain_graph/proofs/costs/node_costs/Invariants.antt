@@ -1,7 +1,5 @@
-use Rattle.std.proofs.Common.{◌≡◌, ℕ, length, get_or, take}
-use Rattle.std.specs.Prelude.{Contains}
-use Rattle.chain_graph.specs.Measures.{saturated, IsCost}
-use Rattle.chain_graph.specs.Nodes.{graph_of}
+use Rattle.chain_graph.proofs.Names.{Contains, get_or, graph_of, length, saturated, take, ℕ, ◌≡◌}
+use Rattle.chain_graph.specs.Measures.{IsCost}
 use Rattle.chain_graph.proofs.costs.node_costs.Given as goal
 
 abbrev pub invariant-loop-node : goal.invariant-loop-node

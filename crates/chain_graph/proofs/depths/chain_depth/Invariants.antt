@@ -1,8 +1,4 @@
-use Rattle.std.proofs.Common.{◌≡◌, get_or, max, drop}
-use Rattle.std.specs.Prelude.{flat_map}
-use Rattle.chain_graph.specs.Graph.{identity}
-use Rattle.chain_graph.specs.Nodes.{statements_of}
-use Rattle.chain_graph.specs.steps.Passes.{deepest}
+use Rattle.chain_graph.proofs.Names.{deepest, drop, flat_map, get_or, identity, max, statements_of, ◌≡◌}
 use Rattle.chain_graph.proofs.depths.chain_depth.Given as goal
 
 abbrev pub invariant-loop-calls : goal.invariant-loop-calls

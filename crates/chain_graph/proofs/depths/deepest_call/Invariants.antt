@@ -1,6 +1,4 @@
-use Rattle.std.proofs.Common.{◌≡◌, get_or, map, max, drop}
-use Rattle.chain_graph.specs.Nodes.{call_of}
-use Rattle.chain_graph.specs.steps.Passes.{deepest}
+use Rattle.chain_graph.proofs.Names.{call_of, deepest, drop, get_or, map, max, ◌≡◌}
 use Rattle.chain_graph.proofs.depths.deepest_call.Given as goal
 
 abbrev pub invariant-loop-call : goal.invariant-loop-call

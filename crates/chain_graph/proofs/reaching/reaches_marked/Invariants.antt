@@ -1,7 +1,6 @@
-use Rattle.std.proofs.Common.{◌≡◌, ℕ, length, get_or, take, false}
-use Rattle.std.specs.Prelude.{Contains, IsTrue, ◌↔◌}
+use Rattle.chain_graph.proofs.Names.{Contains, false, get_or, graph_of, length, take, ℕ, ◌↔◌, ◌≡◌}
+use Rattle.std.specs.Prelude.{IsTrue}
 use Rattle.chain_graph.specs.Measures.{ReachesMarked}
-use Rattle.chain_graph.specs.Nodes.{graph_of}
 use Rattle.chain_graph.proofs.reaching.reaches_marked.Given as goal
 
 abbrev pub invariant-loop-node : goal.invariant-loop-node

@@ -1,6 +1,4 @@
-use Rattle.std.proofs.Common.{◌≡◌, get_or, map, drop, false}
-use Rattle.chain_graph.specs.Nodes.{call_of}
-use Rattle.chain_graph.specs.steps.Passes.{some_call}
+use Rattle.chain_graph.proofs.Names.{call_of, drop, false, get_or, map, some_call, ◌≡◌}
 use Rattle.chain_graph.proofs.reaching.some_call_reaches.Given as goal
 
 abbrev pub invariant-loop-call : goal.invariant-loop-call

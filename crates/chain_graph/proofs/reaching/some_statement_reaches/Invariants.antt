@@ -1,8 +1,4 @@
-use Rattle.std.proofs.Common.{◌≡◌, get_or, drop, false}
-use Rattle.std.specs.Prelude.{flat_map}
-use Rattle.chain_graph.specs.Graph.{identity}
-use Rattle.chain_graph.specs.Nodes.{statements_of}
-use Rattle.chain_graph.specs.steps.Passes.{some_call}
+use Rattle.chain_graph.proofs.Names.{drop, false, flat_map, get_or, identity, some_call, statements_of, ◌≡◌}
 use Rattle.chain_graph.proofs.reaching.some_statement_reaches.Given as goal
 
 abbrev pub invariant-loop-calls : goal.invariant-loop-calls

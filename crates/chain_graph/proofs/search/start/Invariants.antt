@@ -1,4 +1,4 @@
-use Rattle.std.proofs.Common.{◌≡◌, length, take, map}
+use Rattle.chain_graph.proofs.Names.{length, map, take, ◌≡◌}
 use Rattle.chain_graph.proofs.search.start.Given as goal
 
 -- how many targets each row so far has

@@ -1,5 +1,4 @@
-use Rattle.std.proofs.Common.{arith}
-use Rattle.chain_graph.specs.steps.Targets.{rows_of}
+use Rattle.chain_graph.proofs.Names.{arith, rows_of}
 use Rattle.chain_graph.proofs.OrderLaws.{all-done, no-cycle}
 use Rattle.chain_graph.proofs.ReadLaws.{rows-long}
 use Rattle.chain_graph.proofs.search.topological_sort.Goals as goal

@@ -1,7 +1,5 @@
-use Rattle.std.proofs.Common.{◌≡◌, ◌≢◌, ℕ, ◌<◌, [], get_or}
-use Rattle.chain_graph.specs.declared.search.Mark.TheVariants.{New}
+use Rattle.chain_graph.proofs.Names.{New, [], get_or, rows_of, ℕ, ◌<◌, ◌≡◌, ◌≢◌}
 use Rattle.chain_graph.specs.steps.Search.{IsSearch}
-use Rattle.chain_graph.specs.steps.Targets.{rows_of}
 use Rattle.chain_graph.proofs.search.topological_sort.Given as goal
 
 abbrev pub invariant-loop-root : goal.invariant-loop-root

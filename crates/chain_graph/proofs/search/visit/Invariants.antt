@@ -1,7 +1,5 @@
-use Rattle.std.proofs.Common.{◌≢◌, get_or}
-use Rattle.chain_graph.specs.declared.search.Mark.TheVariants.{New}
-use Rattle.chain_graph.specs.steps.Search.{IsSearch, remaining_work, KeepsVisited}
-use Rattle.chain_graph.specs.steps.Targets.{rows_of}
+use Rattle.chain_graph.proofs.Names.{New, get_or, rows_of, ◌≢◌}
+use Rattle.chain_graph.specs.steps.Search.{IsSearch, KeepsVisited, remaining_work}
 use Rattle.chain_graph.proofs.search.visit.Given as goal
 
 abbrev pub invariant-loop-last : goal.invariant-loop-last

@@ -1,7 +1,4 @@
-use Rattle.std.proofs.Common.{◌≡◌, ◌++◌, map, drop}
-use Rattle.std.specs.Prelude.{flat_map}
-use Rattle.chain_graph.specs.Graph.{identity}
-use Rattle.chain_graph.specs.Nodes.{statements_of}
+use Rattle.chain_graph.proofs.Names.{drop, flat_map, identity, map, statements_of, ◌++◌, ◌≡◌}
 use Rattle.chain_graph.proofs.targets.add_chain_targets.Given as goal
 
 abbrev pub invariant-loop-calls : goal.invariant-loop-calls

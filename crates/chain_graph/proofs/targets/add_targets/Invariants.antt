@@ -1,5 +1,4 @@
-use Rattle.std.proofs.Common.{◌≡◌, ◌++◌, take, map}
-use Rattle.chain_graph.specs.Nodes.{call_of}
+use Rattle.chain_graph.proofs.Names.{call_of, map, take, ◌++◌, ◌≡◌}
 use Rattle.chain_graph.proofs.targets.add_targets.Given as goal
 
 abbrev pub invariant-loop-call : goal.invariant-loop-call

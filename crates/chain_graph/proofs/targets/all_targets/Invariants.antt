@@ -1,6 +1,4 @@
-use Rattle.std.proofs.Common.{◌≡◌, take}
-use Rattle.chain_graph.specs.Nodes.{graph_of, targets_of}
-use Rattle.chain_graph.specs.steps.Targets.{rows_of}
+use Rattle.chain_graph.proofs.Names.{graph_of, rows_of, take, targets_of, ◌≡◌}
 use Rattle.chain_graph.proofs.targets.all_targets.Given as goal
 
 abbrev pub invariant-loop-node : goal.invariant-loop-node
