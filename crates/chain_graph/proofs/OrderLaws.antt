@@ -22,8 +22,7 @@ pub fresh : (g : List (List ℕ)) → IsSound g (replicate (length g) New) (map 
 fresh g = record {
   marks_long = length-replicate (length g) New;
   left_long = length-map g length;
-  fits = λ c. le_of_eq (get_or-map length g c []);
-  scanned = λ c k h j. let n = get_or-map length g c [] in absurd (omega arith);
+  scanned = λ c. let n = get_or-map length g c [] in (le_of_eq n, λ k h j. absurd (omega arith));
   done = λ c. (λ h. absurd (none-in-empty c h), λ e. let q : New ≡ Done = sym (all-new (length g) c) ∙ e in cc);
   opened = λ c. (λ h. absurd (none-in-empty c h), λ e. let q : New ≡ Open = sym (all-new (length g) c) ∙ e in cc);
   order_once = λ i h. absurd (omega (arith, h));

@@ -27,7 +27,7 @@ module _ (t : List (Vec ℕ Global)) {marks : List Mark} {left path order : List
 
   pub inside-row : {row : Vec ℕ Global} → (l ≡ 0 → ⊥) → row ≡ get_or t c row → l - 1 < length row.items
   inside-row {row = row} some row-is =
-      let least = s.fits c in
+      let least = (s.scanned c).0 in
       let n = ap length (row-of t c row below row-is) in
       let m = left-read in
       omega arith

@@ -1,25 +1,27 @@
 -- Each step preserves the search's invariant.
 use Rattle.chain_graph.proofs.Names.{Contains, HasEdge, List, New, [], ap, arith, cases_lt, get_or, get_or_default, inl, inr, length, length-set, length_push}
-use Rattle.chain_graph.proofs.Names.{refl, subst, suc, sym, take, zero, ℕ, ⊎_elim, ◌++◌, ◌+◌, ◌-◌, ◌<◌, ◌↔◌, ◌∙◌, ◌∷◌, ◌≡◌, ◌≢◌, ◌≤◌}
-use Rattle.std.proofs.Common.{get_or-set_other, get_or-set_same, set, ◌⊎◌}
+use Rattle.chain_graph.proofs.Names.{refl, subst, suc, sym, take, zero, ℕ, ◌++◌, ◌+◌, ◌-◌, ◌<◌, ◌↔◌, ◌∙◌, ◌∷◌, ◌≡◌, ◌≢◌}
+use Rattle.std.proofs.Common.{get_or-set_other, get_or-set_same, set}
 use Rattle.std.proofs.lemmas.Bool.{cases_eq}
 use Rattle.std.proofs.lemmas.List.{get_or_past, get_or_push, take_more}
 use Rattle.std.proofs.lemmas.List.Elements.{Contains-append_left, Contains-push, Contains-push_cases}
 use Rattle.chain_graph.specs.declared.search.Mark.{Mark}
 use Rattle.chain_graph.specs.declared.search.Mark.TheVariants.{Done, Open}
-use Rattle.chain_graph.specs.steps.Search.{AreMarked, EachAfter, Follows, HasTargetsIn, IsSound, KeepsVisited}
+use Rattle.chain_graph.specs.steps.Search.{AreMarked, EachAfter, Follows, HasLeft, HasTargetsIn, IsSound, KeepsVisited}
 use Rattle.chain_graph.specs.steps.Targets.{HasTargetCycle, IsTargetPath}
 use Rattle.chain_graph.proofs.EachLaws.{each-front, each-last, each-push}
 
--- a mark that is set
-pub set-mark : (marks : List Mark) (c d : ℕ) (m : Mark) → c < length marks
-    → ((d ≡ c) × (get_or (set marks c m) d New ≡ m)) ⊎ ((d ≢ c) × (get_or (set marks c m) d New ≡ get_or marks d New))
-set-mark marks c d m h =
-    ⊎_elim (λ e. inl (e, ap (λ k. get_or (set marks c m) k New) e ∙ get_or-set_same marks c m New h))
-    (λ n. inr (n, get_or-set_other marks c d m New n)) (cases_eq d c)
+-- what holds of each entry still does after one is set
+set-each : {X : Type 0} (P : ℕ → X → Type 0) (xs : List X) (c : ℕ) (v e : X) → c < length xs → P c v
+    → ((d : ℕ) → d ≢ c → P d (get_or xs d e)) → (d : ℕ) → P d (get_or (set xs c v) d e)
+set-each P xs c v e at here others d = elim (cases_eq d c) [
+  | inl q ↦ subst (λ x. P x (get_or (set xs c v) x e)) (sym q) (rw (get_or-set_same xs c v e at) here)
+  | inr ne ↦ rw (get_or-set_other xs c d v e ne) (others d ne)
+]
 
 pub keeps_visited : (marks : List Mark) (c : ℕ) (m : Mark) → c < length marks → m ≢ New → KeepsVisited marks (set marks c m)
-keeps_visited marks c m h ne = record { keeps = λ d visited e. ⊎_elim (λ p. ne (sym p.1 ∙ e)) (λ p. visited (sym p.1 ∙ e)) (set-mark marks c d m h) }
+keeps_visited marks c m at ne =
+    record { keeps = set-each (λ d n. get_or marks d New ≢ New → n ≢ New) marks c m New at (λ _. ne) (λ d _ visited. visited) }
 
 -- a node with a mark is in range
 pub marked_below : (marks : List Mark) (c : ℕ) → get_or marks c New ≢ New → c < length marks
@@ -27,20 +29,16 @@ marked_below marks c ne = elim (cases_lt c (length marks)) [ inl h ↦ h | inr h
 
 module _ (marks : List Mark) (c : ℕ) (m : Mark) (at : c < length marks) where
   pub marked-push : (xs : List ℕ) → AreMarked marks m xs → AreMarked (set marks c m) m (xs ++ c ∷ [])
-  marked-push xs s d = elim (set-mark marks c d m at) [
-    | inl p ↦ (λ h. p.1, λ e. subst (Contains (xs ++ c ∷ [])) (sym p.0) (Contains-push xs c))
-    | inr p ↦ (
-      λ h. p.1 ∙ (s d).0 (elim (Contains-push_cases xs c d h) [ inl r ↦ r | inr r ↦ absurd (p.0 (sym r)) ]),
-      λ e. Contains-append_left xs (c ∷ []) d ((s d).1 (sym p.1 ∙ e)),
-    )
-  ]
+  marked-push xs s = set-each (λ d n. Contains (xs ++ c ∷ []) d ↔ (n ≡ m)) marks c m New at (λ _. refl, λ _. Contains-push xs c)
+      (λ d ne. (
+        λ h. (s d).0 (elim (Contains-push_cases xs c d h) [ inl r ↦ r | inr r ↦ absurd (ne (sym r)) ]),
+        λ e. Contains-append_left xs (c ∷ []) d ((s d).1 e),
+      ))
 
   pub marked-others : (n : Mark) (xs : List ℕ) → n ≢ m → (Contains xs c → ⊥)
       → ((d : ℕ) → d ≢ c → Contains xs d ↔ (get_or marks d New ≡ n)) → AreMarked (set marks c m) n xs
-  marked-others n xs ne out s d = elim (set-mark marks c d m at) [
-    | inl p ↦ (λ h. absurd (out (subst (Contains xs) p.0 h)), λ e. absurd (ne (sym e ∙ p.1)))
-    | inr p ↦ (λ h. p.1 ∙ (s d p.0).0 h, λ e. (s d p.0).1 (sym p.1 ∙ e))
-  ]
+  marked-others n xs ne out s =
+      set-each (λ d k. Contains xs d ↔ (k ≡ n)) marks c m New at (λ h. absurd (out h), λ e. absurd (ne (sym e))) s
 
 -- a node on the path is in range
 pub path_below : {g : List (List ℕ)} {marks : List Mark} {left path order : List ℕ} {c : ℕ} → IsSound g marks left path order
@@ -63,8 +61,7 @@ module _ (g : List (List ℕ)) (marks : List Mark) (left rest order : List ℕ) 
       record {
         marks_long = length-set marks c Done ∙ s.marks_long;
         left_long = s.left_long;
-        fits = s.fits;
-        scanned = λ d k h l. Contains-append_left order (c ∷ []) (get_or (get_or g d []) k 0) (s.scanned d k h l);
+        scanned = λ d. ((s.scanned d).0, λ k h l. Contains-append_left order (c ∷ []) (get_or (get_or g d []) k 0) ((s.scanned d).1 k h l));
         done = marked-push marks c Done at order s.done;
         opened = marked-others marks c Done at Open rest (λ e. (cc)) (each-last IsNew rest c s.path_once)
             (λ d ne. (
@@ -75,31 +72,24 @@ module _ (g : List (List ℕ)) (marks : List Mark) (left rest order : List ℕ) 
         path_once = each-front IsNew rest c s.path_once;
         chained = each-front (Follows g) rest c s.chained;
         after = each-push (HasTargetsIn g) order c s.after
-            (λ t e. subst (Contains order) (get_or_default (get_or g c []) e.0 0 t e.1 ∙ e.2) (s.scanned c e.0 (omega arith) e.1));
+            (λ t e. subst (Contains order) (get_or_default (get_or g c []) e.0 0 t e.1 ∙ e.2) ((s.scanned c).1 e.0 (omega arith) e.1));
       }
 
   -- the target looked at is done
   pub scanned_on : (k : ℕ) → IsSound g marks left (rest ++ c ∷ []) order → c < length left → get_or left c 0 ≡ k + 1
       → get_or marks (get_or (get_or g c []) k 0) New ≡ Done → IsSound g marks (set left c k) (rest ++ c ∷ []) order
   scanned_on k s at here is =
-      let least = s.fits c in
-      let same = get_or-set_same left c k 0 at in
+      let least = (s.scanned c).0 in
       record {
         marks_long = s.marks_long;
         left_long = length-set left c k ∙ s.left_long;
-        fits = λ d. elim (cases_eq d c) [
-          | inl e ↦ subst (λ x. get_or (set left c k) x 0 ≤ length (get_or g x [])) (sym e) (omega arith)
-          | inr ne ↦ let n = get_or-set_other left c d k 0 ne in let m = s.fits d in omega arith
-        ];
-        scanned = λ d j h l. elim (cases_eq d c) [
-          | inl e ↦
-              let below : k ≤ j = let h' = subst (λ x. get_or (set left c k) x 0 ≤ j) e h in omega arith in
-              subst (λ x. Contains order (get_or (get_or g x []) j 0)) (sym e) (elim (cases_eq j k) [
-                | inl ej ↦ subst (λ x. Contains order (get_or (get_or g c []) x 0)) (sym ej) ((s.done (get_or (get_or g c []) k 0)).1 is)
-                | inr nej ↦ s.scanned c j (omega arith) (subst (λ x. j < length (get_or g x [])) e l)
-              ])
-          | inr ne ↦ s.scanned d j (let n = get_or-set_other left c d k 0 ne in omega arith) l
-        ];
+        scanned = set-each (HasLeft g order) left c k 0 at (
+          omega arith,
+          λ j h l. elim (cases_eq j k) [
+            | inl e ↦ subst (λ x. Contains order (get_or (get_or g c []) x 0)) (sym e) ((s.done (get_or (get_or g c []) k 0)).1 is)
+            | inr ne ↦ (s.scanned c).1 j (omega arith) l
+          ],
+        ) (λ d ne. s.scanned d);
         done = s.done;
         opened = s.opened;
         order_once = s.order_once;
@@ -117,7 +107,6 @@ entered g marks left path order t s new here last =
     record {
       marks_long = length-set marks t Open ∙ s.marks_long;
       left_long = s.left_long;
-      fits = s.fits;
       scanned = s.scanned;
       done = marked-others marks t Open at Done order (λ e. (cc))
           (λ h. let q : New ≡ Done = sym new ∙ (s.done t).0 h in cc) (λ d ne. s.done d);

@@ -20,6 +20,11 @@ Follows g before x = (rest : List ℕ) (c : ℕ) → before ≡ rest ++ c ∷ []
 abbrev pub HasTargetsIn : List (List ℕ) → List ℕ → ℕ → Type 0
 HasTargetsIn g before x = (t : ℕ) → HasEdge g x t → Contains before t
 
+-- all targets of the node but the first l are in the order
+abbrev pub HasLeft : List (List ℕ) → List ℕ → ℕ → ℕ → Type 0
+HasLeft g order c l = (l ≤ length (get_or g c []))
+    × ((k : ℕ) → l ≤ k → k < length (get_or g c []) → Contains order (get_or (get_or g c []) k 0))
+
 -- the nodes with this mark are those of the list
 abbrev pub AreMarked : List Mark → Mark → List ℕ → Type 0
 AreMarked marks m xs = (c : ℕ) → Contains xs c ↔ (get_or marks c New ≡ m)
@@ -29,9 +34,7 @@ AreMarked marks m xs = (c : ℕ) → Contains xs c ↔ (get_or marks c New ≡ m
 pub record IsSound (g : List (List ℕ)) (marks : List Mark) (left path order : List ℕ) : Type 0 where
   pub marks_long : length marks ≡ length g
   pub left_long : length left ≡ length g
-  pub fits : (c : ℕ) → get_or left c 0 ≤ length (get_or g c [])
-  pub scanned : (c k : ℕ) → get_or left c 0 ≤ k → k < length (get_or g c [])
-      → Contains order (get_or (get_or g c []) k 0)
+  pub scanned : (c : ℕ) → HasLeft g order c (get_or left c 0)
   pub done : AreMarked marks Done order
   pub opened : AreMarked marks Open path
   pub order_once : IsRepeatFree order
