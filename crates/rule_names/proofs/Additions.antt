@@ -46,24 +46,18 @@ module _ {T X : Type 0} (view : T → X) (name_of : X → Text) (xs : List X) (a
 
 module _ (items : List ItemTree) (old : NamedItems) (held : Represents items old) where
   pub comment-added : (text : Text) → Represents (items ++ tree.comment text ∷ []) old
-  comment-added text = record {
-    chains = simp (filter_map-append, append-nil) held.chains;
-    sets = simp (filter_map-append, append-nil) held.sets;
-    maps = simp (filter_map-append, append-nil) held.maps;
-    both = simp (filter_map-append, append-nil) held.both;
-    both_apart = simp (filter_map-append, append-nil) held.both_apart;
-  }
+  comment-added text = simp (filter_map-append, append-nil) held
 
   pub chain-added : (c : Bor Chain) (name : Text) → name ≡ c.now.name.items → (new : Named Chain) (fresh : Bool)
       → (new.all.items ≡ old.chains.all.items ++ c ∷ []) × IsAdded old.chains.names name new.names fresh
       → RepresentsOrHasDuplicate (items ++ tree.chain (chain_tree c.now) ∷ []) (record old { chains = new }) fresh
-  chain-added c name is new true added = record {
-    chains = simp filter_map-append (named-more chain_tree (λ c. c.name) _ _ _ held.chains c name is new.all.items new.names added.0 added.1);
-    sets = simp (filter_map-append, append-nil) held.sets;
-    maps = simp (filter_map-append, append-nil) held.maps;
-    both = simp (filter_map-append, append-nil) held.both;
-    both_apart = simp (filter_map-append, append-nil) held.both_apart;
-  }
+  chain-added c name is new true added = simp (filter_map-append, append-nil) (record {
+    chains = named-more chain_tree (λ c. c.name) _ _ _ held.chains c name is new.all.items new.names added.0 added.1;
+    sets = held.sets;
+    maps = held.maps;
+    both = held.both;
+    both_apart = held.both_apart;
+  })
   chain-added c name is new false added = inl (simp filter_map-append (named-duplicate chain_tree (λ c. c.name) _ _ _ held.chains c name is added.1))
 
   -- the names that sets and maps share
@@ -79,13 +73,15 @@ module _ (items : List ItemTree) (old : NamedItems) (held : Represents items old
       → (new.all.items ≡ old.sets.all.items ++ s ∷ []) × IsAdded old.sets.names own new.names fresh
       → RepresentsOrHasDuplicate (items ++ tree.set (set_tree s.now) ∷ [])
       (record old { sets = new; sets_and_maps = both }) fresh
-  set-added s shared own is is_own both new_both new true added = record {
-    chains = simp (filter_map-append, append-nil) held.chains;
-    sets = simp filter_map-append (named-more set_tree (λ s. s.name) _ _ _ held.sets s own is_own new.all.items new.names added.0 added.1);
-    maps = simp (filter_map-append, append-nil) held.maps;
-    both = simp filter_map-append (new_both.0 ∙ shared-more shared s.now.name.items is);
-    both_apart = simp filter_map-append (subst (λ ns. HasDuplicate ns → ⊥) (new_both.0 ∙ shared-more shared s.now.name.items is) new_both.1);
-  }
+  set-added s shared own is is_own both new_both new true added =
+      let more = new_both.0 ∙ shared-more shared s.now.name.items is in
+      simp (filter_map-append, append-nil) (record {
+        sets = named-more set_tree (λ s. s.name) _ _ _ held.sets s own is_own new.all.items new.names added.0 added.1;
+        chains = held.chains;
+        maps = held.maps;
+        both = more;
+        both_apart = subst (λ ns. HasDuplicate ns → ⊥) more new_both.1;
+      })
   set-added s shared own is is_own both new_both new false added =
       inr (sets-repeat (items ++ tree.set (set_tree s.now) ∷ [])
       (simp filter_map-append (named-duplicate set_tree (λ s. s.name) _ _ _ held.sets s own is_own added.1)))
@@ -95,13 +91,15 @@ module _ (items : List ItemTree) (old : NamedItems) (held : Represents items old
       → (new.all.items ≡ old.maps.all.items ++ m ∷ []) × IsAdded old.maps.names own new.names fresh
       → RepresentsOrHasDuplicate (items ++ tree.map_item (map_tree m.now) ∷ [])
       (record old { maps = new; sets_and_maps = both }) fresh
-  map-added m shared own is is_own both new_both new true added = record {
-    chains = simp (filter_map-append, append-nil) held.chains;
-    sets = simp (filter_map-append, append-nil) held.sets;
-    maps = simp filter_map-append (named-more map_tree (λ m. m.name) _ _ _ held.maps m own is_own new.all.items new.names added.0 added.1);
-    both = simp filter_map-append (new_both.0 ∙ shared-more shared m.now.name.items is);
-    both_apart = simp filter_map-append (subst (λ ns. HasDuplicate ns → ⊥) (new_both.0 ∙ shared-more shared m.now.name.items is) new_both.1);
-  }
+  map-added m shared own is is_own both new_both new true added =
+      let more = new_both.0 ∙ shared-more shared m.now.name.items is in
+      simp (filter_map-append, append-nil) (record {
+        maps = named-more map_tree (λ m. m.name) _ _ _ held.maps m own is_own new.all.items new.names added.0 added.1;
+        chains = held.chains;
+        sets = held.sets;
+        both = more;
+        both_apart = subst (λ ns. HasDuplicate ns → ⊥) more new_both.1;
+      })
   map-added m shared own is is_own both new_both new false added =
       inr (maps-repeat (items ++ tree.map_item (map_tree m.now) ∷ [])
       (simp filter_map-append (named-duplicate map_tree (λ m. m.name) _ _ _ held.maps m own is_own added.1)))

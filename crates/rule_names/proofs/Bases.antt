@@ -1,13 +1,15 @@
 -- Looking up a base chain.
-use Rattle.rule_names.proofs.Names.{Bool, HasDuplicate, List, None, Option, Some, Text, [], ap, arith, bytes_eq, cond, false, list_any, map, option_map, refl}
-use Rattle.rule_names.proofs.Names.{subst, sym, true, ⊎_elim, ◌||◌, ◌∙◌, ◌∷◌, ◌≡◌}
+use Rattle.rule_names.proofs.Names.{Bool, Contains, HasDuplicate, List, None, Option, Some, Text, [], ap, bytes_eq, cond, false, list_any, map, option_map}
+use Rattle.rule_names.proofs.Names.{refl, subst, sym, true, ◌||◌, ◌∙◌, ◌∷◌, ◌≡◌}
 use Rattle.std.proofs.Common.{◌&&◌}
 use Rattle.std.specs.Prelude.{is_some}
+use Rattle.std.proofs.lemmas.List.Folds.{Any-from_list_any}
+use Rattle.list_laws.specs.Elements.{Contains-map}
 use Rattle.std.specs.Cmp.Lexicographic.{same_text}
-use Rattle.std.proofs.lemmas.Bool.{false_from_ne_true, or_cases}
+use Rattle.std.proofs.lemmas.Bool.{false_from_ne_true}
 use Rattle.std.proofs.Math.Bool.{or-false}
 use Rattle.nft_tree.specs.Tree.{ChainTree}
-use Rattle.rule_names.proofs.Duplicates.{Among, among-more, repeats-here, repeats-more}
+use Rattle.rule_names.proofs.Duplicates.{repeats-here, repeats-more}
 use Rattle.rule_names.proofs.IndexLookup.{first_named}
 
 -- the chain is a base chain
@@ -19,22 +21,18 @@ is_base (Some c) = is_some c.head
 abbrev pub base_named : Text → ChainTree → Bool
 base_named name c = bytes_eq c.name name && is_some c.head
 
-pub and-left : (a b : Bool) → a && b ≡ true → a ≡ true
+and-left : (a b : Bool) → a && b ≡ true → a ≡ true
 and-left true b h = refl
 and-left false b h = h
 
 abbrev pub names : List ChainTree → List Text
 names cs = map (λ c. c.name) cs
 
-pub base-among-here : (c : ChainTree) (cs : List ChainTree) (name : Text) → c.name ≡ name → Among (names (c ∷ cs)) name
-base-among-here c cs name e = record { index = 0; within = omega arith; is = e }
-
-pub base-among : (cs : List ChainTree) (name : Text) → list_any (base_named name) cs ≡ true → Among (names cs) name
-base-among [] name t = cc
-base-among (c ∷ cs) name t = ⊎_elim
-    (λ h. base-among-here c cs name (same_text c.name name (sym (and-left (bytes_eq c.name name) (is_some c.head) h))))
-    (λ h. among-more c.name (names cs) name (base-among cs name h))
-    (or_cases (base_named name c) (list_any (base_named name) cs) t)
+pub base-among : (cs : List ChainTree) (name : Text) → list_any (base_named name) cs ≡ true → Contains (names cs) name
+base-among cs name t =
+    let a = Any-from_list_any (base_named name) cs t in
+    subst (Contains (names cs)) (same_text a.1.name name (sym (and-left (bytes_eq a.1.name name) (is_some a.1.head) a.4)))
+    (Contains-map (λ c. c.name) cs a.1 (a.0, a.2, a.3))
 
 pub base-step : (b : Bool) (c : ChainTree) (rest : Bool) (o : Option ChainTree) → rest ≡ is_base o
     → (b ≡ true → rest ≡ false) → (b && is_some c.head) || rest ≡ is_base (cond b (Some c) o)
@@ -48,7 +46,7 @@ any-base (c ∷ cs) name apart =
     base-step (bytes_eq c.name name) c (list_any (base_named name) cs) (first_named (λ c. c.name) name cs)
     (any-base cs name (λ r. apart (repeats-more c.name (names cs) r)))
     (λ t. false_from_ne_true (list_any (base_named name) cs) (λ u.
-    apart (repeats-here c.name (names cs) (subst (Among (names cs)) (sym (same_text c.name name (sym t))) (base-among cs name u)))))
+    apart (repeats-here c.name (names cs) (subst (Contains (names cs)) (sym (same_text c.name name (sym t))) (base-among cs name u)))))
 
 pub is-some-map : {A B : Type 0} (f : A → B) (o : Option A) → is_some o ≡ is_some (option_map f o)
 is-some-map f None = refl

@@ -1,10 +1,12 @@
 -- A duplicate set or a duplicate map is a duplicate among sets and maps.
-use Rattle.rule_names.proofs.Names.{HasDuplicate, List, Text, [], map, subst, sym, ⊎_elim, ◌∷◌}
+use Rattle.rule_names.proofs.Names.{Contains, HasDuplicate, List, Text, [], map, subst, sym, ⊎_elim, ◌∷◌}
 use Rattle.std.specs.List.{filter_map}
 use Rattle.nft_tree.specs.Tree.{ItemTree}
 use Rattle.nft_tree.specs.TableItems.{map_in, set_in}
 use Rattle.rule_names.specs.Names.{set_or_map_name}
-use Rattle.rule_names.proofs.Duplicates.{Among, among-here, among-more, among-split, repeats-here, repeats-more, repeats-split}
+use Rattle.rule_names.proofs.Duplicates.{repeats-here, repeats-more, repeats-split}
+use Rattle.list_laws.specs.Elements.{Contains-cases, Contains-tail}
+use Rattle.list_laws.specs.Lists.{Contains-head}
 use Rattle.nft_tree.specs.Tree as tree
 
 -- the names of sets, of maps and of both among these items
@@ -17,31 +19,31 @@ of_maps items = map (λ m. m.name) (filter_map map_in items)
 abbrev pub of_both : List ItemTree → List Text
 of_both items = filter_map set_or_map_name items
 
-pub among-same : (n : Text) (small large : List Text) (name : Text) → (Among small name → Among large name) → Among (n ∷ small) name → Among (n ∷ large) name
+pub among-same : (n : Text) (small large : List Text) (name : Text) → (Contains small name → Contains large name) → Contains (n ∷ small) name → Contains (n ∷ large) name
 among-same n small large name more a = ⊎_elim
-    (λ e. subst (λ x. Among (x ∷ large) name) (sym e) (among-here name large))
-    (λ r. among-more n large name (more r))
-    (among-split n small name a)
+    (λ e. subst (λ x. Contains (x ∷ large) name) (sym e) (Contains-head name large))
+    (λ r. Contains-tail n large name (more r))
+    (Contains-cases n small name a)
 
-pub repeats-same : (n : Text) (small large : List Text) → (Among small n → Among large n)
+pub repeats-same : (n : Text) (small large : List Text) → (Contains small n → Contains large n)
     → (HasDuplicate small → HasDuplicate large) → HasDuplicate (n ∷ small) → HasDuplicate (n ∷ large)
 repeats-same n small large among more r = ⊎_elim
     (λ a. repeats-here n large (among a))
     (λ s. repeats-more n large (more s))
     (repeats-split n small r)
 
-pub sets-among : (items : List ItemTree) (name : Text) → Among (of_sets items) name → Among (of_both items) name
+pub sets-among : (items : List ItemTree) (name : Text) → Contains (of_sets items) name → Contains (of_both items) name
 sets-among [] name a = a
 sets-among (tree.comment text ∷ rest) name a = sets-among rest name a
 sets-among (tree.chain c ∷ rest) name a = sets-among rest name a
 sets-among (tree.set s ∷ rest) name a = among-same s.name (of_sets rest) (of_both rest) name (sets-among rest name) a
-sets-among (tree.map_item m ∷ rest) name a = among-more m.name (of_both rest) name (sets-among rest name a)
+sets-among (tree.map_item m ∷ rest) name a = Contains-tail m.name (of_both rest) name (sets-among rest name a)
 
-pub maps-among : (items : List ItemTree) (name : Text) → Among (of_maps items) name → Among (of_both items) name
+pub maps-among : (items : List ItemTree) (name : Text) → Contains (of_maps items) name → Contains (of_both items) name
 maps-among [] name a = a
 maps-among (tree.comment text ∷ rest) name a = maps-among rest name a
 maps-among (tree.chain c ∷ rest) name a = maps-among rest name a
-maps-among (tree.set s ∷ rest) name a = among-more s.name (of_both rest) name (maps-among rest name a)
+maps-among (tree.set s ∷ rest) name a = Contains-tail s.name (of_both rest) name (maps-among rest name a)
 maps-among (tree.map_item m ∷ rest) name a = among-same m.name (of_maps rest) (of_both rest) name (maps-among rest name) a
 
 pub sets-repeat : (items : List ItemTree) → HasDuplicate (of_sets items) → HasDuplicate (of_both items)

@@ -1,7 +1,6 @@
 -- Lists that are read one item at a time.
-use Rattle.rule_names.proofs.Names.{List, [], ap, arith, get_or, length, map, map-append, map-more, sym, take, ℕ, ◌++◌, ◌+◌, ◌<◌, ◌∙◌, ◌∷◌, ◌≡◌}
+use Rattle.rule_names.proofs.Names.{Contains, List, [], ap, arith, get_or, length, map, map-append, map-more, sym, take, ℕ, ◌++◌, ◌+◌, ◌<◌, ◌∙◌, ◌∷◌, ◌≡◌}
 use Rattle.std.proofs.Common.{drop}
-use Rattle.std.specs.Prelude.{Contains}
 use Rattle.std.proofs.lemmas.List.{length-map, take-append-drop}
 use Rattle.std.proofs.Math.ListN.{get_or-map}
 

@@ -13,5 +13,5 @@ pub use Rattle.std.proofs.lemmas.List.{map-append}
 pub use Rattle.std.specs.Borrow.{Bor}
 pub use Rattle.std.specs.List.{list_any}
 pub use Rattle.std.specs.Option.{option_map}
-pub use Rattle.std.specs.Prelude.{All, MatchOption}
+pub use Rattle.std.specs.Prelude.{All, Contains, MatchOption}
 pub use Rattle.std.specs.Str.{bytes_eq}

@@ -1,17 +1,15 @@
 -- Duplicate names in a ruleset.
-use Rattle.rule_names.proofs.Names.{All, Bool, HasDuplicate, HasUniqueNames, List, MatchOption, None, Option, Some, TableTree, [], ap, cond, false, get_or}
-use Rattle.rule_names.proofs.Names.{length, map, map-append, map-more, refl, subst, sym, table_names, table_tree, take, true, ℕ, ⊎_elim, ◌++◌, ◌+◌, ◌<◌, ◌∙◌}
-use Rattle.rule_names.proofs.Names.{◌∷◌, ◌≡◌}
-use Rattle.std.proofs.Common.{Err, Ok, Result, drop}
+use Rattle.rule_names.proofs.Names.{All, Bool, HasDuplicate, HasUniqueNames, List, TableTree, [], ap, cond, false, get_or, length, map, map-append, map-more}
+use Rattle.rule_names.proofs.Names.{refl, subst, sym, table_names, table_tree, take, true, ℕ, ◌++◌, ◌+◌, ◌<◌, ◌∙◌, ◌∷◌, ◌≡◌}
+use Rattle.std.proofs.Common.{drop}
 use denote.Enum.Bare.{sameb}
-use Rattle.std.specs.Prelude.{IfOk, IfSome, IsTrue}
+use Rattle.std.specs.Prelude.{IsTrue}
 use Rattle.std.proofs.lemmas.List.Elements.{All-contains, filter-append}
 use Rattle.std.proofs.lemmas.List.{append-nil}
 use Rattle.nft_tree.specs.contracts.ruleset.Family.{the_type}
 use Rattle.nft_tree.specs.declared.ruleset.Family.{Family}
 use Rattle.nft_tree.specs.declared.ruleset.Table.{Table}
 use Rattle.rule_names.specs.Names.{DuplicateName, same_family, two_chains, two_sets_or_maps, two_tables}
-use Rattle.rule_names.specs.steps.Table.{SomeTableHasDuplicate}
 use Rattle.rule_names.proofs.Lists.{map-around}
 use Rattle.rule_names.proofs.Duplicates.{repeats-on}
 use Rattle.nft_tree.specs.declared.ruleset.Family.TheVariants as families
@@ -55,24 +53,9 @@ module _ (family : Family) (tables : List Table) (i : ℕ) (x : Table) (inside :
 
 -- ---- all tables
 
-pub some-duplicate : (tables : List TableTree) → SomeTableHasDuplicate tables → DuplicateName tables
-some-duplicate tables s = ⊎_elim (λ r. two_chains s.table s.member r) (λ r. two_sets_or_maps s.table s.member r) s.duplicate
-
 pub none-duplicate : (tables : List TableTree) → (HasDuplicate (table_names families.Ip tables) → ⊥)
     → (HasDuplicate (table_names families.Inet tables) → ⊥) → All HasUniqueNames tables → DuplicateName tables → ⊥
 none-duplicate tables ip inet all (two_tables families.Ip r) = ip r
 none-duplicate tables ip inet all (two_tables families.Inet r) = inet r
 none-duplicate tables ip inet all (two_chains t h r) = (All-contains HasUniqueNames tables t all h).chains_apart r
 none-duplicate tables ip inet all (two_sets_or_maps t h r) = (All-contains HasUniqueNames tables t all h).sets_and_maps_apart r
-
-module _ {T E : Type 0} (P : Type 0) (Q : T → Type 0) where
-  pub ok-none : (R : Type 0) (r : Result (Option T) E) → (P → R) → IfOk r (λ o. MatchOption o P Q) → IfOk r (λ o. MatchOption o R Q)
-  ok-none R (Ok None) f h = f h
-  ok-none R (Ok (Some x)) f h = h
-  ok-none R (Err e) f h = h
-
-  pub ok-some : (A : T → Type 0) (R : Type 0) (r : Result (Option T) E) → ((x : T) → Q x → A x → R)
-      → IfOk r (λ o. MatchOption o P Q) → IfOk r (λ o. IfSome o A) → IfOk r (λ o. IfSome o (λ _. R))
-  ok-some A R (Ok None) f h k = k
-  ok-some A R (Ok (Some x)) f h k = f x h k
-  ok-some A R (Err e) f h k = k

@@ -7,7 +7,7 @@ ghost use Rattle.rule_names.specs.Names.{DuplicateName, HasDuplicate, chain_name
 ghost use Rattle.rule_names.specs.Names.{is_set_or_map, map_named, map_names, index_in, set_named, set_names};
 ghost use Rattle.rule_names.specs.Names.{table_names};
 ghost use Rattle.rule_names.specs.steps.Index.{IsAdded, at_index};
-ghost use Rattle.rule_names.specs.steps.Table.{Represents, RepresentsOrHasDuplicate, HasUniqueNames, SomeTableHasDuplicate, HasDuplicateIn};
+ghost use Rattle.rule_names.specs.steps.Table.{Represents, RepresentsOrHasDuplicate, HasUniqueNames, HasDuplicateIn};
 
 use crate::index::NameIndex;
 use nft_tree::{Chain, Family, Item, MapDecl, Ruleset, SetDecl, Table};
@@ -259,9 +259,9 @@ fn names_in_each<'t>(
     alloc: Global,
     tables: &'t [Table],
 ) -> Result<Option<Vec<TableNames<'t>>>, AllocError>
-    ensures is { IfOk result (λ o. MatchOption o (SomeTableHasDuplicate (map table_tree tables.now))
+    ensures is { IfOk result (λ o. MatchOption o (DuplicateName (map table_tree tables.now))
         (λ names. names.items ≡ map table_tree tables.now)) }
-    ensures apart { IfOk result (λ o. IfSome o (λ names. All HasUniqueNames names.items)) }
+    ensures apart { IfOk result (λ o. IfSome o (λ _. All HasUniqueNames (map table_tree tables.now))) }
 {
     let mut names = Vec::with_capacity(alloc, tables.len())?;
     for table in tables {

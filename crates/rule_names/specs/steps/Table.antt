@@ -1,8 +1,8 @@
 -- The contents of the index of a table.
-use Rattle.std.specs.Prelude.{◌≡◌, ◌⊎◌, Bool, true, false, List, map, Contains}
+use Rattle.std.specs.Prelude.{◌≡◌, ◌⊎◌, Bool, true, false, List, map}
 use Rattle.std.specs.Borrow.{Bor}
 use Rattle.std.specs.List.{filter_map}
-use Rattle.nft_tree.specs.Tree.{Text, ItemTree, TableTree, chain_tree, set_tree, map_tree}
+use Rattle.nft_tree.specs.Tree.{Text, ChainTree, SetTree, MapTree, ItemTree, TableTree, chain_tree, set_tree, map_tree}
 use Rattle.nft_tree.specs.TableItems.{chain_in, set_in, map_in}
 use Rattle.rule_names.specs.Names.{HasDuplicate, chain_names, set_and_map_names, set_or_map_name}
 use Rattle.rule_names.specs.declared.table.NamedItems.{NamedItems}
@@ -19,13 +19,18 @@ pub record AreNamed {T X : Type 0} (view : T → X) (name_of : X → Text) (xs :
   pub named : names ≡ map name_of xs
   pub apart : HasDuplicate (map name_of xs) → ⊥
 
+-- the index has these chains, sets and maps, and the names of both of the latter
+pub record Holds (cs : List ChainTree) (ss : List SetTree) (ms : List MapTree) (names : List Text) (n : NamedItems) : Type 0 where
+  pub chains : AreNamed chain_tree (λ c. c.name) cs n.chains.all.items n.chains.names
+  pub sets : AreNamed set_tree (λ s. s.name) ss n.sets.all.items n.sets.names
+  pub maps : AreNamed map_tree (λ m. m.name) ms n.maps.all.items n.maps.names
+  pub both : n.sets_and_maps ≡ names
+  pub both_apart : HasDuplicate names → ⊥
+
 -- the index of these items: chains, sets and maps, and their names
-pub record Represents (items : List ItemTree) (n : NamedItems) : Type 0 where
-  pub chains : AreNamed chain_tree (λ c. c.name) (filter_map chain_in items) n.chains.all.items n.chains.names
-  pub sets : AreNamed set_tree (λ s. s.name) (filter_map set_in items) n.sets.all.items n.sets.names
-  pub maps : AreNamed map_tree (λ m. m.name) (filter_map map_in items) n.maps.all.items n.maps.names
-  pub both : n.sets_and_maps ≡ filter_map set_or_map_name items
-  pub both_apart : HasDuplicate (filter_map set_or_map_name items) → ⊥
+abbrev pub Represents : List ItemTree → NamedItems → Type 0
+Represents items n =
+    Holds (filter_map chain_in items) (filter_map set_in items) (filter_map map_in items) (filter_map set_or_map_name items) n
 
 -- the items have a duplicate name
 abbrev pub HasDuplicateIn : List ItemTree → Type 0
@@ -36,9 +41,3 @@ HasDuplicateIn items =
 abbrev pub RepresentsOrHasDuplicate : List ItemTree → NamedItems → Bool → Type 0
 RepresentsOrHasDuplicate items n true = Represents items n
 RepresentsOrHasDuplicate items n false = HasDuplicateIn items
-
--- one of the tables has a duplicate name
-pub record SomeTableHasDuplicate (tables : List TableTree) : Type 0 where
-  pub table : TableTree
-  pub member : Contains tables table
-  pub duplicate : HasDuplicateIn table.items

@@ -1,13 +1,12 @@
-use Rattle.rule_names.proofs.Names.{YieldsList-from_slice, any_from_yields_List, any_of_map, list_any, map, rules, tests, ◌∙◌}
+use Rattle.rule_names.proofs.Names.{YieldsList-from_slice, any_from_yields_List, list_any, rules, tests, ◌∙◌}
 use Rattle.nft_tree.specs.Tree.{rule_tree}
 use Rattle.rule_names.specs.Names.{rule_references}
 use Rattle.rule_names.specs.steps.TargetTests.{is_unknown}
-use Rattle.rule_names.proofs.Tests.{any-flat}
+use Rattle.rule_names.proofs.Tests.{any-viewed}
 use Rattle.rule_names.proofs.references.rules_refer_to_unknown_set.Goals as goal
 
 pub returns : goal.returns
 returns c =
-    any_from_yields_List (λ x. list_any (is_unknown c.args.names.now) (rule_references (rule_tree x))) _ _
-    c.any.result c.any.ensures.ran (YieldsList-from_slice c.args.rules.now cc) (λ x b q k. search (rules, tests))
-    ∙ any_of_map (λ t. list_any (is_unknown c.args.names.now) (rule_references t)) rule_tree c.args.rules.now
-    ∙ any-flat (is_unknown c.args.names.now) rule_references (map rule_tree c.args.rules.now)
+    any_from_yields_List (λ x. list_any (is_unknown c.args.names.now) (rule_references (rule_tree x))) _ _ c.any.result c.any.ensures.ran
+    (YieldsList-from_slice c.args.rules.now cc) (λ x b q k. search (rules, tests))
+    ∙ any-viewed (is_unknown c.args.names.now) rule_references rule_tree c.args.rules.now

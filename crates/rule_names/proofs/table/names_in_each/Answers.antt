@@ -1,5 +1,8 @@
-use Rattle.rule_names.proofs.Names.{All, HasUniqueNames, MatchOption, TableTree, [], ap₂, arith, map-more, subst, sym, table_tree, ◌++◌, ◌∙◌, ◌∷◌, ◌≡◌}
+use Rattle.rule_names.proofs.Names.{All, HasUniqueNames, MatchOption, TableTree, [], ap, ap₂, arith, map, map-more, subst, sym, table_tree, ⊎_elim, ◌++◌, ◌∙◌}
+use Rattle.rule_names.proofs.Names.{◌∷◌, ◌≡◌}
 use Rattle.std.specs.Prelude.{IfSome}
+use Rattle.std.proofs.lemmas.List.{take_all}
+use Rattle.rule_names.specs.Names.{two_chains, two_sets_or_maps}
 use Rattle.std.proofs.lemmas.Option.{MatchOption-at_none}
 use Rattle.std.proofs.lemmas.List.Elements.{All-push}
 use Rattle.rule_names.specs.steps.Table.{HasDuplicateIn}
@@ -7,12 +10,16 @@ use Rattle.rule_names.proofs.Lists.{Contains-map}
 use Rattle.rule_names.proofs.table.names_in_each.Goals as goal
 
 pub returns-in_default-clause-is : goal.returns-in_default-clause-is
-returns-in_default-clause-is c = record {
-  table = table_tree c.table-item.result;
-  member = Contains-map table_tree c.args.tables.now c.loop-table.table-index c.table-item.result (omega arith) c.table-item.is;
-  duplicate = MatchOption-at_none (HasDuplicateIn (table_tree c.table-item.result).items)
-      (λ (names : TableTree). names ≡ table_tree c.table-item.result) c.in_default.is c.in_ok-of_table.ensures.is;
-}
+returns-in_default-clause-is c =
+    let member = Contains-map table_tree c.args.tables.now c.loop-table.table-index c.table-item.result (omega arith) c.table-item.is in
+    ⊎_elim (two_chains (table_tree c.table-item.result) member) (two_sets_or_maps (table_tree c.table-item.result) member)
+    (MatchOption-at_none (HasDuplicateIn (table_tree c.table-item.result).items)
+    (λ (names : TableTree). names ≡ table_tree c.table-item.result) c.in_default.is c.in_ok-of_table.ensures.is)
+
+pub returns-clause-apart : goal.returns-clause-apart
+returns-clause-apart c =
+    subst (All HasUniqueNames) (c.loop-table.invariant.0 ∙ ap (map table_tree) (take_all c.loop-table.table-index c.args.tables.now (omega arith)))
+    c.loop-table.invariant.1
 
 pub loop-table-preserved : goal.loop-table-preserved
 loop-table-preserved c =

@@ -1,10 +1,9 @@
-use Rattle.rule_names.proofs.Names.{All, HasDuplicate, HasUniqueNames, MatchOption, TableTree, ap, map, subst, table_names, table_tree, ◌∙◌, ◌≡◌}
-use Rattle.std.proofs.Common.{Global, Vec}
-use Rattle.std.specs.Prelude.{IfOk}
+use Rattle.rule_names.proofs.Names.{All, HasDuplicate, HasUniqueNames, ap, map, subst, table_names, table_tree}
+use Rattle.std.proofs.lemmas.Result.{IfOk-weaker}
+use Rattle.list_laws.specs.Options.{IfSome_weaker}
 use Rattle.nft_tree.specs.Tree.{tables_of}
-use Rattle.rule_names.specs.Names.{DuplicateName, two_tables}
-use Rattle.rule_names.specs.steps.Table.{SomeTableHasDuplicate}
-use Rattle.rule_names.proofs.Tables.{is-not-true, none-duplicate, ok-none, ok-some, some-duplicate}
+use Rattle.rule_names.specs.Names.{two_tables}
+use Rattle.rule_names.proofs.Tables.{is-not-true, none-duplicate}
 use Rattle.nft_tree.specs.declared.ruleset.Family.TheVariants as families
 use Rattle.rule_names.proofs.table.names_of.Goals as goal
 
@@ -19,15 +18,7 @@ returns-then-branch-2-clause-names c =
     c.deref-2.ensures.value (c.in_ok-has_duplicate_table-2.ensures.0 c.if-branch-2.true))
 
 pub returns-clause-names : goal.returns-clause-names
-returns-clause-names c =
-    subst (λ ts. IfOk c.names_in_each.result
-    (λ answer. MatchOption answer (DuplicateName (tables_of c.args.tree.now))
-    (λ names. names.items ≡ map table_tree ts))) c.deref-3.ensures.value
-    (ok-none (SomeTableHasDuplicate (map table_tree c.deref-3.result.now))
-    (λ (names : Vec TableTree Global). names.items ≡ map table_tree c.deref-3.result.now)
-    (DuplicateName (tables_of c.args.tree.now)) c.names_in_each.result
-    (λ s. subst (λ ts. DuplicateName (map table_tree ts)) c.deref-3.ensures.value (some-duplicate (map table_tree c.deref-3.result.now) s))
-    c.names_in_each.ensures.is)
+returns-clause-names c = rw c.deref-3.ensures.value at c.names_in_each.ensures.is
 
 pub returns-clause-apart : goal.returns-clause-apart
 returns-clause-apart c =
@@ -36,8 +27,6 @@ returns-clause-apart c =
     let inet = subst (λ ts. HasDuplicate (table_names families.Inet (map table_tree ts)) → ⊥) c.deref-2.ensures.value
     (λ r. is-not-true c.in_ok-has_duplicate_table-2.field-0 c.if-branch-2.false
     (c.in_ok-has_duplicate_table-2.ensures.1 r)) in
-    ok-some (SomeTableHasDuplicate (map table_tree c.deref-3.result.now))
-    (λ (names : Vec TableTree Global). names.items ≡ map table_tree c.deref-3.result.now)
-    (λ names. All HasUniqueNames names.items) (DuplicateName (tables_of c.args.tree.now) → ⊥) c.names_in_each.result
-    (λ names is all. none-duplicate (tables_of c.args.tree.now) ip inet (subst (All HasUniqueNames) (is ∙ ap (map table_tree) c.deref-3.ensures.value) all))
-    c.names_in_each.ensures.is c.names_in_each.ensures.apart
+    IfOk-weaker c.names_in_each.result _ _
+    (λ o. IfSome_weaker o _ _ (λ _ all. none-duplicate (tables_of c.args.tree.now) ip inet (subst (All HasUniqueNames) (ap (map table_tree) c.deref-3.ensures.value) all)))
+    c.names_in_each.ensures.apart

@@ -1,4 +1,4 @@
-use Rattle.rule_names.proofs.Names.{List, ap, arith, get_or, item_tree, length, map, subst, ◌∙◌}
+use Rattle.rule_names.proofs.Names.{List, ap, arith, get_or, item_tree, length, map, subst, take, ◌∙◌}
 use Rattle.std.proofs.lemmas.List.{take_all}
 use Rattle.nft_tree.specs.declared.ruleset.Item.{Item}
 use Rattle.rule_names.specs.steps.Table.{Represents}
@@ -10,14 +10,14 @@ returns-then-not-branch-clause-is c =
     let n = ap length c.deref-item-items.ensures.value in
     let is = c.item-item.is ∙ ap (λ xs. get_or xs c.loop-item.item-index c.item-item.result) c.deref-item-items.ensures.value in
     item-duplicate c.args.table.now.items.items c.loop-item.item-index c.item-item.result (omega arith) is
-    c.add.new.self _ c.if-not-branch.true (c.in_ok-add.ensures _ c.loop-item.invariant)
+    c.add.new.self _ c.if-not-branch.true (c.in_ok-add.ensures (map item_tree (take c.loop-item.item-index c.args.table.now.items.items)) c.loop-item.invariant)
 
 pub loop-item-preserved : goal.loop-item-preserved
 loop-item-preserved c =
     let n = ap length c.deref-item-items.ensures.value in
     let is = c.item-item.is ∙ ap (λ xs. get_or xs c.loop-item.item-index c.item-item.result) c.deref-item-items.ensures.value in
     item-held c.args.table.now.items.items c.loop-item.item-index c.item-item.result (omega arith) is c.add.new.self _
-    c.if-not-branch.false (c.in_ok-add.ensures _ c.loop-item.invariant)
+    c.if-not-branch.false (c.in_ok-add.ensures (map item_tree (take c.loop-item.item-index c.args.table.now.items.items)) c.loop-item.invariant)
 
 pub returns-clause-apart : goal.returns-clause-apart
 returns-clause-apart c =
