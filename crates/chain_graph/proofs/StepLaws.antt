@@ -130,7 +130,8 @@ along g path chained j (suc m) h =
     let e : j + suc m ≡ j + m + 1 = omega arith in
     let edge = chained (j + suc m) h (take (j + m) path) (get_or path (j + m) 0)
     (ap (λ k. take k path) e ∙ take_more path (j + m) 0 (omega arith)) in
-    (before.0 ++ get_or path (j + suc m) 0 ∷ [], IsTargetPath-more g (get_or path j 0) before.0 (get_or path (j + m) 0) (get_or path (j + suc m) 0) before.1 edge)
+    let end : ℕ = get_or path (j + suc m) 0 in
+    (before.0 ++ end ∷ [], IsTargetPath-more g (get_or path j 0) before.0 (get_or path (j + m) 0) end before.1 edge)
 
 -- a path that ends with an edge isn't empty
 pub closed : (g : List (List ℕ)) (a : ℕ) (cs : List ℕ) (b : ℕ) → IsTargetPath g a cs b → HasEdge g b a → HasTargetCycle g

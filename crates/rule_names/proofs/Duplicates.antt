@@ -79,7 +79,8 @@ apart-more names name apart absent r =
           sym first ∙ r.same ∙ get_or_append_left names (name ∷ []) [] r.second l;
     }))
     (λ l.
-    let t = named-any names name (Contains-at names r.first [] name front (sym first ∙ r.same ∙ get_or_push names name [] r.second (let e : length names ≡ r.second = omega arith in e))) in
+    let t = named-any names name (Contains-at names r.first [] name front (sym first
+    ∙ r.same ∙ get_or_push names name [] r.second (let e : length names ≡ r.second = omega arith in e))) in
     let q : true ≡ false = sym t ∙ absent in
     cc)
     (cases_lt r.second (length names))

@@ -6,8 +6,8 @@ use Rattle.chain_graph.proofs.costs.node_costs.Goals as goal
 
 pub node_cost-cost-requires : goal.node_cost-cost-requires
 node_cost-cost-requires c =
-    pass-within c.args.nodes.now c.args.order.now c.loop-node.node-index c.index-nodes-node.result c.requires.order (omega arith) c.index-nodes-node.is c.requires.range
-    c.loop-node.invariant.long c.deref.ensures.value
+    pass-within c.args.nodes.now c.args.order.now c.loop-node.node-index c.index-nodes-node.result c.requires.order (omega arith)
+    c.index-nodes-node.is c.requires.range c.loop-node.invariant.long c.deref.ensures.value
 
 pub loop-node-preserved : goal.loop-node-preserved
 loop-node-preserved c =
@@ -20,8 +20,8 @@ loop-node-preserved c =
     ∙ ap (λ n. saturated (node_cost (λ k. get_or c.loop-node.costs.items k 0) n)) node in
     record {
       long = length-set c.loop-node.costs.items _ c.node_cost-cost.result ∙ c.loop-node.invariant.long;
-      known = λ cost of. pass-more c.args.nodes.now c.args.order.now c.loop-node.node-index c.index-nodes-node.result c.requires.order inside c.index-nodes-node.is
-          (λ x v. v ≡ saturated (cost x)) c.loop-node.costs.items c.node_cost-cost.result 0 c.loop-node.invariant.long
+      known = λ cost of. pass-more c.args.nodes.now c.args.order.now c.loop-node.node-index c.index-nodes-node.result c.requires.order inside
+          c.index-nodes-node.is (λ x v. v ≡ saturated (cost x)) c.loop-node.costs.items c.node_cost-cost.result 0 c.loop-node.invariant.long
           (λ known. made ∙ cost-now (graph_of c.args.nodes.now) _ c.loop-node.costs.items cost of (omega arith) known)
           (c.loop-node.invariant.known cost of);
     }

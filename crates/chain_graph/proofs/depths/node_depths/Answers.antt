@@ -6,8 +6,8 @@ use Rattle.chain_graph.proofs.depths.node_depths.Goals as goal
 
 pub node_depth-depth-requires : goal.node_depth-depth-requires
 node_depth-depth-requires c =
-    pass-within c.args.nodes.now c.args.order.now c.loop-node.node-index c.index-nodes-node.result c.requires.order (omega arith) c.index-nodes-node.is c.requires.range
-    c.loop-node.invariant.long c.deref.ensures.value
+    pass-within c.args.nodes.now c.args.order.now c.loop-node.node-index c.index-nodes-node.result c.requires.order (omega arith)
+    c.index-nodes-node.is c.requires.range c.loop-node.invariant.long c.deref.ensures.value
 
 pub loop-node-preserved : goal.loop-node-preserved
 loop-node-preserved c =

@@ -8,8 +8,8 @@ use Rattle.chain_graph.proofs.reaching.reaches_marked.Goals as goal
 
 pub node_reaches-is_reaching-requires : goal.node_reaches-is_reaching-requires
 node_reaches-is_reaching-requires c =
-    pass-within c.args.nodes.now c.args.order.now c.loop-node.node-index c.index-nodes-node.result c.requires.order (omega arith) c.index-nodes-node.is c.requires.range
-    c.loop-node.invariant.long c.deref.ensures.value
+    pass-within c.args.nodes.now c.args.order.now c.loop-node.node-index c.index-nodes-node.result c.requires.order (omega arith)
+    c.index-nodes-node.is c.requires.range c.loop-node.invariant.long c.deref.ensures.value
 
 pub loop-node-preserved : goal.loop-node-preserved
 loop-node-preserved c =

@@ -28,5 +28,6 @@ returns-clause-apart c =
     (λ r. is-not-true c.in_ok-has_duplicate_table-2.field-0 c.if-branch-2.false
     (c.in_ok-has_duplicate_table-2.ensures.1 r)) in
     IfOk-weaker c.names_in_each.result _ _
-    (λ o. IfSome_weaker o _ _ (λ _ all. none-duplicate (tables_of c.args.tree.now) ip inet (subst (All HasUniqueNames) (ap (map table_tree) c.deref-3.ensures.value) all)))
+    (λ o. IfSome_weaker o _ _ (λ _ all. none-duplicate (tables_of c.args.tree.now) ip inet
+    (subst (All HasUniqueNames) (ap (map table_tree) c.deref-3.ensures.value) all)))
     c.names_in_each.ensures.apart
