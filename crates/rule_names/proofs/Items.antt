@@ -19,7 +19,8 @@ of_maps items = map (λ m. m.name) (filter_map map_in items)
 abbrev pub of_both : List ItemTree → List Text
 of_both items = filter_map set_or_map_name items
 
-pub among-same : (n : Text) (small large : List Text) (name : Text) → (Contains small name → Contains large name) → Contains (n ∷ small) name → Contains (n ∷ large) name
+pub among-same : (n : Text) (small large : List Text) (name : Text)
+    → (Contains small name → Contains large name) → Contains (n ∷ small) name → Contains (n ∷ large) name
 among-same n small large name more a = ⊎_elim
     (λ e. subst (λ x. Contains (x ∷ large) name) (sym e) (Contains-head name large))
     (λ r. Contains-tail n large name (more r))
