@@ -10,7 +10,7 @@ ghost use Rattle.rule_values.specs.steps.Checks.{head_out_of_range, rule_out_of_
 
 use nft_tree::{
     Chain, DestinationTarget, Flag, Head, Item, Match, Nat, Operand, PortRange, Priority, Rule,
-    SourceTarget, Stmt,
+    SourceTarget, Stmt, any,
 };
 
 /// The longest prefix of a `log` statement, in bytes (NF_LOG_PREFIXLEN is 128 with its zero).
@@ -29,7 +29,7 @@ pub(crate) fn item_out_of_range(item: &Item) -> bool
 fn chain_out_of_range(chain: &Chain) -> bool
     ensures { result ≡ chain_out_of_range (chain_tree chain.now) }
 {
-    head_out_of_range(&chain.head) || chain.rules.iter().any(rule_out_of_range)
+    head_out_of_range(&chain.head) || any(&chain.rules, rule_out_of_range)
 }
 
 fn head_out_of_range(head: &Option<Head>) -> bool
@@ -52,7 +52,7 @@ fn priority_out_of_range(priority: Priority) -> bool
 fn rule_out_of_range(rule: &Rule) -> bool
     ensures { result ≡ rule_out_of_range (rule_tree rule.now) }
 {
-    rule.statements.iter().any(statement_out_of_range)
+    any(&rule.statements, statement_out_of_range)
 }
 
 fn statement_out_of_range(stmt: &Stmt) -> bool
@@ -82,7 +82,7 @@ fn match_out_of_range(test: &Match) -> bool
 fn flags_out_of_range(flags: &[Flag]) -> bool
     ensures { result ≡ list_any flag_out_of_range (map flag_tree flags.now) }
 {
-    flags.iter().any(flag_out_of_range)
+    any(flags, flag_out_of_range)
 }
 
 /// Whether the flag is a number wider than 8 bits.

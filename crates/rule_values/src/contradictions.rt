@@ -1,8 +1,8 @@
 //! Overlapping map elements with different data.
-ghost use Rattle.std.specs.Prelude.{◌≡◌, flat_map, map, IfOk, OnOk};
+ghost use Rattle.std.specs.Prelude.{◌≡◌, flat_map, map, Bool, List, IfOk, OnOk};
 ghost use Rattle.std.specs.List.{list_any};
 ghost use Rattle.nft_tree.specs.Tree.{item_tree, pair_tree, rule_tree, statement, table_tree};
-ghost use Rattle.rule_values.specs.TypedValues.{item_maps, rule_maps, statement_maps};
+ghost use Rattle.rule_values.specs.TypedValues.{TypedMap, item_maps, rule_maps, statement_maps};
 ghost use Rattle.rule_values.specs.Faults.{entry_of, has_contradiction, map_contradicts};
 ghost use Rattle.rule_values.specs.steps.Views.{elements_tree};
 ghost use Rattle.rule_values.specs.steps.MapEntries.{RepresentsOptionalEntry, KeepsIndices, RepresentsEntries, entries_of};
@@ -11,10 +11,29 @@ use crate::comparable_data::{ComparableData, comparable_form_of};
 use crate::elements::{Elements, declared_elements, statement_elements};
 use box_file::Plant;
 use indexmap::IndexSet;
-use nft_tree::{Item, Pair, Rule, Stmt, Table};
+use nft_tree::{Item, Pair, Rule, Stmt, Table, TreeNode};
 use nft_values::numbers_of;
 use set_intervals::{Intervals, Range, SetError};
 use std::alloc::{AllocError, Global};
+
+/// Whether some map of the items contradicts itself; `test` says it of the maps of one item.
+pub(crate) fn any_contradicts<T: TreeNode, F: Fn(&T) -> Result<bool, AllocError>>(
+    items: &[T],
+    test: F,
+) -> Result<bool, AllocError>
+    requires { F.IsAlwaysCallable test }
+    ensures { (contradicts : TypedMap → Bool) (maps : T.Tree → List TypedMap)
+        → ((x : _) (r : _) → F.post test x r
+        → IfOk r (λ b. b ≡ list_any contradicts (maps (T.tree x.now))))
+        → IfOk result (λ b. b ≡ list_any contradicts (flat_map maps (map T.tree items.now))) }
+{
+    for item in items {
+        if test(item)? {
+            return Ok(true);
+        }
+    }
+    Ok(false)
+}
 
 /// Whether some map of the table has overlapping elements with different data.
 pub(crate) fn table_contradicts(
@@ -24,12 +43,7 @@ pub(crate) fn table_contradicts(
 ) -> Result<bool, AllocError>
     ensures { IfOk result (λ b. b ≡ has_contradiction plant.now (table_tree table.now)) }
 {
-    for item in &table.items {
-        if item_contradicts(alloc, plant, item)? {
-            return Ok(true);
-        }
-    }
-    Ok(false)
+    any_contradicts(&table.items, |item| item_contradicts(alloc, plant, item))
 }
 
 fn item_contradicts(alloc: Global, plant: &Plant, item: &Item) -> Result<bool, AllocError>
@@ -47,24 +61,17 @@ fn rules_contradict(alloc: Global, plant: &Plant, rules: &[Rule]) -> Result<bool
     ensures { IfOk result (λ b. b ≡ list_any (map_contradicts plant.now)
         (flat_map rule_maps (map rule_tree rules.now))) }
 {
-    for rule in rules {
-        if rule_contradicts(alloc, plant, rule)? {
-            return Ok(true);
-        }
-    }
-    Ok(false)
+    any_contradicts(rules, |rule| rule_contradicts(alloc, plant, rule))
 }
 
 fn rule_contradicts(alloc: Global, plant: &Plant, rule: &Rule) -> Result<bool, AllocError>
     ensures { IfOk result (λ b. b ≡ list_any (map_contradicts plant.now)
         (rule_maps (rule_tree rule.now))) }
 {
-    for stmt in &rule.statements {
-        if statement_contradicts(alloc, plant, stmt)? {
-            return Ok(true);
-        }
-    }
-    Ok(false)
+    any_contradicts(
+        &rule.statements,
+        |stmt| statement_contradicts(alloc, plant, stmt),
+    )
 }
 
 fn statement_contradicts(alloc: Global, plant: &Plant, stmt: &Stmt) -> Result<bool, AllocError>

@@ -17,8 +17,8 @@ mod values;
 
 use bounds::item_out_of_range;
 use box_file::Plant;
-use contradictions::table_contradicts;
-use nft_tree::{Ruleset, Table};
+use contradictions::{any_contradicts, table_contradicts};
+use nft_tree::{Ruleset, Table, any};
 use std::alloc::{AllocError, Global};
 use value_check::ValueCheck;
 use values::table_fails;
@@ -28,24 +28,23 @@ use values::table_fails;
 pub fn has_wrong_value(plant: &Plant, tree: &Ruleset) -> bool
     ensures { result ≡ list_any (has_wrong_value plant.now) (tables_of tree.now) }
 {
-    tree.tables
-        .iter()
-        .any(|table| table_has_wrong_value(plant, table))
+    any(&tree.tables, |table| table_has_wrong_value(plant, table))
 }
 
 fn table_has_wrong_value(plant: &Plant, table: &Table) -> bool
     ensures { result ≡ has_wrong_value plant.now (table_tree table.now) }
 {
-    table_fails(ValueCheck::IsOfType, plant, table) || table.items.iter().any(item_out_of_range)
+    table_fails(ValueCheck::IsOfType, plant, table) || any(&table.items, item_out_of_range)
 }
 
 /// Whether a value of type iface_index names an interface that the box doesn't have (N13).
 pub fn names_unknown_interface(plant: &Plant, tree: &Ruleset) -> bool
     ensures { result ≡ list_any (names_unknown_interface plant.now) (tables_of tree.now) }
 {
-    tree.tables
-        .iter()
-        .any(|table| table_fails(ValueCheck::IsOnBox, plant, table))
+    any(
+        &tree.tables,
+        |table| table_fails(ValueCheck::IsOnBox, plant, table),
+    )
 }
 
 /// Whether two overlapping elements of a map have different data (N12).
@@ -56,10 +55,5 @@ pub fn names_unknown_interface(plant: &Plant, tree: &Ruleset) -> bool
 pub fn has_contradiction(alloc: Global, plant: &Plant, tree: &Ruleset) -> Result<bool, AllocError>
     ensures { IfOk result (λ b. b ≡ list_any (has_contradiction plant.now) (tables_of tree.now)) }
 {
-    for table in &tree.tables {
-        if table_contradicts(alloc, plant, table)? {
-            return Ok(true);
-        }
-    }
-    Ok(false)
+    any_contradicts(&tree.tables, |table| table_contradicts(alloc, plant, table))
 }

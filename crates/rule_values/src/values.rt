@@ -1,9 +1,9 @@
 //! Applies a check to all values of a ruleset.
-ghost use Rattle.std.specs.Prelude.{◌≡◌, flat_map, map};
+ghost use Rattle.std.specs.Prelude.{◌≡◌, flat_map, map, Bool, List};
 ghost use Rattle.std.specs.List.{list_any};
 ghost use Rattle.nft_tree.specs.Tree.{data_tree, element_tree, item_tree, key_tree, match_tree, pair_tree, rule_tree};
 ghost use Rattle.nft_tree.specs.Tree.{set_ref_tree, statement, table_tree, value_tree};
-ghost use Rattle.rule_values.specs.TypedValues.{data_ranges, element_ranges, item_ranges, joined_ranges, key_ranges};
+ghost use Rattle.rule_values.specs.TypedValues.{TypedRange, data_ranges, element_ranges, item_ranges, joined_ranges, key_ranges};
 ghost use Rattle.rule_values.specs.TypedValues.{map_ranges, match_ranges, ranges_in, rule_ranges, set_ref_ranges};
 ghost use Rattle.rule_values.specs.TypedValues.{statement_ranges};
 ghost use Rattle.rule_values.specs.steps.Checks.{fails, pair_ranges};
@@ -14,17 +14,25 @@ use crate::keys::KeyTypes;
 use crate::value_check::ValueCheck;
 use box_file::Plant;
 use nft_tree::{
-    ComparedType, Data, Element, Item, Key, Match, Pair, Rule, Selector, SetRef, Stmt, Table, Value,
+    ComparedType, Data, Element, Item, Key, Match, Pair, Rule, Selector, SetRef, Stmt, Table,
+    TreeNode, Value, any,
 };
+
+/// Whether some value of the items fails a check; `test` says it of the values of one item.
+fn any_fails<T: TreeNode, F: Fn(&T) -> bool>(items: &[T], test: F) -> bool
+    requires { F.IsAlwaysCallable test }
+    ensures { (fails : TypedRange → Bool) (ranges : T.Tree → List TypedRange)
+        → ((x : _) (b : Bool) → F.post test x b → b ≡ list_any fails (ranges (T.tree x.now)))
+        → result ≡ list_any fails (flat_map ranges (map T.tree items.now)) }
+{
+    any(items, test)
+}
 
 /// Whether some value of the table fails the check.
 pub(crate) fn table_fails(value_check: ValueCheck, plant: &Plant, table: &Table) -> bool
     ensures { result ≡ list_any (fails value_check plant.now) (ranges_in (table_tree table.now)) }
 {
-    table
-        .items
-        .iter()
-        .any(|item| item_fails(value_check, plant, item))
+    any_fails(&table.items, |item| item_fails(value_check, plant, item))
 }
 
 fn item_fails(value_check: ValueCheck, plant: &Plant, item: &Item) -> bool
@@ -50,17 +58,16 @@ fn rules_fail(value_check: ValueCheck, plant: &Plant, rules: &[Rule]) -> bool
     ensures { result ≡ list_any (fails value_check plant.now)
         (flat_map rule_ranges (map rule_tree rules.now)) }
 {
-    rules
-        .iter()
-        .any(|rule| rule_fails(value_check, plant, rule))
+    any_fails(rules, |rule| rule_fails(value_check, plant, rule))
 }
 
 fn rule_fails(value_check: ValueCheck, plant: &Plant, rule: &Rule) -> bool
     ensures { result ≡ list_any (fails value_check plant.now) (rule_ranges (rule_tree rule.now)) }
 {
-    rule.statements
-        .iter()
-        .any(|stmt| statement_fails(value_check, plant, stmt))
+    any_fails(
+        &rule.statements,
+        |stmt| statement_fails(value_check, plant, stmt),
+    )
 }
 
 fn statement_fails(value_check: ValueCheck, plant: &Plant, stmt: &Stmt) -> bool
@@ -117,7 +124,10 @@ fn elements_fail(
     ensures { result ≡ list_any (fails value_check plant.now)
         (element_ranges (key_types_of kinds.now) (map element_tree elements.now)) }
 {
-    elements.iter().any(|element| key_fails(value_check, plant, kinds, &element.key))
+    any_fails(
+        elements,
+        |element| key_fails(value_check, plant, kinds, &element.key),
+    )
 }
 
 fn key_fails(value_check: ValueCheck, plant: &Plant, kinds: &KeyTypes, key: &Key) -> bool
@@ -154,10 +164,10 @@ fn map_fails(value_check: ValueCheck, plant: &Plant, elements: &Elements) -> boo
     ensures { result ≡ list_any (fails value_check plant.now)
         (map_ranges (elements_tree elements.now)) }
 {
-    elements
-        .pairs
-        .iter()
-        .any(|pair| pair_fails(value_check, plant, elements, pair))
+    any_fails(
+        elements.pairs,
+        |pair| pair_fails(value_check, plant, elements, pair),
+    )
 }
 
 fn pair_fails(value_check: ValueCheck, plant: &Plant, elements: &Elements, pair: &Pair) -> bool

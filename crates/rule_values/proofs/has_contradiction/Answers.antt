@@ -1,18 +1,13 @@
-use Rattle.std.proofs.Common.{◌∙◌}
-use Rattle.list_laws.specs.Lists.{any_of_map}
+use Rattle.std.proofs.Common.{rules, sym, ap, map, ◌∙◌}
+use Rattle.std.specs.List.{list_any}
 use Rattle.nft_tree.specs.Tree.{table_tree}
-use Rattle.rule_values.specs.Faults.{has_contradiction}
-use Rattle.rule_values.proofs.Tests.{passes_here, passes_nowhere}
+use Rattle.rule_values.specs.TypedValues.{maps_in}
+use Rattle.rule_values.specs.Faults.{has_contradiction, map_contradicts}
+use Rattle.rule_values.proofs.Tests.{any_flat, told}
 use Rattle.rule_values.proofs.has_contradiction.Goals as goal
 
-pub returns-then-branch : goal.returns-then-branch
-returns-then-branch c = passes_here (λ x. has_contradiction c.args.plant.now (table_tree x))
-    c.args.tree.now.tables.items c.deref-table-items.result.now c.loop-table.table-index c.table-item.result
-    c.in_ok-table_contradicts.field-0 c.deref-table-items.ensures.value c.loop-table-test.true c.table-item.is
-    c.in_ok-table_contradicts.ensures c.if-branch.true ∙ any_of_map (has_contradiction c.args.plant.now) table_tree
-    c.args.tree.now.tables.items
-
 pub returns : goal.returns
-returns c = passes_nowhere (λ x. has_contradiction c.args.plant.now (table_tree x)) c.args.tree.now.tables.items
-    c.deref-table-items.result.now c.loop-table.table-index c.deref-table-items.ensures.value c.loop-table-test.false
-    c.loop-table.invariant ∙ any_of_map (has_contradiction c.args.plant.now) table_tree c.args.tree.now.tables.items
+returns c = told c.any_contradicts.result
+    (sym (any_flat (map_contradicts c.args.plant.now) maps_in (map table_tree c.deref.result.now))
+    ∙ ap (λ ts. list_any (has_contradiction c.args.plant.now) (map table_tree ts)) c.deref.ensures.value)
+    (c.any_contradicts.ensures (map_contradicts c.args.plant.now) maps_in (search rules))
