@@ -1,10 +1,10 @@
 -- Ranges with comparable data clash exactly if entries contradict each other.
-use Rattle.std.proofs.Common.{◌≡◌, ℕ, ◌≤◌, List, [], ◌∷◌, Bool, true, false, ◌&&◌, not, Option, Some, None, max, ◌⊎◌}
+use Rattle.std.proofs.Common.{◌≡◌, ℕ, ◌≤◌, List, [], ◌∷◌, Bool, true, false, ◌&&◌, not, max}
 use Rattle.std.proofs.Common.{inl, inr, ⊎_elim, refl, sym, ap, ap₂, subst, ◌∙◌, arith, eq-eqb}
 use Rattle.std.specs.Prelude.{nat_le, nat_eq}
 use Rattle.std.specs.Borrow.{Bor}
 use Rattle.std.specs.List.{list_any}
-use Rattle.std.specs.Option.{option_map}
+use Rattle.std.specs.Str.{bytes_eq}
 use Rattle.std.specs.Cmp.Lexicographic.{same_text}
 use Rattle.std.proofs.lemmas.Bool.{eqb-true, leb-true, le-leb, and_parts, and_from, or_left, or_right, or_cases}
 use Rattle.list_laws.specs.Lists.{text-refl}
@@ -16,9 +16,9 @@ use Rattle.set_intervals.specs.declared.range.Range.{Range}
 use Rattle.set_intervals.specs.Pairs.{Covers, HasValue, HasClash}
 use Rattle.rule_values.specs.declared.comparable_data.ComparableData.{ComparableData}
 use Rattle.rule_values.specs.declared.comparable_data.ComparableData.TheVariants as comparables
-use Rattle.rule_values.specs.Faults.{ElementData, a_verdict, a_value, MapEntry, contradict, same_element_data, same_span}
-use Rattle.rule_values.specs.steps.MapEntries.{name_index_of, comparable_form, RepresentsData, RepresentsEntry, RepresentEach, RepresentsEntries}
-use Rattle.rule_values.proofs.NameIndices.{name_index-one}
+use Rattle.rule_values.specs.Faults.{ElementData, a_verdict, a_value, MapEntry, contradict, same_element_data}
+use Rattle.rule_values.specs.steps.MapEntries.{name_index_of, HasName, comparable_form, RepresentsData, RepresentsEntry, RepresentEach, RepresentsEntries}
+use Rattle.rule_values.proofs.NameIndices.{one-name}
 
 -- ---- tests
 
@@ -32,89 +32,40 @@ true-not false h = refl
 
 -- ---- data of elements
 
-same-spans : (a b : Span) → same_span a b ≡ true → a ≡ b
-same-spans a b h =
-    let both = and_parts (nat_eq a.low b.low) (nat_eq a.high b.high) h in
-    ap₂ (λ (l h : ℕ). let s : Span = record { low = l; high = h } in s) (eqb-true a.low b.low both.0) (eqb-true a.high b.high both.1)
-
-same-eq : (a b : ElementData) → same_element_data a b ≡ true → a ≡ b
-same-eq (a_verdict tree.accept) (a_verdict tree.accept) h = refl
-same-eq (a_verdict tree.drop) (a_verdict tree.drop) h = refl
-same-eq (a_verdict tree.continue) (a_verdict tree.continue) h = refl
-same-eq (a_verdict tree.return) (a_verdict tree.return) h = refl
-same-eq (a_verdict (tree.jump a)) (a_verdict (tree.jump b)) h = ap (λ t. a_verdict (tree.jump t)) (same_text a b (sym h))
-same-eq (a_verdict (tree.goto a)) (a_verdict (tree.goto b)) h = ap (λ t. a_verdict (tree.goto t)) (same_text a b (sym h))
-same-eq (a_value a) (a_value b) h = ap a_value (same-spans a b h)
-same-eq _ _ h = cc
-
-same-refl : (a : ElementData) → same_element_data a a ≡ true
-same-refl (a_verdict tree.accept) = refl
-same-refl (a_verdict tree.drop) = refl
-same-refl (a_verdict tree.continue) = refl
-same-refl (a_verdict tree.return) = refl
-same-refl (a_verdict (tree.jump t)) = text-refl t
-same-refl (a_verdict (tree.goto t)) = text-refl t
-same-refl (a_value s) = and_from (nat_eq s.low s.low) (nat_eq s.high s.high) (eq-eqb s.low s.low refl) (eq-eqb s.high s.high refl)
-
--- the data of a comparable form, by the names
-ElementDataOf : List (Bor Text) → ComparableData → ElementData → Type 0
-ElementDataOf names comparables.Accept g = g ≡ a_verdict tree.accept
-ElementDataOf names comparables.Drop g = g ≡ a_verdict tree.drop
-ElementDataOf names comparables.Continue g = g ≡ a_verdict tree.continue
-ElementDataOf names comparables.Return g = g ≡ a_verdict tree.return
-ElementDataOf names (comparables.Jump i) g = (t : Text) × (g ≡ a_verdict (tree.jump t)) × (name_index_of t names ≡ Some i)
-ElementDataOf names (comparables.Goto i) g = (t : Text) × (g ≡ a_verdict (tree.goto t)) × (name_index_of t names ≡ Some i)
-ElementDataOf names (comparables.Numbers l h) g = g ≡ a_value (record { low = l; high = h })
-
-at-name : (f : ℕ → ComparableData) (names : List (Bor Text)) (t : Text) (o : ComparableData)
-    → option_map f (name_index_of t names) ≡ Some o → (i : ℕ) × (name_index_of t names ≡ Some i) × (f i ≡ o)
-at-name f names t o h = by (name_index_of t names) refl h
-  where
-    by : (p : Option ℕ) → name_index_of t names ≡ p → option_map f p ≡ Some o → (i : ℕ) × (name_index_of t names ≡ Some i) × (f i ≡ o)
-    by None e h = cc
-    by (Some i) e h = (i, e, cc)
-
-given-by : (names : List (Bor Text)) (g : ElementData) (o : ComparableData) → comparable_form names g ≡ Some o → ElementDataOf names o g
-unfolding ElementDataOf
-given-by names (a_verdict tree.accept) o h = let e : comparables.Accept ≡ o =
-    cc in subst (λ (u : ComparableData). ElementDataOf names u (a_verdict tree.accept)) e refl
-given-by names (a_verdict tree.drop) o h = let e : comparables.Drop ≡ o =
-    cc in subst (λ (u : ComparableData). ElementDataOf names u (a_verdict tree.drop)) e refl
-given-by names (a_verdict tree.continue) o h = let e : comparables.Continue ≡ o =
-    cc in subst (λ (u : ComparableData). ElementDataOf names u (a_verdict tree.continue)) e refl
-given-by names (a_verdict tree.return) o h = let e : comparables.Return ≡ o =
-    cc in subst (λ (u : ComparableData). ElementDataOf names u (a_verdict tree.return)) e refl
-given-by names (a_verdict (tree.jump t)) o h =
-    let at = at-name comparables.Jump names t o h in
-    subst (λ (u : ComparableData). ElementDataOf names u (a_verdict (tree.jump t))) at.2 (t, refl, at.1)
-given-by names (a_verdict (tree.goto t)) o h =
-    let at = at-name comparables.Goto names t o h in
-    subst (λ (u : ComparableData). ElementDataOf names u (a_verdict (tree.goto t))) at.2 (t, refl, at.1)
-given-by names (a_value s) o h = let e : comparables.Numbers s.low s.high ≡ o = cc in subst (λ (u : ComparableData). ElementDataOf names u (a_value s)) e refl
-
-given-one : (names : List (Bor Text)) (o : ComparableData) (a b : ElementData) → ElementDataOf names o a → ElementDataOf names o b → a ≡ b
-unfolding ElementDataOf
-given-one names comparables.Accept a b h k = h ∙ sym k
-given-one names comparables.Drop a b h k = h ∙ sym k
-given-one names comparables.Continue a b h k = h ∙ sym k
-given-one names comparables.Return a b h k = h ∙ sym k
-given-one names (comparables.Jump i) a b h k = h.1 ∙ ap (λ t. a_verdict (tree.jump t)) (name_index-one h.0 k.0 names i h.2 k.2) ∙ sym k.1
-given-one names (comparables.Goto i) a b h k = h.1 ∙ ap (λ t. a_verdict (tree.goto t)) (name_index-one h.0 k.0 names i h.2 k.2) ∙ sym k.1
-given-one names (comparables.Numbers l u) a b h k = h ∙ sym k
-
 -- equal comparable forms have the same data
-one-given : (names : List (Bor Text)) (a b : ElementData) (o u : ComparableData) → RepresentsData names a o
-    → RepresentsData names b u → o ≡ u → same_element_data a b ≡ true
-one-given names a b o u h k e =
-    let same = given-one names u a b (given-by names a u (h.is ∙ ap Some e)) (given-by names b u k.is) in
-    ap (λ g. same_element_data g b) same ∙ same-refl b
+same-data : (names : List (Bor Text)) (a b : ElementData) → HasName names a → HasName names b
+    → comparable_form names a ≡ comparable_form names b → same_element_data a b ≡ true
+same-data names (a_verdict tree.accept) (a_verdict tree.accept) h k e = refl
+same-data names (a_verdict tree.drop) (a_verdict tree.drop) h k e = refl
+same-data names (a_verdict tree.continue) (a_verdict tree.continue) h k e = refl
+same-data names (a_verdict tree.return) (a_verdict tree.return) h k e = refl
+same-data names (a_verdict (tree.jump a)) (a_verdict (tree.jump b)) h k e = ap (bytes_eq a) (sym (one-name a b names (cc) h k)) ∙ text-refl a
+same-data names (a_verdict (tree.goto a)) (a_verdict (tree.goto b)) h k e = ap (bytes_eq a) (sym (one-name a b names (cc) h k)) ∙ text-refl a
+same-data names (a_value a) (a_value b) h k e = and_from (nat_eq a.low b.low) (nat_eq a.high b.high) (eq-eqb a.low b.low (cc)) (eq-eqb a.high b.high (cc))
+same-data names (a_value a) (a_verdict tree.accept) h k e = absurd cc
+same-data names _ _ h k e = absurd cc
 
 -- and the same data have equal comparable forms
+same-form : (names : List (Bor Text)) (a b : ElementData) → same_element_data a b ≡ true
+    → comparable_form names a ≡ comparable_form names b
+same-form names (a_verdict tree.accept) (a_verdict tree.accept) h = refl
+same-form names (a_verdict tree.drop) (a_verdict tree.drop) h = refl
+same-form names (a_verdict tree.continue) (a_verdict tree.continue) h = refl
+same-form names (a_verdict tree.return) (a_verdict tree.return) h = refl
+same-form names (a_verdict (tree.jump a)) (a_verdict (tree.jump b)) h = ap (λ t. comparables.Jump (name_index_of t names)) (same_text a b (sym h))
+same-form names (a_verdict (tree.goto a)) (a_verdict (tree.goto b)) h = ap (λ t. comparables.Goto (name_index_of t names)) (same_text a b (sym h))
+same-form names (a_value a) (a_value b) h =
+    let both = and_parts (nat_eq a.low b.low) (nat_eq a.high b.high) h in
+    ap₂ comparables.Numbers (eqb-true a.low b.low both.0) (eqb-true a.high b.high both.1)
+same-form names _ _ h = absurd cc
+
+one-given : (names : List (Bor Text)) (a b : ElementData) (o u : ComparableData) → RepresentsData names a o
+    → RepresentsData names b u → o ≡ u → same_element_data a b ≡ true
+one-given names a b o u h k e = same-data names a b h.has_name k.has_name (h.is ∙ e ∙ sym k.is)
+
 one-comparable_data : (names : List (Bor Text)) (a b : ElementData) (o u : ComparableData) → RepresentsData names a o
     → RepresentsData names b u → same_element_data a b ≡ true → o ≡ u
-one-comparable_data names a b o u h k e =
-    let same : Some o ≡ Some u = sym h.is ∙ ap (comparable_form names) (same-eq a b e) ∙ k.is in
-    cc
+one-comparable_data names a b o u h k e = sym h.is ∙ same-form names a b e ∙ k.is
 
 -- ---- two entries
 

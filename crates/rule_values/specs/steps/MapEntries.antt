@@ -1,7 +1,6 @@
 -- Map data in comparable form: names of chains are replaced by their indices in a list of names.
-use Rattle.std.specs.Prelude.{◌≡◌, ℕ, suc, List, [], ◌∷◌, Option, Some, None, cond}
-use Rattle.std.specs.List.{filter_map}
-use Rattle.std.specs.Option.{option_map}
+use Rattle.std.specs.Prelude.{◌≡◌, ℕ, ◌<◌, Bool, List, [], ◌∷◌, length, Option, Some, None}
+use Rattle.std.specs.List.{filter_map, position_or_len}
 use Rattle.std.specs.Borrow.{Bor}
 use Rattle.std.specs.Str.{bytes_eq}
 use Rattle.nft_tree.specs.Tree as tree
@@ -16,13 +15,16 @@ use Rattle.rule_values.specs.Faults.{ElementData, a_verdict, a_value, MapEntry, 
 
 -- ---- names
 
--- the index of the name
-abbrev pub name_index_of : Text → List (Bor Text) → Option ℕ
-name_index_of name [] = None
-name_index_of name (n ∷ ns) = cond (bytes_eq name n.now) (Some 0) (option_map suc (name_index_of name ns))
+abbrev pub named : Text → Bor Text → Bool
+named name key = bytes_eq name key.now
+
+-- the index of the name, the number of names where it isn't one of them
+abbrev pub name_index_of : Text → List (Bor Text) → ℕ
+name_index_of name names = position_or_len (named name) names
 
 pub record IsNameIndex (names : List (Bor Text)) (name : Text) (name_index : ℕ) : Type 0 where
-  pub is : name_index_of name names ≡ Some name_index
+  pub is : name_index_of name names ≡ name_index
+  pub within : name_index_of name names < length names
 
 -- names keep their indices when names are added
 pub record KeepsIndices (old new : List (Bor Text)) : Type 0 where
@@ -31,19 +33,26 @@ pub record KeepsIndices (old new : List (Bor Text)) : Type 0 where
 
 -- ---- data
 
-abbrev pub comparable_form : List (Bor Text) → ElementData → Option ComparableData
-comparable_form names (a_verdict tree.accept) = Some comparables.Accept
-comparable_form names (a_verdict tree.drop) = Some comparables.Drop
-comparable_form names (a_verdict tree.continue) = Some comparables.Continue
-comparable_form names (a_verdict tree.return) = Some comparables.Return
-comparable_form names (a_verdict (tree.jump name)) = option_map comparables.Jump (name_index_of name names)
-comparable_form names (a_verdict (tree.goto name)) = option_map comparables.Goto (name_index_of name names)
-comparable_form names (a_value span) = Some (comparables.Numbers span.low span.high)
+abbrev pub comparable_form : List (Bor Text) → ElementData → ComparableData
+comparable_form names (a_verdict tree.accept) = comparables.Accept
+comparable_form names (a_verdict tree.drop) = comparables.Drop
+comparable_form names (a_verdict tree.continue) = comparables.Continue
+comparable_form names (a_verdict tree.return) = comparables.Return
+comparable_form names (a_verdict (tree.jump name)) = comparables.Jump (name_index_of name names)
+comparable_form names (a_verdict (tree.goto name)) = comparables.Goto (name_index_of name names)
+comparable_form names (a_value span) = comparables.Numbers span.low span.high
+
+-- the name in the data is one of the names
+abbrev pub HasName : List (Bor Text) → ElementData → Type 0
+HasName names (a_verdict (tree.jump name)) = name_index_of name names < length names
+HasName names (a_verdict (tree.goto name)) = name_index_of name names < length names
+HasName names _ = Unit {0}
 
 -- it is the comparable form of the data
 pub record RepresentsData (names : List (Bor Text)) (given : ElementData)
     (comparable_data : ComparableData) : Type 0 where
-  pub is : comparable_form names given ≡ Some comparable_data
+  pub is : comparable_form names given ≡ comparable_data
+  pub has_name : HasName names given
 
 abbrev pub RepresentsOptionalData : List (Bor Text) → Option ElementData → Option ComparableData → Type 0
 RepresentsOptionalData names None o = o ≡ None

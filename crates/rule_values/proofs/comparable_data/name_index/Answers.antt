@@ -6,4 +6,4 @@ returns-clause-keeps c = keeps-key c.args.name c.args.names.now.keys c.insert_fu
 
 pub returns-clause-name_index : goal.returns-clause-name_index
 returns-clause-name_index c = name_index-key c.args.name c.args.names.now.keys c.insert_full.new.self.keys
-    c.in_ok-name_index.name_index c.in_ok-name_index.ensures.keys c.in_ok-name_index.ensures.index
+    c.in_ok-name_index.name_index c.in_ok-name_index.ensures.keys c.in_ok-name_index.ensures.index c.in_ok-name_index.ensures.within

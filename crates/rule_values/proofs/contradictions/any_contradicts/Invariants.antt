@@ -1,5 +1,5 @@
-use Rattle.std.proofs.Common.{◌≡◌, Bool, false, List, map, take}
-use Rattle.std.specs.Prelude.{IfOk, flat_map}
+use Rattle.std.proofs.Common.{◌≡◌, Bool, false, List, take}
+use Rattle.std.specs.Prelude.{IfOk}
 use Rattle.std.specs.List.{list_any}
 use Rattle.rule_values.specs.TypedValues.{TypedMap}
 use Rattle.rule_values.proofs.contradictions.any_contradicts.Given as goal
