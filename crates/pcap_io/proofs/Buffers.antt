@@ -43,29 +43,18 @@ taken_more bytes start end count ended fits =
 pub moved_down : (bytes : List ℕ) (start end : ℕ) → start ≤ end → end ≤ length bytes
     → slice_range (paste bytes 0 (drop start bytes) (end - start)) 0 (end - start) ≡ slice_range bytes start end
 moved_down bytes start end h k =
-    let n : ℕ = end - start in
-    let room : n ≤ length (drop start bytes) = omega (arith, length-drop start bytes) in
-    let same : n - 0 ≡ 0 + n = omega arith in
-    ap (λ m. take m (paste bytes 0 (drop start bytes) n)) same
-    ∙ take-paste bytes 0 (drop start bytes) n (omega arith) room
+    let whole : length (drop start bytes) ≡ length bytes - start = length-drop start bytes in
+    ap (λ m. take m (paste bytes 0 (drop start bytes) (end - start))) (omega arith)
+    ∙ take-paste bytes 0 (drop start bytes) (end - start) (omega arith) (omega arith)
 
 -- the bytes read are behind the buffered ones
 pub held_more : (bytes buf post : List ℕ) (start end count after : ℕ) → after ≡ end + count → start ≤ end
     → end ≤ length bytes → count ≤ length buf
     → slice_range (take end bytes ++ (buf ++ post)) start after ≡ slice_range bytes start end ++ take count buf
 held_more bytes buf post start end count after is h k fits =
-    let held : List ℕ = slice_range bytes start end in
-    let front : length (take end bytes) ≡ end = length-take-le end bytes k in
-    let cut : drop start (take end bytes ++ (buf ++ post)) ≡ held ++ (buf ++ post) =
-    drop-append-le start (take end bytes) (buf ++ post) (omega arith)
-    ∙ ap (λ ys. ys ++ (buf ++ post)) (sym (between_is bytes start end)) in
-    let room : after - start ≡ length held + count = omega (arith, held_length bytes start end h k) in
-    ap (take (after - start)) cut ∙ ap (λ n. take n (held ++ (buf ++ post))) room
-    ∙ take-append-add held (buf ++ post) count ∙ ap (λ ys. held ++ ys) (take-append-le count buf post fits)
+    grind (arith, drop-append-le, length-take-le, between_is, take-append-add, take-append-le, held_length)
 
 -- where no taken bytes are left, the buffered ones end at their length
 pub at_front : (bytes : List ℕ) (start end : ℕ) {n : ℕ} → start ≤ end → end ≤ length bytes → take start bytes ≡ []
     → length (slice_range bytes start end) ≡ n → end ≡ n
-at_front bytes start end h k none is =
-    let first : length (take start bytes) ≡ 0 = ap length none in
-    omega (arith, first, length-take-le start bytes (omega arith), held_length bytes start end h k, is)
+at_front bytes start end h k none is = grind (arith, ap length none, is, length-take, length-drop)

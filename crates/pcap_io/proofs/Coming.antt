@@ -12,41 +12,26 @@ use Rattle.pcap_io.specs.Pcap.{IsRecord, Ends, Whole, Torn, Malformed as AtMalfo
 use Rattle.pcap_io.specs.CaptureStates.{CaptureState, NextAnswers}
 use Rattle.pcap_io.specs.steps.ReadAhead.{BufferState, FillsBuffer}
 
--- some more were read
-read_more : (before after : Option (List ℕ)) (held next more : List ℕ) → next ≡ held ++ more
-    → Consumes before after more → Keeps (prepend_known held before) (prepend_known next after)
-read_more None after held next more is read = tt
-read_more (Some x) None held next more is read = absurd read
-read_more (Some x) (Some y) held next more is read =
-    ap (λ l. l ++ y) is ∙ append_assoc held more y ∙ ap (λ l. held ++ l) (sym read)
-
--- the reader came to its end
-read_all : (before after : Option (List ℕ)) (held next more : List ℕ) → next ≡ held ++ more → Consumes before after more
-    → more ≡ [] → IsAtEnd after → Keeps (prepend_known held before) (Some next)
-read_all None after held next more is read none end = tt
-read_all (Some x) None held next more is read none end = absurd read
-read_all (Some x) (Some y) held next more is read none end =
-    is ∙ ap (λ l. held ++ l) (none ∙ sym (read ∙ ap (λ l. l ++ y) none ∙ end))
-
 -- the same bytes are to come after a read as before it
 pub filled : (old new : BufferState) (before after : Option (List ℕ)) → old.ended ≡ false
     → FillsBuffer old new before after
     → Keeps (cond old.ended (Some old.held) (prepend_known old.held before)) (cond new.ended (Some new.held)
     (prepend_known new.held after))
-filled old new before after going fills = rw going (elim fills.progress [
-  | inl (on, some) ↦ rw on (read_more before after old.held new.held fills.more fills.held fills.consumed)
-  | inr (at, none, end) ↦ rw at (read_all before after old.held new.held fills.more fills.held fills.consumed none end)
-])
+filled old new None after going fills = rw going tt
+filled old new (Some x) None going fills = absurd fills.consumed
+filled old new (Some x) (Some y) going fills = elim fills.progress [
+  | inl (on, some) ↦ rw (going, on, fills.held, fills.consumed, append_assoc) refl
+  | inr (at, none, end) ↦ rw (going, at, fills.held, fills.consumed, none, end) (grind (arith, append-nil))
+]
 
 -- and less of the buffer is free, or the reader has ended
 pub less_room : (old new : BufferState) (before after : Option (List ℕ)) → old.ended ≡ false → length old.held < 262160
     → FillsBuffer old new before after
     → cond new.ended 0 (262161 - length new.held) < cond old.ended 0 (262161 - length old.held)
-less_room old new before after going room fills = rw going (elim fills.progress [
-  | inl (on, some) ↦ rw on (let long : length new.held ≡ length old.held + length fills.more =
-      ap length fills.held ∙ length-append old.held fills.more in omega arith)
-  | inr (at, none, end) ↦ rw at (omega arith)
-])
+less_room old new before after going room fills = elim fills.progress [
+  | inl (on, some) ↦ grind (arith, length-append, fills.held)
+  | inr (at, none, end) ↦ grind arith
+]
 
 -- a reader that came to its end has none left
 pub ended_only_at_end : (old new : BufferState) (before after : Option (List ℕ)) → FillsBuffer old new before after
@@ -57,17 +42,13 @@ ended_only_at_end old new before after fills ended = elim fills.progress [
 ]
 
 -- a read that failed took none
-none_read : (before after : Option (List ℕ)) (held next : List ℕ) → next ≡ held → Keeps before after
-    → Keeps (prepend_known held before) (prepend_known next after)
-none_read None after held next is kept = tt
-none_read (Some x) None held next is kept = absurd kept
-none_read (Some x) (Some y) held next is kept = ap (λ l. l ++ y) is ∙ ap (λ l. held ++ l) kept
-
 pub failed : (old new : BufferState) (before after : Option (List ℕ)) → old.ended ≡ false → new.ended ≡ false
     → new.held ≡ old.held → Keeps before after
     → Keeps (cond old.ended (Some old.held) (prepend_known old.held before)) (cond new.ended (Some new.held)
     (prepend_known new.held after))
-failed old new before after going on is kept = rw (going, on) (none_read before after old.held new.held is kept)
+failed old new None after going on is kept = rw going tt
+failed old new (Some x) None going on is kept = absurd kept
+failed old new (Some x) (Some y) going on is kept = rw (going, on, is, kept) refl
 
 -- what holds of bytes that are known later holds of those known now
 pub known : (a b : Option (List ℕ)) (P : List ℕ → Type 0) → Keeps a b → ((bytes : List ℕ) → b ≡ Some bytes → P bytes)
@@ -102,9 +83,6 @@ behind false held (Some y) bytes is = record {
 
 -- ---- what `next` says names the capture before it by three parts alone
 
-moved : (P : Format → ℕ → Type 0) (f g : Format) (n m : ℕ) → f ≡ g → n ≡ m → P f n → P g m
-moved P f g n m e k h = subst (λ (x : ℕ). P g x) k (subst (λ (x : Format). P x n) e h)
-
 pub next_from : (bytes : List ℕ) (after : Option (List ℕ)) (a b new : CaptureState) (r : Result Bool CaptureError)
     → a.format ≡ b.format → a.count ≡ b.count → a.latest ≡ b.latest → NextAnswers bytes after a new r
     → NextAnswers bytes after b new r
@@ -113,22 +91,16 @@ next_from bytes after a b new (Ok true) f n l next_answers = record {
   rest = next_answers.rest;
   left = next_answers.left;
   joined = next_answers.joined;
-  is_record = subst (λ (x : Format). IsRecord x next_answers.captured) f next_answers.is_record;
+  is_record = rw (← f) next_answers.is_record;
   fewer = rw (← n) next_answers.fewer;
-  counted = next_answers.counted ∙ ap (λ x. x + 1) n;
-  latest_is = next_answers.latest_is ∙ ap (λ x. max x (own_moment a.format next_answers.captured)) l
-      ∙ ap (λ x. max b.latest (own_moment x next_answers.captured)) f;
-  last_is = next_answers.last_is ∙ ap (λ (x : Format).
-      Some (record { moment = new.latest; link = x.link; bytes = next_answers.captured.bytes })) f;
+  counted = rw (← n) next_answers.counted;
+  latest_is = rw (← f, ← l) next_answers.latest_is;
+  last_is = rw (← f) next_answers.last_is;
 }
-next_from bytes after a b new (Ok false) f n l next_answers =
-    (moved (λ x k. Ends x Whole k bytes) a.format b.format a.count b.count f n next_answers.0, next_answers.1)
-next_from bytes after a b new (Err (Refused TornEnd)) f n l next_answers =
-    (moved (λ x k. Ends x Torn k bytes) a.format b.format a.count b.count f n next_answers.0, next_answers.1)
-next_from bytes after a b new (Err (Refused Malformed)) f n l next_answers =
-    (moved (λ x k. Ends x AtMalformed k bytes) a.format b.format a.count b.count f n next_answers.0, next_answers.1)
-next_from bytes after a b new (Err (Refused TooMany)) f n l next_answers =
-    (moved (λ x k. Ends x Over k bytes) a.format b.format a.count b.count f n next_answers.0, next_answers.1)
+next_from bytes after a b new (Ok false) f n l next_answers = next_answers
+next_from bytes after a b new (Err (Refused TornEnd)) f n l next_answers = rw (← f, ← n) next_answers
+next_from bytes after a b new (Err (Refused Malformed)) f n l next_answers = rw (← f, ← n) next_answers
+next_from bytes after a b new (Err (Refused TooMany)) f n l next_answers = rw (← n) next_answers
 next_from bytes after a b new (Err (Refused Magic)) f n l next_answers = next_answers
 next_from bytes after a b new (Err (Refused Version)) f n l next_answers = next_answers
 next_from bytes after a b new (Err (Refused LinkType)) f n l next_answers = next_answers

@@ -16,10 +16,7 @@ use Rattle.pcap_io.proofs.Steps.{number_in-append}
 
 encoding_kept : (xs ys : List ℕ) → 24 ≤ length xs → encoding_of (xs ++ ys) ≡ encoding_of xs
 encoding_kept xs ys long =
-    let lowest = ap resolution_of (number_in-append Little 0 4 24 xs ys (omega arith) long) in
-    let highest = ap resolution_of (number_in-append Big 0 4 24 xs ys (omega arith) long) in
-    ap (λ f. encoding_by f (resolution_of (number_in Big 0 4 (xs ++ ys)))) lowest
-    ∙ ap (λ f. encoding_by (resolution_of (number_in Little 0 4 xs)) f) highest
+    rw (number_in-append Little 0 4 24 xs ys (omega arith) long, number_in-append Big 0 4 24 xs ys (omega arith) long) refl
 
 version_kept : (xs ys : List ℕ) (encoding : Option (Endianness × Resolution)) → 24 ≤ length xs
     → format_with_version (xs ++ ys) encoding ≡ format_with_version xs encoding

@@ -1,7 +1,7 @@
 pub mod Parts
 pub mod Buffers
 pub mod Steps
-pub mod Ready
+pub mod Endings
 pub mod Headers
 pub mod Coming
 pub mod Reading

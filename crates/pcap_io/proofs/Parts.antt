@@ -1,6 +1,6 @@
 -- Written and buffered bytes.
 use Rattle.std.proofs.Common.{◌≡◌, ℕ, ◌+◌, ◌<◌, ◌≤◌, ◌-◌, ◌^◌, ◌==◌, ◌&&◌, if◌then◌else◌, Bool, true, false, List, []}
-use Rattle.std.proofs.Common.{◌++◌, length, take, drop, length-take}
+use Rattle.std.proofs.Common.{◌++◌, length, take, drop, length-take, refl}
 use Rattle.std.proofs.Common.{append_assoc, append-nil, length-drop, ap, sym, subst, ◌∙◌, arith}
 use Rattle.std.proofs.lemmas.List.{take-append-drop}
 use Rattle.std.proofs.Math.Seq.{take-length}
@@ -15,10 +15,8 @@ use Rattle.pcap_io.specs.Buffering.{AppendsBuffered}
 pub moved_on : (bytes done rest : List ℕ) (n : ℕ) → bytes ≡ done ++ rest
     → bytes ≡ (done ++ take n rest) ++ take (length rest - n) (drop n rest)
 moved_on bytes done rest n whole =
-    let all : take (length rest - n) (drop n rest) ≡ drop n rest =
-    ap (λ k. take k (drop n rest)) (sym (length-drop n rest)) ∙ take-length (drop n rest) in
-    whole ∙ ap (λ ys. done ++ ys) (sym (take-append-drop n rest)) ∙ sym (append_assoc done (take n rest) (drop n rest))
-    ∙ ap (λ ys. (done ++ take n rest) ++ ys) (sym all)
+    let all = take-length (drop n rest) in
+    rw (whole, ← length-drop n rest, all, append_assoc done (take n rest) (drop n rest), take-append-drop n rest) refl
 
 pub ruleset kept_rules = (Keeps-refl, Keeps-trans)
 
@@ -26,33 +24,24 @@ pub ruleset kept_rules = (Keeps-refl, Keeps-trans)
 pub took_some : (n : ℕ) (b : Bool) (x y : ℕ) → 0 < n → (if (n == 0) && b then x else y) ≡ y
 took_some n b x y some = grind arith
 
-at_most_one : (b : Bool) (n : ℕ) → (if b then n + 1 else n) ≤ n + 1
-at_most_one true n = omega arith
-at_most_one false n = omega arith
-
 -- one more write took some of the rest
 pub one_written : (n : ℕ) (rest : List ℕ) (before after start bytes : ℕ) → 0 < n → n ≤ length rest
     → after ≡ (if (n == 0) && nat_lt 0 (length rest) then before else one_more before)
     → before + length rest ≤ start + bytes → after + length (take (length rest - n) (drop n rest)) ≤ start + bytes
-one_written n rest before after start bytes some fits counted few =
-    let risen : after ≤ before + 1 = rw (counted ∙ took_some n (nat_lt 0 (length rest)) before (one_more before) some)
-    (at_most_one (nat_lt before (2 ^ 64 - 1)) before) in
-    omega (arith, risen, few, some, fits, length-take (length rest - n) (drop n rest), length-drop n rest)
+one_written n rest before after start bytes some fits counted few = grind (arith, length-take, length-drop, counted)
 
 -- ---- buffered bytes
 
 -- the buffered bytes are written, and none are left
 pub drained : (a b : Option (List ℕ)) (old wrote mid : List ℕ) → Appends a b wrote → wrote ≡ old → mid ≡ []
     → AppendsBuffered old a b mid []
-drained a b old wrote mid w is none = (old, ap (λ ys. old ++ ys) (sym none), subst (Appends a b) is w)
+drained a b old wrote mid w is none = (old, grind arith, rw (← is) w)
 
 -- nothing is written, and the same is buffered
 pub left_buffered : (a : Option (List ℕ)) (old mid : List ℕ) → mid ≡ old → AppendsBuffered old a a mid []
-left_buffered a old mid is = ([], append-nil old ∙ sym is, Appends-nil a)
+left_buffered a old mid is = ([], rw is (append-nil old), Appends-nil a)
 
 -- more is buffered behind
 pub buffers_more : (a b : Option (List ℕ)) (old mid waits bytes : List ℕ) → AppendsBuffered old a b mid []
     → waits ≡ mid ++ bytes → AppendsBuffered old a b waits bytes
-buffers_more a b old mid waits bytes (part, e, w) is =
-    let front : old ≡ part ++ mid = sym (append-nil old) ∙ e in
-    (part, ap (λ ys. ys ++ bytes) front ∙ append_assoc part mid bytes ∙ ap (λ ys. part ++ ys) (sym is), w)
+buffers_more a b old mid waits bytes (part, e, w) is = (part, grind (arith, append-nil, append_assoc), w)

@@ -39,15 +39,6 @@ fraction_kept format xs = number_in-take format.endianness 4 4 16 xs (omega arit
 pub seconds_kept : (format : Format) (xs : List ℕ) → seconds_in format (take 16 xs) ≡ seconds_in format xs
 seconds_kept format xs = number_in-take format.endianness 0 4 16 xs (omega arith)
 
--- and stay where more bytes follow
-pub captured_length_before : (format : Format) (xs ys : List ℕ) → 16 ≤ length xs
-    → captured_length_in format (xs ++ ys) ≡ captured_length_in format xs
-captured_length_before format xs ys long = number_in-append format.endianness 8 4 16 xs ys (omega arith) long
-
-pub fraction_before : (format : Format) (xs ys : List ℕ) → 16 ≤ length xs
-    → fraction_in format (xs ++ ys) ≡ fraction_in format xs
-fraction_before format xs ys long = number_in-append format.endianness 4 4 16 xs ys (omega arith) long
-
 -- the record that some bytes begin with
 abbrev pub captured_of : ℕ → List ℕ → Captured
 captured_of n bytes = record { head = take 16 bytes; bytes = take n (drop 16 bytes) }
@@ -55,36 +46,38 @@ captured_of n bytes = record { head = take 16 bytes; bytes = take n (drop 16 byt
 -- its bytes, and then the others
 pub joined_of : (n : ℕ) (bytes : List ℕ) → bytes ≡ frame (captured_of n bytes) ++ drop (16 + n) bytes
 joined_of n bytes =
-    let rest : List ℕ = drop 16 bytes in
-    let split : rest ≡ take n rest ++ drop (16 + n) bytes =
-    sym (take-append-drop n rest) ∙ ap (λ ys. take n rest ++ ys) (drop-drop n 16 bytes) in
-    sym (take-append-drop 16 bytes) ∙ ap (λ ys. take 16 bytes ++ ys) split
-    ∙ sym (append_assoc (take 16 bytes) (take n rest) (drop (16 + n) bytes))
+    let rest = drop 16 bytes in
+    grind (
+      arith,
+      take-append-drop 16 bytes,
+      take-append-drop n rest,
+      drop-drop n 16 bytes,
+      append_assoc (take 16 bytes) (take n rest) (drop (16 + n) bytes),
+    )
 
 -- it is a record
 pub is_record_of : (format : Format) (n : ℕ) (bytes : List ℕ) → 16 + n ≤ length bytes
     → n ≡ captured_length_in format bytes → IsGood format bytes → IsRecord format (captured_of n bytes)
-is_record_of format n bytes fits is good =
-    let lengths : captured_length_in format (take 16 bytes) ≡ captured_length_in format bytes =
-    captured_length_kept format bytes in
-    let resolution : fraction_in format (take 16 bytes) ≡ fraction_in format bytes = fraction_kept format bytes in
-    let long : length (take n (drop 16 bytes)) ≡ n =
-    length-take-le n (drop 16 bytes) (omega (arith, length-drop 16 bytes)) in
-    record {
-      head_length = length-take-le 16 bytes (omega arith);
-      good = (rw lengths good.0, rw resolution good.1);
-      captured = lengths ∙ sym is ∙ sym long;
-    }
+is_record_of format n bytes fits is good = record {
+  head_length = length-take-le 16 bytes (omega arith);
+  good = rw (captured_length_kept format bytes, fraction_kept format bytes) good;
+  captured = captured_length_kept format bytes ∙ sym is
+      ∙ sym (length-take-le n (drop 16 bytes) (omega (arith, length-drop 16 bytes)));
+}
 
 -- its bytes are those that were taken last
 pub last_taken : (n : ℕ) (taken bytes : List ℕ) → 16 + n ≤ length bytes
     → last_of n (taken ++ take (16 + n) bytes) ≡ take n (drop 16 bytes)
 last_taken n taken bytes fits =
-    let front : List ℕ = take (16 + n) bytes in
-    let long : length front ≡ 16 + n = length-take-le (16 + n) bytes fits in
-    let from : length (taken ++ front) - n ≡ length taken + 16 = omega (arith, long, length-append taken front) in
-    ap (λ k. drop k (taken ++ front)) from ∙ sym (drop-drop 16 (length taken) (taken ++ front))
-    ∙ ap (drop 16) (drop-append_seam taken front) ∙ drop-take 16 n bytes
+    let all = taken ++ take (16 + n) bytes in
+    grind (
+      arith,
+      length-take-le (16 + n) bytes fits,
+      length-append,
+      drop-drop 16 (length taken) all,
+      drop-append_seam taken (take (16 + n) bytes),
+      drop-take 16 n bytes,
+    )
 
 -- one more record is read
 pub reads_one : (format : Format) (a : BufferState) (more : List ℕ)

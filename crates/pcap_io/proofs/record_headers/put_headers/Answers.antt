@@ -6,15 +6,13 @@ use Rattle.pcap_io.proofs.record_headers.put_headers.Goals as goal
 -- one more number at the offset where the others end
 one_more : (old new start word : List ℕ) (at end : ℕ) → end ≡ at + 4 → take at old ≡ start
     → take (at + 4) new ≡ take at old ++ word → take end new ≡ start ++ word
-one_more old new start word at end is so put = rw (is, put, so) refl
+one_more old new start word at end is so put = cc
 
 -- nine numbers and the packet, one after another
 all_behind : (x a b c d e f g h i p : List ℕ)
     → (((((((((x ++ a) ++ b) ++ c) ++ d) ++ e) ++ f) ++ g) ++ h) ++ i) ++ p
     ≡ x ++ (a ++ (b ++ (c ++ (d ++ (e ++ (f ++ (g ++ (h ++ (i ++ p)))))))))
-all_behind x a b c d e f g h i p =
-    append_assoc _ i p ∙ append_assoc _ h _ ∙ append_assoc _ g _ ∙ append_assoc _ f _ ∙ append_assoc _ e _
-    ∙ append_assoc _ d _ ∙ append_assoc _ c _ ∙ append_assoc _ b _ ∙ append_assoc x a _
+all_behind x a b c d e f g h i p = simp append_assoc
 
 pub returns-clause-bytes : goal.returns-clause-bytes
 returns-clause-bytes c =
