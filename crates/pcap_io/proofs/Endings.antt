@@ -1,6 +1,6 @@
 -- How a stream ends at some bytes, unless a record begins there.
-use Rattle.std.proofs.Common.{◌≡◌, ◌≢◌, ℕ, ◌+◌, ◌<◌, ◌≤◌, Bool, true, false, List, [], ◌∷◌, length, ◌⊎◌, inl, inr}
-use Rattle.std.proofs.Common.{Option, Some, None, refl, sym, ap, ◌∙◌, arith}
+use Rattle.std.proofs.Common.{◌≡◌, ◌≢◌, ℕ, ◌+◌, ◌<◌, ◌≤◌, Bool, false, List, [], ◌∷◌, length, ◌⊎◌, inl, inr}
+use Rattle.std.proofs.Common.{Option, Some, None, refl, ap, arith}
 use Rattle.std.specs.Prelude.{◌||◌, ◌==◌, is_some, nat_lt, not, if◌then◌else◌}
 use Rattle.std.proofs.lemmas.Bool.{cases_lt}
 use Rattle.std.proofs.lemmas.Bool.Decides.{nat_tests}

@@ -10,8 +10,7 @@ use Rattle.pcap_io.specs.declared.format.Endianness.{Endianness}
 use Rattle.pcap_io.specs.declared.format.Endianness.TheVariants.{Little, Big}
 use Rattle.pcap_io.specs.declared.format.Resolution.{Resolution}
 use Rattle.pcap_io.specs.declared.format.Format.{Format}
-use Rattle.pcap_io.specs.Pcap.{format_of, header_fault, format_with_version, encoding_of, encoding_by, resolution_of}
-use Rattle.pcap_io.specs.Pcap.{number_in}
+use Rattle.pcap_io.specs.Pcap.{format_of, header_fault, format_with_version, encoding_of}
 use Rattle.pcap_io.proofs.Steps.{number_in-append}
 
 encoding_kept : (xs ys : List ℕ) → 24 ≤ length xs → encoding_of (xs ++ ys) ≡ encoding_of xs

@@ -1,5 +1,5 @@
 -- Decoding is unique.
-use Rattle.std.proofs.Common.{◌≡◌, ◌≢◌, ℕ, zero, suc, ◌+◌, ◌<◌, ◌≤◌, List, [], ◌∷◌, ◌++◌, length, take, drop, All, ◌⊎◌}
+use Rattle.std.proofs.Common.{◌≡◌, ℕ, zero, suc, ◌+◌, ◌<◌, ◌≤◌, List, [], ◌∷◌, ◌++◌, length, take, drop, All, ◌⊎◌}
 use Rattle.std.proofs.Common.{inl, inr, None, Option, Result, Ok, Err, Some, refl, sym, ap, subst, ◌∙◌, arith, append_assoc}
 use Rattle.std.proofs.Common.{length-append}
 use Rattle.std.specs.List.{flat_map}
@@ -8,9 +8,9 @@ use Rattle.std.proofs.lemmas.List.Elements.{All-cons, All-head, All-tail}
 use Rattle.std.specs.Result.{result_err}
 use Rattle.pcap_io.specs.declared.fault.CaptureFault.{CaptureFault}
 use Rattle.pcap_io.specs.declared.format.Format.{Format}
-use Rattle.pcap_io.specs.Pcap.{Captured, frame, IsRecord, IsGood, format_of, header_fault, per_second}
-use Rattle.pcap_io.specs.Pcap.{captured_length_in, fraction_in, stream_of, Ending, Whole, Torn, Malformed, Over, Ends}
-use Rattle.pcap_io.specs.Pcap.{Pcap, HEADER_BYTES, MOST_CAPTURED, MOST_RECORDS}
+use Rattle.pcap_io.specs.Pcap.{Captured, frame, IsRecord, IsGood, format_of, header_fault}
+use Rattle.pcap_io.specs.Pcap.{captured_length_in, fraction_in, stream_of, Ending, Ends}
+use Rattle.pcap_io.specs.Pcap.{Pcap, HEADER_BYTES, MOST_RECORDS}
 use Rattle.pcap_io.proofs.Endings.{begins_at, begins_from, ending_at, ending_from, ends_from}
 use Rattle.pcap_io.proofs.Steps.{captured_length_kept, fraction_kept, captured_of, joined_of, is_record_of}
 

@@ -1,4 +1,4 @@
-use Rattle.std.proofs.Common.{◌≡◌, ◌++◌, ◌+◌, ◌/◌, ◌%◌, List, ℕ, length, take, append_assoc, ◌∙◌, ap, refl, arith}
+use Rattle.std.proofs.Common.{◌≡◌, ◌++◌, ◌+◌, ◌/◌, ◌%◌, List, ℕ, length, take, append_assoc, ◌∙◌, ap, arith}
 use Rattle.byteorder.specs.Endian.{little_bytes, big_bytes}
 use Rattle.pcap_io.specs.Sll2.{sent}
 use Rattle.pcap_io.proofs.record_headers.put_headers.Goals as goal
