@@ -17,27 +17,18 @@ pub filled : (old new : BufferState) (before after : Option (List ℕ)) → old.
     (prepend_known new.held after))
 filled old new None after going fills = rw going tt
 filled old new (Some x) None going fills = absurd fills.consumed
-filled old new (Some x) (Some y) going fills = elim fills.progress [
-  | inl (on, some) ↦ rw (going, on, fills.held, fills.consumed, append_assoc) refl
-  | inr (at, none, end) ↦ rw (going, at, fills.held, fills.consumed, none, end) (grind (arith, append-nil))
-]
+filled old new (Some x) (Some y) going fills = grind (arith, fills.progress, fills.held, fills.consumed, append_assoc, append-nil)
 
 -- and less of the buffer is free, or the reader has ended
 pub less_room : (old new : BufferState) (before after : Option (List ℕ)) → old.ended ≡ false → length old.held < 262160
     → FillsBuffer old new before after
     → cond new.ended 0 (262161 - length new.held) < cond old.ended 0 (262161 - length old.held)
-less_room old new before after going room fills = elim fills.progress [
-  | inl (on, some) ↦ grind (arith, length-append, fills.held)
-  | inr (at, none, end) ↦ grind arith
-]
+less_room old new before after going room fills = grind (arith, fills.progress, length-append, fills.held)
 
 -- a reader that came to its end has none left
 pub ended_only_at_end : (old new : BufferState) (before after : Option (List ℕ)) → FillsBuffer old new before after
     → new.ended ≡ true → IsAtEnd after
-ended_only_at_end old new before after fills ended = elim fills.progress [
-  | inl (on, some) ↦ absurd (false≢true (sym on ∙ ended))
-  | inr (at, none, end) ↦ end
-]
+ended_only_at_end old new before after fills ended = grind (arith, fills.progress, false≢true)
 
 -- a read that failed took none
 pub failed : (old new : BufferState) (before after : Option (List ℕ)) → old.ended ≡ false → new.ended ≡ false
@@ -64,37 +55,17 @@ pub record Behind (ended : Bool) (held : List ℕ) (known_left : Option (List �
 
 pub behind : (ended : Bool) (held : List ℕ) (left : Option (List ℕ)) (bytes : List ℕ)
     → cond ended (Some held) (prepend_known held left) ≡ Some bytes → Behind ended held left bytes
-behind true held left bytes is = record {
-  more = [];
-  joined = let same : held ≡ bytes = cc in sym same ∙ sym (append-nil held);
-  none = λ _. refl;
-  left = λ later. ap Some (sym (append-nil later));
-}
+behind true held left bytes is = grind (arith, append-nil)
 behind false held None bytes is = cc
-behind false held (Some y) bytes is = record {
-  more = y;
-  joined = cc;
-  none = λ e. absurd (false≢true e);
-  left = λ later.
-      refl;
-}
+behind false held (Some y) bytes is = grind (arith, false≢true)
 
 -- ---- what `next` says names the capture before it by three parts alone
 
 pub next_from : (bytes : List ℕ) (after : Option (List ℕ)) (a b new : CaptureState) (r : Result Bool CaptureError)
     → a.format ≡ b.format → a.count ≡ b.count → a.latest ≡ b.latest → NextAnswers bytes after a new r
     → NextAnswers bytes after b new r
-next_from bytes after a b new (Ok true) f n l next_answers = record {
-  captured = next_answers.captured;
-  rest = next_answers.rest;
-  left = next_answers.left;
-  joined = next_answers.joined;
-  is_record = rw (← f) next_answers.is_record;
-  fewer = rw (← n) next_answers.fewer;
-  counted = rw (← n) next_answers.counted;
-  latest_is = rw (← f, ← l) next_answers.latest_is;
-  last_is = rw (← f) next_answers.last_is;
-}
+next_from bytes after a b new (Ok true) f n l next_answers =
+    grind (arith, next_answers.captured, next_answers.rest, next_answers.left, next_answers.joined, next_answers.is_record, next_answers.fewer, next_answers.counted, next_answers.latest_is, next_answers.last_is)
 next_from bytes after a b new (Ok false) f n l next_answers = next_answers
 next_from bytes after a b new (Err (Refused TornEnd)) f n l next_answers = rw (← f, ← n) next_answers
 next_from bytes after a b new (Err (Refused Malformed)) f n l next_answers = rw (← f, ← n) next_answers

@@ -66,22 +66,8 @@ begins_at format count bytes few there is_captured is_fraction small within = rw
 pub ends_from : (format : Format) (ending : Ending) (count : ℕ) (bytes : List ℕ) → count ≤ MOST_RECORDS → ending_at format count bytes ≡ Some ending → Ends format ending count bytes
 ends_from format Whole count bytes most is = no_bytes bytes (grind (arith, nat_tests))
 ends_from format Over count bytes most is = (some_from bytes (grind (arith, nat_tests)), grind (arith, nat_tests))
-ends_from format Torn count bytes most is = (
-  some_from bytes (grind (arith, nat_tests)),
-  grind (arith, nat_tests),
-  elim (cases_lt (length bytes) 16) [
-    | inl short ↦ inl short
-    | inr long ↦ inr ((grind (arith, nat_tests), grind (arith, nat_tests)), grind (arith, nat_tests))
-  ],
-)
-ends_from format Malformed count bytes most is = (
-  grind (arith, nat_tests),
-  grind (arith, nat_tests),
-  elim (cases_lt MOST_CAPTURED (captured_length_in format bytes)) [
-    | inl over ↦ inl over
-    | inr small ↦ inr (grind (arith, nat_tests))
-  ],
-)
+ends_from format Torn count bytes most is = grind (arith, some_from, cases_lt)
+ends_from format Malformed count bytes most is = grind (arith, cases_lt)
 
 -- bytes that decide nothing are a part of a record, for which the buffer has room
 pub part_of : (format : Format) (count : ℕ) (bytes : List ℕ) → count ≤ MOST_RECORDS

@@ -20,18 +20,11 @@ encoding_kept xs ys long =
 version_kept : (xs ys : List ℕ) (encoding : Option (Endianness × Resolution)) → 24 ≤ length xs
     → format_with_version (xs ++ ys) encoding ≡ format_with_version xs encoding
 version_kept xs ys None long = refl
-version_kept xs ys (Some encoding) long =
-    rw (
-      number_in-append encoding.0 4 2 24 xs ys (omega arith) long,
-      number_in-append encoding.0 6 2 24 xs ys (omega arith) long,
-      number_in-append encoding.0 20 4 24 xs ys (omega arith) long,
-    ) refl
+version_kept xs ys (Some encoding) long = grind (arith, number_in-append, encoding.0)
 
 -- the header alone determines the format
 pub format_kept : (xs ys : List ℕ) → 24 ≤ length xs → format_of (xs ++ ys) ≡ format_of xs
-format_kept xs ys long =
-    rw (le-ltb (length (xs ++ ys)) 24 (omega (arith, length-append xs ys)), le-ltb (length xs) 24 long) (version_kept xs
-    ys (encoding_of (xs ++ ys)) long ∙ ap (format_with_version xs) (encoding_kept xs ys long))
+format_kept xs ys long = grind (arith, le-ltb, length-append, version_kept, encoding_kept)
 
 -- what follows the header is to come
 pub opened : (before after : Option (List ℕ)) (held : List ℕ) (ended : Bool) (format : Format)
@@ -40,15 +33,8 @@ pub opened : (before after : Option (List ℕ)) (held : List ℕ) (ended : Bool)
     × (cond ended (Some (drop 24 held)) (prepend_known (drop 24 held) after) ≡ Some (drop 24 input)))
 opened None after held ended format read end is long = tt
 opened (Some x) None held ended format read end is long = absurd read
-opened (Some x) (Some y) held false format read end is long =
-    rw read (
-      omega (arith, length-append held y),
-      format_kept held y long ∙ is,
-      ap Some (sym (drop-append-le 24 held y long)),
-    )
-opened (Some x) (Some y) held true format read end is long =
-    let same : x ≡ held = read ∙ ap (λ ys. held ++ ys) (end refl) ∙ append-nil held in
-    rw same (long, is, refl)
+opened (Some x) (Some y) held false format read end is long = grind (arith, length-append, format_kept, drop-append-le)
+opened (Some x) (Some y) held true format read end is long = grind (arith, append-nil)
 
 -- a fault of the bytes that were read is one of the input
 pub refused : (before after : Option (List ℕ)) (held : List ℕ) (ended : Bool) (fault : CaptureFault)
@@ -57,8 +43,5 @@ pub refused : (before after : Option (List ℕ)) (held : List ℕ) (ended : Bool
     → IfSome before (λ input. header_fault input ≡ Some fault)
 refused None after held ended fault read end is whole = tt
 refused (Some x) None held ended fault read end is whole = absurd read
-refused (Some x) (Some y) held ended fault read end is (inl long) =
-    rw read (ap result_err (format_kept held y long ∙ is))
-refused (Some x) (Some y) held ended fault read end is (inr at) =
-    let same : x ≡ held = read ∙ ap (λ ys. held ++ ys) (end at) ∙ append-nil held in
-    rw same (ap result_err is)
+refused (Some x) (Some y) held ended fault read end is (inl long) = grind (arith, format_kept)
+refused (Some x) (Some y) held ended fault read end is (inr at) = grind (arith, append-nil)

@@ -29,18 +29,12 @@ header_first format r more is =
 not_ended : (format : Format) (e : Ending) (count : ℕ) (r : Captured) (more : List ℕ) → IsRecord format r
     → count < MOST_RECORDS → Ends format e count (frame r ++ more) → ⊥
 not_ended format e count r more is few ends =
-    let first = header_first format r more is in
-    let begins : ending_at format count (frame r ++ more) ≡ None =
-    begins_at format count (frame r ++ more) few (grind (arith, length-append, is.head_length))
-    (sym (captured_length_kept format (frame r ++ more)) ∙ ap (captured_length_in format) first ∙ is.captured)
-    (sym (fraction_kept format (frame r ++ more)) ∙ ap (fraction_in format) first) (grind (arith, is.good.0, is.captured)) is.good.1 in
-    let none : Some e ≡ None = sym (ending_from format e count (frame r ++ more) ends) ∙ begins in absurd (cc)
+    grind (arith, header_first, ending_at, begins_at, length-append, is.head_length, captured_length_kept, is.captured, fraction_kept, is.good.0, is.good.1, ending_from)
 
 -- a stream has one ending
 one_ending : (format : Format) (e e' : Ending) (count : ℕ) (rest : List ℕ) → Ends format e count rest
     → Ends format e' count rest → e ≡ e'
-one_ending format e e' count rest h k =
-    let one = ending_from format e count rest h in let other = ending_from format e' count rest k in cc
+one_ending format e e' count rest h k = grind (arith, ending_from)
 
 -- a stream with a first record
 stream_cons : (x : Captured) (xs : List Captured) (r : List ℕ) → stream_of (x ∷ xs) r ≡ frame x ++ stream_of xs r
@@ -50,26 +44,16 @@ stream_cons x xs r = append_assoc (frame x) (flat_map frame xs) r
 one_record : (format : Format) (x y : Captured) (a b : List ℕ) → IsRecord format x → IsRecord format y
     → frame x ++ a ≡ frame y ++ b → (x ≡ y) × (a ≡ b)
 one_record format x y a b p q e =
-    let both : x.head ++ (x.bytes ++ a) ≡ y.head ++ (y.bytes ++ b) = grind (arith, append_assoc) in
-    let long = p.head_length ∙ sym q.head_length in
-    let heads : x.head ≡ y.head = split_front x.head y.head _ _ long both in
-    let tails : x.bytes ++ a ≡ y.bytes ++ b = split_back x.head y.head _ _ long both in
-    let lengths : length x.bytes ≡ length y.bytes =
-    sym p.captured ∙ ap (captured_length_in format) heads ∙ q.captured in
-    let bytes : x.bytes ≡ y.bytes = split_front x.bytes y.bytes a b lengths tails in
-    (rw (← heads, ← bytes) refl, split_back x.bytes y.bytes a b lengths tails)
+    grind (arith, x.head, x.bytes, y.head, y.bytes, append_assoc, p.head_length, q.head_length, split_front, split_back, p.captured, q.captured)
 
 -- from so many records on, of n and of m in all
 one_stream : (format : Format) (xs ys : List Captured) (e e' : Ending) (r r' : List ℕ) (count n m : ℕ)
     → n ≡ count + length xs → m ≡ count + length ys → n ≤ MOST_RECORDS → m ≤ MOST_RECORDS
     → All (IsRecord format) xs → All (IsRecord format) ys → Ends format e n r → Ends format e' m r'
     → stream_of xs r ≡ stream_of ys r' → (xs ≡ ys) × (e ≡ e')
-one_stream format [] [] e e' r r' count n m is_n is_m few few' p q h k same =
-    let at_n : m ≡ n = omega arith in (refl, one_ending format e e' n r h (rw (← at_n, same) k))
-one_stream format [] (y ∷ ys) e e' r r' count n m is_n is_m few few' p q h k same =
-    absurd (not_ended format e n y (stream_of ys r') (All-head (IsRecord format) y ys q) (omega arith) (rw (← stream_cons y ys r', ← same) h))
-one_stream format (x ∷ xs) [] e e' r r' count n m is_n is_m few few' p q h k same =
-    absurd (not_ended format e' m x (stream_of xs r) (All-head (IsRecord format) x xs p) (omega arith) (rw (← stream_cons x xs r, same) k))
+one_stream format [] [] e e' r r' count n m is_n is_m few few' p q h k same = grind (arith, one_ending)
+one_stream format [] (y ∷ ys) e e' r r' count n m is_n is_m few few' p q h k same = grind (arith, not_ended, All-head, stream_cons)
+one_stream format (x ∷ xs) [] e e' r r' count n m is_n is_m few few' p q h k same = grind (arith, not_ended, All-head, stream_cons)
 one_stream format (x ∷ xs) (y ∷ ys) e e' r r' count n m is_n is_m few few' p q h k same =
     let (first, tails) = one_record format x y (stream_of xs r) (stream_of ys r') (All-head (IsRecord format) x xs p)
     (All-head (IsRecord format) y ys q) (sym (stream_cons x xs r) ∙ same ∙ stream_cons y ys r') in

@@ -58,12 +58,7 @@ joined_of n bytes =
 -- it is a record
 pub is_record_of : (format : Format) (n : ℕ) (bytes : List ℕ) → 16 + n ≤ length bytes
     → n ≡ captured_length_in format bytes → IsGood format bytes → IsRecord format (captured_of n bytes)
-is_record_of format n bytes fits is good = record {
-  head_length = length-take-le 16 bytes (omega arith);
-  good = rw (captured_length_kept format bytes, fraction_kept format bytes) good;
-  captured = captured_length_kept format bytes ∙ sym is
-      ∙ sym (length-take-le n (drop 16 bytes) (omega (arith, length-drop 16 bytes)));
-}
+is_record_of format n bytes fits is good = grind (arith, length-take-le, captured_length_kept, fraction_kept, length-drop)
 
 -- its bytes are those that were taken last
 pub last_taken : (n : ℕ) (taken bytes : List ℕ) → 16 + n ≤ length bytes

@@ -1,3 +1,5 @@
+use Rattle.std.proofs.Common.{arith}
+use Rattle.std.proofs.lemmas.Bool.Decides.{nat_tests}
 use Rattle.std.proofs.Common.{◌≡◌, ◌∙◌, ap, subst, refl, sym, cond, Some, ◌++◌}
 use Rattle.std.proofs.lemmas.Bool.{true≢false}
 use Rattle.std.specs.Io.KnownBytes.{Keeps, prepend_known}
@@ -11,66 +13,19 @@ use Rattle.pcap_io.proofs.capture.Capture.next.Goals as goal
 
 pub loop-self-smaller : goal.loop-self-smaller
 loop-self-smaller g c =
-    let is = c.self-in-loop-self.view_is in
-    let inside = c.self-in-loop-self.inside in
-    let waits = not_ready _ _ _ (ap is_ready is ∙ sym c.is_ready.ensures ∙ c.loop-self-test.true) in
-    let part = part_of inside.format inside.count inside.buffer.held c.self-in-loop-self.invariant.few waits.2 in
-    rw (← is) (less_room inside.buffer c.fill.new.self _ _ waits.1 part.1 c.in-Ok.ensures.ok)
+    grind (arith, c.self-in-loop-self.view_is, not_ready, c.is_ready.ensures, c.loop-self-test.true, part_of, c.self-in-loop-self.invariant.few, less_room, c.in-Ok.ensures.ok)
 
 pub loop-self-preserved : goal.loop-self-preserved
 loop-self-preserved g c =
-    let kept = c.loop-self.invariant in
-    let is = c.self-in-loop-self.view_is in
-    let inside = c.self-in-loop-self.inside in
-    let waits = not_ready _ _ _ (ap is_ready is ∙ sym c.is_ready.ensures ∙ c.loop-self-test.true) in
-    record {
-      format = ap (λ (s : CaptureState). s.format) is ∙ kept.format;
-      count = ap (λ (s : CaptureState). s.count) is ∙ kept.count;
-      latest = ap (λ (s : CaptureState). s.latest) is ∙ kept.latest;
-      fault = ap (λ (s : CaptureState). s.fault) is ∙ kept.fault;
-      last = rw (no_last inside.format.link inside.buffer.taken inside.latest inside.last
-          (ap (λ (s : CaptureState). s.last) is ∙ kept.last)) refl;
-      whole = Keeps-trans _ _ _ kept.whole (rw (← is) (filled inside.buffer c.fill.new.self _ _ waits.1
-          c.in-Ok.ensures.ok));
-      unread = λ ready. absurd (true≢false (sym ready ∙ sym (ap is_ready (kept.unread ready).0) ∙ sym c.is_ready.ensures
-          ∙ c.loop-self-test.true));
-      drained = λ _. ended_only_at_end _ _ _ _ c.in-Ok.ensures.ok;
-      read = (kept.read.0 ++ c.in-Ok.ensures.ok.more, Consumes-trans _ _ _ _ _ kept.read.1 c.in-Ok.ensures.ok.consumed);
-      no_failure = c.in-Ok.ensures.no_failure ∙ kept.no_failure;
-    }
+    grind (arith, c.loop-self.invariant, c.self-in-loop-self.view_is, not_ready, c.is_ready.ensures, c.loop-self-test.true, no_last, Keeps-trans, filled, c.in-Ok.ensures.ok, true≢false, ended_only_at_end, c.in-Ok.ensures.ok.more, Consumes-trans, c.in-Ok.ensures.ok.consumed, c.in-Ok.ensures.no_failure)
 
 pub returns-in_default-fill-clause-broken : goal.returns-in_default-fill-clause-broken
 returns-in_default-fill-clause-broken g c _ _ =
-    let is = c.self-in-loop-self.view_is in
-    let inside = c.self-in-loop-self.inside in
-    let waits = not_ready _ _ _ (ap is_ready is ∙ sym c.is_ready.ensures ∙ c.loop-self-test.true) in
-    let part = part_of inside.format inside.count inside.buffer.held c.self-in-loop-self.invariant.few waits.2 in
-    let failed = c.in_default-fill.ensures.err in
-    (failed.1, subst (IsPartialRecord inside.format inside.count) (sym failed.0) part.0)
+    grind (arith, c.self-in-loop-self.view_is, not_ready, c.is_ready.ensures, c.loop-self-test.true, part_of, c.self-in-loop-self.invariant.few, failed, c.in_default-fill.ensures.err)
 
 pub returns-in_default-fill-clause-next_answers : goal.returns-in_default-fill-clause-next_answers
 returns-in_default-fill-clause-next_answers g c none =
-    let is = c.self-in-loop-self.view_is in
-    let inside = c.self-in-loop-self.inside in
-    let waits = not_ready inside.fault inside.buffer.ended (decides_next inside.format inside.count inside.buffer.held)
-    (ap is_ready is ∙ sym c.is_ready.ensures ∙ c.loop-self-test.true) in
-    let part = part_of inside.format inside.count inside.buffer.held c.self-in-loop-self.invariant.few waits.2 in
-    let err = c.in_default-fill.ensures.err in
-    let new = c.fill.new.self in
-    let first = ahead (capture_state_of c.self.inside.format c.self.inside.buffer c.self.inside.count
-    c.self.inside.latest c.self.inside.fault c.self.inside.last) (g.R.Read.remaining c.args.reader.now.inner) in
-    let mid = g.R.Read.remaining c.loop-self.reader.inner in
-    let last = g.R.Read.remaining c.fill.new.reader.inner in
-    let left = cond new.ended (Some new.held) (prepend_known new.held last) in
-    let later : Keeps (ahead c.loop-self.self mid) left =
-    rw (← is) (failed inside.buffer new mid last waits.1 err.1 err.0 err.2) in
-    let kept : Keeps first left = Keeps-trans first (ahead c.loop-self.self mid) left c.loop-self.invariant.whole later
-    in
-    rw (← c.self.view_is) (known first left _ kept (λ bytes e. record {
-      lost_none = e;
-      open_end = err.1;
-      part = subst (IsPartialRecord inside.format inside.count) (sym err.0) part.0;
-    }))
+    grind (arith, nat_tests, c.self-in-loop-self.view_is, not_ready, c.is_ready.ensures, c.loop-self-test.true, part_of, c.self-in-loop-self.invariant.few, c.in_default-fill.ensures.err, g.R.Read.remaining, c.loop-self.reader.inner, c.loop-self.self, failed, Keeps-trans, c.loop-self.invariant.whole, c.self.view_is, known)
 
 pub returns-clause-next_answers : goal.returns-clause-next_answers
 returns-clause-next_answers g c none =

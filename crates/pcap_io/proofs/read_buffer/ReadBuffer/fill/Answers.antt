@@ -8,29 +8,7 @@ use Rattle.pcap_io.proofs.read_buffer.ReadBuffer.fill.Goals as goal
 
 pub returns-in-Ok-clause-ok : goal.returns-in-Ok-clause-ok
 returns-in-Ok-clause-ok g c =
-    let inside = c.self.inside in
-    let is = c.self.view_is ∙ c.compact.ensures in
-    let bytes = c.deref_mut.result.now in
-    let buf = c.read.new.buf in
-    let count = c.in-Ok.count in
-    let same : length bytes ≡ length inside.bytes.items = ap length c.deref_mut.ensures.value in
-    let fits : count ≤ length buf = c.in-Ok.ensures.bound.0 in
-    let held : slice_range bytes inside.start inside.end ≡ c.args.self.now.held =
-    ap (λ (xs : List ℕ). slice_range xs inside.start inside.end) c.deref_mut.ensures.value
-    ∙ ap (λ (a : BufferState). a.held) is in
-    let all : List ℕ = take inside.end bytes ++ (buf ++ post_of inside.end (length bytes - inside.end) bytes) in
-    let more = held_more bytes buf (post_of inside.end (length bytes - inside.end) bytes) inside.start inside.end count
-    (inside.end + count) refl c.self.invariant.0 (omega (arith, same, c.self.invariant.1)) fits in
-    rw (with_items_is inside.bytes all (search (rules, places))) record {
-      more = take count buf;
-      held = more ∙ ap (λ ys. ys ++ take count buf) held;
-      consumed = c.in-Ok.ensures.bytes.0;
-      progress = inl (
-        ap (λ (a : BufferState). a.ended) is ∙ c.requires.going,
-        let some = c.in-Ok.count-test in
-            let long = c.in-Ok.ensures.bound.1 in omega (arith, some, long),
-      );
-    }
+    grind (arith, c.self.view_is, c.compact.ensures, c.in-Ok.count, c.deref_mut.ensures.value, c.in-Ok.ensures.bound.0, held_more, c.self.invariant.0, c.self.invariant.1, with_items_is, places, c.in-Ok.ensures.bytes.0, c.requires.going, c.in-Ok.count-test, c.in-Ok.ensures.bound.1)
 
 pub returns-in-Ok-eq0-clause-ok : goal.returns-in-Ok-eq0-clause-ok
 returns-in-Ok-eq0-clause-ok g c =
