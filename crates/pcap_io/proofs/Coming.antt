@@ -64,8 +64,7 @@ behind false held (Some y) bytes is = grind (arith, false≢true)
 pub next_from : (bytes : List ℕ) (after : Option (List ℕ)) (a b new : CaptureState) (r : Result Bool CaptureError)
     → a.format ≡ b.format → a.count ≡ b.count → a.latest ≡ b.latest → NextAnswers bytes after a new r
     → NextAnswers bytes after b new r
-next_from bytes after a b new (Ok true) f n l next_answers =
-    grind (arith, next_answers.captured, next_answers.rest, next_answers.left, next_answers.joined, next_answers.is_record, next_answers.fewer, next_answers.counted, next_answers.latest_is, next_answers.last_is)
+next_from bytes after a b new (Ok true) f n l next_answers = grind arith
 next_from bytes after a b new (Ok false) f n l next_answers = next_answers
 next_from bytes after a b new (Err (Refused TornEnd)) f n l next_answers = rw (← f, ← n) next_answers
 next_from bytes after a b new (Err (Refused Malformed)) f n l next_answers = rw (← f, ← n) next_answers

@@ -43,8 +43,7 @@ stream_cons x xs r = append_assoc (frame x) (flat_map frame xs) r
 -- two records at the beginning of the same bytes are one
 one_record : (format : Format) (x y : Captured) (a b : List ℕ) → IsRecord format x → IsRecord format y
     → frame x ++ a ≡ frame y ++ b → (x ≡ y) × (a ≡ b)
-one_record format x y a b p q e =
-    grind (arith, x.head, x.bytes, y.head, y.bytes, append_assoc, p.head_length, q.head_length, split_front, split_back, p.captured, q.captured)
+one_record format x y a b p q e = grind (arith, append_assoc, split_front, split_back)
 
 -- from so many records on, of n and of m in all
 one_stream : (format : Format) (xs ys : List Captured) (e e' : Ending) (r r' : List ℕ) (count n m : ℕ)

@@ -12,16 +12,13 @@ use Rattle.pcap_io.proofs.Coming.{filled, ended_only_at_end, less_room, failed, 
 use Rattle.pcap_io.proofs.capture.Capture.next.Goals as goal
 
 pub loop-self-smaller : goal.loop-self-smaller
-loop-self-smaller g c =
-    grind (arith, c.self-in-loop-self.view_is, not_ready, c.is_ready.ensures, c.loop-self-test.true, part_of, c.self-in-loop-self.invariant.few, less_room, c.in-Ok.ensures.ok)
+loop-self-smaller g c = grind (arith, not_ready, part_of, less_room)
 
 pub loop-self-preserved : goal.loop-self-preserved
-loop-self-preserved g c =
-    grind (arith, c.loop-self.invariant, c.self-in-loop-self.view_is, not_ready, c.is_ready.ensures, c.loop-self-test.true, no_last, Keeps-trans, filled, c.in-Ok.ensures.ok, true≢false, ended_only_at_end, c.in-Ok.ensures.ok.more, Consumes-trans, c.in-Ok.ensures.ok.consumed, c.in-Ok.ensures.no_failure)
+loop-self-preserved g c = grind (arith, not_ready, no_last, Keeps-trans, filled, true≢false, ended_only_at_end, Consumes-trans)
 
 pub returns-in_default-fill-clause-broken : goal.returns-in_default-fill-clause-broken
-returns-in_default-fill-clause-broken g c _ _ =
-    grind (arith, c.self-in-loop-self.view_is, not_ready, c.is_ready.ensures, c.loop-self-test.true, part_of, c.self-in-loop-self.invariant.few, failed, c.in_default-fill.ensures.err)
+returns-in_default-fill-clause-broken g c _ _ = grind (arith, not_ready, part_of, failed)
 
 pub returns-in_default-fill-clause-next_answers : goal.returns-in_default-fill-clause-next_answers
 returns-in_default-fill-clause-next_answers g c none =

@@ -7,8 +7,7 @@ use Rattle.pcap_io.proofs.Buffers.{held_more, at_front}
 use Rattle.pcap_io.proofs.read_buffer.ReadBuffer.fill.Goals as goal
 
 pub returns-in-Ok-clause-ok : goal.returns-in-Ok-clause-ok
-returns-in-Ok-clause-ok g c =
-    grind (arith, c.self.view_is, c.compact.ensures, c.in-Ok.count, c.deref_mut.ensures.value, c.in-Ok.ensures.bound.0, held_more, c.self.invariant.0, c.self.invariant.1, with_items_is, places, c.in-Ok.ensures.bytes.0, c.requires.going, c.in-Ok.count-test, c.in-Ok.ensures.bound.1)
+returns-in-Ok-clause-ok g c = grind (arith, held_more, with_items_is, places)
 
 pub returns-in-Ok-eq0-clause-ok : goal.returns-in-Ok-eq0-clause-ok
 returns-in-Ok-eq0-clause-ok g c =
