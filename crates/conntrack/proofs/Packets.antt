@@ -9,8 +9,8 @@ use Rattle.conntrack.proofs.Histories.{live_list-unended, unended, unended-disti
 use Rattle.conntrack.proofs.Lists.{filter-map, filter-swap}
 use Rattle.conntrack.proofs.Same.{same_belonging}
 use Rattle.conntrack.proofs.Changes.{live_at-later, live_at-touched_at, live_at_last}
-use Rattle.conntrack.proofs.Lookups.{EndsThere, FoundThere, IsAt, Nowhere, Place, at_first, at_first-blind, changed_first, ended_is_free, found_is_held}
-use Rattle.conntrack.proofs.Lookups.{has_tuple, is_at, nowhere_is_free, place_in, without_first}
+use Rattle.conntrack.proofs.Names.{Option, Some, None, find, belonging_by, belonging_without_id, connection_ref, Reply, of_original, of_reply}
+use Rattle.conntrack.proofs.Lookups.{at_first, at_first-blind, changed_first, ended_is_free, found_is_held, has_tuple, nowhere_is_free, without_first}
 
 -- the entry that a lookup found is in the list
 abbrev pub IsFoundIn : Belonging → List ConntrackEntry → Type 0
@@ -43,50 +43,50 @@ begun_blind : (i : ConnId) (p : Arrival) (confirmation : Confirmation) (held : L
     → map without_id (with_begun i p confirmation held) ≡ with_begun (record { 0 = 0 }) p confirmation (map without_id held)
 begun_blind i p confirmation held = grind (arith, map-append)
 
--- what a packet does to the entries, whatever their ids are
-abbrev ended_at : Tuple → Place → List ConntrackEntry → List ConntrackEntry
-ended_at tuple EndsThere ns = at_first (has_tuple tuple Original) (λ x. []) ns
-ended_at tuple pl ns = ns
+-- what a packet does to the entries by what its lookup found, whatever the ids are
+abbrev after_found : Belonging → Arrival → Confirmation → List ConntrackEntry → List ConntrackEntry
+after_found (Found found) p Unconfirmed ns = ns
+after_found (Found found) p (Confirmed mark reply source dest) ns = at_first (has_tuple p.tuple found.direction)
+    (λ x. touched found.direction p.flags mark p.moment x ∷ []) ns
+after_found (Ends id) p confirmation ns = with_begun (record { 0 = 0 }) p confirmation (at_first (has_tuple p.tuple Original) (λ x. []) ns)
+after_found NotFound p confirmation ns = with_begun (record { 0 = 0 }) p confirmation ns
 
-abbrev changed_at : Arrival → Place → Confirmation → List ConntrackEntry → List ConntrackEntry
-changed_at p (FoundThere direction) Unconfirmed ns = ns
-changed_at p (FoundThere direction) (Confirmed mark reply source dest) ns =
-    at_first (has_tuple p.tuple direction) (λ x. touched direction p.flags mark p.moment x ∷ []) ns
-changed_at p pl confirmation ns = with_begun (record { 0 = 0 }) p confirmation (ended_at p.tuple pl ns)
+module _ (held : List ConntrackEntry) (d : has_distinct_ids held ≡ true) (i : ConnId) (p : Arrival) where
+  end_blind : (confirmation : Confirmation) (h : ConntrackEntry) → find (has_tuple p.tuple Original) held ≡ Some h
+      → map without_id (after_packet (Ends h.id) i p confirmation held) ≡ after_found (Ends h.id) p confirmation (map without_id held)
+  end_blind confirmation h e = begun_blind i p confirmation (without h.id held) ∙ ap (with_begun (record { 0 = 0 }) p confirmation)
+      (ap (map without_id) (without_first (has_tuple p.tuple Original) held h d e) ∙ at_first-blind (has_tuple p.tuple Original) (λ x. []) (λ x. refl) held)
 
-module _ (held : List ConntrackEntry) (d : has_distinct_ids held ≡ true) where
-  end_blind : (tuple : Tuple) (b : Belonging) (pl : Place) → IsAt tuple held b pl
-      → map without_id (after_end b held) ≡ ended_at tuple pl (map without_id held)
-  end_blind tuple b Nowhere at = rw at.0 refl
-  end_blind tuple b EndsThere at =
-      rw at.2 (ap (map without_id) (without_first (has_tuple tuple Original) held at.0 d at.1)
-      ∙ at_first-blind (has_tuple tuple Original) (λ x. []) (λ x. refl) held)
-  end_blind tuple b (FoundThere direction) at = rw at.2 refl
+  touch_blind : (confirmation : Confirmation) (direction : Direction) (h : ConntrackEntry) → find (has_tuple p.tuple direction) held ≡ Some h
+      → map without_id (after_packet (Found (connection_ref h direction)) i p confirmation held)
+      ≡ after_found (Found (connection_ref h direction)) p confirmation (map without_id held)
+  touch_blind Unconfirmed direction h e = refl
+  touch_blind (Confirmed mark reply source dest) direction h e =
+      ap (map without_id) (changed_first (has_tuple p.tuple direction) (touched direction p.flags mark p.moment) held h d e)
+      ∙ at_first-blind (has_tuple p.tuple direction) (λ x. touched direction p.flags mark p.moment x ∷ []) (λ x. refl) held
 
-  after_blind : (i : ConnId) (p : Arrival) (confirmation : Confirmation) (b : Belonging) (pl : Place) → IsAt p.tuple held b pl
-      → map without_id (after_packet b i p confirmation held) ≡ changed_at p pl confirmation (map without_id held)
-  after_blind i p confirmation b Nowhere at = rw at.0 (begun_blind i p confirmation held)
-  after_blind i p confirmation b EndsThere at = rw at.2 (begun_blind i p confirmation (without at.0.id held)
-      ∙ ap (with_begun (record { 0 = 0 }) p confirmation) (end_blind p.tuple (Ends at.0.id) EndsThere (at.0, at.1, refl)))
-  after_blind i p Unconfirmed b (FoundThere direction) at = rw at.2 refl
-  after_blind i p (Confirmed mark reply source dest) b (FoundThere direction) at = rw at.2
-      (ap (map without_id) (changed_first (has_tuple p.tuple direction) (touched direction p.flags mark p.moment) held at.0 d at.1)
-      ∙ at_first-blind (has_tuple p.tuple direction) (λ x. touched direction p.flags mark p.moment x ∷ []) (λ x. refl) held)
+  after_blind : (confirmation : Confirmation) (o r : Option ConntrackEntry) → of_original held p.tuple ≡ o → of_reply held p.tuple ≡ r
+      → map without_id (after_packet (belonging_by p.flags o r) i p confirmation held)
+      ≡ after_found (belonging_without_id (belonging_by p.flags o r)) p confirmation (map without_id held)
+  after_blind confirmation (Some h) r eo er = grind (arith, end_blind confirmation h eo, touch_blind confirmation Original h eo)
+  after_blind confirmation None (Some h) eo er = grind (arith, touch_blind confirmation Reply h er)
+  after_blind confirmation None None eo er = begun_blind i p confirmation held
 
 -- lists that are equal except for ids stay so
 module _ (held others : List ConntrackEntry) (e : map without_id held ≡ map without_id others)
     (d : has_distinct_ids held ≡ true) (d' : has_distinct_ids others ≡ true) where
-  pub ended_alike : (tuple : Tuple) (flags : Flags) → map without_id (after_end (belongs_in held tuple flags) held)
-      ≡ map without_id (after_end (belongs_in others tuple flags) others)
-  ended_alike tuple flags = end_blind held d tuple _ _ (is_at held tuple flags)
-      ∙ ap (λ ns. ended_at tuple (place_in tuple flags ns) ns) e ∙ sym (end_blind others d' tuple _ _ (is_at others tuple flags))
-
   pub packet_alike : (i j : ConnId) (p : Arrival) (confirmation : Confirmation)
       → map without_id (after_packet (belongs_in held p.tuple p.flags) i p confirmation held)
       ≡ map without_id (after_packet (belongs_in others p.tuple p.flags) j p confirmation others)
-  packet_alike i j p confirmation = after_blind held d i p confirmation _ _ (is_at held p.tuple p.flags)
-      ∙ ap (λ ns. changed_at p (place_in p.tuple p.flags ns) confirmation ns) e
-      ∙ sym (after_blind others d' j p confirmation _ _ (is_at others p.tuple p.flags))
+  packet_alike i j p confirmation = after_blind held d i p confirmation _ _ refl refl
+      ∙ (λ k. after_found (same_belonging held others p.tuple p.flags e k) p confirmation (e k))
+      ∙ sym (after_blind others d' j p confirmation _ _ refl refl)
+
+  pub ended_alike : (tuple : Tuple) (flags : Flags) → map without_id (after_end (belongs_in held tuple flags) held)
+      ≡ map without_id (after_end (belongs_in others tuple flags) others)
+  ended_alike tuple flags =
+      let p : Arrival = record { tuple = tuple; flags = flags; moment = 0 } in
+      grind (arith, packet_alike (record { 0 = 0 }) (record { 0 = 0 }) p Unconfirmed)
 
 -- ---- records
 
