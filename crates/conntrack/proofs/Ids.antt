@@ -1,6 +1,6 @@
 -- Ids of entries, and lists that are equal except for ids.
 use Rattle.conntrack.proofs.Names.{Bool, ConnId, ConntrackEntry, Direction, Flags, List, Some, Tuple, [], and_from, and_parts, ap, arith, cond, false, filter}
-use Rattle.conntrack.proofs.Names.{find, has_distinct_ids, has_id, has_ids_below, have_disjoint_tuples, is_incoming, is_taken, length, list_any-append, map}
+use Rattle.conntrack.proofs.Names.{list_any, find, has_distinct_ids, has_id, has_ids_below, have_disjoint_tuples, is_incoming, is_taken, length, list_any-append, map}
 use Rattle.conntrack.proofs.Names.{nat_tests, not, not-true, not_from_false, or-false, or_from, or_parts, refl, same_id, same_tuple, same_tuple-refl}
 use Rattle.conntrack.proofs.Names.{same_tuple-true, touched, touched_at, true, without, ℕ, ◌++◌, ◌+◌, ◌<◌, ◌||◌, ◌∙◌, ◌∷◌, ◌≡◌}
 use Rattle.std.proofs.lemmas.List.Sums.{count_by-le-length, length-filter}
@@ -29,38 +29,30 @@ changed_at_none id f (x ∷ held) h = grind (arith, changed_at_none id f held)
 
 -- a touch changes no id and no tuple
 module _ (id : ConnId) (direction : Direction) (flags : Flags) (mark now : ℕ) where
-  pub has_id-touched_at : (other : ConnId) (held : List ConntrackEntry)
-      → has_id other (touched_at id direction flags mark now held) ≡ has_id other held
-  has_id-touched_at other [] = refl
-  has_id-touched_at other (x ∷ held) = grind (arith, has_id-touched_at other held)
+  any-touched_at : (p : ConntrackEntry → Bool) → ((h : ConntrackEntry) → p (touched direction flags mark now h) ≡ p h)
+      → (held : List ConntrackEntry) → list_any p (touched_at id direction flags mark now held) ≡ list_any p held
+  any-touched_at p same [] = refl
+  any-touched_at p same (x ∷ held) = grind (arith, same x, any-touched_at p same held)
 
   pub distinct-touched_at : (held : List ConntrackEntry)
       → has_distinct_ids (touched_at id direction flags mark now held) ≡ has_distinct_ids held
   distinct-touched_at [] = refl
-  distinct-touched_at (x ∷ held) = grind (arith, has_id-touched_at x.id held, distinct-touched_at held)
+  distinct-touched_at (x ∷ held) = grind (arith, any-touched_at (same_id x.id) (λ h. refl) held, distinct-touched_at held)
 
   pub below-touched_at : (n : ℕ) (held : List ConntrackEntry)
       → has_ids_below n (touched_at id direction flags mark now held) ≡ has_ids_below n held
   below-touched_at n [] = refl
   below-touched_at n (x ∷ held) = grind (arith, below-touched_at n held)
 
-  touched_ends : (b : Bool) (h : ConntrackEntry) → let t = cond b (touched direction flags mark now h) h in
-      (t.original ≡ h.original) × (t.reply ≡ h.reply)
-  touched_ends b h = grind arith
-
-  is_taken-touched_at : (tuple : Tuple) (held : List ConntrackEntry)
-      → is_taken tuple (touched_at id direction flags mark now held) ≡ is_taken tuple held
-  is_taken-touched_at tuple [] = refl
-  is_taken-touched_at tuple (x ∷ held) =
-      let ends = touched_ends (same_id id x) x in
-      rw (ends.0, ends.1, is_taken-touched_at tuple held)
-
   pub apart-touched_at : (held : List ConntrackEntry)
       → have_disjoint_tuples (touched_at id direction flags mark now held) ≡ have_disjoint_tuples held
   apart-touched_at [] = refl
-  apart-touched_at (x ∷ held) =
-      let ends = touched_ends (same_id id x) x in
-      rw (ends.0, ends.1, is_taken-touched_at x.original held, is_taken-touched_at x.reply held, apart-touched_at held)
+  apart-touched_at (x ∷ held) = grind (
+    arith,
+    any-touched_at (is_incoming x.original) (λ h. refl) held,
+    any-touched_at (is_incoming x.reply) (λ h. refl) held,
+    apart-touched_at held,
+  )
 
 -- an id above all others is new
 pub has_id-below : (n : ℕ) (held : List ConntrackEntry) → has_ids_below n held ≡ true → has_id (record { 0 = n }) held ≡ false
@@ -113,11 +105,9 @@ apart-filter p (x ∷ held) h = grind (
   apart-filter p held,
 )
 
-is_taken-push : (tuple : Tuple) (held : List ConntrackEntry) (new : ConntrackEntry)
-    → is_taken tuple (held ++ new ∷ []) ≡ (is_taken tuple held
-    || (same_tuple new.original tuple || same_tuple new.reply tuple))
-is_taken-push tuple held new = list_any-append (is_incoming tuple) held (new ∷ [])
-    ∙ ap (λ b. is_taken tuple held || b) (or-false (same_tuple new.original tuple || same_tuple new.reply tuple))
+free-push : (tuple : Tuple) (held : List ConntrackEntry) (new : ConntrackEntry) → is_taken tuple held ≡ false
+    → same_tuple tuple new.original ≡ false → same_tuple tuple new.reply ≡ false → is_taken tuple (held ++ new ∷ []) ≡ false
+free-push tuple held new h o r = rw (list_any-append (is_incoming tuple) held (new ∷ []), h, same_tuple-sym new.original tuple, same_tuple-sym new.reply tuple, o, r) refl
 
 pub apart-push : (held : List ConntrackEntry) (new : ConntrackEntry) → have_disjoint_tuples held ≡ true
     → is_taken new.original held ≡ false → is_taken new.reply held ≡ false
@@ -130,13 +120,7 @@ apart-push (x ∷ held) new h o r =
     let rs = or_parts _ _ r in
     let oo = or_parts _ _ os.0 in
     let rr = or_parts _ _ rs.0 in
-    and_from _ _
-    (not_from_false _ (or_from _ _
-    (is_taken-push x.original held new ∙ or_from _ _ ends.0
-    (or_from _ _ (same_tuple-sym new.original x.original ∙ oo.0) (same_tuple-sym new.reply x.original ∙ rr.0)))
-    (is_taken-push x.reply held new ∙ or_from _ _ ends.1
-    (or_from _ _ (same_tuple-sym new.original x.reply ∙ oo.1) (same_tuple-sym new.reply x.reply ∙ rr.1)))))
-    (apart-push held new parts.1 os.1 rs.1)
+    rw (free-push x.original held new ends.0 oo.0 rr.0, free-push x.reply held new ends.1 oo.1 rr.1) (apart-push held new parts.1 os.1 rs.1)
 
 pub length-without : (id : ConnId) (held : List ConntrackEntry) → has_id id held ≡ true → length (without id held) < length held
 length-without id [] h = cc

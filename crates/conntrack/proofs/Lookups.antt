@@ -1,5 +1,5 @@
 -- What a lookup finds, and changes of the entry found.
-use Rattle.conntrack.proofs.Names.{Bool, ConnId, ConnectionRef, Direction, is_original, ConntrackEntry, Ends, Flags, Found, List, NotFound, Option, Some, Tuple, [], arith, belonging_by, belongs_in, cond}
+use Rattle.conntrack.proofs.Names.{Bool, ConnId, ConnectionRef, ConntrackEntry, Ends, Flags, Found, List, NotFound, Option, Some, Tuple, [], arith, belonging_by, belongs_in, cond}
 use Rattle.conntrack.proofs.Names.{filter, find, has_distinct_ids, has_id, have_disjoint_tuples, ap, is_taken, map, map-append, nat_tests, not, of_original, of_reply}
 use Rattle.conntrack.proofs.Names.{None, false, refl, same_tuple, same_tuple-true, true, without, without_id, ◌++◌, ◌∷◌, ◌≡◌}
 use Rattle.conntrack.proofs.Lists.{list_any_either, list_any_found}
@@ -28,10 +28,6 @@ module _ (t : ConntrackEntry → Bool) where
       (held : List ConntrackEntry) → map without_id (at_first (λ n. t (without_id n)) g held) ≡ at_first t g (map without_id held)
   at_first-blind g blind [] = refl
   at_first-blind g blind (x ∷ held) = grind (arith, map-append without_id (g x) held, blind x, at_first-blind g blind held)
-
--- the tuple of its packets in a direction
-abbrev pub has_tuple : Tuple → Direction → ConntrackEntry → Bool
-has_tuple tuple direction h = same_tuple (cond (is_original direction) h.original h.reply) tuple
 
 filter-at_first : (p : ConntrackEntry → Bool) (held : List ConntrackEntry) → filter p (at_first (λ x. not (p x)) (λ x. []) held) ≡ filter p held
 filter-at_first p [] = refl

@@ -19,7 +19,7 @@ pub use Rattle.conntrack.specs.declared.connection.ConntrackEntry.{ConntrackEntr
 pub use Rattle.conntrack.specs.declared.connection.Direction.{Direction}
 pub use Rattle.conntrack.specs.declared.connection.Direction.TheVariants.{Original, Reply}
 pub use Rattle.conntrack.specs.declared.connection.Flags.{Flags}
-pub use Rattle.conntrack.specs.steps.Ids.{has_ids_below}
+pub use Rattle.conntrack.specs.steps.Entries.{has_ids_below, has_tuple}
 pub use Rattle.ip_headers.specs.Same.{same_tuple}
 pub use Rattle.ip_headers.specs.declared.tuple.Kind.{Kind}
 pub use Rattle.ip_headers.specs.declared.tuple.Mapping.{Mapping}
@@ -36,8 +36,8 @@ pub use Rattle.std.proofs.lemmas.Iterator.{YieldsList-from_slice}
 pub use Rattle.std.proofs.lemmas.Iterator.Search.{find_from_yields_List}
 pub use Rattle.std.proofs.lemmas.List.{append-nil, get_or_default, length-map, map-append, map-id}
 pub use Rattle.std.proofs.lemmas.List.Edits.{map_over_more}
-pub use Rattle.std.proofs.lemmas.List.Elements.{All-append, All-cons, All-nil, filter-append, recursion_from_All}
-pub use Rattle.std.proofs.lemmas.List.Folds.{list_any-append}
-pub use Rattle.std.specs.List.{All, AllByRecursion, find, list_any}
+pub use Rattle.std.proofs.lemmas.List.Elements.{filter-append}
+pub use Rattle.std.proofs.lemmas.List.Folds.{list_all-append, list_any-append}
+pub use Rattle.std.specs.List.{find, list_all, list_any}
 pub use Rattle.std.specs.Option.{option_map}
-pub use Rattle.std.specs.Prelude.{filter, if◌then◌else◌}
+pub use Rattle.std.specs.Prelude.{filter, nat_lt, if◌then◌else◌}

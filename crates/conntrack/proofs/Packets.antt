@@ -4,13 +4,14 @@ use Rattle.conntrack.proofs.Names.{DoesNotClash, Ends, Flags, Found, IsNoneLater
 use Rattle.conntrack.proofs.Names.{after_end, after_packet, ap, arith, begun_with, belongs, belongs_in, entry_at, entry_of, filter, filter-append}
 use Rattle.conntrack.proofs.Names.{has_distinct_ids, has_id, have_disjoint_tuples, is_live, length, live_at, live_list, map, map-append, no_flags, no_tuple}
 use Rattle.conntrack.proofs.Names.{not, refl, same_id, subst, sym, touched, touched_at, true, with_begun, without, without_id, ℕ, ◌++◌, ◌∙◌, ◌∷◌, ◌≡◌, ◌≤◌}
+use Rattle.std.proofs.lemmas.Simd.{map-map}
 use Rattle.conntrack.proofs.Ids.{apart-filter, apart-push, apart-touched_at, distinct-filter}
 use Rattle.conntrack.proofs.Histories.{live_list-unended, unended, unended-distinct, unended_after}
 use Rattle.conntrack.proofs.Lists.{filter-map, filter-swap}
 use Rattle.conntrack.proofs.Same.{same_belonging}
 use Rattle.conntrack.proofs.Changes.{live_at-later, live_at-touched_at, live_at_last}
-use Rattle.conntrack.proofs.Names.{Option, Some, None, find, belonging_by, belonging_without_id, connection_ref, Reply, of_original, of_reply}
-use Rattle.conntrack.proofs.Lookups.{at_first, at_first-blind, changed_first, ended_is_free, found_is_held, has_tuple, nowhere_is_free, without_first}
+use Rattle.conntrack.proofs.Names.{Option, has_tuple, is_incoming, is_taken, connection_of, state_of, Kind, any_of_map, length-map, Some, None, find, belonging_by, belonging_without_id, connection_ref, Reply, of_original, of_reply}
+use Rattle.conntrack.proofs.Lookups.{at_first, at_first-blind, changed_first, ended_is_free, found_is_held, nowhere_is_free, without_first}
 
 -- the entry that a lookup found is in the list
 abbrev pub IsFoundIn : Belonging → List ConntrackEntry → Type 0
@@ -88,6 +89,22 @@ module _ (held others : List ConntrackEntry) (e : map without_id held ≡ map wi
       let p : Arrival = record { tuple = tuple; flags = flags; moment = 0 } in
       grind (arith, packet_alike (record { 0 = 0 }) (record { 0 = 0 }) p Unconfirmed)
 
+pub state_alike : (kind : Kind) (one other : Belonging) → belonging_without_id one ≡ belonging_without_id other → state_of kind one ≡ state_of kind other
+state_alike kind one other e = grind arith
+
+module _ (held others : List ConntrackEntry) (e : map without_id held ≡ map without_id others) where
+  pub taken_alike : (tuple : Tuple) → is_taken tuple held ≡ is_taken tuple others
+  taken_alike tuple = let by = any_of_map (is_incoming tuple) without_id in by held ∙ ap (is_taken tuple) e ∙ sym (by others)
+
+  pub length_alike : length held ≡ length others
+  length_alike = sym (length-map held without_id) ∙ ap length e ∙ length-map others without_id
+
+  pub listed_alike : map connection_of held ≡ map connection_of others
+  listed_alike = sym (map-map connection_of without_id held) ∙ ap (map connection_of) e ∙ map-map connection_of without_id others
+
+  pub live_alike : (limits : Limits) (now : ℕ) → map without_id (live_at limits now held) ≡ map without_id (live_at limits now others)
+  live_alike limits now = let by = filter-map without_id (is_live limits now) in sym (by held) ∙ ap (live_at limits now) e ∙ by others
+
 -- ---- records
 
 pub recorded_by : (limits : Limits) (b : Belonging) (p : Arrival) (confirmation : Confirmation)
@@ -118,13 +135,6 @@ pub live_list-later : (limits : Limits) (history : List TrackedPacket) (now late
     → live_list limits history later ≡ live_at limits later (live_list limits history now)
 live_list-later limits history now later le = live_list-unended limits history later
     ∙ sym (live_at-later limits now later _ le) ∙ ap (live_at limits later) (sym (live_list-unended limits history now))
-
-pub live_alike : (limits : Limits) (held others : List ConntrackEntry) (now : ℕ)
-    → map without_id held ≡ map without_id others
-    → map without_id (live_at limits now held) ≡ map without_id (live_at limits now others)
-live_alike limits held others now e =
-    let by = filter-map without_id (is_live limits now) in
-    sym (by held) ∙ ap (live_at limits now) e ∙ by others
 
 pub live_list-distinct : (limits : Limits) (history : List TrackedPacket) (now : ℕ) → has_distinct_ids (live_list limits history now) ≡ true
 live_list-distinct limits history now = rw (live_list-unended limits history now)
@@ -177,4 +187,4 @@ pub ruleset moment_rules = (none_later_after, none_later-filter, none_later_than
 
 pub ruleset apart_rules = (apart_by, apart-filter)
 
-pub ruleset alike_rules = (packet_alike, ended_alike, same_belonging, live_alike)
+pub ruleset alike_rules = (packet_alike, ended_alike, same_belonging, live_alike, state_alike, taken_alike, length_alike, listed_alike)

@@ -1,2 +1,2 @@
 -- Definitions for proofs: no public contract cites them.
-pub mod Ids
+pub mod Entries

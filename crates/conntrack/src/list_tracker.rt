@@ -3,10 +3,9 @@ ghost use Rattle.std.specs.Prelude.{◌≡◌, ◌+◌, ◌<◌, ◌≤◌, ◌^
 ghost use Rattle.std.specs.Prelude.{IsTrue, IfOk, OnOk, OnErr, IfSome, IfNone, ◌-◌, nat_lt, vec_len, vec_capacity};
 ghost use Rattle.std.specs.Prelude.{filter, if◌then◌else◌, length};
 ghost use Rattle.std.specs.List.{find, list_any};
-ghost use Rattle.ip_headers.specs.Same.{same_tuple};
-ghost use Rattle.conntrack.specs.steps.Ids.{has_ids_below};
+ghost use Rattle.conntrack.specs.steps.Entries.{has_ids_below, has_tuple};
 ghost use Rattle.conntrack.specs.ConntrackEntry.{have_disjoint_tuples, belongs_in, has_distinct_ids, has_id};
-ghost use Rattle.conntrack.specs.ConntrackEntry.{is_incoming, is_live, is_taken, live_at, of_original, of_reply};
+ghost use Rattle.conntrack.specs.ConntrackEntry.{is_live, is_taken, live_at};
 ghost use Rattle.conntrack.specs.ConntrackEntry.{same_id, touched, touched_at, without};
 
 use crate::belonging::{Belonging, ConnectionRef};
@@ -30,40 +29,29 @@ pub struct ListTracker {
     ghost apart: { IsTrue (have_disjoint_tuples conns.items) },
 }
 
-/// Whether two tuples are equal.
-fn is_same(one: Tuple, other: Tuple) -> bool
-    ensures { result ≡ same_tuple one other }
+/// Whether it is the tuple of an entry's incoming packets in a direction.
+fn has_tuple(held: &ConntrackEntry, direction: Direction, tuple: Tuple) -> bool
+    ensures { result ≡ has_tuple tuple direction held.now }
 {
-    one == other
+    match direction {
+        Direction::Original => held.original == tuple,
+        Direction::Reply => held.reply == tuple,
+    }
 }
 
-/// The first live entry with this original tuple.
-fn find_original(
+/// The first live entry with this tuple in a direction.
+fn find_live(
     conns: &[ConntrackEntry],
     limits: Limits,
+    direction: Direction,
     tuple: Tuple,
     now: Moment,
 ) -> Option<ConntrackEntry>
-    ensures { result ≡ find (λ h. is_live limits now h && same_tuple h.original tuple) conns.now }
+    ensures { result ≡ find (λ h. is_live limits now h && has_tuple tuple direction h) conns.now }
 {
     conns
         .iter()
-        .find(|held| held.is_live(limits, now) && is_same(held.original, tuple))
-        .copied()
-}
-
-/// The first live entry with this reply tuple.
-fn find_reply(
-    conns: &[ConntrackEntry],
-    limits: Limits,
-    tuple: Tuple,
-    now: Moment,
-) -> Option<ConntrackEntry>
-    ensures { result ≡ find (λ h. is_live limits now h && same_tuple h.reply tuple) conns.now }
-{
-    conns
-        .iter()
-        .find(|held| held.is_live(limits, now) && is_same(held.reply, tuple))
+        .find(|held| held.is_live(limits, now) && has_tuple(held, direction, tuple))
         .copied()
 }
 
@@ -78,7 +66,7 @@ fn look_in(
 ) -> Belonging
     ensures { result ≡ belongs_in (live_at limits now conns.now) tuple flags }
 {
-    match find_original(conns, limits, tuple, now) {
+    match find_live(conns, limits, Direction::Original, tuple, now) {
         Some(held) => {
             if flags.is_lone_syn() && held.is_closing() {
                 Belonging::Ends(held.id)
@@ -86,7 +74,7 @@ fn look_in(
                 Belonging::Found(ConnectionRef::of(&held, Direction::Original))
             }
         }
-        None => match find_reply(conns, limits, tuple, now) {
+        None => match find_live(conns, limits, Direction::Reply, tuple, now) {
             Some(held) => Belonging::Found(ConnectionRef::of(&held, Direction::Reply)),
             None => Belonging::NotFound,
         },
@@ -97,7 +85,9 @@ fn look_in(
 fn is_taken(conns: &[ConntrackEntry], tuple: Tuple) -> bool
     ensures { result ≡ is_taken tuple conns.now }
 {
-    conns.iter().any(|held| is_same(held.original, tuple) || is_same(held.reply, tuple))
+    conns.iter().any(|held| {
+        has_tuple(held, Direction::Original, tuple) || has_tuple(held, Direction::Reply, tuple)
+    })
 }
 
 /// Updates the entry for one more packet, if it has this id.
@@ -136,12 +126,15 @@ fn touch_in(
 }
 
 /// Removes the entry with this id.
-fn remove_entry(conns: &mut Vec<ConntrackEntry>, id: ConnId)
+fn take_out(conns: &mut Vec<ConntrackEntry>, id: ConnId) -> Option<ConntrackEntry>
+    ensures found { result ≡ find (same_id id) conns.old.items }
     ensures items { conns.new.items ≡ without id conns.old.items }
     ensures capacity { vec_capacity conns.new ≡ vec_capacity conns.old }
     ensures len { vec_len conns.new ≤ vec_len conns.old }
 {
+    let found = conns.iter().find(|held| held.id == id).copied();
     conns.retain(|held| held.id != id);
+    found
 }
 
 /// The first expired entry.
@@ -152,13 +145,6 @@ fn find_expired(conns: &[ConntrackEntry], limits: Limits, now: Moment) -> Option
         .iter()
         .find(|held| !held.is_live(limits, now))
         .copied()
-}
-
-/// The entry with this id.
-fn find_by_id(conns: &[ConntrackEntry], id: ConnId) -> Option<ConntrackEntry>
-    ensures { result ≡ find (same_id id) conns.now }
-{
-    conns.iter().find(|held| held.id == id).copied()
 }
 
 impl Tracker for ListTracker {
@@ -235,11 +221,8 @@ impl Tracker for ListTracker {
     #[tactic(auto, using(crate::proofs::Ids::id_rules))]
     fn end(&mut self, id: ConnId, steps: &mut Steps) -> Aged {
         steps.add(self.conns.len());
-        match find_by_id(&self.conns, id) {
-            Some(held) => {
-                remove_entry(&mut self.conns, id);
-                held.aged()
-            }
+        match take_out(&mut self.conns, id) {
+            Some(held) => held.aged(),
             None => unreachable!(),
         }
     }
@@ -247,13 +230,9 @@ impl Tracker for ListTracker {
     #[tactic(auto, using(crate::proofs::Ids::id_rules))]
     fn age(&mut self, now: Moment, steps: &mut Steps) -> Option<Aged> {
         steps.add(self.conns.len());
-        match find_expired(&self.conns, self.limits, now) {
-            Some(expired) => {
-                remove_entry(&mut self.conns, expired.id);
-                Some(expired.aged())
-            }
-            None => None,
-        }
+        let expired = find_expired(&self.conns, self.limits, now)?;
+        take_out(&mut self.conns, expired.id);
+        Some(expired.aged())
     }
 
     fn live(&self) -> usize {

@@ -17,9 +17,5 @@ returns-clause-packet c = λ limits held history id p confirmation d s.
     }
 
 pub returns-clause-none : goal.returns-clause-none
-returns-clause-none c = λ limits held history now s.
-    record {
-      reached = omega arith;
-      live = s.live
-          ∙ ap (map without_id) (sym (recorded_nothing limits history now));
-    }
+returns-clause-none c limits held history now s =
+    record { reached = omega arith; live = s.live ∙ ap (map without_id) (sym (recorded_nothing limits history now)) }

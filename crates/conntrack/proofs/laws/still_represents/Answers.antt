@@ -8,7 +8,7 @@ returns-clause-later c = λ limits held history now later le s. record {
   reached = omega (arith, s.reached);
   live =
       ap (map without_id) (sym (live_at-later limits now later held le))
-      ∙ live_alike limits (live_at limits now held) (live_list limits history now) later s.live
+      ∙ live_alike (live_at limits now held) (live_list limits history now) s.live limits later
       ∙ ap (map without_id) (sym (live_list-later limits history now later le));
 }
 
