@@ -1,8 +1,8 @@
 -- Ids of entries, and lists that are equal except for ids.
-use Rattle.conntrack.proofs.Names.{Bool, ConnId, ConntrackEntry, Direction, Flags, List, Some, Tuple, [], and_from, and_parts, ap, arith, cond, false, filter}
-use Rattle.conntrack.proofs.Names.{list_any, find, has_distinct_ids, has_id, has_ids_below, have_disjoint_tuples, is_incoming, is_taken, length, list_any-append, map}
-use Rattle.conntrack.proofs.Names.{nat_tests, not, not-true, not_from_false, or-false, or_from, or_parts, refl, same_id, same_tuple, same_tuple-refl}
-use Rattle.conntrack.proofs.Names.{same_tuple-true, touched, touched_at, true, without, ℕ, ◌++◌, ◌+◌, ◌<◌, ◌||◌, ◌∙◌, ◌∷◌, ◌≡◌}
+use Rattle.conntrack.proofs.Names.{Bool, ConnId, ConntrackEntry, Direction, Flags, List, Some, Tuple, [], and_parts, arith, cond, false, filter}
+use Rattle.conntrack.proofs.Names.{find, has_distinct_ids, has_id, has_ids_below, have_disjoint_tuples, is_incoming, is_taken, length, list_any}
+use Rattle.conntrack.proofs.Names.{list_any-append, map, nat_tests, not, not-true, or_parts, refl, same_id, same_tuple}
+use Rattle.conntrack.proofs.Names.{same_tuple-refl, same_tuple-true, touched, touched_at, true, without, ℕ, ◌++◌, ◌+◌, ◌<◌, ◌∷◌, ◌≡◌}
 use Rattle.std.proofs.lemmas.List.Sums.{count_by-le-length, length-filter}
 use Rattle.conntrack.proofs.Lists.{filter_where_none, list_any-filter, none_passes}
 use Rattle.list_laws.specs.Tests.{same-tests}

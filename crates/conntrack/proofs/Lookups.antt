@@ -1,9 +1,34 @@
 -- What a lookup finds, and changes of the entry found.
-use Rattle.conntrack.proofs.Names.{Bool, ConnId, ConnectionRef, ConntrackEntry, Ends, Flags, Found, List, NotFound, Option, Some, Tuple, [], arith, belonging_by, belongs_in, cond}
-use Rattle.conntrack.proofs.Names.{filter, find, has_distinct_ids, has_id, have_disjoint_tuples, ap, is_taken, map, map-append, nat_tests, not, of_original, of_reply}
-use Rattle.conntrack.proofs.Names.{None, false, refl, same_tuple, same_tuple-true, true, without, without_id, ◌++◌, ◌∷◌, ◌≡◌}
+use Rattle.conntrack.proofs.Names.{Bool, ConnId, ConnectionRef, ConntrackEntry, Ends, Flags, Found, List, None, NotFound, Option, Some, Tuple, [], ap, arith}
+use Rattle.conntrack.proofs.Names.{belonging_by, belonging_without_id, belongs_in, cond, false, filter, find, has_distinct_ids, has_id, have_disjoint_tuples}
+use Rattle.conntrack.proofs.Names.{is_taken, map, map-append, nat_tests, not, of_original, of_reply, option_map, refl, same_tuple, same_tuple-true, sym, true}
+use Rattle.conntrack.proofs.Names.{without, without_id, ◌++◌, ◌∙◌, ◌∷◌, ◌≡◌}
 use Rattle.conntrack.proofs.Lists.{list_any_either, list_any_found}
 use Rattle.conntrack.proofs.Ids.{changed_at, changed_at_none, has_id-found, other_id, without_new}
+
+-- ---- lists that are equal except for ids have the same lookups
+
+option_map-find : {A B : Type 0} (f : A → B) (p : B → Bool) (xs : List A) → option_map f (find (λ x. p (f x)) xs) ≡ find p (map f xs)
+option_map-find f p [] = refl
+option_map-find f p (x ∷ xs) = grind (arith, option_map-find f p xs)
+
+without_id_by : (flags : Flags) (o r : Option ConntrackEntry)
+    → belonging_without_id (belonging_by flags o r)
+    ≡ belonging_without_id (belonging_by flags (option_map without_id o) (option_map without_id r))
+without_id_by flags o r = grind arith
+
+-- lookups agree
+pub same_belonging : (held others : List ConntrackEntry) (tuple : Tuple) (flags : Flags)
+    → map without_id held ≡ map without_id others
+    → belonging_without_id (belongs_in held tuple flags) ≡ belonging_without_id (belongs_in others tuple flags)
+same_belonging held others tuple flags e = by held ∙ ap (λ ns. belonging_without_id (belongs_in ns tuple flags)) e ∙ sym (by others)
+  where
+    by : (held : List ConntrackEntry) → belonging_without_id (belongs_in held tuple flags) ≡ belonging_without_id (belongs_in (map without_id held) tuple flags)
+    by held = without_id_by flags _ _
+        ∙ (λ i. belonging_without_id (belonging_by flags (option_map-find without_id (λ h. same_tuple h.original tuple) held i)
+        (option_map-find without_id (λ h. same_tuple h.reply tuple) held i)))
+
+-- ---- changes of the entry found
 
 -- the first entry that passes a test, replaced
 abbrev pub at_first : (ConntrackEntry → Bool) → (ConntrackEntry → List ConntrackEntry) → List ConntrackEntry → List ConntrackEntry

@@ -8,8 +8,8 @@ pub use Rattle.conntrack.specs.Histories.{Begins, ConnectionChange, Creation, Tr
 pub use Rattle.conntrack.specs.Histories.{is_ended, is_that, is_touch_of, live_list, number_if_begins, replayed}
 pub use Rattle.conntrack.specs.Phases.{idle_kind, is_closing, is_lone_syn, limit_in, no_flags, phase_of}
 pub use Rattle.conntrack.specs.Tuples.{no_tuple}
-pub use Rattle.conntrack.specs.Updates.{Arrival, Confirmation, Confirmed, DoesNotClash, Unconfirmed, after_end, after_packet, change_of_packet, ended_by_packet}
-pub use Rattle.conntrack.specs.Updates.{entry_at, entry_of, with_begun}
+pub use Rattle.conntrack.specs.Updates.{Arrival, Confirmation, Confirmed, DoesNotClash, Unconfirmed, after_end, after_packet, change_of_packet}
+pub use Rattle.conntrack.specs.Updates.{ended_by_packet, entry_at, entry_of, with_begun}
 pub use Rattle.conntrack.specs.declared.belonging.Belonging.{Belonging}
 pub use Rattle.conntrack.specs.declared.belonging.Belonging.TheVariants.{Ends, Found, NotFound}
 pub use Rattle.conntrack.specs.declared.belonging.ConnectionRef.{ConnectionRef}
@@ -40,4 +40,4 @@ pub use Rattle.std.proofs.lemmas.List.Elements.{filter-append}
 pub use Rattle.std.proofs.lemmas.List.Folds.{list_all-append, list_any-append}
 pub use Rattle.std.specs.List.{find, list_all, list_any}
 pub use Rattle.std.specs.Option.{option_map}
-pub use Rattle.std.specs.Prelude.{filter, nat_lt, if◌then◌else◌}
+pub use Rattle.std.specs.Prelude.{filter, if◌then◌else◌, nat_lt}

@@ -1,23 +1,52 @@
 -- The effect of one packet on a table's entries and on a history's connections.
 use Rattle.conntrack.proofs.Names.{Arrival, Belonging, Bool, Confirmation, Confirmed, ConnId, Connection, ConnectionRef, ConntrackEntry, Direction}
-use Rattle.conntrack.proofs.Names.{DoesNotClash, Ends, Flags, Found, IsNoneLater, Limits, List, NotFound, Original, TrackedPacket, Tuple, Unconfirmed, []}
-use Rattle.conntrack.proofs.Names.{after_end, after_packet, ap, arith, begun_with, belongs, belongs_in, entry_at, entry_of, filter, filter-append}
-use Rattle.conntrack.proofs.Names.{has_distinct_ids, has_id, have_disjoint_tuples, is_live, length, live_at, live_list, map, map-append, no_flags, no_tuple}
-use Rattle.conntrack.proofs.Names.{not, refl, same_id, subst, sym, touched, touched_at, true, with_begun, without, without_id, ℕ, ◌++◌, ◌∙◌, ◌∷◌, ◌≡◌, ◌≤◌}
+use Rattle.conntrack.proofs.Names.{DoesNotClash, Ends, Flags, Found, IdleKind, IsNoneLater, Kind, Limits, List, None, NotFound, Option, Original, Reply, Some}
+use Rattle.conntrack.proofs.Names.{TrackedPacket, Tuple, Unconfirmed, [], after_end, after_packet, any_of_map, ap, arith, begun_with, belonging_by}
+use Rattle.conntrack.proofs.Names.{belonging_without_id, belongs, belongs_in, connection_of, connection_ref, entry_at, entry_of, filter, filter-append, find}
+use Rattle.conntrack.proofs.Names.{has_distinct_ids, has_id, has_tuple, have_disjoint_tuples, idle_kind, is_incoming, is_live, is_taken, length, length-map}
+use Rattle.conntrack.proofs.Names.{limit_in, limit_of, live_at, live_list, lt-ltb, ltb-true, map, map-append, nat_tests, no_flags, no_tuple, not, of_original}
+use Rattle.conntrack.proofs.Names.{of_reply, phase_of, refl, same_id, state_of, subst, sym, touched, touched_at, true, with_begun, without, without_id, ℕ}
+use Rattle.conntrack.proofs.Names.{◌++◌, ◌-◌, ◌<◌, ◌∙◌, ◌∷◌, ◌≡◌, ◌≤◌}
 use Rattle.std.proofs.lemmas.Simd.{map-map}
-use Rattle.conntrack.proofs.Ids.{apart-filter, apart-push, apart-touched_at, distinct-filter}
+use Rattle.conntrack.proofs.Ids.{apart-filter, apart-push, apart-touched_at, changed_at_none, distinct-filter}
 use Rattle.conntrack.proofs.Histories.{live_list-unended, unended, unended-distinct, unended_after}
-use Rattle.conntrack.proofs.Lists.{filter-map, filter-swap}
-use Rattle.conntrack.proofs.Same.{same_belonging}
-use Rattle.conntrack.proofs.Changes.{live_at-later, live_at-touched_at, live_at_last}
-use Rattle.conntrack.proofs.Names.{Option, has_tuple, is_incoming, is_taken, connection_of, state_of, Kind, any_of_map, length-map, Some, None, find, belonging_by, belonging_without_id, connection_ref, Reply, of_original, of_reply}
-use Rattle.conntrack.proofs.Lookups.{at_first, at_first-blind, changed_first, ended_is_free, found_is_held, nowhere_is_free, without_first}
+use Rattle.conntrack.proofs.Lists.{filter-map, filter-swap, filter_again, list_any-filter}
+use Rattle.conntrack.proofs.Lookups.{at_first, at_first-blind, changed_first, ended_is_free, found_is_held, nowhere_is_free, same_belonging, without_first}
 
 -- the entry that a lookup found is in the list
 abbrev pub IsFoundIn : Belonging → List ConntrackEntry → Type 0
 IsFoundIn b held = (found : ConnectionRef) → b ≡ Found found → has_id found.id held ≡ true
 
--- ---- its live entries
+-- ---- the live entries, at a later moment and after a packet
+
+pub live_at-later : (limits : Limits) (now later : ℕ) (held : List ConntrackEntry) → now ≤ later
+    → live_at limits later (live_at limits now held) ≡ live_at limits later held
+live_at-later limits now later held le = filter_again (is_live limits later) (is_live limits now) held
+    (λ x h. lt-ltb _ _ (omega (arith, ltb-true (later - x.last) (limit_of limits x) h)))
+
+-- a connection is live at the moment of its packet
+pub live_at_last : (limits : Limits) (now : ℕ) (h : ConntrackEntry) → h.last ≡ now → is_live limits now h ≡ true
+live_at_last limits now h e = lt-ltb _ _ (omega (arith, limit_positive (idle_kind h.original.kind (phase_of h))))
+  where
+    limit_positive : (kind : IdleKind) → 0 < limit_in limits kind
+    limit_positive kind = grind (arith, nat_tests, limits.positive)
+
+-- a touch of a live entry, at that moment
+module _ (limits : Limits) (id : ConnId) (direction : Direction) (flags : Flags) (mark now : ℕ) where
+  pub live_at-touched_at : (held : List ConntrackEntry) → has_distinct_ids held ≡ true
+      → has_id id (live_at limits now held) ≡ true
+      → live_at limits now (touched_at id direction flags mark now held)
+      ≡ touched_at id direction flags mark now (live_at limits now held)
+  live_at-touched_at [] d t = refl
+  live_at-touched_at (x ∷ held) d t = grind (
+    arith,
+    nat_tests,
+    live_at_last limits now (touched direction flags mark now x) refl,
+    changed_at_none id (touched direction flags mark now) held,
+    changed_at_none id (touched direction flags mark now) (live_at limits now held),
+    list_any-filter (same_id x.id) (is_live limits now) held,
+    live_at-touched_at held,
+  )
 
 live_begun : (limits : Limits) (id : ConnId) (p : Arrival) (confirmation : Confirmation) (held : List ConntrackEntry)
     → live_at limits p.moment (with_begun id p confirmation held)

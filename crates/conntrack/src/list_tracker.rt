@@ -166,7 +166,7 @@ impl Tracker for ListTracker {
         }
     }
 
-    #[tactic(auto, using(crate::proofs::Same::same_belonging))]
+    #[tactic(auto, using(crate::proofs::Lookups::same_belonging))]
     fn look(&self, tuple: Tuple, flags: Flags, now: Moment, steps: &mut Steps) -> Belonging {
         steps.add(self.conns.len());
         look_in(&self.conns, self.limits, tuple, flags, now)

@@ -1,6 +1,5 @@
 use Rattle.conntrack.proofs.Names.{ap, arith, live_at, live_list, map, sym, without_id, ◌∙◌}
-use Rattle.conntrack.proofs.Changes.{live_at-later}
-use Rattle.conntrack.proofs.Packets.{live_alike, live_list-later}
+use Rattle.conntrack.proofs.Packets.{live_alike, live_at-later, live_list-later}
 use Rattle.conntrack.proofs.laws.still_represents.Goals as goal
 
 pub returns-clause-later : goal.returns-clause-later
