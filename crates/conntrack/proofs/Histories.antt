@@ -15,11 +15,8 @@ unended history = map (λ c. connection_in c history) (filter (λ c. not (is_end
 -- the numbers of a history's connections are below its length
 all_below : (n : ℕ) (history : List TrackedPacket) → length history ≤ n → list_all (λ c. nat_lt c n) (begun_in history) ≡ true
 all_below n [] h = refl
-all_below n (e ∷ history) h = rw (list_all-append (λ c. nat_lt c n) (begun_in history) (number_if_begins (length history) e.change), all_below n history (omega arith))
-    (last_below e.change)
-  where
-    last_below : (w : ConnectionChange) → list_all (λ c. nat_lt c n) (number_if_begins (length history) w) ≡ true
-    last_below w = grind (arith, nat_tests)
+all_below n (e ∷ history) h =
+    grind (arith, nat_tests, list_all-append (λ c. nat_lt c n) (begun_in history) (number_if_begins (length history) e.change), all_below n history)
 
 pub begun_in-below : (history : List TrackedPacket) → list_all (λ c. nat_lt c (length history)) (begun_in history) ≡ true
 begun_in-below history = all_below (length history) history (omega arith)

@@ -47,12 +47,9 @@ module _ (id : ConnId) (direction : Direction) (flags : Flags) (mark now : ℕ) 
   pub apart-touched_at : (held : List ConntrackEntry)
       → have_disjoint_tuples (touched_at id direction flags mark now held) ≡ have_disjoint_tuples held
   apart-touched_at [] = refl
-  apart-touched_at (x ∷ held) = grind (
-    arith,
-    any-touched_at (is_incoming x.original) (λ h. refl) held,
-    any-touched_at (is_incoming x.reply) (λ h. refl) held,
-    apart-touched_at held,
-  )
+  apart-touched_at (x ∷ held) =
+      let by = λ (t : Tuple). any-touched_at (is_incoming t) (λ h. refl) held in
+      grind (arith, by x.original, by x.reply, apart-touched_at held)
 
 -- an id above all others is new
 pub has_id-below : (n : ℕ) (held : List ConntrackEntry) → has_ids_below n held ≡ true → has_id (record { 0 = n }) held ≡ false
@@ -98,12 +95,8 @@ same_tuple-sym a b = same-tests _ _ (λ e. rw (same_tuple-true a b e) (same_tupl
 pub apart-filter : (p : ConntrackEntry → Bool) (held : List ConntrackEntry) → have_disjoint_tuples held ≡ true
     → have_disjoint_tuples (filter p held) ≡ true
 apart-filter p [] h = refl
-apart-filter p (x ∷ held) h = grind (
-  arith,
-  list_any-filter (is_incoming x.original) p held,
-  list_any-filter (is_incoming x.reply) p held,
-  apart-filter p held,
-)
+apart-filter p (x ∷ held) h =
+    let by = λ (t : Tuple). list_any-filter (is_incoming t) p held in grind (arith, by x.original, by x.reply, apart-filter p held)
 
 free-push : (tuple : Tuple) (held : List ConntrackEntry) (new : ConntrackEntry) → is_taken tuple held ≡ false
     → same_tuple tuple new.original ≡ false → same_tuple tuple new.reply ≡ false → is_taken tuple (held ++ new ∷ []) ≡ false

@@ -1,5 +1,6 @@
 -- What a lookup finds, and changes of the entry found.
-use Rattle.conntrack.proofs.Names.{Bool, ConnId, ConnectionRef, ConntrackEntry, Ends, Flags, Found, List, None, NotFound, Option, Some, Tuple, [], ap, arith}
+use Rattle.list_laws.specs.Options.{option_cases}
+use Rattle.conntrack.proofs.Names.{Direction, Original, Reply, has_tuple, Bool, ConnId, ConnectionRef, ConntrackEntry, Ends, Flags, Found, List, None, NotFound, Option, Some, Tuple, [], ap, arith}
 use Rattle.conntrack.proofs.Names.{belonging_by, belonging_without_id, belongs_in, cond, false, filter, find, has_distinct_ids, has_id, have_disjoint_tuples}
 use Rattle.conntrack.proofs.Names.{is_taken, map, map-append, nat_tests, not, of_original, of_reply, option_map, refl, same_tuple, same_tuple-true, sym, true}
 use Rattle.conntrack.proofs.Names.{without, without_id, ◌++◌, ◌∙◌, ◌∷◌, ◌≡◌}
@@ -70,38 +71,31 @@ taken_as u v held e = ap (λ w. is_taken w held) (same_tuple-true u v e)
 free_first : (held : List ConntrackEntry) (h : ConntrackEntry) (tuple : Tuple) → have_disjoint_tuples held ≡ true
     → of_original held tuple ≡ Some h → is_taken tuple (at_first (λ x. same_tuple x.original tuple) (λ x. []) held) ≡ false
 free_first [] h tuple a e = refl
-free_first (x ∷ held) h tuple a e = grind (
-  arith,
-  taken_as x.original tuple held,
-  taken_as x.reply tuple held,
-  list_any_found (λ n. same_tuple n.original tuple) (λ n. same_tuple n.reply tuple) held h,
-  free_first held h tuple,
-)
+free_first (x ∷ held) h tuple a e =
+    let taken = list_any_found (λ n. same_tuple n.original tuple) (λ n. same_tuple n.reply tuple) held h in
+    grind (arith, taken, taken_as x.original tuple held, taken_as x.reply tuple held, free_first held h tuple)
 
 -- what a lookup finds is in the list, and a tuple without an entry is free
 module _ (held : List ConntrackEntry) (tuple : Tuple) (flags : Flags) where
-  found_by : (o r : Option ConntrackEntry) (found : ConnectionRef) → of_original held tuple ≡ o → of_reply held tuple ≡ r
-      → belonging_by flags o r ≡ Found found → has_id found.id held ≡ true
-  found_by o r found eo er e = grind (arith, has_id-found (λ h. same_tuple h.original tuple) held, has_id-found (λ h. same_tuple h.reply tuple) held)
+  found_has : (direction : Direction) (h : ConntrackEntry) → find (has_tuple tuple direction) held ≡ Some h → has_id h.id held ≡ true
+  found_has direction = has_id-found (has_tuple tuple direction) held
 
-  ends_by : (o r : Option ConntrackEntry) (id : ConnId) → belonging_by flags o r ≡ Ends id
-      → (h : ConntrackEntry) × (o ≡ Some h) × (h.id ≡ id)
+  pub found_is_held : (found : ConnectionRef) → belongs_in held tuple flags ≡ Found found → has_id found.id held ≡ true
+  found_is_held found e =
+      grind (arith, option_cases (of_original held tuple), option_cases (of_reply held tuple), found_has Original, found_has Reply)
+
+  pub nowhere_is_free : belongs_in held tuple flags ≡ NotFound → is_taken tuple held ≡ false
+  nowhere_is_free e =
+      let either = list_any_either (λ h. same_tuple h.original tuple) (λ h. same_tuple h.reply tuple) held in
+      grind (arith, either, option_cases (of_original held tuple), option_cases (of_reply held tuple))
+
+  ends_by : (o r : Option ConntrackEntry) (id : ConnId) → belonging_by flags o r ≡ Ends id → (h : ConntrackEntry) × (o ≡ Some h) × (h.id ≡ id)
   ends_by (Some h) r id e = (h, refl, grind arith)
   ends_by None (Some h) id e = cc
   ends_by None None id e = cc
 
-  free_by : (o r : Option ConntrackEntry) → of_original held tuple ≡ o → of_reply held tuple ≡ r
-      → belonging_by flags o r ≡ NotFound → is_taken tuple held ≡ false
-  free_by o r eo er e = grind (arith, list_any_either (λ h. same_tuple h.original tuple) (λ h. same_tuple h.reply tuple) held)
-
-  pub found_is_held : (found : ConnectionRef) → belongs_in held tuple flags ≡ Found found → has_id found.id held ≡ true
-  found_is_held found = found_by _ _ found refl refl
-
-  pub nowhere_is_free : belongs_in held tuple flags ≡ NotFound → is_taken tuple held ≡ false
-  nowhere_is_free = free_by _ _ refl refl
-
   pub ends_is_held : (id : ConnId) → belongs_in held tuple flags ≡ Ends id → has_id id held ≡ true
-  ends_is_held id e = let at = ends_by _ _ id e in rw (← at.2) (has_id-found (λ h. same_tuple h.original tuple) held at.0 at.1)
+  ends_is_held id e = let at = ends_by _ _ id e in rw (← at.2) (found_has Original at.0 at.1)
 
   pub ended_is_free : (id : ConnId) → has_distinct_ids held ≡ true → have_disjoint_tuples held ≡ true → belongs_in held tuple flags ≡ Ends id
       → is_taken tuple (without id held) ≡ false

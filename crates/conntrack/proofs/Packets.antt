@@ -38,15 +38,11 @@ module _ (limits : Limits) (id : ConnId) (direction : Direction) (flags : Flags)
       → live_at limits now (touched_at id direction flags mark now held)
       ≡ touched_at id direction flags mark now (live_at limits now held)
   live_at-touched_at [] d t = refl
-  live_at-touched_at (x ∷ held) d t = grind (
-    arith,
-    nat_tests,
-    live_at_last limits now (touched direction flags mark now x) refl,
-    changed_at_none id (touched direction flags mark now) held,
-    changed_at_none id (touched direction flags mark now) (live_at limits now held),
-    list_any-filter (same_id x.id) (is_live limits now) held,
-    live_at-touched_at held,
-  )
+  live_at-touched_at (x ∷ held) d t =
+      let live = live_at_last limits now (touched direction flags mark now x) refl in
+      let none = changed_at_none id (touched direction flags mark now) in
+      let off = list_any-filter (same_id x.id) (is_live limits now) held in
+      grind (arith, nat_tests, live, none held, none (live_at limits now held), off, live_at-touched_at held)
 
 live_begun : (limits : Limits) (id : ConnId) (p : Arrival) (confirmation : Confirmation) (held : List ConntrackEntry)
     → live_at limits p.moment (with_begun id p confirmation held)
@@ -174,14 +170,8 @@ live_list-distinct limits history now = rw (live_list-unended limits history now
 pub apart_by : (b : Belonging) (id : ConnId) (p : Arrival) (confirmation : Confirmation) (held : List ConntrackEntry)
     → has_distinct_ids held ≡ true → have_disjoint_tuples held ≡ true → belongs_in held p.tuple p.flags ≡ b
     → DoesNotClash b confirmation held → have_disjoint_tuples (after_packet b id p confirmation held) ≡ true
-apart_by b id p confirmation held d a e n = grind (
-  arith,
-  apart-touched_at,
-  apart-push,
-  apart-filter,
-  nowhere_is_free held p.tuple p.flags,
-  ended_is_free held p.tuple p.flags,
-)
+apart_by b id p confirmation held d a e n =
+    grind (arith, apart-touched_at, apart-push, apart-filter, nowhere_is_free held p.tuple p.flags, ended_is_free held p.tuple p.flags)
 
 -- ---- moments
 
