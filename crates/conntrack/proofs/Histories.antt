@@ -1,10 +1,10 @@
 -- The connections of a history that no record removed, and what one more record does to them.
-use Rattle.conntrack.proofs.Names.{Arrival, Belonging, Bool, Confirmation, Confirmed, ConnectionChange, ConntrackEntry, Creation, Ends, Found, Limits}
-use Rattle.conntrack.proofs.Names.{List, NotFound, TrackedPacket, Unconfirmed, [], after_packet, append-nil, arith}
-use Rattle.conntrack.proofs.Names.{begun_in, change_of_packet, cond, connection_in, creation_of, ended_by_packet, entries_of, entry_of, eq-eqb, eqb, false}
-use Rattle.conntrack.proofs.Names.{filter, filter-append, has_distinct_ids, has_id, is_ended, is_live, is_that, is_touch_of, length, list_all, list_all-append}
-use Rattle.conntrack.proofs.Names.{live_at, live_list, ltb-true, map, map-append, map-id, nat_lt, nat_tests, ne_eqb, not, number_if_begins, or-false, refl}
-use Rattle.conntrack.proofs.Names.{replayed, same_id, touched, true, ℕ, ◌&&◌, ◌++◌, ◌||◌, ◌∷◌, ◌≡◌, ◌≤◌}
+use Rattle.conntrack.proofs.Names.{Arrival, Belonging, Bool, Confirmation, Confirmed, ConnectionChange, ConntrackEntry, Creation, Ends, Found, Limits, List}
+use Rattle.conntrack.proofs.Names.{NotFound, TrackedPacket, Unconfirmed, [], after_packet, append-nil, arith, begun_in, change_of_packet, cond, connection_in}
+use Rattle.conntrack.proofs.Names.{creation_of, ended_by_packet, entries_of, entry_of, eq-eqb, eqb, false, filter, filter-append, has_distinct_ids, has_id}
+use Rattle.conntrack.proofs.Names.{is_ended, is_live, is_that, is_touch_of, length, list_all, list_all-append, live_at, live_list, ltb-true, map, map-append}
+use Rattle.conntrack.proofs.Names.{map-id, nat_lt, nat_tests, ne_eqb, not, number_if_begins, or-false, refl, replayed, same_id, touched, true, ℕ, ◌&&◌, ◌++◌}
+use Rattle.conntrack.proofs.Names.{◌||◌, ◌∷◌, ◌≡◌, ◌≤◌}
 use Rattle.conntrack.proofs.Lists.{filter-map, filter-true, map-filter-change, map-filter-later}
 use Rattle.conntrack.proofs.Ids.{distinct-filter, distinct-push}
 

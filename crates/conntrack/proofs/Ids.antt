@@ -1,8 +1,8 @@
 -- Ids of entries, and lists that are equal except for ids.
-use Rattle.conntrack.proofs.Names.{Bool, ConnId, ConntrackEntry, Direction, Flags, List, Some, Tuple, [], and_parts, arith, cond, false, filter}
-use Rattle.conntrack.proofs.Names.{find, has_distinct_ids, has_id, has_ids_below, have_disjoint_tuples, is_incoming, is_taken, length, list_any}
-use Rattle.conntrack.proofs.Names.{list_any-append, map, nat_tests, not, not-true, or_parts, refl, same_id, same_tuple}
-use Rattle.conntrack.proofs.Names.{same_tuple-refl, same_tuple-true, touched, touched_at, true, without, ℕ, ◌++◌, ◌+◌, ◌<◌, ◌∷◌, ◌≡◌}
+use Rattle.conntrack.proofs.Names.{Bool, ConnId, ConntrackEntry, Direction, Flags, List, Some, Tuple, [], and_parts, arith, cond, false, filter, find}
+use Rattle.conntrack.proofs.Names.{has_distinct_ids, has_id, has_ids_below, have_disjoint_tuples, is_incoming, is_taken, length, list_any, list_any-append, map}
+use Rattle.conntrack.proofs.Names.{nat_tests, not, not-true, or_parts, refl, same_id, same_tuple, same_tuple-refl, same_tuple-true, touched, touched_at, true}
+use Rattle.conntrack.proofs.Names.{without, ℕ, ◌++◌, ◌+◌, ◌<◌, ◌∷◌, ◌≡◌}
 use Rattle.std.proofs.lemmas.List.Sums.{count_by-le-length, length-filter}
 use Rattle.conntrack.proofs.Lists.{filter_where_none, list_any-filter, none_passes}
 use Rattle.list_laws.specs.Tests.{same-tests}
@@ -100,7 +100,8 @@ apart-filter p (x ∷ held) h =
 
 free-push : (tuple : Tuple) (held : List ConntrackEntry) (new : ConntrackEntry) → is_taken tuple held ≡ false
     → same_tuple tuple new.original ≡ false → same_tuple tuple new.reply ≡ false → is_taken tuple (held ++ new ∷ []) ≡ false
-free-push tuple held new h o r = rw (list_any-append (is_incoming tuple) held (new ∷ []), h, same_tuple-sym new.original tuple, same_tuple-sym new.reply tuple, o, r) refl
+free-push tuple held new h o r =
+    rw (list_any-append (is_incoming tuple) held (new ∷ []), h, same_tuple-sym new.original tuple, same_tuple-sym new.reply tuple, o, r) refl
 
 pub apart-push : (held : List ConntrackEntry) (new : ConntrackEntry) → have_disjoint_tuples held ≡ true
     → is_taken new.original held ≡ false → is_taken new.reply held ≡ false

@@ -1,6 +1,6 @@
 -- Lemmas on lists: searches in filtered lists.
-use Rattle.conntrack.proofs.Names.{Bool, List, None, Some, [], and_parts, ap, arith, false, filter, find, find-filter, list_all, list_any, map, not, refl}
-use Rattle.conntrack.proofs.Names.{true, ◌&&◌, ◌||◌, ◌∷◌, ◌≡◌}
+use Rattle.conntrack.proofs.Names.{Bool, List, None, Some, [], and_parts, ap, arith, false, filter, find, find-filter, list_all, list_any, map, not, refl, true}
+use Rattle.conntrack.proofs.Names.{◌&&◌, ◌||◌, ◌∷◌, ◌≡◌}
 
 pub ruleset find_filter_rules = (find-filter)
 

@@ -1,9 +1,9 @@
 -- What a lookup finds, and changes of the entry found.
 use Rattle.list_laws.specs.Options.{option_cases}
-use Rattle.conntrack.proofs.Names.{Direction, Original, Reply, has_tuple, Bool, ConnId, ConnectionRef, ConntrackEntry, Ends, Flags, Found, List, None, NotFound, Option, Some, Tuple, [], ap, arith}
-use Rattle.conntrack.proofs.Names.{belonging_by, belonging_without_id, belongs_in, cond, false, filter, find, has_distinct_ids, has_id, have_disjoint_tuples}
-use Rattle.conntrack.proofs.Names.{is_taken, map, map-append, nat_tests, not, of_original, of_reply, option_map, refl, same_tuple, same_tuple-true, sym, true}
-use Rattle.conntrack.proofs.Names.{without, without_id, ◌++◌, ◌∙◌, ◌∷◌, ◌≡◌}
+use Rattle.conntrack.proofs.Names.{Bool, ConnId, ConnectionRef, ConntrackEntry, Direction, Ends, Flags, Found, List, None, NotFound, Option, Original, Reply}
+use Rattle.conntrack.proofs.Names.{Some, Tuple, [], ap, arith, belonging_by, belonging_without_id, belongs_in, cond, false, filter, find, has_distinct_ids}
+use Rattle.conntrack.proofs.Names.{has_id, has_tuple, have_disjoint_tuples, is_taken, map, map-append, nat_tests, not, of_original, of_reply, option_map, refl}
+use Rattle.conntrack.proofs.Names.{same_tuple, same_tuple-true, sym, true, without, without_id, ◌++◌, ◌∙◌, ◌∷◌, ◌≡◌}
 use Rattle.conntrack.proofs.Lists.{list_any_either, list_any_found}
 use Rattle.conntrack.proofs.Ids.{changed_at, changed_at_none, has_id-found, other_id, without_new}
 

@@ -5,8 +5,8 @@ use Rattle.conntrack.proofs.Names.{TrackedPacket, Tuple, Unconfirmed, [], after_
 use Rattle.conntrack.proofs.Names.{belonging_without_id, belongs, belongs_in, connection_of, connection_ref, entry_at, entry_of, filter, filter-append, find}
 use Rattle.conntrack.proofs.Names.{has_distinct_ids, has_id, has_tuple, have_disjoint_tuples, idle_kind, is_incoming, is_live, is_taken, length, length-map}
 use Rattle.conntrack.proofs.Names.{limit_in, limit_of, live_at, live_list, lt-ltb, ltb-true, map, map-append, nat_tests, no_flags, no_tuple, not, of_original}
-use Rattle.conntrack.proofs.Names.{of_reply, phase_of, refl, same_id, state_of, subst, sym, touched, touched_at, true, with_begun, without, without_id, ℕ}
-use Rattle.conntrack.proofs.Names.{◌++◌, ◌-◌, ◌<◌, ◌∙◌, ◌∷◌, ◌≡◌, ◌≤◌}
+use Rattle.conntrack.proofs.Names.{of_reply, phase_of, refl, same_id, state_of, subst, sym, touched, touched_at, true, with_begun, without, without_id, ℕ, ◌++◌}
+use Rattle.conntrack.proofs.Names.{◌-◌, ◌<◌, ◌∙◌, ◌∷◌, ◌≡◌, ◌≤◌}
 use Rattle.std.proofs.lemmas.Simd.{map-map}
 use Rattle.conntrack.proofs.Ids.{apart-filter, apart-push, apart-touched_at, changed_at_none, distinct-filter}
 use Rattle.conntrack.proofs.Histories.{live_list-unended, unended, unended-distinct, unended_after}
