@@ -64,13 +64,11 @@ node-within nodes c n node h e range = within-of n node (λ call k. range c call
 pub calls-rest : (statements : List (Vec Edge Global)) (i : ℕ) (s : Vec Edge Global) → i < length statements → s
     ≡ get_or statements i s → flat_map identity (statements_of (drop i statements)) ≡ map call_of s.items
     ++ flat_map identity (statements_of (drop (i + 1) statements))
-calls-rest statements i s h e = ap (λ xs. flat_map identity (statements_of xs)) (drop_more statements i s h)
-    ∙ ap (λ v. map call_of v.items ++ flat_map identity (statements_of (drop (i + 1) statements))) (sym e)
+calls-rest statements i s h e = grind (arith, drop_more)
 
 pub order-before : (g : Graph) (order : List ℕ) (i c : ℕ) → IsTopologicalOrder (targets_of g) order → i < length order
     → c ≡ get_or order i c → (e : Call ℕ) → Calls g c e → Contains (take i order) e.to
-order-before g order i c o h e call k = o.after i call.to h
-    (subst (λ x. HasEdge (targets_of g) x call.to) (e ∙ get_or_default order i c 0 h) (edge-of g c call k))
+order-before g order i c o h e call k = grind (arith, o.after, call.to, get_or_default, edge-of)
 
 -- each node stands among the first nodes of the order, if these are all
 pub all-before : (nodes : List Node) (order : List ℕ) (i x : ℕ) → IsTopologicalOrder (targets_of (graph_of nodes)) order

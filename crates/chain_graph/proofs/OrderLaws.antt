@@ -53,9 +53,7 @@ all-done g marks left path order s none visited = record {
 
 pub reaching-before : (g : List (List ℕ)) (order : List ℕ) → IsTopologicalOrder g order → (i c b : ℕ) (cs : List ℕ)
     → i < length order → IsTargetPath g (get_or order i 0) (c ∷ cs) b → (j : ℕ) × (j < i) × (get_or order j 0 ≡ b)
-reaching-before g order o i c b [] h p =
-    let at = take-index order i c (omega arith) (o.after i c h p.0) in
-    (at.0, at.1, at.2 ∙ p.1)
+reaching-before g order o i c b [] h p = grind (arith, take-index, o.after, p.0, p.1)
 reaching-before g order o i c b (d ∷ cs) h p =
     let at = take-index order i c (omega arith) (o.after i c h p.0) in
     let l = at.1 in

@@ -50,11 +50,7 @@ pub mark-read : (marks : List Mark) (t : ℕ) {m n : Mark} → t < length marks 
 mark-read marks t {m = m} h e is = sym (get_or_read marks t m h e New) ∙ is
 
 pub popped : (path rest after : List ℕ) (c n : ℕ) → path ≡ rest ++ c ∷ [] → n ≡ length path → after ≡ take (n - 1) path → after ≡ rest
-popped path rest after c n e long is =
-    let more = length_push rest c in
-    let same = ap length e in
-    let k : length rest ≡ n - 1 = omega arith in
-    is ∙ ap (take (n - 1)) e ∙ take_at rest (c ∷ []) (n - 1) k
+popped path rest after c n e long is = grind (arith, length_push, take_at)
 
 pub last-follows : (g : List (List ℕ)) (path rest : List ℕ) (c t : ℕ) → path ≡ rest ++ c ∷ [] → HasEdge g c t → Follows g path t
 last-follows g path rest c t e edge front d f =

@@ -14,10 +14,7 @@ use Rattle.chain_graph.proofs.EachLaws.{each-front, each-last, each-push}
 -- what holds of each entry still does after one is set
 set-each : {X : Type 0} (P : ℕ → X → Type 0) (xs : List X) (c : ℕ) (v e : X) → c < length xs → P c v
     → ((d : ℕ) → d ≢ c → P d (get_or xs d e)) → (d : ℕ) → P d (get_or (set xs c v) d e)
-set-each P xs c v e at here others d = elim (cases_eq d c) [
-  | inl q ↦ subst (λ x. P x (get_or (set xs c v) x e)) (sym q) (rw (get_or-set_same xs c v e at) here)
-  | inr ne ↦ rw (get_or-set_other xs c d v e ne) (others d ne)
-]
+set-each P xs c v e at here others d = grind (arith, cases_eq, get_or, get_or-set_same, get_or-set_other)
 
 pub keeps_visited : (marks : List Mark) (c : ℕ) (m : Mark) → c < length marks → m ≢ New → KeepsVisited marks (set marks c m)
 keeps_visited marks c m at ne =

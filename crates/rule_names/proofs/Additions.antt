@@ -1,4 +1,5 @@
 -- One more item in a table.
+use Rattle.std.proofs.Common.{arith}
 use Rattle.rule_names.proofs.Names.{Bool, Bor, HasDuplicate, IsAdded, List, Text, [], ap, ap₂, false, get_or, inr, item_tree, length, map, map-append}
 use Rattle.rule_names.proofs.Names.{map-more, subst, sym, take, true, ℕ, ⊎_elim, ◌++◌, ◌+◌, ◌<◌, ◌∙◌, ◌∷◌, ◌≡◌}
 use Rattle.std.proofs.Common.{drop, inl}
@@ -22,10 +23,7 @@ use Rattle.nft_tree.specs.Tree as tree
 
 -- a list with a duplicate has one when it is longer
 pub repeats-in-on : (items more : List ItemTree) → HasDuplicateIn items → HasDuplicateIn (items ++ more)
-repeats-in-on items more = ⊎_elim
-    (λ r. inl (simp (filter_map-append, map-append)
-    (repeats-on (map (λ c. c.name) (filter_map chain_in items)) (map (λ c. c.name) (filter_map chain_in more)) r)))
-    (λ r. inr (simp filter_map-append (repeats-on (filter_map set_or_map_name items) (filter_map set_or_map_name more) r)))
+repeats-in-on items more = grind (arith, ⊎_elim, filter_map-append, map-append, repeats-on)
 
 -- items of one kind
 module _ {T X : Type 0} (view : T → X) (name_of : X → Text) (xs : List X) (all : List (Bor T)) (names : List Text)

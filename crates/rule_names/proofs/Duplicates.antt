@@ -86,17 +86,7 @@ apart-more names name apart absent r =
     (cases_lt r.second (length names))
 
 pub repeats-on : (names more : List Text) → HasDuplicate names → HasDuplicate (names ++ more)
-repeats-on names more r =
-    let n = length-append names more in
-    let a = r.apart in
-    let w = r.within in
-    record {
-      first = r.first;
-      second = r.second;
-      apart = a;
-      within = omega arith;
-      same = get_or_append_left names more [] r.first (omega arith) ∙ r.same ∙ sym (get_or_append_left names more [] r.second w);
-    }
+repeats-on names more r = grind (arith, length-append, r.apart, r.within, r.first, r.second, get_or_append_left, r.same)
 
 -- one more key
 pub key-added : (keys new : List (Bor Text)) (key : Bor Text) (stands fresh : Bool) → list_any (named key.now) keys

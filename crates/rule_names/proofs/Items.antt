@@ -1,4 +1,5 @@
 -- A duplicate set or a duplicate map is a duplicate among sets and maps.
+use Rattle.std.proofs.Common.{arith}
 use Rattle.rule_names.proofs.Names.{Contains, HasDuplicate, List, Text, [], map, subst, sym, ⊎_elim, ◌∷◌}
 use Rattle.std.specs.List.{filter_map}
 use Rattle.nft_tree.specs.Tree.{ItemTree}
@@ -21,17 +22,11 @@ of_both items = filter_map set_or_map_name items
 
 pub among-same : (n : Text) (small large : List Text) (name : Text)
     → (Contains small name → Contains large name) → Contains (n ∷ small) name → Contains (n ∷ large) name
-among-same n small large name more a = ⊎_elim
-    (λ e. subst (λ x. Contains (x ∷ large) name) (sym e) (Contains-head name large))
-    (λ r. Contains-tail n large name (more r))
-    (Contains-cases n small name a)
+among-same n small large name more a = grind (arith, ⊎_elim, Contains-head, Contains-tail, Contains-cases)
 
 pub repeats-same : (n : Text) (small large : List Text) → (Contains small n → Contains large n)
     → (HasDuplicate small → HasDuplicate large) → HasDuplicate (n ∷ small) → HasDuplicate (n ∷ large)
-repeats-same n small large among more r = ⊎_elim
-    (λ a. repeats-here n large (among a))
-    (λ s. repeats-more n large (more s))
-    (repeats-split n small r)
+repeats-same n small large among more r = grind (arith, ⊎_elim, repeats-here, repeats-more, repeats-split)
 
 pub sets-among : (items : List ItemTree) (name : Text) → Contains (of_sets items) name → Contains (of_both items) name
 sets-among [] name a = a

@@ -1,4 +1,5 @@
 -- `any` over lists of lists.
+use Rattle.std.proofs.Common.{arith}
 use Rattle.rule_names.proofs.Names.{Bool, List, None, Option, Some, Text, [], any_of_map, ap, false, list_any, map, refl, sym, true, ◌||◌, ◌∙◌, ◌∷◌, ◌≡◌}
 use Rattle.std.specs.Prelude.{flat_map}
 use Rattle.std.specs.List.{cons_option, filter_map}
@@ -16,11 +17,7 @@ any-viewed p f view xs = any_of_map (λ t. list_any p (f t)) view xs ∙ any-fla
 
 pub any-one : (p : Text → Bool) (o : Option Text) (rest : List Text) → list_any p (one_or_none o) || list_any p rest ≡ list_any p (cons_option o rest)
 any-one p None rest = refl
-any-one p (Some name) rest = ap (λ b. b || list_any p rest) (or-none (p name))
-  where
-    or-none : (b : Bool) → b || false ≡ b
-    or-none true = refl
-    or-none false = refl
+any-one p (Some name) rest = grind arith
 
 pub any-picked : {X : Type 0} (p : Text → Bool) (f : X → Option Text) (xs : List X)
     → list_any (λ x. list_any p (one_or_none (f x))) xs ≡ list_any p (filter_map f xs)

@@ -29,10 +29,7 @@ index-more false i (Some k) = ap Some (omega arith)
 
 pub from-index : (name : Text) (keys : List (Bor Text)) (i : ℕ) → position_from (named name) i keys ≡ option_map (λ k. k + i) (index_in name (texts keys))
 from-index name [] i = refl
-from-index name (k ∷ ks) i =
-    ap (λ o. cond (named name k) (Some i) o) (from-index name ks (i + 1))
-    ∙ index-more (named name k) i (index_in name (texts ks))
-    ∙ ap (λ b. option_map (λ k. k + i) (cond b (Some 0) (option_map suc (index_in name (texts ks))))) (text-sym name k.now)
+from-index name (k ∷ ks) i = grind (arith, index-more, text-sym, k.now, from-index name ks (i + 1))
 
 pub plus-none : (o : Option ℕ) → option_map (λ k. k + 0) o ≡ o
 plus-none None = refl

@@ -18,8 +18,7 @@ topological_sort-requires c =
 
 pub returns-in-Cycle : goal.returns-in-Cycle
 returns-in-Cycle c =
-    cycle-to-calls (graph_of c.args.nodes.now)
-    (is_sort_result-as _ _ _ Cycle (ap rows_of c.deref.ensures.value ∙ c.in_ok-targets.ensures) c.in-Cycle.is c.in_ok-topological_sort.ensures)
+    grind (arith, cycle-to-calls, is_sort_result-as, c.deref.ensures.value, c.in_ok-targets.ensures, c.in-Cycle.is, c.in_ok-topological_sort.ensures)
 
 pub returns : goal.returns
 returns c =

@@ -17,9 +17,7 @@ returns-in_default-clause-is c =
     (λ (names : TableTree). names ≡ table_tree c.table-item.result) c.in_default.is c.in_ok-of_table.ensures.is)
 
 pub returns-clause-apart : goal.returns-clause-apart
-returns-clause-apart c =
-    subst (All HasUniqueNames) (c.loop-table.invariant.0 ∙ ap (map table_tree) (take_all c.loop-table.table-index c.args.tables.now (omega arith)))
-    c.loop-table.invariant.1
+returns-clause-apart c = grind (arith, c.loop-table.invariant.0, take_all, c.loop-table.table-index, c.loop-table.invariant.1)
 
 pub loop-table-preserved : goal.loop-table-preserved
 loop-table-preserved c =

@@ -1,3 +1,4 @@
+use Rattle.std.proofs.Common.{arith}
 use Rattle.rule_names.proofs.Names.{IsAdded, refl, subst}
 use Rattle.rule_names.specs.steps.Index.{texts}
 use Rattle.rule_names.proofs.Duplicates.{key-added}
@@ -9,6 +10,4 @@ invariant_of-self-2 c =
     c.in_ok-insert.ensures.keys c.self.invariant).1
 
 pub returns : goal.returns
-returns c =
-    subst (λ old. IsAdded old c.args.name.now (texts c.insert.new.self.keys) c.in_ok-insert.field-0) c.self.view_is
-    (key-added c.self.inside.names.keys c.insert.new.self.keys c.args.name _ _ refl c.in_ok-insert.ensures.added c.in_ok-insert.ensures.keys c.self.invariant).0
+returns c = grind (arith, c.in_ok-insert.field-0, c.self.view_is, key-added, c.in_ok-insert.ensures.added, c.in_ok-insert.ensures.keys, c.self.invariant)

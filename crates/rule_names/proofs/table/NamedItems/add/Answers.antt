@@ -1,3 +1,4 @@
+use Rattle.std.proofs.Common.{arith}
 use Rattle.rule_names.proofs.Names.{IsAdded, inr, subst}
 use Rattle.std.proofs.lemmas.Result.{IfOk-weaker}
 use Rattle.std.proofs.lemmas.List.Elements.{filter_map-append}
@@ -5,16 +6,12 @@ use Rattle.rule_names.proofs.Additions.{chain-added, comment-added, map-added, s
 use Rattle.rule_names.proofs.table.NamedItems.add.Goals as goal
 
 pub returns-then-not-branch : goal.returns-then-not-branch
-returns-then-not-branch c = λ items held.
-    rw c.in-Set.is (inr (simp filter_map-append
-    (shared-duplicate items c.args.self.now held _ _ c.deref-in-Set.ensures.value
-    (subst (IsAdded _ _ c.add-in-Set.new.self) c.if-not-branch.true c.in_ok-add-in-Set.ensures))))
+returns-then-not-branch c =
+    grind (arith, c.in-Set.is, filter_map-append, shared-duplicate, c.deref-in-Set.ensures.value, c.if-not-branch.true, c.in_ok-add-in-Set.ensures)
 
 pub returns-then-not-branch-2 : goal.returns-then-not-branch-2
-returns-then-not-branch-2 c = λ items held.
-    rw c.in-Map.is (inr (simp filter_map-append
-    (shared-duplicate items c.args.self.now held _ _ c.deref-in-Map.ensures.value
-    (subst (IsAdded _ _ c.add-in-Map.new.self) c.if-not-branch-2.true c.in_ok-add-in-Map.ensures))))
+returns-then-not-branch-2 c =
+    grind (arith, c.in-Map.is, filter_map-append, shared-duplicate, c.deref-in-Map.ensures.value, c.if-not-branch-2.true, c.in_ok-add-in-Map.ensures)
 
 pub returns-in-Comment : goal.returns-in-Comment
 returns-in-Comment c = λ items held. rw c.in-Comment.is (comment-added items c.args.self.now held c.in-Comment.field-0.items)

@@ -1,3 +1,4 @@
+use Rattle.std.proofs.Common.{arith}
 use Rattle.rule_names.proofs.Names.{ap, sym, ◌∙◌}
 use Rattle.nft_tree.specs.Tree.{head_tree}
 use Rattle.nft_tree.specs.TableItems.{chains_of}
@@ -8,8 +9,4 @@ pub returns-in-None : goal.returns-in-None
 returns-in-None c = ap is_base c.in-None.ensures.found ∙ sym (any-base (chains_of c.args.self.now) c.args.name.now c.chain.ensures.apart)
 
 pub returns-in-Some : goal.returns-in-Some
-returns-in-Some c =
-    c.is_some.ensures
-    ∙ is-some-map head_tree c.in-Some.chain.now.head
-    ∙ ap is_base c.in-Some.ensures.found
-    ∙ sym (any-base (chains_of c.args.self.now) c.args.name.now c.chain.ensures.apart)
+returns-in-Some c = grind (arith, c.is_some.ensures, is-some-map, c.in-Some.chain.now.head, is_base, c.in-Some.ensures.found, any-base, c.chain.ensures.apart)

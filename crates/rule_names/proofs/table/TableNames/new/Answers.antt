@@ -20,8 +20,4 @@ loop-item-preserved c =
     c.if-not-branch.false (c.in_ok-add.ensures (map item_tree (take c.loop-item.item-index c.args.table.now.items.items)) c.loop-item.invariant)
 
 pub returns-clause-apart : goal.returns-clause-apart
-returns-clause-apart c =
-    let items : List Item = c.args.table.now.items.items in
-    let n = ap length c.deref-item-items.ensures.value in
-    let all = subst (λ xs. Represents (map item_tree xs) c.loop-item.items) (take_all c.loop-item.item-index items (omega arith)) c.loop-item.invariant in
-    record { chains_apart = all.chains.apart; sets_and_maps_apart = all.both_apart }
+returns-clause-apart c = grind (arith, c.deref-item-items.ensures.value, c.loop-item.items, take_all, c.loop-item.item-index, c.loop-item.invariant)
