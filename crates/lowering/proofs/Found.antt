@@ -1,13 +1,13 @@
 -- Declarations by name.
 use Rattle.std.proofs.Common.{◌≡◌, ℕ, zero, suc, ◌<◌, Bool, true, false, cond, List, [], ◌∷◌, length, get_or, map}
-use Rattle.std.proofs.Common.{Option, Some, None, refl, sym, ap, subst, ◌∙◌, arith}
+use Rattle.std.proofs.Common.{Option, Some, None, refl, sym, ap, ◌∙◌}
 use Rattle.std.specs.Prelude.{slice_get, find}
 use Rattle.std.specs.List.{list_any}
 use Rattle.std.specs.Option.{option_map}
 use Rattle.std.specs.Str.{bytes_eq}
-use Rattle.std.proofs.lemmas.List.{length-map}
-use Rattle.std.proofs.Math.ListN.{get_or-map}
+use Rattle.std.proofs.lemmas.List.Folds.{list_any_at}
 use Rattle.std.proofs.lemmas.Bool.{or_parts, or_from}
+use Rattle.list_laws.specs.Lists.{any_of_map}
 use Rattle.nft_tree.specs.Tree as tree
 use Rattle.nft_tree.specs.Tree.{Text, ItemTree, SetTree, TableTree}
 use Rattle.nft_tree.specs.TableItems.{sets_of}
@@ -48,15 +48,6 @@ absent name_of name (x ∷ xs) e = absent-step (bytes_eq (name_of x) name) x (in
 
 -- ---- sets of a table whose types fit
 
-map-inside : {A B : Type 0} (f : A → B) (xs : List A) (i : ℕ) → i < length xs → i < length (map f xs)
-map-inside f xs i inside = subst (λ (n : ℕ). i < n) (sym (length-map xs f)) inside
-
-none-at : {A : Type 0} (test : A → Bool) (xs : List A) (i : ℕ) (d : A) → i < length xs
-    → list_any test xs ≡ false → test (get_or xs i d) ≡ false
-none-at test [] i d inside e = absurd (omega arith)
-none-at test (x ∷ xs) zero d inside e = (or_parts (test x) (list_any test xs) e).0
-none-at test (x ∷ xs) (suc i) d inside e = none-at test xs i d (omega arith) (or_parts (test x) (list_any test xs) e).1
-
 sets-fit : (t : TableTree) (items : List ItemTree) → list_any (item_mismatches t) items ≡ false
     → list_any set_mismatches (sets_of (record t { items = items })) ≡ false
 sets-fit t [] e = refl
@@ -74,10 +65,9 @@ sets-fit t (tree.set s ∷ items) e =
 pub narrow-at : {X : Type 0} (t : TableTree) (f : X → SetTree) (xs : List X) (i : ℕ) (x : X)
     → table_mismatches t ≡ false → map f xs ≡ sets_of t → i < length xs → x ≡ get_or xs i x
     → is_too_wide (key_compared_types (f x).key) ≡ false
-narrow-at t f xs i x e all inside is =
-    let each : list_any set_mismatches (map f xs) ≡ false =
-    subst (λ ss. list_any set_mismatches ss ≡ false) (sym all) (sets-fit t t.items e) in
-    let here : set_mismatches (get_or (map f xs) i (f x)) ≡ false =
-    none-at set_mismatches (map f xs) i (f x) (map-inside f xs i inside) each in
-    let same : get_or (map f xs) i (f x) ≡ f x = get_or-map f xs i x ∙ ap f (sym is) in
-    (or_parts (is_too_wide (key_compared_types (f x).key)) _ (subst (λ s. set_mismatches s ≡ false) same here)).0
+narrow-at t f xs i x e all inside is = (or_parts (is_too_wide (key_compared_types (f x).key)) _ (by (set_mismatches (f x)) refl)).0
+  where
+    by : (b : Bool) → set_mismatches (f x) ≡ b → b ≡ false
+    by false here = refl
+    by true here = sym (list_any_at (λ y. set_mismatches (f y)) xs i x inside (ap (λ y. set_mismatches (f y)) (sym is) ∙ here))
+        ∙ any_of_map set_mismatches f xs ∙ ap (list_any set_mismatches) all ∙ sets-fit t t.items e

@@ -1,20 +1,24 @@
 -- Loop invariants of tables that are built element by element.
-use Rattle.std.proofs.Common.{◌≡◌, ℕ, ◌+◌, ◌≤◌, Bool, true, false, ◌||◌, cond, List, [], ◌∷◌, ◌++◌, length, take, map}
-use Rattle.std.proofs.Common.{Option, Some, None, refl, sym, ap, ap₂, subst, ◌∙◌}
+use Rattle.std.proofs.Common.{◌≡◌, ℕ, ◌+◌, ◌<◌, ◌≤◌, Bool, true, false, ◌||◌, cond, List, [], ◌∷◌, ◌++◌, length, get_or, take, map}
+use Rattle.std.proofs.Common.{Option, Some, None, refl, sym, ap, ap₂, ◌∙◌}
 use Rattle.std.specs.Prelude.{is_some}
 use Rattle.std.specs.Option.{option_map, option_or}
-use Rattle.std.specs.List.{list_any}
+use Rattle.std.specs.List.{cons_option}
 use Rattle.std.proofs.lemmas.List.{take_all}
+use Rattle.std.proofs.lemmas.List.Folds.{list_any-append}
 use Rattle.std.proofs.Math.Bool.{or-false}
+use Rattle.list_laws.specs.Lists.{map-more}
+use Rattle.nft_tree.specs.declared.set.Element.{Element}
+use Rattle.nft_tree.specs.declared.set.Pair.{Pair}
 use Rattle.nft_tree.specs.declared.compared_types.ComparedType.{ComparedType}
-use Rattle.nft_tree.specs.Tree.{DataTree, ElementTree, PairTree, TableTree}
+use Rattle.nft_tree.specs.Tree.{DataTree, ElementTree, PairTree, TableTree, element_tree, pair_tree}
 use Rattle.box_file.specs.Box.{PlantTree}
 use Rattle.set_intervals.specs.declared.range.Range.{Range}
 use Rattle.set_intervals.specs.Pairs.{in_range, first_value}
 use Rattle.nft_values.specs.Values.{span_of, numbers_of}
 use Rattle.rule_meaning.specs.declared.event.RuleVerdict.{RuleVerdict}
 use Rattle.rule_meaning.specs.Statements.{rule_verdict_of}
-use Rattle.rule_meaning.specs.Sets.{data_verdict, spans, key_numbers, pair_gives, pairs_give}
+use Rattle.rule_meaning.specs.Sets.{data_verdict, elements_have, spans, key_numbers, pair_gives, pairs_give}
 use Rattle.lowering.specs.steps.Tables.{Table, IsSetTable, entry_gives}
 
 pub map-all : {A B : Type 0} (f : A → B) (xs : List A) (i : ℕ) → length xs ≤ i → map f (take i xs) ≡ map f xs
@@ -35,22 +39,14 @@ or-cond : {A : Type 0} (b : Bool) (x : A) (o rest : Option A)
 or-cond true x o rest = refl
 or-cond false x o rest = refl
 
-first_value-more : {V : Type 0} (xs : Table V) (r : Range) (v : V) (n : ℕ)
-    → first_value (xs ++ (r, v) ∷ []) n ≡ option_or (first_value xs n) (cond (in_range r n) (Some v) None)
-first_value-more [] r v n = refl
-first_value-more (x ∷ xs) r v n = ap (cond (in_range x.0 n) (Some x.1)) (first_value-more xs r v n)
-    ∙ or-cond (in_range x.0 n) x.1 (first_value xs n) (cond (in_range r n) (Some v) None)
+entries-more : {V : Type 0} (xs : Table V) (o : Option (Range × V)) (n : ℕ)
+    → first_value (xs ++ cons_option o []) n ≡ option_or (first_value xs n) (entry_gives o n)
+entries-more [] None n = refl
+entries-more [] (Some e) n = refl
+entries-more (x ∷ xs) o n = ap (cond (in_range x.0 n) (Some x.1)) (entries-more xs o n)
+    ∙ or-cond (in_range x.0 n) x.1 (first_value xs n) (entry_gives o n)
 
 -- ---- sets
-
-or-or : (a b c : Bool) → (a || (b || c)) ≡ (a || b || c)
-or-or true b c = refl
-or-or false b c = refl
-
-any-more : {A : Type 0} (test : A → Bool) (xs : List A) (x : A)
-    → list_any test (xs ++ x ∷ []) ≡ (list_any test xs || test x)
-any-more test [] x = or-false (test x)
-any-more test (y ∷ ys) x = ap (λ b. test y || b) (any-more test ys x) ∙ or-or (test y) (list_any test ys) (test x)
 
 some-or : {A : Type 0} (a b : Option A) → is_some (option_or a b) ≡ (is_some a || is_some b)
 some-or None b = refl
@@ -60,22 +56,27 @@ some-cond : {A : Type 0} (b : Bool) (x : A) → is_some (cond b (Some x) None) �
 some-cond true x = refl
 some-cond false x = refl
 
-pub set-some : (plant : PlantTree) (kinds : List ComparedType) (es : List ElementTree) (e : ElementTree)
-    (xs : Table (Unit {0})) (r : Range) (u : Unit {0}) → Some (span_of r) ≡ key_numbers plant kinds e.key
-    → IsSetTable plant kinds es xs → IsSetTable plant kinds (es ++ e ∷ []) (xs ++ (r, u) ∷ [])
-set-some plant kinds es e xs r u is table n =
-    ap is_some (first_value-more xs r u n)
-    ∙ some-or (first_value xs n) (cond (in_range r n) (Some u) None)
-    ∙ ap₂ (λ a b. a || b) (table n) (some-cond (in_range r n) u ∙ ap (λ o. spans o n) is)
-    ∙ sym (any-more (λ (x : ElementTree). spans (key_numbers plant kinds x.key) n) es e)
+-- the entry of an element's key
+abbrev pub key_entry : Option Range → Option (Range × Unit {0})
+key_entry range = option_map (λ r. (r, tt)) range
 
-pub set-none : (plant : PlantTree) (kinds : List ComparedType) (es : List ElementTree) (e : ElementTree)
-    (xs : Table (Unit {0})) → None ≡ key_numbers plant kinds e.key → IsSetTable plant kinds es xs
-    → IsSetTable plant kinds (es ++ e ∷ []) xs
-set-none plant kinds es e xs is table n =
-    sym (or-false (is_some (first_value xs n)))
-    ∙ ap₂ (λ a b. a || b) (table n) (ap (λ o. spans o n) is)
-    ∙ sym (any-more (λ (x : ElementTree). spans (key_numbers plant kinds x.key) n) es e)
+key_entry-spans : (range : Option Range) (n : ℕ) → is_some (entry_gives (key_entry range) n) ≡ spans (option_map span_of range) n
+key_entry-spans None n = refl
+key_entry-spans (Some r) n = some-cond (in_range r n) tt
+
+pub set-more : (plant : PlantTree) (kinds : List ComparedType) (elements : List Element) (i : ℕ) (e : Element) (range : Option Range)
+    (xs ys : Table (Unit {0})) → i < length elements → e ≡ get_or elements i e
+    → option_map span_of range ≡ key_numbers plant kinds (element_tree e).key
+    → IsSetTable plant kinds (map element_tree (take i elements)) xs → ys ≡ xs ++ cons_option (key_entry range) []
+    → IsSetTable plant kinds (map element_tree (take (i + 1) elements)) ys
+set-more plant kinds elements i e range xs ys inside here is table new n =
+    let has = λ (x : ElementTree). spans (key_numbers plant kinds x.key) n in
+    ap (λ t. is_some (first_value t n)) new
+    ∙ ap is_some (entries-more xs (key_entry range) n)
+    ∙ some-or (first_value xs n) (entry_gives (key_entry range) n)
+    ∙ ap₂ (λ a b. a || b) (table n) (key_entry-spans range n ∙ ap (λ o. spans o n) is ∙ sym (or-false (has (element_tree e))))
+    ∙ sym (list_any-append has (map element_tree (take i elements)) (element_tree e ∷ []))
+    ∙ ap (λ es. elements_have plant kinds es n) (sym (map-more element_tree elements i e inside here))
 
 -- ---- maps
 
@@ -92,45 +93,19 @@ gives-more read plant kind (q ∷ qs) p n =
     ap (option_or (pair_gives read plant kind n q)) (gives-more read plant kind qs p n)
     ∙ or-assoc (pair_gives read plant kind n q) (pairs_give read plant kind qs n) (pair_gives read plant kind n p)
 
-first_value-entry : {V : Type 0} (xs : Table V) (e : Range × V) (n : ℕ)
-    → first_value (xs ++ e ∷ []) n ≡ option_or (first_value xs n) (entry_gives (Some e) n)
-first_value-entry xs e n = first_value-more xs e.0 e.1 n
-
-pub pairs-some : {A : Type 0} (read : DataTree → Option A) (plant : PlantTree) (kind : ComparedType)
-    (ps : List PairTree) (p : PairTree) (xs : Table A) (e : Range × A)
-    → ((n : ℕ) → entry_gives (Some e) n ≡ pair_gives read plant kind n p) → IsTableOf read plant kind ps xs
-    → IsTableOf read plant kind (ps ++ p ∷ []) (xs ++ e ∷ [])
-pairs-some read plant kind ps p xs e gives table n =
-    first_value-entry xs e n
+pub pairs-more : {A : Type 0} (read : DataTree → Option A) (plant : PlantTree) (kind : ComparedType) (pairs : List Pair)
+    (i : ℕ) (p : Pair) (o : Option (Range × A)) (xs ys : Table A) → i < length pairs → p ≡ get_or pairs i p
+    → ((n : ℕ) → entry_gives o n ≡ pair_gives read plant kind n (pair_tree p))
+    → IsTableOf read plant kind (map pair_tree (take i pairs)) xs → ys ≡ xs ++ cons_option o []
+    → IsTableOf read plant kind (map pair_tree (take (i + 1) pairs)) ys
+pairs-more read plant kind pairs i p o xs ys inside here gives table new n =
+    ap (λ t. first_value t n) new
+    ∙ entries-more xs o n
     ∙ ap₂ option_or (table n) (gives n)
-    ∙ sym (gives-more read plant kind ps p n)
-
-pub pairs-none : {A : Type 0} (read : DataTree → Option A) (plant : PlantTree) (kind : ComparedType)
-    (ps : List PairTree) (p : PairTree) (xs : Table A) → ((n : ℕ) → None ≡ pair_gives read plant kind n p)
-    → IsTableOf read plant kind ps xs → IsTableOf read plant kind (ps ++ p ∷ []) xs
-pairs-none read plant kind ps p xs none table n =
-    sym (or-none (first_value xs n))
-    ∙ ap₂ option_or (table n) (none n)
-    ∙ sym (gives-more read plant kind ps p n)
+    ∙ sym (gives-more read plant kind (map pair_tree (take i pairs)) (pair_tree p) n)
+    ∙ ap (λ ps. pairs_give read plant kind ps n) (sym (map-more pair_tree pairs i p inside here))
 
 -- ---- what an element gives
-
-pub entry-none : {A : Type 0} (read : DataTree → Option A) (plant : PlantTree) (kind : ComparedType)
-    (p : PairTree) → None ≡ numbers_of plant kind p.key → (n : ℕ) → None ≡ pair_gives read plant kind n p
-entry-none read plant kind p is n = ap (λ o. cond (spans o n) (read p.value) None) is
-
-cond-none : {A : Type 0} (b : Bool) (o : Option A) → None ≡ o → None ≡ cond b o None
-cond-none true o is = is
-cond-none false o is = refl
-
-pub datum-none : {A : Type 0} (read : DataTree → Option A) (plant : PlantTree) (kind : ComparedType)
-    (p : PairTree) → None ≡ read p.value → (n : ℕ) → None ≡ pair_gives read plant kind n p
-datum-none read plant kind p is n = cond-none (spans (numbers_of plant kind p.key) n) (read p.value) is
-
-pub entry-some : {A : Type 0} (read : DataTree → Option A) (plant : PlantTree) (kind : ComparedType)
-    (p : PairTree) (r : Range) (v : A) → Some (span_of r) ≡ numbers_of plant kind p.key → Some v ≡ read p.value
-    → (n : ℕ) → entry_gives (Some (r, v)) n ≡ pair_gives read plant kind n p
-entry-some read plant kind p r v key datum n = ap₂ (λ o d. cond (spans o n) d None) key datum
 
 map-or : {A B : Type 0} (f : A → B) (a b : Option A)
     → option_map f (option_or a b) ≡ option_or (option_map f a) (option_map f b)
@@ -158,8 +133,3 @@ mapped f read plant kind (p ∷ ps) n =
 -- the verdict of an element
 abbrev pub decides : TableTree → DataTree → Option RuleVerdict
 decides t d = option_map (rule_verdict_of t) (data_verdict d)
-
-pub entry_given : {A : Type 0} (read : DataTree → Option A) (plant : PlantTree) (kind : ComparedType)
-    (ps ps' : List PairTree) (xs : Table A) → ps ≡ ps' → IsTableOf read plant kind ps' xs
-    → IsTableOf read plant kind ps xs
-entry_given read plant kind ps ps' xs is table = subst (λ qs. IsTableOf read plant kind qs xs) (sym is) table

@@ -3,7 +3,6 @@ use Rattle.std.proofs.lemmas.Result.{IfOk-weaker}
 use Rattle.nft_tree.specs.declared.compared_types.ComparedType.TheVariants.{Named}
 use Rattle.nft_tree.specs.Tree as tree
 use Rattle.nft_tree.specs.Tree.{map_ref_tree, pair_tree}
-use Rattle.rule_names.specs.Names.{index_in, map_names}
 use Rattle.rule_types.specs.Types.{map_ref_mismatches}
 use Rattle.lowering.specs.steps.Actions.{HasNumbers}
 use Rattle.lowering.proofs.Kept.{named-numbers, absent-numbers}
@@ -15,7 +14,7 @@ returns-in-Some-clause-gives c =
     (map_ref_tree r) c.in-Some.place) (sym c.in-Named.is)
     (named-numbers c.args.plant.now c.args.names.now c.args.lookups.now c.args.selector c.args.given
     c.in-Named.name.items c.in-Some.place c.requires.read c.requires.declared
-    (sym c.in-Some.is ∙ c.map_index.ensures ∙ ap (λ n. index_in n (map_names c.args.names.now)) c.deref.ensures.value)
+    (cc)
     (subst (λ r. map_ref_mismatches c.args.names.now c.args.selector (Some (Named c.args.given))
     (map_ref_tree r) ≡ false) c.in-Named.is c.requires.types))
 
@@ -26,7 +25,7 @@ returns-in-None-clause-gives c =
     c.args.given (map_ref_tree r) i) (sym c.in-Named.is)
     (absent-numbers c.args.plant.now c.args.names.now c.add_numbers.new.lookups c.args.selector c.args.given
     c.in-Named.name.items i
-    (sym c.in-None.is ∙ c.map_index.ensures ∙ ap (λ n. index_in n (map_names c.args.names.now)) c.deref.ensures.value)
+    (cc)
     (has c.args.names.now)))
     c.add_numbers.ensures.gives
 

@@ -1,7 +1,6 @@
 use Rattle.std.proofs.Common.{sym, ap, subst, ◌∙◌}
 use Rattle.std.proofs.lemmas.Result.{IfOk-weaker}
 use Rattle.nft_tree.specs.Tree.{set_ref_tree}
-use Rattle.rule_names.specs.Names.{index_in, set_names}
 use Rattle.rule_meaning.specs.Sets.{set_has}
 use Rattle.lowering.specs.steps.Actions.{HasSet, scope_of}
 use Rattle.lowering.proofs.Kept.{named-set, absent-set}
@@ -13,7 +12,7 @@ returns-in-Some-clause-has c =
     c.args.selectors.now (set_ref_tree r)) c.in-Some.place) (sym c.in-Named.is)
     (named-set c.args.plant.now c.args.names.now c.args.lookups.now c.args.selectors.now c.in-Named.name.items
     c.in-Some.place c.requires.declared
-    (sym c.in-Some.is ∙ c.set_index.ensures ∙ ap (λ n. index_in n (set_names c.args.names.now)) c.deref.ensures.value))
+    (cc))
 
 pub returns-in-None-clause-has : goal.returns-in-None-clause-has
 returns-in-None-clause-has c =
@@ -22,6 +21,6 @@ returns-in-None-clause-has c =
     (set_has (scope_of c.args.plant.now c.args.names.now) c.args.selectors.now (set_ref_tree r)) i)
     (sym c.in-Named.is)
     (absent-set c.args.plant.now c.args.names.now c.add_set.new.lookups c.args.selectors.now c.in-Named.name.items i
-    (sym c.in-None.is ∙ c.set_index.ensures ∙ ap (λ n. index_in n (set_names c.args.names.now)) c.deref.ensures.value)
+    (cc)
     has))
     c.add_set.ensures.has

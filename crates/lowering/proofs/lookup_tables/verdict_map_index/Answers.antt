@@ -1,7 +1,6 @@
 use Rattle.std.proofs.Common.{◌≡◌, false, None, sym, ap, subst, ◌∙◌}
 use Rattle.std.proofs.lemmas.Result.{IfOk-weaker}
 use Rattle.nft_tree.specs.Tree.{map_ref_tree}
-use Rattle.rule_names.specs.Names.{index_in, map_names}
 use Rattle.rule_types.specs.Types.{map_ref_mismatches}
 use Rattle.lowering.specs.steps.Actions.{HasVerdicts}
 use Rattle.lowering.proofs.Kept.{named-verdicts, absent-verdicts}
@@ -13,7 +12,7 @@ returns-in-Some-clause-gives c =
     (map_ref_tree r) c.in-Some.place) (sym c.in-Named.is)
     (named-verdicts c.args.plant.now c.args.names.now c.args.lookups.now c.args.selector c.in-Named.name.items
     c.in-Some.place c.requires.declared
-    (sym c.in-Some.is ∙ c.map_index.ensures ∙ ap (λ n. index_in n (map_names c.args.names.now)) c.deref.ensures.value)
+    (cc)
     (subst (λ r. map_ref_mismatches c.args.names.now c.args.selector None (map_ref_tree r) ≡ false)
     c.in-Named.is c.requires.types))
 
@@ -24,6 +23,6 @@ returns-in-None-clause-gives c =
     c.args.selector (map_ref_tree r) i) (sym c.in-Named.is)
     (absent-verdicts c.args.plant.now c.args.names.now c.add_verdicts.new.lookups c.args.selector
     c.in-Named.name.items i
-    (sym c.in-None.is ∙ c.map_index.ensures ∙ ap (λ n. index_in n (map_names c.args.names.now)) c.deref.ensures.value)
+    (cc)
     has))
     c.add_verdicts.ensures.gives

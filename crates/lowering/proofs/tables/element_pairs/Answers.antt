@@ -1,36 +1,22 @@
-use Rattle.std.proofs.Common.{◌∙◌, ◌++◌, ◌∷◌, [], sym, ap, subst, map, take, arith}
-use Rattle.std.specs.Option.{option_map}
-use Rattle.list_laws.specs.Lists.{map-more}
+use Rattle.std.proofs.Common.{◌∙◌, ◌++◌, [], sym, ap, arith}
+use Rattle.std.specs.List.{cons_option}
+use Rattle.std.proofs.lemmas.List.{append-nil}
 use Rattle.nft_tree.specs.Tree.{element_tree}
-use Rattle.nft_values.specs.Values.{span_of}
 use Rattle.rule_meaning.specs.Sets.{elements_have}
-use Rattle.lowering.specs.steps.Tables.{IsSetTable}
-use Rattle.lowering.proofs.Gathered.{map-all, set-some, set-none}
+use Rattle.lowering.proofs.Gathered.{key_entry, map-all, set-more}
 use Rattle.lowering.proofs.tables.element_pairs.Goals as goal
 use Rattle.lowering.proofs.tables.element_pairs.Goals.{in-Some+in_ok-push, in_default}
 
 pub loop-element-preserved : goal.loop-element-preserved
 loop-element-preserved c =
-    let plant = c.args.plant.now in
-    let kinds = c.args.kinds.now in
-    let elements = c.args.elements.now in
-    let e = element_tree c.element-item.result in
-    let so_far = map element_tree (take c.loop-element.element-index elements) in
-    let more = map-more element_tree elements c.loop-element.element-index c.element-item.result
-    c.loop-element-test.true c.element-item.is in
+    let more = set-more c.args.plant.now c.args.kinds.now c.args.elements.now c.loop-element.element-index c.element-item.result
+    c.key_numbers.result c.loop-element.pairs.items c.match-key_numbers.pairs.items c.loop-element-test.true c.element-item.is
+    c.key_numbers.ensures c.loop-element.invariant in
     elim c.match-key_numbers.branch [
-      | in-Some+in_ok-push w ↦
-          let new = ap (λ v. v.items) w.pairs-is ∙ w.in_ok-push.ensures.items in
-          let is = ap (option_map span_of) (sym w.in-Some.is) ∙ c.key_numbers.ensures in
-          subst (λ xs. IsSetTable plant kinds xs c.match-key_numbers.pairs.items) (sym more)
-          (subst (IsSetTable plant kinds (so_far ++ e ∷ [])) (sym new)
-          (set-some plant kinds so_far e c.loop-element.pairs.items w.in-Some.range tt is
-          c.loop-element.invariant))
-      | in_default w ↦
-          let is = ap (option_map span_of) (sym w.in_default.is) ∙ c.key_numbers.ensures in
-          subst (λ xs. IsSetTable plant kinds xs c.match-key_numbers.pairs.items) (sym more)
-          (subst (IsSetTable plant kinds (so_far ++ e ∷ [])) (sym (ap (λ v. v.items) w.pairs-is))
-          (set-none plant kinds so_far e c.loop-element.pairs.items is c.loop-element.invariant))
+      | in-Some+in_ok-push w ↦ more (ap (λ v. v.items) w.pairs-is ∙ w.in_ok-push.ensures.items
+          ∙ ap (λ o. c.loop-element.pairs.items ++ cons_option (key_entry o) []) (sym w.in-Some.is))
+      | in_default w ↦ more (ap (λ v. v.items) w.pairs-is ∙ sym (append-nil c.loop-element.pairs.items)
+          ∙ ap (λ o. c.loop-element.pairs.items ++ cons_option (key_entry o) []) (sym w.in_default.is))
     ]
 
 pub returns : goal.returns
