@@ -38,14 +38,10 @@ none-before n bits wide le = only-zero ((n + 1) * 2 ^ bits) n (2 ^ bits) (2 ^ 12
 
 -- ---- the first part and the others
 
-widths : (k : ComparedType) (ks : List ComparedType)
-    → sum_by compared_type_width (k ∷ ks) ≡ compared_type_width k + sum_by compared_type_width ks
-widths k ks = sum_by-cons compared_type_width k ks
-
 width_fits-split : (high : ℕ) (k : ComparedType) (ks : List ComparedType) → FitsIn128Bits high (k ∷ ks)
     → (high + 1) * (2 ^ compared_type_width k * 2 ^ sum_by compared_type_width ks) ≤ 2 ^ 128
 width_fits-split high k ks width_fits = subst (λ (p : ℕ). (high + 1) * p ≤ 2 ^ 128)
-    (ap (λ (w : ℕ). 2 ^ w) (widths k ks) ∙ pow-add 2 (compared_type_width k) (sum_by compared_type_width ks))
+    (ap (λ (w : ℕ). 2 ^ w) (sum_by-cons compared_type_width k ks) ∙ pow-add 2 (compared_type_width k) (sum_by compared_type_width ks))
     width_fits
 
 shrink : (a p q most : ℕ) → 0 < q → a * (p * q) ≤ most → a * p ≤ most
@@ -83,7 +79,7 @@ same-width (Unnamed w) = refl
 same-widths : (ks : List ComparedType) → sum_by rule_types.compared_type_width ks ≡ sum_by compared_type_width ks
 same-widths [] = refl
 same-widths (k ∷ ks) = sum_by-cons rule_types.compared_type_width k ks
-    ∙ ap₂ (λ (a b : ℕ). a + b) (same-width k) (same-widths ks) ∙ sym (widths k ks)
+    ∙ ap₂ (λ (a b : ℕ). a + b) (same-width k) (same-widths ks) ∙ sym (sum_by-cons compared_type_width k ks)
 
 one-times : (p most : ℕ) → p ≤ most → (0 + 1) * p ≤ most
 one-times p most le = omega arith

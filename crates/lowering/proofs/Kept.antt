@@ -14,7 +14,7 @@ use Rattle.nft_tree.specs.ComparedTypes.{selector_compared_type, map_data_compar
 use Rattle.box_file.specs.Box.{PlantTree}
 use Rattle.rule_names.specs.Names.{index_in, set_names, map_names, set_named, map_named}
 use Rattle.rule_types.specs.Types.{same_type, same_compared_type, same_data, map_ref_mismatches, named_map_mismatches}
-use Rattle.rule_meaning.specs.Sets.{elements_have, declared_has, declared_gives, set_has, data_verdict, data_number}
+use Rattle.rule_meaning.specs.Sets.{elements_have, declared_has, declared_gives, map_gives, set_has, data_verdict, data_number}
 use Rattle.rule_meaning.specs.Statements.{rule_verdict_of}
 use Rattle.rule_meaning.specs.declared.event.RuleVerdict.{RuleVerdict}
 use Rattle.rule_code.specs.declared.code.Lookups.{Lookups}
@@ -32,20 +32,21 @@ pub kept-set : (plant : PlantTree) (kinds : List ComparedType) (es : List Elemen
     → HasSet l (elements_have plant kinds es) i
 kept-set plant kinds es l table i is at later grown n = ap (λ o. is_some (lookup_in o n)) (grown.sets i table at) ∙ is n
 
-pub named-set : (plant : PlantTree) (t : TableTree) (l : Lookups) (ss : List Selector) (name : Text) (i : ℕ)
-    → HasDeclared plant t l → Some i ≡ index_in name (set_names t)
-    → HasSet l (set_has (scope_of plant t) ss (tree.named_set name)) i
-named-set plant t l ss name i declared e later grown n =
+pub named-set : (plant : PlantTree) (t : TableTree) (l : Lookups) (ss : List Selector) (r : SetRefTree) (name : Text) (i : ℕ)
+    → r ≡ tree.named_set name → HasDeclared plant t l → Some i ≡ index_in name (set_names t)
+    → HasSet l (set_has (scope_of plant t) ss r) i
+named-set plant t l ss r name i named declared e later grown n =
     let f = found (λ (s : SetTree). s.name) name (sets_of t) i e in
     let has = declared.sets i f.0 f.1 in
     ap (λ o. is_some (lookup_in o n)) (grown.sets i has.0 has.1) ∙ has.2 n ∙ ap (λ o. declared_has plant o n) (sym f.2)
+    ∙ ap (λ r. set_has (scope_of plant t) ss r n) (sym named)
 
-pub absent-set : (plant : PlantTree) (t : TableTree) (l : Lookups) (ss : List Selector) (name : Text) (i : ℕ)
-    → None ≡ index_in name (set_names t) → HasSet l (elements_have plant (map selector_compared_type ss) []) i
-    → HasSet l (set_has (scope_of plant t) ss (tree.named_set name)) i
-absent-set plant t l ss name i e has later grown n =
-    has later grown n ∙ ap (λ o. declared_has plant o n)
-    (sym (absent (λ (s : SetTree). s.name) name (sets_of t) e))
+pub absent-set : (plant : PlantTree) (t : TableTree) (l : Lookups) (ss : List Selector) (r : SetRefTree) (name : Text) (i : ℕ)
+    → r ≡ tree.named_set name → None ≡ index_in name (set_names t)
+    → HasSet l (elements_have plant (map selector_compared_type ss) []) i → HasSet l (set_has (scope_of plant t) ss r) i
+absent-set plant t l ss r name i named e has later grown n =
+    has later grown n ∙ ap (λ o. declared_has plant o n) (sym (absent (λ (s : SetTree). s.name) name (sets_of t) e))
+    ∙ ap (λ r. set_has (scope_of plant t) ss r n) (sym named)
 
 -- ---- types that fit
 
@@ -95,23 +96,25 @@ pub kept-verdicts : (plant : PlantTree) (t : TableTree) (l : Lookups) (s : Selec
 kept-verdicts plant t l s kind ps table i of is at later grown n =
     ap (λ o. lookup_in o n) (grown.verdicts i table at) ∙ subst (λ k. IsVerdictTable plant t k ps table) of is n
 
-pub named-verdicts : (plant : PlantTree) (t : TableTree) (l : Lookups) (s : Selector) (name : Text) (i : ℕ)
-    → HasDeclared plant t l → Some i ≡ index_in name (map_names t)
-    → map_ref_mismatches t s None (tree.named_map name) ≡ false
-    → HasVerdicts plant t l s (tree.named_map name) i
-named-verdicts plant t l s name i declared e fits later grown n =
+pub named-verdicts : (plant : PlantTree) (t : TableTree) (l : Lookups) (s : Selector) (r : MapRefTree) (name : Text) (i : ℕ)
+    → r ≡ tree.named_map name → HasDeclared plant t l → Some i ≡ index_in name (map_names t)
+    → map_ref_mismatches t s None r ≡ false → HasVerdicts plant t l s r i
+named-verdicts plant t l s r name i named declared e fits later grown n =
     let f = found (λ (m : MapTree). m.name) name (maps_of t) i e in
-    let kind = same-none (map_data_compared_type f.0.types) (data-fits t s None name f.0 f.2 fits) in
+    let kind = same-none (map_data_compared_type f.0.types) (data-fits t s None name f.0 f.2
+    (ap (map_ref_mismatches t s None) (sym named) ∙ fits)) in
     let has = subst (HasMap plant t l i f.0) kind (declared.maps i f.0 f.1) in
     ap (λ o. lookup_in o n) (grown.verdicts i has.0 has.1) ∙ has.2 n
     ∙ ap (λ o. option_map (rule_verdict_of t) (declared_gives data_verdict plant o n)) (sym f.2)
+    ∙ ap (λ r. option_map (rule_verdict_of t) (map_gives data_verdict (scope_of plant t) s r n)) (sym named)
 
-pub absent-verdicts : (plant : PlantTree) (t : TableTree) (l : Lookups) (s : Selector) (name : Text) (i : ℕ)
-    → None ≡ index_in name (map_names t) → HasVerdicts plant t l s (tree.pairs []) i
-    → HasVerdicts plant t l s (tree.named_map name) i
-absent-verdicts plant t l s name i e has later grown n =
+pub absent-verdicts : (plant : PlantTree) (t : TableTree) (l : Lookups) (s : Selector) (r : MapRefTree) (name : Text) (i : ℕ)
+    → r ≡ tree.named_map name → None ≡ index_in name (map_names t) → HasVerdicts plant t l s (tree.pairs []) i
+    → HasVerdicts plant t l s r i
+absent-verdicts plant t l s r name i named e has later grown n =
     has later grown n ∙ ap (λ o. option_map (rule_verdict_of t) (declared_gives data_verdict plant o n))
     (sym (absent (λ (m : MapTree). m.name) name (maps_of t) e))
+    ∙ ap (λ r. option_map (rule_verdict_of t) (map_gives data_verdict (scope_of plant t) s r n)) (sym named)
 
 -- ---- maps of numbers
 
@@ -131,23 +134,25 @@ numbers-of plant t l i m types.Address read has = has
 numbers-of plant t l i m given read has = absurd read
 
 pub named-numbers : (plant : PlantTree) (t : TableTree) (l : Lookups) (s : Selector) (given : ValueType)
-    (name : Text) (i : ℕ) → IsNumberType given → HasDeclared plant t l → Some i ≡ index_in name (map_names t)
-    → map_ref_mismatches t s (Some (Named given)) (tree.named_map name) ≡ false
-    → HasNumbers plant t l s given (tree.named_map name) i
-named-numbers plant t l s given name i read declared e fits later grown n =
+    (r : MapRefTree) (name : Text) (i : ℕ) → IsNumberType given → r ≡ tree.named_map name → HasDeclared plant t l
+    → Some i ≡ index_in name (map_names t) → map_ref_mismatches t s (Some (Named given)) r ≡ false
+    → HasNumbers plant t l s given r i
+named-numbers plant t l s given r name i read named declared e fits later grown n =
     let f = found (λ (m : MapTree). m.name) name (maps_of t) i e in
     let kind = same-given given (map_data_compared_type f.0.types) read
-    (data-fits t s (Some (Named given)) name f.0 f.2 fits) in
+    (data-fits t s (Some (Named given)) name f.0 f.2 (ap (map_ref_mismatches t s (Some (Named given))) (sym named) ∙ fits)) in
     let has = numbers-of plant t l i f.0 given read (subst (HasMap plant t l i f.0) kind (declared.maps i f.0 f.1)) in
     ap (λ o. lookup_in o n) (grown.numbers i has.0 has.1) ∙ has.2 n
     ∙ ap (λ o. declared_gives (data_number plant (Named given)) plant o n) (sym f.2)
+    ∙ ap (λ r. map_gives (data_number plant (Named given)) (scope_of plant t) s r n) (sym named)
 
 pub absent-numbers : (plant : PlantTree) (t : TableTree) (l : Lookups) (s : Selector) (given : ValueType)
-    (name : Text) (i : ℕ) → None ≡ index_in name (map_names t) → HasNumbers plant t l s given (tree.pairs []) i
-    → HasNumbers plant t l s given (tree.named_map name) i
-absent-numbers plant t l s given name i e has later grown n =
+    (r : MapRefTree) (name : Text) (i : ℕ) → r ≡ tree.named_map name → None ≡ index_in name (map_names t)
+    → HasNumbers plant t l s given (tree.pairs []) i → HasNumbers plant t l s given r i
+absent-numbers plant t l s given r name i named e has later grown n =
     has later grown n ∙ ap (λ o. declared_gives (data_number plant (Named given)) plant o n)
     (sym (absent (λ (m : MapTree). m.name) name (maps_of t) e))
+    ∙ ap (λ r. map_gives (data_number plant (Named given)) (scope_of plant t) s r n) (sym named)
 
 -- ---- all declarations
 

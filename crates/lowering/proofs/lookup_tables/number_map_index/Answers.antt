@@ -1,32 +1,20 @@
-use Rattle.std.proofs.Common.{◌≡◌, false, map, Some, sym, ap, subst, ◌∙◌}
+use Rattle.std.proofs.Common.{map, sym, ap, subst}
 use Rattle.std.proofs.lemmas.Result.{IfOk-weaker}
-use Rattle.nft_tree.specs.declared.compared_types.ComparedType.TheVariants.{Named}
 use Rattle.nft_tree.specs.Tree as tree
 use Rattle.nft_tree.specs.Tree.{map_ref_tree, pair_tree}
-use Rattle.rule_types.specs.Types.{map_ref_mismatches}
 use Rattle.lowering.specs.steps.Actions.{HasNumbers}
 use Rattle.lowering.proofs.Kept.{named-numbers, absent-numbers}
 use Rattle.lowering.proofs.lookup_tables.number_map_index.Goals as goal
 
 pub returns-in-Some-clause-gives : goal.returns-in-Some-clause-gives
-returns-in-Some-clause-gives c =
-    subst (λ r. HasNumbers c.args.plant.now c.args.names.now c.args.lookups.now c.args.selector c.args.given
-    (map_ref_tree r) c.in-Some.place) (sym c.in-Named.is)
-    (named-numbers c.args.plant.now c.args.names.now c.args.lookups.now c.args.selector c.args.given
-    c.in-Named.name.items c.in-Some.place c.requires.read c.requires.declared
-    (cc)
-    (subst (λ r. map_ref_mismatches c.args.names.now c.args.selector (Some (Named c.args.given))
-    (map_ref_tree r) ≡ false) c.in-Named.is c.requires.types))
+returns-in-Some-clause-gives c = named-numbers c.args.plant.now c.args.names.now c.args.lookups.now c.args.selector c.args.given
+    (map_ref_tree c.args.map.now) c.in-Named.name.items c.in-Some.place c.requires.read (ap map_ref_tree c.in-Named.is)
+    c.requires.declared (cc) c.requires.types
 
 pub returns-in-None-clause-gives : goal.returns-in-None-clause-gives
-returns-in-None-clause-gives c =
-    IfOk-weaker c.add_numbers.result _ _
-    (λ i has. subst (λ r. HasNumbers c.args.plant.now c.args.names.now c.add_numbers.new.lookups c.args.selector
-    c.args.given (map_ref_tree r) i) (sym c.in-Named.is)
-    (absent-numbers c.args.plant.now c.args.names.now c.add_numbers.new.lookups c.args.selector c.args.given
-    c.in-Named.name.items i
-    (cc)
-    (has c.args.names.now)))
+returns-in-None-clause-gives c = IfOk-weaker c.add_numbers.result _ _
+    (λ i has. absent-numbers c.args.plant.now c.args.names.now c.add_numbers.new.lookups c.args.selector c.args.given
+    (map_ref_tree c.args.map.now) c.in-Named.name.items i (ap map_ref_tree c.in-Named.is) (cc) (has c.args.names.now))
     c.add_numbers.ensures.gives
 
 pub returns-in-Anonymous-clause-gives : goal.returns-in-Anonymous-clause-gives
