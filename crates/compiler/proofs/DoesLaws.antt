@@ -73,8 +73,7 @@ module _ (t : TableCode) where
   -- ---- steps
 
   -- the end of a chain takes no statement
-  exec-end : (fuel at_step : ℕ) (stack : List ℕ) (f : Facts) (es : List Event) (ticks : ℕ)
-      → statement_at (slice_get t.steps.items at_step) ≡ None
+  exec-end : (fuel at_step : ℕ) (stack : List ℕ) (f : Facts) (es : List Event) (ticks : ℕ) → statement_at (slice_get t.steps.items at_step) ≡ None
       → exec t fuel at_step stack f es ticks ≡ return_from (exec t fuel) stack f es ticks
   exec-end zero at_step [] f es ticks is = rw is refl
   exec-end (suc n) at_step [] f es ticks is = rw is refl
@@ -86,8 +85,7 @@ module _ (t : TableCode) where
   does-end at_step stack f es is = does-now 0 (λ n before. exec-end n at_step stack f es before is)
 
   pub exec-step : (n at_step : ℕ) (stack : List ℕ) (f : Facts) (es : List Event) (ticks : ℕ) (i : Instruction)
-      → statement_at (slice_get t.steps.items at_step) ≡ Some i
-      → exec t (suc n) at_step stack f es ticks ≡ apply_effect t.chain_offsets.items i.rule
+      → statement_at (slice_get t.steps.items at_step) ≡ Some i → exec t (suc n) at_step stack f es ticks ≡ apply_effect t.chain_offsets.items i.rule
       (action_effect t.lookups i.action f) at_step i.skip (exec t n) stack f es (ticks + 1)
   exec-step n at_step [] f es ticks i is = rw is refl
   exec-step n at_step (q ∷ qs) f es ticks i is = rw is refl

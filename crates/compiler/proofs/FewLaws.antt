@@ -4,8 +4,7 @@ use Rattle.compiler.proofs.Names.{arith, base_cost, base_part, base_sum, chains_
 use Rattle.compiler.proofs.Names.{sum_by, sum_by-cons, sym, table_cost, zip, ℕ, ◌∙◌, ◌∷◌, ◌≡◌, ◌≤◌}
 use Rattle.chain_graph.specs.Measures.{saturated}
 
-part_is : (cost : Caller → ℕ) (name : Text) (head : Option HeadTree)
-    → base_part head (saturated (cost (a_chain name))) ≤ 65536
+part_is : (cost : Caller → ℕ) (name : Text) (head : Option HeadTree) → base_part head (saturated (cost (a_chain name))) ≤ 65536
     → base_part head (saturated (cost (a_chain name))) ≡ base_cost cost name head
 part_is cost name None few = refl
 part_is cost name (Some head) few = omega arith
@@ -30,8 +29,7 @@ parts_are cost (c ∷ cs) few =
 
 -- what the base chains of all tables cost by such numbers is what the ruleset costs
 pub ruleset_is : (cost : TableTree → Caller → ℕ) (ts : List TableTree) (rows : List (List ℕ))
-    → length rows ≡ length ts → ((i : ℕ) (t : TableTree) → slice_get ts i ≡ Some t
-    → AreChainCosts t (get_or rows i [])) → AreAllCosts ts cost
+    → length rows ≡ length ts → ((i : ℕ) (t : TableTree) → slice_get ts i ≡ Some t → AreChainCosts t (get_or rows i [])) → AreAllCosts ts cost
     → ruleset_sum ts rows ≤ 65536 → ruleset_sum ts rows ≡ ruleset_cost cost ts
 ruleset_is cost [] rows long each all few = refl
 ruleset_is cost (t ∷ ts) [] long each all few = absurd (omega arith)

@@ -1,6 +1,6 @@
 -- What is left of a chain: the rules that are left out of it never match a packet that gets to them.
-use Rattle.compiler.proofs.Names.{◌*◌, ◌+◌, ◌<◌, AllZip, AreLeft, Bool, ChainTree, Facts, IsDropped, IsLeft, IsShadowed, LeadsTo, LeavesOut, LeavesOutOf, List}
-use Rattle.compiler.proofs.Names.{MatchTree, NeverMatches, None, Option, PlantTree, Program, Some, Statement, TableTree, VerdictTree, [], ◌^◌, always_ends}
+use Rattle.compiler.proofs.Names.{◌*◌, ◌+◌, ◌<◌, AllZip, AreLeft, Bool, ChainTree, FailsAt, Facts, IsDropped, IsLeft, IsShadowed, LeadsTo, LeavesOut, LeavesOutOf, List}
+use Rattle.compiler.proofs.Names.{MatchTree, None, Option, PlantTree, Program, Some, Statement, TableTree, VerdictTree, [], ◌^◌, always_ends}
 use Rattle.compiler.proofs.Names.{any_facts, ap, arith, behind, below_more, cases_lt, chains_of, ends_chain, false, false_from_ne_true, false≢true, get_or}
 use Rattle.compiler.proofs.Names.{goes_on, if◌then◌else◌, inl, inr, left_program, left_statements, length, lists, map, merged_selector, none-some, option_map}
 use Rattle.compiler.proofs.Names.{passes_if, refl, rule_at, rules_in, same_Some, slice_get, subst, suc, sym, table_program, true, zero, ℕ, ◌∙◌, ◌∷◌, ◌≡◌, ◌≤◌}
@@ -29,8 +29,7 @@ tests-as : (o : Option ℕ) (p q : ℕ → Bool) → ((n : ℕ) → p n ≡ q n)
 tests-as None p q same = refl
 tests-as (Some n) p q same = same n
 
-as-listed : (f : Facts) (x s : Selector) (p q : ℕ → Bool) → ((n : ℕ) → p n ≡ q n) → Some x ≡ Some s
-    → tests (value x f) p ≡ tests (value s f) q
+as-listed : (f : Facts) (x s : Selector) (p q : ℕ → Bool) → ((n : ℕ) → p n ≡ q n) → Some x ≡ Some s → tests (value x f) p ≡ tests (value s f) q
 as-listed f x s p q same is = tests-as (value x f) p q same ∙ ap (λ y. tests (value y f) q) (same_Some x s is)
 
 -- a concatenation of one value is that value
@@ -41,10 +40,8 @@ joined-one (Some n) width p = let same : 0 * 2 ^ width + n ≡ n = omega arith i
 -- a match that lists values of a selector holds where the selector's value is one of them
 pub holds-as : (scope : Scope) (m : MatchTree) (s : Selector) (f : Facts) → asked_selector m ≡ Some s
     → holds scope m f ≡ tests (value s f) (asks_for scope.plant m)
-holds-as scope (tree.compare x operators.Equal r) s f is =
-    as-listed f x s _ _ (compares-as (numbers_of scope.plant (selector_compared_type x) r)) is
-holds-as scope (tree.is_in (x ∷ []) (tree.elements es)) s f is =
-    joined-one (value x f) (selector_width x) (set_has scope (x ∷ []) (tree.elements es))
+holds-as scope (tree.compare x operators.Equal r) s f is = as-listed f x s _ _ (compares-as (numbers_of scope.plant (selector_compared_type x) r)) is
+holds-as scope (tree.is_in (x ∷ []) (tree.elements es)) s f is = joined-one (value x f) (selector_width x) (set_has scope (x ∷ []) (tree.elements es))
     ∙ as-listed f x s _ _ (λ n. refl) is
 holds-as scope (tree.bits field bit_tests.Exactly words) s f is = as-listed f (bit_selector field) s _ _ (λ n. refl) is
 holds-as scope (tree.exact_flags fs) s f is = as-listed f selectors.TcpFlags s _ _ (λ n. refl) is
@@ -58,8 +55,7 @@ record IsMatchAndVerdict (r : List Statement) (s : Selector) : Type 0 where
   ends : ends_chain verdict ≡ true
   asks : asked_selector test ≡ Some s
 
-shape-by : (m : MatchTree) (v : VerdictTree) (s : Selector) (b : Bool) → ends_chain v ≡ b
-    → (if b then asked_selector m else None) ≡ Some s
+shape-by : (m : MatchTree) (v : VerdictTree) (s : Selector) (b : Bool) → ends_chain v ≡ b → (if b then asked_selector m else None) ≡ Some s
     → IsMatchAndVerdict (tree.matching m ∷ tree.verdict v ∷ []) s
 shape-by m v s true ends is = record { test = m; verdict = v; is = refl; ends = ends; asks = is }
 shape-by m v s false ends is = absurd (none-some s is)
@@ -96,10 +92,6 @@ module _ (plant : PlantTree) (number : ℕ) (t : TableTree) where
   by-match c n v f g true ends to = absurd (no-way-past c n 2 v [] f g ends to)
   by-match c n v f g false ends to = (to, refl)
 
-  never-there : (Reach : Facts → Type 0) (c n : ℕ) (r : List Statement) → ((f : Facts) → Reach f → ⊥) → NeverMatches own Reach c n 1 r
-  never-there Reach c n [] none = tt
-  never-there Reach c n (s ∷ ss) none = λ f here. absurd (none f here)
-
   -- the rules of a chain, the rule at an index
   module _ (rules : List (List Statement)) where
     abbrev at : ℕ → List Statement
@@ -131,10 +123,8 @@ module _ (plant : PlantTree) (number : ℕ) (t : TableTree) where
       on = below_more (λ i. always_ends (at i) ≡ true → ⊥) k so.on goes;
       missed = λ s x has i before merged.
           let its = here s x (merged k (omega arith) (omega arith)) has in
-          ⊎_elim
-          (λ early. so.missed s x its.0 i early (λ m from to. merged m from (omega arith)))
-          (λ from. let at_k : k ≡ i = omega arith in subst (λ m. lists plant (at m) x ≡ true → ⊥) at_k its.1)
-          (cases_lt i k);
+          ⊎_elim (λ early. so.missed s x its.0 i early (λ m from to. merged m from (omega arith)))
+          (λ from. let at_k : k ≡ i = omega arith in subst (λ m. lists plant (at m) x ≡ true → ⊥) at_k its.1) (cases_lt i k);
     }
 
     reaches-more : (k c n : ℕ) (f g : Facts) → Reaches k f → LeadsTo own c n 1 (at k) f g → Reaches (k + 1) g
@@ -157,32 +147,28 @@ module _ (plant : PlantTree) (number : ℕ) (t : TableTree) where
         (has, untaken k f d so x (subst (λ y. value y f ≡ Some x) same has)))
 
     -- no packet matches a rule that is dropped
-    never-by : (k : ℕ) (Reach : Facts → Type 0) (c n : ℕ) → IsDropped plant rules k → ((f : Facts) → Reach f → Reaches k f)
-        → NeverMatches own Reach c n 1 (at k)
-    never-by k Reach c n (inl u) so = never-there Reach c n (at k) (λ f here. (so f here).on u.by u.earlier u.ends)
-    never-by k Reach c n (inr d) so =
+    never-by : (k c n : ℕ) (f : Facts) → IsDropped plant rules k → Reaches k f → FailsAt own c n 1 (at k) f
+    never-by k c n f (inl u) so = absurd (so.on u.by u.earlier u.ends)
+    never-by k c n f (inr d) so =
         let q = shape (at k) d.selector d.reads in
-        subst (NeverMatches own Reach c n 1) (sym q.is) (λ f here.
-        ap passes_if (holds-as scope q.test d.selector f q.asks
+        subst (λ ss. FailsAt own c n 1 ss f) (sym q.is) (ap passes_if (holds-as scope q.test d.selector f q.asks
         ∙ tests-false (value d.selector f) (asks_for plant q.test) (λ x has asks.
-        untaken k f d (so f here) x has (ap (λ ss. lists plant ss x) q.is ∙ asks))))
+        untaken k f d so x has (ap (λ ss. lists plant ss x) q.is ∙ asks))))
 
     -- ---- rule by rule
 
     left-by : (k n c : ℕ) (r : List Statement) (rs : List (List Statement)) (l : Option (List Statement))
         (ls : List (List Statement)) (Reach : Facts → Type 0) → r ≡ at k → IsLeft plant rules k l
         → ((f : Facts) → Reach f → Reaches k f) → ((Next : Facts → Type 0) → ((f : Facts) → Next f → Reaches (k + 1) f)
-        → LeavesOut own Next c (n + 1) rs ls)
-        → LeavesOut own Reach c n (r ∷ rs) (left_statements l ∷ ls)
+        → LeavesOut own Next c (n + 1) rs ls) → LeavesOut own Reach c n (r ∷ rs) (left_statements l ∷ ls)
     left-by k n c r rs None ls Reach rule is so later = inr (
       refl,
-      subst (NeverMatches own Reach c n 1) (sym rule) (never-by k Reach c n is so),
+      λ f here. subst (λ ss. FailsAt own c n 1 ss f) (sym rule) (never-by k c n f is (so f here)),
       later Reach (λ f here. dropped-more k f is (so f here)),
     )
     left-by k n c r rs (Some kept) ls Reach rule is so later = inl (
       is.0 ∙ sym rule,
-      later (behind own Reach c n r) (λ g way. reaches-more k c n way.0 g (so way.0 way.1)
-          (subst (λ ss. LeadsTo own c n 1 ss way.0 g) rule way.2)),
+      later (behind own Reach c n r) (λ g way. reaches-more k c n way.0 g (so way.0 way.1) (subst (λ ss. LeadsTo own c n 1 ss way.0 g) rule way.2)),
     )
 
     leaves : (k n c : ℕ) (rs : List (List Statement)) (ls : List (Option (List Statement))) (Reach : Facts → Type 0)
@@ -204,15 +190,11 @@ module _ (plant : PlantTree) (number : ℕ) (t : TableTree) where
   zero-more : (n : ℕ) → n ≡ 0 + n
   zero-more n = omega arith
 
-  leaves-of : (c i : ℕ) (chains : List ChainTree) (left : List (List (Option (List Statement))))
-      → AllZip (λ chain ls. AreLeft plant (rules_in chain) ls) chains left
-      → LeavesOutOf own c (option_map rules_in (slice_get chains i))
-      (option_map (map left_statements) (slice_get left i))
-  leaves-of c i [] [] all = record {
-    left = λ rules is. absurd (none-some rules is);
-    whole = λ rest is. absurd (none-some rest is);
-  }
-  leaves-of c zero (chain ∷ chains) (ls ∷ left) all =
+  leaves-of : (c i : ℕ) (chains : List ChainTree) (left : List (List (Option (List Statement)))) (rules : List (List Statement))
+      → AllZip (λ chain ls. AreLeft plant (rules_in chain) ls) chains left → option_map rules_in (slice_get chains i) ≡ Some rules
+      → LeavesOutOf own c rules (option_map (map left_statements) (slice_get left i))
+  leaves-of c i [] [] rules all is = absurd (none-some rules is)
+  leaves-of c zero (chain ∷ chains) (ls ∷ left) rules all is =
       let kept = map left_statements ls in
       let out : LeavesOut own any_facts c 1 (rules_in chain) kept =
       leaves (rules_in chain) 0 1 c (rules_in chain) ls any_facts all.0.same_length (λ i. ap (λ m. get_or (rules_in chain) m []) (zero-more i))
@@ -220,18 +202,12 @@ module _ (plant : PlantTree) (number : ℕ) (t : TableTree) where
         on = λ i lt. absurd (omega arith);
         missed = λ s x has i lt. absurd (omega arith);
       }) in
-      record {
-        left = λ rules is.
-            (kept, refl, subst (λ rs. LeavesOut own any_facts c 1 rs kept) (same_Some (rules_in chain) rules is) out);
-        whole = λ rest is.
-            (rules_in chain, refl, subst (LeavesOut own any_facts c 1 (rules_in chain)) (same_Some kept rest is) out);
-      }
-  leaves-of c (suc i) (chain ∷ chains) (ls ∷ left) all = leaves-of c i chains left all.1
-  leaves-of c i chains left all = absurd all
+      (kept, refl, subst (λ rs. LeavesOut own any_facts c 1 rs kept) (same_Some (rules_in chain) rules is) out)
+  leaves-of c (suc i) (chain ∷ chains) (ls ∷ left) rules all is = leaves-of c i chains left rules all.1 is
+  leaves-of c i chains left rules all is = absurd all
 
   -- the rules that are dropped are left out of the program
-  pub left-leaves : (left : List (List (Option (List Statement))))
-      → AllZip (λ chain ls. AreLeft plant (rules_in chain) ls) (chains_of t) left
-      → (c : ℕ) → LeavesOutOf own c (own.rules_at c)
-      ((left_program plant number t left).rules_at c)
-  left-leaves left all c = leaves-of c c (chains_of t) left all
+  pub left-leaves : (left : List (List (Option (List Statement)))) → AllZip (λ chain ls. AreLeft plant (rules_in chain) ls) (chains_of t) left
+      → (c : ℕ) (rules : List (List Statement)) → own.rules_at c ≡ Some rules
+      → LeavesOutOf own c rules ((left_program plant number t left).rules_at c)
+  left-leaves left all c rules is = leaves-of c c (chains_of t) left rules all is

@@ -1,13 +1,11 @@
 pub mod Names
 pub mod TableLaws
-pub mod DroppingLaws
 pub mod LeftLaws
 pub mod StartLaws
 pub mod OrderLaws
 pub mod TotalLaws
 pub mod FewLaws
 pub mod DoesLaws
-pub mod LayoutLaws
 pub mod Simulation
 pub mod BaseLaws
 pub mod AgreementLaws

@@ -7,7 +7,7 @@ pub use Rattle.code_layout.specs.DroppedRules.{AreLeft, IsDropped, IsLeft, IsSha
 pub use Rattle.compiler.specs.Compiled.{StartHead, base_chain_head, cost_in, start_cost, start_head, total_cost}
 pub use Rattle.compiler.specs.declared.compiled_chain.CompiledChain.{CompiledChain}
 pub use Rattle.compiler.specs.steps.Bases.{AddsBases, HasCost, Ordered, base, runs_on_hook}
-pub use Rattle.compiler.specs.steps.Dropping.{LeadsTo, LeavesOut, LeavesOutOf, NeverMatches, any_facts, behind, goes_on}
+pub use Rattle.compiler.specs.steps.Dropping.{FailsAt, LeadsTo, LeavesOut, LeavesOutOf, any_facts, behind, goes_on}
 pub use Rattle.filter_vm.specs.Machine.{Continuation, Stop, apply_effect, base_chain_result, call, enter_chain, exec, invalid_code, return_from, run_table}
 pub use Rattle.filter_vm.specs.Machine.{starts_of, stop}
 pub use Rattle.filter_vm.specs.declared.code.Code.{Code}

@@ -8,29 +8,19 @@ use Rattle.std.proofs.lemmas.List.Folds.{Any-from_list_any}
 
 -- ---- a list and what it shows
 
-pub sorted_shown : {A B : Type 0} (f : A → B) (lt : B → B → Bool) (xs : List A)
-    → IsSortedBy (λ a b. lt (f a) (f b)) xs → IsSortedBy lt (map f xs)
+pub sorted_shown : {A B : Type 0} (f : A → B) (lt : B → B → Bool) (xs : List A) → IsSortedBy (λ a b. lt (f a) (f b)) xs → IsSortedBy lt (map f xs)
 sorted_shown f lt [] rising k d low high = absurd (omega arith)
 sorted_shown f lt (x ∷ xs) rising k d low high =
     let n = length-map (x ∷ xs) f in
-    ap₂ lt (get_or-map f (x ∷ xs) (k + 1) x d (omega arith)) (get_or-map f (x ∷ xs) k x d (omega arith))
-    ∙ rising k x low (omega arith)
+    ap₂ lt (get_or-map f (x ∷ xs) (k + 1) x d (omega arith)) (get_or-map f (x ∷ xs) k x d (omega arith)) ∙ rising k x low (omega arith)
 
-cond_shown : {A B : Type 0} (f : A → B) (b : Bool) (x : A) (xs : List A)
-    → map f (cond b (x ∷ xs) xs) ≡ cond b (f x ∷ map f xs) (map f xs)
-cond_shown f true x xs = refl
-cond_shown f false x xs = refl
-
-pub filter_shown : {A B : Type 0} (f : A → B) (p : B → Bool) (xs : List A)
-    → map f (filter (λ x. p (f x)) xs) ≡ filter p (map f xs)
+pub filter_shown : {A B : Type 0} (f : A → B) (p : B → Bool) (xs : List A) → map f (filter (λ x. p (f x)) xs) ≡ filter p (map f xs)
 filter_shown f p [] = refl
-filter_shown f p (x ∷ xs) = cond_shown f (p (f x)) x (filter (λ y. p (f y)) xs)
-    ∙ ap (λ ys. cond (p (f x)) (f x ∷ ys) ys) (filter_shown f p xs)
+filter_shown f p (x ∷ xs) = grind (arith, filter_shown f p xs)
 
 none_passes : {A : Type 0} (p : A → Bool) (xs : List A) → list_any p xs ≡ false → filter p xs ≡ []
 none_passes p [] none = refl
-none_passes p (x ∷ xs) none =
-    let parts = or_parts (p x) (list_any p xs) none in rw parts.0 (none_passes p xs parts.1)
+none_passes p (x ∷ xs) none = grind (arith, none_passes p xs)
 
 -- ---- equal priorities
 
@@ -39,8 +29,7 @@ both_false false false h = refl
 both_false a b h = absurd (false≢true h)
 
 tied : (a b : BaseChain) → ties runs_before a b ≡ true → priority a ≡ priority b
-tied a b h = int_ranked (priority a) (priority b) Equal
-    (sym (both_false (int_lt (priority a) (priority b)) (int_lt (priority b) (priority a)) h))
+tied a b h = int_ranked (priority a) (priority b) Equal (sym (both_false (int_lt (priority a) (priority b)) (int_lt (priority b) (priority a)) h))
 
 abbrev ties_with : BaseChain → CompiledChain → Bool
 ties_with b x = ties runs_before b (base x)
@@ -55,8 +44,7 @@ module _ (b : BaseChain) (xs ys : List CompiledChain) (moved : IsPermutation xs 
       let same : priority b ≡ priority (base x) = tied b (base x) found.4 in
       let alike : (y : CompiledChain) → ties_with b y ≡ ties by_priority x y =
       λ y. ap (λ p. not (int_lt p (priority (base y))) && not (int_lt (priority (base y)) p)) same in
-      filter_agree (ties_with b) (ties by_priority x) alike ys ∙ stable x
-      ∙ sym (filter_agree (ties_with b) (ties by_priority x) alike xs)
+      filter_agree (ties_with b) (ties by_priority x) alike ys ∙ stable x ∙ sym (filter_agree (ties_with b) (ties by_priority x) alike xs)
   stays_if false none = none_passes (ties_with b) ys
       (sym (list_any-IsPermutation (ties_with b) xs ys moved) ∙ none) ∙ sym (none_passes (ties_with b) xs none)
 

@@ -1,34 +1,70 @@
--- The machine simulates the rules: it has their result, in at most as many statements as they weigh.
-use Rattle.compiler.proofs.Names.{◌+◌, Continuation, Event, Facts, IsCode, IsRanking, IsStatementOf, List, Program, Remainder, RulesAt, RunResult, Runs, Some}
-use Rattle.compiler.proofs.Names.{StatementEffect, Stop, TableCode, [], accepts, action_effect, ap, apply_effect, arith, at_rule, chain_ends, continues, drops}
-use Rattle.compiler.proofs.Names.{enter_chain, exec, fails, give, goes, in_rule, jumps, jumps_away, length, next_rule, notes, passes, refl, returns, rule_ends}
-use Rattle.compiler.proofs.Names.{rule_no, slice_get, statement_position, subst, suc, sum_by, sum_by-cons, translates, with_verdict, ℕ, ◌∙◌, ◌∷◌, ◌≡◌, ◌≤◌}
+-- The machine simulates the rules, by code without the rules that never match: it has their result, in at most as many
+-- statements as the rules weigh.
+use Rattle.compiler.proofs.Names.{◌+◌, Contains, Contains-head, Contains-tail, Continuation, Event, Facts, FailsAt, IsCode, IsRanking, IsStatementOf, LeadsTo}
+use Rattle.compiler.proofs.Names.{LeavesOut, LeavesOutOf, List, None, Option, Program, Remainder, RulesAt, RunResult, Runs, Some, StatementEffect, StatementsAt}
+use Rattle.compiler.proofs.Names.{Stop, TableCode, [], accepts, action_effect, any_facts, ap, apply_effect, arith, at_rule, behind, chain_ends, continues, drops}
+use Rattle.compiler.proofs.Names.{enter_chain, exec, fail, fails, give, goes, goes_on, in_rule, inl, inr, jumps, jumps_away, length, next_rule, notes, passes, refl}
+use Rattle.compiler.proofs.Names.{returns, rule_ends, rule_no, slice_get, statement_at, statement_position, subst, suc, sum_by, sum_by-cons, sym, translates}
+use Rattle.compiler.proofs.Names.{with_verdict, ℕ, ◌∙◌, ◌∷◌, ◌≡◌, ◌≤◌}
 use Rattle.rule_meaning.specs.declared.event.RuleVerdict.TheVariants.{Jump, Goto}
 use Rattle.compiler.proofs.DoesLaws.{Does, does-as, does-now, does-over, does-then, does-end, exec-step, calls, finish}
-use Rattle.compiler.proofs.LayoutLaws.{weighs, LeftIn, LeftAt, rules-in}
 
-module _ {S : Type 0} (p : Program S) (t : TableCode) (weight : S → ℕ) (cost depth : ℕ → ℕ) (code : IsCode p t)
-    (costs_rank_chains : IsRanking p weight cost depth) where
-  -- the code of the rest of a chain has the result of the rest
-  abbrev pub Follows : ℕ → ℕ → Remainder S → Facts → List Event → RunResult → Type 0
-  Follows c n left f es o = (at_step : ℕ) → LeftAt p t at_step c n left → LeftIn p c left → (stack : List ℕ)
-      → length stack + depth c ≤ 16 → Does t (weighs weight left) (λ go. go at_step stack f es) stack o
+module _ {S : Type 0} (p : Program S) (left_at : ℕ → Option (List (List S))) (t : TableCode) (weight : S → ℕ) (cost depth : ℕ → ℕ) where
+  -- the program that is left
+  abbrev pub left_program : Program S
+  left_program = record { table = p.table; rules_at = left_at; effect_of = p.effect_of }
+
+  -- these statements, these rules belong to the chain
+  abbrev pub AllIn : ℕ → List S → Type 0
+  AllIn c ss = (s : S) → Contains ss s → IsStatementOf p c s
+
+  -- what the statements of these rules weigh
+  abbrev pub rules_weigh : List (List S) → ℕ
+  rules_weigh = sum_by (sum_by weight)
+
+  -- of these rules of a chain, which packets with such facts reach, the code of what is left begins at the offset
+  pub record Behind (Reach : Facts → Type 0) (c n : ℕ) (rs : List (List S)) (at_step : ℕ) (stack : List ℕ) : Type 0 where
+    pub left : List (List S)
+    pub out : LeavesOut p Reach c n rs left
+    pub code : RulesAt left_program t at_step c n left
+    pub inside : (r : List S) → Contains rs r → AllIn c r
+    pub room : length stack + depth c ≤ 16
+
+  -- a packet gets to these rules
+  pub record AtRules (c n : ℕ) (rs : List (List S)) (f : Facts) (at_step : ℕ) (stack : List ℕ) : Type 1 where
+    pub Reach : Facts → Type 0
+    pub here : Reach f
+    pub rest : Behind Reach c n rs at_step stack
+
+  -- it gets to these statements of a rule, which is left
+  pub record AtStatements (c n k : ℕ) (ss : List S) (rs : List (List S)) (f : Facts) (at_step : ℕ) (stack : List ℕ) : Type 1 where
+    pub Reach : Facts → Type 0
+    pub to : (g : Facts) → LeadsTo p c n k ss f g → Reach g
+    pub statements : StatementsAt left_program t at_step c n k ss
+    pub own : AllIn c ss
+    pub rest : Behind Reach c (n + 1) rs (at_step + length ss) stack
+
+  -- the code of the rest of a chain has the result of the rest, also where the rule is left out
+  abbrev pub Follows : ℕ → ℕ → Remainder S → Facts → List Event → RunResult → Type 1
+  Follows c n (at_rule rs) f es o = (at_step : ℕ) (stack : List ℕ) → AtRules c n rs f at_step stack
+      → Does t (rules_weigh rs) (λ go. go at_step stack f es) stack o
+  Follows c n (in_rule k ss rs) f es o = ((at_step : ℕ) (stack : List ℕ) → AtStatements c n k ss rs f at_step stack
+      → Does t (sum_by weight ss + rules_weigh rs) (λ go. go at_step stack f es) stack o)
+      × (FailsAt p c n k ss f → (at_step : ℕ) (stack : List ℕ) → AtRules c (n + 1) rs f at_step stack
+      → Does t (sum_by weight ss + rules_weigh rs) (λ go. go at_step stack f es) stack o)
 
   -- statement k, with this effect, after which so many follow
   abbrev Doing : ℕ → ℕ → StatementEffect → ℕ → ℕ → List ℕ → Facts → List Event → Continuation → ℕ → Stop
-  Doing c n w at_step left stack f es go = apply_effect t.chain_offsets.items (rule_no p c n) w at_step left go
-      stack f es
+  Doing c n w at_step left stack f es go = apply_effect t.chain_offsets.items (rule_no p c n) w at_step left go stack f es
 
-  -- a statement, by its effect, and what follows it
-  first : {c n k : ℕ} {s : S} {w : StatementEffect} {stack : List ℕ} {f : Facts} {es : List Event}
-      {o : RunResult} (ss : List S) (rs : List (List S)) (less at_step : ℕ)
-      → suc less ≤ weight s + sum_by weight ss + sum_by (sum_by weight) rs
-      → LeftAt p t at_step c n (in_rule k (s ∷ ss) rs) → p.effect_of (statement_position p c n k) s f ≡ w
-      → Does t less (Doing c n w at_step (length ss) stack f es) stack o
-      → Does t (weighs weight (in_rule k (s ∷ ss) rs)) (λ go. go at_step stack f es) stack o
-  first {c} {n} {s = s} {w = w} {stack = stack} {f = f} {es = es} {o = o} ss rs less at_step fits holds effect_of d =
-      let i = holds.0.0.0 in
-      let is = holds.0.0.2 in
+  -- a statement, by its effect, and what follows it; nothing is left out of a rule with a statement that doesn't fail
+  first : {c n k : ℕ} {s : S} {w : StatementEffect} {stack : List ℕ} {f : Facts} {es : List Event} {o : RunResult} (ss : List S) (rs : List (List S))
+      (less at_step : ℕ) → suc less ≤ weight s + sum_by weight ss + rules_weigh rs → AtStatements c n k (s ∷ ss) rs f at_step stack
+      → p.effect_of (statement_position p c n k) s f ≡ w → Does t less (Doing c n w at_step (length ss) stack f es) stack o
+      → Does t (sum_by weight (s ∷ ss) + rules_weigh rs) (λ go. go at_step stack f es) stack o
+  first {c} {n} {s = s} {w = w} {stack = stack} {f = f} {es = es} {o = o} ss rs less at_step fits h effect_of d =
+      let i = h.statements.0.0 in
+      let is = h.statements.0.2 in
       let its = is.effect f ∙ effect_of in
       record {
         used = suc d.used;
@@ -37,104 +73,172 @@ module _ {S : Type 0} (p : Program S) (t : TableCode) (weight : S → ℕ) (cost
             let go = exec t (d.used + extra) in
             let ticks : d.used + (before + 1) ≡ suc d.used + before = omega arith in
             let fuel : suc d.used + extra ≡ suc (d.used + extra) = omega arith in
-            ap (λ m. exec t m at_step stack f es before) fuel ∙ exec-step t (d.used + extra) at_step stack f es before i holds.0.0.1
-            ∙ ap (λ r. apply_effect t.chain_offsets.items r (action_effect t.lookups i.action f) at_step i.skip go stack f es
-            (before + 1)) is.rule
+            ap (λ m. exec t m at_step stack f es before) fuel ∙ exec-step t (d.used + extra) at_step stack f es before i h.statements.0.1
+            ∙ ap (λ r. apply_effect t.chain_offsets.items r (action_effect t.lookups i.action f) at_step i.skip go stack f es (before + 1)) is.rule
             ∙ ap (λ x. apply_effect t.chain_offsets.items (rule_no p c n) x at_step i.skip go stack f es (before + 1)) its
             ∙ ap (λ x. Doing c n w at_step x stack f es go (before + 1)) is.skip
             ∙ d.same extra (before + 1) ∙ ap (finish (exec t extra) stack o) ticks;
       }
 
-  -- the next rule is after the statements
-  behind : (c n at_step : ℕ) (s : S) (ss : List S) (rs : List (List S))
-      → RulesAt p t (at_step + length (s ∷ ss)) c n rs → RulesAt p t (at_step + 1 + length ss) c n rs
-  behind c n at_step s ss rs holds =
-      let same : at_step + length (s ∷ ss) ≡ at_step + 1 + length ss = omega arith in subst (λ x. RulesAt p t x c n rs) same holds
+  -- where the effect of a statement leads: to the next statement, or to the next rule
+  next-statement : {c n k : ℕ} {s : S} {w : StatementEffect} {f : Facts} {at_step : ℕ} {stack : List ℕ} (ss : List S) (rs : List (List S)) (g : Facts)
+      → p.effect_of (statement_position p c n k) s f ≡ w → ((x : Facts) → LeadsTo p c n (k + 1) ss g x → goes_on w (LeadsTo p c n (k + 1) ss) f x)
+      → AtStatements c n k (s ∷ ss) rs f at_step stack → AtStatements c n (k + 1) ss rs g (at_step + 1) stack
+  next-statement {c} {n} {k} {s} {f = f} {at_step} {stack} ss rs g is on h =
+      let place : at_step + length (s ∷ ss) ≡ at_step + 1 + length ss = omega arith in
+      record {
+        Reach = h.Reach;
+        to = λ x way. h.to x (subst (λ w. goes_on w (LeadsTo p c n (k + 1) ss) f x) (sym is) (on x way));
+        statements = h.statements.1;
+        own = λ x i. h.own x (Contains-tail s ss x i);
+        rest = subst (λ a. Behind h.Reach c (n + 1) rs a stack) place h.rest;
+      }
 
-  -- a statement that is the last
-  last : {c n k : ℕ} {s : S} {w : StatementEffect} {stack : List ℕ} {f : Facts} {es : List Event}
-      {o : RunResult} (ss : List S) (rs : List (List S)) (at_step : ℕ)
-      → LeftAt p t at_step c n (in_rule k (s ∷ ss) rs) → p.effect_of (statement_position p c n k) s f ≡ w
-      → ((m ticks : ℕ) → Doing c n w at_step (length ss) stack f es (exec t m) ticks ≡ finish (exec t m) stack o ticks)
-      → Does t (weighs weight (in_rule k (s ∷ ss) rs)) (λ go. go at_step stack f es)
-      stack o
-  last {s = s} ss rs at_step holds effect_of is = first ss rs 0 at_step
-      (omega (arith, costs_rank_chains.some s)) holds effect_of (does-now t 0 is)
+  next-rule : {c n k : ℕ} {s : S} {w : StatementEffect} {f : Facts} {at_step : ℕ} {stack : List ℕ} (ss : List S) (rs : List (List S)) (g : Facts)
+      → p.effect_of (statement_position p c n k) s f ≡ w → goes_on w (LeadsTo p c n (k + 1) ss) f g
+      → AtStatements c n k (s ∷ ss) rs f at_step stack → AtRules c (n + 1) rs g (at_step + 1 + length ss) stack
+  next-rule {c} {n} {k} {s} {f = f} {at_step} {stack} ss rs g is on h =
+      let place : at_step + length (s ∷ ss) ≡ at_step + 1 + length ss = omega arith in
+      let here = h.to g (subst (λ w. goes_on w (LeadsTo p c n (k + 1) ss) f g) (sym is) on) in
+      record { Reach = h.Reach; here = here; rest = subst (λ a. Behind h.Reach c (n + 1) rs a stack) place h.rest }
 
-  -- a chain that is entered, up to its end
-  entered : {stack : List ℕ} {o : RunResult} (d : ℕ) (chain : List (List S)) (f : Facts) (es : List Event)
-      → p.rules_at d ≡ Some chain → length stack + depth d ≤ 16 → Follows d 1 (at_rule chain) f es o
-      → Does t (weighs weight (at_rule chain))
-      (λ go. enter_chain go (slice_get t.chain_offsets.items d) stack f es) stack o
-  entered {stack} d chain f es has room follows =
-      let there = code.chains d chain has in
-      does-as t (weighs weight (at_rule chain)) (weighs weight (at_rule chain)) (omega arith) (λ go ticks. ap (λ o. enter_chain go o stack f es ticks) there.1)
-      (follows there.0 there.2 (rules-in p d chain has) stack room)
+  -- nothing is left out of a rule with a statement that doesn't fail
+  only-in : {c n k : ℕ} {s : S} {ss : List S} (rs : List (List S)) {f : Facts} {es : List Event} {o : RunResult} {w : StatementEffect}
+      → p.effect_of (statement_position p c n k) s f ≡ w → (w ≡ fail → ⊥)
+      → ((at_step : ℕ) (stack : List ℕ) → AtStatements c n k (s ∷ ss) rs f at_step stack
+      → Does t (sum_by weight (s ∷ ss) + rules_weigh rs) (λ go. go at_step stack f es) stack o) → Follows c n (in_rule k (s ∷ ss) rs) f es o
+  only-in rs is other does = (does, λ failing at_step stack h. absurd (other (sym is ∙ failing)))
 
-  -- a jump, up to the end of its chain, which weighs less than the statement
-  jumped : {c n k d : ℕ} {s : S} {stack : List ℕ} {f : Facts} {o : RunResult} (es : List Event)
-      (chain : List (List S)) (at_step left : ℕ) → IsStatementOf p c s
-      → p.effect_of (statement_position p c n k) s f ≡ give (Jump d) → p.rules_at d ≡ Some chain
-      → length stack + depth c ≤ 16 → Follows d 1 (at_rule chain) f (with_verdict p es c n (Jump d)) o
-      → (suc (sum_by (sum_by weight) chain) ≤ weight s) × Does t (weighs weight (at_rule chain))
-      (Doing c n (give (Jump d)) at_step left stack f es) ((at_step + 1 + left) ∷ stack) o
-  jumped {c} {n} {k} {d} {s} {stack} {f} es chain at_step left inside effect_of has room follows =
-      let falls = costs_rank_chains.jumps c d s (statement_position p c n k) f inside effect_of in
-      let less = falls.0 in
-      let deep = falls.1 in (
-        omega (arith, costs_rank_chains.sums d chain has),
-        does-as t (weighs weight (at_rule chain)) (weighs weight (at_rule chain)) (omega arith)
-            (λ go ticks. calls go (slice_get t.chain_offsets.items d) (at_step + 1 + left) stack f
-            (with_verdict p es c n (Jump d)) ticks (omega arith))
-            (entered d chain f (with_verdict p es c n (Jump d)) has (omega arith) follows),
-      )
+  -- the end of a chain, of which nothing is left
+  no-rules : (c n at_step : ℕ) (Reach : Facts → Type 0) (left : List (List S)) → LeavesOut p Reach c n [] left
+      → RulesAt left_program t at_step c n left → statement_at (slice_get t.steps.items at_step) ≡ None
+  no-rules c n at_step Reach [] out code = code
+  no-rules c n at_step Reach (r ∷ left) out code = absurd out
 
-  pub simulates : {c n : ℕ} {left : Remainder S} {f : Facts} {es : List Event} {o : RunResult}
-      → Runs p c n left f es o → Follows c n left f es o
-  simulates (chain_ends {f = f} {es = es}) at_step holds inside stack room = does-end t at_step stack f es holds
-  simulates (next_rule {r = r} {rs = rs} run) at_step holds inside stack room =
-      does-as t (weighs weight (in_rule 1 r rs)) (weighs weight (at_rule (r ∷ rs)))
-      (omega (arith, sum_by-cons (sum_by weight) r rs)) (λ go ticks. refl) (simulates run at_step holds inside stack room)
-  simulates {c} {n} (rule_ends {rs = rs} run) at_step holds inside stack room =
-      let same : at_step + 0 ≡ at_step = omega arith in
-      does-as t (weighs weight (at_rule rs)) (weighs weight (in_rule 1 [] rs)) (omega arith) (λ go ticks. refl)
-      (simulates run at_step (subst (λ x. RulesAt p t x c (n + 1) rs) same holds.1) inside.1 stack room)
-  simulates {c} {n} (passes {s = s} {ss = ss} {rs = rs} effect_of run) at_step holds inside stack room =
-      first ss rs (sum_by weight ss + sum_by (sum_by weight) rs) at_step (omega (arith, costs_rank_chains.some s)) holds effect_of
-      (simulates run (at_step + 1) (holds.0.1, behind c (n + 1) at_step s ss rs holds.1) (inside.0.1, inside.1) stack room)
-  simulates {c} {n} (notes {s = s} {ss = ss} {rs = rs} e g effect_of run) at_step holds inside stack room =
-      first ss rs (sum_by weight ss + sum_by (sum_by weight) rs) at_step (omega (arith, costs_rank_chains.some s)) holds effect_of
-      (simulates run (at_step + 1) (holds.0.1, behind c (n + 1) at_step s ss rs holds.1) (inside.0.1, inside.1) stack room)
-  simulates {c} {n} (fails {s = s} {ss = ss} {rs = rs} effect_of run) at_step holds inside stack room =
-      first ss rs (sum_by (sum_by weight) rs) at_step (omega (arith, costs_rank_chains.some s)) holds effect_of
-      (simulates run (at_step + 1 + length ss) (behind c (n + 1) at_step s ss rs holds.1) inside.1 stack room)
-  simulates {c} {n} (continues {s = s} {ss = ss} {rs = rs} effect_of run) at_step holds inside stack room =
-      first ss rs (sum_by (sum_by weight) rs) at_step (omega (arith, costs_rank_chains.some s)) holds effect_of
-      (simulates run (at_step + 1 + length ss) (behind c (n + 1) at_step s ss rs holds.1) inside.1 stack room)
-  simulates (accepts {ss = ss} {rs = rs} effect_of) at_step holds inside stack room =
-      last ss rs at_step holds effect_of (λ m ticks. refl)
-  simulates (drops {ss = ss} {rs = rs} effect_of) at_step holds inside stack room =
-      last ss rs at_step holds effect_of (λ m ticks. refl)
-  simulates (translates to {ss = ss} {rs = rs} effect_of) at_step holds inside stack room =
-      last ss rs at_step holds effect_of (λ m ticks. refl)
-  simulates (returns {ss = ss} {rs = rs} effect_of) at_step holds inside stack room =
-      last ss rs at_step holds effect_of (λ m ticks. refl)
-  simulates {c} {n} (jumps d {s = s} {ss = ss} {rs = rs} g {es = es} later chain effect_of has inner run) at_step holds inside
-      stack room =
-      let call = jumped es chain at_step (length ss) inside.0.0 effect_of has room (simulates inner) in
-      let less = call.0 in
-      first ss rs (sum_by (sum_by weight) chain + sum_by (sum_by weight) rs) at_step (omega arith) holds effect_of
-      (does-then t (sum_by (sum_by weight) chain) (sum_by (sum_by weight) rs) (at_step + 1 + length ss) call.1
-      (simulates run (at_step + 1 + length ss) (behind c (n + 1) at_step s ss rs holds.1) inside.1 stack room))
-  simulates (jumps_away d {ss = ss} {rs = rs} {es = es} chain {o = o} effect_of has inner is) at_step holds inside stack room =
-      let call = jumped es chain at_step (length ss) inside.0.0 effect_of has room (simulates inner) in
-      let less = call.0 in
-      first ss rs (sum_by (sum_by weight) chain) at_step (omega arith) holds effect_of
-      (does-over t (sum_by (sum_by weight) chain) o is call.1)
-  simulates {c} {n} (goes {k = k} d {s = s} {ss = ss} {rs = rs} {f = f} {es = es} chain effect_of has inner) at_step holds inside
-      stack room =
-      let falls = costs_rank_chains.gotos c d s (statement_position p c n k) f inside.0.0 effect_of in
-      let less = falls.0 in
-      let deep = falls.1 in
-      first ss rs (sum_by (sum_by weight) chain) at_step (omega (arith, costs_rank_chains.sums d chain has)) holds
-      effect_of (entered d chain f (with_verdict p es c n (Goto d)) has (omega arith) (simulates inner))
+  -- a rule that is left or left out
+  by-rule : {c n at_step : ℕ} {stack : List ℕ} (r : List S) (rs : List (List S)) (f : Facts) {es : List Event} {o : RunResult}
+      → Follows c n (in_rule 1 r rs) f es o → (Reach : Facts → Type 0) (left : List (List S)) → Reach f → LeavesOut p Reach c n (r ∷ rs) left
+      → RulesAt left_program t at_step c n left → ((x : List S) → Contains (r ∷ rs) x → AllIn c x) → length stack + depth c ≤ 16
+      → Does t (sum_by weight r + rules_weigh rs) (λ go. go at_step stack f es) stack o
+  by-rule r rs f follows Reach [] here out code inside room = absurd out
+  by-rule {c} {n} {at_step} {stack} r rs f follows Reach (l ∷ left) here (inl out) code inside room =
+      let later : (x : List S) → Contains rs x → AllIn c x = λ x i. inside x (Contains-tail r rs x i) in
+      let its = subst (λ ss. RulesAt left_program t (at_step + length ss) c (n + 1) left) out.0 code.1 in
+      follows.0 at_step stack (record {
+        Reach = behind p Reach c n r;
+        to = λ g way. (f, here, way);
+        statements = subst (StatementsAt left_program t at_step c n 1) out.0 code.0;
+        own = inside r (Contains-head r rs);
+        rest = record { left = left; out = out.1; code = its; inside = later; room = room };
+      })
+  by-rule {c} {n} {at_step} {stack} r rs f follows Reach (l ∷ left) here (inr out) code inside room =
+      let later : (x : List S) → Contains rs x → AllIn c x = λ x i. inside x (Contains-tail r rs x i) in
+      let none : length l ≡ 0 = ap length out.0 in
+      let place : at_step + length l ≡ at_step = omega arith in
+      let its = subst (λ a. RulesAt left_program t a c (n + 1) left) place code.1 in
+      follows.1 (out.1 f here) at_step stack
+      (record { Reach = Reach; here = here; rest = record { left = left; out = out.2; code = its; inside = later; room = room } })
+
+  module _ (code : IsCode left_program t) (costs_rank_chains : IsRanking p weight cost depth)
+      (leaves : (c : ℕ) (rules : List (List S)) → p.rules_at c ≡ Some rules → LeavesOutOf p c rules (left_at c)) where
+    -- a statement that is the last
+    last : {c n k : ℕ} {s : S} {w : StatementEffect} {f : Facts} {es : List Event} {o : RunResult} (ss : List S) (rs : List (List S))
+        → p.effect_of (statement_position p c n k) s f ≡ w → (w ≡ fail → ⊥)
+        → ((at_step : ℕ) (stack : List ℕ) (m ticks : ℕ) → Doing c n w at_step (length ss) stack f es (exec t m) ticks ≡ finish (exec t m) stack o ticks)
+        → Follows c n (in_rule k (s ∷ ss) rs) f es o
+    last {s = s} ss rs is other same = only-in rs is other (λ at_step stack h.
+        first ss rs 0 at_step (omega (arith, costs_rank_chains.some s)) h is (does-now t 0 (same at_step stack)))
+
+    -- a chain that is entered, up to its end
+    pub entered : {stack : List ℕ} {o : RunResult} (d : ℕ) (chain : List (List S)) (f : Facts) (es : List Event)
+        → p.rules_at d ≡ Some chain → length stack + depth d ≤ 16 → Follows d 1 (at_rule chain) f es o
+        → Does t (rules_weigh chain) (λ go. enter_chain go (slice_get t.chain_offsets.items d) stack f es) stack o
+    entered {stack} d chain f es has room follows =
+        let rest = leaves d chain has in
+        let there = code.chains d rest.0 rest.1 in
+        does-as t (rules_weigh chain) (rules_weigh chain) (omega arith) (λ go ticks. ap (λ o. enter_chain go o stack f es ticks) there.1)
+        (follows there.0 stack (record {
+          Reach = any_facts;
+          here = tt;
+          rest = record {
+            left = rest.0;
+            out = rest.2;
+            code = there.2;
+            inside = λ r in_chain s in_rule. record { rules = chain; has = has; rule = r; in_chain = in_chain; in_rule = in_rule };
+            room = room;
+          };
+        }))
+
+    -- a jump, up to the end of its chain, which weighs less than the statement
+    jumped : {c n k d : ℕ} {s : S} {stack : List ℕ} {f : Facts} {o : RunResult} (es : List Event) (chain : List (List S)) (at_step left : ℕ)
+        → IsStatementOf p c s → p.effect_of (statement_position p c n k) s f ≡ give (Jump d) → p.rules_at d ≡ Some chain
+        → length stack + depth c ≤ 16 → Follows d 1 (at_rule chain) f (with_verdict p es c n (Jump d)) o
+        → (suc (rules_weigh chain) ≤ weight s) × Does t (rules_weigh chain)
+        (Doing c n (give (Jump d)) at_step left stack f es) ((at_step + 1 + left) ∷ stack) o
+    jumped {c} {n} {k} {d} {s} {stack} {f} es chain at_step left inside effect_of has room follows =
+        let falls = costs_rank_chains.jumps c d s (statement_position p c n k) f inside effect_of in
+        let less = falls.0 in
+        let deep = falls.1 in (
+          omega (arith, costs_rank_chains.sums d chain has),
+          does-as t (rules_weigh chain) (rules_weigh chain) (omega arith)
+              (λ go ticks. calls go (slice_get t.chain_offsets.items d) (at_step + 1 + left) stack f
+              (with_verdict p es c n (Jump d)) ticks (omega arith)) (entered d chain f (with_verdict p es c n (Jump d)) has (omega arith) follows),
+        )
+
+    -- a rule that is left out weighs nothing less
+    skipped : (c n : ℕ) (ss : List S) (rs : List (List S)) {f : Facts} {es : List Event} {o : RunResult} → Follows c n (at_rule rs) f es o
+        → (at_step : ℕ) (stack : List ℕ) → AtRules c n rs f at_step stack
+        → Does t (sum_by weight ss + rules_weigh rs) (λ go. go at_step stack f es) stack o
+    skipped c n ss rs follows at_step stack h =
+        does-as t (rules_weigh rs) (sum_by weight ss + rules_weigh rs) (omega arith) (λ go ticks. refl) (follows at_step stack h)
+
+    pub simulates : {c n : ℕ} {left : Remainder S} {f : Facts} {es : List Event} {o : RunResult} → Runs p c n left f es o → Follows c n left f es o
+    simulates {c} {n} (chain_ends {f = f} {es = es}) = λ at_step stack h. does-end t at_step stack f es (no-rules c n at_step h.Reach h.rest.left h.rest.out h.rest.code)
+    simulates (next_rule {r = r} {rs = rs} {f = f} run) = λ at_step stack h.
+        does-as t (sum_by weight r + rules_weigh rs) (rules_weigh (r ∷ rs)) (omega (arith, sum_by-cons (sum_by weight) r rs)) (λ go ticks. refl)
+        (by-rule r rs f (simulates run) h.Reach h.rest.left h.here h.rest.out h.rest.code h.rest.inside h.rest.room)
+    simulates {c} {n} (rule_ends {rs = rs} {f = f} run) = (
+      λ at_step stack h.
+          let place : at_step + 0 ≡ at_step = omega arith in
+          skipped c (n + 1) [] rs (simulates run) at_step stack (record {
+            Reach = h.Reach;
+            here = h.to f refl;
+            rest = subst (λ a. Behind h.Reach c (n + 1) rs a stack) place h.rest;
+          }),
+      λ failing. skipped c (n + 1) [] rs (simulates run),
+    )
+    simulates (passes {s = s} {ss = ss} {rs = rs} {f = f} is run) = only-in rs is (λ e. cc) (λ at_step stack h.
+        first ss rs (sum_by weight ss + rules_weigh rs) at_step (omega (arith, costs_rank_chains.some s)) h is
+        ((simulates run).0 (at_step + 1) stack (next-statement ss rs f is (λ x way. way) h)))
+    simulates (notes {s = s} {ss = ss} {rs = rs} e g is run) = only-in rs is (λ e. cc) (λ at_step stack h.
+        first ss rs (sum_by weight ss + rules_weigh rs) at_step (omega (arith, costs_rank_chains.some s)) h is
+        ((simulates run).0 (at_step + 1) stack (next-statement ss rs g is (λ x way. way) h)))
+    simulates {c} {n} (fails {s = s} {ss = ss} {rs = rs} {f = f} is run) = (
+      λ at_step stack h. first ss rs (rules_weigh rs) at_step (omega (arith, costs_rank_chains.some s)) h is
+          (simulates run (at_step + 1 + length ss) stack (next-rule ss rs f is refl h)),
+      λ failing. skipped c (n + 1) (s ∷ ss) rs (simulates run),
+    )
+    simulates (continues {s = s} {ss = ss} {rs = rs} {f = f} is run) = only-in rs is (λ e. cc) (λ at_step stack h.
+        first ss rs (rules_weigh rs) at_step (omega (arith, costs_rank_chains.some s)) h is
+        (simulates run (at_step + 1 + length ss) stack (next-rule ss rs f is refl h)))
+    simulates (accepts {ss = ss} {rs = rs} is) = last ss rs is (λ e. cc) (λ at_step stack m ticks. refl)
+    simulates (drops {ss = ss} {rs = rs} is) = last ss rs is (λ e. cc) (λ at_step stack m ticks. refl)
+    simulates (translates to {ss = ss} {rs = rs} is) = last ss rs is (λ e. cc) (λ at_step stack m ticks. refl)
+    simulates (returns {ss = ss} {rs = rs} is) = last ss rs is (λ e. cc) (λ at_step stack m ticks. refl)
+    simulates (jumps d {s = s} {ss = ss} {rs = rs} g {es = es} later chain is has inner run) = only-in rs is (λ e. cc) (λ at_step stack h.
+        let call = jumped es chain at_step (length ss) (h.own s (Contains-head s ss)) is has h.rest.room (simulates inner) in
+        let less = call.0 in
+        first ss rs (rules_weigh chain + rules_weigh rs) at_step (omega arith) h is
+        (does-then t (rules_weigh chain) (rules_weigh rs) (at_step + 1 + length ss) call.1
+        (simulates run (at_step + 1 + length ss) stack (next-rule ss rs g is tt h))))
+    simulates (jumps_away d {s = s} {ss = ss} {rs = rs} {es = es} chain {o = o} is has inner away) = only-in rs is (λ e. cc) (λ at_step stack h.
+        let call = jumped es chain at_step (length ss) (h.own s (Contains-head s ss)) is has h.rest.room (simulates inner) in
+        let less = call.0 in
+        first ss rs (rules_weigh chain) at_step (omega arith) h is (does-over t (rules_weigh chain) o away call.1))
+    simulates {c} {n} (goes {k = k} d {s = s} {ss = ss} {rs = rs} {f = f} {es = es} chain is has inner) = only-in rs is (λ e. cc) (λ at_step stack h.
+        let falls = costs_rank_chains.gotos c d s (statement_position p c n k) f (h.own s (Contains-head s ss)) is in
+        let less = falls.0 in
+        let deep = falls.1 in
+        let room = h.rest.room in
+        first ss rs (rules_weigh chain) at_step (omega (arith, costs_rank_chains.sums d chain has)) h is
+        (entered d chain f (with_verdict p es c n (Goto d)) has (omega arith) (simulates inner)))

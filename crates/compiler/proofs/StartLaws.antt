@@ -39,8 +39,7 @@ added_cost table place cost (Some head) number (b ∷ []) are all =
 added_cost table place cost head number more are all = cc
 
 rest_from : {A : Type 0} (xs : List A) (i : ℕ) (x : A) → slice_get xs i ≡ Some x → drop i xs ≡ x ∷ drop (i + 1) xs
-rest_from xs i x is = drop_more xs i x (slice_get_within xs i x is)
-    ∙ ap (λ y. y ∷ drop (i + 1) xs) (get_or_from_slice_get xs i x x is)
+rest_from xs i x is = drop_more xs i x (slice_get_within xs i x is) ∙ ap (λ y. y ∷ drop (i + 1) xs) (get_or_from_slice_get xs i x x is)
 
 -- ---- the base chains of a table
 
@@ -49,24 +48,24 @@ module _ (table : ℕ) (t : TableTree) (costs : List ℕ) (old : List CompiledCh
   pub record BasesSoFar (place : ℕ) (now : List CompiledChain) : Type 0 where
     pub are : map base now ++ base_chains_from table place (drop place (chains_of t))
         ≡ map base old ++ base_chains_from table 0 (chains_of t)
-    pub costed : (tables : List TableTree) → slice_get tables table ≡ Some t → All (IsCosted tables) old
-        → All (IsCosted tables) now
+    pub costed : (tables : List TableTree) → slice_get tables table ≡ Some t → All (IsCosted tables) old → All (IsCosted tables) now
     pub sum : sum_by cost_of now + sum_by part (zip (drop place (chains_of t)) (drop place costs))
         ≡ sum_by cost_of old + base_sum t costs
 
-  pub bases_more : (place : ℕ) (chain : ChainTree) (now new : List CompiledChain) → AreChainCosts t costs
-      → slice_get (chains_of t) place ≡ Some chain
-      → AddsBases (base_chain_of table place chain.head)
-      (Costs (record { table = table; chain = place }) (slice_index costs place)) now new
+  pub bases_more : (place : ℕ) (chain : ChainTree) (now new : List CompiledChain) → AreChainCosts t costs → slice_get (chains_of t) place ≡ Some chain
+      → AddsBases (base_chain_of table place chain.head) (Costs (record { table = table; chain = place }) (slice_index costs place)) now new
       → BasesSoFar place now → BasesSoFar (place + 1) new
   bases_more place chain now new are_costs is one so = record {
-    are = ap (λ xs. xs ++ base_chains_from table (place + 1) rest)
-        (ap (map base) one.is ∙ map-append base now one.more ∙ ap (λ xs. map base now ++ xs) one.are)
-        ∙ append_assoc (map base now) (base_chain_of table place chain.head) (base_chains_from table (place + 1) rest)
-        ∙ ap (λ n. map base now ++ (base_chain_of table place chain.head ++ base_chains_from table n rest)) (add-one place)
-        ∙ ap (λ cs. map base now ++ base_chains_from table place cs) (sym split) ∙ so.are;
-    costed = λ tables at before. subst (All (IsCosted tables)) (sym one.is)
-        (All-append (IsCosted tables) now one.more (so.costed tables at before)
+    are = cc (
+      one.is,
+      one.are,
+      map-append base now one.more,
+      add-one place,
+      split,
+      so.are,
+      append_assoc (map base now) (base_chain_of table place chain.head) (base_chains_from table (place + 1) rest),
+    );
+    costed = λ tables at before. subst (All (IsCosted tables)) (sym one.is) (All-append (IsCosted tables) now one.more (so.costed tables at before)
         (λ k d lt. has_cost tables at (get_or one.more k d) (one.costs k d lt)));
     sum = omega (
       arith,
@@ -120,24 +119,23 @@ module _ (all : List TableTree) where
     pub sum : (costs : List (List ℕ)) → AreRulesetCosts all costs
         → sum_by cost_of now + sum_by table_part (zip (drop place all) (drop place costs)) ≡ ruleset_sum all costs
 
-  pub table_bases_more : (place : ℕ) (t : TableTree) (row : List ℕ) (now new : List CompiledChain)
-      → slice_get all place ≡ Some t
+  pub table_bases_more : (place : ℕ) (t : TableTree) (row : List ℕ) (now new : List CompiledChain) → slice_get all place ≡ Some t
       → ((costs : List (List ℕ)) → AreRulesetCosts all costs → row ≡ get_or costs place [])
-      → map base new ≡ map base now ++ base_chains_from place 0 (chains_of t)
-      → (All (IsCosted all) now → All (IsCosted all) new)
-      → sum_by cost_of new ≡ sum_by cost_of now + base_sum t row
-      → TableBasesSoFar place now → TableBasesSoFar (place + 1) new
+      → map base new ≡ map base now ++ base_chains_from place 0 (chains_of t) → (All (IsCosted all) now → All (IsCosted all) new)
+      → sum_by cost_of new ≡ sum_by cost_of now + base_sum t row → TableBasesSoFar place now → TableBasesSoFar (place + 1) new
   table_bases_more place t row now new is rows more costed sum so = record {
-    are = ap (λ xs. xs ++ base_chains_of_tables (place + 1) rest) more
-        ∙ append_assoc (map base now) (base_chains_from place 0 (chains_of t)) (base_chains_of_tables (place + 1) rest)
-        ∙ ap (λ n. map base now ++ (base_chains_from place 0 (chains_of t) ++ base_chains_of_tables n rest)) (add-one place)
-        ∙ ap (λ ts. map base now ++ base_chains_of_tables place ts) (sym split) ∙ so.are;
+    are = cc (
+      more,
+      add-one place,
+      split,
+      so.are,
+      append_assoc (map base now) (base_chains_from place 0 (chains_of t)) (base_chains_of_tables (place + 1) rest),
+    );
     costed = costed so.costed;
     sum = λ costs are.
         let within = slice_get_within all place t is in
         let row_within : place < length costs = omega (arith, are.long) in
-        let its = drop_more costs place [] row_within
-        ∙ ap (λ r. r ∷ drop (place + 1) costs) (sym (rows costs are)) in
+        let its = drop_more costs place [] row_within ∙ ap (λ r. r ∷ drop (place + 1) costs) (sym (rows costs are)) in
         omega (
           arith,
           so.sum costs are,
@@ -172,6 +170,5 @@ ties_alike x y = ap₂ (λ a b. not a && not b) (lt_is x y) (lt_is y x)
 
 -- a call of the key's closure gives the priority
 pub keys_always : {F : Type 0} (g : Mut F (Bor CompiledChain × Unit {0}) ℤ) (f : F)
-    → ((a : Bor CompiledChain × Unit {0}) (r : ℤ) (f' : F) → Called g f a r f' → (r ≡ key a.0.now) × (f' ≡ f))
-    → ComputesKey g key f
+    → ((a : Bor CompiledChain × Unit {0}) (r : ℤ) (f' : F) → Called g f a r f' → (r ≡ key a.0.now) × (f' ≡ f)) → ComputesKey g key f
 keys_always g f h = always_returns_same g (λ a r. r ≡ key a.0.now) f h

@@ -1,11 +1,12 @@
 -- The chains of a table, one after another, and the tables of a ruleset.
 use Rattle.compiler.proofs.Names.{◌+◌, ◌++◌, ◌-◌, ◌<◌, AddsChain, AllZip, AreLeft, Bool, Bor, Chain, ChainTree, ExtendsCode, Global, IsTableCode, ItemTree}
 use Rattle.compiler.proofs.Names.{List, Option, PlantTree, RulesAt, Some, Statement, StatementsAt, TableCode, TableTree, Vec, [], ◌^◌, ap, arith, chain_in}
-use Rattle.compiler.proofs.Names.{chain_steps, chain_tree, chains_of, dropped_rules, extends_code_itself, extends_code_on, extends_itself, false, filter_map}
+use Rattle.compiler.proofs.Names.{chain_steps, chain_tree, chains_of, dropped_rules, extends_code_itself, extends_code_on, extends_itself, false, false_from_ne_true, false≢true, filter_map}
 use Rattle.compiler.proofs.Names.{get_or, get_or_from_slice_get, inl, inr, keeps_push, left_program, left_statements, length, length-append, list_any, map, min}
 use Rattle.compiler.proofs.Names.{none-some, option_map, or_parts, refl, rules_in, same_Some, slice_get, slice_get-map, slice_get-push, slice_get_read}
 use Rattle.compiler.proofs.Names.{slice_get_within, some_of_map, subst, suc, sum_by, sum_by_push, sym, table_program, take, take_all, take_more, zero, ℕ, ◌∙◌}
 use Rattle.compiler.proofs.Names.{◌∷◌, ◌≡◌, ◌≤◌, ◌⊎◌, ⊎_elim}
+use Rattle.std.proofs.lemmas.List.Folds.{list_any_at}
 use Rattle.std.proofs.lemmas.Slice.Zip.{all_zipped_more}
 use Rattle.nft_tree.specs.Tree as tree
 
@@ -17,21 +18,16 @@ chain_at chains t i x all lt is = ap (λ cs. slice_get cs i) (sym all) ∙ slice
     ∙ ap (option_map (λ b. chain_tree b.now)) (slice_get_read chains (length chains) i x refl lt is)
 
 -- what is so of no element isn't so of one
-pub none_at : {A : Type 0} (p : A → Bool) (xs : List A) (i : ℕ) (x : A) → i < length xs → x ≡ get_or xs i x
-    → list_any p xs ≡ false → p x ≡ false
-none_at p [] i x lt is none = absurd (omega arith)
-none_at p (y ∷ ys) zero x lt is none = ap p is ∙ (or_parts (p y) (list_any p ys) none).0
-none_at p (y ∷ ys) (suc i) x lt is none = none_at p ys i x (omega arith) is (or_parts (p y) (list_any p ys) none).1
+pub none_at : {A : Type 0} (p : A → Bool) (xs : List A) (i : ℕ) (x : A) → i < length xs → x ≡ get_or xs i x → list_any p xs ≡ false → p x ≡ false
+none_at p xs i x lt is none = false_from_ne_true (p x) (λ yes. false≢true (sym none ∙ list_any_at p xs i x lt (ap p (sym is) ∙ yes)))
 
 -- what is wrong with no item is wrong with no chain
 pub chain_free : (p : ItemTree → Bool) (q : ChainTree → Bool) → ((c : ChainTree) → p (tree.chain c) ≡ false → q c ≡ false)
-    → (items : List ItemTree) (i : ℕ) (c : ChainTree) → list_any p items ≡ false
-    → slice_get (filter_map chain_in items) i ≡ Some c → q c ≡ false
+    → (items : List ItemTree) (i : ℕ) (c : ChainTree) → list_any p items ≡ false → slice_get (filter_map chain_in items) i ≡ Some c → q c ≡ false
 chain_free p q h [] i c none is = cc
 chain_free p q h (tree.chain x ∷ items) zero c none is = let e : x ≡ c = cc in
     ap q (sym e) ∙ h x (or_parts (p (tree.chain x)) (list_any p items) none).0
-chain_free p q h (tree.chain x ∷ items) (suc i) c none is =
-    chain_free p q h items i c (or_parts (p (tree.chain x)) (list_any p items) none).1 is
+chain_free p q h (tree.chain x ∷ items) (suc i) c none is = chain_free p q h items i c (or_parts (p (tree.chain x)) (list_any p items) none).1 is
 chain_free p q h (item ∷ items) i c none is = chain_free p q h items i c (or_parts (p item) (list_any p items) none).1 is
 
 -- ---- the chains of a table
@@ -46,8 +42,7 @@ push-cases (z ∷ xs) y (suc i) x is = ⊎_elim inl (λ last. inr (ap suc last.0
 module _ (plant : PlantTree) (number : ℕ) (t : TableTree) where
   -- what is left of the rules of chain c is in the code, from the chain's offset on, whatever is added later
   abbrev IsPlaced : TableCode → ℕ → List (Option (List Statement)) → Type 0
-  IsPlaced now c rules = (at_step : ℕ) × (slice_get now.chain_offsets.items c ≡ Some at_step)
-      × ((later : TableCode) → ExtendsCode now later
+  IsPlaced now c rules = (at_step : ℕ) × (slice_get now.chain_offsets.items c ≡ Some at_step) × ((later : TableCode) → ExtendsCode now later
       → RulesAt (table_program plant number t) later at_step c 1 (map left_statements rules))
 
   -- loop invariant: the first chains of the table are in the code
@@ -60,11 +55,9 @@ module _ (plant : PlantTree) (number : ℕ) (t : TableTree) where
     pub steps : length now.steps.items ≡ sum_by chain_steps left
     pub dropped : now.dropped ≡ min (sum_by dropped_rules left) (2 ^ 64 - 1)
 
-  pub chains_more : (place : ℕ) (chain : ChainTree) (offsets : Vec ℕ Global) (now new : TableCode)
-      → slice_get (chains_of t) place ≡ Some chain
+  pub chains_more : (place : ℕ) (chain : ChainTree) (offsets : Vec ℕ Global) (now new : TableCode) → slice_get (chains_of t) place ≡ Some chain
       → offsets.items ≡ now.chain_offsets.items ++ length now.steps.items ∷ []
-      → AddsChain plant number t place chain (record now { chain_offsets = offsets }) new
-      → ChainsSoFar place now → ChainsSoFar (place + 1) new
+      → AddsChain plant number t place chain (record now { chain_offsets = offsets }) new → ChainsSoFar place now → ChainsSoFar (place + 1) new
   chains_more place chain offsets now new is pushed added so = record {
     left = so.left ++ added.left ∷ [];
     are_left = subst (λ chains. AllZip (λ c rules. AreLeft plant (rules_in c) rules) chains (so.left ++ added.left ∷ []))
@@ -75,8 +68,7 @@ module _ (plant : PlantTree) (number : ℕ) (t : TableTree) where
     count = length-append so.left (added.left ∷ []) ∙ ap (λ n. n + 1) so.count;
     offsets = ap (λ ps. length ps.items) added.adds.same_places ∙ ap length pushed
         ∙ length-append now.chain_offsets.items (length now.steps.items ∷ []) ∙ ap (λ n. n + 1) so.offsets;
-    placed = λ c rules has. ⊎_elim
-        (λ early. let old = so.placed c rules early in
+    placed = λ c rules has. ⊎_elim (λ early. let old = so.placed c rules early in
         (old.0, grown.chain_offsets c old.0 old.1, λ later g. old.2 later (extends_code_on now new later grown g)))
         (λ last. subst (λ k. IsPlaced new k rules) (sym so.count ∙ last.0) (subst (IsPlaced new place) last.1 here))
         (push-cases so.left added.left c rules has);
@@ -100,15 +92,13 @@ module _ (plant : PlantTree) (number : ℕ) (t : TableTree) where
         length now.steps.items,
         added.adds.extends_code.chain_offsets place (length now.steps.items)
             (subst (λ k. slice_get offsets.items k ≡ Some (length now.steps.items)) so.offsets
-            (ap (λ ps. slice_get ps (length now.chain_offsets.items)) pushed
-            ∙ slice_get-push now.chain_offsets.items (length now.steps.items))),
+            (ap (λ ps. slice_get ps (length now.chain_offsets.items)) pushed ∙ slice_get-push now.chain_offsets.items (length now.steps.items))),
         added.adds.holds,
       )
 
   -- the same steps, of a program with other rules
   module _ (left : List (List (Option (List Statement)))) (code : TableCode) where
-    statements-as : (at_step c n k : ℕ) (ss : List Statement)
-        → StatementsAt (table_program plant number t) code at_step c n k ss
+    statements-as : (at_step c n k : ℕ) (ss : List Statement) → StatementsAt (table_program plant number t) code at_step c n k ss
         → StatementsAt (left_program plant number t left) code at_step c n k ss
     statements-as at_step c n k [] here = tt
     statements-as at_step c n k (s ∷ ss) here =
@@ -117,15 +107,12 @@ module _ (plant : PlantTree) (number : ℕ) (t : TableTree) where
           statements-as (at_step + 1) c n (k + 1) ss here.1,
         )
 
-    rules-as : (at_step c n : ℕ) (rs : List (List Statement))
-        → RulesAt (table_program plant number t) code at_step c n rs
+    rules-as : (at_step c n : ℕ) (rs : List (List Statement)) → RulesAt (table_program plant number t) code at_step c n rs
         → RulesAt (left_program plant number t left) code at_step c n rs
     rules-as at_step c n [] here = here
-    rules-as at_step c n (r ∷ rs) here =
-        (statements-as at_step c n 1 r here.0, rules-as (at_step + length r) c (n + 1) rs here.1)
+    rules-as at_step c n (r ∷ rs) here = (statements-as at_step c n 1 r here.0, rules-as (at_step + length r) c (n + 1) rs here.1)
 
-  pub chains_all : (place : ℕ) (now : TableCode) → length (chains_of t) ≤ place → ChainsSoFar place now
-      → IsTableCode plant number t now
+  pub chains_all : (place : ℕ) (now : TableCode) → length (chains_of t) ≤ place → ChainsSoFar place now → IsTableCode plant number t now
   chains_all place now past so = record {
     left = so.left;
     are_left = subst (λ chains. AllZip (λ chain rules. AreLeft plant (rules_in chain) rules) chains so.left)
@@ -137,8 +124,7 @@ module _ (plant : PlantTree) (number : ℕ) (t : TableTree) where
             holds.0,
             holds.1,
             subst (λ rs. RulesAt (left_program plant number t so.left) now holds.0 c 1 rs) found.2
-                (rules-as so.left now holds.0 c 1 (map left_statements found.0)
-                (holds.2 now (extends_code_itself now))),
+                (rules-as so.left now holds.0 c 1 (map left_statements found.0) (holds.2 now (extends_code_itself now))),
           );
     };
     steps = so.steps;

@@ -8,10 +8,8 @@ use Rattle.nft_tree.specs.declared.chain.Hook.TheVariants as hooks
 abbrev on_hook : Hook → List CompiledChain → ℕ
 on_hook hook bases = sum_by cost_of (filter (runs_on_hook hook) bases)
 
-one_hook : (b : Bool) (x : CompiledChain) (xs : List CompiledChain)
-    → sum_by cost_of (cond b (x ∷ xs) xs) ≡ cond b x.cost 0 + sum_by cost_of xs
-one_hook true x xs = sum_by-cons cost_of x xs
-one_hook false x xs = omega arith
+one_hook : (b : Bool) (x : CompiledChain) (xs : List CompiledChain) → sum_by cost_of (cond b (x ∷ xs) xs) ≡ cond b x.cost 0 + sum_by cost_of xs
+one_hook b x xs = grind (arith, sum_by-cons cost_of x xs)
 
 -- together over all hooks
 abbrev over_hooks : (Hook → ℕ) → ℕ

@@ -18,8 +18,7 @@ abbrev pub runs_on_hook : Hook → CompiledChain → Bool
 runs_on_hook hook b = is_on_hook hook (base b)
 
 -- these base chains are appended, each with a cost that is right for its number
-pub record AddsBases (wanted : List BaseChain) (Costs : ChainNo → ℕ → Type 0)
-    (old new : List CompiledChain) : Type 0 where
+pub record AddsBases (wanted : List BaseChain) (Costs : ChainNo → ℕ → Type 0) (old new : List CompiledChain) : Type 0 where
   pub more : List CompiledChain
   pub is : new ≡ old ++ more
   pub are : map base more ≡ wanted

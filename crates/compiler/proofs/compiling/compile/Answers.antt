@@ -33,8 +33,7 @@ returns c =
             order = map base o.order;
             in_order = record {
               rising = sorted_shown base runs_before o.order o.rising;
-              stable = λ b. stays b (filter (runs_on_hook hook) made.bases) o.order o.moved o.stable
-                  ∙ ap (filter (ties runs_before b)) on_hook;
+              stable = λ b. stays b (filter (runs_on_hook hook) made.bases) o.order o.moved o.stable ∙ ap (filter (ties runs_before b)) on_hook;
             };
             are = o.starts_are;
             costs = λ cost all. o.costs_are ∙ costs-shown checked.rules cost all o.order (costed hook);

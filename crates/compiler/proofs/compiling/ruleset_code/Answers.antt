@@ -27,11 +27,9 @@ pub table_codes-requires-clause-bounds : goal.table_codes-requires-clause-bounds
 table_codes-requires-clause-bounds c = ap (list_any (has_wrong_value c.plant.result.now))
     (c.deref.ensures.value ∙ rules-named (goal.at.table_codes-requires-clause-bounds c).In-Some)
     ∙ ap (λ plant. list_any (has_wrong_value plant) c.args.checked.now.rules) c.plant.ensures
-    ∙ false_from_ne_true (list_any (has_wrong_value c.args.checked.now.plant) c.args.checked.now.rules)
-    (c.requires faults.WrongValue)
+    ∙ false_from_ne_true (list_any (has_wrong_value c.args.checked.now.plant) c.args.checked.now.rules) (c.requires faults.WrongValue)
 
 pub base_chains-requires-clause-bounds : goal.base_chains-requires-clause-bounds
 base_chains-requires-clause-bounds c = ap (list_any (has_wrong_value c.args.checked.now.plant))
     (c.deref-2.ensures.value ∙ rules-named (goal.at.base_chains-requires-clause-bounds c).In-Some)
-    ∙ false_from_ne_true (list_any (has_wrong_value c.args.checked.now.plant) c.args.checked.now.rules)
-    (c.requires faults.WrongValue)
+    ∙ false_from_ne_true (list_any (has_wrong_value c.args.checked.now.plant) c.args.checked.now.rules) (c.requires faults.WrongValue)

@@ -12,8 +12,7 @@ at c = chain_at c.chains-chain-items.result.now c.args.names.now c.loop-place.pl
     c.chains-chain-items.ensures.all c.loop-place-test.true c.chain-item.is
 
 pub add_base-requires-clause-bounds : goal.add_base-requires-clause-bounds
-add_base-requires-clause-bounds c =
-    chain_free item_out_of_range chain_out_of_range (λ x h. h) c.args.names.now.items c.loop-place.place
+add_base-requires-clause-bounds c = chain_free item_out_of_range chain_out_of_range (λ x h. h) c.args.names.now.items c.loop-place.place
     (chain_tree c.chain-item.result.now) c.requires.bounds (at (goal.at.add_base-requires-clause-bounds c).In_ok-to_u32)
 
 pub add_base-requires-clause-small : goal.add_base-requires-clause-small

@@ -22,8 +22,7 @@ add_bases-requires-clause-long c = costs-long c.index-names-table.result c.costs
     (c.costs.ensures.costs c.index-names-table.result (at (goal.at.add_bases-requires-clause-long c).In_ok-to_u32))
 
 pub add_bases-requires-clause-costs : goal.add_bases-requires-clause-costs
-add_bases-requires-clause-costs c =
-    c.costs.ensures.costs c.index-names-table.result (at (goal.at.add_bases-requires-clause-costs c).In_ok-to_u32)
+add_bases-requires-clause-costs c = c.costs.ensures.costs c.index-names-table.result (at (goal.at.add_bases-requires-clause-costs c).In_ok-to_u32)
 
 pub add_bases-requires-clause-small : goal.add_bases-requires-clause-small
 add_bases-requires-clause-small c = λ j chain head.

@@ -12,10 +12,8 @@ returns c =
     record {
       order = order;
       moved = subst (λ xs. IsPermutation xs order) is c.in_ok-sort_by_key.ensures.permutation;
-      rising = λ k d low high. sym (lt_is (get_or order (k + 1) d) (get_or order k d))
-          ∙ c.in_ok-sort_by_key.ensures.sorted key computes k d low high;
-      stable = λ x. sym (filter_agree (ties by_key x) (ties by_priority x) (ties_alike x) order)
-          ∙ c.in_ok-sort_by_key.ensures.stable key computes x
+      rising = λ k d low high. sym (lt_is (get_or order (k + 1) d) (get_or order k d)) ∙ c.in_ok-sort_by_key.ensures.sorted key computes k d low high;
+      stable = λ x. sym (filter_agree (ties by_key x) (ties by_priority x) (ties_alike x) order) ∙ c.in_ok-sort_by_key.ensures.stable key computes x
           ∙ filter_agree (ties by_key x) (ties by_priority x) (ties_alike x) on_hook ∙ ap (filter (ties by_priority x)) is;
       starts_are = c.in_ok-starts.ensures.starts ∙ ap (λ xs. map base_chain_head (map base xs)) c.deref.ensures.value;
       costs_are = c.in_ok-starts.ensures.costs ∙ ap (map cost_of) c.deref.ensures.value;

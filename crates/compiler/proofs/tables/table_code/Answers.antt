@@ -30,8 +30,7 @@ add_chain-requires-clause-types c =
     (at (goal.at.add_chain-requires-clause-types c).In_ok-to_u32)
 
 pub add_chain-requires-clause-bounds : goal.add_chain-requires-clause-bounds
-add_chain-requires-clause-bounds c =
-    chain_free item_out_of_range (λ x. list_any rule_out_of_range x.rules)
+add_chain-requires-clause-bounds c = chain_free item_out_of_range (λ x. list_any rule_out_of_range x.rules)
     (λ x h. (or_parts (if_some (λ head. priority_out_of_range head.priority) x.head) (list_any rule_out_of_range x.rules) h).1)
     c.args.names.now.items c.loop-place.place (chain_tree c.chain-item.result.now) c.requires.bounds
     (at (goal.at.add_chain-requires-clause-bounds c).In_ok-to_u32)

@@ -27,8 +27,7 @@ loop-number-preserved c =
       count = ap length c.in_ok-push.ensures.items ∙ length-append now _ ∙ ap (λ n. n + 1) so.count;
       made = rw c.in_ok-push.ensures.items (below_more
           (λ k. (t : TableTree) → slice_get c.args.names.now k ≡ Some t → HasCode plant (now ++ more ∷ []) k t) i
-          (λ k before t has. let h = so.made k before t has in (h.0, keeps_push now more k h.0 h.1, h.2))
-          (λ t has. (
+          (λ k before t has. let h = so.made k before t has in (h.0, keeps_push now more k h.0 h.1, h.2)) (λ t has. (
             more,
             subst (λ k. slice_get (now ++ more ∷ []) k ≡ Some more) so.count (slice_get-push now more),
             subst (λ u. IsTableCode plant i u more) (some_unique _ table t at has) is,
