@@ -2,7 +2,7 @@
 -- the pass over them (`parsed`): where the pass finds nothing the parse has a fault, and else it has none and the
 -- rows are those of what the pass found.
 use Rattle.std.proofs.Common.{◌&&◌, ◌++◌, ◌+◌, ◌==◌, ◌||◌, ◌∙◌, ◌∷◌, ◌≡◌, [], ℕ, Bool, List, None, Option, Some, ap, append-nil, arith, codes, cond, false}
-use Rattle.std.proofs.Common.{is_some, length, not, refl, suc, sym, true, true≢false, subst, find, fold, min, option_map, slice_get, bytes_eq}
+use Rattle.std.proofs.Common.{is_some, length, not, refl, sym, true, true≢false, subst, find, fold, min, option_map, slice_get, bytes_eq}
 use Rattle.std.specs.List.{list_any}
 use Rattle.std.specs.Option.{option_map_or, option_or}
 use Rattle.std.specs.Str.{chars}
@@ -10,7 +10,7 @@ use Rattle.std.proofs.lemmas.Slice.Eq.{bytes_eq-Decides}
 use Rattle.std.proofs.lemmas.List.Folds.{find-append}
 use Rattle.clap.specs.Facts.{explicit_source}
 use Rattle.clap.specs.Faults.{bundle_fault, bundle_step_fault, defaults_fault, flag_word_fault, flags_fault, long_fault, other_fault, short_fault, step_fault}
-use Rattle.clap.specs.Faults.{turn_fault, check_fault, option_fault, positional_fault, react_fault, settle_fault, stray_fault, use_fault, walk_fault}
+use Rattle.clap.specs.Faults.{turn_fault, check_fault, settle_fault, use_fault, walk_fault}
 use Rattle.clap.specs.Kinds.{Kinds, or_else, check_kinds}
 use Rattle.clap.specs.Lexer.{long_of, short_of, usize_max}
 use Rattle.clap.specs.Simple.{Shape, filled, help_rule, new_shape, version_rule, with_index}
@@ -18,7 +18,7 @@ use Rattle.clap.specs.Takes.{is_given}
 use Rattle.clap.specs.Walk.{Held, Names, Outcome, Row, Rule, Step, Text, Waiting, Walk, after_flag, after_step, arg_by_id, arg_by_index, arg_by_long}
 use Rattle.clap.specs.Walk.{arg_by_short, at_row, has_row, idle, long_or_other, long_word, more_values, plain, plain_word, reading_by, short_or_plain}
 use Rattle.clap.specs.Walk.{subcommand_met, subcommand_or_other, trailing, walked, with_default, with_values, without, finished, long_met as clap_long_met}
-use Rattle.clap.specs.Walk.{next, option, option_word, settled, settled_rows, takes_values, to_positional, used_by_id, value}
+use Rattle.clap.specs.Walk.{next, option, option_word, settled, settled_rows, to_positional, used_by_id, value}
 use Rattle.clap.specs.declared.error.kind.ErrorKind.{ErrorKind}
 use Rattle.clap.specs.declared.builder.value_parser.Reading.{Reading}
 use Rattle.clap.specs.declared.parser.matches.ValueSource.{ValueSource}
@@ -29,7 +29,7 @@ use Rattle.command_line.specs.steps.Program.{flag_rule, path_rule, report_rule}
 use Rattle.command_line.proofs.Words.{Pairs, Seen, has_no_short, Place, after, at_end, before, flag_word, is_flag, is_taken, naming, operand_met, scan}
 use Rattle.command_line.proofs.Words.{word_met, none_of}
 use Rattle.std.proofs.Math.Bool.{and-false, or-false}
-use Rattle.clap.specs.declared.error.kind.ErrorKind.TheVariants.{ArgumentConflict, TooManyValues}
+use Rattle.clap.specs.declared.error.kind.ErrorKind.TheVariants.{ArgumentConflict}
 use Rattle.command_line.specs.CommandLine.{as_report, report_option}
 
 abbrev pub Each : (Text → Type 0) → List Text → Type 0
@@ -52,28 +52,17 @@ newly all r none = find-append (λ x. bytes_eq x.id r.id) all (r ∷ [])
     ∙ (λ j. option_or (none j) (cond ((bytes_eq-Decides r.id r.id).1 refl j) (Some r) None))
 
 pub kept : (id : Text) (all : List Row) (r : Row) → bytes_eq r.id id ≡ false → row_at id (all ++ r ∷ []) ≡ row_at id all
-kept id [] r other = ap (λ (b : Bool). cond b (Some r) None) other
-kept id (x ∷ xs) r other = ap (λ (o : Option Row). cond (bytes_eq x.id id) (Some x) o) (kept id xs r other)
+kept id [] r other = grind arith
+kept id (x ∷ xs) r other = grind (arith, kept id xs)
 
 pub has_row-at : (id : Text) (all : List Row) → has_row id all ≡ is_some (row_at id all)
 has_row-at id [] = refl
-has_row-at id (x ∷ xs) = go (bytes_eq x.id id) (has_row-at id xs)
-  where
-    go : (b : Bool) → has_row id xs ≡ is_some (row_at id xs)
-        → (b || has_row id xs) ≡ is_some (cond b (Some x) (row_at id xs))
-    go true later = refl
-    go false later = later
+has_row-at id (x ∷ xs) = grind (arith, has_row-at id xs)
 
 past_rows : (id : Text) (change : Row → List Row) (missing all : List Row) → row_at id all ≡ None
     → at_row id change missing all ≡ all ++ missing
 past_rows id change missing [] none = refl
-past_rows id change missing (x ∷ xs) none = go (bytes_eq x.id id) none (past_rows id change missing xs)
-  where
-    go : (b : Bool) → cond b (Some x) (row_at id xs) ≡ None
-        → (row_at id xs ≡ None → at_row id change missing xs ≡ xs ++ missing)
-        → cond b (change x ++ xs) (x ∷ at_row id change missing xs) ≡ x ∷ (xs ++ missing)
-    go true bad later = cc
-    go false none later = ap (λ (l : List Row). x ∷ l) (later none)
+past_rows id change missing (x ∷ xs) none = grind (arith, past_rows id change missing xs)
 
 abbrev pub new_row : Text → Reading → ValueSource → List Text → Row
 new_row id how s values = record { id = id; values = values; count = None; source = Some s; reading = how }
@@ -114,15 +103,13 @@ source_of id met = cond met (set_row id) (unset_row id)
 -- ---- lists of kinds
 
 pub not_nil : {A : Type 0} (k : ErrorKind) (ks : Kinds) → k ∷ ks ≡ [] → A
-not_nil k ks e = let bad : suc (length ks) ≡ 0 = ap length e in absurd (omega arith)
+not_nil k ks e = cc
 
 pub first_nil : (a b : Kinds) → or_else a b ≡ [] → a ≡ []
-first_nil [] b e = refl
-first_nil (k ∷ ks) b e = e
+first_nil a b e = grind arith
 
 pub then_nil : (a b : Kinds) → or_else a b ≡ [] → b ≡ []
-then_nil [] b e = e
-then_nil (k ∷ ks) b e = not_nil k ks e
+then_nil a b e = grind arith
 
 -- ---- one word, for any command whose one short flag asks for help
 
@@ -237,15 +224,11 @@ version = with_index 1 (filled version_rule)
 -- options that show a text, and others that are unknown
 pub shown_long : (c : List Rule) (b d : Bool) (v : Option Text) (h : Held)
     → long_fault c false (cond b (Some help) (cond d (Some version) None)) v h ≡ [] → ⊥
-shown_long c true d None h e = not_nil _ _ (then_nil _ _ e)
-shown_long c false true None h e = not_nil _ _ (then_nil _ _ e)
-shown_long c b d v h e = not_nil _ _ e
+shown_long c b d v h e = grind arith
 
 pub shown_short : (c : List Rule) (b d : Bool) (rest : Text) (h : Held) (more : Held → Kinds)
     → short_fault c false (cond b (Some help) (cond d (Some version) None)) rest h more ≡ [] → ⊥
-shown_short c true d rest h more e = not_nil _ _ (then_nil _ _ (first_nil _ _ e))
-shown_short c false true rest h more e = not_nil _ _ (then_nil _ _ (first_nil _ _ e))
-shown_short c false false rest h more e = not_nil _ _ e
+shown_short c b d rest h more e = grind arith
 
 abbrev pub flag_filled : Text → Rule
 flag_filled flag = filled (flag_rule flag)
@@ -384,26 +367,17 @@ module _ (c : Form) where
 -- a flag that is met settles what is pending
 long_settles : (c : List Rule) (a : Option Rule) (v : Option Text) (h : Held) → long_fault c false a v h ≡ []
     → settle_fault c false h ≡ []
-long_settles c None v h e = not_nil _ _ e
-long_settles c (Some a) v h e = go (takes_values a) v e
-  where
-    go : (b : Bool) (v : Option Text) → cond b (option_fault c false a v h) (cond (is_some v) (TooManyValues ∷ [])
-        (react_fault c false a [] h)) ≡ [] → settle_fault c false h ≡ []
-    go true (Some x) e = first_nil _ _ e
-    go true None e = e
-    go false (Some x) e = not_nil _ _ e
-    go false None e = first_nil _ _ e
+long_settles c a v h e = grind arith
 
 -- a first use, and a second
 abbrev repeats : Bool → Kinds
 repeats b = or_else (cond (b && true) (ArgumentConflict ∷ []) []) []
 
 first_use : (id : Text) (rows : List Row) → row_at id rows ≡ None → repeats (has_row id rows) ≡ []
-first_use id rows none = ap repeats (has_row-at id rows ∙ ap (λ (o : Option Row). is_some o) none)
+first_use id rows none = grind (arith, has_row-at id rows)
 
 again : (id : Text) (r : Row) (rows : List Row) → row_at id rows ≡ Some r → repeats (has_row id rows) ≡ [] → ⊥
-again id r rows is e =
-    not_nil _ _ (sym (ap repeats (has_row-at id rows ∙ ap (λ (o : Option Row). is_some o) is)) ∙ e)
+again id r rows is e = grind (arith, has_row-at id rows)
 
 -- ---- the command
 
@@ -531,8 +505,7 @@ module _ (c : Form) (is : IsCommand c) where
   operand_fault id p rows pending found = simp (found, and-false)
 
   stray : (p : ℕ) (h : Held) → arg_by_index c.rules p ≡ None → step_fault s p h value ≡ [] → ⊥
-  stray p h none e =
-      not_nil _ _ (sym (ap (λ o. option_map_or (λ a. positional_fault c.rules false a h) o (stray_fault s)) none) ∙ e)
+  stray p h none e = grind arith
 
   moves : (id word : Text) (p : ℕ) (t : Bool) (rows : List Row) (pending : Pending) → arg_by_index c.rules p ≡ Some (place_of id p)
       → to_positional c.rules (arg_by_index c.rules p) word (idle_walk (at rows pending) p t) (at rows pending)
@@ -575,7 +548,7 @@ module _ (c : Form) (is : IsCommand c) where
   bad_step : (rows : List Row) (pending : Pending) (p : ℕ) (left : List Text) → Paths c.rules c.flag p left → Bad rows pending
       → step_fault s p (at rows pending) value ≡ [] → ⊥
   bad_step rows pending p [] paths bad e = stray p (at rows pending) paths e
-  bad_step rows pending p (id ∷ left) paths bad e = bad (sym (operand_fault id p rows pending paths.0) ∙ e)
+  bad_step rows pending p (id ∷ left) paths bad e = grind (arith, operand_fault id p rows pending paths.0)
 
   bad_after : (waiting : Waiting) (rows : List Row) (pending : Pending) (p : ℕ) (left rest : List Text) → Paths c.rules c.flag p left
       → Bad rows pending → fault (walk_with waiting (at rows pending) p true) rest ≡ [] → ⊥
@@ -722,18 +695,16 @@ module _ (c : Form) (is : IsCommand c) where
         let file = cond (r || false) (cond hr (Some report_filled) other) other in
         cond (f || false) (cond hf (Some (flag_filled c.flag)) file) file)
         → (met : Bool) (file : Option Text) → fits so_far done left met file → After false (f && not (is_some v)) (cond r (Some v) None) false met file
-    long_answers name v true f true re hf hfe hr hre turn met file known =
-        absurd (true≢false (sym re ∙ ap (bytes_eq (codes "report")) (sym ((bytes_eq-Decides c.flag name).0 f)) ∙ is.apart.1))
+    long_answers name v true f true re hf hfe hr hre turn met file known = grind (arith, bytes_eq-Decides c.flag name, is.apart)
     long_answers name None true f false re true hf hr hre turn met file known = flag_met met file known turn hf
     long_answers name (Some x) true f false re true hf hr hre turn met file known =
         stops w word rest (λ e. not_nil _ _ (sym turn.0 ∙ e))
     long_answers name None true f false re false hf hr hre turn true file known = no_option _ None turn
-    long_answers name None true f false re false hf hr hre turn false file known = absurd (true≢false (sym (known.unflagged hf)))
     long_answers name (Some x) true f false re false hf hr hre turn met file known = no_option _ (Some x) turn
     long_answers name v false f true re hf hfe true hr turn met file known = file_met v met file known turn hr
     long_answers name v false f true re hf hfe false hr turn met (Some g) known = no_option _ v turn
-    long_answers name v false f true re hf hfe false hr turn met None known = absurd (true≢false (sym (known.unfiled hr)))
     long_answers name v false f false re hf hfe hr hre turn met file known = no_option _ v turn
+    long_answers name v f fe r re hf hfe hr hre turn met file known = grind (arith, known.unflagged, known.unfiled)
 
     word_answers : (met : Bool) (file : Option Text) → fits so_far done left met file → Go true rest
         → After (bytes_eq word (codes "--")) (bytes_eq word (45 ∷ 45 ∷ c.flag)) (as_report word) (is_taken word) met file

@@ -2,8 +2,8 @@
 -- (`task_requested`), and words that are a task are never refused but for memory (`words_pass`).
 -- `Words` has the pass over the words of a subcommand, which finds what the definitions say, and `Parse` shows
 -- that clap finds the same, for each command of one form; the three subcommands are such.
-use Rattle.std.proofs.Common.{◌==◌, ◌||◌, ◌∙◌, ◌∷◌, ◌≡◌, [], ℕ, Bool, List, None, Option, Some, ap, codes, cond, false, is_some, refl, rules, subst, sym, true}
-use Rattle.std.proofs.Common.{◌&&◌, inl, inr, length, true≢false, fold, map, option_map, option_and_then, slice_get, slice_index_or, bytes_eq}
+use Rattle.std.proofs.Common.{◌==◌, ◌||◌, ◌∙◌, ◌∷◌, ◌≡◌, [], ℕ, Bool, List, None, Option, Some, ap, arith, codes, cond, false, is_some, refl, rules, subst, sym, true}
+use Rattle.std.proofs.Common.{◌&&◌, length, fold, map, option_map, option_and_then, slice_get, slice_index_or, bytes_eq}
 use Rattle.std.specs.Prelude.{unwrap_or}
 use Rattle.std.proofs.Math.Bool.{or-true}
 use Rattle.std.proofs.lemmas.Slice.Eq.{bytes_eq-Decides}
@@ -21,12 +21,11 @@ use Rattle.command_line.proofs.Parse.{shown_long, shown_short, then_nil, Holds, 
 use Rattle.command_line.proofs.Words.{Seen, before, is_taken, scan, taken_bare, Pairs, formed_found, found_formed, scan_parts, is_met, is_named, match_up}
 use Rattle.command_line.proofs.Words.{pairs, seen_of, words_of}
 use Rattle.std.specs.Borrow.{Bor}
-use Rattle.std.proofs.lemmas.Bool.{or_cases}
 use Rattle.clap.specs.declared.error.Error.{Error}
 use Rattle.clap.specs.declared.parser.matches.ArgMatches.{ArgMatches}
 use Rattle.clap.specs.declared.parser.matches.ArgMatches.TheViews.{out-ArgMatches}
 use Rattle.clap.specs.declared.parser.matches.Found.{Found}
-use Rattle.command_line.specs.CommandLine.{AreTexts, RequestsTask, are_operands, is_check, is_explain, is_run, is_well_formed, operands}
+use Rattle.command_line.specs.CommandLine.{AreTexts, RequestsTask, are_operands, is_well_formed, operands}
 use Rattle.command_line.specs.steps.Given.{GivesTask, Sets, value_at}
 use Rattle.command_line.specs.declared.task.Task.{Task}
 use Rattle.command_line.specs.declared.task.Task.TheVariants.{Check, Explain, Run}
@@ -98,8 +97,7 @@ ended w = or_else (entered_fault whole w.stopped) (or_else (settle_fault top.rul
     (check_fault top (finished top.rules w.held) (is_some (entered whole w.stopped)))))
 
 nothing_else : (k : Kinds) → or_else k [] ≡ k
-nothing_else [] = refl
-nothing_else (k ∷ ks) = refl
+nothing_else k = grind arith
 
 -- the words after the subcommand's name decide
 abbrev Enters : Form → Text → List Text → Type 0
@@ -267,16 +265,14 @@ task_read (program ∷ word ∷ rest) e =
     go false is false f false g false met = absurd (stranger program word rest e met)
 
 pub words_pass : (words : List Text) → is_well_formed words ≡ true → fault_of program_app words ≡ []
-words_pass (program ∷ name ∷ rest) e = elim (or_cases (bytes_eq name (codes "run") && is_run rest)
-    (bytes_eq name (codes "check") && is_check rest || bytes_eq name (codes "explain") && is_explain rest) e) [
-      | inl run ↦ words_fit run_form run_sub program name rest 4 refl run
-      | inr other ↦ elim (or_cases (bytes_eq name (codes "check") && is_check rest)
-          (bytes_eq name (codes "explain") && is_explain rest) other) [
-            | inl check ↦ words_fit check_form check_sub program name rest 2 refl check
-            | inr code ↦ words_fit explain_form explain_sub program name rest 1 refl code
-          ]
-    ]
-words_pass words e = absurd (true≢false (sym e))
+words_pass (program ∷ name ∷ rest) e =
+    grind (
+      arith,
+      words_fit run_form run_sub program name rest 4 refl,
+      words_fit check_form check_sub program name rest 2 refl,
+      words_fit explain_form explain_sub program name rest 1 refl,
+    )
+words_pass words e = grind arith
 
 -- ---- the parse, as the caller sees it
 
@@ -286,8 +282,7 @@ is_simple_program = refl
 
 option_maps : {A B C : Type 0} (f : B → C) (g : A → B) (o : Option A)
     → option_map (λ a. f (g a)) o ≡ option_map f (option_map g o)
-option_maps f g None = refl
-option_maps f g (Some a) = refl
+option_maps f g o = grind arith
 
 -- the words of the subcommand that the matches give
 pub has_read : (app : App) (words : List Text) (m : ArgMatches) (o : Option (Bor Text × Bor ArgMatches)) (p : Bor Text × Bor ArgMatches)
@@ -323,11 +318,10 @@ values f done (id ∷ ids) (word ∷ ops) e holds =
     let more = values f ((id, word) ∷ done) ids ops e holds in
     let first : first_value f id ≡ Some word = first_value-rows f id ∙ ap (option_and_then (λ (r : Row). slice_get r.values 0)) more.1.0 in
     (λ j. unwrap_or (sym first j) [] ∷ more.0 j, more.1.1)
-values f done ids ops e holds = absurd (true≢false (sym e))
+values f done ids ops e holds = grind arith
 
 file_of : (file : Option Text) → option_and_then (λ (r : Row). slice_get r.values 0) (row_of (codes "report") file) ≡ file
-file_of None = refl
-file_of (Some f) = refl
+file_of file = grind arith
 
 -- ---- the subcommand, and its task
 
@@ -359,8 +353,7 @@ module _ (words : List Text) (name : Text) (f : Found) (got : HasRead words name
         ∙ ap (λ (m : Seen). m.1) (sym found.1)
       where
         go : (m : Bool) → one_text f c.flag ≡ row_text (source_of c.flag m) → flag ≡ m
-        go true r = sets.0 r
-        go false r = sets.1 r
+        go m r = grind (arith, sets.0, sets.1)
 
   -- the task is the one that the words request
   pub task_requested : (task : Task) → GivesTask name f task → RequestsTask words task
@@ -393,8 +386,8 @@ pub refused : (app : App) (words : List Text) (e : Error) → app ≡ program_ap
     → (is_simple_and_free app ≡ true → HasKind (fault_of app words) e)
     → fault_of program_app words ≡ [] → kind_of e ≡ OutOfMemory
 refused app words e is kinds none =
-    elim (subst (λ (ks : Kinds). HasKind ks e) (ap (λ (a : App). fault_of a words) is ∙ none)
-    (kinds (ap is_simple_and_free is ∙ is_simple_program))) [
-      | inl memory ↦ memory
-      | inr other ↦ absurd other
-    ]
+    grind (
+      arith,
+      subst (λ (ks : Kinds). HasKind ks e) (ap (λ (a : App). fault_of a words) is ∙ none)
+          (kinds (ap is_simple_and_free is ∙ is_simple_program)),
+    )

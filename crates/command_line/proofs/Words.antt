@@ -3,21 +3,19 @@
 use Rattle.std.proofs.Common.{◌&&◌, ◌==◌, ◌||◌, ◌∙◌, ◌∷◌, ◌≡◌, [], ℕ, Bool, List, None, Option, Some, ap, arith, codes, cond, eq-eqb, eqb-true, false, get_or}
 use Rattle.std.proofs.Common.{is_some, length, not, refl, subst, suc, sym, true, true≢false, option_and_then, slice_get, IsUtf8, bytes_eq, chars}
 use Rattle.std.proofs.Common.{encode_utf8_all}
-use Rattle.std.specs.Option.{option_map_or, unwrap_or}
+use Rattle.std.specs.Option.{option_map_or}
 use Rattle.std.specs.List.{before_first}
-use Rattle.std.proofs.lemmas.Bool.{false_from_ne_true, not-true}
-use Rattle.std.proofs.lemmas.Option.{none-some, option_and_then_some}
+use Rattle.std.proofs.lemmas.Bool.{false_from_ne_true}
+use Rattle.std.proofs.lemmas.Option.{option_and_then_some}
 use Rattle.std.proofs.lemmas.Slice.Eq.{bytes_eq-Decides}
 use Rattle.std.proofs.lemmas.Str.{chars_past_char, encodes-chars}
 use Rattle.std.proofs.lemmas.List.Folds.{list_any_at}
-use Rattle.clap.specs.Lexer.{has_byte, long_of, long_of_rest, short_of, short_of_rest, strip_byte}
+use Rattle.clap.specs.Lexer.{has_byte, long_of, long_of_rest, short_of, strip_byte}
 use Rattle.clap.specs.Walk.{Text}
 use Rattle.clap.proofs.WalkLemmas.{both}
 use Rattle.clap.proofs.CutLemmas.{before_first-Lacks}
-use Rattle.command_line.specs.CommandLine.{as_report, is_plain_word, report_option, AreTexts, are_operands, are_plain, has_flag, names_file, names_file_by}
+use Rattle.command_line.specs.CommandLine.{as_report, is_plain_word, report_option, AreTexts, are_operands, are_plain, has_flag, names_file}
 use Rattle.command_line.specs.CommandLine.{operands, report_of, without_flag, without_report}
-use Rattle.std.proofs.Math.Bool.{and-false}
-use Rattle.std.proofs.Math.Dec.{eqb-suc-suc, eqb-suc-zero, eqb-zero-suc}
 
 -- ---- the pass
 
@@ -89,24 +87,14 @@ lacks_all xs lacks = before_first-Lacks 61 xs
     (λ i lt e. true≢false (sym (list_any_at (λ x. x == 61) xs i 0 lt (eq-eqb (get_or xs i 0) 61 e)) ∙ lacks))
 
 no_value : (b : Bool) (v : Text) → cond b (Some v) None ≡ None → b ≡ false
-no_value true v e = cc
-no_value false v e = refl
+no_value b v e = grind arith
 
 named : (rest name : Text) → long_of_rest rest ≡ Some (name, None) → rest ≡ name
-named [] name e = cc
-named (x ∷ xs) name e =
-    let text : Option (Text × Option Text) → Text = λ o. (unwrap_or o ([], None)).0 in
-    let worth : Option (Text × Option Text) → Option Text = λ o. (unwrap_or o ([], None)).1 in
-    sym (lacks_all (x ∷ xs) (no_value (has_byte 61 (x ∷ xs)) _ (ap worth e))) ∙ ap text e
+named rest name e = grind (arith, lacks_all rest, no_value (has_byte 61 rest))
 
 -- what follows a hyphen
 stripped : (word rest : Text) → strip_byte 45 word ≡ Some rest → word ≡ 45 ∷ rest
-stripped [] rest e = cc
-stripped (x ∷ xs) rest e = go (x == 45) refl e
-  where
-    go : (b : Bool) → (x == 45) ≡ b → cond b (Some xs) None ≡ Some rest → x ∷ xs ≡ 45 ∷ rest
-    go true is f = let same : xs ≡ rest = cc in λ j. eqb-true x 45 is j ∷ same j
-    go false is f = cc
+stripped word rest e = grind (arith, eqb-true)
 
 pub long_text : (word name : Text) → long_of word ≡ Some (name, None) → word ≡ 45 ∷ 45 ∷ name
 long_text word name e =
@@ -117,19 +105,10 @@ long_text word name e =
 -- ---- a word that clap takes for an operand
 
 pub plain_taken : (word : Text) → is_plain_word word ≡ true → is_taken word ≡ true
-plain_taken [] e = refl
-plain_taken (c ∷ []) e = go (c == 45)
-  where
-    go : (b : Bool) → (not (b && false)
-        && (not (is_some (option_and_then long_of_rest (option_and_then (strip_byte 45) (cond b (Some []) None))))
-        && has_no_short (option_and_then short_of_rest (cond b (Some []) None)))) ≡ true
-    go true = refl
-    go false = refl
-plain_taken (c ∷ x ∷ rest) e = let no : (c == 45) ≡ false = not-true (c == 45) e in simp no
+plain_taken word e = grind arith
 
 pub none_of : {A : Type 0} (o : Option A) → not (is_some o) ≡ true → o ≡ None
-none_of None e = refl
-none_of (Some x) e = absurd (true≢false (sym e))
+none_of o e = grind arith
 
 pub taken_bare : (word : Text) → is_taken word ≡ true → long_of word ≡ None
 taken_bare word e = none_of (long_of word) (both (not (is_some (long_of word))) (has_no_short (short_of word))
@@ -138,7 +117,7 @@ taken_bare word e = none_of (long_of word) (both (not (is_some (long_of word))) 
 -- what stands behind a hyphen begins with a character
 no_first : (cs : List ℕ) → not (is_some (slice_get cs 0)) ≡ true → cs ≡ []
 no_first [] e = refl
-no_first (c ∷ cs) e = absurd (true≢false (sym e))
+no_first (c ∷ cs) e = grind arith
 
 character_behind : (x : ℕ) (rest : Text) → IsUtf8 (45 ∷ x ∷ rest)
     → not (is_some (slice_get (chars (x ∷ rest)) 0)) ≡ true → ⊥
@@ -154,8 +133,7 @@ character_behind x rest utf8 e =
 
 -- `--` is itself, and a word with more behind two hyphens has a long name
 no_double : (rest : Text) → (not (bytes_eq rest []) && (not (is_some (long_of_rest rest)) && true)) ≡ false
-no_double [] = refl
-no_double (y ∷ ys) = refl
+no_double rest = grind arith
 
 -- of texts clap takes the plain ones for operands
 pub taken_plain : (word : Text) → IsUtf8 word → is_taken word ≡ is_plain_word word
@@ -174,21 +152,22 @@ taken_plain (c ∷ x ∷ rest) utf8 = go (c == 45) refl (x == 45) refl
 abbrev pub Apart : Bool → Option (Option Text) → Bool → Type 0
 Apart flagged report plain = (not ((is_some report || plain) && flagged) && not (is_some report && plain)) ≡ true
 
+apart_names : (f r : Bool) (v : Option Text) → (f ≡ true → r ≡ false) → Apart (f && not (is_some v)) (cond r (Some v) None) false
+apart_names f r v apart = grind (arith, apart)
+
 module _ (flag : Text) (long : long_of (45 ∷ 45 ∷ flag) ≡ Some (flag, None)) where
   pub flag_word : (word : Text) → bytes_eq word (45 ∷ 45 ∷ flag) ≡ is_flag flag (long_of word)
   flag_word word = go (bytes_eq word (45 ∷ 45 ∷ flag)) refl
     where
       is_word : (o : Option (Text × Option Text)) → long_of word ≡ o → is_flag flag o ≡ true → word ≡ 45 ∷ 45 ∷ flag
-      is_word None is e = absurd (true≢false (sym e))
-      is_word (Some (name, Some x)) is e = absurd (true≢false (sym (both (bytes_eq flag name) false e).1))
       is_word (Some (name, None)) is e =
           long_text word name is ∙ ap (λ (t : Text). 45 ∷ 45 ∷ t) (sym ((bytes_eq-Decides flag name).0 (both (bytes_eq flag name) true e).0))
+      is_word o is e = grind arith
 
       go : (b : Bool) → bytes_eq word (45 ∷ 45 ∷ flag) ≡ b → b ≡ is_flag flag (long_of word)
       go true e = sym (ap (is_flag flag) (ap long_of ((bytes_eq-Decides word (45 ∷ 45 ∷ flag)).0 e) ∙ long)
           ∙ (λ j. (bytes_eq-Decides flag flag).1 refl j && true))
-      go false e = sym (false_from_ne_true (is_flag flag (long_of word))
-          (λ f. true≢false (sym ((bytes_eq-Decides word (45 ∷ 45 ∷ flag)).1 (is_word (long_of word) refl f)) ∙ e)))
+      go false e = grind (arith, is_word (long_of word) refl, (bytes_eq-Decides word (45 ∷ 45 ∷ flag)).1)
 
   pub word_apart : (is_operand : Text → Bool) → bytes_eq (codes "report") flag ≡ false
       → ((word : Text) → is_operand word ≡ true → long_of word ≡ None)
@@ -199,15 +178,9 @@ module _ (flag : Text) (long : long_of (45 ∷ 45 ∷ flag) ≡ Some (flag, None
       go : (o : Option (Text × Option Text)) (plain : Bool) → (plain ≡ true → o ≡ None) → Apart (is_flag flag o) (report_option o) plain
       go None true none = refl
       go None false none = refl
-      go (Some q) true none = absurd (none-some q (sym (none refl)))
-      go (Some q) false none = names (bytes_eq flag q.0) refl (bytes_eq (codes "report") q.0) refl
-        where
-          names : (f : Bool) → bytes_eq flag q.0 ≡ f → (r : Bool) → bytes_eq (codes "report") q.0 ≡ r
-              → Apart (f && not (is_some q.1)) (cond r (Some q.1) None) false
-          names f e false g = refl
-          names false e true g = refl
-          names true e true g =
-              absurd (true≢false (sym g ∙ ap (bytes_eq (codes "report")) (sym ((bytes_eq-Decides flag q.0).0 e)) ∙ apart))
+      go (Some q) true none = grind (arith, none)
+      go (Some q) false none = apart_names (bytes_eq flag q.0) (bytes_eq (codes "report") q.0) q.1
+          (λ e. ap (bytes_eq (codes "report")) (sym ((bytes_eq-Decides flag q.0).0 e)) ∙ apart)
 
 -- as many operands as are left
 abbrev pub match_up : List Text → List Text → Bool
@@ -216,10 +189,8 @@ match_up (word ∷ ops) (id ∷ left) = match_up ops left
 match_up _ _ = false
 
 matched : (ops left : List Text) → match_up ops left ≡ (length ops == length left)
-matched [] [] = refl
-matched [] (id ∷ left) = sym (eqb-zero-suc (length left))
-matched (word ∷ ops) [] = sym (eqb-suc-zero (length ops))
-matched (word ∷ ops) (id ∷ left) = matched ops left ∙ sym (eqb-suc-suc (length ops) (length left))
+matched [] left = grind arith
+matched (word ∷ ops) left = grind (arith, matched ops)
 
 -- the paths with these operands
 abbrev pub pairs : Pairs → List Text → List Text → Pairs
@@ -289,60 +260,17 @@ module _ (is_operand : Text → Bool) (flag : Text) where
       → bytes_eq word (45 ∷ 45 ∷ flag) ≡ f → as_report word ≡ r → is_operand word ≡ a → Apart f r a
       → (done : Pairs) (left : List Text) (met : Bool) (file : Option Text)
       → word_met d f r a word done left met file (meaning rest) ≡ with_file done left met file (word ∷ rest)
-  by_word word rest true g r a ed ef er ea apart done left true (Some f) = simp ed
-  by_word word rest true g r a ed ef er ea apart done left false (Some f) = simp ed
-  by_word word rest true g r a ed ef er ea apart done left met file = simp ed
-  by_word word rest false true (Some v) a ed ef er ea apart done left met file = absurd (true≢false (sym apart))
-  by_word word rest false true None true ed ef er ea apart done left met file = absurd (true≢false (sym apart))
-  by_word word rest false true None false ed ef er ea apart done left true (Some f) = simp (ed, ea)
-  by_word word rest false true None false ed ef er ea apart done left false (Some f) = simp (ed, ef)
-  by_word word rest false true None false ed ef er ea apart done left true None = simp (ed, er, ea, and-false)
-  by_word word rest false true None false ed ef er ea apart done left false None = simp (ed, ef, er)
-  by_word word rest false false (Some v) true ed ef er ea apart done left met file = absurd (true≢false (sym apart))
-  by_word word rest false false (Some value) false ed ef er ea apart done left true (Some f) = simp (ed, ea)
-  by_word word rest false false (Some value) false ed ef er ea apart done left false (Some f) = simp (ed, ef, ea)
-  by_word word rest false false (Some (Some x)) false ed ef er ea apart done left met file = simp (ed, er)
-  by_word word [] false false (Some None) false ed ef er ea apart done left met file = simp (ed, er)
-  by_word word (next ∷ rest) false false (Some None) false ed ef er ea apart done left met file = simp (ed, er) (nested (is_operand next) _ _)
-  by_word word rest false false None true ed ef er ea apart done [] true (Some f) = simp (ed, ea, and-false)
-  by_word word rest false false None true ed ef er ea apart done [] false (Some f) = simp (ed, ef, ea, and-false)
-  by_word word rest false false None true ed ef er ea apart done [] true None = simp (ed, er, ea, and-false)
-  by_word word rest false false None true ed ef er ea apart done [] false None = simp (ed, ef, er, ea, and-false)
-  by_word word rest false false None true ed ef er ea apart done (id ∷ left) true (Some f) = simp (ed, ea)
-  by_word word rest false false None true ed ef er ea apart done (id ∷ left) false (Some f) = simp (ed, ef, ea)
-  by_word word rest false false None true ed ef er ea apart done (id ∷ left) true None = simp (ed, er, ea)
-  by_word word rest false false None true ed ef er ea apart done (id ∷ left) false None = simp (ed, ef, er, ea)
-  by_word word rest false false None false ed ef er ea apart done left true (Some f) = simp (ed, ea)
-  by_word word rest false false None false ed ef er ea apart done left false (Some f) = simp (ed, ef, ea)
-  by_word word rest false false None false ed ef er ea apart done left true None = simp (ed, er, ea, and-false)
-  by_word word rest false false None false ed ef er ea apart done left false None = simp (ed, ef, er, ea, and-false)
-
-  at_the_end : (done : Pairs) (left : List Text) (met : Bool) (file : Option Text)
-      → at_end done left met file ≡ counted done left met file []
-  at_the_end done [] met file = refl
-  at_the_end done (id ∷ left) met file = refl
-
-  after_dashes : (word : Text) (rest : List Text) (done : Pairs) (left : List Text) (met : Bool) (file : Option Text)
-      → operand_met word after done left met file (meaning rest) ≡ counted done left met file (word ∷ rest)
-  after_dashes word rest done [] met file = refl
-  after_dashes word rest done (id ∷ left) met file = refl
+  by_word word rest d f r a ed ef er ea apart done left met file = grind arith
 
   module _ (apart : (word : Text) → Apart (bytes_eq word (45 ∷ 45 ∷ flag)) (as_report word) (is_operand word)) where
     pub scan_means : (words : List Text) (place : Place) (done : Pairs) (left : List Text) (met : Bool) (file : Option Text)
         → scan is_operand flag words place done left met file ≡ meaning words place done left met file
-    scan_means [] before done left true (Some f) = at_the_end done left true (Some f)
-    scan_means [] before done left false (Some f) = at_the_end done left false (Some f)
-    scan_means [] naming done left met file = refl
-    scan_means [] place done left met file = at_the_end done left met file
+    scan_means [] place done left met file = grind arith
     scan_means (word ∷ rest) before done left met file =
         (λ j. word_met (bytes_eq word (codes "--")) (bytes_eq word (45 ∷ 45 ∷ flag)) (as_report word) (is_operand word) word
         done left met file (λ p d l m f. scan_means rest p d l m f j))
         ∙ by_word word rest _ _ _ _ refl refl refl refl (apart word) done left met file
-    scan_means (word ∷ rest) after done left met file =
-        (λ j. operand_met word after done left met file (λ p d l m f. scan_means rest p d l m f j))
-        ∙ after_dashes word rest done left met file
-    scan_means (word ∷ rest) naming done left met file =
-        λ j. cond (is_operand word) (scan_means rest before done left met (Some word) j) None
+    scan_means (word ∷ rest) place done left met file = grind (arith, scan_means rest)
 
 -- ---- another test of operands
 
@@ -358,9 +286,7 @@ module _ (p q : Text → Bool) (flag : Text) (P : List Text → Type 0)
     where
       go : (a b : Bool) → (a ≡ true → b ≡ true) → {x y : Option Seen} → (x ≡ Some seen → y ≡ Some seen) → cond a x None ≡ Some seen
           → cond b y None ≡ Some seen
-      go true true pass more e = more e
-      go true false pass more e = absurd (true≢false (sym (pass refl)))
-      go false b pass more e = cc
+      go a b pass more e = grind (arith, pass, more)
   scan_passes (word ∷ rest) each before done left met file seen e = go (bytes_eq word (codes "--")) (bytes_eq word (45 ∷ 45 ∷ flag))
       (as_report word) (p word) (q word) (passes word rest each).0 left met file
       (λ place done left met file. scan_passes rest (passes word rest each).1 place done left met file seen) e
@@ -370,29 +296,18 @@ module _ (p q : Text → Bool) (flag : Text) (P : List Text → Type 0)
           → scan p flag rest place done left met file ≡ Some seen → scan q flag rest place done left met file ≡ Some seen)
           → word_met d f r a word done left met file (scan p flag rest) ≡ Some seen
           → word_met d f r b word done left met file (scan q flag rest) ≡ Some seen
-      go true f r a b pass left met file more e = more after done left met file e
-      go false true r a b pass left false file more e = more before done left true file e
-      go false false (Some None) a b pass left met None more e = more naming done left met None e
-      go false false (Some (Some f)) a b pass left met None more e = more before done left met (Some f) e
-      go false false None true true pass (id ∷ left) met file more e = more before ((id, word) ∷ done) left met file e
-      go false false None true false pass left met file more e = absurd (true≢false (sym (pass refl)))
-      go d f r a b pass left met file more e = cc
+      go d f r a b pass left met file more e = grind (arith, pass, more)
   scan_passes words each place done left met file seen e = e
 
 -- ---- the definitions of the command line
 
 plain_all : (words : List Text) → plain_by is_plain_word words ≡ are_plain words
 plain_all [] = refl
-plain_all (word ∷ rest) = ap (λ b. cond (bytes_eq word (codes "--")) true (is_plain_word word && b)) (plain_all rest)
-
-name_same : (o : Option (Option Text)) (rest : List Text) (later : Bool) → name_by is_plain_word o rest later ≡ names_file_by o rest later
-name_same (Some None) rest later = refl
-name_same o rest later = refl
+plain_all (word ∷ rest) = grind (arith, plain_all rest)
 
 names_all : (words : List Text) → names_by is_plain_word words ≡ names_file words
 names_all [] = refl
-names_all (word ∷ rest) = ap (cond (bytes_eq word (codes "--")) true)
-    (name_same (as_report word) rest _ ∙ ap (names_file_by (as_report word) rest) (names_all rest))
+names_all (word ∷ rest) = grind (arith, names_all rest)
 
 -- the report's option names a file
 abbrev pub is_named : Option Text → List Text → Bool
@@ -419,8 +334,7 @@ module _ (flag : Text) (long : long_of (45 ∷ 45 ∷ flag) ≡ Some (flag, None
       (sym (scan_means p flag (word_apart flag long p apart bare) rest before [] left met file) ∙ found)
     where
       go : (a b c : Bool) → cond (a && (b && c)) (Some said) None ≡ Some seen → (a ≡ true) × (b ≡ true) × (c ≡ true) × (said ≡ seen)
-      go true true true e = (refl, refl, refl, cc)
-      go a b c e = cc
+      go a b c e = grind arith
 
   -- texts of which it finds something are well-formed
   pub found_formed : (n : ℕ) → length left ≡ n → (seen : Seen) → scan is_taken flag rest before [] left met file ≡ Some seen
