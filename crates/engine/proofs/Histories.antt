@@ -75,11 +75,7 @@ pub decoded_more : (format : Format) (records : List Captured) (x : Captured) (r
     → latest ≡ latest_after format 0 records
     → r ≡ record { moment = max latest (own_moment format x); link = format.link; bytes = x.bytes }
     → decoded_records format (records ++ x ∷ []) ≡ decoded_records format records ++ r ∷ []
-decoded_more format records x r latest is decoded_is =
-    decoded_after_more format 0 records x
-    ∙ ap (λ m. decoded_records format records
-    ++ record { moment = max m (own_moment format x); link = format.link; bytes = x.bytes } ∷ []) (sym is)
-    ∙ ap (λ s. decoded_records format records ++ s ∷ []) (sym decoded_is)
+decoded_more format records x r latest is decoded_is = rw (decoded_is, is) (decoded_after_more format 0 records x)
 
 -- ---- the number of entries
 

@@ -1,4 +1,5 @@
 -- A run, from the results of its calls.
+use Rattle.engine.proofs.Names.{arith}
 use Rattle.engine.proofs.Names.{Recorded, JudgeRefuses, ◌++◌, ◌<◌, Accepted, Bool, Box, Capture, CaptureFault, CaptureState, Consumes, Device, Devices, Err}
 use Rattle.engine.proofs.Names.{Format, HEADER_BYTES, IfErr, IfOk, IfSome, IsAtEnd, IsChecked, IsHistoryOf, IsWithin, Refuses, Laws, LeavesPrefix}
 use Rattle.engine.proofs.Names.{LeftDevices, List, Meaning, Memory, None, NothingTaken, Ok, Option, Pcap, READ_AHEAD, Result, Rules, RunFault, Setup, Some}
@@ -31,14 +32,13 @@ OneMeaning = (rules box capture : List ℕ) (trace : Bool) (count others : ℕ) 
 
 same_setup : Laws → (rules box : List ℕ) (a b : Accepted rules box) → a.setup ≡ b.setup
 same_setup laws rules box a b =
-    ap (λ t. record { rules = t; plant = a.setup.plant }) (laws.tree rules a.setup.rules b.setup.rules a.spelled
-    b.spelled)
-    ∙ ap (λ p. record { rules = b.setup.rules; plant = p }) (laws.plant box a.setup.plant b.setup.plant a.read b.read)
+    λ i. record {
+      rules = laws.tree rules a.setup.rules b.setup.rules a.spelled b.spelled i;
+      plant = laws.plant box a.setup.plant b.setup.plant a.read b.read i;
+    }
 
 same_sign : (s t : Bool) → ending_of s ≡ ending_of t → s ≡ t
-same_sign true true e = refl
-same_sign false false e = refl
-same_sign _ _ e = cc
+same_sign s t e = grind arith
 
 pub one_meaning_of : Laws → OneEntry → OneMeaning
 one_meaning_of laws one = λ rules box capture trace count others torn other_torn sent other_sent report other_report m n.
@@ -46,9 +46,7 @@ one_meaning_of laws one = λ rules box capture trace count others torn other_tor
     let signs : torn ≡ other_torn = same_sign torn other_torn same.1 in
     let setups : m.accepted.setup ≡ n.accepted.setup = same_setup laws rules box m.accepted n.accepted in
     let mine : IsHistoryOf n.accepted.setup [] (decoded_records n.read.format n.records) m.history =
-    subst (λ (rs : List Recorded). IsHistoryOf n.accepted.setup [] rs m.history) (ap (decoded_records m.read.format) same.0
-    ∙ ap (λ (f : Format). decoded_records f n.records) same.2)
-    (subst (λ (s : Setup). IsHistoryOf s [] (decoded_records m.read.format m.records) m.history) setups m.is_history) in
+    rw (← same.2, ← same.0, ← setups) m.is_history in
     let histories : m.history ≡ n.history = one_history one n.accepted.setup [] (decoded_records n.read.format n.records)
     m.history n.history mine n.is_history in (
       m.counted ∙ ap length same.0 ∙ sym n.counted,

@@ -1,4 +1,5 @@
 -- Inputs have at most one refusal, and then no meaning; and two texts have at most one judgement.
+use Rattle.engine.proofs.Names.{arith}
 use Rattle.engine.proofs.Names.{◌-◌, Accepted, Bool, Box, Capture, CaptureFault, Captured, Check, CheckFault, Counts, Device, Ending, IsOfTexts, IsRefusal}
 use Rattle.engine.proofs.Names.{IsRefused, JudgeRefuses, Judged, Laws, LeastFault, List, Meaning, Memory, Option, Pcap, PlantTree, Refuses, Rules, RunFault}
 use Rattle.engine.proofs.Names.{Some, Spelled, TableTree, Text, WellFormed, [], ◌^◌, ap, chain_count, ending_of, false, fault_at, header_fault, inl, inr}
@@ -34,8 +35,7 @@ not_both : (capture : List ℕ) (fault : CaptureFault) (records : List Captured)
 not_both capture fault records ending h read = let e = sym h ∙ ap result_err read.accepted in cc
 
 not_ending : (torn : Bool) (fault : CaptureFault) → fault_at (ending_of torn) ≡ Some fault → ⊥
-not_ending true fault e = cc
-not_ending false fault e = cc
+not_ending torn fault e = grind arith
 
 module _ (laws : Laws) where
   one_of : (capture : List ℕ) (fault other : CaptureFault) → IsRefused capture fault → IsRefused capture other
@@ -100,9 +100,7 @@ module _ (laws : Laws) (rules box : List ℕ) where
   alone capture (Capture f) (Rules g) is is' h k = absurd (unaccepted (Rules g) tt h.0 k)
   alone capture (Capture f) (Box g) is is' h k = absurd (unaccepted (Box g) tt h.0 k)
   alone capture (Capture f) (Capture g) is is' h k = ap Capture (one_of laws capture f g h.1 k.1)
-  alone capture Device other is is' h k = absurd is
-  alone capture Memory other is is' h k = absurd is
-  alone capture fault _ is is' h k = absurd is'
+  alone capture fault other is is' h k = grind arith
 
   -- ---- judging
 
@@ -110,12 +108,11 @@ module _ (laws : Laws) (rules box : List ℕ) where
   pub judged_once : (counts other : Counts) → Judged rules box counts → Judged rules box other → counts ≡ other
   judged_once counts other j k =
       let same : j.texts.tables ≡ k.texts.tables = same_tables j.texts k.texts in
-      ap (λ n. record { tables = n; chains = counts.chains; rules = counts.rules }) (j.all_tables ∙ ap length same
-      ∙ sym k.all_tables)
-      ∙ ap (λ n. record { tables = other.tables; chains = n; rules = counts.rules }) (j.all_chains
-      ∙ ap (λ ts. min (chain_count ts) (2 ^ 64 - 1)) same ∙ sym k.all_chains)
-      ∙ ap (λ n. record { tables = other.tables; chains = other.chains; rules = n }) (j.all_rules
-      ∙ ap (λ ts. min (rule_count ts) (2 ^ 64 - 1)) same ∙ sym k.all_rules)
+      λ i. record {
+        tables = (j.all_tables ∙ ap length same ∙ sym k.all_tables) i;
+        chains = (j.all_chains ∙ ap (λ ts. min (chain_count ts) (2 ^ 64 - 1)) same ∙ sym k.all_chains) i;
+        rules = (j.all_rules ∙ ap (λ ts. min (rule_count ts) (2 ^ 64 - 1)) same ∙ sym k.all_rules) i;
+      }
 
   -- and no fault
   pub judged_or_faulty : (counts : Counts) (fault : RunFault) → IsOfTexts fault → Judged rules box counts

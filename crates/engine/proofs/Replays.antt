@@ -7,25 +7,27 @@ use Rattle.engine.proofs.Names.{ap, append-nil, append_assoc, arith, decoded_rec
 use Rattle.engine.proofs.Names.{flat_map-append, frame, inl, inr, length, length-append, max, one_more, own_moment, refl, rules, start_of, stream_of, subst}
 use Rattle.engine.proofs.Names.{suc, sym, torn_at, true, unread_input, zero, ℕ, ◌∙◌, ◌∷◌, ◌≡◌, ◌≤◌}
 use Rattle.engine.proofs.Histories.{is_history_more, latest_after, latest_more, decoded_more}
-use Rattle.std.proofs.lemmas.List.Elements.{All-append}
-use Rattle.std.specs.Prelude.{cond, slice_index_or}
+use Rattle.std.proofs.lemmas.List.Elements.{All-push}
+use Rattle.std.specs.Prelude.{cond}
 use Rattle.std.proofs.lemmas.Option.{same_Some}
 use Rattle.list_laws.specs.Options.{IfSome_at, IfSome_weaker}
 use Rattle.pcap_io.specs.declared.fault.CaptureError.TheVariants as errors
 use Rattle.pcap_io.specs.declared.fault.CaptureFault.TheVariants as captures
 use Rattle.engine.specs.declared.fault.RunFault.TheVariants as faults
 
--- these records were taken, and the reader has these bytes left behind those that are held
-pub record Carried (replay : Replay) (input : ReplayInput) (unread w r : Option (List ℕ)) : Type 0 where
-  pub rest : List ℕ
+-- behind the records of a history a reader has these bytes left, after those that are held
+pub record Behind (s : CaptureState) (input : ReplayInput) (unread : Option (List ℕ)) (history : List Entry) : Type 0 where
   pub left : List ℕ
   pub is_left : unread ≡ Some left
-  pub rest_is : rest ≡ replay.records.held ++ left
+  pub follows : BeginsWithRecords input (s.held ++ left) history
+  pub same : s.format ≡ input.format
+  pub counted : s.count ≡ length follows.records
+  pub latest_is : s.latest ≡ latest_after input.format 0 follows.records
+
+-- and a replay represents the history
+pub record Carried (replay : Replay) (input : ReplayInput) (unread w r : Option (List ℕ)) : Type 0 where
   pub history : List Entry
-  pub follows : BeginsWithRecords input rest history
-  pub same : replay.records.format ≡ input.format
-  pub counted : replay.records.count ≡ length follows.records
-  pub latest_is : replay.records.latest ≡ latest_after input.format 0 follows.records
+  pub behind : Behind replay.records input unread history
   pub replay_represents : ReplayRepresents replay (start_of input) history w r
 
 -- none was read yet
@@ -45,19 +47,18 @@ pub begun : (replay : Replay) (input : ReplayInput) (unread w r : Option (List �
     → unread_input replay.records unread ≡ Some (drop HEADER_BYTES input.capture)
     → ReplayRepresents replay (start_of input) [] w r → Carried replay input unread w r
 begun replay input None w r none early same is p = cc
-begun replay input (Some left) w r none early same is p =
-    record {
-      rest = replay.records.held ++ left;
-      left = left;
-      is_left = refl;
-      rest_is = refl;
-      history = [];
-      follows = none_yet input (replay.records.held ++ left) is;
-      same = same;
-      counted = none;
-      latest_is = early;
-      replay_represents = p;
-    }
+begun replay input (Some left) w r none early same is p = record {
+  history = [];
+  behind = record {
+    left = left;
+    is_left = refl;
+    follows = none_yet input (replay.records.held ++ left) is;
+    same = same;
+    counted = none;
+    latest_is = early;
+  };
+  replay_represents = p;
+}
 
 -- ---- what the reader has left
 
@@ -116,14 +117,6 @@ stream_more : (records : List Captured) (last : Captured) (rest : List ℕ)
     → stream_of (records ++ last ∷ []) rest ≡ stream_of records (frame last ++ rest)
 stream_more records last rest = simp (flat_map-append frame records (last ∷ []), append_assoc)
 
-each_more : (format : Format) (records : List Captured) (last : Captured) → All (IsRecord format) records
-    → IsRecord format last → All (IsRecord format) (records ++ last ∷ [])
-each_more format records last each is = All-append (IsRecord format) records (last ∷ []) each (λ k d lt. one k d lt)
-  where
-    one : (k : ℕ) (d : Captured) → k < 1 → IsRecord format (slice_index_or (last ∷ []) k d)
-    one zero d lt = is
-    one (suc k) d lt = absurd (omega (arith, lt))
-
 -- ---- more records
 
 -- what is known of one more record
@@ -131,14 +124,11 @@ record Further (input : ReplayInput) (before : List ℕ) (after : Option (List �
     (history : List Entry) : Type 0 where
   captured : Captured
   is_record : IsRecord input.format captured
-  rest : List ℕ
-  joined : before ≡ frame captured ++ rest
-  left : BytesLeft new after rest
+  left : List ℕ
+  is_left : after ≡ Some left
+  joined : before ≡ frame captured ++ (new.held ++ left)
   last_is : new.last ≡ Some taken
-  follows : (e : Entry) → Next input.accepted.setup history taken e → BeginsWithRecords input rest (e ∷ history)
-  counted : (e : Entry) (n : Next input.accepted.setup history taken e) → new.count ≡ length (follows e n).records
-  latest_is : (e : Entry) (n : Next input.accepted.setup history taken e)
-      → new.latest ≡ latest_after input.format 0 (follows e n).records
+  behind : (e : Entry) → Next input.accepted.setup history taken e → Behind new input after (e ∷ history)
 
 -- what is known of a call of the capture behind these records
 pub record AtRead (replay : Replay) (new : CaptureState) (input : ReplayInput) (unread after w r : Option (List ℕ))
@@ -160,18 +150,7 @@ abbrev pub read_after : {before replay : Replay} (new : CaptureState) {input : R
     → ReplayRepresents replay (start_of input) history w' r') → AtRead replay new input unread after w' r'
 read_after new same at_end takes drains kept few c still =
     record {
-      carried = record {
-        rest = c.rest;
-        left = c.left;
-        is_left = c.is_left;
-        rest_is = c.rest_is ∙ ap (λ (s : CaptureState). s.held ++ c.left) (sym same);
-        history = c.history;
-        follows = c.follows;
-        same = ap (λ (s : CaptureState). s.format) same ∙ c.same;
-        counted = ap (λ (s : CaptureState). s.count) same ∙ c.counted;
-        latest_is = ap (λ (s : CaptureState). s.latest) same ∙ c.latest_is;
-        replay_represents = still c.history c.replay_represents;
-      };
+      carried = record { history = c.history; behind = rw same c.behind; replay_represents = still c.history c.replay_represents };
       kept = kept;
       at_end = rw same at_end;
       takes = takes;
@@ -189,12 +168,12 @@ part_ends format count held (inl whole) = (false, whole)
 part_ends format count held (inr torn) = (true, torn)
 
 -- it stops where a prefix of the output is written
-pub halted : {replay : Replay} {input : ReplayInput} {w r : Option (List ℕ)} (new : Devices) (failed : ℕ)
-    (c : Carried replay input new.unread w r) → new.reads_failed ≡ failed → length replay.records.held ≤ READ_AHEAD
-    → PrefixWritten (start_of input) c.history new.sent new.report → LeavesOf input failed new faults.Device
-halted new failed c none few part =
+pub halted : {s : CaptureState} {input : ReplayInput} {history : List Entry} (new : Devices) (failed : ℕ)
+    (b : Behind s input new.unread history) → new.reads_failed ≡ failed → length s.held ≤ READ_AHEAD
+    → PrefixWritten (start_of input) history new.sent new.report → LeavesOf input failed new faults.Device
+halted {s} new failed b none few part =
     failed_write (record {
-      taken_so_far = so_far new _ c.left c.is_left c.rest_is c.follows;
+      taken_so_far = so_far new s.held b.left b.is_left refl b.follows;
       few = few;
       sent = part.part_sent;
       report = part.part_lines;
@@ -204,17 +183,19 @@ halted new failed c none few part =
 module _ {replay : Replay} {new : CaptureState} {input : ReplayInput} {unread after w r : Option (List ℕ)}
     (call : AtRead replay new input unread after w r)
   where
+    abbrev known : Behind replay.records input unread call.carried.history
+    known = call.carried.behind
+
+    abbrev bytes : List ℕ
+    bytes = replay.records.held ++ known.left
+
     -- what the call says of the bytes to come
-    said : (P : List ℕ → Type 0) → IfSome (ahead replay.records unread) P → P call.carried.rest
-    said P h =
-        IfSome_at (ahead replay.records unread) P call.carried.rest
-        (ahead_is replay.records unread call.carried.left call.carried.is_left call.at_end
-        ∙ ap Some (sym call.carried.rest_is)) h
+    said : (P : List ℕ → Type 0) → IfSome (ahead replay.records unread) P → P bytes
+    said P h = IfSome_at (ahead replay.records unread) P bytes (ahead_is replay.records unread known.left known.is_left call.at_end) h
 
     -- and what it leaves of them
     leaves : (rest : List ℕ) → ahead new after ≡ Some rest → BytesLeft new after rest
-    leaves rest e = still_left new unread after call.carried.left call.takes.0 rest call.carried.is_left
-        call.takes.1 call.drained e
+    leaves rest e = still_left new unread after known.left call.takes.0 rest known.is_left call.takes.1 call.drained e
 
     pub still : ReplayRepresents (read_on replay new) (start_of input) call.carried.history w r
     still = let p = call.carried.replay_represents in search rules
@@ -225,48 +206,48 @@ module _ {replay : Replay} {new : CaptureState} {input : ReplayInput} {unread af
     ReadsOn = IfSome (ahead replay.records unread) (λ bytes.
         NextAnswers bytes (ahead new after) replay.records new (Ok true))
 
-    further : ReadsOn → (taken : Recorded) × Further input call.carried.rest after new taken call.carried.history
+    further : ReadsOn → (taken : Recorded) × Further input bytes after new taken call.carried.history
     further says =
-        let c = call.carried in
         let format = input.format in
-        let same = c.same in
-        let reads : ReadsRecord c.rest (ahead new after) replay.records new =
+        let read = known.follows.records in
+        let reads : ReadsRecord bytes (ahead new after) replay.records new =
         said (λ rest. NextAnswers rest (ahead new after) replay.records new (Ok true)) says in
-        let is : IsRecord format reads.captured = subst (λ (f : Format). IsRecord f reads.captured) same reads.is_record in
+        let l = leaves reads.rest reads.left in
+        let is : IsRecord format reads.captured = subst (λ (f : Format). IsRecord f reads.captured) known.same reads.is_record in
         let latest_now : new.latest ≡ max replay.records.latest (own_moment format reads.captured) =
-        reads.latest_is ∙ ap (λ f. max replay.records.latest (own_moment f reads.captured)) same in
-        let taken : Recorded = record {
-          moment = new.latest;
-          link = replay.records.format.link;
-          bytes = reads.captured.bytes;
-        } in
-        let appends_report : decoded_records format (c.follows.records ++ reads.captured ∷ [])
-        ≡ decoded_records format c.follows.records ++ taken ∷ [] =
-        decoded_more format c.follows.records reads.captured taken replay.records.latest c.latest_is cc in
-        let count_now : new.count ≡ length (c.follows.records ++ reads.captured ∷ []) = let e = c.counted in
-        let f = reads.counted in omega (arith, e, f, length-append c.follows.records (reads.captured ∷ [])) in (
+        reads.latest_is ∙ ap (λ f. max replay.records.latest (own_moment f reads.captured)) known.same in
+        let taken : Recorded = record { moment = new.latest; link = replay.records.format.link; bytes = reads.captured.bytes } in
+        let decoded : decoded_records format (read ++ reads.captured ∷ []) ≡ decoded_records format read ++ taken ∷ [] =
+        let same = known.same in decoded_more format read reads.captured taken replay.records.latest known.latest_is cc in
+        let joined : bytes ≡ frame reads.captured ++ (new.held ++ l.left) =
+        reads.joined ∙ ap (λ xs. frame reads.captured ++ xs) l.joined in
+        let count = known.counted in
+        let more = length-append read (reads.captured ∷ []) in (
           taken,
           record {
             captured = reads.captured;
             is_record = is;
-            rest = reads.rest;
-            joined = reads.joined;
-            left = leaves reads.rest reads.left;
+            left = l.left;
+            is_left = l.is_left;
+            joined = joined;
             last_is = reads.last_is;
-            follows = λ e n. record {
-              records = c.follows.records ++ reads.captured ∷ [];
-              joined = c.follows.joined ∙ ap (stream_of c.follows.records) reads.joined
-                  ∙ sym (stream_more c.follows.records reads.captured reads.rest);
-              each = each_more format c.follows.records reads.captured c.follows.each is;
-              not_over = let e = c.counted in let f = reads.fewer in
-                  omega (arith, e, f, length-append c.follows.records (reads.captured ∷ []));
-              is_history = subst (λ (rs : List Recorded). IsHistoryOf input.accepted.setup [] rs (e ∷ c.history))
-                  (sym appends_report) (is_history_more input.accepted.setup [] (decoded_records format c.follows.records) taken
-                  c.history e c.follows.is_history n);
+            behind = λ e n. record {
+              left = l.left;
+              is_left = l.is_left;
+              follows = record {
+                records = read ++ reads.captured ∷ [];
+                joined = known.follows.joined ∙ ap (stream_of read) joined ∙ sym (stream_more read reads.captured (new.held ++ l.left));
+                each = All-push (IsRecord format) read reads.captured known.follows.each is;
+                not_over = let f = reads.fewer in omega (arith, count, f, more);
+                is_history = subst (λ (rs : List Recorded). IsHistoryOf input.accepted.setup [] rs (e ∷ call.carried.history))
+                    (sym decoded) (is_history_more input.accepted.setup [] (decoded_records format read) taken
+                    call.carried.history e known.follows.is_history n);
+              };
+              same = call.kept ∙ known.same;
+              counted = let f = reads.counted in omega (arith, count, f, more);
+              latest_is = latest_now ∙ ap (λ n. max n (own_moment format reads.captured)) known.latest_is
+                  ∙ sym (latest_more format 0 read reads.captured);
             };
-            counted = λ e n. count_now;
-            latest_is = λ e n. latest_now ∙ ap (λ n. max n (own_moment format reads.captured)) c.latest_is
-                ∙ sym (latest_more format 0 c.follows.records reads.captured);
           },
         )
 
@@ -280,15 +261,9 @@ module _ {replay : Replay} {new : CaptureState} {input : ReplayInput} {unread af
         IfSome_at new.last (λ taken. TakesRecord replay' (start_of input) call.carried.history taken w' r) f.0 f.1.last_is takes
         in
         record {
-          rest = f.1.rest;
-          left = f.1.left.left;
-          is_left = f.1.left.is_left;
-          rest_is = f.1.left.joined ∙ ap (λ (s : CaptureState). s.held ++ f.1.left.left) (sym is);
           history = t.entry ∷ call.carried.history;
-          follows = f.1.follows t.entry t.next;
-          same = ap (λ (s : CaptureState). s.format) is ∙ call.kept ∙ call.carried.same;
-          counted = ap (λ (s : CaptureState). s.count) is ∙ f.1.counted t.entry t.next;
-          latest_is = ap (λ (s : CaptureState). s.latest) is ∙ f.1.latest_is t.entry t.next;
+          behind = subst (λ (s : CaptureState). Behind s input after (t.entry ∷ call.carried.history)) (sym is)
+              (f.1.behind t.entry t.next);
           replay_represents = t.replay_represents;
         }
 
@@ -302,14 +277,8 @@ module _ {replay : Replay} {new : CaptureState} {input : ReplayInput} {unread af
           let b : BreaksAtRecord (start_of input) call.carried.history f.0 now.sent now.report =
           IfSome_at new.last (λ taken. BreaksAtRecord (start_of input) call.carried.history taken now.sent now.report) f.0
           f.1.last_is breaks in
-          let l = f.1.left in
-          failed_write (record {
-            taken_so_far = so_far now new.held l.left (is ∙ l.is_left) l.joined (f.1.follows b.entry b.next);
-            few = call.few;
-            sent = b.part.part_sent;
-            report = b.part.part_lines;
-            all_read = none;
-          })
+          let behind : Behind new input now.unread (b.entry ∷ call.carried.history) = rw is (f.1.behind b.entry b.next) in
+          halted now failed behind none call.few b.part
 
       -- an allocation failed, and all output before it is written
       pub lacks : now.reads_failed ≡ failed → ReadsOn
@@ -317,11 +286,9 @@ module _ {replay : Replay} {new : CaptureState} {input : ReplayInput} {unread af
           → LeavesOf input failed now faults.Memory
       lacks none says all =
           let f = further says in
-          let l = f.1.left in
           inr (record {
-            taken_so_far = so_far now (frame f.1.captured ++ new.held) l.left (is ∙ l.is_left)
-                (f.1.joined ∙ ap (λ xs. frame f.1.captured ++ xs) l.joined
-                ∙ sym (append_assoc (frame f.1.captured) new.held l.left)) call.carried.follows;
+            taken_so_far = so_far now (frame f.1.captured ++ new.held) f.1.left (is ∙ f.1.is_left)
+                (f.1.joined ∙ sym (append_assoc (frame f.1.captured) new.held f.1.left)) known.follows;
             untaken = f.1.captured;
             is_record = f.1.is_record;
             more = new.held;
@@ -339,16 +306,15 @@ module _ {replay : Replay} {new : CaptureState} {input : ReplayInput} {unread af
           → AllWritten (start_of input) call.carried.history now.sent now.report
           → LeavesOf input failed now faults.Device
       cut fails says count all =
-          let c = call.carried in
-          let b : FailsBetween c.rest (ahead new after) new =
+          let b : FailsBetween bytes (ahead new after) new =
           said (λ rest. NextAnswers rest (ahead new after) replay.records new (Err errors.Device)) says in
-          let l = leaves c.rest b.lost_none in
-          let part : IsPartialRecord input.format (length c.follows.records) new.held =
-          subst (λ (n : ℕ). IsPartialRecord input.format n new.held) (count ∙ c.counted)
-          (subst (λ (f : Format). IsPartialRecord f new.count new.held) (call.kept ∙ c.same) b.part) in
-          let ends = part_ends input.format (length c.follows.records) new.held part in
+          let l = leaves bytes b.lost_none in
+          let part : IsPartialRecord input.format (length known.follows.records) new.held =
+          subst (λ (n : ℕ). IsPartialRecord input.format n new.held) (count ∙ known.counted)
+          (subst (λ (f : Format). IsPartialRecord f new.count new.held) (call.kept ∙ known.same) b.part) in
+          let ends = part_ends input.format (length known.follows.records) new.held part in
           failed_read (record {
-            taken_so_far = so_far now new.held l.left (is ∙ l.is_left) l.joined c.follows;
+            taken_so_far = so_far now new.held l.left (is ∙ l.is_left) l.joined known.follows;
             few = call.few;
             torn = ends.0;
             ends = ends.1;
@@ -363,23 +329,22 @@ module _ {replay : Replay} {new : CaptureState} {input : ReplayInput} {unread af
         Ends replay.records.format ending replay.records.count rest × (ahead new after ≡ Some rest))
         → Replayed (read_on replay new) input ending after w r
     replayed ending says =
-        let c = call.carried in
-        let s : Ends replay.records.format ending replay.records.count c.rest × (ahead new after ≡ Some c.rest) =
-        said (λ rest. Ends replay.records.format ending replay.records.count rest × (ahead new after ≡ Some rest)) says
-        in
-        let l = leaves c.rest s.1 in
-        let Is : List ℕ → Type 0 = λ xs. (f : BeginsWithRecords input xs c.history)
+        let s : Ends replay.records.format ending replay.records.count bytes × (ahead new after ≡ Some bytes) =
+        said (λ rest. Ends replay.records.format ending replay.records.count rest × (ahead new after ≡ Some rest)) says in
+        let l = leaves bytes s.1 in
+        let Is : List ℕ → Type 0 = λ xs. (f : BeginsWithRecords input xs call.carried.history)
         × Ends input.format ending (length f.records) xs in
-        let both : Is (new.held ++ l.left) = subst Is l.joined (
-          c.follows,
-          subst (λ (n : ℕ). Ends input.format ending n c.rest)
-              c.counted (subst (λ (f : Format). Ends f ending replay.records.count c.rest) c.same s.0),
+        let both : Is (new.held ++ l.left) =
+        subst Is l.joined (
+          known.follows,
+          subst (λ (n : ℕ). Ends input.format ending n bytes) known.counted
+              (subst (λ (f : Format). Ends f ending replay.records.count bytes) known.same s.0),
         ) in
         record {
           ahead = new.held;
           left = l.left;
           is_left = l.is_left;
-          history = c.history;
+          history = call.carried.history;
           follows = both.0;
           few = call.few;
           ends = both.1;
@@ -407,5 +372,4 @@ module _ {replay : Replay} {new : CaptureState} {input : ReplayInput} {unread af
 
 -- what is no fault of a run is a torn end
 pub torn_only : (fault : CaptureFault) (torn : Bool) → torn_at (Some fault) ≡ Ok torn → fault ≡ captures.TornEnd
-torn_only captures.TornEnd torn e = refl
-torn_only _ torn e = cc
+torn_only fault torn e = grind arith

@@ -1,4 +1,5 @@
 -- The two texts of a capture whose header is accepted, by how its records stop.
+use Rattle.engine.proofs.Names.{arith}
 use Rattle.engine.proofs.Names.{◌++◌, AppendsPrefix, Bool, Capture, CaptureFault, CaptureState, CountsFault, CountsWriteFault, Device, Devices, Ending, Ends}
 use Rattle.engine.proofs.Names.{Err, FinishFails, HEADER_BYTES, IfErr, IfErr-at_err, IsBegun, IsStop, IsWithin, Keeps, Keeps-refl, LeavesOf, LeavesPrefix}
 use Rattle.engine.proofs.Names.{List, Meaning, None, NoneFailed, Ok, Option, READ_AHEAD, Replay, ReplayInput, ReplayRepresents, Replayed, RunFault, Setup}
@@ -35,10 +36,7 @@ within_end stop fault is (inr e) = (IfErr-at_err (Stops stop) e (stops_at stop i
 
 -- the end is torn or not as the records stop
 ending_torn : (stop : Option CaptureFault) (torn : Bool) → torn_at stop ≡ Ok torn → ending_at stop ≡ ending_of torn
-ending_torn None false e = refl
-ending_torn (Some captures.TornEnd) true e = refl
-ending_torn None true e = cc
-ending_torn _ torn e = cc
+ending_torn stop torn e = grind arith
 
 -- ---- before the first record
 
@@ -54,8 +52,7 @@ halted_open input held new (Some left) e same none few part is =
       taken_so_far = so_far new held left e refl (none_yet input (held ++ left) is);
       few = few;
       sent = part_same input.before.sent new.sent sll2_header (capture_text []) part (sym (append-nil sll2_header));
-      report = subst (λ (r : Option (List ℕ)). AppendsPrefix input.before.report r []) (sym same)
-          (part_none input.before.report []);
+      report = rw same (part_none input.before.report []);
       all_read = none;
     })
 
@@ -63,8 +60,7 @@ halted_open input held new (Some left) e same none few part is =
 pub begins : {replay : Replay} {setup now : Setup} {trace : Bool} {w w' : Option (List ℕ)} → IsBegun replay setup trace w w'
     → setup ≡ now → (r : Option (List ℕ))
     → ReplayRepresents replay (record { setup = now; trace = trace; sent = w; report = r }) [] w' r
-begins {replay} {trace = trace} {w = w} {w' = w'} begun same r = subst (λ (s : Setup).
-    ReplayRepresents replay (record { setup = s; trace = trace; sent = w; report = r }) [] w' r) same (begun r)
+begins begun same r = rw (← same) (begun r)
 
 -- ---- by the fault
 
@@ -105,8 +101,7 @@ module _ {replay : Replay} {input : ReplayInput} {unread w r : Option (List ℕ)
   where
     ends_so : (torn : Bool) → torn_at stop ≡ Ok torn
         → Ends input.format (ending_of torn) (length i.follows.records) (i.ahead ++ i.left)
-    ends_so torn is = subst (λ (x : Ending). Ends input.format x (length i.follows.records) (i.ahead ++ i.left))
-        (ending_torn stop torn is) i.ends
+    ends_so torn is = rw (← ending_torn stop torn is) i.ends
 
     -- all is done
     pub all_written : (torn : Bool) (count : ℕ) → torn_at stop ≡ Ok torn → count ≡ replay.numbers.records

@@ -1,4 +1,5 @@
 -- The written and the pending output of a history.
+use Rattle.engine.proofs.Names.{report_text}
 use Rattle.engine.proofs.Names.{◌++◌, AllWritten, Appends, Appends-kept, Appends-trans, AppendsPrefix, Bool, BreaksAtRecord, EngineState, Entry, IfSome}
 use Rattle.engine.proofs.Names.{IsEntry, IsNewest, Keeps, List, Next, None, Option, OutputsFinished, PrefixWritten, Recorded, Replay, ReplayRepresents}
 use Rattle.engine.proofs.Names.{ReplayStart, ReportUnfinished, Represents, Sent, Setup, Some, TableTree, TakesRecord, [], ap, append-nil, capture_text}
@@ -9,9 +10,6 @@ use Rattle.pcap_io.specs.Buffering.{AppendsBuffered, SinkState}
 use Rattle.report.specs.Representing.{AppendsRest, AppendsRestPrefix, IsReportOf, ReportState, note_line}
 use Rattle.history.specs.declared.outcome.Outcome.{Outcome}
 use Rattle.history.specs.declared.entry.Entry as lent
-
-appends_same : (a b : Option (List ℕ)) (xs ys : List ℕ) → Appends a b xs → xs ≡ ys → Appends a b ys
-appends_same a b xs ys w e = subst (Appends a b) e w
 
 -- ---- the outputs of a history
 
@@ -27,7 +25,7 @@ replay_of engine numbers replay sink = record {
 lines_all : (a b c : Option (List ℕ)) (lines text : List ℕ) → Appends a b lines → AppendsRest b c lines text
     → Appends a c text
 lines_all a b c lines text before (rest, whole, after) =
-    appends_same a c (lines ++ rest) text (Appends-trans a b c lines rest before after) whole
+    subst (Appends a c) whole (Appends-trans a b c lines rest before after)
 
 lines_part : (a b c : Option (List ℕ)) (lines text : List ℕ) → Appends a b lines → AppendsRestPrefix b c lines text
     → AppendsPrefix a c text
@@ -91,10 +89,7 @@ with_room k room rules trace history told h = search rules
 -- whether the engine is ready
 pub readied : (engine now : EngineState) (ready : Bool) (history : List Entry) → now ≡ record engine { ready = ready }
     → Represents engine history → Represents now history
-readied engine now ready history is s =
-    let same : Represents (record engine { ready = ready }) history =
-    record { records = s.records; newest = s.newest; held = s.held } in
-    subst (λ (e : EngineState). Represents e history) (sym is) same
+readied engine now ready history is s = rw is (record { records = s.records; newest = s.newest; held = s.held })
 
 -- ---- one record
 
@@ -138,8 +133,8 @@ module _ {replay : Replay} {start : ReplayStart} {history : List Entry} {w r : O
 
     -- all that is buffered was sent
     all_sent : (w' : Option (List ℕ)) → Appends w w' replay.sink.buffered → Appends start.sent w' (capture_text history)
-    all_sent w' sent = appends_same start.sent w' (p.gets.0 ++ replay.sink.buffered) (capture_text history)
-        (Appends-trans start.sent w w' p.gets.0 replay.sink.buffered p.gets.2 sent) (sym p.gets.1)
+    all_sent w' sent = subst (Appends start.sent w') (sym p.gets.1)
+        (Appends-trans start.sent w w' p.gets.0 replay.sink.buffered p.gets.2 sent)
 
     -- ---- all pending output is written
 
@@ -197,44 +192,37 @@ module _ {replay : Replay} {start : ReplayStart} {history : List Entry} {w r : O
 
     -- ---- after the last record
 
-    -- the number of live connections is the engine's
-    closed : {live : ℕ} (torn : Bool) (P : List ℕ → Type 0) → live ≡ length (live_in replay.engine.setup history)
-        → P (entry_lines start.setup.rules start.trace history ++ closing_lines start.setup.rules history live torn)
-        → P (entry_lines start.setup.rules start.trace history
-        ++ closing_lines start.setup.rules history (length (live_in start.setup history)) torn)
-    closed torn P lives h =
-        subst (λ (n : ℕ). P (entry_lines start.setup.rules start.trace history
-        ++ closing_lines start.setup.rules history n torn)) (lives ∙ ap (λ (s : Setup). length (live_in s history)) p.same) h
+    -- what the last lines append, where the number of live connections is the engine's
+    closed : {live : ℕ} (torn : Bool) {rules : List TableTree} → rules ≡ replay.engine.setup.rules
+        → live ≡ length (live_in replay.engine.setup history) → (Q : List ℕ → List ℕ → Type 0) (P : List ℕ → Type 0)
+        → ((lines text : List ℕ) → Appends start.report r lines → Q lines text → P text)
+        → ((trace : Bool) (history : List Entry) (lines : List ℕ) → IsReportOf replay.numbers rules trace history lines
+        → Q lines (entry_lines rules trace history ++ closing_lines rules history live torn))
+        → P (report_text start.setup start.trace history torn)
+    closed {live} torn {rules} e lives Q P joins says = subst (λ (n : ℕ). P (entry_lines start.setup.rules start.trace history
+        ++ closing_lines start.setup.rules history n torn)) (lives ∙ ap (λ (s : Setup). length (live_in s history)) p.same)
+        (joins p.lines _ p.appends_report (drained (λ rules trace history lines.
+        Q lines (entry_lines rules trace history ++ closing_lines rules history live torn)) rules e says))
 
     module _ {live : ℕ} (torn : Bool) {w' r' : Option (List ℕ)} {rules : List TableTree}
         (sent : Appends w w' replay.sink.buffered) (e : rules ≡ replay.engine.setup.rules)
         (lives : live ≡ length (live_in replay.engine.setup history))
       where
-        pub finished : ((trace : Bool) (history : List Entry) (lines : List ℕ)
-            → IsReportOf replay.numbers rules trace history lines
+        pub finished : ((trace : Bool) (history : List Entry) (lines : List ℕ) → IsReportOf replay.numbers rules trace history lines
             → AppendsRest r r' lines (entry_lines rules trace history ++ closing_lines rules history live torn))
             → OutputsFinished start history torn w' r'
-        finished says =
-            record {
-              all_sent = all_sent w' sent;
-              all_lines = closed torn (Appends start.report r') lives (lines_all start.report r r' p.lines _ p.appends_report
-                  (drained (λ rules trace history lines.
-                  AppendsRest r r' lines (entry_lines rules trace history ++ closing_lines rules history live torn))
-                  rules e says));
-            }
+        finished says = record {
+          all_sent = all_sent w' sent;
+          all_lines = closed torn e lives (AppendsRest r r') (Appends start.report r') (lines_all start.report r r') says;
+        }
 
-        pub unfinished : ((trace : Bool) (history : List Entry) (lines : List ℕ)
-            → IsReportOf replay.numbers rules trace history lines
+        pub unfinished : ((trace : Bool) (history : List Entry) (lines : List ℕ) → IsReportOf replay.numbers rules trace history lines
             → AppendsRestPrefix r r' lines (entry_lines rules trace history ++ closing_lines rules history live torn))
             → ReportUnfinished start history torn w' r'
-        unfinished says =
-            record {
-              all_sent = all_sent w' sent;
-              part_lines = closed torn (AppendsPrefix start.report r') lives (lines_part start.report r r' p.lines _ p.appends_report
-                  (drained (λ rules trace history lines.
-                  AppendsRestPrefix r r' lines (entry_lines rules trace history ++ closing_lines rules history live torn))
-                  rules e says));
-            }
+        unfinished says = record {
+          all_sent = all_sent w' sent;
+          part_lines = closed torn e lives (AppendsRestPrefix r r') (AppendsPrefix start.report r') (lines_part start.report r r') says;
+        }
 
     -- ---- the next record
 
@@ -248,8 +236,7 @@ module _ {replay : Replay} {start : ReplayStart} {history : List Entry} {w r : O
           represents = readied replay.engine engine ready history is_engine p.represents;
           gets = p.gets;
           lines = p.lines;
-          reports = subst (λ (k : ReportState). IsReportOf k start.setup.rules start.trace history p.lines) (sym is)
-              (with_room replay.numbers numbers.room start.setup.rules start.trace history p.lines p.reports);
+          reports = rw is (with_room replay.numbers numbers.room start.setup.rules start.trace history p.lines p.reports);
           appends_report = p.appends_report;
         }
 

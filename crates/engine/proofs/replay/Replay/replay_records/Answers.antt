@@ -44,7 +44,7 @@ pub returns-in_err-flush_before_read-clause-replayed : goal.returns-in_err-flush
 returns-in_err-flush_before_read-clause-replayed g c = λ input same is p.
     let q = err_from_is_err_and c.from_residual.result c.from_residual.ensures.1 in
     let carried = c.each.invariant.carried input same is p in
-    rw q.1 (rw q.2 (halted _ _ carried c.each.invariant.read_calm c.each.invariant.few
+    rw q.1 (rw q.2 (halted _ _ carried.behind c.each.invariant.read_calm c.each.invariant.few
     (c.in_err-flush_before_read.ensures.kept _ _ carried.replay_represents)))
 
 pub returns-in-Ok-false-clause-replayed : goal.returns-in-Ok-false-clause-replayed
