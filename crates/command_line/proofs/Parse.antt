@@ -171,13 +171,7 @@ module _ (s : Shape) (asks : AsksHelp s) (names : Names) (waiting : Waiting) (ro
   module _ (none : subcommand_met names waiting word ≡ None) where
     turns : (k : Kinds) (m : Held × Step) → Met k m → Turn k m
     unfolding walked
-    turns k m met = (
-      (λ j. let x = subcommand_or_other s.rules (none j) waiting p word held_now in
-          or_else (other_fault s (none j) word held_now) (step_fault s p x.0 x.1))
-          ∙ (λ j. or_else (met.0 j) (step_fault s p (met.1 j).0 (met.1 j).1)),
-      (λ j. let x = subcommand_or_other s.rules (none j) waiting p word held_now in after_step s.rules word walk_now x.0 x.1)
-          ∙ (λ j. after_step s.rules word walk_now (met.1 j).0 (met.1 j).1),
-    )
+    turns k m met = (grind (arith, none, met.0, met.1), grind (arith, none, met.0, met.1))
 
     -- a word is `--`, an option by its long name, no option, or a bundle of short flags, which has a fault
     pub by_word : (P : Bool → Option (Text × Option Text) → Bool → Type 0)
@@ -193,10 +187,7 @@ module _ (s : Shape) (asks : AsksHelp s) (names : Names) (waiting : Waiting) (ro
         met : (d : Bool) → bytes_eq word (codes "--") ≡ d → (o : Option (Text × Option Text)) → long_of word ≡ o
             → Met (cond d [] (flag_word_fault s.rules s.args_override_self o word held_now))
             (cond d (held_now, trailing p) (long_or_other s.rules waiting word o held_now))
-        met d dashes o is = (
-          λ j. cond (dashes j) [] (flag_word_fault s.rules s.args_override_self (is j) word held_now),
-          λ j. cond (dashes j) (held_now, trailing p) (long_or_other s.rules waiting word (is j) held_now),
-        )
+        met d dashes o is = (grind (arith, dashes, is), grind (arith, dashes, is))
 
         go : (d : Bool) → bytes_eq word (codes "--") ≡ d → (o : Option (Text × Option Text)) → long_of word ≡ o
             → (b : Bool) → has_no_short (short_of word) ≡ b → P d o b
@@ -481,9 +472,8 @@ module _ (c : Form) (is : IsCommand c) where
       let final = finished c.rules (at rows pending) in
       let end = ended (now rows pending) met known.flagged in
       let none : row_at id final ≡ None = end.1 id paths.3 ∙ known.unused.0 in
-      not_nil _ _ (sym (end_faults rows pending p t (id ∷ left) stands (known.owes _ (end.0 done known.holds))
-      ∙ ap (λ (o : Option Row). check_kinds false false (not (option_map_or (λ r. explicit_source r.source) o false)
-      || lacks final left)) none) ∙ e)
+      let faults = end_faults rows pending p t (id ∷ left) stands (known.owes _ (end.0 done known.holds)) in
+      grind (arith, faults, none, e)
 
   -- ---- an operand
 

@@ -281,12 +281,11 @@ module _ (p q : Text → Bool) (flag : Text) (P : List Text → Type 0)
       → scan p flag words place done left met file ≡ Some seen → scan q flag words place done left met file ≡ Some seen
   scan_passes (word ∷ rest) each after done (id ∷ left) met file seen e =
       scan_passes rest (passes word rest each).1 after ((id, word) ∷ done) left met file seen e
-  scan_passes (word ∷ rest) each naming done left met file seen e =
-      go (p word) (q word) (passes word rest each).0 (scan_passes rest (passes word rest each).1 before done left met (Some word) seen) e
-    where
-      go : (a b : Bool) → (a ≡ true → b ≡ true) → {x y : Option Seen} → (x ≡ Some seen → y ≡ Some seen) → cond a x None ≡ Some seen
-          → cond b y None ≡ Some seen
-      go a b pass more e = grind (arith, pass, more)
+  scan_passes (word ∷ rest) each naming done left met file seen e = grind (
+    arith,
+    (passes word rest each).0,
+    scan_passes rest (passes word rest each).1 before done left met (Some word) seen,
+  )
   scan_passes (word ∷ rest) each before done left met file seen e = go (bytes_eq word (codes "--")) (bytes_eq word (45 ∷ 45 ∷ flag))
       (as_report word) (p word) (q word) (passes word rest each).0 left met file
       (λ place done left met file. scan_passes rest (passes word rest each).1 place done left met file seen) e
@@ -344,17 +343,14 @@ module _ (flag : Text) (long : long_of (45 ∷ 45 ∷ flag) ≡ Some (flag, None
       let is = scan_parts is_plain_word (λ word e. taken_bare word (plain_taken word e)) seen
       (scan_passes is_taken is_plain_word flag AreTexts (λ word more texts. (λ e. sym (taken_plain word texts.0) ∙ e, texts.1))
       rest texts before [] left met file seen found) in
-      λ j. (sym (named_all file rest) ∙ is.0) j && ((sym (plain_all words) ∙ is.1) j
-      && (sym (matched (operands words) left ∙ ap (λ k. length (operands words) == k) count) ∙ is.2) j)
+      grind (arith, is.0, is.1, is.2, named_all file rest, plain_all words, matched (operands words) left, count)
 
   -- the pass finds something in well-formed words
   pub formed_found : (n : ℕ) → length left ≡ n → (is_named file rest && are_operands n (words_of flag met file rest)) ≡ true
       → scan is_taken flag rest before [] left met file ≡ Some said
   formed_found n count e =
       let words = words_of flag met file rest in
-      let p = both (is_named file rest) (are_operands n words) e in
-      let q = both (are_plain words) (length (operands words) == n) p.1 in
-      let matches = matched (operands words) left ∙ ap (λ k. length (operands words) == k) count ∙ q.1 in
+      let means = scan_means is_plain_word flag (word_apart flag long is_plain_word apart (λ word e. taken_bare word (plain_taken word e))) rest
+      before [] left met file in
       scan_passes is_plain_word is_taken flag (λ _. Unit {0}) (λ word more _. (plain_taken word, tt)) rest tt before [] left met file said
-      (scan_means is_plain_word flag (word_apart flag long is_plain_word apart (λ word e. taken_bare word (plain_taken word e))) rest before
-      [] left met file ∙ (λ j. cond ((named_all file rest ∙ p.0) j && ((plain_all words ∙ q.0) j && matches j)) (Some said) None))
+      (grind (arith, means, e, named_all file rest, plain_all words, matched (operands words) left, count))
