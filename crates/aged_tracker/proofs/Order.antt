@@ -73,26 +73,28 @@ of_slot slots n h is =
     let at = from_below (held_at slots) (serial_at slots) n (length slots.slots) h is in
     let name = named_at slots at.0 h at.1.0 in (ap (held_at slots) name ∙ at.1.0, ap (serial_at slots) name ∙ at.1.1)
 
--- the slots but this one are the same
-abbrev pub SameBut : Slab Slot → Slab Slot → ℕ → Type 0
-SameBut old new key = (k : ℕ) → k ≢ key → (held_at new k ≡ held_at old k) × (serial_at new k ≡ serial_at old k)
-
-entry_stays : (old new : Slab Slot) (key next : ℕ) → IsNumbered new next → SameBut old new key → (n : ℕ)
-    → ((h : ConntrackEntry) → held_at old key ≡ Some h → serial_at old key ≢ n) → (h : ConntrackEntry) → entry_at old n ≡ Some h
-    → entry_at new n ≡ Some h
-entry_stays old new key next numbered same n off h is =
-    let at = of_slot old n h is in
-    let kept = same h.id.0 (λ e. off h (ap (held_at old) (sym e) ∙ at.0) (ap (serial_at old) (sym e) ∙ at.1)) in
-    ap (entry_at new) (sym at.1 ∙ sym kept.1) ∙ at_slot new next numbered h.id.0 h (kept.0 ∙ at.0)
-
--- the entry with a number that this slot had and has not stays
-pub entry_off : (old new : Slab Slot) (key next next' : ℕ) → IsNumbered old next → IsNumbered new next' → SameBut old new key → (n : ℕ)
-    → ((h : ConntrackEntry) → held_at old key ≡ Some h → serial_at old key ≢ n)
-    → ((h : ConntrackEntry) → held_at new key ≡ Some h → serial_at new key ≢ n) → entry_at new n ≡ entry_at old n
-entry_off old new key next next' numbered numbered' same n off off' =
-    same_options _ _
-    (entry_stays new old key next numbered (λ k d. let kept = same k d in (sym kept.0, sym kept.1)) n off')
-    (entry_stays old new key next' numbered' same n off)
+-- the entry with a number, where this is what becomes of the slots
+entry_as : (old new : Slab Slot) (next next' : ℕ) → IsNumbered old next → IsNumbered new next' → (one : Option ConntrackEntry → Option ConntrackEntry)
+    → one None ≡ None → (n : ℕ)
+    → ((k : ℕ) → IsSome (held_at new k) → serial_at new k ≡ n → (held_at new k ≡ one (held_at old k)) × (serial_at old k ≡ n))
+    → ((k : ℕ) → IsSome (one (held_at old k)) → serial_at old k ≡ n → (held_at new k ≡ one (held_at old k)) × (serial_at new k ≡ n))
+    → entry_at new n ≡ one (entry_at old n)
+entry_as old new next next' numbered numbered' one none n from to =
+    same_options _ _ (λ y is.
+    let at = of_slot new n y is in
+    let was = from y.id.0 (ap is_some at.0) at.1 in
+    let x = some_of (held_at old y.id.0) (kept (held_at old y.id.0) y (sym was.0 ∙ at.0)) in
+    ap one (ap (entry_at old) (sym was.1) ∙ at_slot old next numbered y.id.0 x.0 x.1 ∙ sym x.1) ∙ sym was.0 ∙ at.0)
+    (λ y is.
+    let x = some_of (entry_at old n) (kept (entry_at old n) y is) in
+    let at = of_slot old n x.0 x.1 in
+    let becomes : one (held_at old x.0.id.0) ≡ Some y = ap one (at.0 ∙ sym x.1) ∙ is in
+    let now = to x.0.id.0 (ap is_some becomes) at.1 in
+    ap (entry_at new) (sym now.1) ∙ at_slot new next' numbered' x.0.id.0 y (now.0 ∙ becomes))
+  where
+    kept : (o : Option ConntrackEntry) (y : ConntrackEntry) → one o ≡ Some y → IsSome o
+    kept None y is = absurd (none-some y (sym none ∙ is))
+    kept (Some x) y is = refl
 
 -- ---- the entries from a number on
 
@@ -274,9 +276,6 @@ module _ (t : AgedSlots) (table : IsTable t) (new : Slab Slot) (key : ℕ) (slot
         below = λ k is. grind (arith, more, cases_eq k key, now k, is, here, serial, serials k, was k, table.numbered.below k);
       }
 
-  same_but : SameBut t.slots new key
-  same_but k d = (sets.others k d, serials k d)
-
   -- the entry changes or leaves, with its number
   pub held_changed : IsNumbered new t.next_serial → (h : ConntrackEntry) → slots_of t key ≡ Some h
       → (one : Option ConntrackEntry → Option ConntrackEntry) (all : List ConntrackEntry → List ConntrackEntry) → all [] ≡ []
@@ -285,29 +284,25 @@ module _ (t : AgedSlots) (table : IsTable t) (new : Slab Slot) (key : ℕ) (slot
       → (IsSome (held_at new key) → serial_by slot ≡ serial_at t.slots key)
       → held_from (entry_at new) 0 t.next_serial ≡ all (held_by t)
   held_changed numbered h is one all nil step none other here same =
-      held_each (entry_at t.slots) (entry_at new) one all nil step (λ n. elim (cases_eq (serial_at t.slots key) n) [
-        | inl e ↦ changed n e (held_at new key) refl
-            ∙ sym (ap one (ap (entry_at t.slots) (sym e) ∙ at_slot t.slots t.next_serial table.numbered key h is) ∙ here ∙ sym sets.changed)
-        | inr d ↦
-            let off = entry_off t.slots new key t.next_serial t.next_serial table.numbered numbered same_but n (λ x at. d)
-            (λ x at e. d (sym (same (ap is_some at)) ∙ sym serial ∙ e)) in
-            off ∙ elim (option_cases (entry_at t.slots n)) [
-              | inl gone ↦ gone ∙ sym (ap one gone ∙ none)
-              | inr x ↦ x.1 ∙ sym (ap one x.1
-                  ∙ other x.0 (λ e. d (ap (serial_at t.slots) (sym e) ∙ (of_slot t.slots n x.0 x.1).1)))
-            ]
-      ]) 0 t.next_serial
+      held_each (entry_at t.slots) (entry_at new) one all nil step
+      (λ n. entry_as t.slots new t.next_serial t.next_serial table.numbered numbered one none n
+      (λ k some e. (became k, sym (stays k some) ∙ e)) (λ k some e. (became k, stays k (subst IsSome (sym (became k)) some) ∙ e))) 0 t.next_serial
     where
-      changed : (n : ℕ) → serial_at t.slots key ≡ n → (o : Option ConntrackEntry) → held_at new key ≡ o → entry_at new n ≡ o
-      changed n e (Some x) at = ap (entry_at new) (sym (serial ∙ same (ap is_some at) ∙ e)) ∙ at_slot new t.next_serial numbered key x at
-      changed n e None at =
-          elim (option_cases (entry_at new n)) [
-            | inl gone ↦ gone
-            | inr x ↦
-                let found = of_slot new n x.0 x.1 in
-                let d : x.0.id.0 ≢ key = λ i. none-some x.0 (sym at ∙ ap (held_at new) (sym i) ∙ found.0) in
-                absurd (d (table.numbered.apart x.0.id.0 key (ap is_some (sym (sets.others x.0.id.0 d) ∙ found.0)) (ap is_some is)
-                (sym (serials x.0.id.0 d) ∙ found.1 ∙ sym e)))
+      became : (k : ℕ) → held_at new k ≡ one (slots_of t k)
+      became k =
+          elim (cases_eq k key) [
+            | inl e ↦ subst (λ j. held_at new j ≡ one (slots_of t j)) (sym e) (sets.changed ∙ sym here ∙ sym (ap one is))
+            | inr d ↦ sets.others k d ∙ elim (option_cases (slots_of t k)) [
+              | inl gone ↦ rw gone (sym none)
+              | inr x ↦ rw x.1 (sym (other x.0 (λ e. d (sym (named_at t.slots k x.0 x.1) ∙ e))))
+            ]
+          ]
+
+      stays : (k : ℕ) → IsSome (held_at new k) → serial_at new k ≡ serial_at t.slots k
+      stays k some =
+          elim (cases_eq k key) [
+            | inl e ↦ ap (serial_at new) e ∙ serial ∙ same (subst (λ j. IsSome (held_at new j)) e some) ∙ sym (ap (serial_at t.slots) e)
+            | inr d ↦ serials k d
           ]
 
   -- it was free, and has the next number now
@@ -315,8 +310,9 @@ module _ (t : AgedSlots) (table : IsTable t) (new : Slab Slot) (key : ℕ) (slot
       → option_map (held_of key) slot ≡ Some h → held_from (entry_at new) 0 (suc t.next_serial) ≡ held_by t ++ h ∷ []
   held_begun numbered free number h is =
       held_more (entry_at t.slots) (entry_at new) h 0 t.next_serial
-      (λ n less. entry_off t.slots new key t.next_serial (t.next_serial + 1) table.numbered numbered same_but n
-      (λ x at e. none-some x (sym free ∙ at)) (λ x at e. omega (arith, less, serial, number, e)))
+      (λ n less. entry_as t.slots new t.next_serial (t.next_serial + 1) table.numbered numbered (λ o. o) refl n
+      (λ k some e. let d : k ≢ key = λ a. omega (arith, less, e, ap (serial_at new) a, serial, number) in (sets.others k d, sym (serials k d) ∙ e))
+      (λ k some e. let d : k ≢ key = λ a. not_none _ (ap (slots_of t) a ∙ free) some in (sets.others k d, serials k d ∙ e)))
       (ap (entry_at new) (omega (arith, serial, number)) ∙ at_slot new (t.next_serial + 1) numbered key h (sets.changed ∙ is))
 
 -- ---- entries that are sorted by their numbers are in the order of creation

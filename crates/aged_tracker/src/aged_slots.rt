@@ -2,7 +2,7 @@
 ghost use Rattle.std.specs.Prelude.{◌≡◌, ◌+◌, ◌<◌, ◌≤◌, ◌++◌, ◌∷◌, [], ℕ, nat_lt, IsTrue, IsSome, IfOk, IsOk, OnOk, Some, None, IfSome, IfNone, false, map};
 ghost use Rattle.slab.specs.Slab.{get, slab_len, ContainsKey, Updates};
 ghost use Rattle.futures.specs.LinkedLists.{IsIn};
-ghost use Rattle.conntrack.specs.ConntrackEntry.{begun_with, connection_of, is_live, touched_at, without, IsNoneLater};
+ghost use Rattle.conntrack.specs.ConntrackEntry.{begun_with, connection_of, is_live, touched_at, without, IsNoneLater, IsWithin};
 ghost use Rattle.aged_tracker.specs.steps.Table.{AreOldest, AreOldestBut, Fills, HasRings, IsAllLive, IsLiveQueue, IsOwned, IsTable, MAX_KEYS, MAX_SERIAL};
 ghost use Rattle.aged_tracker.specs.steps.Table.{Relists, SameBy, SameSize, Slots as SlotsName, belonging_of, connections_by, except_links, has_room, held_at};
 ghost use Rattle.aged_tracker.specs.steps.Table.{held_by, held_of, last_at, limit_at, next_of, off, owner_of, prev_of, pushed, queue_by, queue_of, slots_of};
@@ -43,8 +43,7 @@ fn oldest_of(slots: &Slots, queues: &[Link; LISTS], queue: usize, steps: &mut St
     requires { queue < 5 }
     ensures oldest { (front : ℕ) → next_of slots.now queues.now queue ≡ 5 + front
         → result ≡ last_at (held_at slots.now) front }
-    ensures rises { steps.old ≤ steps.new }
-    ensures steps { steps.new ≤ steps.old + 1 }
+    ensures steps { IsWithin (Some 1) steps.old steps.new }
 {
     match front(queues, queue) {
         None => 0,
@@ -70,8 +69,7 @@ fn take_out(
     ensures oldest { AreOldest slots.new queues.new oldest.new }
     ensures except_links { SameBy except_links slots.old slots.new }
     ensures size { SameSize slots.old slots.new }
-    ensures rises { steps.old ≤ steps.new }
-    ensures steps { steps.new ≤ steps.old + 4 }
+    ensures steps { IsWithin (Some 4) steps.old steps.new }
 {
     let left = unlink(slots, queues, key, steps);
     oldest[left] = oldest_of(slots, queues, left, steps);
@@ -97,8 +95,7 @@ fn requeue(
     ensures oldest { AreOldestBut key slots.new queues.new oldest.new }
     ensures except_links { SameBy except_links slots.old slots.new }
     ensures size { SameSize slots.old slots.new }
-    ensures rises { steps.old ≤ steps.new }
-    ensures steps { steps.new ≤ steps.old + 6 }
+    ensures steps { IsWithin (Some 6) steps.old steps.new }
     ensures stays { prev_of slots.old queues.old queue ≡ 5 + key → steps.new ≡ steps.old }
 {
     if is_last(queues, queue, key) {
@@ -155,8 +152,7 @@ impl AgedSlots {
         requires { IsSome (slots_of self.now key) }
         ensures belonging { IfSome (slots_of self.now key)
             (λ h. result ≡ belonging_of limits now tuple flags h) }
-        ensures rises { steps.old ≤ steps.new }
-        ensures steps { steps.new ≤ steps.old + 1 }
+        ensures steps { IsWithin (Some 1) steps.old steps.new }
     {
         match self.slots.get(key, steps) {
             Some(slot) => slot.belonging(key, limits, tuple, flags, now),
@@ -181,8 +177,7 @@ impl AgedSlots {
         ensures held { held_by self.new
             ≡ touched_at id direction flags mark now (held_by self.old) }
         ensures room { IsTrue (has_room self.old) → IsTrue (has_room self.new) }
-        ensures rises { steps.old ≤ steps.new }
-        ensures steps { steps.new ≤ steps.old + 7 }
+        ensures steps { IsWithin (Some 7) steps.old steps.new }
     {
         let key = id.0;
         let queue = self.slots.touch(key, direction, flags, mark, now, steps);
@@ -207,8 +202,7 @@ impl AgedSlots {
             ≡ held_by self.old ++ begun_with result connection flags ∷ [] }
         ensures free { slots_of self.old result.0 ≡ None }
         ensures few { result.0 < MAX_KEYS }
-        ensures rises { steps.old ≤ steps.new }
-        ensures steps { steps.new ≤ steps.old + 3 }
+        ensures steps { IsWithin (Some 3) steps.old steps.new }
     {
         let held = connection.begun(ConnId(self.slots.vacant_key()), flags);
         let queue = queue_by(held.original.kind, held.phase());
@@ -227,8 +221,7 @@ impl AgedSlots {
         ensures held { held_by self.new ≡ without id (held_by self.old) }
         ensures value { slots_of self.old id.0 ≡ Some result }
         ensures room { IsTrue (has_room self.old) → IsTrue (has_room self.new) }
-        ensures rises { steps.old ≤ steps.new }
-        ensures steps { steps.new ≤ steps.old + 5 }
+        ensures steps { IsWithin (Some 5) steps.old steps.new }
     {
         let key = id.0;
         take_out(
@@ -295,9 +288,6 @@ impl AgedSlots {
     {
         if self.slots.vacant_key() >= MAX_KEYS || self.next_serial == u64::MAX {
             return Err(AllocError);
-        }
-        if self.slots.len() < self.slots.capacity() {
-            return Ok(());
         }
         self.slots.reserve_one()
     }

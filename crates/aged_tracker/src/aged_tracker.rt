@@ -1,6 +1,6 @@
 //! A conntrack table whose calls count few visited slots.
 ghost use Rattle.std.specs.Prelude.{◌≡◌, ◌+◌, ◌<◌, ◌≤◌, IsTrue, Some, None, cond, is_some};
-ghost use Rattle.conntrack.specs.ConntrackEntry.{have_disjoint_tuples, belongs_in, has_distinct_ids, live_at};
+ghost use Rattle.conntrack.specs.ConntrackEntry.{IsWithin, belongs_in, has_distinct_ids, have_disjoint_tuples, live_at};
 ghost use Rattle.std.specs.HashMap.{get, spare};
 ghost use Rattle.ip_headers.specs.Same.{same_tuple};
 ghost use Rattle.ip_headers.specs.declared.tuple.Tuple.{Tuple as Tupled};
@@ -55,8 +55,7 @@ impl AgedTracker {
             ≡ belongs_in (live_at self.now.limits now self.now.held) tuple flags }
         ensures distinct { IsTrue (has_distinct_ids self.now.held) }
         ensures apart { IsTrue (have_disjoint_tuples self.now.held) }
-        ensures rises { steps.old ≤ steps.new }
-        ensures steps { steps.new ≤ steps.old + 1 }
+        ensures steps { IsWithin (Some 1) steps.old steps.new }
     {
         match key_of(&self.keys, tuple) {
             None => Belonging::NotFound,
@@ -121,7 +120,7 @@ impl Tracker for AgedTracker {
         if self.live >= MAX_CONNECTIONS {
             return Err(BeginError::Full);
         }
-        if contains_tuple(&self.keys, connection.reply) {
+        if key_of(&self.keys, connection.reply).is_some() {
             return Err(BeginError::Clash);
         }
         let id = self.slots.insert(connection, flags, steps);
@@ -190,11 +189,4 @@ fn key_of(keys: &HashMap<Tuple, u32, WordState>, tuple: Tuple) -> Option<usize>
     ensures { result ≡ get same_tuple keys.now tuple }
 {
     keys.get(&tuple).map(|key| *key as usize)
-}
-
-/// Whether the index contains a tuple.
-fn contains_tuple(keys: &HashMap<Tuple, u32, WordState>, tuple: Tuple) -> bool
-    ensures { result ≡ is_some (get same_tuple keys.now tuple) }
-{
-    keys.contains_key(&tuple)
 }

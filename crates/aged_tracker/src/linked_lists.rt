@@ -2,6 +2,7 @@
 //! they read or write.
 ghost use Rattle.std.specs.Prelude.{◌≡◌, ℕ, ◌+◌, ◌<◌, ◌≤◌, ◌==◌, [], IfSome, IfNone, Some, None};
 ghost use Rattle.slab.specs.Slab.{ContainsKey};
+ghost use Rattle.conntrack.specs.ConntrackEntry.{IsWithin};
 ghost use Rattle.aged_tracker.specs.steps.Table.{HasRings, IsNode, IsOwned, IsRings, MAX_KEYS, Relinks, Relists, SameBy, SameSize, Slots as SlotsName};
 ghost use Rattle.aged_tracker.specs.steps.Table.{except_links, link_at, next_of, number, off, owner_of, prev_of, pushed, with_neighbour};
 
@@ -34,8 +35,7 @@ fn set_neighbour(
     ensures owners { (key : ℕ) → owner_of slots.new key ≡ owner_of slots.old key }
     ensures except_links { SameBy except_links slots.old slots.new }
     ensures size { SameSize slots.old slots.new }
-    ensures rises { steps.old ≤ steps.new }
-    ensures steps { steps.new ≤ steps.old + 1 }
+    ensures steps { IsWithin (Some 1) steps.old steps.new }
     ensures head { number at < 5 → steps.new ≤ steps.old }
 {
     match at.key() {
@@ -53,8 +53,7 @@ pub fn unlink(slots: &mut Slots, heads: &mut [Link; LISTS], key: usize, steps: &
     ensures range { result < 5 }
     ensures except_links { SameBy except_links slots.old slots.new }
     ensures size { SameSize slots.old slots.new }
-    ensures rises { steps.old ≤ steps.new }
-    ensures steps { steps.new ≤ steps.old + 3 }
+    ensures steps { IsWithin (Some 3) steps.old steps.new }
 {
     let links = slots.take_links(key, steps);
     let Link { prev, next } = links.link;
@@ -84,8 +83,7 @@ pub fn push_back(
     ensures few { key < MAX_KEYS }
     ensures except_links { SameBy except_links slots.old slots.new }
     ensures size { SameSize slots.old slots.new }
-    ensures rises { steps.old ≤ steps.new }
-    ensures steps { steps.new ≤ steps.old + 2 }
+    ensures steps { IsWithin (Some 2) steps.old steps.new }
 {
     let head = NodeIndex::head(list);
     let slot = NodeIndex::slot(key);

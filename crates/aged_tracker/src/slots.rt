@@ -41,20 +41,6 @@ impl Slots {
         }
     }
 
-    /// How many there are.
-    pub fn len(&self) -> usize
-        ensures { result ≡ slab_len self.now }
-    {
-        self.slab.len()
-    }
-
-    /// For how many there is memory.
-    pub fn capacity(&self) -> usize
-        ensures { result ≡ self.now.capacity }
-    {
-        self.slab.capacity()
-    }
-
     /// The key of the next one.
     pub fn vacant_key(&self) -> usize
         ensures { result ≡ self.now.vacant_key }

@@ -1,18 +1,18 @@
 use Rattle.aged_tracker.proofs.Names.{IsTrue, Some, ap, begun_with, cond, false, has_id, held_by, is_some, is_taken, rules, same_tuple, sym, ◌∙◌, ◌≡◌}
 use Rattle.aged_tracker.proofs.Index.{has_as, indexed_begun, not_both, taken_as}
 use Rattle.aged_tracker.proofs.aged_tracker.AgedTrackerTracker.begin.Goals as goal
-use Rattle.aged_tracker.proofs.aged_tracker.AgedTrackerTracker.begin.Goals.{After-contains_tuple, After-insert-id}
+use Rattle.aged_tracker.proofs.aged_tracker.AgedTrackerTracker.begin.Goals.{After-is_some, After-insert-id}
 
-taken : (c : After-contains_tuple) → is_taken c.args.connection.reply (held_by c.self.inside.slots) ≡ c.contains_tuple.result
-taken c = taken_as _ _ _ c.self.invariant.indexed c.args.connection.reply ∙ sym c.contains_tuple.ensures
+taken : (c : After-is_some) → is_taken c.args.connection.reply (held_by c.self.inside.slots) ≡ c.is_some.result
+taken c = taken_as _ _ _ c.self.invariant.indexed c.args.connection.reply ∙ sym (c.is_some.ensures ∙ ap is_some c.key_of.ensures)
 
 fresh : (c : After-insert-id) → has_id c.insert-id.result (held_by c.self.inside.slots) ≡ false
 fresh c = has_as c.self.inside.slots c.self.invariant.table c.insert-id.result ∙ ap is_some c.insert-id.ensures.free
 
-pub returns-then-contains_tuple-clause-clash : goal.returns-then-contains_tuple-clause-clash
-returns-then-contains_tuple-clause-clash c =
+pub returns-then-is_some-clause-clash : goal.returns-then-is_some-clause-clash
+returns-then-is_some-clause-clash c =
     let is : IsTrue (is_taken c.args.connection.reply c.args.self.now.held) =
-    rw (← c.self.view_is) (taken (goal.at.returns-then-contains_tuple-clause-clash c).After-contains_tuple ∙ c.if-contains_tuple.true) in
+    rw (← c.self.view_is) (taken (goal.at.returns-then-is_some-clause-clash c).After-is_some ∙ c.if-is_some.true) in
     search (rules, is)
 
 pub invariant_of-self : goal.invariant_of-self
@@ -21,7 +21,7 @@ invariant_of-self c = record {
   indexed = rw c.insert-id.ensures.held (indexed_begun _ _ _ c.self.invariant.indexed _
       (begun_with c.insert-id.result c.args.connection c.args.flags) (fresh (goal.at.invariant_of-self c).After-insert-id)
       (rw (← c.self.view_is) at c.requires.free)
-      (taken (goal.at.invariant_of-self c).After-contains_tuple ∙ c.if-contains_tuple.false)
+      (taken (goal.at.invariant_of-self c).After-is_some ∙ c.if-is_some.false)
       (λ q. c.insert_tuple-2.ensures.keys q ∙ ap (cond (same_tuple c.args.connection.reply q) (Some c.insert-id.result.0))
       (c.insert_tuple.ensures.keys q)));
 }
@@ -32,5 +32,5 @@ returns-clause-fresh c = rw (← c.self.view_is) (fresh (goal.at.returns-clause-
 pub returns-clause-clash : goal.returns-clause-clash
 returns-clause-clash c =
     let free : is_taken c.args.connection.reply c.args.self.now.held ≡ false =
-    rw (← c.self.view_is) (taken (goal.at.returns-clause-clash c).After-contains_tuple ∙ c.if-contains_tuple.false) in
+    rw (← c.self.view_is) (taken (goal.at.returns-clause-clash c).After-is_some ∙ c.if-is_some.false) in
     (λ e. absurd (cc), λ both. not_both _ both.1 free)
