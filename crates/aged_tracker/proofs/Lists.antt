@@ -1,12 +1,14 @@
 -- Circular lists of slots: their keys, links, changes and fronts.
-use Rattle.aged_tracker.proofs.Names.{AreOldest, AreOldestBut, ConntrackEntry, HasRings, Inserts, IsApart, IsIn, IsNode, IsOn, IsRing, IsRing-kept, IsRing-push}
-use Rattle.aged_tracker.proofs.Names.{IsRing-skip, IsRings, IsRising, IsSome, Joins, Link, List, Lists, Next, None, Option, Previous, Relinks, Relists, SameBy}
-use Rattle.aged_tracker.proofs.Names.{Slab, Slot, Some, Updates, [], ap, arith, cases_eq, cond, cond-false, cond-true, eq-eqb, except_links, free_not_on, get}
-use Rattle.aged_tracker.proofs.Names.{get_or, get_or-set_other, get_or-set_same, held_at, held_of, inl, inr, is_some, last_at, last_by, length, link_at}
-use Rattle.aged_tracker.proofs.Names.{link_by, lt-ltb, ne_eqb, neighbour, next_of, next_on, no_link, none-some, not_from_false, off, option_map, owner_by}
-use Rattle.aged_tracker.proofs.Names.{owner_of, prev_end_on, prev_of, prev_on, pushed, refl, rings_apart, same_Some, set, some_of_map, subst, suc, sym, without}
-use Rattle.aged_tracker.proofs.Names.{without_absent, without_head, zero, ℕ, ◌++◌, ◌+◌, ◌-◌, ◌<◌, ◌∙◌, ◌∷◌, ◌≡◌, ◌≢◌, ◌≤◌, ◌⊎◌}
+use Rattle.aged_tracker.proofs.Names.{AreOldest, AreOldestBut, ConntrackEntry, HasRings, IfSome, Inserts, IsApart, IsIn, IsNode, IsOn, IsRing, IsRing-kept}
+use Rattle.aged_tracker.proofs.Names.{IsRing-push, IsRing-skip, IsRings, IsRising, IsSome, Joins, Link, List, Lists, Next, None, Option, Previous, Relinks}
+use Rattle.aged_tracker.proofs.Names.{Relists, SameBy, Slab, Slot, Some, Updates, [], ap, arith, cases_eq, cond, cond-false, cond-true, eq-eqb, eqb, eqb-true}
+use Rattle.aged_tracker.proofs.Names.{except_links, free_not_on, get, get_or, get_or-set_other, get_or-set_same, held_at, held_of, inl, inr, is_some, length}
+use Rattle.aged_tracker.proofs.Names.{link_at, link_by, lt-ltb, nat_tests, ne_eqb, neighbour, next_of, next_on, no_link, none-some, not_from_false, off}
+use Rattle.aged_tracker.proofs.Names.{option_map, owner_by, owner_of, prev_end_on, prev_of, prev_on, pushed, refl, rings_apart, same_Some, set, some_of_map}
+use Rattle.aged_tracker.proofs.Names.{subst, suc, sym, true, without, without_absent, without_head, zero, ℕ, ◌++◌, ◌+◌, ◌-◌, ◌<◌, ◌∙◌, ◌∷◌, ◌≡◌, ◌≢◌, ◌≤◌, ◌⊎◌}
 use Rattle.std.proofs.lemmas.Grind.{common_steps}
+use Rattle.std.specs.Prelude.{IfNone, slice_get}
+use Rattle.aged_tracker.specs.steps.Table.{is_first}
 use Rattle.futures.specs.Links as ring
 
 -- ---- lists of distinct keys
@@ -31,10 +33,28 @@ IsIn-index key (first ∷ rest) found =
       | inr there ↦ let at = IsIn-index key rest there in (suc at.0, (omega (arith, at.1.0), at.1.1))
     ]
 
--- the first key has the least moment
-pub rising_first : (f : ℕ → ℕ) (first key : ℕ) (rest : List ℕ) → IsRising f (first ∷ rest) → IsIn key (first ∷ rest) → f first ≤ f key
-rising_first f first key rest rising found =
-    let at = IsIn-index key (first ∷ rest) found in omega (arith, rising zero at.0 key (omega arith) at.1.0, ap f at.1.1)
+-- the first key, which has the least moment
+pub IsIn-first : (keys : List ℕ) (front : ℕ) → slice_get keys 0 ≡ Some front → IsIn front keys
+IsIn-first [] front is = absurd (none-some front is)
+IsIn-first (first ∷ rest) front is = inl (same_Some first front is)
+
+pub first_is : (key : ℕ) (keys : List ℕ) (front : ℕ) → slice_get keys 0 ≡ Some front → is_first key keys ≡ true → front ≡ key
+first_is key [] front is test = absurd (none-some front is)
+first_is key (first ∷ rest) front is test = sym (same_Some first front is) ∙ eqb-true first key test
+
+pub is_first-of : (key : ℕ) (keys : List ℕ) → slice_get keys 0 ≡ Some key → is_first key keys ≡ true
+is_first-of key [] is = absurd (none-some key is)
+is_first-of key (first ∷ rest) is = eq-eqb first key (same_Some first key is)
+
+pub none_in : (keys : List ℕ) (key : ℕ) → slice_get keys 0 ≡ None → ¬ IsIn key keys
+none_in [] key none found = found
+none_in (first ∷ rest) key none found = none-some first (sym none)
+
+pub rising_first : (f : ℕ → ℕ) (keys : List ℕ) (front key : ℕ) → IsRising f keys → slice_get keys 0 ≡ Some front → IsIn key keys → f front ≤ f key
+rising_first f [] front key rising is found = absurd found
+rising_first f (first ∷ rest) front key rising is found =
+    let at = IsIn-index key (first ∷ rest) found in
+    omega (arith, rising zero at.0 key (omega arith) at.1.0, ap f at.1.1, ap f (same_Some first front is))
 
 -- moments that are the same along the keys
 pub rising_as : (f g : ℕ → ℕ) (keys : List ℕ) → ((k : ℕ) → IsIn k keys → g k ≡ f k) → IsRising f keys → IsRising g keys
@@ -222,33 +242,16 @@ joined part old new mid mid' at link set before after =
 -- ---- the first and the last key of a list, and the moments of the fronts of queues
 
 module _ (next prev : ℕ → ℕ) (list : ℕ) where
-  pub front_in : (keys : List ℕ) (front : ℕ) → list < 5 → ring.IsChain next prev 5 list keys list → next list ≡ 5 + front → IsIn front keys
-  front_in [] front range chain is = absurd (omega (arith, range, chain.0, is))
-  front_in (first ∷ rest) front range chain is = inl (omega (arith, chain.0, is))
+  pub first_read : (keys : List ℕ) (r : Option ℕ) → list < 5 → ring.IsChain next prev 5 list keys list → IfSome r (λ key. next list ≡ 5 + key)
+      → IfNone r (next list < 5) → r ≡ slice_get keys 0
+  first_read [] None range chain some none = refl
+  first_read [] (Some key) range chain some none = absurd (omega (arith, range, chain.0, some))
+  first_read (first ∷ rest) None range chain some none = absurd (omega (arith, chain.0, none))
+  first_read (first ∷ rest) (Some key) range chain some none = ap Some (omega (arith, chain.0, some))
 
-  pub none_in : (keys : List ℕ) (key : ℕ) → ring.IsChain next prev 5 list keys list → next list < 5 → ¬ IsIn key keys
-  none_in [] key chain none found = found
-  none_in (first ∷ rest) key chain none found = omega (arith, chain.0, none)
-
-  -- the front has the least moment
-  pub front_least : (f : ℕ → ℕ) (keys : List ℕ) (front key : ℕ) → ring.IsChain next prev 5 list keys list → next list ≡ 5 + front
-      → IsRising f keys → IsIn key keys → f front ≤ f key
-  front_least f [] front key chain is rising found = absurd found
-  front_least f (first ∷ rest) front key chain is rising found =
-      let same : front ≡ first = omega (arith, chain.0, is) in
-      omega (arith, ap f same, rising_first f first key rest rising found)
-
-  module _ (next' prev' : ℕ → ℕ) where
-    same_front : (keys : List ℕ) → ring.IsChain next prev 5 list keys list → ring.IsChain next' prev' 5 list keys list
-        → next' list ≡ next list
-    same_front [] chain chain' = chain'.0 ∙ sym chain.0
-    same_front (first ∷ rest) chain chain' = chain'.0 ∙ sym chain.0
-
-    -- a front other than the last key was there before that joined
-    front_before : (keys : List ℕ) (key front : ℕ) → front ≢ key → ring.IsChain next prev 5 list keys list
-        → ring.IsChain next' prev' 5 list (keys ++ key ∷ []) list → next' list ≡ 5 + front → next list ≡ 5 + front
-    front_before [] key front d chain chain' is = absurd (d (omega (arith, chain'.0, is)))
-    front_before (first ∷ rest) key front d chain chain' is = chain.0 ∙ sym chain'.0 ∙ is
+  pub first_tested : (keys : List ℕ) (key : ℕ) → list < 5 → ring.IsChain next prev 5 list keys list → eqb (next list) (5 + key) ≡ is_first key keys
+  first_tested [] key range chain = ne_eqb _ _ (λ e. omega (arith, range, chain.0, e))
+  first_tested (first ∷ rest) key range chain = grind (arith, nat_tests, chain.0)
 
   -- the key that the head leads back to is the last
   last_from : (key from first : ℕ) (rest : List ℕ) → ring.IsChain next prev 5 from (first ∷ rest) list
@@ -267,77 +270,60 @@ module _ (next prev : ℕ → ℕ) (list : ℕ) where
   last_at_end key [] range chain apart end = absurd (omega (arith, range, chain.1, end))
   last_at_end key (first ∷ rest) range chain apart end = last_from key list first rest chain apart end
 
-pub front_owned : (slots : Slab Slot) (heads : List Link) → HasRings slots heads → (q front : ℕ) → q < 5
-    → next_of slots heads q ≡ 5 + front → owner_of slots front ≡ Some q
-front_owned slots heads rings q front range is =
-    let ring = rings.1 q range in ring.owned front (front_in _ _ q (rings.0 q) front range ring.chained is)
+pub front_owned : (slots : Slab Slot) (heads : List Link) (lists : Lists) → IsRings slots heads lists → (q front : ℕ) → q < 5
+    → slice_get (lists q) 0 ≡ Some front → owner_of slots front ≡ Some q
+front_owned slots heads lists rings q front range is = (rings q range).owned front (IsIn-first (lists q) front is)
 
 -- the last slot of a list is at the end of it already
-pub relists_last : (slots : Slab Slot) (heads : List Link) (key list : ℕ) → HasRings slots heads → list < 5
-    → prev_of slots heads list ≡ 5 + key → Relists slots slots heads heads key (Some list) (λ lists. pushed key list (off key lists))
-relists_last slots heads key list known range end =
-    let last : (keys : List ℕ) → IsRing slots heads list keys → without key keys ++ key ∷ [] ≡ keys =
-    λ keys ring. last_at_end _ _ list key keys range ring.chained ring.apart end in
-    let ring = known.1 list range in
-    let owned : owner_of slots key ≡ Some list =
-    ring.owned key (subst (IsIn key) (last (known.0 list) ring) (IsIn-push_last key (without key (known.0 list)))) in
-    record {
-      rings = λ lists rings l r. pushed_by (IsRing slots heads l) key list l (off key lists)
-          (λ e. subst (λ m. IsRing slots heads m (without key (lists m) ++ key ∷ [])) (sym e)
-          (subst (IsRing slots heads list) (sym (last (lists list) (rings list range))) (rings list range)))
-          (λ d. subst (IsRing slots heads l) (sym (without_absent key (lists l)
-          (λ found. d (same_Some l list (sym ((rings l r).owned key found) ∙ owned))))) (rings l r));
-      here = owned;
-      others = λ k d. refl;
-    }
+module _ (slots : Slab Slot) (heads : List Link) (key list : ℕ) (range : list < 5) (end : prev_of slots heads list ≡ 5 + key) where
+  at_end : (lists : Lists) → IsRings slots heads lists → without key (lists list) ++ key ∷ [] ≡ lists list
+  at_end lists rings = let ring = rings list range in last_at_end _ _ list key (lists list) range ring.chained ring.apart end
+
+  last_owned : (lists : Lists) → IsRings slots heads lists → owner_of slots key ≡ Some list
+  last_owned lists rings = (rings list range).owned key (subst (IsIn key) (at_end lists rings) (IsIn-push_last key (without key (lists list))))
+
+  pub last_stays : (lists : Lists) → IsRings slots heads lists → (l : ℕ) → l < 5 → pushed key list (off key lists) l ≡ lists l
+  last_stays lists rings l r = pushed_by (λ keys. keys ≡ lists l) key list l (off key lists)
+      (λ e. ap (λ m. without key (lists m) ++ key ∷ []) e ∙ at_end lists rings ∙ ap lists (sym e))
+      (λ d. without_absent key (lists l) (λ found. d (same_Some l list (sym ((rings l r).owned key found) ∙ last_owned lists rings))))
+
+  pub relists_last : HasRings slots heads → Relists slots slots heads heads key (Some list) (λ lists. pushed key list (off key lists))
+  relists_last known = record {
+    rings = λ lists rings l r. subst (IsRing slots heads l) (sym (last_stays lists rings l r)) (rings l r);
+    here = last_owned known.0 known.1;
+    others = λ k d. refl;
+  }
 
 -- ---- the moments of fronts
 
--- a slot gets a value
-pub oldest_written : (old new : Slab Slot) (heads : List Link) (key : ℕ) (moments : List ℕ) (slot : Option Slot) → Updates old new key slot
-    → AreOldest old heads moments → AreOldestBut key new heads moments
-oldest_written old new heads key moments slot updates oldest q range front d is =
-    oldest q range front (ap (neighbour Next) (link_at-head old heads q range ∙ sym (link_at-head new heads q range)) ∙ is)
-    ∙ sym (ap (λ o. last_by (option_map (held_of front) o)) (updates.others front d))
+-- the moments of all other slots stay
+pub oldest_as : (key : ℕ) (last last' : ℕ → ℕ) (lists : Lists) (moments : List ℕ) → ((k : ℕ) → k ≢ key → last' k ≡ last k)
+    → AreOldestBut key last lists moments → AreOldestBut key last' lists moments
+oldest_as key last last' lists moments same oldest q range front is d = oldest q range front is d ∙ sym (same front d)
 
-module _ (old new : Slab Slot) (heads heads' : List Link) (key : ℕ) (moments : List ℕ) (same : SameBy except_links old new) where
-  last : (k : ℕ) → last_at (held_at new) k ≡ last_at (held_at old) k
-  last k = ap last_by (held_aside old new same k)
+-- the key goes to the end of a queue
+pub oldest_pushed : (key to : ℕ) (last : ℕ → ℕ) (lists : Lists) (moments : List ℕ) → AreOldestBut key last lists moments
+    → AreOldestBut key last (pushed key to lists) moments
+oldest_pushed key to last lists moments oldest q range front is d =
+    oldest q range front (pushed_by (λ keys. slice_get keys 0 ≡ Some front → slice_get (lists q) 0 ≡ Some front) key to q lists (λ e. before (lists q))
+    (λ n was. was) is) d
+  where
+    before : (keys : List ℕ) → slice_get (keys ++ key ∷ []) 0 ≡ Some front → slice_get keys 0 ≡ Some front
+    before [] is = absurd (d (sym (same_Some key front is)))
+    before (first ∷ rest) is = is
 
-  -- the key goes to the end of a queue
-  pub oldest_pushed : (list : ℕ) → HasRings old heads → Relists old new heads heads' key (Some list) (pushed key list)
-      → AreOldestBut key old heads moments → AreOldestBut key new heads' moments
-  oldest_pushed list known relists oldest q range front d is =
-      let ring = (known.1 q range).chained in
-      let was = pushed_by (λ keys. IsRing new heads' q keys → next_of old heads q ≡ 5 + front) key list q known.0
-      (λ e ring'. front_before _ _ q _ _ (known.0 q) key front d ring ring'.chained is)
-      (λ n ring'. sym (same_front _ _ q _ _ (known.0 q) ring ring'.chained) ∙ is)
-      (relists.rings known.0 known.1 q range) in
-      oldest q range front d was ∙ sym (last front)
-
-  -- the key leaves its queue, whose front is noted
-  pub oldest_left : (list moment : ℕ) → HasRings old heads → Relists old new heads heads' key None (off key) → owner_of old key ≡ Some list
-      → list < length moments → ((front : ℕ) → next_of new heads' list ≡ 5 + front → moment ≡ last_at (held_at new) front)
-      → AreOldestBut key old heads moments → AreOldest new heads' (set moments list moment)
-  oldest_left list moment known relists owned within noted oldest q range front is =
-      elim (cases_eq q list) [
-        | inl e ↦ ap (λ j. get_or (set moments list moment) j 0) e ∙ get_or-set_same moments list moment 0 within
-            ∙ noted front (ap (next_of new heads') (sym e) ∙ is)
-        | inr n ↦
-            let rings' = relists.rings known.0 known.1 in
-            let absent : ¬ IsIn key (known.0 q) = λ found. n (same_Some q list (sym ((known.1 q range).owned key found) ∙ owned)) in
-            let stays = subst (λ keys. ring.IsChain (next_of new heads') (prev_of new heads') 5 q keys q)
-            (without_absent key (known.0 q) absent) (rings' q range).chained in
-            let differs : front ≢ key = λ e.
-            none-some q (sym relists.here ∙ ap (owner_of new) (sym e) ∙ front_owned new heads' (off key known.0, rings') q front range is) in
-            get_or-set_other moments list q moment 0 n
-            ∙ oldest q range front differs (sym (same_front _ _ q _ _ (known.0 q) (known.1 q range).chained stays) ∙ is)
-            ∙ sym (last front)
-      ]
-
--- a slot in no queue is no front
-pub oldest_all : (slots : Slab Slot) (heads : List Link) (key : ℕ) (moments : List ℕ) → HasRings slots heads → owner_of slots key ≡ None
-    → AreOldestBut key slots heads moments → AreOldest slots heads moments
-oldest_all slots heads key moments known free oldest q range front is =
-    oldest q range front
-    (λ e. none-some q (sym free ∙ ap (owner_of slots) (sym e) ∙ front_owned slots heads known q front range is)) is
+-- the key leaves its queue, whose front is noted
+pub oldest_left : (slots : Slab Slot) (heads : List Link) (key list moment : ℕ) (last : ℕ → ℕ) (lists : Lists) (moments : List ℕ)
+    → IsRings slots heads lists → owner_of slots key ≡ Some list → list < length moments
+    → ((front : ℕ) → slice_get (off key lists list) 0 ≡ Some front → moment ≡ last front)
+    → AreOldestBut key last lists moments → AreOldest last (off key lists) (set moments list moment)
+oldest_left slots heads key list moment last lists moments rings owned within noted oldest q range front is =
+    elim (cases_eq q list) [
+      | inl e ↦ ap (λ j. get_or (set moments list moment) j 0) e ∙ get_or-set_same moments list moment 0 within
+          ∙ noted front (ap (λ l. slice_get (off key lists l) 0) (sym e) ∙ is)
+      | inr n ↦
+          let absent : ¬ IsIn key (lists q) = λ found. n (same_Some q list (sym ((rings q range).owned key found) ∙ owned)) in
+          let was = subst (λ keys. slice_get keys 0 ≡ Some front) (without_absent key (lists q) absent) is in
+          get_or-set_other moments list q moment 0 n
+          ∙ oldest q range front was (λ e. absent (subst (λ k. IsIn k (lists q)) e (IsIn-first (lists q) front was)))
+    ]

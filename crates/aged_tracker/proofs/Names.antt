@@ -5,7 +5,7 @@ pub use Rattle.aged_tracker.specs.declared.slot.Neighbour.TheVariants.{Next, Pre
 pub use Rattle.aged_tracker.specs.declared.slot.Slot.{Slot}
 pub use Rattle.aged_tracker.specs.steps.Table.{AreOldest, AreOldestBut, HasRings, IsAllLive, IsIndexed, IsLiveQueue, IsNode, IsNumbered, IsRing, IsRings}
 pub use Rattle.aged_tracker.specs.steps.Table.{IsRising, IsTable, Lists, MAX_KEYS, Relinks, Relists, SameBy, Sets, belonging_of, connections_by, cons_held}
-pub use Rattle.aged_tracker.specs.steps.Table.{entry_at, entry_below, except_links, held_at, held_by, held_from, held_of, idle_at, key_in, last_at, last_by}
+pub use Rattle.aged_tracker.specs.steps.Table.{entry_at, entry_below, except_links, held_at, held_by, held_from, held_of, idle_at, is_first, key_in, last_at, last_by}
 pub use Rattle.aged_tracker.specs.steps.Table.{limit_at, link_at, link_by, neighbour, next_of, no_link, number, numbered_entry, off, owner_by, owner_of, picked}
 pub use Rattle.aged_tracker.specs.steps.Table.{prev_of, pushed, queue_by, queue_number, queue_of, serial_at, serial_by, slots_of, updated}
 pub use Rattle.box_file.specs.declared.idle_line.IdleKind.{IdleKind}
@@ -54,5 +54,5 @@ pub use Rattle.std.proofs.lemmas.Map.Keys.{IsDistinct-IsPermutation, IsDistinct-
 pub use Rattle.std.proofs.lemmas.Option.{none-some, same_Some}
 pub use Rattle.std.specs.List.{AllByRecursion, Contains, filter, find, list_any}
 pub use Rattle.std.specs.List.Sorted.{IsNonDecreasingBy, IsPermutation}
-pub use Rattle.std.specs.Prelude.{IfSome, if◌then◌else◌, option_map, ◌==◌}
+pub use Rattle.std.specs.Prelude.{IfNone, IfSome, if◌then◌else◌, option_map, slice_get, ◌==◌}
 unfoldable pub use Rattle.std.specs.List.{IsDistinct}

@@ -7,14 +7,14 @@ use Rattle.aged_tracker.proofs.Names.{IsNumbered, IsPermutation, IsPermutation-m
 use Rattle.aged_tracker.proofs.Names.{MAX_KEYS, None, Option, Relists, SameBy, Sets, Slab, Slot, Some, Updates, [], ap, arith, cases_Bool, cases_eq}
 use Rattle.aged_tracker.proofs.Names.{connection_of, connections_by, cons_held, entries, entries_from, entry_at, entry_below, eq-eqb, eqb, eqb-true}
 use Rattle.aged_tracker.proofs.Names.{except_links, false, filter, find, get, get_or, held_at, held_by, held_from, held_of, idle_at, idle_kind, inl, inr}
-use Rattle.aged_tracker.proofs.Names.{is_live, is_some, last_at, last_by, length, limit_at, limit_in, limit_of, lt-ltb, map, nat_tests, ne_eqb, next_of}
-use Rattle.aged_tracker.proofs.Names.{none-some, numbered_entry, off, option_cases, option_map, owner_by, owner_of, phase_of, picked, prev_of, pushed}
-use Rattle.aged_tracker.proofs.Names.{queue_number, queue_of, refl, same_Some, same_id, serial_at, serial_by, slots_of, some_of_map, subst, suc, sym, true}
-use Rattle.aged_tracker.proofs.Names.{true≢false, without, zero, ℕ, ◌++◌, ◌+◌, ◌-◌, ◌<◌, ◌==◌, ◌∙◌, ◌∷◌, ◌≡◌, ◌≢◌, ◌≤◌, ◌⊎◌}
-use Rattle.aged_tracker.proofs.Lists.{front_least, front_owned, kept_by, named_at, none_in, pushed_by, rising_as, some_of}
-use Rattle.box_file.specs.declared.idle_line.IdleKind.TheVariants as idle
+use Rattle.aged_tracker.proofs.Names.{is_live, is_some, last_at, last_by, length, limit_at, limit_in, limit_of, lt-ltb, map, nat_tests, ne_eqb, none-some}
+use Rattle.aged_tracker.proofs.Names.{numbered_entry, off, option_cases, option_map, owner_by, owner_of, phase_of, picked, pushed, queue_number, queue_of, refl}
+use Rattle.aged_tracker.proofs.Names.{same_Some, same_id, serial_at, serial_by, slots_of, some_of_map, subst, suc, sym, true, true≢false, without, zero, ℕ}
+use Rattle.aged_tracker.proofs.Names.{◌++◌, ◌+◌, ◌-◌, ◌<◌, ◌==◌, ◌∙◌, ◌∷◌, ◌≡◌, ◌≢◌, ◌≤◌, ◌⊎◌}
+use Rattle.aged_tracker.proofs.Lists.{front_owned, kept_by, named_at, none_in, pushed_by, rising_as, rising_first, some_of}
+use Rattle.std.specs.Prelude.{slice_get}
 use Rattle.std.proofs.lemmas.Grind.{common_steps}
-use Rattle.futures.specs.Links as ring
+use Rattle.box_file.specs.declared.idle_line.IdleKind.TheVariants as idle
 
 -- ---- the order of creation: the entries by rising numbers
 
@@ -241,7 +241,7 @@ module _ (t : AgedSlots) (table : IsTable t) (new : Slab Slot) (key : ℕ) (slot
   -- the table then
   pub table_after : (heads : List Link) (to : Option ℕ) (change : Lists → Lists) (moments : List ℕ) (next : ℕ)
       → Relists t.slots new t.queues heads key to change → to ≡ option_map queue_of (option_map (held_of key) slot)
-      → ((q : ℕ) → q < 5 → IsRising (last_at (held_at new)) (change table.rings.0 q)) → AreOldest new heads moments
+      → ((q : ℕ) → q < 5 → IsRising (last_at (held_at new)) (change table.rings.0 q)) → AreOldest (last_at (held_at new)) (change table.rings.0) moments
       → IsNumbered new next → key < MAX_KEYS
       → IsTable (record { slots = new; queues = heads; oldest = moments; next_serial = next })
   table_after heads to change moments next relists queue rising oldest numbered few =
@@ -466,26 +466,23 @@ limit_of-at : (limits : Limits) (h : ConntrackEntry) (q : ℕ) → queue_of h �
 limit_of-at limits h q is = ap (limit_in limits) (sym (known_queue (idle_kind h.original.kind (phase_of h))).1) ∙ ap (limit_at limits) is
 
 module _ (limits : Limits) (t : AgedSlots) (now q : ℕ) (table : IsTable t) (range : q < 5) where
-  chain : ring.IsChain (next_of t.slots t.queues) (prev_of t.slots t.queues) 5 q (table.rings.0 q) q
-  chain = (table.rings.1 q range).chained
-
   listed : (key : ℕ) (h : ConntrackEntry) → slots_of t key ≡ Some h → queue_of h ≡ q → IsIn key (table.rings.0 q)
   listed key h is at = (table.rings.1 q range).listed key (table.owners key ∙ ap (λ o. option_map queue_of o) is ∙ ap Some at)
 
-  pub queue_empty : next_of t.slots t.queues q < 5 → IsLiveQueue limits (slots_of t) now q
-  queue_empty none k h is at = absurd (none_in _ _ q (table.rings.0 q) k chain none (listed k h is at))
+  pub queue_empty : slice_get (table.rings.0 q) 0 ≡ None → IsLiveQueue limits (slots_of t) now q
+  queue_empty none k h is at = absurd (none_in (table.rings.0 q) k none (listed k h is at))
 
-  module _ (key : ℕ) (front : next_of t.slots t.queues q ≡ 5 + key) where
+  module _ (key : ℕ) (front : slice_get (table.rings.0 q) 0 ≡ Some key) where
     pub queue_live : now - get_or t.oldest q 0 < limit_at limits q → IsLiveQueue limits (slots_of t) now q
     queue_live live k h is at =
-        let least = front_least _ _ q (last_at (slots_of t)) (table.rings.0 q) key k chain front (table.rising q range) (listed k h is at) in
+        let least = rising_first (last_at (slots_of t)) (table.rings.0 q) key k (table.rising q range) front (listed k h is at) in
         lt-ltb (now - h.last) (limit_of limits h)
         (omega (arith, least, ap last_by is, table.oldest q range key front, live, limit_of-at limits h q at))
 
     pub front_expired : limit_at limits q ≤ now - get_or t.oldest q 0
         → IfSome (slots_of t key) (λ h. is_live limits now h ≡ false) × IsSome (slots_of t key)
     front_expired expired =
-        let placed = sym (table.owners key) ∙ front_owned t.slots t.queues table.rings q key range front in
+        let placed = sym (table.owners key) ∙ front_owned t.slots t.queues table.rings.0 table.rings.1 q key range front in
         let slot = some_of_map queue_of (slots_of t key) q placed in
         let late : limit_of limits slot.0 ≤ now - slot.0.last =
         omega (arith, ap last_by slot.1, table.oldest q range key front, expired, limit_of-at limits slot.0 q slot.2) in

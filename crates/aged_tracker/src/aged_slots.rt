@@ -1,11 +1,11 @@
 //! The slots of a table, and the lists through them.
-ghost use Rattle.std.specs.Prelude.{◌≡◌, ◌+◌, ◌<◌, ◌≤◌, ◌++◌, ◌∷◌, [], ℕ, nat_lt, IsTrue, IsSome, IfOk, IsOk, OnOk, Some, None, IfSome, IfNone, false, map};
+ghost use Rattle.std.specs.Prelude.{◌≡◌, ◌+◌, ◌<◌, ◌≤◌, ◌++◌, ◌∷◌, [], ℕ, nat_lt, IsTrue, IsSome, IfOk, IsOk, OnOk, Some, None, IfSome, IfNone, false, map, slice_get};
 ghost use Rattle.slab.specs.Slab.{get, slab_len, ContainsKey, Updates};
 ghost use Rattle.futures.specs.LinkedLists.{IsIn};
 ghost use Rattle.conntrack.specs.ConntrackEntry.{begun_with, connection_of, is_live, touched_at, without, IsNoneLater, IsWithin};
-ghost use Rattle.aged_tracker.specs.steps.Table.{AreOldest, AreOldestBut, Fills, HasRings, IsAllLive, IsLiveQueue, IsOwned, IsTable, MAX_KEYS, MAX_SERIAL};
+ghost use Rattle.aged_tracker.specs.steps.Table.{AreOldest, AreOldestBut, Fills, HasRings, IsAllLive, IsLiveQueue, IsOwned, IsRings, IsTable, Lists, MAX_KEYS, MAX_SERIAL};
 ghost use Rattle.aged_tracker.specs.steps.Table.{Relists, SameBy, SameSize, Slots as SlotsName, belonging_of, connections_by, except_links, has_room, held_at};
-ghost use Rattle.aged_tracker.specs.steps.Table.{held_by, held_of, last_at, limit_at, next_of, off, owner_of, prev_of, pushed, queue_by, queue_of, slots_of};
+ghost use Rattle.aged_tracker.specs.steps.Table.{held_by, held_of, last_at, limit_at, off, owner_of, prev_of, pushed, queue_by, queue_of, slots_of};
 ghost use Rattle.aged_tracker.specs.steps.Table.{updated};
 
 use crate::linked_lists::{empty_heads, front, is_first, is_last, push_back, unlink};
@@ -41,8 +41,8 @@ fn limit_at(limits: Limits, queue: usize) -> u64
 /// The moment of the last packet of a queue's front.
 fn oldest_of(slots: &Slots, queues: &[Link; LISTS], queue: usize, steps: &mut Steps) -> Moment
     requires { queue < 5 }
-    ensures oldest { (front : ℕ) → next_of slots.now queues.now queue ≡ 5 + front
-        → result ≡ last_at (held_at slots.now) front }
+    ensures oldest { (lists : Lists) (front : ℕ) → IsRings slots.now queues.now lists
+        → slice_get (lists queue) 0 ≡ Some front → result ≡ last_at (held_at slots.now) front }
     ensures steps { IsWithin (Some 1) steps.old steps.new }
 {
     match front(queues, queue) {
@@ -64,9 +64,10 @@ fn take_out(
 )
     requires rings { HasRings slots.old queues.old }
     requires owned { IsOwned slots.old key }
-    requires oldest { AreOldestBut key slots.old queues.old oldest.old }
     ensures relists { Relists slots.old slots.new queues.old queues.new key None (off key) }
-    ensures oldest { AreOldest slots.new queues.new oldest.new }
+    ensures oldest { (lists : Lists) → IsRings slots.old queues.old lists
+        → AreOldestBut key (last_at (held_at slots.old)) lists oldest.old
+        → AreOldest (last_at (held_at slots.old)) (off key lists) oldest.new }
     ensures except_links { SameBy except_links slots.old slots.new }
     ensures size { SameSize slots.old slots.new }
     ensures steps { IsWithin (Some 4) steps.old steps.new }
@@ -89,10 +90,11 @@ fn requeue(
     requires few { key < MAX_KEYS }
     requires rings { HasRings slots.old queues.old }
     requires owned { IsOwned slots.old key }
-    requires oldest { AreOldestBut key slots.old queues.old oldest.old }
     ensures relists { Relists slots.old slots.new queues.old queues.new key (Some queue)
         (λ lists. pushed key queue (off key lists)) }
-    ensures oldest { AreOldestBut key slots.new queues.new oldest.new }
+    ensures oldest { (lists : Lists) → IsRings slots.old queues.old lists
+        → AreOldestBut key (last_at (held_at slots.old)) lists oldest.old
+        → AreOldestBut key (last_at (held_at slots.old)) (pushed key queue (off key lists)) oldest.new }
     ensures except_links { SameBy except_links slots.old slots.new }
     ensures size { SameSize slots.old slots.new }
     ensures steps { IsWithin (Some 6) steps.old steps.new }
@@ -115,9 +117,9 @@ fn note_front(
 )
     requires range { queue < 5 }
     requires few { key < MAX_KEYS }
-    ensures { (slots : SlotsName) → HasRings slots queues.now
-        → owner_of slots key ≡ Some queue → last_at (held_at slots) key ≡ moment
-        → AreOldestBut key slots queues.now oldest.old → AreOldest slots queues.now oldest.new }
+    ensures { (slots : SlotsName) (lists : Lists) (last : ℕ → ℕ) → IsRings slots queues.now lists
+        → owner_of slots key ≡ Some queue → last key ≡ moment
+        → AreOldestBut key last lists oldest.old → AreOldest last lists oldest.new }
 {
     if is_first(queues, queue, key) {
         oldest[queue] = moment;

@@ -1,10 +1,10 @@
 //! Circular doubly linked lists of slots, each with a head. In `steps` calls count the slots that
 //! they read or write.
-ghost use Rattle.std.specs.Prelude.{◌≡◌, ℕ, ◌+◌, ◌<◌, ◌≤◌, ◌==◌, [], IfSome, IfNone, Some, None};
+ghost use Rattle.std.specs.Prelude.{◌≡◌, ℕ, ◌+◌, ◌<◌, ◌≤◌, ◌==◌, [], Some, None, slice_get};
 ghost use Rattle.slab.specs.Slab.{ContainsKey};
 ghost use Rattle.conntrack.specs.ConntrackEntry.{IsWithin};
-ghost use Rattle.aged_tracker.specs.steps.Table.{HasRings, IsNode, IsOwned, IsRings, MAX_KEYS, Relinks, Relists, SameBy, SameSize, Slots as SlotsName};
-ghost use Rattle.aged_tracker.specs.steps.Table.{except_links, link_at, next_of, number, off, owner_of, prev_of, pushed, with_neighbour};
+ghost use Rattle.aged_tracker.specs.steps.Table.{HasRings, IsNode, IsOwned, IsRings, Lists, MAX_KEYS, is_first, Relinks, Relists, SameBy, SameSize, Slots as SlotsName};
+ghost use Rattle.aged_tracker.specs.steps.Table.{except_links, link_at, number, off, owner_of, prev_of, pushed, with_neighbour};
 
 use crate::slot::{LISTS, Link, ListLinks, Neighbour, NodeIndex};
 use crate::slots::Slots;
@@ -103,9 +103,8 @@ pub fn push_back(
 /// The first key of a list.
 pub fn front(heads: &[Link; LISTS], list: usize) -> Option<usize>
     requires { list < 5 }
-    ensures some { (slots : SlotsName)
-        → IfSome result (λ key. next_of slots heads.now list ≡ 5 + key) }
-    ensures none { (slots : SlotsName) → IfNone result (next_of slots heads.now list < 5) }
+    ensures { (slots : SlotsName) (lists : Lists) → IsRings slots heads.now lists
+        → result ≡ slice_get (lists list) 0 }
 {
     head_link(heads, list).next.key()
 }
@@ -114,7 +113,8 @@ pub fn front(heads: &[Link; LISTS], list: usize) -> Option<usize>
 pub fn is_first(heads: &[Link; LISTS], list: usize, key: usize) -> bool
     requires range { list < 5 }
     requires few { key < MAX_KEYS }
-    ensures { (slots : SlotsName) → result ≡ (next_of slots heads.now list == 5 + key) }
+    ensures { (slots : SlotsName) (lists : Lists) → IsRings slots heads.now lists
+        → result ≡ is_first key (lists list) }
 {
     head_link(heads, list).next.number() == LISTS + key
 }

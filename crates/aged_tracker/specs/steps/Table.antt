@@ -29,7 +29,7 @@ use Rattle.ip_headers.specs.declared.tuple.Tuple.{Tuple}
 use Rattle.slab.specs.Slab.{Slab, Updates, get, slab_len}
 use Rattle.std.specs.List.{find}
 use Rattle.std.specs.List.Sorted.{IsNonDecreasingBy}
-use Rattle.std.specs.Prelude.{Bool, IsSome, List, None, Option, Some, [], false, if◌then◌else◌, length, map, nat_lt, not, option_map, slice_index_or, suc, true}
+use Rattle.std.specs.Prelude.{Bool, IsSome, List, None, Option, Some, [], false, if◌then◌else◌, length, map, nat_lt, not, option_map, slice_get, slice_index_or, suc, true}
 use Rattle.std.specs.Prelude.{zero, ℕ, ◌&&◌, ◌*◌, ◌++◌, ◌+◌, ◌-◌, ◌<◌, ◌==◌, ◌^◌, ◌∷◌, ◌≡◌, ◌≢◌, ◌≤◌}
 use Rattle.box_file.specs.declared.idle_line.IdleKind.TheVariants as idle
 use Rattle.futures.specs.Links as ring
@@ -258,17 +258,20 @@ last_at slots key = last_by (slots key)
 abbrev pub IsRising : (ℕ → ℕ) → List ℕ → Type 0
 IsRising f = IsNonDecreasingBy f
 
+-- whether the key is the first of a list
+abbrev pub is_first : ℕ → List ℕ → Bool
+is_first key [] = false
+is_first key (first ∷ rest) = first == key
+
 -- the moment of each queue's front, unless that is this key
-abbrev pub AreOldestBut : ℕ → Slab Slot → List Link → List ℕ → Type 0
-AreOldestBut key slots heads moments =
-    (q : ℕ) → q < 5 → (front : ℕ) → front ≢ key → next_of slots heads q ≡ 5 + front
-    → slice_index_or moments q 0 ≡ last_at (held_at slots) front
+abbrev pub AreOldestBut : ℕ → (ℕ → ℕ) → Lists → List ℕ → Type 0
+AreOldestBut key last lists moments =
+    (q : ℕ) → q < 5 → (front : ℕ) → slice_get (lists q) 0 ≡ Some front → front ≢ key → slice_index_or moments q 0 ≡ last front
 
 -- the moment of each queue's front
-abbrev pub AreOldest : Slab Slot → List Link → List ℕ → Type 0
-AreOldest slots heads moments =
-    (q : ℕ) → q < 5 → (front : ℕ) → next_of slots heads q ≡ 5 + front
-    → slice_index_or moments q 0 ≡ last_at (held_at slots) front
+abbrev pub AreOldest : (ℕ → ℕ) → Lists → List ℕ → Type 0
+AreOldest last lists moments =
+    (q : ℕ) → q < 5 → (front : ℕ) → slice_get (lists q) 0 ≡ Some front → slice_index_or moments q 0 ≡ last front
 
 -- ---- the order of creation
 
@@ -327,7 +330,7 @@ pub record IsTable (t : AgedSlots) : Type 0 where
   pub owners : (key : ℕ) → owner_of t.slots key ≡ option_map queue_of (slots_of t key)
   pub rising : (q : ℕ) → q < 5 → IsRising (last_at (slots_of t)) (rings.0 q)
   pub numbered : IsNumbered t.slots t.next_serial
-  pub oldest : AreOldest t.slots t.queues t.oldest
+  pub oldest : AreOldest (last_at (slots_of t)) rings.0 t.oldest
   pub few : (key : ℕ) → IsSome (slots_of t key) → key < MAX_KEYS
 
 -- the greatest number

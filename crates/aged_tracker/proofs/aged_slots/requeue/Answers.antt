@@ -1,5 +1,5 @@
-use Rattle.aged_tracker.proofs.Names.{off, pushed, sym, ◌∙◌}
-use Rattle.aged_tracker.proofs.Lists.{oldest_pushed, relists_last, relists_then}
+use Rattle.aged_tracker.proofs.Names.{Some, off, pushed, slice_get, subst, sym, ◌∙◌, ◌≡◌}
+use Rattle.aged_tracker.proofs.Lists.{last_stays, oldest_pushed, relists_last, relists_then}
 use Rattle.std.proofs.Common.{eqb-true}
 use Rattle.aged_tracker.proofs.aged_slots.requeue.Goals as goal
 
@@ -8,8 +8,13 @@ push_back-requires-clause-rings c = (off c.args.key c.requires.rings.0, c.take_o
 
 pub returns-then-is_last-clause-relists : goal.returns-then-is_last-clause-relists
 returns-then-is_last-clause-relists c =
-    relists_last c.args.slots.now c.args.queues.now c.args.key c.args.queue c.requires.rings c.requires.range
-    (eqb-true _ _ (sym (c.is_last.ensures c.args.slots.now) ∙ c.if-is_last.true))
+    relists_last c.args.slots.now c.args.queues.now c.args.key c.args.queue c.requires.range
+    (eqb-true _ _ (sym (c.is_last.ensures c.args.slots.now) ∙ c.if-is_last.true)) c.requires.rings
+
+pub returns-then-is_last-clause-oldest : goal.returns-then-is_last-clause-oldest
+returns-then-is_last-clause-oldest c lists rings oldest q range front is =
+    oldest q range front (subst (λ keys. slice_get keys 0 ≡ Some front) (last_stays c.args.slots.now c.args.queues.now c.args.key c.args.queue
+    c.requires.range (eqb-true _ _ (sym (c.is_last.ensures c.args.slots.now) ∙ c.if-is_last.true)) lists rings q range) is)
 
 pub returns-clause-relists : goal.returns-clause-relists
 returns-clause-relists c =
@@ -17,7 +22,5 @@ returns-clause-relists c =
     c.push_back.ensures.relists
 
 pub returns-clause-oldest : goal.returns-clause-oldest
-returns-clause-oldest c =
-    oldest_pushed _ _ _ _ c.args.key c.take_out.new.oldest c.push_back.ensures.except_links c.args.queue
-    (off c.args.key c.requires.rings.0, c.take_out.ensures.relists.rings c.requires.rings.0 c.requires.rings.1)
-    c.push_back.ensures.relists (λ q range front d. c.take_out.ensures.oldest q range front)
+returns-clause-oldest c lists rings oldest = oldest_pushed c.args.key c.args.queue _ (off c.args.key lists) c.take_out.new.oldest
+    (λ q range front is d. c.take_out.ensures.oldest lists rings oldest q range front is)

@@ -1,10 +1,10 @@
-use Rattle.aged_tracker.proofs.Names.{AreOldestBut, ConntrackEntry, IsNumbered, Relists, Sets, Slot, Some, add-one, ap, arith, begun_with, entry_at, held_at}
-use Rattle.aged_tracker.proofs.Names.{held_from, held_of, inl, last_at, last_by, option_map, owner_by, owner_of, pushed, queue_by, queue_of, refl, slots_of}
-use Rattle.aged_tracker.proofs.Names.{sym, ◌+◌, ◌∙◌, ◌≡◌}
-use Rattle.aged_tracker.proofs.Lists.{oldest_pushed, oldest_written, relists_then, relists_written}
+use Rattle.aged_tracker.proofs.Names.{ConntrackEntry, IsNumbered, Relists, Sets, Slot, Some, add-one, ap, arith, begun_with, entry_at, held_at, held_from}
+use Rattle.aged_tracker.proofs.Names.{held_of, inl, last_at, last_by, option_map, owner_by, owner_of, pushed, queue_by, queue_of, refl, slots_of, sym, ◌+◌, ◌∙◌}
+use Rattle.aged_tracker.proofs.Names.{◌≡◌}
+use Rattle.aged_tracker.proofs.Lists.{oldest_as, oldest_pushed, relists_then, relists_written}
 use Rattle.aged_tracker.proofs.Order.{Writes, held_begun, least, numbered_after, rising_free, rising_pushed, sets, table_after, writes_between}
-use Rattle.aged_tracker.proofs.aged_slots.AgedSlots.insert.Goals as goal
 use Rattle.aged_tracker.proofs.aged_slots.AgedSlots.insert.Goals.{After-fill-key, After-push_back}
+use Rattle.aged_tracker.proofs.aged_slots.AgedSlots.insert.Goals as goal
 
 abbrev slot : After-push_back → Slot
 slot c = c.fill-key.ensures.fills.slot
@@ -52,15 +52,14 @@ returns-clause-table c =
     ∙ ap (queue_by c.begun-held.result.original.kind) c.phase.ensures ∙ ap queue_of (sym c.fill-key.ensures.fills.holds) in
     let last : last_at (held_at c.push_back.new.slots) key ≡ c.args.connection.last =
     ap last_by (begun at).changed ∙ ap (λ (h : ConntrackEntry). h.last) (made at) in
-    let oldest : AreOldestBut key c.push_back.new.slots c.push_back.new.heads t.oldest =
-    oldest_pushed c.fill-key.new.self _ t.queues _ key t.oldest c.push_back.ensures.except_links c.queue_by-queue.result
-    (table.rings.0, (filled known).rings _ table.rings.1) c.push_back.ensures.relists
-    (oldest_written t.slots _ _ key _ _ c.fill-key.ensures.fills.updates table.oldest) in
+    let oldest = oldest_pushed key c.queue_by-queue.result _ table.rings.0 t.oldest
+    (oldest_as key (last_at (held_at t.slots)) (last_at (held_at c.push_back.new.slots)) table.rings.0 t.oldest
+    (λ k d. ap last_by ((begun at).others k d)) (λ q range front is d. table.oldest q range front is)) in
     table_after t table c.push_back.new.slots key (Some (slot at)) (writes at) c.push_back.new.heads _ _ c.note_front.new.oldest
     _ relists (ap Some to)
     (rising_pushed t table _ key _ (writes at) c.queue_by-queue.result table.rings.0
     (rising_free t table _ key _ (writes at) c.fill-key.ensures.free) (least t table _ key _ (writes at) c.args.connection.last last c.requires.later))
-    (c.note_front.ensures c.push_back.new.slots (_, relists.rings table.rings.0 table.rings.1) relists.here last oldest)
+    (c.note_front.ensures c.push_back.new.slots _ _ (relists.rings table.rings.0 table.rings.1) relists.here last oldest)
     (numbered at) c.push_back.ensures.few
 
 pub returns-clause-held : goal.returns-clause-held

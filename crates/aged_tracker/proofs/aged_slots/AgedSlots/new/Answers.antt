@@ -1,4 +1,4 @@
-use Rattle.aged_tracker.proofs.Names.{IsRings, [], arith, rules}
+use Rattle.aged_tracker.proofs.Names.{IsRings, [], arith, none-some, rules}
 use Rattle.aged_tracker.proofs.aged_slots.AgedSlots.new.Goals as goal
 
 pub returns-clause-table : goal.returns-clause-table
@@ -9,6 +9,6 @@ returns-clause-table c =
       owners = search rules;
       rising = λ q range i j d le less. absurd (omega (arith, less));
       numbered = search rules;
-      oldest = λ q range front is. absurd (omega (arith, (rings q range).chained.0, is, range));
+      oldest = λ q range front is. absurd (none-some front is);
       few = search rules;
     }

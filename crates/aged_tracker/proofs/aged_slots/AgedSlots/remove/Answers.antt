@@ -1,19 +1,16 @@
-use Rattle.aged_tracker.proofs.Names.{IsNumbered, IsSome, None, Relists, Some, ap, arith, eq-eqb, held_at, held_of, inl, ne_eqb, not, off, option_map, owner_of}
-use Rattle.aged_tracker.proofs.Names.{queue_of, refl, same_id, slots_of, sym, ◌∙◌, ◌≡◌}
+use Rattle.aged_tracker.proofs.Names.{IsIn-without, IsNumbered, IsSome, None, Relists, Some, ap, arith, eq-eqb, held_at, held_of, inl, last_by, ne_eqb, not}
+use Rattle.aged_tracker.proofs.Names.{off, option_map, owner_of, queue_of, refl, same_id, slots_of, sym, ◌∙◌, ◌≡◌}
 use Rattle.aged_tracker.proofs.Index.{kept_if, kept_step}
-use Rattle.aged_tracker.proofs.Lists.{held_aside, oldest_all, oldest_written, relists_then, relists_written, some_of}
-use Rattle.aged_tracker.proofs.Order.{Writes, held_changed, not_none, numbered_after, queue_of-range, rising_left, table_after, writes_between}
+use Rattle.aged_tracker.proofs.Lists.{IsIn-first, held_aside, relists_then, relists_written, some_of}
+use Rattle.aged_tracker.proofs.Order.{Writes, held_changed, not_none, numbered_after, queue_of-range, rising_left, sets, table_after, writes_between}
 use Rattle.conntrack.specs.ConntrackEntry.{without}
-use Rattle.aged_tracker.proofs.aged_slots.AgedSlots.remove.Goals as goal
 use Rattle.aged_tracker.proofs.aged_slots.AgedSlots.remove.Goals.{After-remove}
+use Rattle.aged_tracker.proofs.aged_slots.AgedSlots.remove.Goals as goal
 
 pub take_out-requires-clause-owned : goal.take_out-requires-clause-owned
 take_out-requires-clause-owned c =
     let h = some_of (slots_of c.args.self.now c.args.id.0) c.requires.is_held in
     (queue_of h.0, (queue_of-range h.0, c.requires.table.owners c.args.id.0 ∙ ap (λ o. option_map queue_of o) h.1))
-
-pub take_out-requires-clause-oldest : goal.take_out-requires-clause-oldest
-take_out-requires-clause-oldest c q range front d = c.requires.table.oldest q range front
 
 value : (c : After-remove) → slots_of c.args.self.now c.args.id.0 ≡ Some (held_of c.args.id.0 c.remove.result)
 value c =
@@ -43,9 +40,9 @@ returns-clause-table c =
     let relists = relists_then _ _ _ _ _ _ key _ _ (off key) (λ lists. lists) c.take_out.ensures.relists (emptied at) in
     table_after t table c.remove.new.self key None (writes at) c.take_out.new.queues _ (off key) c.take_out.new.oldest t.next_serial
     relists c.take_out.ensures.relists.here (rising_left t table _ key _ (writes at))
-    (oldest_all c.remove.new.self c.take_out.new.queues key c.take_out.new.oldest (_, relists.rings table.rings.0 table.rings.1)
-    (relists.here ∙ c.take_out.ensures.relists.here)
-    (oldest_written c.take_out.new.slots _ _ key _ None c.remove.ensures.updates c.take_out.ensures.oldest))
+    (λ q range front is. c.take_out.ensures.oldest table.rings.0 table.rings.1 (λ q range front is d. table.oldest q range front is) q range front is
+    ∙ sym (ap last_by ((sets t table _ key None (writes at)).others front
+    (IsIn-without key front (table.rings.0 q) (IsIn-first (off key table.rings.0 q) front is)).1)))
     (numbered at) (table.few key c.requires.is_held)
 
 pub returns-clause-held : goal.returns-clause-held

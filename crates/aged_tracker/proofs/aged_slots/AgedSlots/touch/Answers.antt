@@ -1,11 +1,11 @@
 use Rattle.aged_tracker.proofs.Names.{ConntrackEntry, IsNumbered, Relists, SameBy, Slab, Slot, Some, Updates, ap, arith, cond, eq-eqb, except_links, get}
 use Rattle.aged_tracker.proofs.Names.{held_at, held_of, inl, inr, last_at, last_by, link_by, ne_eqb, off, option_cases, option_map, owner_by, owner_of, pushed}
 use Rattle.aged_tracker.proofs.Names.{queue_of, refl, same_id, serial_by, sym, touched, touched_at, updated, ◌∙◌, ◌≡◌}
-use Rattle.aged_tracker.proofs.Lists.{oldest_written, relists_then, relists_written, some_of}
+use Rattle.aged_tracker.proofs.Lists.{held_aside, oldest_as, relists_then, relists_written, some_of}
 use Rattle.aged_tracker.proofs.Order.{Writes, held_changed, least, numbered_after, queue_of-range, rising_left, rising_pushed, sets, slot_by, table_after}
 use Rattle.aged_tracker.proofs.Order.{writes_between}
-use Rattle.aged_tracker.proofs.aged_slots.AgedSlots.touch.Goals as goal
 use Rattle.aged_tracker.proofs.aged_slots.AgedSlots.touch.Goals.{After-touch-queue}
+use Rattle.aged_tracker.proofs.aged_slots.AgedSlots.touch.Goals as goal
 
 slot : (c : After-touch-queue) → (s : Slot) × (get c.args.self.now.slots c.args.id.0 ≡ Some s)
 slot c = some_of _ (slot_by c.args.self.now.slots c.args.id.0 c.requires.is_held)
@@ -36,11 +36,6 @@ requeue-requires-clause-owned c =
     let owner = (same at).here ∙ c.requires.table.owners c.args.id.0 ∙ ap (λ o. option_map queue_of (option_map (held_of c.args.id.0) o)) (slot at).1 in
     (queue_of (entry at), (queue_of-range (entry at), owner))
 
-pub requeue-requires-clause-oldest : goal.requeue-requires-clause-oldest
-requeue-requires-clause-oldest c =
-    let at = (goal.at.requeue-requires-clause-oldest c).After-touch-queue in
-    oldest_written _ _ _ c.args.id.0 _ (Some (after at)) (wrote at) c.requires.table.oldest
-
 pub note_front-requires-clause-few : goal.note_front-requires-clause-few
 note_front-requires-clause-few c = c.requires.table.few c.args.id.0 c.requires.is_held
 
@@ -65,12 +60,17 @@ returns-clause-table c =
     let key = c.args.id.0 in
     let relists = relists_then _ _ _ _ _ _ key _ _ (λ lists. lists) (λ lists. pushed key c.touch-queue.result (off key lists)) (same at)
     c.requeue.ensures.relists in
+    let rings = (same at).rings table.rings.0 table.rings.1 in
+    let oldest = oldest_as key (last_at (held_at c.touch-queue.new.self)) (last_at (held_at c.requeue.new.slots)) _ _
+    (λ k d. ap last_by (held_aside c.touch-queue.new.self c.requeue.new.slots c.requeue.ensures.except_links k))
+    (c.requeue.ensures.oldest table.rings.0 rings (oldest_as key (last_at (held_at t.slots)) _ _ _
+    (λ k d. ap (λ o. last_by (option_map (held_of k) o)) ((wrote at).others k d)) (λ q range front is d. table.oldest q range front is))) in
     let last : last_at (held_at c.requeue.new.slots) key ≡ c.args.now = ap last_by (sets t table _ key _ ws).changed in
     table_after t table c.requeue.new.slots key (Some (after at)) ws c.requeue.new.queues _ _ c.note_front.new.oldest _
     relists (ap Some (rw (slot at).1 at c.touch-queue.ensures.queue))
     (rising_pushed t table _ key _ ws c.touch-queue.result (off key table.rings.0) (rising_left t table _ key _ ws)
     (least t table _ key _ ws c.args.now last c.requires.later))
-    (c.note_front.ensures c.requeue.new.slots (_, relists.rings table.rings.0 table.rings.1) relists.here last c.requeue.ensures.oldest)
+    (c.note_front.ensures c.requeue.new.slots _ _ (relists.rings table.rings.0 table.rings.1) relists.here last oldest)
     (numbered at c.requeue.new.slots c.requeue.ensures.except_links) (table.few key c.requires.is_held)
 
 pub returns-clause-held : goal.returns-clause-held

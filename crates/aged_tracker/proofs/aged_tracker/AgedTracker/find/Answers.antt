@@ -1,7 +1,7 @@
 use Rattle.aged_tracker.proofs.Names.{ConntrackEntry, None, Some, ap, find, held_by, is_incoming, is_some, slots_of, sym, ◌∙◌, ◌≡◌}
 use Rattle.aged_tracker.proofs.Index.{belongs_by, owner, unfound}
-use Rattle.aged_tracker.proofs.aged_tracker.AgedTracker.find.Goals as goal
 use Rattle.aged_tracker.proofs.aged_tracker.AgedTracker.find.Goals.{In-Some}
+use Rattle.aged_tracker.proofs.aged_tracker.AgedTracker.find.Goals as goal
 
 its : (c : In-Some) → (h : ConntrackEntry)
     × ((find (is_incoming c.args.tuple) (held_by c.self.inside.slots) ≡ Some h) × (slots_of c.self.inside.slots c.in-Some.key ≡ Some h))

@@ -1,7 +1,7 @@
 use Rattle.aged_tracker.proofs.Names.{IsTrue, Some, ap, begun_with, cond, false, has_id, held_by, is_some, is_taken, rules, same_tuple, sym, ◌∙◌, ◌≡◌}
 use Rattle.aged_tracker.proofs.Index.{has_as, indexed_begun, not_both, taken_as}
+use Rattle.aged_tracker.proofs.aged_tracker.AgedTrackerTracker.begin.Goals.{After-insert-id, After-is_some}
 use Rattle.aged_tracker.proofs.aged_tracker.AgedTrackerTracker.begin.Goals as goal
-use Rattle.aged_tracker.proofs.aged_tracker.AgedTrackerTracker.begin.Goals.{After-is_some, After-insert-id}
 
 taken : (c : After-is_some) → is_taken c.args.connection.reply (held_by c.self.inside.slots) ≡ c.is_some.result
 taken c = taken_as _ _ _ c.self.invariant.indexed c.args.connection.reply ∙ sym (c.is_some.ensures ∙ ap is_some c.key_of.ensures)
