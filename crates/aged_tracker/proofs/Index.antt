@@ -44,22 +44,20 @@ IsOnce p (x ∷ held) = (p x ≡ true → list_any p held ≡ false) × IsOnce p
 pub once_by_id : (id : ConnId) (held : List ConntrackEntry) → has_distinct_ids held ≡ true → IsOnce (same_id id) held
 once_by_id id [] distinct = tt
 once_by_id id (x ∷ held) distinct =
-    let parts = and_parts (not (has_id x.id held)) (has_distinct_ids held) distinct in (
-      λ same. ap (λ n. list_any (λ h. h.id.0 == n) held) (sym (eqb-true x.id.0 id.0 same)) ∙ not-true _ parts.0,
-      once_by_id id held parts.1,
-    )
+    let parts = and_parts (not (has_id x.id held)) (has_distinct_ids held) distinct in
+    let none = λ (same : same_id id x ≡ true). ap (λ n. list_any (λ h. h.id.0 == n) held) (sym (eqb-true x.id.0 id.0 same)) ∙ not-true _ parts.0 in
+    (none, once_by_id id held parts.1)
 
 pub once_by_tuple : (tuple : Tuple) (held : List ConntrackEntry) → have_disjoint_tuples held ≡ true → IsOnce (is_incoming tuple) held
 once_by_tuple tuple [] apart = tt
 once_by_tuple tuple (x ∷ held) apart =
     let parts = and_parts _ (have_disjoint_tuples held) apart in
-    let free = or_parts (is_taken x.original held) (is_taken x.reply held) (not-true _ parts.0) in (
-      λ its. elim (or_cases (same_tuple x.original tuple) (same_tuple x.reply tuple) its) [
-        | inl e ↦ ap (λ q. is_taken q held) (sym (same_tuple-true x.original tuple e)) ∙ free.0
-        | inr e ↦ ap (λ q. is_taken q held) (sym (same_tuple-true x.reply tuple e)) ∙ free.1
-      ],
-      once_by_tuple tuple held parts.1,
-    )
+    let free = or_parts (is_taken x.original held) (is_taken x.reply held) (not-true _ parts.0) in
+    let none : is_incoming tuple x ≡ true → is_taken tuple held ≡ false = λ its. elim (or_cases _ _ its) [
+      | inl e ↦ ap (λ q. is_taken q held) (sym (same_tuple-true x.original tuple e)) ∙ free.0
+      | inr e ↦ ap (λ q. is_taken q held) (sym (same_tuple-true x.reply tuple e)) ∙ free.1
+    ] in
+    (none, once_by_tuple tuple held parts.1)
 
 -- what was found, if it passes another test too
 abbrev pub kept_if : (ConntrackEntry → Bool) → Option ConntrackEntry → Option ConntrackEntry
@@ -244,12 +242,9 @@ module _ (t : AgedSlots) (table : IsTable t) where
       found_from (entry_at t.slots) id (slots_of t id.0)
       (λ n h is same. ap (slots_of t) (sym (eqb-true h.id.0 id.0 same)) ∙ (of_slot t.slots n h is).0)
       (λ h is. eq-eqb h.id.0 id.0 (named_at t.slots id.0 h is)) 0 t.next_serial (λ some.
-      let h = some_of (slots_of t id.0) some in (
-        serial_at t.slots id.0,
-        omega arith,
-        omega (arith, table.numbered.below id.0 some),
-        at_slot t.slots t.next_serial table.numbered id.0 h.0 h.1 ∙ sym h.1,
-      ))
+      let h = some_of (slots_of t id.0) some in
+      let at = at_slot t.slots t.next_serial table.numbered id.0 h.0 h.1 ∙ sym h.1 in
+      (serial_at t.slots id.0, omega arith, omega (arith, table.numbered.below id.0 some), at))
 
   pub live_all : (limits : Limits) (now : ℕ) → IsAllLive limits (slots_of t) now → live_at limits now (held_by t) ≡ held_by t
   live_all limits now live =
@@ -261,10 +256,9 @@ module _ (t : AgedSlots) (table : IsTable t) where
   pub owner : (at : Tuple → Option ℕ) (live : ℕ) → IsIndexed (held_by t) at live → (tuple : Tuple) (key : ℕ) → at tuple ≡ Some key
       → (h : ConntrackEntry) × ((find (is_incoming tuple) (held_by t) ≡ Some h) × (slots_of t key ≡ Some h))
   owner at live is tuple key found =
-      let h = some_of_map (λ (x : ConntrackEntry). x.id.0) (find (is_incoming tuple) (held_by t)) key (sym (is.keyed tuple) ∙ found) in (
-        h.0,
-        (h.1, ap (slots_of t) (sym h.2) ∙ sym (found_at h.0.id) ∙ found_by_id (is_incoming tuple) (held_by t) h.0 is.distinct h.1),
-      )
+      let h = some_of_map (λ (x : ConntrackEntry). x.id.0) (find (is_incoming tuple) (held_by t)) key (sym (is.keyed tuple) ∙ found) in
+      let slot = ap (slots_of t) (sym h.2) ∙ sym (found_at h.0.id) ∙ found_by_id (is_incoming tuple) (held_by t) h.0 is.distinct h.1 in
+      (h.0, (h.1, slot))
 
 -- ---- the test of two tuples that `Tuple` derives
 

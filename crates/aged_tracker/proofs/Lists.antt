@@ -1,9 +1,9 @@
 -- Circular lists of slots: their keys, links, changes and fronts.
 use Rattle.aged_tracker.proofs.Names.{AreOldest, AreOldestBut, ConntrackEntry, HasRings, IfSome, Inserts, IsApart, IsIn, IsNode, IsOn, IsRing, IsRing-kept}
 use Rattle.aged_tracker.proofs.Names.{IsRing-push, IsRing-skip, IsRings, IsRising, IsSome, Joins, Link, List, Lists, Next, None, Option, Previous, Relinks}
-use Rattle.aged_tracker.proofs.Names.{Relists, SameBy, Slab, Slot, Some, Updates, [], ap, arith, cases_eq, cond, cond-false, cond-true, eq-eqb, eqb, eqb-true}
+use Rattle.aged_tracker.proofs.Names.{Relists, SameBy, Slab, Slot, Some, Updates, [], ap, arith, cases_eq, cond-false, cond-true, eq-eqb, eqb, eqb-true}
 use Rattle.aged_tracker.proofs.Names.{except_links, free_not_on, get, get_or, get_or-set_other, get_or-set_same, held_at, held_of, inl, inr, is_some, length}
-use Rattle.aged_tracker.proofs.Names.{link_at, link_by, lt-ltb, nat_tests, ne_eqb, neighbour, next_of, next_on, no_link, none-some, not_from_false, off}
+use Rattle.aged_tracker.proofs.Names.{link_at, link_by, nat_tests, ne_eqb, neighbour, next_of, next_on, none-some, not_from_false, off}
 use Rattle.aged_tracker.proofs.Names.{option_map, owner_by, owner_of, prev_end_on, prev_of, prev_on, pushed, refl, rings_apart, same_Some, set, some_of_map}
 use Rattle.aged_tracker.proofs.Names.{subst, suc, sym, true, without, without_absent, without_head, zero, ℕ, ◌++◌, ◌+◌, ◌-◌, ◌<◌, ◌∙◌, ◌∷◌, ◌≡◌, ◌≢◌, ◌≤◌, ◌⊎◌}
 use Rattle.std.proofs.lemmas.Grind.{common_steps}
@@ -83,9 +83,6 @@ held_aside old new same k = kept_by (option_map (held_of k)) except_links (λ s.
 -- each entry has its slot's key as id
 pub named_at : (slots : Slab Slot) (key : ℕ) (h : ConntrackEntry) → held_at slots key ≡ Some h → h.id.0 ≡ key
 named_at slots key h is = ap (λ (x : ConntrackEntry). x.id.0) (sym (some_of_map (held_of key) (get slots key) h is).2)
-
-pub link_at-head : (slots : Slab Slot) (heads : List Link) (p : ℕ) → p < 5 → link_at slots heads p ≡ get_or heads p no_link
-link_at-head slots heads p below = ap (λ b. cond b (get_or heads p no_link) (link_by (get slots (p - 5)))) (lt-ltb p 5 below)
 
 -- the links after a write to a slot that keeps its own
 links_as : (old new : Slab Slot) (heads : List Link) (key : ℕ) (slot : Option Slot) → Updates old new key slot → (p : ℕ)

@@ -42,11 +42,6 @@ picked_from true (Some x) rest h is = inl (refl, is)
 picked_from true None rest h is = inr is
 picked_from false o rest h is = inr is
 
-picked_past : (b : Bool) (o rest : Option ConntrackEntry) → (b ≡ true → IsSome o → ⊥) → picked b o rest ≡ rest
-picked_past true (Some x) rest other = absurd (other refl refl)
-picked_past true None rest other = refl
-picked_past false o rest other = refl
-
 module _ (s : ℕ → Option ConntrackEntry) (serial : ℕ → ℕ) (n : ℕ) where
   from_below : (most : ℕ) (h : ConntrackEntry) → entry_below s serial n most ≡ Some h → (k : ℕ) × ((s k ≡ Some h) × (serial k ≡ n))
   from_below zero h is = absurd (none-some h is)
@@ -203,14 +198,11 @@ module _ (t : AgedSlots) (table : IsTable t) (new : Slab Slot) (key : ℕ) (slot
         | inl e ↦ let same = ap (last_at (held_at new)) e in omega (arith, same)
         | inr d ↦ elim (option_cases (slots_of t k)) [
           | inl free ↦ omega (arith, ap last_by (sets.others k d), ap last_by free)
-          | inr some ↦ omega (
-            arith,
-            at,
-            ap last_by (sets.others k d),
-            ap last_by (at_slot t.slots t.next_serial table.numbered k some.0 some.1 ∙ sym some.1),
-            none_later-at (entry_at t.slots) now 0 t.next_serial none (serial_at t.slots k) (omega arith)
-                (omega (arith, table.numbered.below k (ap is_some some.1))),
-          )
+          | inr some ↦
+              let at' = at_slot t.slots t.next_serial table.numbered k some.0 some.1 ∙ sym some.1 in
+              let less = none_later-at (entry_at t.slots) now 0 t.next_serial none (serial_at t.slots k) (omega arith)
+              (omega (arith, table.numbered.below k (ap is_some some.1))) in
+              omega (arith, at, ap last_by (sets.others k d), ap last_by at', less)
         ]
       ]
 
@@ -261,18 +253,11 @@ module _ (t : AgedSlots) (table : IsTable t) (new : Slab Slot) (key : ℕ) (slot
       → (IsSome (held_at new key) → (serial_by slot < next)
       × ((k : ℕ) → IsSome (slots_of t k) → serial_at t.slots k ≡ serial_by slot → k ≡ key)) → IsNumbered new next
   numbered_after next more here =
-      let was : (k : ℕ) → k ≢ key → IsSome (held_at new k) → IsSome (slots_of t k) = λ k d is. subst IsSome (sets.others k d) is in
+      let own : (m : ℕ) → IsSome (held_at new key) → IsSome (slots_of t m) → serial_at t.slots m ≡ serial_by slot → m ≡ key = λ m h. (here h).1 m in
       let now : (k : ℕ) → k ≡ key → IsSome (held_at new k) → IsSome (held_at new key) = λ k e is. subst (λ k. IsSome (held_at new k)) e is in
-      let one : (j k : ℕ) → j ≡ key → k ≢ key → IsSome (held_at new j) → IsSome (held_at new k) → serial_at new j ≡ serial_at new k → k ≡ key =
-      λ j k a d f g e. (here (now j a f)).1 k (was k d g) (sym (serials k d) ∙ sym e ∙ ap (serial_at new) a ∙ serial) in
+      let was : (k : ℕ) → k ≢ key → IsSome (held_at new k) → IsSome (slots_of t k) = λ k d is. subst IsSome (sets.others k d) is in
       record {
-        apart = λ j k f g e. elim (cases_eq j key) [
-          | inl a ↦ elim (cases_eq k key) [ inl b ↦ a ∙ sym b | inr d ↦ a ∙ sym (one j k a d f g e) ]
-          | inr c ↦ elim (cases_eq k key) [
-            | inl b ↦ one k j b c g f (sym e) ∙ sym b
-            | inr d ↦ table.numbered.apart j k (was j c f) (was k d g) (sym (serials j c) ∙ e ∙ serials k d)
-          ]
-        ];
+        apart = λ j k f g e. grind (arith, cases_eq j key, cases_eq k key, now j, now k, was j, was k, serials j, serials k, serial, own j, own k, table.numbered.apart j k);
         below = λ k is. grind (arith, more, cases_eq k key, now k, is, here, serial, serials k, was k, table.numbered.below k);
       }
 
@@ -342,11 +327,8 @@ distinct_numbers key (None ∷ rest) apart = distinct_numbers (key + 1) rest apa
 distinct_numbers key (Some s ∷ rest) apart =
     let later = entries_from (key + 1) rest in (
       all_by (λ n. eqb s.serial n ≡ false) later (λ e there. ne_eqb s.serial e.1.serial (λ same.
-          omega (
-            arith,
-            past key (key + 1) (omega arith) rest e there,
-            apart (key, s) e (Contains-head (key, s) later) (Contains-tail (key, s) later e there) same,
-          ))),
+          let one = apart (key, s) e (Contains-head (key, s) later) (Contains-tail (key, s) later e there) same in
+          omega (arith, past key (key + 1) (omega arith) rest e there, one))),
       distinct_numbers (key + 1) rest
           (λ a b f g. apart a b (Contains-tail (key, s) later a f) (Contains-tail (key, s) later b g)),
     )
@@ -377,12 +359,8 @@ module _ (f : ℕ → Option ConntrackEntry) where
   first_listed first count h held is more (q ∷ qs) listed =
       let there = listed.to first h is (omega arith) in
       let it = listed.from q (Contains-head q qs) in
-      let at : q.0 ≡ first = omega (
-        arith,
-        it.0,
-        listed.rising zero there.0 (first, connection_of h) (omega arith) there.1,
-        ap (λ (p : ℕ × Connection). p.0) there.2,
-      ) in
+      let least = listed.rising zero there.0 (first, connection_of h) (omega arith) there.1 in
+      let at : q.0 ≡ first = omega (arith, it.0, least, ap (λ (p : ℕ × Connection). p.0) there.2) in
       rw (it.4 ∙ ap connection_of (same_Some it.2 h (sym it.3 ∙ ap f at ∙ is))) (ap (λ xs. connection_of h ∷ xs) (more qs (record {
         rising = λ i j d le less. listed.rising (suc i) (suc j) d (omega (arith, le)) (omega (arith, less));
         distinct = IsDistinct-tail eqb q.0 (map (λ q. q.0) qs) listed.distinct;
@@ -433,13 +411,10 @@ listed_order slots qs next numbered moved rising =
           let e = Contains-unmap numbered_entry (entries slots) q (Contains-permutation _ _ q (IsPermutation-sym _ _ moved) there) in
           let at = (Contains-entries slots e.0.0 e.0.1).0 e.1 in
           let is = entry e.0.0 e.0.1 at in
-          let number : serial_at slots e.0.0 ≡ q.0 = ap serial_by at ∙ ap (λ (p : ℕ × Connection). p.0) e.2 in (
-            omega arith,
-            omega (arith, number, numbered.below e.0.0 (ap is_some is)),
-            held_of e.0.0 e.0.1,
-            ap (entry_at slots) (sym number) ∙ at_slot slots next numbered e.0.0 _ is,
-            sym (ap (λ (p : ℕ × Connection). p.1) e.2),
-          );
+          let number : serial_at slots e.0.0 ≡ q.0 = ap serial_by at ∙ ap (λ (p : ℕ × Connection). p.0) e.2 in
+          let entered = ap (entry_at slots) (sym number) ∙ at_slot slots next numbered e.0.0 _ is in
+          let below : q.0 < 0 + next = omega (arith, number, numbered.below e.0.0 (ap is_some is)) in
+          (omega arith, below, held_of e.0.0 e.0.1, entered, sym (ap (λ (p : ℕ × Connection). p.1) e.2));
       to = λ n h is past.
           let at = of_slot slots n h is in
           let s = some_of (get slots h.id.0) (slot_by slots h.id.0 (ap is_some at.0)) in

@@ -4,7 +4,7 @@ ghost use Rattle.slab.specs.Slab.{get, slab_len, ContainsKey, Updates};
 ghost use Rattle.futures.specs.LinkedLists.{IsIn};
 ghost use Rattle.conntrack.specs.ConntrackEntry.{begun_with, connection_of, is_live, touched_at, without, IsNoneLater, IsWithin};
 ghost use Rattle.aged_tracker.specs.steps.Table.{AreOldest, AreOldestBut, Fills, HasRings, IsAllLive, IsLiveQueue, IsOwned, IsRings, IsTable, Lists, MAX_KEYS, MAX_SERIAL};
-ghost use Rattle.aged_tracker.specs.steps.Table.{Relists, SameBy, SameSize, Slots as SlotsName, belonging_of, connections_by, except_links, has_room, held_at};
+ghost use Rattle.aged_tracker.specs.steps.Table.{Relists, SameBy, SameSize, Slots as SlotsName, belonging_of, except_links, has_room, held_at};
 ghost use Rattle.aged_tracker.specs.steps.Table.{held_by, held_of, last_at, limit_at, off, owner_of, prev_of, pushed, queue_by, queue_of, slots_of};
 ghost use Rattle.aged_tracker.specs.steps.Table.{updated};
 
@@ -302,13 +302,6 @@ impl AgedSlots {
     {
         let mut order = self.slots.numbered(alloc, steps)?;
         order.sort_unstable_by_key(|entry| entry.0);
-        connections(&order, alloc)
+        order.iter().map(|entry| entry.1).collect(alloc)
     }
-}
-
-/// The entries of these pairs of a number and an entry.
-fn connections(order: &[(u64, Connection)], alloc: Global) -> Result<Vec<Connection>, AllocError>
-    ensures { IfOk result (λ all. all.items ≡ connections_by order.now) }
-{
-    order.iter().map(|entry| entry.1).collect(alloc)
 }
