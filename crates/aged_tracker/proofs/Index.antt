@@ -1,18 +1,17 @@
 -- Searches in the list of entries, and the index of an `AgedTracker`.
 use Rattle.aged_tracker.proofs.Names.{AgedSlots, Belonging, Bool, ConnId, ConntrackEntry, Direction, Flags, Found, IsAllLive, IsIndexed, IsTable, Limits, List}
 use Rattle.aged_tracker.proofs.Names.{None, NotFound, Option, Reply, Some, Tuple, [], and_parts, ap, apart-filter, apart-push, apart-touched_at, arith}
-use Rattle.aged_tracker.proofs.Names.{belonging_by, belonging_of, belongs_in, cases_Bool, cond, connection_ref, cons_held, distinct-filter, distinct-push}
-use Rattle.aged_tracker.proofs.Names.{distinct-touched_at, entry_at, eq-eqb, eqb-true, false, false_from_ne_true, filter, find, find-filter, found_by_id}
-use Rattle.aged_tracker.proofs.Names.{has_distinct_ids, has_id, have_disjoint_tuples, held_by, if◌then◌else◌, inl, inr, is_incoming, is_live, is_some, is_taken}
-use Rattle.aged_tracker.proofs.Names.{key_in, length, length-append, length-map, list_any, live_at, map, nat_tests, not, not-true, option_cases, option_map}
-use Rattle.aged_tracker.proofs.Names.{or_cases, or_parts, refl, rules, same_id, same_tuple, same_tuple-true, serial_at, slots_of, some_of_map, sym, touched}
-use Rattle.aged_tracker.proofs.Names.{touched_at, true, without_new, ℕ, ◌&&◌, ◌++◌, ◌+◌, ◌-◌, ◌==◌, ◌||◌, ◌∙◌, ◌∷◌, ◌≡◌}
-use Rattle.aged_tracker.proofs.Lists.{named_at, some_of}
+use Rattle.aged_tracker.proofs.Names.{belonging_by, belonging_of, belongs_in, cases_Bool, common_steps, cond, connection_ref, cons_held, distinct-filter}
+use Rattle.aged_tracker.proofs.Names.{distinct-push, distinct-touched_at, entry_at, eq-eqb, eqb-true, false, false_from_ne_true, filter, find, find-filter}
+use Rattle.aged_tracker.proofs.Names.{found_by_id, has_distinct_ids, has_id, have_disjoint_tuples, held_by, if◌then◌else◌, inl, inr, is_incoming, is_live}
+use Rattle.aged_tracker.proofs.Names.{is_some, is_taken, key_in, length, length-append, length-map, list_any, live_at, map, nat_tests, not, not-true}
+use Rattle.aged_tracker.proofs.Names.{option_cases, option_map, or_cases, or_parts, refl, rules, same_id, same_tuple, same_tuple-true, serial_at, slots_of}
+use Rattle.aged_tracker.proofs.Names.{some_of_map, sym, touched, touched_at, true, without_new, ℕ, ◌&&◌, ◌++◌, ◌+◌, ◌-◌, ◌==◌, ◌||◌, ◌∙◌, ◌∷◌, ◌≡◌}
+use Rattle.aged_tracker.proofs.Lists.{named_at, some_map, some_of}
 use Rattle.aged_tracker.proofs.Order.{all_pass, at_slot, found_from, of_slot}
 use Rattle.conntrack.specs.ConntrackEntry.{without}
 use Rattle.ip_headers.specs.contracts.tuple.TuplePartialEq.TheImpl.{eq-value}
 use Rattle.list_laws.specs.Tests.{and-flip}
-use Rattle.std.proofs.lemmas.Grind.{common_steps}
 
 -- ---- searches in the list of entries
 
@@ -26,10 +25,6 @@ found_passes p (y ∷ xs) x e = grind (arith, found_passes p xs x)
 pub any_is : {X : Type 0} (p : X → Bool) (xs : List X) → list_any p xs ≡ is_some (find p xs)
 any_is p [] = refl
 any_is p (x ∷ xs) = grind (arith, any_is p xs)
-
-pub some_map : {X Y : Type 0} (f : X → Y) (o : Option X) → is_some (option_map f o) ≡ is_some o
-some_map f None = refl
-some_map f (Some x) = refl
 
 pub same_found : {X Y : Type 0} (p : X → Bool) (key : X → Y) (f : X → X) → ((x : X) → (p (f x) ≡ p x) × (key (f x) ≡ key x)) → (xs : List X)
     → option_map key (find p (map f xs)) ≡ option_map key (find p xs)
@@ -195,10 +190,7 @@ module _ (held : List ConntrackEntry) (at : Tuple → Option ℕ) (live : ℕ) (
 chosen : (flags : Flags) (h : ConntrackEntry) (l o r : Bool) → (o || r) ≡ true
     → (if not l then NotFound else (if o then belonging_by flags (Some h) None else Found (connection_ref h Reply)))
     ≡ belonging_by flags (cond (l && o) (Some h) None) (cond (l && r) (Some h) None)
-chosen flags h true true r e = refl
-chosen flags h true false true e = refl
-chosen flags h true false false e = absurd cc
-chosen flags h false o r e = refl
+chosen flags h l o r e = grind arith
 
 and_or : (l o r : Bool) → ((l && o) ≡ ((l && o) && (o || r))) × ((l && r) ≡ ((l && r) && (o || r)))
 and_or l o r = (grind arith, grind arith)

@@ -1,14 +1,12 @@
 -- Circular lists of slots: their keys, links, changes and fronts.
-use Rattle.aged_tracker.proofs.Names.{AreOldest, AreOldestBut, ConntrackEntry, HasRings, IfSome, Inserts, IsApart, IsIn, IsNode, IsOn, IsRing, IsRing-kept}
-use Rattle.aged_tracker.proofs.Names.{IsRing-push, IsRing-skip, IsRings, IsRising, IsSome, Joins, Link, List, Lists, Next, None, Option, Previous, Relinks}
-use Rattle.aged_tracker.proofs.Names.{Relists, SameBy, Slab, Slot, Some, Updates, [], ap, arith, cases_eq, cond-false, cond-true, eq-eqb, eqb, eqb-true}
-use Rattle.aged_tracker.proofs.Names.{except_links, free_not_on, get, get_or, get_or-set_other, get_or-set_same, held_at, held_of, inl, inr, is_some, length}
-use Rattle.aged_tracker.proofs.Names.{link_at, link_by, nat_tests, ne_eqb, neighbour, next_of, next_on, none-some, not_from_false, off}
-use Rattle.aged_tracker.proofs.Names.{option_map, owner_by, owner_of, prev_end_on, prev_of, prev_on, pushed, refl, rings_apart, same_Some, set, some_of_map}
-use Rattle.aged_tracker.proofs.Names.{subst, suc, sym, true, without, without_absent, without_head, zero, ℕ, ◌++◌, ◌+◌, ◌-◌, ◌<◌, ◌∙◌, ◌∷◌, ◌≡◌, ◌≢◌, ◌≤◌, ◌⊎◌}
-use Rattle.std.proofs.lemmas.Grind.{common_steps}
-use Rattle.std.specs.Prelude.{IfNone, slice_get}
-use Rattle.aged_tracker.specs.steps.Table.{is_first}
+use Rattle.aged_tracker.proofs.Names.{AreOldest, AreOldestBut, ConntrackEntry, HasRings, IfNone, IfSome, Inserts, IsApart, IsIn, IsNode, IsOn, IsRing}
+use Rattle.aged_tracker.proofs.Names.{IsRing-kept, IsRing-push, IsRing-skip, IsRings, IsRising, IsSome, Joins, Link, List, Lists, Next, None, Option, Previous}
+use Rattle.aged_tracker.proofs.Names.{Relinks, Relists, SameBy, Slab, Slot, Some, Updates, [], ap, arith, cases_eq, common_steps, cond-false, cond-true}
+use Rattle.aged_tracker.proofs.Names.{eq-eqb, eqb, eqb-true, except_links, free_not_on, get, get_or, get_or-set_other, get_or-set_same, held_at, held_of, inl}
+use Rattle.aged_tracker.proofs.Names.{inr, is_first, is_some, length, link_at, link_by, nat_tests, ne_eqb, neighbour, next_of, next_on, none-some}
+use Rattle.aged_tracker.proofs.Names.{not_from_false, off, option_map, owner_by, owner_of, prev_end_on, prev_of, prev_on, pushed, refl, rings_apart, same_Some}
+use Rattle.aged_tracker.proofs.Names.{set, slice_get, some_of_map, subst, suc, sym, true, without, without_absent, without_head, zero, ℕ, ◌++◌, ◌+◌, ◌-◌, ◌<◌}
+use Rattle.aged_tracker.proofs.Names.{◌∙◌, ◌∷◌, ◌≡◌, ◌≢◌, ◌≤◌, ◌⊎◌}
 use Rattle.futures.specs.Links as ring
 
 -- ---- lists of distinct keys
@@ -66,6 +64,10 @@ rising_as f g keys same rising i j d le less =
 pub some_of : {X : Type 0} (o : Option X) → IsSome o → (x : X) × (o ≡ Some x)
 some_of None is = absurd cc
 some_of (Some x) is = (x, refl)
+
+pub some_map : {X Y : Type 0} (f : X → Y) (o : Option X) → is_some (option_map f o) ≡ is_some o
+some_map f None = refl
+some_map f (Some x) = refl
 
 -- a function of slots that reads only what a write keeps
 pub kept_by : {X : Type 0} (f : Option Slot → X) (keep : Slot → Slot) → ((s : Slot) → f (Some s) ≡ f (Some (keep s)))

@@ -5,15 +5,13 @@ use Rattle.aged_tracker.proofs.Names.{ContainsKey-within, IdleKind, IfSome, IsAl
 use Rattle.aged_tracker.proofs.Names.{IsIn, IsIn-without, IsLiveQueue, IsNonDecreasingBy, IsNonDecreasingBy-filter, IsNonDecreasingBy-push, IsNoneLater}
 use Rattle.aged_tracker.proofs.Names.{IsNumbered, IsPermutation, IsPermutation-map, IsPermutation-sym, IsRising, IsSome, IsTable, Limits, Link, List, Lists}
 use Rattle.aged_tracker.proofs.Names.{MAX_KEYS, None, Option, Relists, SameBy, Sets, Slab, Slot, Some, Updates, [], ap, arith, cases_Bool, cases_eq}
-use Rattle.aged_tracker.proofs.Names.{connection_of, connections_by, cons_held, entries, entries_from, entry_at, entry_below, eq-eqb, eqb, eqb-true}
-use Rattle.aged_tracker.proofs.Names.{except_links, false, filter, find, get, get_or, held_at, held_by, held_from, held_of, idle_at, idle_kind, inl, inr}
-use Rattle.aged_tracker.proofs.Names.{is_live, is_some, last_at, last_by, length, limit_at, limit_in, limit_of, lt-ltb, map, nat_tests, ne_eqb, none-some}
-use Rattle.aged_tracker.proofs.Names.{numbered_entry, off, option_cases, option_map, owner_by, owner_of, phase_of, picked, pushed, queue_number, queue_of, refl}
-use Rattle.aged_tracker.proofs.Names.{same_Some, same_id, serial_at, serial_by, slots_of, some_of_map, subst, suc, sym, true, true≢false, without, zero, ℕ}
-use Rattle.aged_tracker.proofs.Names.{◌++◌, ◌+◌, ◌-◌, ◌<◌, ◌==◌, ◌∙◌, ◌∷◌, ◌≡◌, ◌≢◌, ◌≤◌, ◌⊎◌}
-use Rattle.aged_tracker.proofs.Lists.{front_owned, kept_by, named_at, none_in, pushed_by, rising_as, rising_first, some_of}
-use Rattle.std.specs.Prelude.{slice_get}
-use Rattle.std.proofs.lemmas.Grind.{common_steps}
+use Rattle.aged_tracker.proofs.Names.{common_steps, connection_of, connections_by, cons_held, entries, entries_from, entry_at, entry_below, eq-eqb, eqb}
+use Rattle.aged_tracker.proofs.Names.{eqb-true, except_links, false, filter, find, get, get_or, held_at, held_by, held_from, held_of, idle_at, idle_kind, inl}
+use Rattle.aged_tracker.proofs.Names.{inr, is_live, is_some, last_at, last_by, length, limit_at, limit_in, limit_of, lt-ltb, map, nat_tests, ne_eqb, none-some}
+use Rattle.aged_tracker.proofs.Names.{numbered_entry, off, option_cases, option_map, owner_by, owner_of, phase_of, picked, pushed, queue_number, queue_of}
+use Rattle.aged_tracker.proofs.Names.{refl, same_Some, same_id, serial_at, serial_by, slice_get, slots_of, some_of_map, subst, suc, sym, true, true≢false}
+use Rattle.aged_tracker.proofs.Names.{without, zero, ℕ, ◌++◌, ◌+◌, ◌-◌, ◌<◌, ◌==◌, ◌∙◌, ◌∷◌, ◌≡◌, ◌≢◌, ◌≤◌, ◌⊎◌}
+use Rattle.aged_tracker.proofs.Lists.{front_owned, kept_by, named_at, none_in, pushed_by, rising_as, rising_first, some_map, some_of}
 use Rattle.box_file.specs.declared.idle_line.IdleKind.TheVariants as idle
 
 -- ---- the order of creation: the entries by rising numbers
@@ -28,11 +26,7 @@ same_options None (Some y) to from = from y refl
 same_options (Some x) b to from = sym (to x refl)
 
 pub slot_by : (slots : Slab Slot) (key : ℕ) → IsSome (held_at slots key) → IsSome (get slots key)
-slot_by slots key is = by_slot (get slots key) is
-  where
-    by_slot : (o : Option Slot) → IsSome (option_map (held_of key) o) → IsSome o
-    by_slot None is = absurd cc
-    by_slot (Some s) is = refl
+slot_by slots key is = sym (some_map (held_of key) (get slots key)) ∙ is
 
 -- ---- the entry with a number
 

@@ -3,13 +3,13 @@ ghost use Rattle.std.specs.Prelude.{◌≡◌, ◌+◌, ◌<◌, ◌≤◌, ◌+
 ghost use Rattle.slab.specs.Slab.{get, slab_len, ContainsKey, Updates};
 ghost use Rattle.futures.specs.LinkedLists.{IsIn};
 ghost use Rattle.conntrack.specs.ConntrackEntry.{begun_with, connection_of, is_live, touched_at, without, IsNoneLater, IsWithin};
-ghost use Rattle.aged_tracker.specs.steps.Table.{AreOldest, AreOldestBut, Fills, HasRings, IsAllLive, IsLiveQueue, IsOwned, IsRings, IsTable, Lists, MAX_KEYS, MAX_SERIAL};
+ghost use Rattle.aged_tracker.specs.steps.Table.{AreOldest, AreOldestBut, HasRings, IsAllLive, IsLiveQueue, IsOwned, IsRings, IsTable, Lists, MAX_KEYS, MAX_SERIAL};
 ghost use Rattle.aged_tracker.specs.steps.Table.{Relists, SameBy, SameSize, Slots as SlotsName, belonging_of, except_links, has_room, held_at};
 ghost use Rattle.aged_tracker.specs.steps.Table.{held_by, held_of, last_at, limit_at, off, owner_of, prev_of, pushed, queue_by, queue_of, slots_of};
 ghost use Rattle.aged_tracker.specs.steps.Table.{updated};
 
 use crate::linked_lists::{empty_heads, front, is_first, is_last, push_back, unlink};
-use crate::slot::{LISTS, Link, MAX_KEYS, idle_at, queue_by};
+use crate::slot::{LISTS, Link, MAX_KEYS, Slot, idle_at, queue_by};
 use crate::slots::Slots;
 use box_file::Limits;
 use conntrack::{
@@ -208,7 +208,7 @@ impl AgedSlots {
     {
         let held = connection.begun(ConnId(self.slots.vacant_key()), flags);
         let queue = queue_by(held.original.kind, held.phase());
-        let key = self.slots.fill(&held, self.next_serial, steps);
+        let key = self.slots.fill(Slot::new(&held, self.next_serial), steps);
         self.next_serial += 1;
         push_back(&mut self.slots, &mut self.queues, queue, key, steps);
         note_front(&self.queues, &mut self.oldest, queue, key, connection.last);

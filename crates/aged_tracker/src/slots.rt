@@ -4,12 +4,12 @@ ghost use Rattle.std.specs.Prelude.{◌≡◌, ◌+◌, ◌<◌, [], List, IsTru
 ghost use Rattle.slab.specs.Slab.{entries, get, slab_len, ContainsKey, Updates};
 ghost use Rattle.conntrack.specs.StepCounts.{Counts};
 ghost use Rattle.conntrack.specs.ConntrackEntry.{touched};
-ghost use Rattle.aged_tracker.specs.steps.Table.{Fills, Placed, SameSize, held_of, link_at, numbered_entry, owner_of, queue_of, updated, with_link};
+ghost use Rattle.aged_tracker.specs.steps.Table.{Placed, SameSize, held_of, link_at, numbered_entry, owner_of, queue_of, updated, with_link};
 ghost use Rattle.aged_tracker.specs.steps.Table.{with_neighbour};
 ghost use Rattle.aged_tracker.specs.declared.slot.Link.{Link as Linked};
 
 use crate::slot::{Link, ListLinks, Neighbour, NodeIndex, Slot};
-use conntrack::{Connection, ConntrackEntry, Direction, Flags, Moment, Steps};
+use conntrack::{Connection, Direction, Flags, Moment, Steps};
 use slab::Slab;
 use std::alloc::{AllocError, Global};
 use std::marker::Model;
@@ -91,17 +91,17 @@ impl Slots {
             .collect(alloc)
     }
 
-    /// Fills a free one, which is in no list yet.
-    pub fn fill(&mut self, held: &ConntrackEntry, serial: u64, steps: &mut Steps) -> usize
+    /// Fills a free one.
+    #[inline(always)]
+    pub fn fill(&mut self, slot: Slot, steps: &mut Steps) -> usize
         requires { IsTrue (nat_lt (slab_len self.old) self.old.capacity) }
         ensures key { result ≡ self.old.vacant_key }
         ensures free { get self.old result ≡ None }
-        ensures fills { Fills self.old self.new result
-            (record held.now { id = record { 0 = result } }) serial }
+        ensures updates { Updates self.old self.new result (Some slot) }
         ensures steps { Counts 1 steps.old steps.new }
     {
         steps.tick();
-        self.slab.insert_reserved(Slot::new(held, serial))
+        self.slab.insert_reserved(slot)
     }
 
     /// Empties one.

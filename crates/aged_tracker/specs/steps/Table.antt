@@ -26,7 +26,7 @@ use Rattle.ip_headers.specs.declared.tuple.Endpoint.{Endpoint}
 use Rattle.ip_headers.specs.declared.tuple.Kind.{Kind}
 use Rattle.ip_headers.specs.declared.tuple.Mapping.{Mapping}
 use Rattle.ip_headers.specs.declared.tuple.Tuple.{Tuple}
-use Rattle.slab.specs.Slab.{Slab, Updates, get, slab_len}
+use Rattle.slab.specs.Slab.{Slab, get, slab_len}
 use Rattle.std.specs.List.{find}
 use Rattle.std.specs.List.Sorted.{IsNonDecreasingBy}
 use Rattle.std.specs.Prelude.{Bool, IsSome, List, None, Option, Some, [], false, if◌then◌else◌, length, map, nat_lt, not, option_map, slice_get, slice_index_or, suc, true}
@@ -88,14 +88,6 @@ updated h slot = record slot {
 -- a slot after one more packet of its connection, whatever its key
 abbrev pub touched_slot : Direction → Flags → ℕ → ℕ → Slot → Slot
 touched_slot direction flags mark now slot = updated (touched direction flags mark now (held_of 0 slot)) slot
-
--- a slot gets this entry with this number, and is in no list
-pub record Fills (old new : Slab Slot) (key : ℕ) (h : ConntrackEntry) (serial : ℕ) : Type 0 where
-  pub slot : Slot
-  pub updates : Updates old new key (Some slot)
-  pub holds : held_of key slot ≡ h
-  pub numbered : slot.serial ≡ serial
-  pub unlisted : slot.links.list ≡ None
 
 -- ---- nodes: heads and slots
 

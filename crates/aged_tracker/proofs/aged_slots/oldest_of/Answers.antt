@@ -1,5 +1,4 @@
-use Rattle.aged_tracker.proofs.Names.{arith, none-some, same_Some, sym, ◌∙◌}
-use Rattle.std.proofs.lemmas.Grind.{common_steps}
+use Rattle.aged_tracker.proofs.Names.{arith, common_steps, none-some, same_Some, sym, ◌∙◌}
 use Rattle.aged_tracker.proofs.aged_slots.oldest_of.Goals as goal
 
 pub returns-in-None-clause-oldest : goal.returns-in-None-clause-oldest

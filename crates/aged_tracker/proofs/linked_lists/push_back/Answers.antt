@@ -1,5 +1,5 @@
-use Rattle.aged_tracker.proofs.Names.{Next, Previous, ap, arith, free_not_on, link_at, neighbour, next_of, number, owner_of, prev_end_on, prev_of, refl, ℕ, ◌+◌}
-use Rattle.aged_tracker.proofs.Names.{◌∙◌, ◌≡◌, ◌≢◌}
+use Rattle.aged_tracker.proofs.Names.{Next, Previous, ap, arith, free_not_on, link_at, neighbour, next_of, number, owner_of, prev_end_on, prev_of, refl, ℕ}
+use Rattle.aged_tracker.proofs.Names.{◌+◌, ◌∙◌, ◌≡◌, ◌≢◌}
 use Rattle.aged_tracker.proofs.Lists.{Spliced, aside_place, joined, on_place, relists_pushed, unmoved}
 use Rattle.aged_tracker.proofs.linked_lists.push_back.Goals.{After-set_neighbour-2}
 use Rattle.aged_tracker.proofs.linked_lists.push_back.Goals as goal

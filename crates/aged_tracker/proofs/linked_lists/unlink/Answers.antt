@@ -1,5 +1,5 @@
-use Rattle.aged_tracker.proofs.Names.{IsNode, IsOn, Link, Next, Previous, Some, ap, arith, link_at, neighbour, next_on, owner_of, prev_on, refl, same_Some, sym}
-use Rattle.aged_tracker.proofs.Names.{ℕ, ◌+◌, ◌∙◌, ◌≡◌}
+use Rattle.aged_tracker.proofs.Names.{IsNode, IsOn, Link, Next, Previous, Some, ap, arith, link_at, neighbour, next_on, owner_of, prev_on, refl, same_Some}
+use Rattle.aged_tracker.proofs.Names.{sym, ℕ, ◌+◌, ◌∙◌, ◌≡◌}
 use Rattle.aged_tracker.proofs.Lists.{Skipped, aside_place, joined, on_place, relists_left, unmoved}
 use Rattle.aged_tracker.proofs.linked_lists.unlink.Goals.{After-set_neighbour-2, After-take_links-links}
 use Rattle.aged_tracker.proofs.linked_lists.unlink.Goals as goal

@@ -1,17 +1,14 @@
-use Rattle.aged_tracker.proofs.Names.{ConntrackEntry, IsNumbered, Relists, Sets, Slot, Some, add-one, ap, arith, begun_with, entry_at, held_at, held_from}
-use Rattle.aged_tracker.proofs.Names.{held_of, inl, last_at, last_by, option_map, owner_by, owner_of, pushed, queue_by, queue_of, refl, slots_of, sym, ◌+◌, ◌∙◌}
-use Rattle.aged_tracker.proofs.Names.{◌≡◌}
+use Rattle.aged_tracker.proofs.Names.{ConntrackEntry, IsNumbered, Relists, Sets, Some, add-one, ap, arith, begun_with, entry_at, held_at, held_from}
+use Rattle.aged_tracker.proofs.Names.{held_of, inl, last_at, last_by, option_map, owner_by, owner_of, pushed, queue_by, queue_of, refl, slots_of, sym, ◌+◌}
+use Rattle.aged_tracker.proofs.Names.{◌∙◌, ◌≡◌}
 use Rattle.aged_tracker.proofs.Lists.{oldest_as, oldest_pushed, relists_then, relists_written}
 use Rattle.aged_tracker.proofs.Order.{Writes, held_begun, least, numbered_after, rising_free, rising_pushed, sets, table_after, writes_between}
 use Rattle.aged_tracker.proofs.aged_slots.AgedSlots.insert.Goals.{After-fill-key, After-push_back}
 use Rattle.aged_tracker.proofs.aged_slots.AgedSlots.insert.Goals as goal
 
-abbrev slot : After-push_back → Slot
-slot c = c.fill-key.ensures.fills.slot
-
-made : (c : After-push_back) → held_of c.fill-key.result (slot c) ≡ begun_with (record { 0 = c.fill-key.result }) c.args.connection c.args.flags
+made : (c : After-push_back) → held_of c.fill-key.result c.new.result ≡ begun_with (record { 0 = c.fill-key.result }) c.args.connection c.args.flags
 made c =
-    c.fill-key.ensures.fills.holds
+    c.new.ensures.held c.fill-key.result
     ∙ ap (λ (h : ConntrackEntry). record h { id = record { 0 = c.fill-key.result } }) c.begun-held.ensures
 
 -- it is in no list first
@@ -19,25 +16,23 @@ filled : (c : After-fill-key) → Relists c.args.self.now.slots c.fill-key.new.s
     c.fill-key.result (owner_of c.args.self.now.slots c.fill-key.result) (λ lists. lists)
 filled c =
     let free = ap owner_by c.fill-key.ensures.free in
-    relists_written _ _ _ c.fill-key.result _ c.fill-key.ensures.fills.updates (c.fill-key.ensures.fills.unlisted ∙ sym free) (inl free)
+    relists_written _ _ _ c.fill-key.result _ c.fill-key.ensures.updates (c.new.ensures.unlisted ∙ sym free) (inl free)
 
 pub push_back-requires-clause-rings : goal.push_back-requires-clause-rings
 push_back-requires-clause-rings c =
     (c.requires.table.rings.0, (filled (goal.at.push_back-requires-clause-rings c).After-fill-key).rings _ c.requires.table.rings.1)
 
-writes : (c : After-push_back) → Writes c.args.self.now.slots c.push_back.new.slots c.fill-key.result (Some (slot c))
-writes c = writes_between c.args.self.now.slots _ _ _ c.fill-key.result _ (λ k. refl) c.fill-key.ensures.fills.updates c.push_back.ensures.except_links
+writes : (c : After-push_back) → Writes c.args.self.now.slots c.push_back.new.slots c.fill-key.result (Some c.new.result)
+writes c = writes_between c.args.self.now.slots _ _ _ c.fill-key.result _ (λ k. refl) c.fill-key.ensures.updates c.push_back.ensures.except_links
 
-begun : (c : After-push_back) → Sets (slots_of c.args.self.now) (held_at c.push_back.new.slots) c.fill-key.result (Some (held_of c.fill-key.result (slot c)))
+begun : (c : After-push_back) → Sets (slots_of c.args.self.now) (held_at c.push_back.new.slots) c.fill-key.result (Some (held_of c.fill-key.result c.new.result))
 begun c = sets c.args.self.now c.requires.table _ c.fill-key.result _ (writes c)
 
 numbered : (c : After-push_back) → IsNumbered c.push_back.new.slots (c.args.self.now.next_serial + 1)
 numbered c =
-    let number = c.fill-key.ensures.fills.numbered in
-    numbered_after c.args.self.now c.requires.table _ c.fill-key.result _ (writes c) _ (omega arith) (λ is. (
-      omega (arith, number),
-      λ k some e. absurd (omega (arith, e, number, c.requires.table.numbered.below k some)),
-    ))
+    let number = c.new.ensures.serial in
+    numbered_after c.args.self.now c.requires.table _ c.fill-key.result _ (writes c) _ (omega arith)
+    (λ is. (omega (arith, number), λ k some e. absurd (omega (arith, e, number, c.requires.table.numbered.below k some))))
 
 pub returns-clause-table : goal.returns-clause-table
 returns-clause-table c =
@@ -48,14 +43,14 @@ returns-clause-table c =
     let known = (goal.at.returns-clause-table c).After-fill-key in
     let relists = relists_then _ _ _ _ _ _ key _ _ (λ lists. lists) (pushed key c.queue_by-queue.result) (filled known)
     c.push_back.ensures.relists in
-    let to : c.queue_by-queue.result ≡ queue_of (held_of key (slot at)) = c.queue_by-queue.ensures.queue
-    ∙ ap (queue_by c.begun-held.result.original.kind) c.phase.ensures ∙ ap queue_of (sym c.fill-key.ensures.fills.holds) in
+    let to : c.queue_by-queue.result ≡ queue_of (held_of key c.new.result) = c.queue_by-queue.ensures.queue
+    ∙ ap (queue_by c.begun-held.result.original.kind) c.phase.ensures ∙ ap queue_of (sym (c.new.ensures.held c.fill-key.result)) in
     let last : last_at (held_at c.push_back.new.slots) key ≡ c.args.connection.last =
     ap last_by (begun at).changed ∙ ap (λ (h : ConntrackEntry). h.last) (made at) in
     let oldest = oldest_pushed key c.queue_by-queue.result _ table.rings.0 t.oldest
     (oldest_as key (last_at (held_at t.slots)) (last_at (held_at c.push_back.new.slots)) table.rings.0 t.oldest
     (λ k d. ap last_by ((begun at).others k d)) (λ q range front is d. table.oldest q range front is)) in
-    table_after t table c.push_back.new.slots key (Some (slot at)) (writes at) c.push_back.new.heads _ _ c.note_front.new.oldest
+    table_after t table c.push_back.new.slots key (Some c.new.result) (writes at) c.push_back.new.heads _ _ c.note_front.new.oldest
     _ relists (ap Some to)
     (rising_pushed t table _ key _ (writes at) c.queue_by-queue.result table.rings.0
     (rising_free t table _ key _ (writes at) c.fill-key.ensures.free) (least t table _ key _ (writes at) c.args.connection.last last c.requires.later))
@@ -68,4 +63,4 @@ returns-clause-held c =
     let t = c.args.self.now in
     ap (held_from (entry_at c.push_back.new.slots) 0) (add-one t.next_serial)
     ∙ held_begun t c.requires.table _ c.fill-key.result _ (writes at) (numbered at) (ap (option_map (held_of c.fill-key.result)) c.fill-key.ensures.free)
-    c.fill-key.ensures.fills.numbered _ (ap Some (made at))
+    c.new.ensures.serial _ (ap Some (made at))

@@ -46,10 +46,9 @@ writes c new = writes_between c.args.self.now.slots _ c.touch-queue.new.self new
 numbered : (c : After-touch-queue) (new : Slab Slot) → SameBy except_links c.touch-queue.new.self new → IsNumbered new c.args.self.now.next_serial
 numbered c new same =
     let number = ap serial_by (slot c).1 in
-    numbered_after c.args.self.now c.requires.table new c.args.id.0 _ (writes c new same) _ (omega arith) (λ is. (
-      let below = c.requires.table.numbered.below c.args.id.0 c.requires.is_held in omega (arith, below, number),
-      λ k some e. c.requires.table.numbered.apart k c.args.id.0 some c.requires.is_held (e ∙ sym number),
-    ))
+    let below = c.requires.table.numbered.below c.args.id.0 c.requires.is_held in
+    numbered_after c.args.self.now c.requires.table new c.args.id.0 _ (writes c new same) _ (omega arith)
+    (λ is. (omega (arith, below, number), λ k some e. c.requires.table.numbered.apart k c.args.id.0 some c.requires.is_held (e ∙ sym number)))
 
 pub returns-clause-table : goal.returns-clause-table
 returns-clause-table c =
