@@ -48,9 +48,7 @@ name_at (x ∷ xs) (suc i) c e = name_at xs i c e
 
 name_stands : (cs : List ChainTree) (i : ℕ) (c : ChainTree) → slice_get cs i ≡ Some c → Contains (map (λ x. x.name) cs) c.name
 name_stands [] i c e = absurd cc
-name_stands (x ∷ xs) zero c e = let same : x.name ≡ c.name =
-    ap (λ o. (unwrap_or o x).name) e in subst (λ n. Contains (n ∷ map (λ y. y.name) xs) c.name) (sym same)
-    (Contains-head c.name (map (λ y. y.name) xs))
+name_stands (x ∷ xs) zero c e = grind arith
 name_stands (x ∷ xs) (suc i) c e = Contains-there x.name c.name (map (λ y. y.name) xs) (name_stands xs i c e)
 
 twice_behind : (n : Text) (ns : List Text) → HasDuplicate ns → HasDuplicate (n ∷ ns)
@@ -59,10 +57,7 @@ twice_behind n ns r = record { first = suc r.first; second = suc r.second; apart
 own_name : (cs : List ChainTree) (i : ℕ) (c : ChainTree) → slice_get cs i ≡ Some c
     → (HasDuplicate (map (λ x. x.name) cs) → ⊥) → find (λ x. bytes_eq x.name c.name) cs ≡ Some c
 own_name [] i c e once = absurd cc
-own_name (x ∷ xs) zero c e once =
-    let same : x ≡ c = ap (λ o. unwrap_or o x) e in
-    let yes_it_is = (bytes_eq-Decides x.name c.name).1 (ap (λ y. y.name) same) in
-    ap (λ b. cond b (Some x) (find (λ y. bytes_eq y.name c.name) xs)) yes_it_is ∙ e
+own_name (x ∷ xs) zero c e once = grind (arith, unwrap_or, bytes_eq-Decides, x.name, c.name)
 own_name (x ∷ xs) (suc i) c e once = by_test (bytes_eq x.name c.name) refl (own_name xs i c e (λ r. once (twice_behind x.name (map (λ y. y.name) xs) r)))
   where
     by_test : (b : Bool) → bytes_eq x.name c.name ≡ b → find (λ y. bytes_eq y.name c.name) xs ≡ Some c

@@ -19,11 +19,7 @@ got_contained (y ∷ ys) (suc i) x e = let q = got_contained ys i x e in (suc q.
 got_passes : {A : Type 0} (test : A → Bool) (xs : List A) (i : ℕ) (x : A) → slice_get xs i ≡ Some x → test x ≡ true → list_any test xs ≡ true
 got_passes test [] i x e passed = absurd cc
 got_passes test (y ∷ ys) zero x e passed = let same : test y ≡ true = ap (λ o. test (unwrap_or o y)) e ∙ passed in ap (λ b. b || list_any test ys) same
-got_passes test (y ∷ ys) (suc i) x e passed = either (test y) (got_passes test ys i x e passed)
-  where
-    either : (b : Bool) → list_any test ys ≡ true → b || list_any test ys ≡ true
-    either true h = refl
-    either false h = h
+got_passes test (y ∷ ys) (suc i) x e passed = grind (arith, got_passes test ys i x e passed)
 
 module _ (tables : List TableTree) (plant : PlantTree) (well : WellFormed tables plant) (number : ℕ) (t : TableTree)
     (at : slice_get tables number ≡ Some t) where

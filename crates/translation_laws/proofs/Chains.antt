@@ -1,4 +1,5 @@
 -- Rules keep the interfaces and the earlier events; a NAT statement and a `notrack` that take effect are among their events.
+use Rattle.std.proofs.Common.{arith}
 use Rattle.translation_laws.proofs.Names.{◌++◌, BaseChain, Bool, Chains, CtFacts, Event, Facts, HookResult, HookVerdict, InTurn, Interface, IsTrue, Known, List}
 use Rattle.translation_laws.proofs.Names.{NatAction, NoChain, None, NotLookedUp, Notrack, Option, PlantTree, RunsBaseChain, Some, Then, Translated, Traversal}
 use Rattle.translation_laws.proofs.Names.{[], ap, append-nil, append_assoc, did_translate, did_untrack, false, list_any, or_left, or_parts, or_right, policy_of}
@@ -33,9 +34,7 @@ none_earlier es later none =
     (or_parts (did_nat_act es) (did_nat_act later) (sym (list_any-append did_translate es later) ∙ none)).0
 
 nat_acted_last : (es : List Event) (e : Event) → IsTrue (did_translate e) → IsTrue (did_nat_act (es ++ e ∷ []))
-nat_acted_last es e is =
-    list_any-append did_translate es (e ∷ [])
-    ∙ or_right (did_nat_act es) (did_nat_act (e ∷ [])) (or_left (did_translate e) false is)
+nat_acted_last es e is = grind (arith, list_any-append, or_right, or_left)
 
 -- ---- whether a `notrack` took effect
 
@@ -81,31 +80,27 @@ RecordsNat (Translated t) es = IsTrue (did_nat_act es)
 RecordsNat _ es = Unit {0}
 
 kept_none : (f : Facts) (es : List Event) → Kept f f es es
-kept_none f es = record {
-  interfaces = refl;
-  grown = ([], sym (append-nil es));
-  untold = λ none. none;
-  exempt = λ at_look_up told. told;
-}
+kept_none f es = grind (arith, append-nil)
 
 kept_more : (f : Facts) (es later : List Event) → did_exempt later ≡ false → Kept f f es (es ++ later)
-kept_more f es later none = record {
-  interfaces = refl;
-  grown = (later, refl);
-  untold = none_earlier es later;
-  exempt = λ at_look_up told. told_still f.ct at_look_up es later none told;
-}
+kept_more f es later none = grind (arith, none_earlier, told_still, f.ct)
 
 kept_then : (f g h : Facts) (es mid later : List Event) → Kept f g es mid → Kept g h mid later → Kept f h es later
-kept_then f g h es mid later one two = record {
-  interfaces = two.interfaces ∙ one.interfaces;
-  grown = (
-    one.grown.0 ++ two.grown.0,
-    two.grown.1 ∙ ap (λ (l : List Event). l ++ two.grown.0) one.grown.1 ∙ append_assoc es one.grown.0 two.grown.0,
-  );
-  untold = λ none. one.untold (two.untold none);
-  exempt = λ at_look_up told. two.exempt at_look_up (one.exempt at_look_up told);
-}
+kept_then f g h es mid later one two =
+    grind (
+      arith,
+      two.interfaces,
+      one.interfaces,
+      one.grown.0,
+      two.grown.0,
+      two.grown.1,
+      one.grown.1,
+      append_assoc,
+      one.untold,
+      two.untold,
+      two.exempt,
+      one.exempt,
+    )
 
 -- ---- statements
 
@@ -117,12 +112,7 @@ WayKept f _ = Unit {0}
 note_kept : (f g : Facts) (e : Event) → interfaces_of g ≡ interfaces_of f
     → ((at_look_up : Option Bool) (es : List Event) → TellExempt f.ct at_look_up (did_exempt es)
     → TellExempt g.ct at_look_up (did_exempt (es ++ e ∷ []))) → WayKept f (note e g)
-note_kept f g e same tells es = record {
-  interfaces = same;
-  grown = (e ∷ [], refl);
-  untold = none_earlier es (e ∷ []);
-  exempt = λ at_look_up told. tells at_look_up es told;
-}
+note_kept f g e same tells es = grind (arith, none_earlier)
 
 passes_kept : (b : Bool) (f : Facts) → WayKept f (passes_if b)
 passes_kept true f = tt
@@ -156,9 +146,7 @@ statement_effect_kept scope statement_position (tree.log text) f =
     λ es. kept_more f es (Logged statement_position ∷ []) refl
 statement_effect_kept scope statement_position (tree.set_mark field operand) f =
     value_kept f (writes field f) (writes_kept field f) (operand_number scope operand f)
-statement_effect_kept scope statement_position (tree.verdict_map s m) f =
-    value_kept {A = VerdictTree} f (λ x. give (rule_verdict_of scope.table x)) (λ x. tt)
-    (looked_up data_verdict scope s m f)
+statement_effect_kept scope statement_position (tree.verdict_map s m) f = grind arith
 statement_effect_kept scope statement_position (tree.verdict v) f = tt
 statement_effect_kept scope statement_position tree.notrack f = skips_kept f f.ct refl
 statement_effect_kept scope statement_position (tree.nat n) f =

@@ -89,10 +89,7 @@ twice _ = refl
 hairpin_names_none : (plant : PlantTree) (entered : ℕ) (dest : Option Mapping) (x : ExternalSource)
     → hairpin plant entered dest ≡ Some x → is_some x.ports ≡ false
 hairpin_names_none plant entered None x e = cc
-hairpin_names_none plant entered (Some m) x e = elim (cases_Bool (is_same_interface entered (owner plant m.external.address))) [
-  | inl t ↦ absurd (none-some x (rw t at e))
-  | inr f ↦ ap (λ (y : ExternalSource). is_some y.ports) (sym (same_Some _ x (rw f at e)))
-]
+hairpin_names_none plant entered (Some m) x e = grind arith
 
 named_so : (plant : PlantTree) (f : Facts) (d : NewConnection) (verdict : HookVerdict) (x : ExternalSource)
     → external_source plant f d verdict ≡ Some x → is_some x.ports ≡ names_ports verdict

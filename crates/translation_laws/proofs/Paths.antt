@@ -1,4 +1,5 @@
 -- The path of a packet through the hooks, and its entry.
+use Rattle.std.proofs.Common.{arith}
 use Rattle.translation_laws.proofs.Names.{◌++◌, Accepted, AfterLookUp, AfterRouting, Belonging, Bool, Cause, ComesWith, ConnectionRef, ConntrackEntry, Continue}
 use Rattle.translation_laws.proofs.Names.{CtFacts, CtInfo, DestinationNat, Drop, Dropped, Entry, EntryOf, Err, Event, ExternalSource, Facts, Found, HookResult}
 use Rattle.translation_laws.proofs.Names.{HookVerdict, Hooks, HooksAndConfirm, InputOrForward, Interface, Invalid, IsAccepted, Known, List, LookUp, Mapping}
@@ -301,11 +302,7 @@ IsUnrefused others _ = Unit {0}
 
 unless_confirmation_drops : (others : List ConntrackEntry) (P : PathState → Type 0) (s : PathState) (info : CtInfo)
     → (IsUnrefused others info → P s) → IfContinues P (confirmed others info s)
-unless_confirmation_drops others P s (New d) so = by_refusal (refusal (reply_to d) others) so
-  where
-    by_refusal : (o : Option Cause) → (o ≡ None → P s) → IfContinues P (unless_refused o s)
-    by_refusal None so = so refl
-    by_refusal (Some cause) so = tt
+unless_confirmation_drops others P s (New d) so = grind arith
 unless_confirmation_drops others P s _ so = so tt
 
 -- ==== The path of a packet that isn't dropped.

@@ -62,10 +62,7 @@ pub is_listed : (o : Option Mapping) (m : Mapping) → o ≡ Some m → Contains
 is_listed o m e = rw e (Contains-head m [])
 
 held_as : (h : ConntrackEntry) (m : Mapping) → Contains (mappings_of h) m → HasMapping h m
-held_as h m among = elim (Contains-append_cases (listed h.source) (listed h.dest) m among) [
-  | inl a ↦ inl (listed_is h.source m a)
-  | inr b ↦ inr (listed_is h.dest m b)
-]
+held_as h m among = grind arith
 
 among_its : (h : ConntrackEntry) (m : Mapping) → HasMapping h m → Contains (mappings_of h) m
 among_its h m (inl e) = Contains-append_left (listed h.source) (listed h.dest) m (is_listed h.source m e)
@@ -175,10 +172,7 @@ taken_by t (x ∷ held) h among incoming = elim (Contains-cases x held h among) 
 
 pub parts : (x : ConntrackEntry) (held : List ConntrackEntry) → have_disjoint_tuples (x ∷ held) ≡ true
     → (is_taken x.original held ≡ false) × (is_taken x.reply held ≡ false) × (have_disjoint_tuples held ≡ true)
-parts x held apart =
-    let two = and_parts (not (is_taken x.original held || is_taken x.reply held)) (have_disjoint_tuples held) apart in
-    let neither = not-true (is_taken x.original held || is_taken x.reply held) two.0 in
-    (grind (arith, neither), grind (arith, neither), two.1)
+parts x held apart = grind arith
 
 -- no tuple of the first is one of those behind it
 pub not_behind : (x : ConntrackEntry) (held : List ConntrackEntry) (t : Tuple)
@@ -334,9 +328,7 @@ read_shaped (Other number) datagram payload = (refl, refl)
 read_shaped _ datagram payload = tt
 
 pub tuple_shaped : (p : List ℕ) (t : Tuple) → tuple_of p ≡ Some t → IsShaped t
-tuple_shaped p t e =
-    let r = some_of_map (λ (one : Kind). tuple_with one p (payload_of p)) (kind_of (protocol p) (payload_of p)) t e in
-    subst IsShaped r.2 (read_shaped r.0 p (payload_of p))
+tuple_shaped p t e = grind arith
 
 pub ported_suits : (kind : Kind) (from to : ℕ) → has_ports kind ≡ true → PortsMatchKind kind from to
 ported_suits Tcp from to h = tt
@@ -513,10 +505,7 @@ chosen_by : (m : Mapping) (port_choice : Option Bool) (source : Option Mapping) 
     → choice_by m port_choice source ≡ Some has_port_range
     → (source ≡ Some m) × (port_choice ≡ Some has_port_range)
 chosen_by m port_choice None has_port_range e = absurd (none-some {A = Bool} has_port_range e)
-chosen_by m port_choice (Some n) has_port_range e = elim (cases_Bool (same_mapping m n)) [
-  | inl t ↦ (ap Some (sym (mapping_test.exact m n t)), rw t at e)
-  | inr f ↦ absurd (none-some {A = Bool} has_port_range (rw f at e))
-]
+chosen_by m port_choice (Some n) has_port_range e = grind arith
 
 -- ==== The invariant.
 

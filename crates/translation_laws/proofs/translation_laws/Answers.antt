@@ -1,3 +1,4 @@
+use Rattle.std.proofs.Common.{arith}
 use Rattle.std.proofs.Common.{[], refl}
 use Rattle.translation_laws.proofs.HistoryObeys.{history_obeys, entries_follow}
 use Rattle.translation_laws.proofs.translation_laws.Goals as goal
@@ -10,18 +11,20 @@ returns-clause-entries c = entries_follow
 
 pub returns-clause-obeys : goal.returns-clause-obeys
 returns-clause-obeys c =
-    history_obeys (record {
-      packet = c.one_more_entry.ensures.packet;
-      none = c.one_more_entry.ensures.none;
-      later = c.one_more_entry.ensures.later;
-      distinct = c.one_more_entry.ensures.distinct;
-      apart = c.tuples_stay_disjoint.ensures.packet;
-      apart_later = c.tuples_stay_disjoint.ensures.live;
-      source = c.stays_one_to_one.ensures.source;
-      within = c.stays_one_to_one.ensures.within;
-      inbound = c.inbound_is_held.ensures;
-      alike = c.candidates_keep_class_and_parity.ensures.candidates;
-      sending = c.rewritten_has_tuple.ensures;
-      passes = c.no_fault.ensures.passes;
-      faultless = c.no_fault.ensures.faultless;
-    })
+    grind (
+      arith,
+      history_obeys,
+      c.one_more_entry.ensures.packet,
+      c.one_more_entry.ensures.none,
+      c.one_more_entry.ensures.later,
+      c.one_more_entry.ensures.distinct,
+      c.tuples_stay_disjoint.ensures.packet,
+      c.tuples_stay_disjoint.ensures.live,
+      c.stays_one_to_one.ensures.source,
+      c.stays_one_to_one.ensures.within,
+      c.inbound_is_held.ensures,
+      c.candidates_keep_class_and_parity.ensures.candidates,
+      c.rewritten_has_tuple.ensures,
+      c.no_fault.ensures.passes,
+      c.no_fault.ensures.faultless,
+    )
