@@ -73,8 +73,6 @@ module _ (p f : ConntrackEntry → Bool) where
   find_both [] once = refl
   find_both (x ∷ held) once = grind (arith, find_none held, once.0, find_both held once.1)
 
--- ---- the index of an `AgedTracker`, and lookups by it, as its list of entries changes
-
 -- ---- an entry is touched
 
 touched_alike : (direction : Direction) (flags : Flags) (mark now : ℕ) (tuple : Tuple) (b : Bool) (x : ConntrackEntry)

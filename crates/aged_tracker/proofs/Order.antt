@@ -294,9 +294,7 @@ module _ (t : AgedSlots) (table : IsTable t) (new : Slab Slot) (key : ℕ) (slot
       (λ k some e. let d : k ≢ key = λ a. not_none _ (ap (slots_of t) a ∙ free) some in (sets.others k d, serials k d ∙ e)))
       (ap (entry_at new) (omega (arith, serial, number)) ∙ at_slot new (t.next_serial + 1) numbered key h (sets.changed ∙ is))
 
--- ---- entries that are sorted by their numbers are in the order of creation
-
--- ---- the numbers of entries differ
+-- ---- entries that are sorted by their numbers, which differ, are in the order of creation
 
 past : (low key : ℕ) → low < key → (slots : List (Option Slot)) (e : ℕ × Slot) → Contains (entries_from key slots) e → low < e.0
 past low key less [] e there = absurd (Contains-none e there)

@@ -2,7 +2,7 @@
 ghost use Rattle.std.specs.Prelude.{◌≡◌, ◌+◌, ◌<◌, ℕ, None, IfSome, IfNone};
 ghost use Rattle.conntrack.specs.Phases.{is_closing, phase_by};
 ghost use Rattle.conntrack.specs.ConntrackEntry.{connection_ref, is_live};
-ghost use Rattle.aged_tracker.specs.steps.Table.{MAX_KEYS, belonging_of, held_of, idle_at, number, queue_by, queue_in, queue_number, touched_slot, tuple_of};
+ghost use Rattle.aged_tracker.specs.steps.Table.{MAX_KEYS, belonging_of, held_of, idle_at, number, queue_by, queue_in, touched_slot, tuple_of};
 ghost use Rattle.aged_tracker.specs.steps.Table.{with_neighbour};
 
 use crate::packed::{PackedTuple, is_same};
@@ -16,20 +16,6 @@ use std::mem::size_of;
 
 /// How many queues there are: one for each timeout.
 pub const LISTS: usize = 5;
-
-/// The queue of a timeout.
-fn queue_number(idle: IdleKind) -> usize
-    ensures queue { result ≡ queue_number idle }
-    ensures range { result < 5 }
-{
-    match idle {
-        IdleKind::Udp => 0,
-        IdleKind::Established => 1,
-        IdleKind::Transitory => 2,
-        IdleKind::Echo => 3,
-        IdleKind::Other => 4,
-    }
-}
 
 /// The timeout of a queue.
 pub fn idle_at(queue: usize) -> IdleKind
@@ -49,7 +35,13 @@ pub fn queue_by(kind: Kind, phase: Phase) -> usize
     ensures queue { result ≡ queue_by kind phase }
     ensures range { result < 5 }
 {
-    queue_number(idle_kind(kind, phase))
+    match idle_kind(kind, phase) {
+        IdleKind::Udp => 0,
+        IdleKind::Established => 1,
+        IdleKind::Transitory => 2,
+        IdleKind::Echo => 3,
+        IdleKind::Other => 4,
+    }
 }
 
 /// How many keys slots may have, so that node indexes fit in 32 bits.
@@ -211,19 +203,12 @@ impl Slot {
         }
     }
 
-    /// The kind of its packets.
-    fn kind(&self) -> Kind
-        ensures { result ≡ self.now.original.kind }
-    {
-        self.original.kind()
-    }
-
     /// Its queue.
     pub fn queue(&self) -> usize
         ensures queue { result ≡ queue_in self.now }
         ensures range { result < 5 }
     {
-        queue_by(self.kind(), self.phase())
+        queue_by(self.original.kind(), self.phase())
     }
 
     /// The phase of the entry, if it is a TCP connection.
@@ -237,7 +222,7 @@ impl Slot {
     fn is_live(&self, limits: Limits, now: Moment) -> bool
         ensures { result ≡ is_live limits now (held_of 0 self.now) }
     {
-        now.saturating_sub(self.last) < limit_by(limits, self.kind(), self.phase())
+        now.saturating_sub(self.last) < limit_by(limits, self.original.kind(), self.phase())
     }
 
     /// Whether its connection is closing.
