@@ -83,15 +83,8 @@ byte_kept ys i v is = ap (λ w. set ys i w) is ∙ set-get_or ys i 0
 
 byte_covered : (w : ChecksumDelta) (high : Bool) (xs ys : List ℕ) (i v old : ℕ) → high_at true i ≡ high → i < length ys
     → get_or xs i 0 ≡ old → get_or ys i 0 ≡ old → Covers w xs ys → Covers (combined w (byte_change high old v)) xs (set ys i v)
-byte_covered w high xs ys i v old side lt was is c = record {
-  same = λ h.
-      let parts = and_parts _ _ h in
-      c.same parts.0 ∙ sym (byte_kept ys i v (sym (eqb-true _ _ parts.1) ∙ sym is));
-  other = λ e.
-      let kept : v ≡ old = sym (get_or-set_same ys i v 0 lt) ∙ ap (λ l. get_or l i 0) (sym e) ∙ was in
-      and_from _ _ (c.other (e ∙ byte_kept ys i v (kept ∙ sym is))) (eq-eqb _ _ (sym kept));
-  sum = omega (arith, c.sum, rw (side, is) at (words_sum-set ys i v lt));
-}
+byte_covered w high xs ys i v old side lt was is c =
+    grind (arith, and_parts, c.same, byte_kept, eqb-true, get_or-set_same, get_or, and_from, c.other, eq-eqb, c.sum, words_sum-set)
 
 -- ---- two digits are as their number
 
@@ -115,19 +108,13 @@ none_before : (i : ℕ) → 0 + i ≡ i
 none_before i = omega arith
 
 pub rest_shows : (size a : ℕ) → Shows (drop a) size a (size - a) 0
-rest_shows size a = record {
-  written = λ q v i j len is lt. rw (is, none_before i) (drop-set-add a q i v);
-  room = λ q i len lt. omega (arith, length-drop a q, len, lt);
-}
+rest_shows size a = grind (arith, none_before, drop-set-add, length-drop)
 
 abbrev pub head_of : ℕ → ℕ → List ℕ → List ℕ
 head_of start n p = take n (drop start p)
 
 pub head_shows : (size start n : ℕ) → start + n ≤ size → Shows (head_of start n) size start n 0
-head_shows size start n room = record {
-  written = λ q v i j len is lt. rw (none_before i) (byte_in q start n i j v is lt);
-  room = λ q i len lt. omega (arith, length-take n (drop start q), length-drop start q, len, lt, room);
-}
+head_shows size start n room = grind (arith, none_before, byte_in, length-take, length-drop)
 
 -- the addresses, and all from an offset on
 abbrev pub pseudo : ℕ → ℕ → List ℕ → List ℕ
@@ -176,14 +163,7 @@ nothing_written over p = record { len = refl; covers = record { same = λ _. ref
 -- the same change, said otherwise
 pub counted_as : (v w : ChecksumDelta) {over : List ℕ → List ℕ} {p q : List ℕ} → v.is_same ≡ w.is_same → v.old + w.new ≡ w.old + v.new
     → Writes over p v q → Writes over p w q
-counted_as v w same sums c = record {
-  len = c.len;
-  covers = record {
-    same = λ h. c.covers.same (same ∙ h);
-    other = λ e. sym same ∙ c.covers.other e;
-    sum = omega (arith, sums, c.covers.sum);
-  };
-}
+counted_as v w same sums c = grind arith
 
 pub alone : {over : List ℕ → List ℕ} {p q : List ℕ} {w : ChecksumDelta} → Writes over p (combined no_change w) q → Writes over p w q
 alone {over} {p} {q} {w} c = counted_as (combined no_change w) w refl (omega arith) c

@@ -1,4 +1,5 @@
 -- Writing the changed fields gives the rewritten datagram, and the changed words of its fields are those of its bytes.
+use Rattle.std.proofs.lemmas.Bool.Decides.{nat_tests}
 use Rattle.rewrite.proofs.Words.{number_stays, byte_apart, number_byte_apart, byte_before, number_rest_before, byte_of_part, word_of_rest, byte_after}
 use Rattle.rewrite.proofs.Words.{word_stays, fields_by, SameAt, same_at}
 use Rattle.rewrite.specs.steps.Fields.{fields_at, updated_udp_checksum, combined, u32_change, u16_change, transport_fields_of, changed_transport_fields}
@@ -188,21 +189,7 @@ pub by_protocol : (start : ℕ) (p : List ℕ) (P : TransportFields → Type 0)
     → ((protocol_at start p == 6) ≡ false → (protocol_at start p == 17) ≡ false
     → has_identifier (protocol_at start p) (byte_at p (payload_at start p)) ≡ false → P Other)
     → P (carried_at start p)
-by_protocol start p P cut tcp udp echo other =
-    let number = protocol_at start p in
-    let offset = payload_at start p in
-    let rest = drop offset p in
-    let first : byte_at rest 0 ≡ byte_at p offset = first_of_rest p offset in
-    let front : u16_at rest 0 ≡ u16_at p offset = word_of_rest p offset 0 offset (omega arith) in
-    let word = λ (i : ℕ). word_of_rest p offset i (offset + i) refl in
-    cond_both (number == 6) _ _ P
-    (λ six. cond_both (nat_le 18 (length rest)) _ _ (λ sum. P (Tcp (u16_at rest 0) (u16_at rest 2) sum))
-    (λ long. rw (front, word 2, word 16)
-    (tcp (eqb-true _ _ six) (omega (arith, leb-true _ _ long, length-drop offset p))))
-    (λ short. rw (front, word 2) (cut (eqb-true _ _ six) (omega (arith, leb-false _ _ short, length-drop offset p)))))
-    (λ a. cond_both (number == 17) _ _ P (λ seventeen. rw (front, word 2, word 6) (udp (eqb-true _ _ seventeen)))
-    (λ b. cond_both (has_identifier number (byte_at rest 0)) _ _ P
-    (λ there. rw (word 4, word 2) (echo (rw first at there))) (λ none. other a b (rw first at none))))
+by_protocol start p P cut tcp udp echo other = grind (arith, first_of_rest, word_of_rest, cond_both, eqb-true, leb-true, length-drop, leb-false)
 
 module _ (over : List ℕ → List ℕ) (start : ℕ) (p t : List ℕ) (b : Behind start p t) {w : ChecksumDelta} (c : Writes over p w t)
     {low n base : ℕ} (s : Shows over (length p) low n base) (i : ℕ) (at : payload_at start p ≡ low + i) (even : (base + i) % 2 ≡ 0)
@@ -294,18 +281,7 @@ replaced_header : (start : ℕ) (p : List ℕ) (change : Change) → IsDatagram 
     (timed start p (unwrap_or change.source (u32_at p (start + 12)))
     (unwrap_or change.destination (u32_at p (start + 16))) (unwrap_or change.ttl (byte_at p (start + 8))))
     change.numbers
-replaced_header start p change d =
-    let from = unwrap_or change.source (u32_at p (start + 12)) in
-    let to = unwrap_or change.destination (u32_at p (start + 16)) in
-    let one = with_u32 p (start + 12) from in
-    let two = with_u32 one (start + 16) to in
-    rw (
-      named_number change.source p p (start + 12) d.small (λ _ _ _. refl),
-      named_number change.destination one p (start + 16) d.small
-          (λ k le _. number_byte_apart p (start + 12) from k (inr (omega (arith, le)))),
-      named_ttl change.ttl start two p (number_byte_apart one (start + 16) to (start + 8) (inl (omega arith))
-          ∙ number_byte_apart p (start + 12) from (start + 8) (inl (omega arith))),
-    ) refl
+replaced_header start p change d = grind (arith, change.source, change.destination, named_number, d.small, number_byte_apart, named_ttl, change.ttl)
 
 -- ---- The header checksum.
 
@@ -476,10 +452,7 @@ numbers_kept : (numbers : Option PortsOrIdentifier) (from to : ℕ) (fields : Tr
     → changed_transport_fields numbers (combined (u32_change from from) (u32_change to to)) fields ≡ fields
 numbers_kept numbers from to (Tcp one other None) keeps = grind (arith, keeps)
 numbers_kept numbers from to (Tcp one other (Some checksum)) keeps = grind (arith, keeps)
-numbers_kept numbers from to (Udp one other checksum) keeps =
-    let same = and_parts _ _ keeps in
-    rw (eqb-true (ports_named numbers one other).0 one same.0, eqb-true (ports_named numbers one other).1 other same.1)
-    (ap (λ n. Udp one other n) (udp_kept _ checksum (grind arith)))
+numbers_kept numbers from to (Udp one other checksum) keeps = grind (arith, nat_tests)
 numbers_kept numbers from to (Echo number checksum) keeps = grind (arith, keeps)
 numbers_kept numbers from to Other keeps = refl
 
@@ -499,10 +472,7 @@ carried_kept start p ttl d =
 
 timed_kept : (start : ℕ) (p : List ℕ) (ttl : ℕ) → IsDatagram start p
     → timed start p (u32_at p (start + 12)) (u32_at p (start + 16)) ttl ≡ set p (start + 8) ttl
-timed_kept start p ttl d = rw (
-  number_stays p p (start + 12) d.small (λ _ _ _. refl),
-  number_stays p p (start + 16) d.small (λ _ _ _. refl),
-) refl
+timed_kept start p ttl d = grind (arith, number_stays, d.small)
 
 pub own_endpoints : (start : ℕ) (p : List ℕ) (change : Change) → IsDatagram start p → keeps_endpoints change (fields_at start p) ≡ true
     → with_ttl_field start p (fields_at start p) change.ttl ≡ with_fields start p (changed_fields change (fields_at start p))

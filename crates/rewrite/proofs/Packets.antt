@@ -38,12 +38,7 @@ pub named_byte : {A : Type 0} (write : List ℕ → A → List ℕ) (bytes : Lis
 named_byte write bytes o k same = named_by (SameAt k bytes) write bytes o same refl
 
 pub timed_byte : (p : List ℕ) (change : Change) (k : ℕ) → k ≢ 8 → (k < 12) ⊎ (19 < k) → get_or (timed p change) k 0 ≡ get_or p k 0
-timed_byte p change k other past =
-    let from = write_if_some (with_source 0) p change.source in
-    let to = write_if_some (with_destination 0) from change.destination in
-    named_byte (with_ttl 0) to change.ttl k (λ n. get_or-set_other to 8 k n 0 other)
-    ∙ named_byte (with_destination 0) from change.destination k (λ n. number_byte_apart from 16 n k (grind arith))
-    ∙ named_byte (with_source 0) p change.source k (λ n. number_byte_apart p 12 n k (grind arith))
+timed_byte p change k other past = grind (arith, change.source, change.destination, named_byte, change.ttl, get_or-set_other, number_byte_apart)
 
 pub update_byte : (over : List ℕ → List ℕ) (offset : ℕ) (old now : List ℕ) (k : ℕ) → (k < offset) ⊎ (offset + 1 < k)
     → get_or (update_checksum over offset old now) k 0 ≡ get_or now k 0
@@ -51,9 +46,7 @@ update_byte over offset old now k apart = either_by (SameAt k now) (same_bytes (
 
 pub udp_update_byte : (over : List ℕ → List ℕ) (offset : ℕ) (old now : List ℕ) (k : ℕ) → (k < offset) ⊎ (offset + 1 < k)
     → get_or (update_udp_checksum over offset old now) k 0 ≡ get_or now k 0
-udp_update_byte over offset old now k apart =
-    either_by (SameAt k now) (same_bytes (over old) (over now) || u16_at old offset == 0) now _ refl
-    (byte_apart now offset _ k apart)
+udp_update_byte over offset old now k apart = grind (arith, either_by, SameAt, byte_apart)
 
 -- ---- the header: its bytes but its checksum's are those of the datagram with another header
 
@@ -116,15 +109,8 @@ module _ (p : List ℕ) (change : Change) (k : ℕ) (long : 20 ≤ header_len p)
 -- ports are the first four bytes, and the identifier stands after them
 numbers_beside : (t : List ℕ) (numbers : PortsOrIdentifier) (k : ℕ) → (protocol_at 0 t ≢ 1 → payload_at 0 t + 4 ≤ k)
     → (protocol_at 0 t ≡ 1 → k < payload_at 0 t + 4) → get_or (with_numbers 0 t numbers) k 0 ≡ get_or t k 0
-numbers_beside t (Ports from to) k past before =
-    cond_both (protocol_at 0 t == 6 || protocol_at 0 t == 17) (with_ports (payload_at 0 t) t from to) t (SameAt k t)
-    (λ h.
-    let beyond = past (λ one. let e = rw one at h in cc) in
-    byte_apart (with_u16 t (payload_at 0 t) from) (payload_at 0 t + 2) to k (inr (omega (arith, beyond)))
-    ∙ byte_apart t (payload_at 0 t) from k (inr (omega (arith, beyond)))) (λ _. refl)
-numbers_beside t (Identifier number) k past before =
-    cond_both (has_identifier (protocol_at 0 t) (byte_at t (payload_at 0 t))) (with_u16 t (payload_at 0 t + 4) number) t (SameAt k t)
-    (λ h. byte_apart t (payload_at 0 t + 4) number k (inl (before (is_icmp (protocol_at 0 t) (byte_at t (payload_at 0 t)) h)))) (λ _. refl)
+numbers_beside t (Ports from to) k past before = grind (arith, cond_both, SameAt, byte_apart)
+numbers_beside t (Identifier number) k past before = grind (arith, cond_both, SameAt, byte_apart, is_icmp)
 
 pub replaced_beside : (p : List ℕ) (change : Change) (k : ℕ) → 20 ≤ header_len p → payload_at 0 p ≤ k
     → (protocol_at 0 p ≢ 1 → payload_at 0 p + 4 ≤ k) → (protocol_at 0 p ≡ 1 → k < payload_at 0 p + 4)
@@ -154,17 +140,7 @@ pub within : (p : List ℕ) → Passes p → length (payload_of p) + header_len 
 within p ok = omega (arith, length-drop (header_len p) (take (total_len p) p), length-take (total_len p) p, ok.head.head, ok.head.whole)
 
 pub has_fields : (p : List ℕ) → Passes p → HasFields 0 p
-has_fields p ok =
-    let payload = payload_of p in
-    let len : length payload + header_len p ≤ length p = omega (arith, within p ok, ok.head.whole) in
-    record {
-      long = ok.head.long;
-      whole = by_protocol 0 p (λ f. payload_at 0 p + len_of f ≤ length p)
-          (λ six _. omega (arith, len, tcp_long payload (rw six at ok.transport))) (λ _ room. room)
-          (λ seventeen. omega (arith, len, udp_long payload (rw seventeen at ok.transport)))
-          (λ there. omega (arith, len, icmp_long payload (rw (is_icmp (protocol p) (byte_at p (payload_at 0 p)) there) at ok.transport)))
-          (λ _ _ _. omega (arith, len));
-    }
+has_fields p ok = grind (arith, within, ok.head.whole, ok.head.long, by_protocol, tcp_long, ok.transport, udp_long, icmp_long, is_icmp)
 
 -- ---- rewriting keeps the length
 
@@ -193,14 +169,7 @@ header_keeps p change ok =
 
 wrong_same : (number : ℕ) (x y : List ℕ) → length x ≡ length y → (number ≡ 6 → get_or x 12 0 ≡ get_or y 12 0)
     → (number ≡ 17 → u16_at x 4 ≡ u16_at y 4) → transport_is_malformed number x ≡ transport_is_malformed number y
-wrong_same number x y len tcp udp =
-    ⊎_elim
-    (λ six. rw six (rw (len, tcp six) refl))
-    (λ not_six. ⊎_elim
-    (λ seventeen. rw seventeen (rw (len, udp seventeen) refl))
-    (λ not_seventeen. rw (ne_eqb number 6 not_six, ne_eqb number 17 not_seventeen, len) refl)
-    (cases_eq number 17))
-    (cases_eq number 6)
+wrong_same number x y len tcp udp = grind arith
 
 pub payload_byte : (xs : List ℕ) (h n i j : ℕ) → j ≡ h + i → j < n → get_or (drop h (take n xs)) i 0 ≡ get_or xs j 0
 payload_byte xs h n i j is lt = rw is (get_or-drop h (take n xs) i 0 ∙ get_or-take n xs (h + i) 0 (omega (arith, is, lt)))
@@ -224,33 +193,14 @@ pub record SameHead (p q : List ℕ) : Type 0 where
   pub total : total_len q ≡ total_len p
 
 pub head_by : (p q : List ℕ) → ((k : ℕ) → k < 8 → get_or q k 0 ≡ get_or p k 0) → get_or q 9 0 ≡ get_or p 9 0 → SameHead p q
-head_by p q same ninth = record {
-  byte = same;
-  protocol = ninth;
-  header = ap (λ b. b % 16 * 4) (same 0 (omega arith));
-  total = rw (same 2 (omega arith), same 3 (omega arith)) refl;
-}
+head_by p q same ninth = grind arith
 
 pub passes_by : (p q : List ℕ) → Passes p → SameHead p q → length q ≡ length p → ones_sum_of (header q) ≡ 65535
     → transport_is_malformed (protocol p) (drop (header_len p) (take (total_len p) q)) ≡ false → Passes q
-passes_by p q ok same len sum right = record {
-  head = record {
-    long = omega (arith, same.header, ok.head.long);
-    head = omega (arith, same.header, same.total, ok.head.head);
-    whole = omega (arith, same.total, len, ok.head.whole);
-    four = ap (λ b. b / 16) (same.byte 0 (omega arith)) ∙ ok.head.four;
-    sum = sum;
-  };
-  unbroken = rw (same.byte 6 (omega arith), same.byte 7 (omega arith)) ok.unbroken;
-  transport = rw (same.protocol, same.header, same.total) right;
-}
+passes_by p q ok same len sum right = grind arith
 
 pub same_head : (p : List ℕ) (change : Change) → Passes p → SameHead p (sent p change)
-same_head p change ok =
-    let long : 20 ≤ header_len p = ok.head.long in
-    head_by p (sent p change)
-    (λ k lt. sent_byte p change k (omega (arith, long, lt)) (inl (omega (arith, lt))) (omega (arith, lt)) (inl (omega (arith, lt))))
-    (sent_byte p change 9 (omega (arith, long)) (inl (omega arith)) (omega arith) (inl (omega arith)))
+same_head p change ok = grind (arith, ok.head.long, head_by, sent_byte)
 
 pub sent_passes : (p : List ℕ) (change : Change) → Passes p → Passes (sent p change)
 sent_passes p change ok =

@@ -144,9 +144,7 @@ rewritten_other p change other =
 -- ---- the quoted datagram's fields are there, and only its words change under the error's checksum
 
 readable : (inner : List ℕ) → is_readable inner ≡ true → (20 ≤ header_len inner) × (header_len inner + 8 ≤ length inner)
-readable inner h =
-    let one = and_parts _ _ h in
-    (leb-true _ _ (and_parts _ _ (and_parts _ _ one.0).0).1, leb-true _ _ one.1)
+readable inner h = grind arith
 
 pub inner_fields : (p : List ℕ) → Passes p → is_some (inner_tuple_of p) ≡ true → HasFields (inner_start p) p
 inner_fields p ok h =
@@ -212,9 +210,7 @@ word_of_payload xs h n i j is lt =
 
 named_to : (p : List ℕ) (change : Change) (from to k : ℕ) → change.source ≡ Some from → change.destination ≡ Some to
     → 8 < k → get_or (timed p change) k 0 ≡ get_or (with_u32 (with_u32 p 12 from) 16 to) k 0
-named_to p change from to k a b past =
-    rw (a, b) (named_byte (with_ttl 0) (with_u32 (with_u32 p 12 from) 16 to) change.ttl k
-    (λ n. get_or-set_other (with_u32 (with_u32 p 12 from) 16 to) 8 k n 0 (omega (arith, past))))
+named_to p change from to k a b past = grind (arith, named_byte, change.ttl, get_or-set_other)
 
 addressed : (p : List ℕ) (change : Change) (from to : ℕ) → Passes p → change.source ≡ Some from
     → change.destination ≡ Some to → (source (sent p change) ≡ from) × (destination (sent p change) ≡ to)
@@ -286,11 +282,7 @@ module _ (p : List ℕ) (change : Change) (ok : Passes p) where
 -- ---- kinds
 
 kind_same : (number : ℕ) (x y : List ℕ) → (number ≡ 1 → get_or x 0 0 ≡ get_or y 0 0) → kind_of number x ≡ kind_of number y
-kind_same number x y same =
-    ⊎_elim
-    (λ one. rw (one, same one) refl)
-    (λ other. rw (ne_eqb number 1 other) refl)
-    (cases_eq number 1)
+kind_same number x y same = grind arith
 
 suits : (kind : Kind) (p : List ℕ) (change : Change) (from to : ℕ) → Passes p
     → kind_of (protocol p) (payload_of p) ≡ Some kind → change.numbers ≡ ports_or_identifier kind from to

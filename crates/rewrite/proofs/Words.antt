@@ -46,13 +46,7 @@ pub length-number : (xs : List ℕ) (i n : ℕ) → length (with_u32 xs i n) ≡
 length-number xs i n = length-word (with_u16 xs i (n / 65536)) (i + 2) (n % 65536) ∙ length-word xs i (n / 65536)
 
 pub number_written : (xs : List ℕ) (i n : ℕ) → i + 3 < length xs → u32_at (with_u32 xs i n) i ≡ n
-number_written xs i n lt =
-    let one = with_u16 xs i (n / 65536) in
-    rw (
-      word_apart one (i + 2) (n % 65536) i (grind arith),
-      word_written xs i (n / 65536) (omega arith),
-      word_written one (i + 2) (n % 65536) (omega (arith, length-word xs i (n / 65536))),
-    ) (omega arith)
+number_written xs i n lt = grind (arith, word_apart, word_written, length-word)
 
 -- ---- writing what is there
 
@@ -63,10 +57,7 @@ word_same xs ys k same = rw (same k (omega arith) (omega arith), same (k + 1) (o
 
 pub number_same : (xs ys : List ℕ) (k : ℕ) → ((j : ℕ) → k ≤ j → j < k + 4 → get_or xs j 0 ≡ get_or ys j 0)
     → u32_at xs k ≡ u32_at ys k
-number_same xs ys k same = rw (
-  word_same xs ys k (λ j le lt. same j le (omega (arith, lt))),
-  word_same xs ys (k + 2) (λ j le lt. same j (omega (arith, le)) (omega (arith, lt))),
-) refl
+number_same xs ys k same = grind arith
 
 -- a word that stays is as if it were written
 pub word_stays : (xs p : List ℕ) (k : ℕ) → ((j : ℕ) → get_or p j 0 < 256)

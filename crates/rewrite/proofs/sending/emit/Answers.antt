@@ -21,9 +21,7 @@ extended : (c : After-deref_mut) → c.deref_mut.result.now ≡ c.args.out.now.i
 extended c = grind (arith, common_steps)
 
 pub rewrite_packet-requires : goal.rewrite_packet-requires
-rewrite_packet-requires c =
-    let is = extended (goal.at.rewrite_packet-requires c).After-deref_mut in
-    grind (arith, common_steps, is)
+rewrite_packet-requires c = grind (arith, extended, common_steps)
 
 pub returns-clause-ok : goal.returns-clause-ok
 returns-clause-ok c =

@@ -22,11 +22,7 @@ place_kept c =
     ∙ all_fields_by (SameAt 0 p) 1 (same_at 0 p) (c.args.payload + 8) p c.changed-new.result (omega arith) refl)
 
 pub set_icmp_checksum-requires : goal.set_icmp_checksum-requires
-set_icmp_checksum-requires c =
-    let p = c.args.packet.now in
-    let offset = place_kept (goal.at.set_icmp_checksum-requires c).After-new-parts in
-    let len : length c.new-parts.result.packet.now ≡ length p = ap (λ l. length l) c.new-parts.ensures.bytes ∙ c.write.auto.packet in
-    omega (arith, offset, len, c.requires.fields.whole)
+set_icmp_checksum-requires c = grind (arith, place_kept, c.write.auto.packet, c.requires.fields.whole)
 
 pub returns : goal.returns
 returns c =

@@ -1,3 +1,4 @@
+use Rattle.std.proofs.Common.{arith}
 use Rattle.rewrite.specs.Rewritten.{rewritten, write_if_some, replaced, update_checksums}
 use Rattle.rewrite.proofs.Rewritten.{inner_rewritten_is, quote_rewritten, inner_fields, inner_rewritten, inner_rewritten_passes, read_some}
 use Rattle.std.proofs.Common.{◌≡◌, ℕ, List, Option, sym, ap, subst, ◌∙◌}
@@ -25,15 +26,7 @@ rewrite_inner-requires-clause-fields c =
 -- the packet after the first step
 inner_is : (c : Joined-quoted_endpoints) → c.match-quoted_endpoints.packet ≡ inner_rewritten c.args.packet.now c.args.change.now
 inner_is c =
-    let p = c.args.packet.now in
-    let change = c.args.change.now in
-    let written = λ (o : Option Tuple). write_if_some quote_rewritten p o in
-    let whole : written c.quoted_endpoints.result ≡ inner_rewritten p change =
-    ap written (sym (asked p _ change.inner _ c.requires c.quoted_endpoints.ensures)) ∙ inner_rewritten_is p change in
-    elim c.match-quoted_endpoints.branch [
-      | in-Some w ↦ w.packet-is ∙ w.rewrite_inner.ensures ∙ ap written (sym w.in-Some.is) ∙ whole
-      | in_default w ↦ w.packet-is ∙ ap written (sym w.in_default.is) ∙ whole
-    ]
+    grind (arith, quote_rewritten, inner_rewritten, asked, c.requires, c.quoted_endpoints.ensures, inner_rewritten_is, c.match-quoted_endpoints.branch)
 
 pub rewrite-requires : goal.rewrite-requires
 rewrite-requires c =
