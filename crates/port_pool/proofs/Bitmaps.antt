@@ -6,7 +6,7 @@ use Rattle.std.proofs.Common.{get_or-set_other, suc}
 use Rattle.std.specs.Prelude.{◌==◌}
 use Rattle.std.specs.Int.{bit_at, bit_not, trailing_zeros}
 use Rattle.std.proofs.lemmas.Bool.{cases_lt, ltb-true, ltb-false, cond_both, cases_eq, eq-eqb, ne_eqb}
-use Rattle.std.proofs.lemmas.Bool.{and_parts, eqb-true, cases_Bool, OnTrue_from, OnFalse_from, eqb-false}
+use Rattle.std.proofs.lemmas.Bool.{and_parts, eqb-true, OnTrue_from, OnFalse_from, eqb-false}
 use Rattle.std.proofs.lemmas.Nat.{and_le_l, and_le_r, div-mul-add, mod-mul-add}
 use Rattle.std.proofs.lemmas.Nat.Bits.{bit_at_and, bit_at-zero, bit_at-lt, bit_at-trailing_zeros, ones_shl}
 use Rattle.std.proofs.lemmas.Nat.Bits.{bit_at_mask_inside, bit_at_mask_below, bit_at_set_same}
@@ -36,12 +36,8 @@ blocked : (p : ℕ → Bool) (from i w n : ℕ) → ShowsWord p from i w → Non
 blocked p from i w n s none within zeros k low high =
     ⊎_elim
     (λ (lt : k < i * 64). none k low lt)
-    (λ (ge : i * 64 ≤ k).
-    let b : k - i * 64 < n = omega arith in
-    let small : k - i * 64 < 64 = omega arith in
-    let after : from ≤ i * 64 + (k - i * 64) = omega arith in
-    let short : k < i * 64 + 64 = omega arith in
-    split_at (λ k. p k ≡ false) i k ge short (s.here (k - i * 64) small after ∙ ap (λ n. n == 1) (zeros (k - i * 64) b)))
+    (λ (ge : i * 64 ≤ k). split_at (λ k. p k ≡ false) i k ge (omega arith)
+    (s.here (k - i * 64) (omega arith) (omega arith) ∙ ap (λ n. n == 1) (zeros (k - i * 64) (omega arith))))
     (cases_lt k (i * 64))
 
 -- an empty word
@@ -54,10 +50,7 @@ pub met : (p : ℕ → Bool) (from i w to : ℕ) → ShowsWord p from i w → No
 met p from i w to s none some =
     let low = bit_at-trailing_zeros w64 w some s.matches_parity in
     let before = blocked p from i w (trailing_zeros w64 w) s none (omega (arith, low.0)) low.2 in
-    let above : from ≤ i * 64 + trailing_zeros w64 w = ⊎_elim
-    (λ (lt : i * 64 + trailing_zeros w64 w < from). absurd (omega (arith, s.early (trailing_zeros w64 w) low.0 lt, low.1)))
-    (λ (ge : from ≤ i * 64 + trailing_zeros w64 w). ge)
-    (cases_lt (i * 64 + trailing_zeros w64 w) from) in
+    let above : from ≤ i * 64 + trailing_zeros w64 w = grind (arith, s.early (trailing_zeros w64 w) low.0, low.1) in
     cond_both (ltb (i * 64 + trailing_zeros w64 w) to) (Some (i * 64 + trailing_zeros w64 w)) None (IsFirst p from to)
     (λ lt. record {
       above = above;
@@ -168,10 +161,7 @@ every : (test : ℕ → Bool) (low n k : ℕ) → list_all test (range_with_len 
 every test low zero k all above below = absurd (omega arith)
 every test low (suc n) k all above below =
     let both = and_parts (test low) (list_all test (range_with_len (low + 1) n)) all in
-    ⊎_elim
-    (λ (e : k ≡ low). rw e both.0)
-    (λ (ne : k ≡ low → ⊥). every test (low + 1) n k both.1 (omega arith) (omega arith))
-    (cases_eq k low)
+    grind (arith, both.0, every test (low + 1) n k both.1)
 
 -- a word has the bits of f, if it has each of the 64
 pub bits_of : (w : ℕ) (f : ℕ → ℕ) → list_all (λ b. bit_at w b == f b) (range_with_len 0 64) ≡ true → (b : ℕ) → b < 64 → bit_at w b ≡ f b
@@ -184,17 +174,14 @@ pub count_below-le : (p : ℕ → Bool) (n : ℕ) → count_below p n ≤ n
 unfolding count_below
 count_below-le p zero = omega arith
 count_below-le p (suc n) =
-    let rest = count_below-le p n in
-    elim (p n) as (λ v. cond v 1 0 + count_below p n ≤ suc n) [ true ↦ omega arith | false ↦ omega arith ]
+    let rest = count_below-le p n in grind (arith, rest)
 
 -- the same tests give the same counts
 count_below-same : (p q : ℕ → Bool) (n : ℕ) → ((k : ℕ) → k < n → q k ≡ p k) → count_below q n ≡ count_below p n
 unfolding count_below
 count_below-same p q zero same = refl
 count_below-same p q (suc n) same =
-    let here : q n ≡ p n = same n (omega arith) in
-    let rest = count_below-same p q n (λ k less. same k (omega arith)) in
-    rw (here, rest) refl
+    rw (same n (omega arith), count_below-same p q n (λ k less. same k (omega arith))) refl
 
 -- one number more passes
 pub count_below-more : (p q : ℕ → Bool) (n at : ℕ) → at < n → p at ≡ false → q at ≡ true
@@ -203,15 +190,9 @@ unfolding count_below
 count_below-more p q zero at less unset is_set others = absurd (omega arith)
 count_below-more p q (suc n) at less unset is_set others =
     ⊎_elim
-    (λ (e : at ≡ n).
-    let before : p n ≡ false = ap p (sym e) ∙ unset in
-    let after : q n ≡ true = ap q (sym e) ∙ is_set in
-    let rest = count_below-same p q n (λ k below. others k (omega arith)) in
-    rw (before, after, rest) (omega arith))
+    (λ (e : at ≡ n). rw (ap p (sym e) ∙ unset, ap q (sym e) ∙ is_set, count_below-same p q n (λ k below. others k (omega arith))) (omega arith))
     (λ (ne : at ≡ n → ⊥).
-    let here : q n ≡ p n = others n (λ e. ne (sym e)) in
-    let rest = count_below-more p q n at (omega arith) unset is_set others in
-    rw (here, rest) (omega arith))
+    rw (others n (λ e. ne (sym e)), count_below-more p q n at (omega arith) unset is_set others) (omega arith))
     (cases_eq at n)
 
 -- none passes
@@ -223,26 +204,14 @@ count_below-none p (suc n) none = rw (none n, count_below-none p n none) refl
 pub none_below : (p : ℕ → Bool) (n k : ℕ) → count_below p n ≡ 0 → k < n → p k ≡ false
 unfolding count_below
 none_below p zero k count less = absurd (omega arith)
-none_below p (suc n) k count less =
-    ⊎_elim
-    (λ (here : p n ≡ true). let more : 1 + count_below p n ≡ 0 = rw here at count in absurd (omega arith))
-    (λ (fails : p n ≡ false).
-    let rest : 0 + count_below p n ≡ 0 = rw fails at count in
-    ⊎_elim
-    (λ (e : k ≡ n). ap p e ∙ fails)
-    (λ (ne : k ≡ n → ⊥). none_below p n k (omega arith) (omega arith))
-    (cases_eq k n))
-    (cases_Bool (p n))
+none_below p (suc n) k count less = grind (arith, none_below p n k)
 
 -- some number passes
 pub some_below : (p : ℕ → Bool) (n : ℕ) → 0 < count_below p n → (k : ℕ) × (p k ≡ true)
 unfolding count_below
 some_below p zero count = absurd (omega arith)
-some_below p (suc n) count =
-    ⊎_elim
-    (λ (here : p n ≡ true). (n, here))
-    (λ (fails : p n ≡ false). let rest : 0 < 0 + count_below p n = rw fails at count in some_below p n (omega arith))
-    (cases_Bool (p n))
+some_below p (suc n) count = cond_both (p n) 1 0 (λ v. 0 < v + count_below p n → (k : ℕ) × (p k ≡ true)) (λ here _. (n, here))
+    (λ fails more. some_below p n (omega arith)) count
 
 -- ==== The count of a bitmap, and writes of one bit.
 

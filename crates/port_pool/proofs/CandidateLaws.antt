@@ -7,7 +7,7 @@ use Rattle.std.specs.List.{All, Contains, filter, find}
 use Rattle.std.specs.Option.{IfSome, option_or}
 use Rattle.std.proofs.lemmas.Option.{IfSome_then}
 use Rattle.std.proofs.lemmas.Bool.{cases_Bool, eq-eqb, le-leb, lt-leb, and_from, and_right, and_left}
-use Rattle.std.proofs.lemmas.Bool.{not-true, and_parts, eqb-true, lt-ltb, cases_lt}
+use Rattle.std.proofs.lemmas.Bool.{not-true, and_parts, lt-ltb, cases_lt}
 use Rattle.std.proofs.lemmas.List.Elements.{All-nil, All-cons, All-head, All-tail, All-contains}
 use Rattle.std.proofs.lemmas.List.Elements.{All-contains_itself, All-filter, All-weaker}
 use Rattle.std.proofs.lemmas.List.Elements.{filter_passes as all_pass, Contains-append_cases}
@@ -19,10 +19,10 @@ use Rattle.port_pool.specs.declared.order.Order.TheVariants.{Ports, Identifiers,
 use Rattle.port_pool.specs.declared.range.CandidateRange.{CandidateRange}
 use Rattle.port_pool.specs.Candidates.{numbers, ports_of, class_of, same_parity, same_class_and_parity}
 use Rattle.port_pool.specs.Candidates.{or_these, preferred, starting_at, candidates}
+use Rattle.std.proofs.lemmas.Bool.{cases_eq}
 use Rattle.list_laws.specs.Filters.{has_filter}
 use Rattle.port_pool.proofs.Spans.{find-numbers, or_these-left, starting_at-find, numbers_has}
 use Rattle.port_pool.proofs.Spans.{or_these-first}
-use Rattle.std.proofs.lemmas.Bool.Decides.{nat_tests}
 
 -- ==== Properties of a choice.
 
@@ -45,11 +45,10 @@ found_free taken xs r e =
 nothing_found : (taken : ℕ → Bool) (xs : List ℕ) → find (λ p. not (taken p)) xs ≡ None → All (λ p. taken p ≡ true) xs
 nothing_found taken [] e = All-nil (λ p. taken p ≡ true)
 nothing_found taken (x ∷ xs) e =
-    ⊎_elim
-    (λ (here : taken x ≡ true). let rest : find (λ p. not (taken p)) xs ≡ None = rw here at e in
-    All-cons (λ p. taken p ≡ true) x xs here (nothing_found taken xs rest))
-    (λ (free : taken x ≡ false). let found : Some x ≡ None = rw free at e in cc)
-    (cases_Bool (taken x))
+    elim (cases_Bool (taken x)) [
+      | inl here ↦ All-cons (λ p. taken p ≡ true) x xs here (nothing_found taken xs (rw here at e))
+      | inr free ↦ absurd (let found : Some x ≡ None = rw free at e in cc)
+    ]
 
 pub all_taken : (taken : ℕ → Bool) (xs : List ℕ) → All (λ p. taken p ≡ true) xs → find (λ p. not (taken p)) xs ≡ None
 all_taken taken [] all = refl
@@ -124,11 +123,7 @@ unfolding candidates
 zero_alone p order s range None e = tt
 zero_alone p Ports s range (Some k) e = λ is. cc
 zero_alone p Identifiers s range (Some k) e = λ is. cc
-zero_alone p Zero s range (Some k) e = λ _.
-    ⊎_elim
-    (λ (free : p 0 ≡ true). let found : Some k ≡ Some 0 = e ∙ rw free refl in cc)
-    (λ (taken : p 0 ≡ false). let found : Some k ≡ None = e ∙ rw taken refl in cc)
-    (cases_Bool (p 0))
+zero_alone p Zero s range (Some k) e = λ _. grind (arith, e)
 
 -- ==== Which ports are candidates.
 
@@ -231,11 +226,7 @@ module _ (s : ℕ) where
   stands = by_class (cases_Bool (nat_lt s 1024)) parity
     where
       parity : (s % 2 ≡ 0) ⊎ (s % 2 ≡ 1)
-      parity = by_rest (cases_Bool (s % 2 == 0))
-        where
-          by_rest : ((s % 2 == 0) ≡ true) ⊎ ((s % 2 == 0) ≡ false) → (s % 2 ≡ 0) ⊎ (s % 2 ≡ 1)
-          by_rest (inl e) = inl (eqb-true (s % 2) 0 e)
-          by_rest (inr f) = inr (grind (arith, nat_tests, f))
+      parity = elim (cases_eq (s % 2) 0) [ inl e ↦ inl e | inr other ↦ inr (omega arith) ]
 
       by_class : (nat_lt s 1024 ≡ true) ⊎ (nat_lt s 1024 ≡ false) → (s % 2 ≡ 0) ⊎ (s % 2 ≡ 1) → Stands
       by_class (inl c) (inl p) = (2, numbers_has 1 65535 2 (omega arith) (omega arith), rw (c, p) refl)

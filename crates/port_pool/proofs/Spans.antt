@@ -7,6 +7,7 @@ use Rattle.std.proofs.lemmas.Bool.{cases_Bool, cases_eq, cases_lt, both_ways, eq
 use Rattle.std.proofs.lemmas.Bool.{le-leb, lt-leb, lt-ltb, le-ltb}
 use Rattle.std.proofs.lemmas.List.FromFn.{length-range_with_len, get_or-range_with_len}
 use Rattle.list_laws.specs.Lists.{find-filter}
+use Rattle.std.proofs.lemmas.Bool.Decides.{nat_tests}
 use Rattle.list_laws.specs.Filters.{has_filter}
 use Rattle.port_pool.specs.Candidates.{numbers, or_these, class_of, same_parity, same_class_and_parity}
 use Rattle.port_pool.specs.Candidates.{preferred, starting_at}
@@ -28,26 +29,18 @@ unique : (p : ℕ → Bool) (low to : ℕ) (r s : Option ℕ) → IsFirst p low 
 unique p low to None None f g = refl
 unique p low to None (Some k) f g = absurd (both_ways (p k) (f k g.above g.below) g.passes)
 unique p low to (Some j) None f g = absurd (both_ways (p j) (g j f.above f.below) f.passes)
-unique p low to (Some j) (Some k) f g = ap Some (⊎_elim
-    (λ (less : j < k). absurd (both_ways (p j) (g.before j f.above less) f.passes))
-    (λ (ge : k ≤ j). ⊎_elim
-    (λ (more : k < j). absurd (both_ways (p k) (f.before k g.above more) g.passes))
-    (λ (le : j ≤ k). omega (arith, ge, le))
-    (cases_lt k j))
-    (cases_lt j k))
+unique p low to (Some j) (Some k) f g = ap Some (grind (arith, g.before j f.above, f.before k g.above, f.passes, g.passes))
 
 -- the number before the interval fails too
 earlier : (p : ℕ → Bool) (low to : ℕ) (r : Option ℕ) → p low ≡ false → IsFirst p (low + 1) to r → IsFirst p low to r
-earlier p low to None fails f = λ k above below. ⊎_elim (λ (e : k ≡ low). ap p e ∙ fails)
-    (λ (ne : k ≡ low → ⊥). f k (omega arith) below) (cases_eq k low)
+earlier p low to None fails f = λ k above below. grind (arith, f k, fails)
 earlier p low to (Some k) fails f =
     let above = f.above in
     record {
       above = omega arith;
       below = f.below;
       passes = f.passes;
-      before = λ j after less. ⊎_elim (λ (e : j ≡ low). ap p e ∙ fails)
-          (λ (ne : j ≡ low → ⊥). f.before j (omega arith) less) (cases_eq j low);
+      before = λ j after less. grind (arith, f.before j, fails);
     }
 
 exists_range : (p : ℕ → Bool) (low n : ℕ) → IsFirst p low (low + n) (find p (range_with_len low n))
@@ -100,14 +93,7 @@ narrowed q q' low to a b (Some k) la bt lower upper same f =
 pub widened : (q p : ℕ → Bool) (a b low to : ℕ) (r : Option ℕ) → low ≤ a → b ≤ to
     → ((k : ℕ) → a ≤ k → k < b → p k ≡ q k) → ((k : ℕ) → low ≤ k → k < a → p k ≡ false)
     → ((k : ℕ) → b ≤ k → k < to → p k ≡ false) → IsFirst q a b r → IsFirst p low to r
-widened q p a b low to None la bt same under over f = λ k above below.
-    ⊎_elim
-    (λ (lt : k < a). under k above lt)
-    (λ (ge : a ≤ k). ⊎_elim
-    (λ (in_it : k < b). same k ge in_it ∙ f k ge in_it)
-    (λ (past : b ≤ k). over k past below)
-    (cases_lt k b))
-    (cases_lt k a)
+widened q p a b low to None la bt same under over f = λ k above below. grind (arith, under k, same k, over k, f k)
 widened q p a b low to (Some k) la bt same under over f =
     let above = f.above in
     let below = f.below in
@@ -115,11 +101,7 @@ widened q p a b low to (Some k) la bt same under over f =
       above = omega arith;
       below = omega arith;
       passes = same k above below ∙ f.passes;
-      before = λ j after less.
-          ⊎_elim
-          (λ (lt : j < a). under j after lt)
-          (λ (ge : a ≤ j). same j ge (omega arith) ∙ f.before j ge less)
-          (cases_lt j a);
+      before = λ j after less. grind (arith, under j, same j, f.before j);
     }
 
 -- ---- the first list that isn't empty
@@ -249,16 +231,7 @@ all_match_parity xs p = find-filter p (matches_parity All) xs
 -- ---- the clear bits of a span
 
 open_bits : (x m : ℕ) (f : Bool) → x < 2 → m ≡ cond f 1 0 → (min (1 - x) m == 1) ≡ (f && not (x == 1))
-open_bits x m true small e =
-    ⊎_elim
-    (λ (zero_bit : x ≡ 0). rw (e, zero_bit) refl)
-    (λ (one_bit : x ≡ 0 → ⊥). let one : x ≡ 1 = omega arith in rw (e, one) refl)
-    (cases_eq x 0)
-open_bits x m false small e =
-    ⊎_elim
-    (λ (zero_bit : x ≡ 0). rw (e, zero_bit) refl)
-    (λ (one_bit : x ≡ 0 → ⊥). let one : x ≡ 1 = omega arith in rw (e, one) refl)
-    (cases_eq x 0)
+open_bits x m f small e = grind (arith, nat_tests, small, e)
 
 matches_parity_in_word : (parity : Parity) (k : ℕ) → matches_parity parity (k % 64) ≡ matches_parity parity k
 matches_parity_in_word All k = refl
@@ -280,15 +253,13 @@ module _ (ws : List ℕ) (mask : ℕ) (parity : Parity) (fit : (i : ℕ) → get
 -- ---- the first number from s on that passes, and else the first one
 
 pub passes_all : (b : Bool) → b ≡ (b && true)
-passes_all true = refl
-passes_all false = refl
+passes_all b = grind arith
 
 swapped : (f v w : Bool) → v ≡ true → (f && (v && w)) ≡ (f && w)
 swapped f v w e = rw e refl
 
 blocked : (f v w : Bool) → v ≡ false → (f && (v && w)) ≡ false
-blocked true v w e = rw e refl
-blocked false v w e = refl
+blocked f v w e = grind arith
 
 -- of a span's numbers those that pass q, which are those that pass g
 module _ (parity : Parity) (q g : ℕ → Bool) (same : (k : ℕ) → g k ≡ (matches_parity parity k && q k))
