@@ -29,7 +29,8 @@ use Rattle.ip_headers.specs.declared.tuple.Tuple.{Tuple}
 use Rattle.slab.specs.Slab.{Slab, get, slab_len}
 use Rattle.std.specs.List.{find}
 use Rattle.std.specs.List.Sorted.{IsNonDecreasingBy}
-use Rattle.std.specs.Prelude.{Bool, IsSome, List, None, Option, Some, [], false, if◌then◌else◌, length, map, nat_lt, not, option_map, slice_get, slice_index_or, suc, true}
+use Rattle.std.specs.Prelude.{Bool, IsSome, List, None, Option, Some, [], false, if◌then◌else◌, length, map, nat_lt, not, option_map, slice_get}
+use Rattle.std.specs.Prelude.{slice_index_or, suc, true}
 use Rattle.std.specs.Prelude.{zero, ℕ, ◌&&◌, ◌*◌, ◌++◌, ◌+◌, ◌-◌, ◌<◌, ◌==◌, ◌^◌, ◌∷◌, ◌≡◌, ◌≢◌, ◌≤◌}
 use Rattle.box_file.specs.declared.idle_line.IdleKind.TheVariants as idle
 use Rattle.futures.specs.Links as ring

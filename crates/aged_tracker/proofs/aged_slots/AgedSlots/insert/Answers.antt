@@ -25,7 +25,8 @@ push_back-requires-clause-rings c =
 writes : (c : After-push_back) → Writes c.args.self.now.slots c.push_back.new.slots c.fill-key.result (Some c.new.result)
 writes c = writes_between c.args.self.now.slots _ _ _ c.fill-key.result _ (λ k. refl) c.fill-key.ensures.updates c.push_back.ensures.except_links
 
-begun : (c : After-push_back) → Sets (slots_of c.args.self.now) (held_at c.push_back.new.slots) c.fill-key.result (Some (held_of c.fill-key.result c.new.result))
+begun : (c : After-push_back) → Sets (slots_of c.args.self.now) (held_at c.push_back.new.slots) c.fill-key.result
+    (Some (held_of c.fill-key.result c.new.result))
 begun c = sets c.args.self.now c.requires.table _ c.fill-key.result _ (writes c)
 
 numbered : (c : After-push_back) → IsNumbered c.push_back.new.slots (c.args.self.now.next_serial + 1)
