@@ -250,22 +250,9 @@ module _ (t : AgedSlots) (table : IsTable t) (new : Slab Slot) (key : ℕ) (slot
       let own : (m : ℕ) → IsSome (held_at new key) → IsSome (slots_of t m) → serial_at t.slots m ≡ serial_by slot → m ≡ key = λ m h. (here h).1 m in
       let now : (k : ℕ) → k ≡ key → IsSome (held_at new k) → IsSome (held_at new key) = λ k e is. subst (λ k. IsSome (held_at new k)) e is in
       let was : (k : ℕ) → k ≢ key → IsSome (held_at new k) → IsSome (slots_of t k) = λ k d is. subst IsSome (sets.others k d) is in
+      let each = table.numbered.apart in
       record {
-        apart = λ j k f g e. grind (
-          arith,
-          cases_eq j key,
-          cases_eq k key,
-          now j,
-          now k,
-          was j,
-          was k,
-          serials j,
-          serials k,
-          serial,
-          own j,
-          own k,
-          table.numbered.apart j k,
-        );
+        apart = λ j k f g e. grind (arith, cases_eq j key, cases_eq k key, now j, now k, was j, was k, serials j, serials k, serial, own j, own k, each j k);
         below = λ k is. grind (arith, more, cases_eq k key, now k, is, here, serial, serials k, was k, table.numbered.below k);
       }
 
