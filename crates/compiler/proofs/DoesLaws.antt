@@ -47,7 +47,7 @@ module _ (t : TableCode) where
     same = λ extra before.
         let fuel : 0 + extra ≡ extra = omega arith in
         let ticks : before ≡ 0 + before = omega arith in
-        ap (λ n. doing (exec t n) before) fuel ∙ is extra before ∙ ap (finish (exec t extra) stack o) ticks;
+        cc (is extra before);
   }
 
   -- a verdict in a called chain is one of the caller
@@ -66,8 +66,7 @@ module _ (t : TableCode) where
     same = λ extra before.
         let fuel : a.used + b.used + extra ≡ a.used + (b.used + extra) = omega arith in
         let ticks : b.used + (a.used + before) ≡ a.used + b.used + before = omega arith in
-        ap (λ n. doing (exec t n) before) fuel ∙ a.same (b.used + extra) before ∙ b.same extra (a.used + before)
-        ∙ ap (finish (exec t extra) stack o) ticks;
+        cc (a.same (b.used + extra) before, b.same extra (a.used + before));
   }
 
   -- ---- steps

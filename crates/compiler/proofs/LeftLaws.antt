@@ -1,10 +1,10 @@
 -- What is left of a chain: the rules that are left out of it never match a packet that gets to them.
-use Rattle.compiler.proofs.Names.{◌*◌, ◌+◌, ◌<◌, AllZip, AreLeft, Bool, ChainTree, FailsAt, Facts, IsDropped, IsLeft, IsShadowed, LeadsTo, LeavesOut, LeavesOutOf, List}
-use Rattle.compiler.proofs.Names.{MatchTree, None, Option, PlantTree, Program, Some, Statement, TableTree, VerdictTree, [], ◌^◌, always_ends}
-use Rattle.compiler.proofs.Names.{any_facts, ap, arith, behind, below_more, cases_lt, chains_of, ends_chain, false, false_from_ne_true, false≢true, get_or}
-use Rattle.compiler.proofs.Names.{goes_on, if◌then◌else◌, inl, inr, left_program, left_statements, length, lists, map, merged_selector, none-some, option_map}
-use Rattle.compiler.proofs.Names.{passes_if, refl, rule_at, rules_in, same_Some, slice_get, subst, suc, sym, table_program, true, zero, ℕ, ◌∙◌, ◌∷◌, ◌≡◌, ◌≤◌}
-use Rattle.compiler.proofs.Names.{⊎_elim}
+use Rattle.compiler.proofs.Names.{AllZip, AreLeft, Bool, ChainTree, Facts, FailsAt, IsDropped, IsLeft, IsShadowed, LeadsTo, LeavesOut, LeavesOutOf, List}
+use Rattle.compiler.proofs.Names.{MatchTree, None, Option, PlantTree, Program, Some, Statement, TableTree, VerdictTree, [], always_ends, any_facts, ap, arith}
+use Rattle.compiler.proofs.Names.{behind, below_more, cases_lt, chains_of, ends_chain, false, false_from_ne_true, false≢true, get_or, goes_on, if◌then◌else◌}
+use Rattle.compiler.proofs.Names.{inl, inr, left_program, left_statements, length, lists, map, merged_selector, none-some, option_map, passes_if, refl}
+use Rattle.compiler.proofs.Names.{rule_at, rules_in, same_Some, slice_get, subst, suc, sym, table_program, true, zero, ℕ, ⊎_elim, ◌*◌, ◌+◌, ◌<◌, ◌^◌, ◌∙◌, ◌∷◌}
+use Rattle.compiler.proofs.Names.{◌≡◌, ◌≤◌}
 use Rattle.nft_tree.specs.declared.selector.Selector.{Selector}
 use Rattle.nft_tree.specs.ValueTypes.{selector_width}
 use Rattle.nft_tree.specs.ComparedTypes.{selector_compared_type}

@@ -3,9 +3,6 @@ pub mod TableLaws
 pub mod LeftLaws
 pub mod StartLaws
 pub mod OrderLaws
-pub mod TotalLaws
-pub mod FewLaws
 pub mod DoesLaws
 pub mod Simulation
 pub mod BaseLaws
-pub mod AgreementLaws

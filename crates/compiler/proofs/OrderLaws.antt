@@ -1,10 +1,38 @@
 -- The starts of a hook are its base chains, in order of priority and of text.
-use Rattle.compiler.proofs.Names.{◌&&◌, ◌+◌, BaseChain, Bool, CompiledChain, Equal, Greater, IsPermutation, IsSortedBy, IsStableBy, Less, List, [], ap, ap₂}
-use Rattle.compiler.proofs.Names.{arith, base, cond, false, false≢true, filter, filter_agree, get_or-map, int_lt, length-map, list_any, list_any-IsPermutation}
-use Rattle.compiler.proofs.Names.{map, not, or_parts, priority, refl, runs_before, sym, ties, true, ◌∙◌, ◌∷◌, ◌≡◌}
-use Rattle.compiler.proofs.StartLaws.{by_priority}
+use Rattle.compiler.proofs.Names.{BaseChain, Bool, Bor, CompiledChain, Equal, Greater, IsPermutation, IsSortedBy, IsStableBy, Less, List, [], ap, ap₂, arith}
+use Rattle.compiler.proofs.Names.{base, cond, false, false≢true, filter, filter_agree, get_or-map, int_lt, length-map, list_any, list_any-IsPermutation, map}
+use Rattle.compiler.proofs.Names.{not, priority, refl, runs_before, sym, ties, true, ℤ, ◌&&◌, ◌+◌, ◌∙◌, ◌∷◌, ◌≡◌}
+use Rattle.list_laws.specs.Tests.{less_by}
+use Rattle.nft_tree.specs.Priorities.{priority_number}
 use Rattle.std.proofs.lemmas.Cmp.{int_ranked}
+use Rattle.std.proofs.lemmas.Fn.{always_returns_same}
 use Rattle.std.proofs.lemmas.List.Folds.{Any-from_list_any}
+use Rattle.std.specs.Fn.{Called, ComputesKey}
+use Rattle.std.specs.Ordering.{int_cmp, is_lt}
+use denote.Param.Members.{Mut}
+
+-- ---- order
+
+-- the number that base chains are sorted by
+abbrev pub key : CompiledChain → ℤ
+key b = priority_number b.head.now.priority
+
+pub lt_is : (x y : CompiledChain) → is_lt (int_cmp (key x) (key y)) ≡ runs_before (base x) (base y)
+lt_is x y = less_by (int_lt (key x) (key y)) (int_lt (key y) (key x))
+
+abbrev pub by_key : CompiledChain → CompiledChain → Bool
+by_key x y = is_lt (int_cmp (key x) (key y))
+
+abbrev pub by_priority : CompiledChain → CompiledChain → Bool
+by_priority x y = runs_before (base x) (base y)
+
+pub ties_alike : (x y : CompiledChain) → ties by_key x y ≡ ties by_priority x y
+ties_alike x y = ap₂ (λ a b. not a && not b) (lt_is x y) (lt_is y x)
+
+-- a call of the key's closure gives the priority
+pub keys_always : {F : Type 0} (g : Mut F (Bor CompiledChain × Unit {0}) ℤ) (f : F)
+    → ((a : Bor CompiledChain × Unit {0}) (r : ℤ) (f' : F) → Called g f a r f' → (r ≡ key a.0.now) × (f' ≡ f)) → ComputesKey g key f
+keys_always g f h = always_returns_same g (λ a r. r ≡ key a.0.now) f h
 
 -- ---- a list and what it shows
 

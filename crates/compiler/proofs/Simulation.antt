@@ -1,11 +1,11 @@
 -- The machine simulates the rules, by code without the rules that never match: it has their result, in at most as many
 -- statements as the rules weigh.
-use Rattle.compiler.proofs.Names.{◌+◌, Contains, Contains-head, Contains-tail, Continuation, Event, Facts, FailsAt, IsCode, IsRanking, IsStatementOf, LeadsTo}
-use Rattle.compiler.proofs.Names.{LeavesOut, LeavesOutOf, List, None, Option, Program, Remainder, RulesAt, RunResult, Runs, Some, StatementEffect, StatementsAt}
-use Rattle.compiler.proofs.Names.{Stop, TableCode, [], accepts, action_effect, any_facts, ap, apply_effect, arith, at_rule, behind, chain_ends, continues, drops}
-use Rattle.compiler.proofs.Names.{enter_chain, exec, fail, fails, give, goes, goes_on, in_rule, inl, inr, jumps, jumps_away, length, next_rule, notes, passes, refl}
-use Rattle.compiler.proofs.Names.{returns, rule_ends, rule_no, slice_get, statement_at, statement_position, subst, suc, sum_by, sum_by-cons, sym, translates}
-use Rattle.compiler.proofs.Names.{with_verdict, ℕ, ◌∙◌, ◌∷◌, ◌≡◌, ◌≤◌}
+use Rattle.compiler.proofs.Names.{Contains, Contains-head, Contains-tail, Continuation, Event, Facts, FailsAt, IsCode, IsRanking, IsStatementOf, LeadsTo}
+use Rattle.compiler.proofs.Names.{LeavesOut, LeavesOutOf, List, None, Option, Program, Remainder, RulesAt, RunResult, Runs, Some, StatementEffect}
+use Rattle.compiler.proofs.Names.{StatementsAt, Stop, TableCode, [], accepts, action_effect, any_facts, ap, apply_effect, arith, at_rule, behind, chain_ends}
+use Rattle.compiler.proofs.Names.{continues, drops, enter_chain, exec, fail, fails, give, goes, goes_on, in_rule, inl, inr, jumps, jumps_away, length}
+use Rattle.compiler.proofs.Names.{next_rule, notes, passes, refl, returns, rule_ends, rule_no, slice_get, statement_at, statement_position, subst, suc, sum_by}
+use Rattle.compiler.proofs.Names.{sum_by-cons, sym, translates, with_verdict, ℕ, ◌+◌, ◌∙◌, ◌∷◌, ◌≡◌, ◌≤◌}
 use Rattle.rule_meaning.specs.declared.event.RuleVerdict.TheVariants.{Jump, Goto}
 use Rattle.compiler.proofs.DoesLaws.{Does, does-as, does-now, does-over, does-then, does-end, exec-step, calls, finish}
 
@@ -57,7 +57,7 @@ module _ {S : Type 0} (p : Program S) (left_at : ℕ → Option (List (List S)))
   abbrev Doing : ℕ → ℕ → StatementEffect → ℕ → ℕ → List ℕ → Facts → List Event → Continuation → ℕ → Stop
   Doing c n w at_step left stack f es go = apply_effect t.chain_offsets.items (rule_no p c n) w at_step left go stack f es
 
-  -- a statement, by its effect, and what follows it; nothing is left out of a rule with a statement that doesn't fail
+  -- a statement, by its effect, and what follows it
   first : {c n k : ℕ} {s : S} {w : StatementEffect} {stack : List ℕ} {f : Facts} {es : List Event} {o : RunResult} (ss : List S) (rs : List (List S))
       (less at_step : ℕ) → suc less ≤ weight s + sum_by weight ss + rules_weigh rs → AtStatements c n k (s ∷ ss) rs f at_step stack
       → p.effect_of (statement_position p c n k) s f ≡ w → Does t less (Doing c n w at_step (length ss) stack f es) stack o
@@ -70,14 +70,11 @@ module _ {S : Type 0} (p : Program S) (left_at : ℕ → Option (List (List S)))
         used = suc d.used;
         few = omega (arith, d.few, sum_by-cons weight s ss);
         same = λ extra before.
-            let go = exec t (d.used + extra) in
             let ticks : d.used + (before + 1) ≡ suc d.used + before = omega arith in
             let fuel : suc d.used + extra ≡ suc (d.used + extra) = omega arith in
-            ap (λ m. exec t m at_step stack f es before) fuel ∙ exec-step t (d.used + extra) at_step stack f es before i h.statements.0.1
-            ∙ ap (λ r. apply_effect t.chain_offsets.items r (action_effect t.lookups i.action f) at_step i.skip go stack f es (before + 1)) is.rule
-            ∙ ap (λ x. apply_effect t.chain_offsets.items (rule_no p c n) x at_step i.skip go stack f es (before + 1)) its
-            ∙ ap (λ x. Doing c n w at_step x stack f es go (before + 1)) is.skip
-            ∙ d.same extra (before + 1) ∙ ap (finish (exec t extra) stack o) ticks;
+            let step = exec-step t (d.used + extra) at_step stack f es before i h.statements.0.1 in
+            let then = d.same extra (before + 1) in
+            cc (is.rule, its, is.skip);
       }
 
   -- where the effect of a statement leads: to the next statement, or to the next rule
@@ -185,7 +182,7 @@ module _ {S : Type 0} (p : Program S) (left_at : ℕ → Option (List (List S)))
               (with_verdict p es c n (Jump d)) ticks (omega arith)) (entered d chain f (with_verdict p es c n (Jump d)) has (omega arith) follows),
         )
 
-    -- a rule that is left out weighs nothing less
+    -- what the rules behind a rule do, where its own statements weigh as well
     skipped : (c n : ℕ) (ss : List S) (rs : List (List S)) {f : Facts} {es : List Event} {o : RunResult} → Follows c n (at_rule rs) f es o
         → (at_step : ℕ) (stack : List ℕ) → AtRules c n rs f at_step stack
         → Does t (sum_by weight ss + rules_weigh rs) (λ go. go at_step stack f es) stack o
@@ -193,7 +190,8 @@ module _ {S : Type 0} (p : Program S) (left_at : ℕ → Option (List (List S)))
         does-as t (rules_weigh rs) (sum_by weight ss + rules_weigh rs) (omega arith) (λ go ticks. refl) (follows at_step stack h)
 
     pub simulates : {c n : ℕ} {left : Remainder S} {f : Facts} {es : List Event} {o : RunResult} → Runs p c n left f es o → Follows c n left f es o
-    simulates {c} {n} (chain_ends {f = f} {es = es}) = λ at_step stack h. does-end t at_step stack f es (no-rules c n at_step h.Reach h.rest.left h.rest.out h.rest.code)
+    simulates {c} {n} (chain_ends {f = f} {es = es}) = λ at_step stack h.
+        does-end t at_step stack f es (no-rules c n at_step h.Reach h.rest.left h.rest.out h.rest.code)
     simulates (next_rule {r = r} {rs = rs} {f = f} run) = λ at_step stack h.
         does-as t (sum_by weight r + rules_weigh rs) (rules_weigh (r ∷ rs)) (omega (arith, sum_by-cons (sum_by weight) r rs)) (λ go ticks. refl)
         (by-rule r rs f (simulates run) h.Reach h.rest.left h.here h.rest.out h.rest.code h.rest.inside h.rest.room)

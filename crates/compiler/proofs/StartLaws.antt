@@ -1,19 +1,56 @@
--- Base chains, in the order of the text.
-use Rattle.compiler.proofs.Names.{◌&&◌, ◌+◌, ◌++◌, ◌<◌, AddsBases, All, All-append, All-head, AreChainCosts, AreRulesetCosts, Bool, Bor, ChainTree}
-use Rattle.compiler.proofs.Names.{CompiledChain, HasCost, HeadTree, List, MAX_COST, None, Option, Some, TableTree, [], a_chain, add-one, ap, append_assoc, ap₂}
-use Rattle.compiler.proofs.Names.{arith, base, base_chain_of, base_chains_from, base_chains_of_tables, base_part, base_sum, chain_cost_by, chains_of, cost-at}
-use Rattle.compiler.proofs.Names.{costs-long, drop, drop_more, get_or, get_or_from_slice_get, int_lt, length, map, map-append, not, refl, ruleset_sum}
-use Rattle.compiler.proofs.Names.{runs_before, slice_get, slice_get_within, slice_index, subst, sum_by, sum_by-append, sum_by-cons, sym, ties, zip, ℕ, ℤ, ◌∙◌}
-use Rattle.compiler.proofs.Names.{◌∷◌, ◌≡◌}
-use Rattle.compiler.proofs.FewLaws.{part, table_part}
-use Rattle.std.proofs.lemmas.Fn.{always_returns_same}
-use Rattle.std.specs.Fn.{Called, ComputesKey}
-use Rattle.std.specs.Ordering.{is_lt, int_cmp}
-use Rattle.list_laws.specs.Tests.{less_by}
-use denote.Param.Members.{Mut}
-use Rattle.nft_tree.specs.Priorities.{priority_number}
+-- Base chains in the order of the text, and what they cost.
+use Rattle.chain_graph.specs.Measures.{saturated}
+use Rattle.compiler.proofs.Names.{AddsBases, All, All-append, All-head, All-tail, AreAllCosts, AreChainCosts, AreRulesetCosts, Bool, Caller, ChainTree, Code}
+use Rattle.compiler.proofs.Names.{CompiledChain, Contains, Contains-cases, HasCost, HeadTree, Hook, List, MAX_COST, None, Option, Ordered, Some, Start}
+use Rattle.compiler.proofs.Names.{TableTree, Text, [], a_chain, add-one, ap, append_assoc, ap₂, arith, base, base_chain_head, base_chain_of, base_chains_from}
+use Rattle.compiler.proofs.Names.{base_chains_of_tables, base_cost, base_part, base_sum, chain_cost_by, chains_of, cond, cost-at, cost_in, costs-long, drop}
+use Rattle.compiler.proofs.Names.{drop_more, filter, get_or, get_or_from_slice_get, length, map, map-append, refl, ruleset_cost, ruleset_sum, runs_on_hook}
+use Rattle.compiler.proofs.Names.{same_hook, slice_get, slice_get_within, slice_index, start_cost, start_head, starts_of, subst, suc, sum, sum-map, sum_by}
+use Rattle.compiler.proofs.Names.{sum_by-IsPermutation, sum_by-append, sum_by-cons, sym, table_cost, total_cost, zip, ℕ, ⊎_elim, ◌++◌, ◌+◌, ◌<◌, ◌∙◌, ◌∷◌, ◌≡◌}
+use Rattle.compiler.proofs.Names.{◌≤◌}
 use Rattle.rule_meaning.specs.declared.event.ChainNo.{ChainNo}
 use Rattle.rule_laws.specs.Ranking as ranking
+use Rattle.nft_tree.specs.declared.chain.Hook.TheVariants as hooks
+
+-- ---- numbers that stop at 2^64 - 1 are the costs themselves where all together are few
+
+part_is : (cost : Caller → ℕ) (name : Text) (head : Option HeadTree) → base_part head (saturated (cost (a_chain name))) ≤ 65536
+    → base_part head (saturated (cost (a_chain name))) ≡ base_cost cost name head
+part_is cost name None few = refl
+part_is cost name (Some head) few = omega arith
+
+-- what a chain adds, by its cost, and what a table adds
+abbrev pub part : ChainTree × ℕ → ℕ
+part p = base_part p.0.head p.1
+
+abbrev pub table_part : TableTree × List ℕ → ℕ
+table_part p = base_sum p.0 p.1
+
+abbrev row_of : (Caller → ℕ) → List ChainTree → List ℕ
+row_of cost cs = map (λ c. saturated (cost (a_chain c.name))) cs
+
+parts_are : (cost : Caller → ℕ) (cs : List ChainTree) → sum_by part (zip cs (row_of cost cs)) ≤ 65536
+    → sum_by part (zip cs (row_of cost cs)) ≡ sum_by (λ c. base_cost cost c.name c.head) cs
+parts_are cost [] few = refl
+parts_are cost (c ∷ cs) few =
+    let both = sum_by-cons part (c, saturated (cost (a_chain c.name))) (zip cs (row_of cost cs)) in
+    both ∙ ap₂ ◌+◌ (part_is cost c.name c.head (omega (arith, both))) (parts_are cost cs (omega (arith, both)))
+    ∙ sym (sum_by-cons (λ (x : ChainTree). base_cost cost x.name x.head) c cs)
+
+-- what the base chains of all tables cost by such numbers is what the ruleset costs
+pub ruleset_is : (cost : TableTree → Caller → ℕ) (ts : List TableTree) (rows : List (List ℕ))
+    → length rows ≡ length ts → ((i : ℕ) (t : TableTree) → slice_get ts i ≡ Some t → AreChainCosts t (get_or rows i [])) → AreAllCosts ts cost
+    → ruleset_sum ts rows ≤ 65536 → ruleset_sum ts rows ≡ ruleset_cost cost ts
+ruleset_is cost [] rows long each all few = refl
+ruleset_is cost (t ∷ ts) [] long each all few = absurd (omega arith)
+ruleset_is cost (t ∷ ts) (row ∷ rows) long each all few =
+    let both = sum_by-cons table_part (t, row) (zip ts rows) in
+    let same = (each 0 t refl).are (cost t) (all t (0, omega arith, refl)) in
+    let few_here : base_sum t row ≤ 65536 = omega (arith, both) in
+    let here = ap (base_sum t) same ∙ parts_are (cost t) (chains_of t) (subst (λ xs. base_sum t xs ≤ 65536) same few_here) in
+    let rest = ruleset_is cost ts rows (omega arith) (λ i x is. each (suc i) x is) (λ x i. let l = i.1 in
+    all x (suc i.0, omega arith, i.2)) (omega (arith, both)) in
+    both ∙ ap₂ ◌+◌ here rest ∙ sym (sum_by-cons (λ u. table_cost (cost u) u) t ts)
 
 -- ---- what base chains cost
 
@@ -150,25 +187,72 @@ module _ (all : List TableTree) where
       split : drop place all ≡ t ∷ rest
       split = rest_from all place t is
 
--- ---- order
+-- ---- the starts of all hooks together cost what all base chains cost
 
--- the number that base chains are sorted by
-abbrev pub key : CompiledChain → ℤ
-key b = priority_number b.head.now.priority
+-- what the base chains of a hook cost
+abbrev on_hook : Hook → List CompiledChain → ℕ
+on_hook hook bases = sum_by cost_of (filter (runs_on_hook hook) bases)
 
-pub lt_is : (x y : CompiledChain) → is_lt (int_cmp (key x) (key y)) ≡ runs_before (base x) (base y)
-lt_is x y = less_by (int_lt (key x) (key y)) (int_lt (key y) (key x))
+one_hook : (b : Bool) (x : CompiledChain) (xs : List CompiledChain) → sum_by cost_of (cond b (x ∷ xs) xs) ≡ cond b x.cost 0 + sum_by cost_of xs
+one_hook b x xs = grind (arith, sum_by-cons cost_of x xs)
 
-abbrev pub by_key : CompiledChain → CompiledChain → Bool
-by_key x y = is_lt (int_cmp (key x) (key y))
+-- together over all hooks
+abbrev over_hooks : (Hook → ℕ) → ℕ
+over_hooks f = f hooks.Prerouting + f hooks.Input + f hooks.Forward + f hooks.Output + f hooks.Postrouting
 
-abbrev pub by_priority : CompiledChain → CompiledChain → Bool
-by_priority x y = runs_before (base x) (base y)
+only_one : (hook : Hook) (n : ℕ) → over_hooks (λ h. cond (same_hook hook h) n 0) ≡ n
+only_one hooks.Prerouting n = omega arith
+only_one hooks.Input n = omega arith
+only_one hooks.Forward n = omega arith
+only_one hooks.Output n = omega arith
+only_one hooks.Postrouting n = omega arith
 
-pub ties_alike : (x y : CompiledChain) → ties by_key x y ≡ ties by_priority x y
-ties_alike x y = ap₂ (λ a b. not a && not b) (lt_is x y) (lt_is y x)
+all_hooks : (bases : List CompiledChain) → over_hooks (λ h. on_hook h bases) ≡ sum_by cost_of bases
+all_hooks [] = refl
+all_hooks (x ∷ xs) =
+    let at : (h : Hook) → on_hook h (x ∷ xs) ≡ cond (same_hook x.head.now.hook h) x.cost 0 + on_hook h xs =
+    λ h. one_hook (same_hook x.head.now.hook h) x (filter (runs_on_hook h) xs) in
+    let only = only_one x.head.now.hook x.cost in
+    let rest = all_hooks xs in
+    let both = sum_by-cons cost_of x xs in
+    omega (arith, at hooks.Prerouting, at hooks.Input, at hooks.Forward, at hooks.Output, at hooks.Postrouting)
 
--- a call of the key's closure gives the priority
-pub keys_always : {F : Type 0} (g : Mut F (Bor CompiledChain × Unit {0}) ℤ) (f : F)
-    → ((a : Bor CompiledChain × Unit {0}) (r : ℤ) (f' : F) → Called g f a r f' → (r ≡ key a.0.now) × (f' ≡ f)) → ComputesKey g key f
-keys_always g f h = always_returns_same g (λ a r. r ≡ key a.0.now) f h
+pub starts_total : (bases : List CompiledChain) (code : Code) → ((hook : Hook) → Ordered hook bases (starts_of code hook))
+    → total_cost code ≡ sum_by (λ (b : CompiledChain). b.cost) bases
+starts_total bases code ordered =
+    let at : (h : Hook) → sum_by (λ s. s.cost) (starts_of code h) ≡ on_hook h bases =
+    λ h. sym (sum-map (λ (s : Start). s.cost) (starts_of code h)) ∙ ap sum (ordered h).costs_are ∙ sum-map cost_of (ordered h).order
+    ∙ sum_by-IsPermutation cost_of (filter (runs_on_hook h) bases) (ordered h).order (ordered h).moved in
+    let all = all_hooks bases in
+    omega (arith, at hooks.Prerouting, at hooks.Input, at hooks.Forward, at hooks.Output, at hooks.Postrouting)
+
+-- ---- starts that have the heads and costs of base chains: each is that of one of them
+
+module _ (tables : List TableTree) where
+  -- the start is that of the base chain, with its cost
+  pub record StartOf (start : Start) : Type 0 where
+    pub chain : CompiledChain
+    pub same_head : start_head start ≡ base_chain_head (base chain)
+    pub costs : start.cost ≡ chain.cost
+    pub has : IsCosted tables chain
+
+  pub start-of : (order : List CompiledChain) (starts : List Start) (start : Start) → map start_head starts ≡ map base_chain_head (map base order)
+      → map (λ s. s.cost) starts ≡ map (λ b. b.cost) order → All (IsCosted tables) order → Contains starts start → StartOf start
+  start-of order [] start heads costs all here = let l = here.1 in absurd (omega arith)
+  start-of [] (s ∷ starts) start heads costs all here = cc
+  start-of (b ∷ order) (s ∷ starts) start heads costs all here = ⊎_elim (λ is. record {
+    chain = b;
+    same_head = ap start_head (sym is) ∙ (let e : start_head s ≡ base_chain_head (base b) = cc in e);
+    costs = ap (λ (x : Start). x.cost) (sym is) ∙ (let e : s.cost ≡ b.cost = cc in e);
+    has = All-head (IsCosted tables) b order all;
+  }) (λ later. start-of order starts start (cc) (cc) (All-tail (IsCosted tables) b order all) later) (Contains-cases s starts start here)
+
+  pub costs-shown : (cost : TableTree → Caller → ℕ) → AreAllCosts tables cost → (bases : List CompiledChain)
+      → All (IsCosted tables) bases → map (λ b. b.cost) bases ≡ map (start_cost tables cost) (map base bases)
+  costs-shown cost all [] costed = refl
+  costs-shown cost all (b ∷ bases) costed =
+      let h = All-head (IsCosted tables) b bases costed in
+      let within = slice_get_within tables b.number.table h.table h.stands in
+      let here = get_or_from_slice_get tables b.number.table h.table h.table h.stands in
+      ap₂ ◌∷◌ (h.is (cost h.table) (all h.table (b.number.table, within, here)) ∙ sym (ap (λ t. cost_in cost t b.number.chain) h.stands))
+      (costs-shown cost all bases (All-tail (IsCosted tables) b bases costed))

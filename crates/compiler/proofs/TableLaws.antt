@@ -1,11 +1,11 @@
 -- The chains of a table, one after another, and the tables of a ruleset.
-use Rattle.compiler.proofs.Names.{◌+◌, ◌++◌, ◌-◌, ◌<◌, AddsChain, AllZip, AreLeft, Bool, Bor, Chain, ChainTree, ExtendsCode, Global, IsTableCode, ItemTree}
-use Rattle.compiler.proofs.Names.{List, Option, PlantTree, RulesAt, Some, Statement, StatementsAt, TableCode, TableTree, Vec, [], ◌^◌, ap, arith, chain_in}
-use Rattle.compiler.proofs.Names.{chain_steps, chain_tree, chains_of, dropped_rules, extends_code_itself, extends_code_on, extends_itself, false, false_from_ne_true, false≢true, filter_map}
-use Rattle.compiler.proofs.Names.{get_or, get_or_from_slice_get, inl, inr, keeps_push, left_program, left_statements, length, length-append, list_any, map, min}
-use Rattle.compiler.proofs.Names.{none-some, option_map, or_parts, refl, rules_in, same_Some, slice_get, slice_get-map, slice_get-push, slice_get_read}
-use Rattle.compiler.proofs.Names.{slice_get_within, some_of_map, subst, suc, sum_by, sum_by_push, sym, table_program, take, take_all, take_more, zero, ℕ, ◌∙◌}
-use Rattle.compiler.proofs.Names.{◌∷◌, ◌≡◌, ◌≤◌, ◌⊎◌, ⊎_elim}
+use Rattle.compiler.proofs.Names.{AddsChain, AllZip, AreLeft, Bool, Bor, Chain, ChainTree, ExtendsCode, Global, IsTableCode, ItemTree, List, Option, PlantTree}
+use Rattle.compiler.proofs.Names.{RulesAt, Some, Statement, StatementsAt, TableCode, TableTree, Vec, [], ap, arith, chain_in, chain_steps, chain_tree}
+use Rattle.compiler.proofs.Names.{chains_of, dropped_rules, extends_code_itself, extends_code_on, extends_itself, false, false_from_ne_true, false≢true}
+use Rattle.compiler.proofs.Names.{filter_map, get_or, get_or_from_slice_get, inl, inr, keeps_push, left_program, left_statements, length, length-append}
+use Rattle.compiler.proofs.Names.{list_any, map, min, none-some, option_map, or_parts, refl, rules_in, same_Some, slice_get, slice_get-map, slice_get-push}
+use Rattle.compiler.proofs.Names.{slice_get_read, slice_get_within, some_of_map, subst, suc, sum_by, sum_by_push, sym, table_program, take, take_all}
+use Rattle.compiler.proofs.Names.{take_more, zero, ℕ, ⊎_elim, ◌++◌, ◌+◌, ◌-◌, ◌<◌, ◌^◌, ◌∙◌, ◌∷◌, ◌≡◌, ◌≤◌, ◌⊎◌}
 use Rattle.std.proofs.lemmas.List.Folds.{list_any_at}
 use Rattle.std.proofs.lemmas.Slice.Zip.{all_zipped_more}
 use Rattle.nft_tree.specs.Tree as tree
@@ -25,8 +25,7 @@ none_at p xs i x lt is none = false_from_ne_true (p x) (λ yes. false≢true (sy
 pub chain_free : (p : ItemTree → Bool) (q : ChainTree → Bool) → ((c : ChainTree) → p (tree.chain c) ≡ false → q c ≡ false)
     → (items : List ItemTree) (i : ℕ) (c : ChainTree) → list_any p items ≡ false → slice_get (filter_map chain_in items) i ≡ Some c → q c ≡ false
 chain_free p q h [] i c none is = cc
-chain_free p q h (tree.chain x ∷ items) zero c none is = let e : x ≡ c = cc in
-    ap q (sym e) ∙ h x (or_parts (p (tree.chain x)) (list_any p items) none).0
+chain_free p q h (tree.chain x ∷ items) zero c none is = let e : x ≡ c = cc in ap q (sym e) ∙ h x (or_parts _ _ none).0
 chain_free p q h (tree.chain x ∷ items) (suc i) c none is = chain_free p q h items i c (or_parts (p (tree.chain x)) (list_any p items) none).1 is
 chain_free p q h (item ∷ items) i c none is = chain_free p q h items i c (or_parts (p item) (list_any p items) none).1 is
 

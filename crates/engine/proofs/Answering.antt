@@ -1,8 +1,8 @@
 -- Two texts and a capture have a meaning, or a refusal; and two texts are judged, or refused.
-use Rattle.engine.proofs.Names.{◌-◌, Accepted, Bool, Box, Capture, CaptureFault, Captured, Check, CheckFault, Counts, Ending, HasBoxFault, IsBox, IsOfTexts}
+use Rattle.engine.proofs.Names.{Accepted, Bool, Box, Capture, CaptureFault, Captured, Check, CheckFault, Counts, Ending, HasBoxFault, IsBox, IsOfTexts}
 use Rattle.engine.proofs.Names.{IsRefusal, JudgeRefuses, Judged, LeastFault, List, Malformed, Meaning, Over, Pcap, PlantTree, Refuses, Rules, RunFault, Some}
-use Rattle.engine.proofs.Names.{Spelled, TableTree, Text, Torn, WellFormed, Whole, [], ◌^◌, capture_text, chain_count, decoded_records, ending_of, false}
-use Rattle.engine.proofs.Names.{header_fault, inl, inr, length, min, refl, report_text, rule_count, true, ℕ, ◌≡◌, ◌⊎◌}
+use Rattle.engine.proofs.Names.{Spelled, TableTree, Text, Torn, WellFormed, Whole, [], capture_text, chain_count, decoded_records, ending_of, false}
+use Rattle.engine.proofs.Names.{header_fault, inl, inr, length, min, refl, report_text, rule_count, true, ℕ, ◌-◌, ◌^◌, ◌≡◌, ◌⊎◌}
 use Rattle.engine.proofs.Histories.{SomeEntry, some_history}
 use Rattle.engine.proofs.Refusing.{accepted_by, misjudged, refusal_of}
 use Rattle.box_file.specs.declared.fault.BoxFault.{BoxFault}

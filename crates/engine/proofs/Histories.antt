@@ -1,7 +1,7 @@
 -- Histories, record by record.
-use Rattle.engine.proofs.Names.{◌+◌, ◌++◌, Captured, Entry, Format, IsHistoryOf, List, Next, Recorded, Setup, WellFormed, [], ap, append-nil, append_assoc}
-use Rattle.engine.proofs.Names.{arith, capture_text, decoded_after, decoded_records, flat_map, flat_map-append, in_order, length, max, own_moment, refl}
-use Rattle.engine.proofs.Names.{sends, sent_records, sll2_header, sll2_record, subst, suc, sym, zero-add, ℕ, ◌∙◌, ◌∷◌, ◌≡◌}
+use Rattle.engine.proofs.Names.{Captured, Entry, Format, IsHistoryOf, List, Next, Recorded, Setup, WellFormed, [], ap, append-nil, append_assoc, arith}
+use Rattle.engine.proofs.Names.{capture_text, decoded_after, decoded_records, flat_map, flat_map-append, in_order, length, max, own_moment, refl, sends}
+use Rattle.engine.proofs.Names.{sent_records, sll2_header, sll2_record, subst, suc, sym, zero-add, ℕ, ◌++◌, ◌+◌, ◌∙◌, ◌∷◌, ◌≡◌}
 
 -- each record has an entry after a history, if the ruleset is well-formed
 abbrev pub OneEntry : Type 0
@@ -39,11 +39,7 @@ is_history_more setup before (x ∷ xs) r mid e (f, m, g) n = (f, m, is_history_
 -- what it sends with one entry more
 pub captured_more : (history : List Entry) (e : Entry)
     → capture_text (e ∷ history) ≡ capture_text history ++ flat_map sll2_record (sends e)
-captured_more history e =
-    ap (λ xs. sll2_header ++ xs) (ap (flat_map sll2_record) (flat_map-append sends (in_order history) (e ∷ [])
-    ∙ ap (λ xs. flat_map sends (in_order history) ++ xs) (append-nil (sends e)))
-    ∙ flat_map-append sll2_record (flat_map sends (in_order history)) (sends e))
-    ∙ sym (append_assoc sll2_header (sent_records history) (flat_map sll2_record (sends e)))
+captured_more history e = simp (flat_map-append, append-nil, append_assoc)
 
 -- ---- the decoded records
 

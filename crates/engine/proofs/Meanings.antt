@@ -1,10 +1,9 @@
 -- A run, from the results of its calls.
-use Rattle.engine.proofs.Names.{arith}
-use Rattle.engine.proofs.Names.{Recorded, JudgeRefuses, ◌++◌, ◌<◌, Accepted, Bool, Box, Capture, CaptureFault, CaptureState, Consumes, Device, Devices, Err}
-use Rattle.engine.proofs.Names.{Format, HEADER_BYTES, IfErr, IfOk, IfSome, IsAtEnd, IsChecked, IsHistoryOf, IsWithin, Refuses, Laws, LeavesPrefix}
-use Rattle.engine.proofs.Names.{LeftDevices, List, Meaning, Memory, None, NothingTaken, Ok, Option, Pcap, READ_AHEAD, Result, Rules, RunFault, Setup, Some}
-use Rattle.engine.proofs.Names.{Unchanged, Untouched, WritesOutputs, WroteOutputs, [], ahead, ap, decoded_records, drop, ending_of, failed_header_read, false}
-use Rattle.engine.proofs.Names.{format_of, header_fault, inl, inr, length, one_more, refl, setup_of, subst, sym, true, unread_input, ℕ, ◌∙◌, ◌≡◌, ◌≤◌, ◌⊎◌}
+use Rattle.engine.proofs.Names.{Accepted, Bool, Box, Capture, CaptureFault, CaptureState, Consumes, Device, Devices, Err, Format, HEADER_BYTES, IfErr, IfOk}
+use Rattle.engine.proofs.Names.{IfSome, IsAtEnd, IsChecked, IsHistoryOf, IsWithin, JudgeRefuses, Laws, LeavesPrefix, LeftDevices, List, Meaning, Memory, None}
+use Rattle.engine.proofs.Names.{NothingTaken, Ok, Option, Pcap, READ_AHEAD, Recorded, Refuses, Result, Rules, RunFault, Setup, Some, Unchanged, Untouched}
+use Rattle.engine.proofs.Names.{WritesOutputs, WroteOutputs, [], ahead, ap, arith, decoded_records, drop, ending_of, failed_header_read, false, format_of}
+use Rattle.engine.proofs.Names.{header_fault, inl, inr, length, one_more, refl, setup_of, subst, sym, true, unread_input, ℕ, ◌++◌, ◌<◌, ◌∙◌, ◌≡◌, ◌≤◌, ◌⊎◌}
 use Rattle.engine.proofs.Replays.{ahead_is}
 use Rattle.engine.proofs.Histories.{OneEntry, one_history}
 use Rattle.engine.specs.declared.runs.Summary.{Summary}

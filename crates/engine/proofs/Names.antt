@@ -31,9 +31,9 @@ pub use Rattle.report.specs.Report.{closing_lines, entry_lines, lines_of, report
 pub use Rattle.rule_check.specs.WellFormed.{LeastFault, WellFormed}
 pub use Rattle.rule_check.specs.declared.fault.CheckFault.{CheckFault}
 pub use Rattle.rule_limits.specs.Limits.{chain_count, rule_count}
-pub use Rattle.std.proofs.Common.{◌+◌, ◌++◌, ◌-◌, ◌<◌, All, Bool, Err, IfErr, IfOk, IfSome, List, None, Ok, Option, Result, Some, [], ◌^◌, ap, append-nil}
-pub use Rattle.std.proofs.Common.{append_assoc, arith, drop, false, inl, inr, length, length-append, max, min, refl, rules, subst, suc, sym, true, zero}
-pub use Rattle.std.proofs.Common.{zero-add, ℕ, ◌∙◌, ◌∷◌, ◌≡◌, ◌≤◌, ◌⊎◌}
+pub use Rattle.std.proofs.Common.{All, Bool, Err, IfErr, IfOk, IfSome, List, None, Ok, Option, Result, Some, [], ap, append-nil, append_assoc, arith, drop}
+pub use Rattle.std.proofs.Common.{false, inl, inr, length, length-append, max, min, refl, rules, subst, suc, sym, true, zero, zero-add, ℕ, ◌++◌, ◌+◌, ◌-◌, ◌<◌}
+pub use Rattle.std.proofs.Common.{◌^◌, ◌∙◌, ◌∷◌, ◌≡◌, ◌≤◌, ◌⊎◌}
 pub use Rattle.std.proofs.KnownBytes.{Appends-kept, Appends-trans, Consumes-nil, Keeps-refl}
 pub use Rattle.std.proofs.lemmas.Grind.{flat_map-append}
 pub use Rattle.std.proofs.lemmas.Result.{IfErr-at_err, err_from_is_err_and}

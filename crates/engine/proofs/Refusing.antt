@@ -1,9 +1,8 @@
 -- Inputs have at most one refusal, and then no meaning; and two texts have at most one judgement.
-use Rattle.engine.proofs.Names.{arith}
-use Rattle.engine.proofs.Names.{◌-◌, Accepted, Bool, Box, Capture, CaptureFault, Captured, Check, CheckFault, Counts, Device, Ending, IsOfTexts, IsRefusal}
+use Rattle.engine.proofs.Names.{Accepted, Bool, Box, Capture, CaptureFault, Captured, Check, CheckFault, Counts, Device, Ending, IsOfTexts, IsRefusal}
 use Rattle.engine.proofs.Names.{IsRefused, JudgeRefuses, Judged, Laws, LeastFault, List, Meaning, Memory, Option, Pcap, PlantTree, Refuses, Rules, RunFault}
-use Rattle.engine.proofs.Names.{Some, Spelled, TableTree, Text, WellFormed, [], ◌^◌, ap, chain_count, ending_of, false, fault_at, header_fault, inl, inr}
-use Rattle.engine.proofs.Names.{length, min, rule_count, subst, sym, true, ℕ, ◌∙◌, ◌≡◌}
+use Rattle.engine.proofs.Names.{Some, Spelled, TableTree, Text, WellFormed, [], ap, arith, chain_count, ending_of, false, fault_at, header_fault, inl, inr}
+use Rattle.engine.proofs.Names.{length, min, rule_count, subst, sym, true, ℕ, ◌-◌, ◌^◌, ◌∙◌, ◌≡◌}
 use Rattle.std.specs.Result.{result_err}
 
 -- where judging the texts refuses them a run does
@@ -59,8 +58,7 @@ module _ (laws : Laws) (rules box : List ℕ) where
 
   least_in : (fault : CheckFault) (a b : Spelled rules box) → LeastFault fault a.tables a.plant
       → LeastFault fault b.tables b.plant
-  least_in fault a b h = subst (λ (x : PlantTree). LeastFault fault b.tables x) (laws.plant box a.plant b.plant a.read b.read)
-      (subst (λ (x : List TableTree). LeastFault fault x a.plant) (same_tables a b) h)
+  least_in fault a b h = rw (← same_tables a b, ← laws.plant box a.plant b.plant a.read b.read) h
 
   -- texts that are accepted have no fault
   unaccepted : (fault : RunFault) → IsOfTexts fault → Accepted rules box → JudgeRefuses rules box fault → ⊥

@@ -1,12 +1,12 @@
 -- The records of a capture, one after another.
-use Rattle.engine.proofs.Names.{◌++◌, ◌<◌, All, AllWritten, BeginsWithRecords, Bool, BreaksAtRecord, CaptureFault, CaptureState, Captured, Consumes, Devices}
-use Rattle.engine.proofs.Names.{Ending, Ends, Entry, Err, FailsBetween, Format, HEADER_BYTES, IfSome, IsAtEnd, IsHistoryOf, IsOfRecords, IsPartialRecord}
-use Rattle.engine.proofs.Names.{IsRecord, LeavesOf, List, Malformed, Next, NextAnswers, None, Ok, Option, Over, PrefixWritten, READ_AHEAD, ReadsRecord}
-use Rattle.engine.proofs.Names.{Recorded, RecordsTaken, Refused, Replay, ReplayInput, ReplayRepresents, Replayed, Some, TakesRecord, Torn, Whole, [], ahead}
-use Rattle.engine.proofs.Names.{ap, append-nil, append_assoc, arith, decoded_records, drop, ending_at, ending_of, failed_read, failed_write, false}
+use Rattle.engine.proofs.Names.{All, AllWritten, BeginsWithRecords, Bool, BreaksAtRecord, CaptureFault, CaptureState, Captured, Consumes, Devices, Ending}
+use Rattle.engine.proofs.Names.{Ends, Entry, Err, FailsBetween, Format, HEADER_BYTES, IfSome, IsAtEnd, IsHistoryOf, IsOfRecords, IsPartialRecord, IsRecord}
+use Rattle.engine.proofs.Names.{LeavesOf, List, Malformed, Next, NextAnswers, None, Ok, Option, Over, PrefixWritten, READ_AHEAD, ReadsRecord, Recorded}
+use Rattle.engine.proofs.Names.{RecordsTaken, Refused, Replay, ReplayInput, ReplayRepresents, Replayed, Some, TakesRecord, Torn, Whole, [], ahead, ap}
+use Rattle.engine.proofs.Names.{append-nil, append_assoc, arith, decoded_records, drop, ending_at, ending_of, failed_read, failed_write, false}
 use Rattle.engine.proofs.Names.{flat_map-append, frame, inl, inr, length, length-append, max, one_more, own_moment, refl, rules, start_of, stream_of, subst}
-use Rattle.engine.proofs.Names.{suc, sym, torn_at, true, unread_input, zero, ℕ, ◌∙◌, ◌∷◌, ◌≡◌, ◌≤◌}
-use Rattle.engine.proofs.Histories.{is_history_more, latest_after, latest_more, decoded_more}
+use Rattle.engine.proofs.Names.{suc, sym, torn_at, true, unread_input, zero, ℕ, ◌++◌, ◌<◌, ◌∙◌, ◌∷◌, ◌≡◌, ◌≤◌}
+use Rattle.engine.proofs.Histories.{decoded_more, is_history_more, latest_after, latest_more}
 use Rattle.std.proofs.lemmas.List.Elements.{All-push}
 use Rattle.std.specs.Prelude.{cond}
 use Rattle.std.proofs.lemmas.Option.{same_Some}

@@ -1,11 +1,10 @@
 -- The two texts of a capture whose header is accepted, by how its records stop.
-use Rattle.engine.proofs.Names.{arith}
-use Rattle.engine.proofs.Names.{◌++◌, AppendsPrefix, Bool, Capture, CaptureFault, CaptureState, CountsFault, CountsWriteFault, Device, Devices, Ending, Ends}
-use Rattle.engine.proofs.Names.{Err, FinishFails, HEADER_BYTES, IfErr, IfErr-at_err, IsBegun, IsStop, IsWithin, Keeps, Keeps-refl, LeavesOf, LeavesPrefix}
-use Rattle.engine.proofs.Names.{List, Meaning, None, NoneFailed, Ok, Option, READ_AHEAD, Replay, ReplayInput, ReplayRepresents, Replayed, RunFault, Setup}
-use Rattle.engine.proofs.Names.{Some, Writers, [], ap, append-nil, capture_text, drop, ending_at, ending_of, failed_report, failed_write, false, fault_at}
-use Rattle.engine.proofs.Names.{inl, inr, input_at, length, one_more, part_none, part_same, refl, report_text, sll2_header, start_of, subst, sym, torn_at}
-use Rattle.engine.proofs.Names.{true, ℕ, ◌∙◌, ◌≡◌, ◌≤◌, ◌⊎◌}
+use Rattle.engine.proofs.Names.{AppendsPrefix, Bool, Capture, CaptureFault, CaptureState, CountsFault, CountsWriteFault, Device, Devices, Ending, Ends, Err}
+use Rattle.engine.proofs.Names.{FinishFails, HEADER_BYTES, IfErr, IfErr-at_err, IsBegun, IsStop, IsWithin, Keeps, Keeps-refl, LeavesOf, LeavesPrefix, List}
+use Rattle.engine.proofs.Names.{Meaning, None, NoneFailed, Ok, Option, READ_AHEAD, Replay, ReplayInput, ReplayRepresents, Replayed, RunFault, Setup, Some}
+use Rattle.engine.proofs.Names.{Writers, [], ap, append-nil, arith, capture_text, drop, ending_at, ending_of, failed_report, failed_write, false, fault_at}
+use Rattle.engine.proofs.Names.{inl, input_at, inr, length, one_more, part_none, part_same, refl, report_text, sll2_header, start_of, subst, sym, torn_at}
+use Rattle.engine.proofs.Names.{true, ℕ, ◌++◌, ◌∙◌, ◌≡◌, ◌≤◌, ◌⊎◌}
 use Rattle.engine.proofs.Histories.{history_length}
 use Rattle.engine.proofs.Replays.{none_yet, so_far}
 use Rattle.std.specs.Io.KnownBytes.{prepend_known}

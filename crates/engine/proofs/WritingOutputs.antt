@@ -1,10 +1,9 @@
 -- The written and the pending output of a history.
-use Rattle.engine.proofs.Names.{report_text}
-use Rattle.engine.proofs.Names.{◌++◌, AllWritten, Appends, Appends-kept, Appends-trans, AppendsPrefix, Bool, BreaksAtRecord, EngineState, Entry, IfSome}
-use Rattle.engine.proofs.Names.{IsEntry, IsNewest, Keeps, List, Next, None, Option, OutputsFinished, PrefixWritten, Recorded, Replay, ReplayRepresents}
-use Rattle.engine.proofs.Names.{ReplayStart, ReportUnfinished, Represents, Sent, Setup, Some, TableTree, TakesRecord, [], ap, append-nil, capture_text}
-use Rattle.engine.proofs.Names.{closing_lines, entry_lines, flat_map, gets_more, gets_part, length, lines_of, live_in, part_after, part_first, part_same}
-use Rattle.engine.proofs.Names.{part_whole, sends, sends_of, sll2_record, subst, sym, ℕ, ◌∙◌, ◌∷◌, ◌≡◌}
+use Rattle.engine.proofs.Names.{AllWritten, Appends, Appends-kept, Appends-trans, AppendsPrefix, Bool, BreaksAtRecord, EngineState, Entry, IfSome, IsEntry}
+use Rattle.engine.proofs.Names.{IsNewest, Keeps, List, Next, None, Option, OutputsFinished, PrefixWritten, Recorded, Replay, ReplayRepresents, ReplayStart}
+use Rattle.engine.proofs.Names.{ReportUnfinished, Represents, Sent, Setup, Some, TableTree, TakesRecord, [], ap, append-nil, capture_text, closing_lines}
+use Rattle.engine.proofs.Names.{entry_lines, flat_map, gets_more, gets_part, length, lines_of, live_in, part_after, part_first, part_same, part_whole}
+use Rattle.engine.proofs.Names.{report_text, sends, sends_of, sll2_record, subst, sym, ℕ, ◌++◌, ◌∙◌, ◌∷◌, ◌≡◌}
 use Rattle.engine.proofs.Histories.{captured_more}
 use Rattle.pcap_io.specs.Buffering.{AppendsBuffered, SinkState}
 use Rattle.report.specs.Representing.{AppendsRest, AppendsRestPrefix, IsReportOf, ReportState, note_line}

@@ -1,12 +1,9 @@
 use Rattle.compiler.proofs.Names.{◌+◌, All, All-filter, All-permutation, HasCost, Hook, [], ap, arith, base, base_chains_of, chain_cost_by, filter, get_or}
 use Rattle.compiler.proofs.Names.{is_on_hook, map, ruleset_sum, runs_before, runs_on_hook, slice_index, starts_of, subst, sym, ties, total_cost, weight_by, ◌∙◌}
 use Rattle.compiler.proofs.Names.{◌≡◌, ◌≤◌}
-use Rattle.compiler.proofs.AgreementLaws.{start-of, costs-shown}
-use Rattle.compiler.proofs.StartLaws.{IsCosted}
+use Rattle.compiler.proofs.StartLaws.{IsCosted, costs-shown, ruleset_is, start-of, starts_total}
+use Rattle.compiler.proofs.OrderLaws.{filter_shown, sorted_shown, stays}
 use Rattle.compiler.proofs.BaseLaws.{agrees}
-use Rattle.compiler.proofs.OrderLaws.{sorted_shown, filter_shown, stays}
-use Rattle.compiler.proofs.TotalLaws.{starts_total}
-use Rattle.compiler.proofs.FewLaws.{ruleset_is}
 use Rattle.compiler.proofs.compiling.compile.Goals as goal
 
 pub returns : goal.returns

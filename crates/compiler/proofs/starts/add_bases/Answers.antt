@@ -2,8 +2,7 @@ use Rattle.compiler.proofs.Names.{◌++◌, AddsBases, Bor, Chain, Some, ap, app
 use Rattle.compiler.proofs.Names.{chain_tree, chains_of, drop, drop_all, item_out_of_range, length, length-map, map, slice_get, slice_index, subst, sum_by, sym}
 use Rattle.compiler.proofs.Names.{zip, ◌∙◌, ◌≡◌, ◌≤◌}
 use Rattle.compiler.proofs.TableLaws.{chain_at, chain_free}
-use Rattle.compiler.proofs.StartLaws.{Costs, bases_more}
-use Rattle.compiler.proofs.FewLaws.{part}
+use Rattle.compiler.proofs.StartLaws.{Costs, bases_more, part}
 use Rattle.compiler.proofs.starts.add_bases.Goals as goal
 use Rattle.compiler.proofs.starts.add_bases.Goals.{In_ok-to_u32}
 

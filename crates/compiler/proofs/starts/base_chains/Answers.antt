@@ -1,7 +1,6 @@
 use Rattle.compiler.proofs.Names.{◌++◌, All-nil, Some, ap, append-nil, arith, base, base_chains_of_tables, costs-long, drop, drop_all, length, map, refl}
 use Rattle.compiler.proofs.Names.{slice_get, slice_get_read, subst, sum_by, sym, zip, ◌∙◌, ◌≡◌, ◌≤◌}
-use Rattle.compiler.proofs.StartLaws.{IsCosted, TableBasesSoFar, table_bases_more}
-use Rattle.compiler.proofs.FewLaws.{table_part}
+use Rattle.compiler.proofs.StartLaws.{IsCosted, TableBasesSoFar, table_bases_more, table_part}
 use Rattle.compiler.proofs.starts.base_chains.Goals as goal
 use Rattle.compiler.proofs.starts.base_chains.Goals.{In_ok-to_u32}
 

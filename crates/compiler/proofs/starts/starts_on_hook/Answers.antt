@@ -1,6 +1,7 @@
 use Rattle.compiler.proofs.Names.{◌+◌, CompiledChain, IsPermutation, List, ap, base, base_chain_head, filter, filter_agree, get_or, map, rules, runs_on_hook}
 use Rattle.compiler.proofs.Names.{subst, sym, ties, ◌∙◌, ◌≡◌}
-use Rattle.compiler.proofs.StartLaws.{by_key, by_priority, cost_of, key, keys_always, lt_is, ties_alike}
+use Rattle.compiler.proofs.StartLaws.{cost_of}
+use Rattle.compiler.proofs.OrderLaws.{by_key, by_priority, key, keys_always, lt_is, ties_alike}
 use Rattle.compiler.proofs.starts.starts_on_hook.Goals as goal
 
 pub returns : goal.returns

@@ -1,4 +1,4 @@
-use Rattle.engine.proofs.Names.{◌-◌, ◌^◌, ap, arith, chain_count, length, min, rule_count, sym, table_tree, ◌∙◌, ◌≡◌}
+use Rattle.engine.proofs.Names.{ap, arith, chain_count, length, min, rule_count, sym, table_tree, ◌-◌, ◌^◌, ◌∙◌, ◌≡◌}
 use Rattle.std.proofs.lemmas.List.{length-map}
 use Rattle.engine.proofs.judging.judge.Goals as goal
 

@@ -1,5 +1,5 @@
-use Rattle.engine.proofs.Names.{CaptureState, Err, Keeps-refl, LeavesPrefix, Memory, WritesOutputs, ap, devices, err_from_is_err_and, inl, inr, input_at}
-use Rattle.engine.proofs.Names.{refl, subst, sym, ◌∙◌, ◌≡◌}
+use Rattle.engine.proofs.Names.{CaptureState, Err, Keeps-refl, LeavesPrefix, Memory, WritesOutputs, ap, devices, err_from_is_err_and, inl, input_at, inr, refl}
+use Rattle.engine.proofs.Names.{subst, sym, ◌∙◌, ◌≡◌}
 use Rattle.engine.proofs.Texts.{all_written, begins, counts_ending, fault_leaves_begun, fault_leaves_ended, within_end}
 use Rattle.engine.proofs.replay.replay_capture.Goals as goal
 

@@ -1,7 +1,7 @@
 use Rattle.engine.proofs.Names.{Consumes-nil, Err, Keeps-refl, [], ap, arith, devices, err_from_is_err_and, inl, refl}
 use Rattle.list_laws.specs.Options.{IfSome_weaker}
 use Rattle.engine.proofs.Refusing.{misjudged}
-use Rattle.engine.proofs.Meanings.{accepted_of, if_ok_then, if_err_both, left_all, left_of_texts, left_unopened, left_unread, nothing_taken, opened}
+use Rattle.engine.proofs.Meanings.{accepted_of, if_err_both, if_ok_then, left_all, left_of_texts, left_unopened, left_unread, nothing_taken, opened}
 use Rattle.engine.proofs.Meanings.{refuses_capture, refuses_within, wrote}
 use Rattle.engine.proofs.runs.run.Goals as goal
 

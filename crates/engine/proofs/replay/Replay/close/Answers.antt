@@ -1,5 +1,5 @@
 use Rattle.engine.proofs.Names.{Keeps-refl, err_from_is_err_and}
-use Rattle.engine.proofs.WritingOutputs.{all_drained, prefix_written, part_undrained, part_unsent, still_written}
+use Rattle.engine.proofs.WritingOutputs.{all_drained, part_undrained, part_unsent, prefix_written, still_written}
 use Rattle.engine.proofs.replay.Replay.close.Goals as goal
 
 pub returns-in_err-finish-clause-written : goal.returns-in_err-finish-clause-written

@@ -1,6 +1,6 @@
 -- the records so far are processed, their output is written or pending, and no call failed
-use Rattle.engine.proofs.Names.{◌-◌, HEADER_BYTES, IsAtEnd, None, READ_AHEAD, ReplayInput, ReplayRepresents, RepresentsSome, Some, [], drop, length, start_of}
-use Rattle.engine.proofs.Names.{true, unread_input, ◌≡◌, ◌≤◌}
+use Rattle.engine.proofs.Names.{HEADER_BYTES, IsAtEnd, None, READ_AHEAD, ReplayInput, ReplayRepresents, RepresentsSome, Some, [], drop, length, start_of, true}
+use Rattle.engine.proofs.Names.{unread_input, ◌-◌, ◌≡◌, ◌≤◌}
 use Rattle.engine.proofs.Replays.{Carried}
 use Rattle.engine.proofs.replay.Replay.replay_records.Given as goal
 
