@@ -10,9 +10,7 @@ regroup a b c d = grind (arith, nat_tests)
 
 pub same_by : (m : Mapping) (key : SourceKey) (h : MappedPort)
     → same_mapping m (from_internal key h.port) ≡ (same_source (source_key_of m) key && m.external.port == h.port)
-same_by m key h = regroup (same_kind m.kind key.kind) (same_endpoint m.internal key.internal)
-    (m.external.address == key.address) (m.external.port == h.port)
-    ∙ ap (λ b. b && m.external.port == h.port) (sym (source_parts (source_key_of m) key))
+same_by m key h = grind arith
 
 times : (b : Bool) (n : ℕ) → n * cond b 1 0 ≡ cond b n 0
 times b n = grind (arith, nat_tests)

@@ -58,8 +58,7 @@ module _ (sources : Sources) (table : IsTable sources) where
 
 pub held_same : (one other : Sources) → IsTable one → IsTable other
     → ((q : SourceKey) → get same_source other q ≡ get same_source one q) → HoldsSame (held_by one.entries) (held_by other.entries)
-held_same one other here there same m =
-    counts_of one here.unique m ∙ ap (λ o. holders_at o m.external.port) (sym (same (source_key_of m))) ∙ sym (counts_of other there.unique m)
+held_same one other here there same m = grind (arith, counts_of, here.unique, m.external.port, there.unique)
 
 -- ---- one holder more
 
@@ -129,8 +128,7 @@ InboundSet old new key w = (q : InboundKey) → get same_inbound new q ≡ cond 
 ports_set : (inbounds inbounds' : Inbounds) (pools pools' : Pools) (key : PoolKey) (port : ℕ) (w : Option Endpoint)
     → ArePorts (get same_inbound inbounds) (taken_in pools) → InboundSet inbounds inbounds' (inbound_at key port) w
     → PortSet pools pools' key port (is_some w) → ArePorts (get same_inbound inbounds') (taken_in pools')
-ports_set inbounds inbounds' pools pools' key port w ports set set_port q p some =
-    grind (arith, set_port q p some, ports q p some, set (inbound_at q p))
+ports_set inbounds inbounds' pools pools' key port w ports set set_port q p some = grind arith
 
 -- the port by the tables: the one found, else the first free candidate
 abbrev pub source_by : Inbounds → Kind → Endpoint → ℕ → Option CandidateRange → Option MappedPort → Option ℕ

@@ -1,3 +1,4 @@
+use Rattle.std.proofs.Common.{arith}
 use Rattle.nat_mapping.proofs.Names.{HoldsSame, IfSome, IsOneToOne, IsTable, MappedPort, PoolKey, Some, SourceKey, ap, get, has_pool, held_by, one_more}
 use Rattle.nat_mapping.proofs.Names.{option_map, refl, same_source, source_key_of, subst, sym, taken_in, ◌<◌, ◌∙◌, ◌∷◌, ◌≡◌}
 use Rattle.nat_mapping.proofs.Equal.{source_test}
@@ -57,8 +58,4 @@ pub returns-in-None-clause-held : goal.returns-in-None-clause-held
 returns-in-None-clause-held c = rw (← c.self.view_is) (held (goal.at.returns-in-None-clause-held c).After-add_holder)
 
 pub take-requires-clause-free : goal.take-requires-clause-free
-take-requires-clause-free c bitmap =
-    let p = (goal.at.take-requires-clause-free c).After-add_holder in
-    ap (λ k. taken_in c.self.inside.pools k c.args.m.external.port) c.pool_key.ensures
-    ∙ port_free _ _ _ c.self.invariant c.args.m (stays p) (before p ∙ c.in-None.is)
-    (ap (λ (k : PoolKey). has_pool k.kind) (sym c.pool_key.ensures) ∙ bitmap)
+take-requires-clause-free c bitmap = grind (arith, c.pool_key.ensures, port_free, c.self.invariant, c.in-None.is)

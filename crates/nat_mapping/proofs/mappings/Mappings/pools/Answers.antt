@@ -6,13 +6,10 @@ use Rattle.nat_mapping.proofs.mappings.Mappings.pools.Goals as goal
 
 counted : (c : After-count) (held : List Mapping) → HoldsSame held c.args.self.now.held
     → hash_map_len c.self.inside.pools.pools ≡ pool_count_of held
-counted c held same =
-    pools_counted _ _ _ c.self.invariant held (members_alike held _ (rw (← c.self.view_is) at same))
+counted c held same = grind (arith, pools_counted, c.self.invariant, members_alike, c.self.view_is)
 
 pub returns-clause-needed : goal.returns-clause-needed
-returns-clause-needed c held same =
-    omega (arith, counted (goal.at.returns-clause-needed c).After-count held same, c.count.ensures)
+returns-clause-needed c held same = grind (arith, counted, c.count.ensures)
 
 pub returns-clause-spare : goal.returns-clause-spare
-returns-clause-spare c held same =
-    omega (arith, counted (goal.at.returns-clause-spare c).After-count held same, c.count.ensures, c.self.invariant.pooled.few)
+returns-clause-spare c held same = grind (arith, counted, c.count.ensures, c.self.invariant.pooled.few)

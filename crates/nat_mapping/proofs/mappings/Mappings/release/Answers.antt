@@ -70,7 +70,4 @@ pub returns-clause-held : goal.returns-clause-held
 returns-clause-held c = rw (← c.self.view_is) (held (goal.at.returns-clause-held c).After-remove_holder-before)
 
 pub give-requires-clause-taken : goal.give-requires-clause-taken
-give-requires-clause-taken c bitmap =
-    ap (λ k. taken_in c.self.inside.pools k c.args.m.external.port) c.pool_key.ensures
-    ∙ port_taken _ _ _ c.self.invariant c.args.m (rw (← c.self.view_is) at c.requires)
-    (ap (λ (k : PoolKey). has_pool k.kind) (sym c.pool_key.ensures) ∙ bitmap)
+give-requires-clause-taken c bitmap = grind (arith, c.pool_key.ensures, port_taken, c.self.invariant, c.self.view_is, c.requires)
