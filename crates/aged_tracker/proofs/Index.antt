@@ -2,7 +2,7 @@
 use Rattle.aged_tracker.proofs.Names.{AgedSlots, Belonging, Bool, ConnId, ConntrackEntry, Direction, Flags, Found, IsAllLive, IsIndexed, IsTable, Limits, List}
 use Rattle.aged_tracker.proofs.Names.{None, NotFound, Option, Reply, Some, Tuple, [], and_parts, ap, apart-filter, apart-push, apart-touched_at, arith}
 use Rattle.aged_tracker.proofs.Names.{belonging_by, belonging_of, belongs_in, cases_Bool, common_steps, cond, connection_ref, cons_held, distinct-filter}
-use Rattle.aged_tracker.proofs.Names.{distinct-push, distinct-touched_at, entry_at, eq-eqb, eqb-true, false, false_from_ne_true, filter, find, find-filter}
+use Rattle.aged_tracker.proofs.Names.{distinct-push, distinct-touched_at, entry_at, eq-eqb, eqb-true, false, filter, find, find-filter}
 use Rattle.aged_tracker.proofs.Names.{found_by_id, has_distinct_ids, has_id, have_disjoint_tuples, held_by, if◌then◌else◌, inl, inr, is_incoming, is_live}
 use Rattle.aged_tracker.proofs.Names.{is_some, is_taken, key_in, length, length-append, length-map, list_any, live_at, map, nat_tests, not, not-true}
 use Rattle.aged_tracker.proofs.Names.{option_cases, option_map, or_cases, or_parts, refl, rules, same_id, same_tuple, same_tuple-true, serial_at, slots_of}
@@ -84,9 +84,7 @@ touched_alike direction flags mark now tuple false x = (refl, refl)
 
 -- a tuple of one entry is not one of another
 unlike : (taken tuple : Tuple) (x : ConntrackEntry) → is_incoming taken x ≡ false → is_incoming tuple x ≡ true → same_tuple taken tuple ≡ false
-unlike taken tuple x free its =
-    false_from_ne_true (same_tuple taken tuple)
-    (λ e. not_both (is_incoming taken x) (ap (λ q. is_incoming q x) (same_tuple-true taken tuple e) ∙ its) free)
+unlike taken tuple x free its = grind (arith, nat_tests)
 
 pushed_key : (o r : Bool) (h : ConntrackEntry) → cond r (Some h.id.0) (cond o (Some h.id.0) None)
     ≡ option_map (λ (x : ConntrackEntry). x.id.0) (cond (o || r) (Some h) None)

@@ -1,8 +1,8 @@
 -- Circular lists of slots: their keys, links, changes and fronts.
 use Rattle.aged_tracker.proofs.Names.{AreOldest, AreOldestBut, ConntrackEntry, HasRings, IfNone, IfSome, Inserts, IsApart, IsIn, IsNode, IsOn, IsRing}
 use Rattle.aged_tracker.proofs.Names.{IsRing-kept, IsRing-push, IsRing-skip, IsRings, IsRising, IsSome, Joins, Link, List, Lists, Next, None, Option, Previous}
-use Rattle.aged_tracker.proofs.Names.{Relinks, Relists, SameBy, Slab, Slot, Some, Updates, [], ap, arith, cases_eq, common_steps, cond-false, cond-true}
-use Rattle.aged_tracker.proofs.Names.{eq-eqb, eqb, eqb-true, except_links, free_not_on, get, get_or, get_or-set_other, get_or-set_same, held_at, held_of, inl}
+use Rattle.aged_tracker.proofs.Names.{Relinks, Relists, SameBy, Slab, Slot, Some, Updates, [], ap, arith, cases_eq, cond-true}
+use Rattle.aged_tracker.proofs.Names.{eq-eqb, eqb, eqb-true, except_links, get, get_or, get_or-set_other, get_or-set_same, held_at, held_of, inl}
 use Rattle.aged_tracker.proofs.Names.{inr, is_first, is_some, length, link_at, link_by, nat_tests, ne_eqb, neighbour, next_of, next_on, none-some}
 use Rattle.aged_tracker.proofs.Names.{not_from_false, off, option_map, owner_by, owner_of, prev_end_on, prev_of, prev_on, pushed, refl, rings_apart, same_Some}
 use Rattle.aged_tracker.proofs.Names.{set, slice_get, some_of_map, subst, suc, sym, true, without, without_absent, without_head, zero, ℕ, ◌++◌, ◌+◌, ◌-◌, ◌<◌}
@@ -56,8 +56,7 @@ rising_first f (first ∷ rest) front key rising is found =
 
 -- moments that are the same along the keys
 pub rising_as : (f g : ℕ → ℕ) (keys : List ℕ) → ((k : ℕ) → IsIn k keys → g k ≡ f k) → IsRising f keys → IsRising g keys
-rising_as f g keys same rising i j d le less =
-    omega (arith, rising i j d le less, same _ (IsIn-at keys i d (omega (arith, le, less))), same _ (IsIn-at keys j d less))
+rising_as f g keys same rising i j d le less = grind (arith, IsIn-at)
 
 -- ---- the links after a write to a slot or a head
 
@@ -72,11 +71,7 @@ some_map f (Some x) = refl
 -- a function of slots that reads only what a write keeps
 pub kept_by : {X : Type 0} (f : Option Slot → X) (keep : Slot → Slot) → ((s : Slot) → f (Some s) ≡ f (Some (keep s)))
     → (old new : Option Slot) → option_map keep new ≡ option_map keep old → f new ≡ f old
-kept_by f keep alike old new same = bare new ∙ ap f same ∙ sym (bare old)
-  where
-    bare : (o : Option Slot) → f o ≡ f (option_map keep o)
-    bare None = refl
-    bare (Some s) = alike s
+kept_by f keep alike old new same = grind arith
 
 -- a write of links keeps the entries
 pub held_aside : (old new : Slab Slot) → SameBy except_links old new → (k : ℕ) → held_at new k ≡ held_at old k
@@ -89,8 +84,7 @@ named_at slots key h is = ap (λ (x : ConntrackEntry). x.id.0) (sym (some_of_map
 -- the links after a write to a slot that keeps its own
 links_as : (old new : Slab Slot) (heads : List Link) (key : ℕ) (slot : Option Slot) → Updates old new key slot → (p : ℕ)
     → (p ≡ 5 + key → link_by slot ≡ link_by (get old key)) → link_at new heads p ≡ link_at old heads p
-links_as old new heads key slot updates p kept =
-    grind (arith, common_steps, cases_eq p (5 + key), updates.others (p - 5), updates.changed)
+links_as old new heads key slot updates p kept = grind arith
 
 pub aside_place : (old new : Slab Slot) → SameBy except_links old new → (p : ℕ) → IsNode old p → IsNode new p
 aside_place old new same p is above = kept_by is_some except_links (λ s. refl) (get old (p - 5)) (get new (p - 5)) (same (p - 5)) ∙ is above
@@ -102,24 +96,14 @@ owned_some (Some s) list is = refl
 -- a node of a circular list exists
 pub on_place : (slots : Slab Slot) (heads : List Link) (list : ℕ) (keys : List ℕ) (p : ℕ) → list < 5
     → IsRing slots heads list keys → IsOn 5 list keys p → IsNode slots p
-on_place slots heads list keys p range ring on above =
-    elim on [
-      | inl here ↦ absurd (omega arith)
-      | inr found ↦
-          let at : p - 5 ≡ found.0 = omega (arith, found.2) in
-          subst (λ k. IsSome (get slots k)) (sym at) (owned_some (get slots found.0) list (ring.owned found.0 found.1))
-    ]
+on_place slots heads list keys p range ring on above = grind arith
 
 -- ---- circular lists after a key left one or joined one, or after a write that keeps them
 
 -- the list that a key was pushed to, and the others
 pub pushed_by : (P : List ℕ → Type 0) (key to list : ℕ) (lists : Lists) → (list ≡ to → P (lists list ++ key ∷ []))
     → (list ≢ to → P (lists list)) → P (pushed key to lists list)
-pushed_by P key to list lists here there =
-    elim (cases_eq list to) [
-      | inl e ↦ subst P (sym (cond-true _ _ _ (eq-eqb list to e))) (here e)
-      | inr d ↦ subst P (sym (cond-false _ _ _ (ne_eqb list to d))) (there d)
-    ]
+pushed_by P key to list lists here there = grind arith
 
 -- nodes of two lists differ
 apart : (slots : Slab Slot) (heads : List Link) (lists : Lists) → IsRings slots heads lists → (list other p q : ℕ) → list < 5
@@ -131,9 +115,7 @@ apart slots heads lists rings list other p q range range' differs on on' e =
 -- a list doesn't lead to a slot that is in none
 off_free : (slots : Slab Slot) (heads : List Link) (lists : Lists) → IsRings slots heads lists → (key : ℕ) → owner_of slots key ≡ None
     → (list p : ℕ) → list < 5 → IsOn 5 list (lists list) p → p ≢ 5 + key
-off_free slots heads lists rings key free list p range on e =
-    free_not_on (next_of slots heads) (prev_of slots heads) 5 (owner_of slots) list (lists list) key range (rings list range) free
-    (subst (IsOn 5 list (lists list)) e on)
+off_free slots heads lists rings key free list p range on e = grind arith
 
 module _ (old new : Slab Slot) (heads heads' : List Link) (key : ℕ) where
   -- a list that the key is in neither before nor after stays, if the links along it do
@@ -219,12 +201,7 @@ relists_written old new heads key slot updates owner link =
 -- one change of the lists after another
 pub relists_then : (a b c : Slab Slot) (ha hb hc : List Link) (key : ℕ) (at to : Option ℕ) (f g : Lists → Lists)
     → Relists a b ha hb key at f → Relists b c hb hc key to g → Relists a c ha hc key to (λ lists. g (f lists))
-relists_then a b c ha hb hc key at to f g one two =
-    record {
-      rings = λ lists rings. two.rings (f lists) (one.rings lists rings);
-      here = two.here;
-      others = λ k d. two.others k d ∙ one.others k d;
-    }
+relists_then a b c ha hb hc key at to f g one two = grind arith
 
 -- a write of the links of one node keeps this part of all
 pub unmoved : (part : Link → ℕ) (old new : ℕ → Link) (node : ℕ) (link : Link) → Relinks old new node link
@@ -235,8 +212,7 @@ unmoved part old new node link relinks was p = grind (arith, cases_eq p node, re
 pub joined : (part : Link → ℕ) (old new mid mid' : ℕ → Link) (at : ℕ) (link : Link) → Relinks mid mid' at link
     → ((p : ℕ) → part (mid p) ≡ part (old p)) → ((p : ℕ) → part (new p) ≡ part (mid' p))
     → Joins (λ p. part (old p)) (λ p. part (new p)) at (part link)
-joined part old new mid mid' at link set before after =
-    record { here = after at ∙ ap part set.here; others = λ p d. after p ∙ ap part (set.others p d) ∙ before p }
+joined part old new mid mid' at link set before after = grind arith
 
 -- ---- the first and the last key of a list, and the moments of the fronts of queues
 
@@ -317,12 +293,4 @@ pub oldest_left : (slots : Slab Slot) (heads : List Link) (key list moment : ℕ
     → ((front : ℕ) → slice_get (off key lists list) 0 ≡ Some front → moment ≡ last front)
     → AreOldestBut key last lists moments → AreOldest last (off key lists) (set moments list moment)
 oldest_left slots heads key list moment last lists moments rings owned within noted oldest q range front is =
-    elim (cases_eq q list) [
-      | inl e ↦ ap (λ j. get_or (set moments list moment) j 0) e ∙ get_or-set_same moments list moment 0 within
-          ∙ noted front (ap (λ l. slice_get (off key lists l) 0) (sym e) ∙ is)
-      | inr n ↦
-          let absent : ¬ IsIn key (lists q) = λ found. n (same_Some q list (sym ((rings q range).owned key found) ∙ owned)) in
-          let was = subst (λ keys. slice_get keys 0 ≡ Some front) (without_absent key (lists q) absent) is in
-          get_or-set_other moments list q moment 0 n
-          ∙ oldest q range front was (λ e. absent (subst (λ k. IsIn k (lists q)) e (IsIn-first (lists q) front was)))
-    ]
+    grind (arith, cases_eq, get_or, get_or-set_same, same_Some, without_absent, get_or-set_other, IsIn-first)

@@ -165,11 +165,7 @@ pub record Writes (old new : Slab Slot) (key : ℕ) (slot : Option Slot) : Type 
 
 pub writes_between : (old mid mid' new : Slab Slot) (key : ℕ) (slot : Option Slot) → SameBy except_links old mid → Updates mid mid' key slot
     → SameBy except_links mid' new → Writes old new key slot
-writes_between old mid mid' new key slot before updates after =
-    record {
-      here = after key ∙ ap (option_map except_links) updates.changed;
-      others = λ k d. after k ∙ ap (option_map except_links) (updates.others k d) ∙ before k;
-    }
+writes_between old mid mid' new key slot before updates after = grind arith
 
 module _ (t : AgedSlots) (table : IsTable t) (new : Slab Slot) (key : ℕ) (slot : Option Slot) (writes : Writes t.slots new key slot) where
   pub sets : Sets (slots_of t) (held_at new) key (option_map (held_of key) slot)

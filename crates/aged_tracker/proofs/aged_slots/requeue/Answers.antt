@@ -1,4 +1,5 @@
-use Rattle.aged_tracker.proofs.Names.{Some, off, pushed, slice_get, subst, sym, ◌∙◌, ◌≡◌}
+use Rattle.std.proofs.Common.{arith}
+use Rattle.aged_tracker.proofs.Names.{off, pushed}
 use Rattle.aged_tracker.proofs.Lists.{last_stays, oldest_pushed, relists_last, relists_then}
 use Rattle.std.proofs.Common.{eqb-true}
 use Rattle.aged_tracker.proofs.aged_slots.requeue.Goals as goal
@@ -7,14 +8,11 @@ pub push_back-requires-clause-rings : goal.push_back-requires-clause-rings
 push_back-requires-clause-rings c = (off c.args.key c.requires.rings.0, c.take_out.ensures.relists.rings c.requires.rings.0 c.requires.rings.1)
 
 pub returns-then-is_last-clause-relists : goal.returns-then-is_last-clause-relists
-returns-then-is_last-clause-relists c =
-    relists_last c.args.slots.now c.args.queues.now c.args.key c.args.queue c.requires.range
-    (eqb-true _ _ (sym (c.is_last.ensures c.args.slots.now) ∙ c.if-is_last.true)) c.requires.rings
+returns-then-is_last-clause-relists c = grind (arith, relists_last, c.requires.range, eqb-true, c.is_last.ensures, c.if-is_last.true, c.requires.rings)
 
 pub returns-then-is_last-clause-oldest : goal.returns-then-is_last-clause-oldest
 returns-then-is_last-clause-oldest c lists rings oldest q range front is =
-    oldest q range front (subst (λ keys. slice_get keys 0 ≡ Some front) (last_stays c.args.slots.now c.args.queues.now c.args.key c.args.queue
-    c.requires.range (eqb-true _ _ (sym (c.is_last.ensures c.args.slots.now) ∙ c.if-is_last.true)) lists rings q range) is)
+    grind (arith, last_stays, c.requires.range, eqb-true, c.is_last.ensures, c.if-is_last.true)
 
 pub returns-clause-relists : goal.returns-clause-relists
 returns-clause-relists c =

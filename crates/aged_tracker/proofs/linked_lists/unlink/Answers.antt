@@ -1,16 +1,13 @@
-use Rattle.aged_tracker.proofs.Names.{IsNode, IsOn, Link, Next, Previous, Some, ap, arith, link_at, neighbour, next_on, owner_of, prev_on, refl, same_Some}
+use Rattle.aged_tracker.proofs.Names.{IsNode, IsOn, Link, Next, Previous, Some, ap, arith, link_at, neighbour, next_on, owner_of, prev_on, refl}
 use Rattle.aged_tracker.proofs.Names.{sym, ℕ, ◌+◌, ◌∙◌, ◌≡◌}
-use Rattle.aged_tracker.proofs.Lists.{Skipped, aside_place, joined, on_place, relists_left, unmoved}
+use Rattle.aged_tracker.proofs.Lists.{Skipped, aside_place, joined, relists_left, unmoved}
 use Rattle.aged_tracker.proofs.linked_lists.unlink.Goals.{After-set_neighbour-2, After-take_links-links}
 use Rattle.aged_tracker.proofs.linked_lists.unlink.Goals as goal
 
 -- a neighbour exists
 place : (c : After-take_links-links) (p : ℕ) → IsOn 5 c.requires.owned.0 (c.requires.rings.0 c.requires.owned.0) p
     → IsNode c.take_links-links.new.self p
-place c p on =
-    aside_place c.args.slots.now c.take_links-links.new.self c.take_links-links.ensures.placed.same p
-    (on_place c.args.slots.now c.args.heads.now c.requires.owned.0 (c.requires.rings.0 c.requires.owned.0) p c.requires.owned.1.0
-    (c.requires.rings.1 c.requires.owned.0 c.requires.owned.1.0) on)
+place c p on = grind arith
 
 pub set_neighbour-requires : goal.set_neighbour-requires
 set_neighbour-requires c =
@@ -56,9 +53,7 @@ pub returns-clause-owner : goal.returns-clause-owner
 returns-clause-owner c = sym c.take_links-links.ensures.list ∙ c.in-Some.is ∙ ap Some (sym c.from.ensures)
 
 pub returns-clause-range : goal.returns-clause-range
-returns-clause-range c =
-    let same = same_Some c.from.result c.requires.owned.0 (sym (returns-clause-owner c) ∙ c.requires.owned.1.1) in
-    omega (arith, same, c.requires.owned.1.0)
+returns-clause-range c = grind arith
 
 pub returns-clause-relists : goal.returns-clause-relists
 returns-clause-relists c =

@@ -1,5 +1,5 @@
-use Rattle.aged_tracker.proofs.Names.{ConntrackEntry, IsNumbered, Relists, Sets, Some, add-one, ap, arith, begun_with, entry_at, held_at, held_from}
-use Rattle.aged_tracker.proofs.Names.{held_of, inl, last_at, last_by, option_map, owner_by, owner_of, pushed, queue_by, queue_of, refl, slots_of, sym, ◌+◌}
+use Rattle.aged_tracker.proofs.Names.{ConntrackEntry, IsNumbered, Relists, Sets, Some, add-one, ap, arith, begun_with, held_at}
+use Rattle.aged_tracker.proofs.Names.{held_of, inl, last_at, last_by, owner_by, owner_of, pushed, queue_by, queue_of, refl, slots_of, sym, ◌+◌}
 use Rattle.aged_tracker.proofs.Names.{◌∙◌, ◌≡◌}
 use Rattle.aged_tracker.proofs.Lists.{oldest_as, oldest_pushed, relists_then, relists_written}
 use Rattle.aged_tracker.proofs.Order.{Writes, held_begun, least, numbered_after, rising_free, rising_pushed, sets, table_after, writes_between}
@@ -59,9 +59,4 @@ returns-clause-table c =
     (numbered at) c.push_back.ensures.few
 
 pub returns-clause-held : goal.returns-clause-held
-returns-clause-held c =
-    let at = (goal.at.returns-clause-held c).After-push_back in
-    let t = c.args.self.now in
-    ap (held_from (entry_at c.push_back.new.slots) 0) (add-one t.next_serial)
-    ∙ held_begun t c.requires.table _ c.fill-key.result _ (writes at) (numbered at) (ap (option_map (held_of c.fill-key.result)) c.fill-key.ensures.free)
-    c.new.ensures.serial _ (ap Some (made at))
+returns-clause-held c = grind (arith, add-one, held_begun, c.requires.table, writes, numbered, c.fill-key.ensures.free, made)

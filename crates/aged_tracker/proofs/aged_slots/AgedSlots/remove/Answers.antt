@@ -1,21 +1,17 @@
 use Rattle.aged_tracker.proofs.Names.{IsIn-without, IsNumbered, IsSome, None, Relists, Some, ap, arith, eq-eqb, held_at, held_of, inl, last_by, ne_eqb, not}
-use Rattle.aged_tracker.proofs.Names.{off, option_map, owner_of, queue_of, refl, same_id, slots_of, sym, ◌∙◌, ◌≡◌}
+use Rattle.aged_tracker.proofs.Names.{off, option_map, owner_of, refl, same_id, slots_of, sym, ◌∙◌, ◌≡◌}
 use Rattle.aged_tracker.proofs.Index.{kept_if, kept_step}
-use Rattle.aged_tracker.proofs.Lists.{IsIn-first, held_aside, relists_then, relists_written, some_of}
-use Rattle.aged_tracker.proofs.Order.{Writes, held_changed, not_none, numbered_after, queue_of-range, rising_left, sets, table_after, writes_between}
+use Rattle.aged_tracker.proofs.Lists.{IsIn-first, relists_then, relists_written}
+use Rattle.aged_tracker.proofs.Order.{Writes, held_changed, not_none, numbered_after, rising_left, sets, table_after, writes_between}
 use Rattle.conntrack.specs.ConntrackEntry.{without}
 use Rattle.aged_tracker.proofs.aged_slots.AgedSlots.remove.Goals.{After-remove}
 use Rattle.aged_tracker.proofs.aged_slots.AgedSlots.remove.Goals as goal
 
 pub take_out-requires-clause-owned : goal.take_out-requires-clause-owned
-take_out-requires-clause-owned c =
-    let h = some_of (slots_of c.args.self.now c.args.id.0) c.requires.is_held in
-    (queue_of h.0, (queue_of-range h.0, c.requires.table.owners c.args.id.0 ∙ ap (λ o. option_map queue_of o) h.1))
+take_out-requires-clause-owned c = grind arith
 
 value : (c : After-remove) → slots_of c.args.self.now c.args.id.0 ≡ Some (held_of c.args.id.0 c.remove.result)
-value c =
-    sym (held_aside c.args.self.now.slots c.take_out.new.slots c.take_out.ensures.except_links c.args.id.0)
-    ∙ ap (option_map (held_of c.args.id.0)) c.remove.ensures.value
+value c = grind arith
 
 writes : (c : After-remove) → Writes c.args.self.now.slots c.remove.new.self c.args.id.0 None
 writes c = writes_between _ _ _ _ c.args.id.0 None c.take_out.ensures.except_links c.remove.ensures.updates (λ k. refl)

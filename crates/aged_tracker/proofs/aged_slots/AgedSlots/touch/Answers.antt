@@ -2,7 +2,7 @@ use Rattle.aged_tracker.proofs.Names.{ConntrackEntry, IsNumbered, Relists, SameB
 use Rattle.aged_tracker.proofs.Names.{held_at, held_of, inl, inr, last_at, last_by, link_by, ne_eqb, off, option_cases, option_map, owner_by, owner_of, pushed}
 use Rattle.aged_tracker.proofs.Names.{queue_of, refl, same_id, serial_by, sym, touched, touched_at, updated, ◌∙◌, ◌≡◌}
 use Rattle.aged_tracker.proofs.Lists.{held_aside, oldest_as, relists_then, relists_written, some_of}
-use Rattle.aged_tracker.proofs.Order.{Writes, held_changed, least, numbered_after, queue_of-range, rising_left, rising_pushed, sets, slot_by, table_after}
+use Rattle.aged_tracker.proofs.Order.{Writes, held_changed, least, queue_of-range, rising_left, rising_pushed, sets, slot_by, table_after}
 use Rattle.aged_tracker.proofs.Order.{writes_between}
 use Rattle.aged_tracker.proofs.aged_slots.AgedSlots.touch.Goals.{After-touch-queue}
 use Rattle.aged_tracker.proofs.aged_slots.AgedSlots.touch.Goals as goal
@@ -44,11 +44,7 @@ writes : (c : After-touch-queue) (new : Slab Slot) → SameBy except_links c.tou
 writes c new = writes_between c.args.self.now.slots _ c.touch-queue.new.self new c.args.id.0 (Some (after c)) (λ k. refl) (wrote c)
 
 numbered : (c : After-touch-queue) (new : Slab Slot) → SameBy except_links c.touch-queue.new.self new → IsNumbered new c.args.self.now.next_serial
-numbered c new same =
-    let number = ap serial_by (slot c).1 in
-    let below = c.requires.table.numbered.below c.args.id.0 c.requires.is_held in
-    numbered_after c.args.self.now c.requires.table new c.args.id.0 _ (writes c new same) _ (omega arith)
-    (λ is. (omega (arith, below, number), λ k some e. c.requires.table.numbered.apart k c.args.id.0 some c.requires.is_held (e ∙ sym number)))
+numbered c new same = grind arith
 
 pub returns-clause-table : goal.returns-clause-table
 returns-clause-table c =

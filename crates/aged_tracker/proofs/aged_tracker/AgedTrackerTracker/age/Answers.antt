@@ -1,18 +1,15 @@
-use Rattle.aged_tracker.proofs.Names.{Aged, ConnId, Some, aged_of, ap, find, held_by, is_live, length-without, live_at, option_map, refl, removed_entry}
+use Rattle.std.proofs.Common.{arith}
+use Rattle.aged_tracker.proofs.Names.{Aged, ConnId, Some, aged_of, ap, find, held_by, is_live, length-without, live_at, option_map, removed_entry}
 use Rattle.aged_tracker.proofs.Names.{same_Some, same_id, slots_of, sym, ◌∙◌, ◌≡◌}
 use Rattle.aged_tracker.proofs.Index.{filter_without, found_at, has_as, live_all, once_by_id}
 use Rattle.aged_tracker.proofs.Lists.{named_at, some_of}
 use Rattle.aged_tracker.proofs.aged_tracker.AgedTrackerTracker.age.Goals as goal
 
 pub end-requires : goal.end-requires
-end-requires c =
-    rw (← c.self.view_is) (has_as c.self.inside.slots c.self.invariant.table c.in-Some.id ∙ c.in-Some.ensures.some.1)
+end-requires c = grind (arith, c.self.view_is, has_as, c.self.invariant.table, c.in-Some.id, c.in-Some.ensures.some.1)
 
 pub returns-in-None-clause-none : goal.returns-in-None-clause-none
-returns-in-None-clause-none c = (
-  refl,
-  rw (← c.self.view_is) (live_all c.self.inside.slots c.self.invariant.table c.self.inside.limits c.args.now c.in-None.ensures.none),
-)
+returns-in-None-clause-none c = grind (arith, c.self.view_is, live_all, c.self.invariant.table, c.in-None.ensures.none)
 
 pub returns-in-None-clause-distinct : goal.returns-in-None-clause-distinct
 returns-in-None-clause-distinct c = rw (← c.self.view_is) c.self.invariant.indexed.distinct

@@ -1,4 +1,5 @@
-use Rattle.aged_tracker.proofs.Names.{IsTrue, Some, ap, begun_with, cond, false, has_id, held_by, is_some, is_taken, rules, same_tuple, sym, ◌∙◌, ◌≡◌}
+use Rattle.std.proofs.Common.{arith}
+use Rattle.aged_tracker.proofs.Names.{Some, ap, begun_with, cond, false, has_id, held_by, is_some, is_taken, same_tuple, sym, ◌∙◌, ◌≡◌}
 use Rattle.aged_tracker.proofs.Index.{has_as, indexed_begun, not_both, taken_as}
 use Rattle.aged_tracker.proofs.aged_tracker.AgedTrackerTracker.begin.Goals.{After-insert-id, After-is_some}
 use Rattle.aged_tracker.proofs.aged_tracker.AgedTrackerTracker.begin.Goals as goal
@@ -10,10 +11,7 @@ fresh : (c : After-insert-id) → has_id c.insert-id.result (held_by c.self.insi
 fresh c = has_as c.self.inside.slots c.self.invariant.table c.insert-id.result ∙ ap is_some c.insert-id.ensures.free
 
 pub returns-then-is_some-clause-clash : goal.returns-then-is_some-clause-clash
-returns-then-is_some-clause-clash c =
-    let is : IsTrue (is_taken c.args.connection.reply c.args.self.now.held) =
-    rw (← c.self.view_is) (taken (goal.at.returns-then-is_some-clause-clash c).After-is_some ∙ c.if-is_some.true) in
-    search (rules, is)
+returns-then-is_some-clause-clash c = grind (arith, c.self.view_is, taken, c.if-is_some.true)
 
 pub invariant_of-self : goal.invariant_of-self
 invariant_of-self c = record {
@@ -30,7 +28,4 @@ pub returns-clause-fresh : goal.returns-clause-fresh
 returns-clause-fresh c = rw (← c.self.view_is) (fresh (goal.at.returns-clause-fresh c).After-insert-id)
 
 pub returns-clause-clash : goal.returns-clause-clash
-returns-clause-clash c =
-    let free : is_taken c.args.connection.reply c.args.self.now.held ≡ false =
-    rw (← c.self.view_is) (taken (goal.at.returns-clause-clash c).After-is_some ∙ c.if-is_some.false) in
-    (λ e. absurd (cc), λ both. not_both _ both.1 free)
+returns-clause-clash c = grind (arith, c.self.view_is, taken, c.if-is_some.false, not_both)

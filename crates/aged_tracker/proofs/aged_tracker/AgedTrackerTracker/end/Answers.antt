@@ -1,10 +1,10 @@
-use Rattle.aged_tracker.proofs.Names.{None, Some, aged_of, ap, cond, option_map, same_tuple, sym, ◌∙◌}
+use Rattle.std.proofs.Common.{arith}
+use Rattle.aged_tracker.proofs.Names.{None, ap, cond, same_tuple, ◌∙◌}
 use Rattle.aged_tracker.proofs.Index.{found_at, has_as, indexed_ended}
 use Rattle.aged_tracker.proofs.aged_tracker.AgedTrackerTracker.end.Goals as goal
 
 pub remove-held-requires-clause-is_held : goal.remove-held-requires-clause-is_held
-remove-held-requires-clause-is_held c =
-    sym (has_as c.self.inside.slots c.self.invariant.table c.args.id) ∙ rw (← c.self.view_is) at c.requires
+remove-held-requires-clause-is_held c = grind (arith, has_as, c.self.invariant.table, c.self.view_is, c.requires)
 
 pub invariant_of-self : goal.invariant_of-self
 invariant_of-self c = record {
@@ -15,6 +15,4 @@ invariant_of-self c = record {
 }
 
 pub returns-clause-aged : goal.returns-clause-aged
-returns-clause-aged c = rw (← c.self.view_is)
-    (ap (option_map aged_of) (found_at c.self.inside.slots c.self.invariant.table c.args.id ∙ c.remove-held.ensures.value))
-    ∙ ap Some (sym c.aged.ensures)
+returns-clause-aged c = grind (arith, c.self.view_is, found_at, c.self.invariant.table, c.remove-held.ensures.value, c.aged.ensures)

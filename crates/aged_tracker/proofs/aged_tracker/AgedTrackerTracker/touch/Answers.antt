@@ -1,10 +1,9 @@
-use Rattle.aged_tracker.proofs.Names.{sym, ◌∙◌}
+use Rattle.std.proofs.Common.{arith}
 use Rattle.aged_tracker.proofs.Index.{has_as, indexed_touched}
 use Rattle.aged_tracker.proofs.aged_tracker.AgedTrackerTracker.touch.Goals as goal
 
 pub touch-requires-clause-is_held : goal.touch-requires-clause-is_held
-touch-requires-clause-is_held c =
-    sym (has_as c.self.inside.slots c.self.invariant.table c.args.id) ∙ rw (← c.self.view_is) at c.requires.is_held
+touch-requires-clause-is_held c = grind (arith, has_as, c.self.invariant.table, c.self.view_is, c.requires.is_held)
 
 pub invariant_of-self : goal.invariant_of-self
 invariant_of-self c = record {
