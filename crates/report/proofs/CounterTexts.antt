@@ -1,28 +1,19 @@
 -- The end of a report is that of each history that it represents.
-use Rattle.std.proofs.Common.{◌≡◌, ℕ, suc, ◌+◌, Bool, List, [], ◌∷◌, ◌++◌, length, slice_get, Some, None, refl, ap, sym}
-use Rattle.std.proofs.Common.{◌∙◌, add-zero, zero-add, append_assoc, append-nil, arith}
+use Rattle.report.proofs.Imports.{Appends, AppendsPrefix, Bool, ChainTree, CounterStart, Entry, List, None, Note, Option, Some, StatementPosition, TableTree}
+use Rattle.report.proofs.Imports.{Tallies, [], ap, append-nil, append_assoc, arith, chains_of, chains_text, counter_at, counter_in, drops_in, flat_map, length}
+use Rattle.report.proofs.Imports.{note_line, numbered_from_one, option_and_then, refl, rules_text, slice_get, statements_text, suc, sym, tables_text, tally_at}
+use Rattle.report.proofs.Imports.{tally_of, ℕ, ◌++◌, ◌+◌, ◌∙◌, ◌∷◌, ◌≡◌}
+use Rattle.std.proofs.Common.{add-zero, zero-add}
 use Rattle.std.specs.Prelude.{unwrap_or}
-use Rattle.std.specs.declared.option.Option.{Option}
-use Rattle.std.specs.List.{flat_map}
-use Rattle.std.specs.Option.{option_and_then}
-use Rattle.std.specs.Io.KnownBytes.{Appends, Keeps}
+use Rattle.std.specs.Io.KnownBytes.{Keeps}
 use Rattle.std.proofs.KnownBytes.{Appends-kept}
-use Rattle.nft_tree.specs.declared.statement.CounterStart.{CounterStart}
-use Rattle.nft_tree.specs.Tree.{Statement, RuleTree, ChainTree, TableTree}
-use Rattle.nft_tree.specs.TableItems.{chains_of, counter_in, numbered_from_one}
-use Rattle.pcap_io.specs.Counting.{AppendsPrefix}
-use Rattle.rule_meaning.specs.declared.event.StatementPosition.{StatementPosition}
-use Rattle.history.specs.History.{Entry}
-use Rattle.report.specs.declared.notes.Note.{Note}
-use Rattle.report.specs.Report.{passed, local, dropped, entry_lines, next_position, next_number, line_if_counter}
-use Rattle.report.specs.Report.{statement_lines, rule_lines, chain_lines, table_lines, counter_lines, number_lines}
-use Rattle.report.specs.Report.{totals, closing_lines}
-use Rattle.report.specs.Representing.{ReportState, IsReportOf, Tallies, AppendsRest, AppendsRestPrefix, counter_at}
-use Rattle.report.specs.Representing.{drops_of, note_line, tally_at, tally_of}
+use Rattle.nft_tree.specs.Tree.{RuleTree, Statement}
+use Rattle.report.specs.Report.{chain_lines, closing_lines, counter_lines, dropped, entry_lines, line_if_counter, local, next_number, next_position}
+use Rattle.report.specs.Report.{number_lines, passed, rule_lines, statement_lines, table_lines, totals}
+use Rattle.report.specs.Representing.{AppendsRest, AppendsRestPrefix, IsReportOf, ReportState, drops_of}
 use Rattle.report.specs.steps.Tallying.{started}
-use Rattle.report.specs.steps.TallyLines.{tally_or_zero, tally_line, counter_text, statements_text, rules_text}
-use Rattle.report.specs.steps.TallyLines.{chains_text, tables_text, first_of}
-use Rattle.report.specs.steps.Totals.{drops_in, rest_text}
+use Rattle.report.specs.steps.TallyLines.{counter_text, first_of, tally_line, tally_or_zero}
+use Rattle.report.specs.steps.Totals.{rest_text}
 
 -- ---- the lines of counters
 
@@ -187,13 +178,4 @@ prefix_written a b text written whole is w = (text, is, w)
 -- after a flush that failed it is all there
 pub unflushed_written : (a b c : Option (List ℕ)) (text written whole : List ℕ) → written ++ text ≡ whole
     → Appends a b text → Keeps b c → AppendsRestPrefix a c written whole
-unflushed_written a b c text written whole is w kept = (
-  text,
-  is,
-  (
-    text,
-    [],
-    sym (append-nil text),
-    Appends-kept a b c text w kept,
-  ),
-)
+unflushed_written a b c text written whole is w kept = grind (arith, append-nil, Appends-kept)

@@ -1,7 +1,6 @@
 -- One more packet at a position.
-use Rattle.std.proofs.Common.{◌≡◌, ◌⊎◌, inl, inr, ℕ, zero, suc, ◌-◌, ◌<◌, ◌≤◌}
-use Rattle.std.proofs.Common.{List, [], ◌∷◌, length, get_or, set, refl, ap, ◌∙◌}
-use Rattle.std.proofs.Common.{arith}
+use Rattle.report.proofs.Imports.{List, [], ap, arith, get_or, inl, inr, length, refl, set, suc, zero, ℕ, ◌-◌, ◌<◌, ◌∙◌, ◌∷◌, ◌≡◌, ◌≤◌}
+use Rattle.std.proofs.Common.{◌⊎◌}
 use Rattle.report.specs.steps.Tallying.{changed, changed_from_one}
 
 -- ---- what a write changes

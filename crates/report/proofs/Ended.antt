@@ -1,14 +1,12 @@
 -- The numbers of a report after one more record.
-use Rattle.std.proofs.Common.{◌≡◌, ◌≢◌, ◌<◌, ◌≤◌, ◌+◌, ◌==◌, ℕ, Bool, true, false, cond, List, ◌∷◌, length, slice_index}
-use Rattle.std.proofs.Common.{set, refl, sym, ap, ◌∙◌, arith, get_or-set_same, get_or-set_other}
+use Rattle.report.proofs.Imports.{Bool, Cause, Entry, List, ap, arith, cond, false, length, refl, report_index, set, sym, true, ℕ, ◌+◌, ◌<◌, ◌∙◌, ◌∷◌, ◌≡◌, ◌≤◌}
+use Rattle.std.proofs.Common.{get_or-set_other, get_or-set_same, slice_index, ◌==◌, ◌≢◌}
 use Rattle.std.specs.Prelude.{count_by}
 use mir.Val.{bool_byte}
 use Rattle.std.proofs.lemmas.Bool.Decides.{Decides-eqb}
 use Rattle.std.proofs.lemmas.List.Sums.{sum_by-cons}
-use Rattle.history.specs.declared.outcome.Cause.{Cause}
 use Rattle.history.specs.declared.outcome.Outcome.TheVariants.{Dropped}
-use Rattle.history.specs.Outcomes.{report_index, is_dropped_for}
-use Rattle.history.specs.History.{Entry}
+use Rattle.history.specs.Outcomes.{is_dropped_for}
 
 -- one more where a test holds
 abbrev pub more_if : Bool → ℕ → ℕ
@@ -33,18 +31,8 @@ test_most false = omega arith
 
 raised : (ns : List ℕ) (i j : ℕ) (same : Bool) → (i == j) ≡ same → i < length ns
     → slice_index (set ns i (slice_index ns i + 1)) j ≡ more_if same (slice_index ns j)
-raised ns i j true e lt =
-    let here : i ≡ j = (Decides-eqb i j).0 e in
-    let raised_here : slice_index (set ns i (slice_index ns i + 1)) i ≡ slice_index ns i + 1 =
-    get_or-set_same ns i (slice_index ns i + 1) 0 lt in
-    ap (λ k. slice_index (set ns i (slice_index ns i + 1)) k) (sym here) ∙ raised_here
-    ∙ ap (λ k. slice_index ns k + 1) here ∙ omega arith
-raised ns i j false e lt =
-    let other : j ≢ i = λ same. absurd (not_same same) in
-    get_or-set_other ns i j (slice_index ns i + 1) 0 other ∙ omega arith
-  where
-    not_same : j ≡ i → ⊥
-    not_same same = let yes : (i == j) ≡ true = (Decides-eqb i j).1 (sym same) in cc
+raised ns i j true e lt = grind (arith, Decides-eqb, slice_index, get_or-set_same)
+raised ns i j false e lt = grind (arith, get_or-set_other, slice_index, Decides-eqb)
 
 -- the number at the cause's index is one more
 pub drop_more : (ns : List ℕ) (cause : Cause) (at : ℕ) → at ≡ report_index cause → at < length ns → (k : Cause)

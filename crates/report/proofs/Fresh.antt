@@ -1,18 +1,16 @@
 -- A report before the first record.
-use Rattle.std.proofs.Common.{◌≡◌, ℕ, zero, suc, ◌+◌, ◌*◌, ◌<◌, List, [], length, map, slice_get, get_or, Option, Some}
-use Rattle.std.proofs.Common.{None, refl, sym, ap, ◌∙◌, arith}
-use Rattle.std.specs.Prelude.{◌^◌, All, slice_index, replicate}
-use Rattle.std.specs.Option.{option_map, option_and_then}
-use Rattle.std.proofs.lemmas.Option.{slice_get-map, slice_get_within, get_or_from_slice_get}
-use Rattle.nft_tree.specs.declared.statement.CounterStart.{CounterStart}
-use Rattle.nft_tree.specs.Tree.{Statement, RuleTree, TableTree}
-use Rattle.nft_tree.specs.TableItems.{chains_of, counter_in, numbered_from_one, rule_numbered}
-use Rattle.rule_meaning.specs.declared.event.StatementPosition.{StatementPosition}
+use Rattle.report.proofs.Imports.{All, AllWithin, CounterStart, List, None, Some, StatementPosition, TableTree, Tallies, [], ap, arith, chains_of, counter_at}
+use Rattle.report.proofs.Imports.{counter_in, fresh_table, get_or, length, map, numbered_from_one, option_and_then, refl, slice_get, suc, sym, tally_at}
+use Rattle.report.proofs.Imports.{tally_of, zero, ℕ, ◌*◌, ◌+◌, ◌<◌, ◌∙◌, ◌≡◌}
+use Rattle.std.proofs.Common.{Option}
+use Rattle.std.specs.Prelude.{replicate, slice_index, ◌^◌}
+use Rattle.std.specs.Option.{option_map}
+use Rattle.std.proofs.lemmas.Option.{get_or_from_slice_get, slice_get-map, slice_get_within}
+use Rattle.nft_tree.specs.Tree.{RuleTree, Statement}
+use Rattle.nft_tree.specs.TableItems.{rule_numbered}
 use Rattle.report.specs.declared.tallies.Tally.{Tally}
-use Rattle.report.specs.Report.{packets, bytes}
-use Rattle.report.specs.Representing.{Tallies, tally_at, tally_of, counter_at}
-use Rattle.report.specs.steps.Bounds.{AllWithin}
-use Rattle.report.specs.steps.Tallying.{started, fresh_statement, fresh_rule, fresh_chain, fresh_table, fresh}
+use Rattle.report.specs.Report.{bytes, packets}
+use Rattle.report.specs.steps.Tallying.{fresh, fresh_chain, fresh_rule, fresh_statement, started}
 
 -- ---- a counter of a new report has its initial value
 
@@ -35,37 +33,11 @@ statement_there rules at = option_and_then (λ r. numbered_from_one r.statements
 fresh_there : (rules : List TableTree) (at : StatementPosition)
     → tally_at (fresh rules) at ≡ option_map fresh_statement (statement_there rules at)
 fresh_there rules at =
-    let tables : slice_get (fresh rules) at.rule.table ≡ option_map fresh_table (slice_get rules at.rule.table) =
-    slice_get-map fresh_table rules at.rule.table in
-    let chain = option_and_then (λ (t : TableTree). slice_get (chains_of t) at.rule.chain)
-    (slice_get rules at.rule.table) in
-    let chains : option_and_then (λ t. slice_get t at.rule.chain) (slice_get (fresh rules) at.rule.table)
-    ≡ option_map fresh_chain chain =
-    ap (option_and_then (λ t. slice_get t at.rule.chain)) tables
-    ∙ found_in-map fresh_table fresh_chain (λ t. slice_get (chains_of t) at.rule.chain) (λ t. slice_get t at.rule.chain)
-    (slice_get rules at.rule.table) (λ t. slice_get-map fresh_chain (chains_of t) at.rule.chain) in
-    let rule : option_and_then (λ c. numbered_from_one c at.rule.rule) (option_map fresh_chain chain)
-    ≡ option_map fresh_rule (rule_numbered rules at.rule) =
-    found_in-map fresh_chain fresh_rule (λ c. numbered_from_one c.rules at.rule.rule)
-    (λ c. numbered_from_one c at.rule.rule) chain (λ c. numbered_from_one-map fresh_rule c.rules at.rule.rule) in
-    let more : option_and_then (λ r. numbered_from_one r at.statement)
-    (option_map fresh_rule (rule_numbered rules at.rule)) ≡ option_map fresh_statement (statement_there rules at) =
-    found_in-map fresh_rule fresh_statement (λ r. numbered_from_one r.statements at.statement)
-    (λ r. numbered_from_one r at.statement) (rule_numbered rules at.rule)
-    (λ r. numbered_from_one-map fresh_statement r.statements at.statement) in
-    ap (λ o. option_and_then (λ r. numbered_from_one r at.statement)
-    (option_and_then (λ c. numbered_from_one c at.rule.rule) o)) chains
-    ∙ ap (option_and_then (λ r. numbered_from_one r at.statement)) rule
-    ∙ more
+    grind (arith, slice_get, at.rule.table, slice_get-map, at.rule.chain, found_in-map, at.rule.rule, at.rule, numbered_from_one-map, at.statement)
 
 -- after no entry a counter has its initial value
 no_entry : (start : CounterStart) (at : StatementPosition) → started (Some start) ≡ tally_of start at []
-no_entry start at =
-    let more_packets : start.packets ≡ start.packets + packets at [] = omega arith in
-    let more_bytes : start.bytes ≡ start.bytes + bytes at [] = omega arith in
-    let of_packets : ℕ → Tally = λ n. record { packets = n; bytes = start.bytes } in
-    let of_bytes : ℕ → Tally = λ n. record { packets = start.packets + packets at []; bytes = n } in
-    ap of_packets more_packets ∙ ap of_bytes more_bytes
+no_entry start at = grind arith
 
 starts_so : (o : Option Statement) (start : CounterStart) → option_and_then counter_in o ≡ Some start
     → option_map fresh_statement o ≡ Some (started (Some start))
@@ -81,10 +53,7 @@ counter_of (Some r) n = refl
 
 pub fresh_starts : (rules : List TableTree) (at : StatementPosition) (start : CounterStart)
     → counter_at rules at ≡ Some start → tally_at (fresh rules) at ≡ Some (tally_of start at [])
-fresh_starts rules at start is =
-    fresh_there rules at
-    ∙ starts_so (statement_there rules at) start (sym (counter_of (rule_numbered rules at.rule) at.statement) ∙ is)
-    ∙ ap (λ (t : Tally). Some t) (no_entry start at)
+fresh_starts rules at start is = grind (arith, fresh_there, starts_so, counter_of, at.rule, at.statement, no_entry)
 
 -- ---- bounds
 
@@ -94,10 +63,7 @@ FitsStart n = (n.packets < 2 ^ 64) × (n.bytes < 2 ^ 64)
 
 -- what holds of each element holds of one that is there
 at_place : {A : Type 0} (P : A → Type 0) (xs : List A) (n : ℕ) (x : A) → All P xs → slice_get xs n ≡ Some x → P x
-at_place P xs n x all is =
-    let there : n < length xs = slice_get_within xs n x is in
-    let same : get_or xs n x ≡ x = get_or_from_slice_get xs n x x is in
-    rw same at (all n x there)
+at_place P xs n x all is = grind (arith, slice_get_within, get_or, get_or_from_slice_get)
 
 at_number : {A : Type 0} (P : A → Type 0) (xs : List A) (n : ℕ) (x : A) → All P xs → numbered_from_one xs n ≡ Some x
     → P x

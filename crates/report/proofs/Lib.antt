@@ -1,3 +1,4 @@
+mod Imports
 mod Counting
 mod Putting
 mod Texts

@@ -1,6 +1,8 @@
 -- The lines of counters, one after another.
-use Rattle.std.proofs.Common.{◌≡◌, ℕ, ◌+◌, ◌<◌, Bool, cond, List, ◌∷◌, ◌++◌, length, drop, get_or, map}
-use Rattle.std.proofs.Common.{add-one, Option, Some, None, refl, ap, sym, ◌∙◌}
+use Rattle.report.proofs.Imports.{Bool, ChainTree, CounterStart, List, None, Some, StatementPosition, TableTree, Tallies, Text, ap, arith, chains_among}
+use Rattle.report.proofs.Imports.{chains_of, chains_text, cond, counter_in, drop, get_or, length, map, refl, rule_tree, rules_text, statement, statements_text}
+use Rattle.report.proofs.Imports.{sym, table_tree, tables_text, ℕ, ◌++◌, ◌+◌, ◌<◌, ◌∙◌, ◌∷◌, ◌≡◌}
+use Rattle.std.proofs.Common.{Option, add-one}
 use Rattle.std.specs.Prelude.{is_some}
 use Rattle.std.specs.List.{cons_option}
 use Rattle.std.proofs.Math.Seq.{drop-cons}
@@ -8,15 +10,11 @@ use Rattle.nft_tree.specs.declared.ruleset.Item.{Item}
 use Rattle.nft_tree.specs.declared.ruleset.Table.{Table}
 use Rattle.nft_tree.specs.declared.chain.Rule.{Rule}
 use Rattle.nft_tree.specs.declared.statement.Stmt.{Stmt}
-use Rattle.nft_tree.specs.declared.statement.CounterStart.{CounterStart}
-use Rattle.nft_tree.specs.Tree.{Text, TableTree, ChainTree, table_tree, rule_tree, item_tree, statement}
-use Rattle.nft_tree.specs.TableItems.{chains_of, chain_in, counter_in}
-use Rattle.nft_tree.proofs.Chains.{chains_among, from_one_on}
-use Rattle.rule_meaning.specs.declared.event.StatementPosition.{StatementPosition}
-use Rattle.report.specs.Report.{next_position, next_number}
-use Rattle.report.specs.Representing.{Tallies}
-use Rattle.report.specs.steps.TallyLines.{tally_or_zero, tally_line, counter_text, statements_text, rules_text}
-use Rattle.report.specs.steps.TallyLines.{chains_text, tables_text, first_of}
+use Rattle.nft_tree.specs.Tree.{item_tree}
+use Rattle.nft_tree.specs.TableItems.{chain_in}
+use Rattle.nft_tree.proofs.Chains.{from_one_on}
+use Rattle.report.specs.Report.{next_number, next_position}
+use Rattle.report.specs.steps.TallyLines.{counter_text, first_of, tally_line, tally_or_zero}
 
 from_item : {A : Type 0} (xs : List A) (i : ℕ) (x : A) → i < length xs → x ≡ get_or xs i x
     → drop i xs ≡ x ∷ drop (i + 1) xs
@@ -33,9 +31,7 @@ pub chains_on : (tallies : Tallies) (t : TableTree) (table n : ℕ) (xs : List I
     → i < length xs → item ≡ get_or xs i item → o ≡ chain_in (item_tree item)
     → chains_text tallies t table n (chains_among (drop i xs))
     ≡ chains_text tallies t table n (cons_option o (chains_among (drop (i + 1) xs)))
-chains_on tallies t table n xs i item o h is some =
-    ap (chains_text tallies t table n) (from_one_on xs i item h is
-    ∙ ap (λ o. cons_option o (chains_among (drop (i + 1) xs))) (sym some))
+chains_on tallies t table n xs i item o h is some = grind (arith, from_one_on, chains_among)
 
 pub rules_on : (tallies : Tallies) (t : TableTree) (c : ChainTree) (table chain n : ℕ) (xs : List Rule) (i : ℕ)
     (r : Rule) → i < length xs → r ≡ get_or xs i r
@@ -59,7 +55,4 @@ pub statements_on : (tallies : Tallies) (t : TableTree) (c : ChainTree) (at : St
     ≡ cond counts (tally_line t c at.rule.rule k (tally_or_zero tallies at)
     ++ statements_text tallies t c (next_position at) (k + 1) (map statement (drop (i + 1) xs)))
     (statements_text tallies t c (next_position at) k (map statement (drop (i + 1) xs)))
-statements_on tallies t c at k xs i s counts h is some =
-    ap (λ ys. statements_text tallies t c at k (map statement ys)) (from_item xs i s h is)
-    ∙ counted_text tallies t c at k (counter_in (statement s)) counts
-    (λ m. statements_text tallies t c (next_position at) m (map statement (drop (i + 1) xs))) some
+statements_on tallies t c at k xs i s counts h is some = grind (arith, from_item, counted_text)

@@ -1,18 +1,12 @@
 -- The lines of an entry's notes are the entry's lines.
-use Rattle.std.proofs.Common.{◌≡◌, ℕ, Bool, true, false, List, [], ◌∷◌, ◌++◌, length, refl, sym, ap, ◌∙◌, append_assoc}
-use Rattle.std.proofs.Common.{append-nil}
-use Rattle.std.specs.List.{flat_map}
+use Rattle.report.proofs.Imports.{Bool, Entry, Event, List, Note, TableTree, Text, [], ap, append-nil, append_assoc, arith, false, flat_map, length, note_line}
+use Rattle.report.proofs.Imports.{refl, sym, true, ℕ, ◌++◌, ◌∙◌, ◌∷◌, ◌≡◌}
 use Rattle.std.specs.Option.{option_to_list}
 use Rattle.std.proofs.lemmas.List.Concat.{flat_map-append}
-use Rattle.nft_tree.specs.Tree.{Text, TableTree}
-use Rattle.rule_meaning.specs.declared.event.Event.{Event}
-use Rattle.rule_meaning.specs.declared.event.Event.TheVariants as events
 use Rattle.history.specs.declared.outcome.Outcome.{Outcome}
-use Rattle.history.specs.History.{Entry}
-use Rattle.report.specs.declared.notes.Note.{Note}
-use Rattle.report.specs.Report.{event_line, outcome_line, lines_of, entry_lines}
-use Rattle.report.specs.Representing.{note_line}
-use Rattle.report.specs.steps.Noting.{noted_event, noted_events, noted_end, noted}
+use Rattle.report.specs.Report.{entry_lines, event_line, lines_of, outcome_line}
+use Rattle.report.specs.steps.Noting.{noted, noted_end, noted_event, noted_events}
+use Rattle.rule_meaning.specs.declared.event.Event.TheVariants as events
 
 event_written : (rules : List TableTree) (trace : Bool) (n : ℕ) (e : Event)
     → flat_map (note_line rules) (option_to_list (noted_event trace n e)) ≡ event_line rules trace n e
@@ -26,10 +20,7 @@ event_written rules trace n _ = refl
 events_written : (rules : List TableTree) (trace : Bool) (n : ℕ) (es : List Event)
     → flat_map (note_line rules) (noted_events trace n es) ≡ flat_map (event_line rules trace n) es
 events_written rules trace n [] = refl
-events_written rules trace n (e ∷ es) =
-    flat_map-append (note_line rules) (option_to_list (noted_event trace n e)) (noted_events trace n es)
-    ∙ ap (λ ys. ys ++ flat_map (note_line rules) (noted_events trace n es)) (event_written rules trace n e)
-    ∙ ap (λ ys. event_line rules trace n e ++ ys) (events_written rules trace n es)
+events_written rules trace n (e ∷ es) = grind (arith, flat_map-append, event_written, events_written rules trace n es)
 
 end_written : (rules : List TableTree) (trace : Bool) (n : ℕ) (outcome : Outcome)
     → flat_map (note_line rules) (noted_end trace n outcome) ≡ outcome_line trace n outcome

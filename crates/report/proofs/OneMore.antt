@@ -1,26 +1,20 @@
 -- A report of one record more.
-use Rattle.std.proofs.Common.{◌≡◌, ◌⊎◌, inl, inr, ℕ, ◌+◌, ◌*◌, ◌^◌, ◌<◌, ◌≤◌, Bool, List, ◌∷◌, ◌++◌, length}
-use Rattle.std.proofs.Common.{slice_index, set, ap, sym, subst, ◌∙◌, arith, get_or-set_same, get_or-set_other}
+use Rattle.report.proofs.Imports.{AllWithin, Bool, Cause, Entry, Event, List, Note, TableTree, Tallies, Text, ap, arith, counted_all, flat_map, inl, inr, length}
+use Rattle.report.proofs.Imports.{note_line, report_index, set, sym, tally_at, ℕ, ◌*◌, ◌++◌, ◌+◌, ◌<◌, ◌∙◌, ◌∷◌, ◌≡◌, ◌≤◌}
+use Rattle.std.proofs.Common.{get_or-set_other, get_or-set_same, slice_index, subst, ◌^◌, ◌⊎◌}
 use Rattle.std.proofs.Math.Nat.{mul-le-mul}
 use Rattle.std.proofs.lemmas.Bool.{cases_eq, cases_lt}
 use Rattle.std.proofs.lemmas.List.{set_past}
-use Rattle.std.specs.List.{flat_map}
-use Rattle.nft_tree.specs.Tree.{Text, TableTree}
-use Rattle.rule_meaning.specs.declared.event.Event.{Event}
 use Rattle.conntrack.specs.Histories.{is_creation}
-use Rattle.history.specs.declared.entry.Entry as lent
-use Rattle.history.specs.declared.outcome.Cause.{Cause}
 use Rattle.history.specs.declared.outcome.Outcome.{Outcome}
-use Rattle.history.specs.Outcomes.{report_index, is_passed, is_local, is_dropped_for}
-use Rattle.history.specs.History.{Entry, IsEntry}
-use Rattle.report.specs.declared.notes.Note.{Note}
-use Rattle.report.specs.Representing.{Tallies, ReportState, IsReportOf, drops_of, tally_at, note_line}
-use Rattle.report.specs.steps.Bounds.{AllWithin}
+use Rattle.history.specs.Outcomes.{is_dropped_for, is_local, is_passed}
+use Rattle.history.specs.History.{IsEntry}
+use Rattle.report.specs.Representing.{IsReportOf, ReportState, drops_of}
 use Rattle.report.specs.steps.Noting.{noted}
-use Rattle.report.specs.steps.Tallying.{counted_all}
-use Rattle.report.proofs.Tallied.{wider, within_all, tallies_more}
-use Rattle.report.proofs.Ended.{more_if, count_more}
+use Rattle.report.proofs.Tallied.{tallies_more, wider, within_all}
+use Rattle.report.proofs.Ended.{count_more, more_if}
 use Rattle.report.proofs.NotedLines.{rest_more}
+use Rattle.history.specs.declared.entry.Entry as lent
 
 -- ---- the bounds
 
@@ -31,22 +25,9 @@ bytes_below n size few small = mul-le-mul {n₁ = n} {m₁ = size} {n₂ = 2 ^ 6
 
 raised_at : (ns : List ℕ) (i j records : ℕ) → ((k : ℕ) → slice_index ns k ≤ records) → ((j ≡ i) ⊎ (j ≡ i → ⊥))
     → ((i < length ns) ⊎ (length ns ≤ i)) → slice_index (set ns i (slice_index ns i + 1)) j ≤ records + 1
-raised_at ns i j records were (inl same) (inl lt) = omega (
-  arith,
-  were i,
-  ap (λ k. slice_index (set ns i (slice_index ns i + 1)) k) same,
-  get_or-set_same ns i (slice_index ns i + 1) 0 lt,
-)
-raised_at ns i j records were (inl same) (inr past) = omega (
-  arith,
-  were j,
-  ap (λ xs. slice_index xs j) (set_past ns i (slice_index ns i + 1) past),
-)
-raised_at ns i j records were (inr other) within = omega (
-  arith,
-  were j,
-  get_or-set_other ns i j (slice_index ns i + 1) 0 other,
-)
+raised_at ns i j records were (inl same) (inl lt) = grind (arith, slice_index, get_or-set_same)
+raised_at ns i j records were (inl same) (inr past) = grind (arith, slice_index, set_past)
+raised_at ns i j records were (inr other) within = grind (arith, get_or-set_other, slice_index)
 
 pub raised_fits : (ns : List ℕ) (i records : ℕ) → ((j : ℕ) → slice_index ns j ≤ records) → (j : ℕ)
     → slice_index (set ns i (slice_index ns i + 1)) j ≤ records + 1

@@ -1,17 +1,14 @@
 -- What is put, one after another.
-use Rattle.std.proofs.Common.{◌≡◌, refl, ℕ, ◌+◌, ◌<◌, Bool, true, false, List, [], ◌∷◌, ◌++◌, length, drop, get_or, append_assoc}
-use Rattle.std.proofs.Common.{add-one, ap, sym, subst, ◌∙◌, Result, Ok, Err}
-use Rattle.std.specs.declared.option.Option.{Option}
-use Rattle.std.specs.List.{flat_map}
-use Rattle.std.specs.Io.KnownBytes.{Appends}
+use Rattle.report.proofs.Imports.{Appends, AppendsPrefix, Bool, List, Option, PutsAllBut, Text, [], ap, append_assoc, arith, drop, false, flat_map, get_or}
+use Rattle.report.proofs.Imports.{length, refl, sym, true, ℕ, ◌++◌, ◌+◌, ◌<◌, ◌∙◌, ◌∷◌, ◌≡◌}
+use Rattle.std.proofs.Common.{Err, Ok, Result, add-one, subst}
 use Rattle.std.proofs.KnownBytes.{Appends-trans}
 use Rattle.std.proofs.Math.Seq.{drop-cons}
-use Rattle.nft_tree.specs.Tree.{Text}
 use Rattle.pcap_io.specs.declared.counted.Counted.{Counted}
-use Rattle.pcap_io.specs.steps.Written.{part_same, part_first, part_after, gets_none, gets_more, gets_part}
-use Rattle.pcap_io.specs.Counting.{AppendsPrefix, one_more}
+use Rattle.pcap_io.specs.steps.Written.{gets_more, gets_none, gets_part, part_after, part_first, part_same}
+use Rattle.pcap_io.specs.Counting.{one_more}
 use Rattle.report.specs.declared.page.Page.{Page}
-use Rattle.report.specs.steps.Paging.{Goes, Puts, PutsAllBut, CountsFailure, WroteText, Sends, IsSent}
+use Rattle.report.specs.steps.Paging.{CountsFailure, Goes, IsSent, Puts, Sends, WroteText}
 
 goes_none : (f : Bool) (u : Text) (a : Option Text) (k : ℕ) → Goes f f u a u a k k []
 goes_none false u a k = (gets_none u a, refl)
@@ -66,9 +63,7 @@ module _ {W : Type 0} {contents : W → Option Text} where
 -- the lines of a list from an item on are its lines and those of the items after it
 pub written_at : {A : Type 0} (f : A → List ℕ) (xs : List A) (i : ℕ) (d : A) → i < length xs
     → flat_map f (drop i xs) ≡ f (get_or xs i d) ++ flat_map f (drop (i + 1) xs)
-written_at f xs i d h =
-    let e : drop i xs ≡ get_or xs i d ∷ drop (i + 1) xs = cc (drop-cons xs i d h, add-one i) in
-    ap (flat_map f) e
+written_at f xs i d h = grind (arith, get_or, drop-cons, add-one)
 
 -- ---- the last page
 

@@ -1,12 +1,9 @@
 -- The totals, by their parts.
-use Rattle.std.proofs.Common.{◌≡◌, ℕ, Bool, true, false, refl, List, [], ◌∷◌, ◌++◌, append_assoc, ◌∙◌}
+use Rattle.report.proofs.Imports.{Bool, Cause, List, [], append_assoc, arith, decimal, drop_line, false, flat_map, refl, true, ℕ, ◌++◌, ◌∙◌, ◌∷◌, ◌≡◌}
 use mir.Val.{bool_byte}
 use Rattle.std.specs.Prelude.{codes}
-use Rattle.std.specs.List.{flat_map}
-use Rattle.std.specs.Fmt.{decimal}
-use Rattle.history.specs.declared.outcome.Cause.{Cause}
 use Rattle.history.specs.Outcomes.{causes}
-use Rattle.report.specs.Report.{line, bit, drop_line, number_lines}
+use Rattle.report.specs.Report.{bit, line, number_lines}
 
 -- the lines before those of the causes, and those after
 abbrev pub head_lines : ℕ → ℕ → ℕ → List ℕ
@@ -22,10 +19,7 @@ joined a b c d x y z = simp append_assoc
 pub totals_split : (records sent kept : ℕ) (lost : Cause → ℕ) (begun live : ℕ) (torn : Bool)
     → number_lines records sent kept lost begun live torn ≡ head_lines records sent kept
     ++ (flat_map (drop_line lost) causes ++ tail_lines begun live torn)
-totals_split records sent kept lost begun live torn =
-    joined (line (codes "records") records) (line (codes "passed") sent) (line (codes "local") kept)
-    (flat_map (drop_line lost) causes) (line (codes "begun") begun) (line (codes "live") live)
-    (line (codes "torn") (bit torn))
+totals_split records sent kept lost begun live torn = grind (arith, joined)
 
 heads : (r n p m q k : List ℕ) → r ++ (n ++ (10 ∷ (p ++ (m ++ (10 ∷ (q ++ (k ++ (10 ∷ []))))))))
     ≡ (((r ++ n) ++ (10 ∷ [])) ++ ((p ++ m) ++ (10 ∷ []))) ++ ((q ++ k) ++ (10 ∷ []))

@@ -1,24 +1,17 @@
 -- Counters after the events of one more record.
-use Rattle.std.proofs.Common.{◌≡◌, ℕ, zero, suc, ◌+◌, ◌*◌, ◌≤◌, ◌==◌, ◌&&◌, Bool, true, false, cond, List, [], ◌∷◌}
-use Rattle.std.proofs.Common.{length, slice_get, Option, Some, None, refl, sym, ap, ◌∙◌, arith}
-use Rattle.std.specs.Prelude.{min, count_by}
-use Rattle.std.specs.Option.{option_map, option_and_then}
-use Rattle.std.proofs.Math.Dec.{eqb-zero-suc, eqb-suc-zero, eqb-suc-suc}
+use Rattle.report.proofs.Imports.{AllWithin, Bool, CounterStart, Entry, Event, List, None, Some, StatementPosition, TableTree, Tallies, [], ap, arith, cond}
+use Rattle.report.proofs.Imports.{counted_all, counter_at, false, length, numbered_from_one, option_and_then, refl, slice_get, suc, sym, tally_at, tally_of}
+use Rattle.report.proofs.Imports.{true, zero, ℕ, ◌*◌, ◌+◌, ◌∙◌, ◌∷◌, ◌≡◌, ◌≤◌}
+use Rattle.std.proofs.Common.{Option, ◌&&◌, ◌==◌}
+use Rattle.std.specs.Prelude.{count_by, min}
+use Rattle.std.specs.Option.{option_map}
+use Rattle.std.proofs.Math.Dec.{eqb-suc-suc, eqb-suc-zero, eqb-zero-suc}
 use Rattle.std.proofs.lemmas.Option.{none-some, same_Some}
 use Rattle.std.proofs.lemmas.List.Sums.{sum_by-cons}
-use Rattle.nft_tree.specs.declared.statement.CounterStart.{CounterStart}
-use Rattle.nft_tree.specs.Tree.{TableTree}
-use Rattle.nft_tree.specs.TableItems.{numbered_from_one}
-use Rattle.rule_meaning.specs.declared.event.StatementPosition.{StatementPosition}
-use Rattle.rule_meaning.specs.declared.event.Event.{Event}
-use Rattle.rule_meaning.specs.declared.event.Event.TheVariants as events
-use Rattle.history.specs.History.{Entry}
 use Rattle.report.specs.declared.tallies.Tally.{Tally}
-use Rattle.report.specs.Report.{same_position, is_counted_at, counts_at, packets, bytes}
-use Rattle.report.specs.Representing.{Tallies, tally_at, tally_of, counter_at}
-use Rattle.report.specs.steps.Bounds.{AllWithin}
-use Rattle.report.specs.steps.Tallying.{changed, changed_from_one, GREATEST, raised, rule_counted, chain_counted}
-use Rattle.report.specs.steps.Tallying.{table_counted, counted, counted_event, counted_all}
+use Rattle.report.specs.Report.{bytes, counts_at, is_counted_at, packets, same_position}
+use Rattle.report.specs.steps.Tallying.{GREATEST, chain_counted, changed, changed_from_one, counted, counted_event, raised, rule_counted, table_counted}
+use Rattle.rule_meaning.specs.declared.event.Event.TheVariants as events
 
 -- ---- one packet more
 
@@ -155,13 +148,7 @@ changed_within : (size p b : ℕ) (same : Bool) (o : Option Tally) (t : Tally)
     → (t.packets ≤ p + 1) × (t.bytes ≤ b + size)
 changed_within size p b false o t were is = let h = were t is in (omega (arith, h.0), omega (arith, h.1))
 changed_within size p b true None t were is = absurd (none-some t is)
-changed_within size p b true (Some x) t were is =
-    let h = were x refl in
-    let packets_are : min (x.packets + 1) GREATEST ≡ t.packets =
-    ap (λ (y : Tally). y.packets) (same_Some (raised size x) t is) in
-    let bytes_are : min (x.bytes + size) GREATEST ≡ t.bytes =
-    ap (λ (y : Tally). y.bytes) (same_Some (raised size x) t is) in
-    (omega (arith, h.0, packets_are), omega (arith, h.1, bytes_are))
+changed_within size p b true (Some x) t were is = grind arith
 
 pub wider : (p b p' b' : ℕ) (ts : Tallies) → p ≤ p' → b ≤ b' → AllWithin p b ts → AllWithin p' b' ts
 wider p b p' b' ts pp bb were = λ at t is. let h = were at t is in (omega (arith, h.0, pp), omega (arith, h.1, bb))

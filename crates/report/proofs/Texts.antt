@@ -1,7 +1,5 @@
 -- The texts of lines, by their parts.
-use Rattle.std.proofs.Common.{◌≡◌, ℕ, List, [], ◌∷◌, ◌++◌, append_assoc, ap, sym, ◌∙◌}
-use Rattle.std.specs.Fmt.{decimal}
-use Rattle.nft_tree.specs.Tree.{TableTree, ChainTree}
+use Rattle.report.proofs.Imports.{ChainTree, List, TableTree, [], ap, append_assoc, arith, decimal, sym, ℕ, ◌++◌, ◌∙◌, ◌∷◌, ◌≡◌}
 use Rattle.report.specs.Report.{chain_line, family_word}
 
 -- a line's kind, its number, its chain, and more
@@ -13,11 +11,7 @@ line_front kind n f tn cn rest = simp append_assoc
 line_text : (kind n f tn cn about w x : List ℕ)
     → kind ++ ((32 ∷ n) ++ ((32 ∷ f) ++ ((32 ∷ tn) ++ ((32 ∷ cn) ++ (about ++ (w ++ (x ++ ((10 ∷ []) ++ []))))))))
     ≡ ((((kind ++ (32 ∷ n)) ++ (32 ∷ ((f ++ (32 ∷ tn)) ++ (32 ∷ cn)))) ++ about) ++ (w ++ x)) ++ (10 ∷ [])
-line_text kind n f tn cn about w x =
-    let front : List ℕ = (kind ++ (32 ∷ n)) ++ (32 ∷ ((f ++ (32 ∷ tn)) ++ (32 ∷ cn))) in
-    line_front kind n f tn cn (about ++ (w ++ (x ++ (10 ∷ []))))
-    ∙ sym (append_assoc (front ++ about) (w ++ x) (10 ∷ []) ∙ append_assoc front about ((w ++ x) ++ (10 ∷ []))
-    ∙ ap (λ ys. front ++ (about ++ ys)) (append_assoc w x (10 ∷ [])))
+line_text kind n f tn cn about w x = grind (arith, line_front, append_assoc)
 
 -- a line about a chain, by what its parts are
 pub chain_written : (kind : List ℕ) (n n' : ℕ) (t : TableTree) (c : ChainTree) (f tn cn about w x : List ℕ) → n' ≡ n

@@ -1,6 +1,5 @@
-use Rattle.std.proofs.Common.{◌+◌}
-use Rattle.nft_tree.specs.Tree.{table_tree, chain_tree}
-use Rattle.report.proofs.Putting.{left_start, left_more}
+use Rattle.report.proofs.Imports.{chain_tree, table_tree, ◌+◌}
+use Rattle.report.proofs.Putting.{left_more, left_start}
 use Rattle.report.proofs.Listing.{rules_on}
 use Rattle.report.proofs.counter_lines.put_chain.Goals as goal
 

@@ -1,8 +1,5 @@
 -- the rules whose counters are left to put
-use Rattle.std.proofs.Common.{◌+◌, drop, map}
-use Rattle.nft_tree.specs.Tree.{rule_tree, chain_tree, table_tree}
-use Rattle.report.specs.steps.Paging.{PutsAllBut}
-use Rattle.report.specs.steps.TallyLines.{rules_text}
+use Rattle.report.proofs.Imports.{PutsAllBut, chain_tree, drop, map, rule_tree, rules_text, table_tree, ◌+◌}
 use Rattle.report.proofs.counter_lines.put_chain.Given as goal
 
 abbrev pub invariant-loop-before : goal.invariant-loop-before

@@ -1,4 +1,4 @@
-use Rattle.std.proofs.Common.{append_assoc}
+use Rattle.report.proofs.Imports.{append_assoc}
 use Rattle.report.proofs.Putting.{puts_as}
 use Rattle.report.proofs.counter_lines.put_counter.Goals as goal
 

@@ -1,4 +1,4 @@
-use Rattle.report.proofs.Putting.{left_start, left_more}
+use Rattle.report.proofs.Putting.{left_more, left_start}
 use Rattle.report.proofs.Listing.{tables_on}
 use Rattle.report.proofs.counter_lines.put_counters.Goals as goal
 

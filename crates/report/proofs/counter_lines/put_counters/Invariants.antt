@@ -1,8 +1,5 @@
 -- the tables whose counters are left to put
-use Rattle.std.proofs.Common.{drop, map}
-use Rattle.nft_tree.specs.Tree.{table_tree, tables_of}
-use Rattle.report.specs.steps.Paging.{PutsAllBut}
-use Rattle.report.specs.steps.TallyLines.{tables_text}
+use Rattle.report.proofs.Imports.{PutsAllBut, drop, map, table_tree, tables_of, tables_text}
 use Rattle.report.proofs.counter_lines.put_counters.Given as goal
 
 abbrev pub invariant-loop-number : goal.invariant-loop-number

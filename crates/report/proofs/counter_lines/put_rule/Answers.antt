@@ -1,12 +1,10 @@
-use Rattle.std.proofs.Common.{true, false, ◌+◌, ap, sym, ◌∙◌, arith}
+use Rattle.report.proofs.Imports.{StatementPosition, ap, arith, chain_tree, false, sym, table_tree, true, ◌+◌, ◌∙◌}
 use Rattle.std.specs.Prelude.{is_some}
-use Rattle.nft_tree.specs.Tree.{table_tree, chain_tree}
-use Rattle.rule_meaning.specs.declared.event.StatementPosition.{StatementPosition}
 use Rattle.report.specs.steps.TallyLines.{position_of}
-use Rattle.report.proofs.Putting.{left_start, left_as, left_more}
+use Rattle.report.proofs.Putting.{left_as, left_more, left_start}
 use Rattle.report.proofs.Listing.{statements_on}
+use Rattle.report.proofs.counter_lines.put_rule.Goals.{else-is_some, then-is_some}
 use Rattle.report.proofs.counter_lines.put_rule.Goals as goal
-use Rattle.report.proofs.counter_lines.put_rule.Goals.{then-is_some, else-is_some}
 
 pub loop-before-init : goal.loop-before-init
 loop-before-init g c = record { left = rw c.requires (left_start _ _ _); few = omega arith }

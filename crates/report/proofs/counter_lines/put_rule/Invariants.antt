@@ -1,8 +1,6 @@
 -- the statements whose counters are left to put
-use Rattle.std.proofs.Common.{◌≤◌, ◌+◌, drop, map}
-use Rattle.nft_tree.specs.Tree.{rule_tree, chain_tree, table_tree, statement}
-use Rattle.report.specs.steps.Paging.{PutsAllBut}
-use Rattle.report.specs.steps.TallyLines.{statements_text, position_of}
+use Rattle.report.proofs.Imports.{PutsAllBut, chain_tree, drop, map, rule_tree, statement, statements_text, table_tree, ◌+◌, ◌≤◌}
+use Rattle.report.specs.steps.TallyLines.{position_of}
 use Rattle.report.proofs.counter_lines.put_rule.Given as goal
 
 abbrev pub invariant-loop-before : goal.invariant-loop-before

@@ -1,9 +1,8 @@
-use Rattle.std.proofs.Common.{Some, None, arith}
-use Rattle.nft_tree.specs.Tree.{table_tree, chain_tree}
-use Rattle.report.proofs.Putting.{left_start, left_as, left_more}
+use Rattle.report.proofs.Imports.{None, Some, arith, chain_tree, table_tree}
+use Rattle.report.proofs.Putting.{left_as, left_more, left_start}
 use Rattle.report.proofs.Listing.{chains_on}
-use Rattle.report.proofs.counter_lines.put_table.Goals as goal
 use Rattle.report.proofs.counter_lines.put_table.Goals.{in-Some, in_default}
+use Rattle.report.proofs.counter_lines.put_table.Goals as goal
 
 pub loop-item-init : goal.loop-item-init
 loop-item-init g c = record { left = left_start _ _ _; few = omega arith }

@@ -1,10 +1,5 @@
 -- the chains whose counters are left to put
-use Rattle.std.proofs.Common.{◌≤◌, drop}
-use Rattle.nft_tree.specs.Tree.{table_tree}
-use Rattle.nft_tree.specs.TableItems.{chains_of}
-use Rattle.nft_tree.proofs.Chains.{chains_among}
-use Rattle.report.specs.steps.Paging.{PutsAllBut}
-use Rattle.report.specs.steps.TallyLines.{chains_text}
+use Rattle.report.proofs.Imports.{PutsAllBut, chains_among, chains_of, chains_text, drop, table_tree, ◌≤◌}
 use Rattle.report.proofs.counter_lines.put_table.Given as goal
 
 abbrev pub invariant-loop-item : goal.invariant-loop-item

@@ -1,7 +1,7 @@
-use Rattle.std.proofs.Common.{◌-◌, map, arith}
+use Rattle.report.proofs.Imports.{arith, map, ◌-◌}
 use Rattle.std.proofs.lemmas.Option.{slice_get-map}
+use Rattle.nft_tree.proofs.Chains.{mapped_get, numbered_is_get}
 use Rattle.nft_tree.specs.Tree as tree
-use Rattle.nft_tree.proofs.Chains.{numbered_is_get, mapped_get}
 use Rattle.report.proofs.names.statement.Goals as goal
 
 pub returns : goal.returns

@@ -1,8 +1,7 @@
-use Rattle.std.proofs.Common.{◌∙◌, ap, sym}
-use Rattle.nft_tree.specs.Tree.{table_tree, chain_tree}
+use Rattle.report.proofs.Imports.{ap, chain_tree, sym, table_tree, ◌∙◌}
 use Rattle.report.specs.steps.NoteLines.{line_text}
 use Rattle.report.specs.steps.Paging.{piece_text}
-use Rattle.report.proofs.Putting.{puts_none, puts_as}
+use Rattle.report.proofs.Putting.{puts_as, puts_none}
 use Rattle.report.proofs.Texts.{chain_written}
 use Rattle.report.proofs.note_lines.put_event.Goals as goal
 

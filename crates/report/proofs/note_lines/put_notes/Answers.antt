@@ -1,6 +1,5 @@
-use Rattle.nft_tree.specs.Tree.{tables_of}
-use Rattle.report.specs.Representing.{note_line}
-use Rattle.report.proofs.Putting.{left_start, left_more, written_at}
+use Rattle.report.proofs.Imports.{note_line, tables_of}
+use Rattle.report.proofs.Putting.{left_more, left_start, written_at}
 use Rattle.report.proofs.note_lines.put_notes.Goals as goal
 
 pub loop-note-init : goal.loop-note-init

@@ -1,9 +1,5 @@
 -- the notes that are left to put
-use Rattle.std.proofs.Common.{drop}
-use Rattle.std.specs.List.{flat_map}
-use Rattle.nft_tree.specs.Tree.{tables_of}
-use Rattle.report.specs.Representing.{note_line}
-use Rattle.report.specs.steps.Paging.{PutsAllBut}
+use Rattle.report.proofs.Imports.{PutsAllBut, drop, flat_map, note_line, tables_of}
 use Rattle.report.proofs.note_lines.put_notes.Given as goal
 
 abbrev pub invariant-loop-note : goal.invariant-loop-note

@@ -1,5 +1,6 @@
 -- the notes so far, and those of the events that are left
-use Rattle.std.proofs.Common.{◌≡◌, ◌≤◌, ◌+◌, ◌-◌, ◌++◌, length, drop, vec_len, vec_capacity}
+use Rattle.report.proofs.Imports.{drop, length, ◌++◌, ◌+◌, ◌-◌, ◌≡◌, ◌≤◌}
+use Rattle.std.proofs.Common.{vec_capacity, vec_len}
 use Rattle.report.specs.steps.Noting.{noted_events}
 use Rattle.report.proofs.notes.note_entry.Given as goal
 

@@ -1,6 +1,5 @@
-use Rattle.report.specs.Report.{drop_line}
-use Rattle.report.specs.steps.Totals.{drops_in}
-use Rattle.report.proofs.Putting.{left_start, left_more, written_at}
+use Rattle.report.proofs.Imports.{drop_line, drops_in}
+use Rattle.report.proofs.Putting.{left_more, left_start, written_at}
 use Rattle.report.proofs.total_lines.put_drops.Goals as goal
 
 pub loop-cause-init : goal.loop-cause-init

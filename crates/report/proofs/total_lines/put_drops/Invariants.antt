@@ -1,9 +1,5 @@
 -- the causes that are left to put
-use Rattle.std.proofs.Common.{drop}
-use Rattle.std.specs.List.{flat_map}
-use Rattle.report.specs.Report.{drop_line}
-use Rattle.report.specs.steps.Paging.{PutsAllBut}
-use Rattle.report.specs.steps.Totals.{drops_in}
+use Rattle.report.proofs.Imports.{PutsAllBut, drop, drop_line, drops_in, flat_map}
 use Rattle.report.proofs.total_lines.put_drops.Given as goal
 
 abbrev pub invariant-loop-cause : goal.invariant-loop-cause

@@ -1,6 +1,5 @@
-use Rattle.std.proofs.Common.{sym, ◌∙◌}
-use Rattle.report.specs.steps.Totals.{drops_in}
-use Rattle.report.proofs.Putting.{puts_on, puts_as}
+use Rattle.report.proofs.Imports.{drops_in, sym, ◌∙◌}
+use Rattle.report.proofs.Putting.{puts_as, puts_on}
 use Rattle.report.proofs.Summing.{bit_is, head_written, tail_written, totals_split}
 use Rattle.report.proofs.total_lines.put_totals.Goals as goal
 

@@ -1,12 +1,10 @@
-use Rattle.std.proofs.Common.{◌≡◌, ℕ, [], ◌++◌, true, false, append-nil, ap, sym, ◌∙◌, Result, Ok, Err, OnOk, OnErr}
+use Rattle.report.proofs.Imports.{Appends, AppendsPrefix, Option, Text, [], ap, append-nil, false, sym, true, ℕ, ◌++◌, ◌∙◌, ◌≡◌}
+use Rattle.std.proofs.Common.{Err, Ok, OnErr, OnOk, Result}
 use Rattle.std.specs.Prelude.{is_err}
-use Rattle.std.specs.declared.option.Option.{Option}
-use Rattle.std.specs.Io.KnownBytes.{Appends}
 use Rattle.std.proofs.KnownBytes.{Appends-trans}
-use Rattle.nft_tree.specs.Tree.{Text}
-use Rattle.pcap_io.specs.Counting.{AppendsPrefix, one_more}
-use Rattle.pcap_io.specs.steps.Written.{part_first, part_after}
-use Rattle.report.specs.steps.Paging.{Goes, CountsFailure}
+use Rattle.pcap_io.specs.Counting.{one_more}
+use Rattle.pcap_io.specs.steps.Written.{part_after, part_first}
+use Rattle.report.specs.steps.Paging.{CountsFailure, Goes}
 use Rattle.report.proofs.page.Page.put.Goals as goal
 
 -- the buffered bytes are not all written

@@ -1,5 +1,5 @@
 use Rattle.report.specs.steps.Paging.{piece_text}
-use Rattle.report.proofs.Putting.{left_start, left_more, written_at}
+use Rattle.report.proofs.Putting.{left_more, left_start, written_at}
 use Rattle.report.proofs.page.Page.put_all.Goals as goal
 
 pub loop-piece-init : goal.loop-piece-init

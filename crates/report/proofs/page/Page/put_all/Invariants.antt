@@ -1,6 +1,6 @@
 -- the pieces that are left to put
-use Rattle.std.proofs.Common.{drop}
-use Rattle.report.specs.steps.Paging.{PutsAllBut, pieces_text}
+use Rattle.report.proofs.Imports.{PutsAllBut, drop}
+use Rattle.report.specs.steps.Paging.{pieces_text}
 use Rattle.report.proofs.page.Page.put_all.Given as goal
 
 abbrev pub invariant-loop-piece : goal.invariant-loop-piece

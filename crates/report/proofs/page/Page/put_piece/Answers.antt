@@ -1,5 +1,4 @@
-use Rattle.std.proofs.Common.{◌≡◌, ◌∙◌}
-use Rattle.std.specs.Fmt.{decimal}
+use Rattle.report.proofs.Imports.{decimal, ◌∙◌, ◌≡◌}
 use Rattle.report.proofs.Putting.{puts_on}
 use Rattle.report.proofs.page.Page.put_piece.Goals as goal
 

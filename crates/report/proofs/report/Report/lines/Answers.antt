@@ -1,5 +1,5 @@
 use Rattle.std.proofs.lemmas.Result.{err_from_is_err_and}
-use Rattle.report.proofs.CounterTexts.{rest_seen, kept_written, prefix_written, unflushed_written}
+use Rattle.report.proofs.CounterTexts.{kept_written, prefix_written, rest_seen, unflushed_written}
 use Rattle.report.proofs.report.Report.lines.Goals as goal
 
 pub returns-in_err-write_rest-clause-part : goal.returns-in_err-write_rest-clause-part

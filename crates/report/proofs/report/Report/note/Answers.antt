@@ -1,6 +1,6 @@
-use Rattle.std.proofs.Common.{◌+◌, ap, ◌∙◌, arith}
+use Rattle.report.proofs.Imports.{ap, arith, ◌+◌, ◌∙◌}
 use Rattle.report.proofs.Ended.{drop_more, more_by_test, test_most}
-use Rattle.report.proofs.OneMore.{raised_fits, fits_more, tallies_fit_more, reports_more}
+use Rattle.report.proofs.OneMore.{fits_more, raised_fits, reports_more, tallies_fit_more}
 use Rattle.report.specs.contracts.report.Report.{the_view}
 use Rattle.report.proofs.report.Report.note.Goals as goal
 

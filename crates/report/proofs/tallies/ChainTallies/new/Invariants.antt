@@ -1,7 +1,5 @@
 -- the tallies so far
-use Rattle.std.proofs.Common.{◌≡◌, map, take}
-use Rattle.std.specs.Prelude.{All}
-use Rattle.nft_tree.specs.Tree.{rule_tree}
+use Rattle.report.proofs.Imports.{All, map, rule_tree, take, ◌≡◌}
 use Rattle.report.specs.steps.Tallying.{fresh_rule}
 use Rattle.report.proofs.Fresh.{FitsStart}
 use Rattle.report.proofs.tallies.ChainTallies.new.Given as goal

@@ -1,7 +1,5 @@
 -- the tallies so far
-use Rattle.std.proofs.Common.{◌≡◌, map, take}
-use Rattle.std.specs.Prelude.{All}
-use Rattle.nft_tree.specs.Tree.{statement}
+use Rattle.report.proofs.Imports.{All, map, statement, take, ◌≡◌}
 use Rattle.report.specs.steps.Tallying.{fresh_statement}
 use Rattle.report.proofs.Fresh.{FitsStart}
 use Rattle.report.proofs.tallies.RuleTallies.new.Given as goal

@@ -1,5 +1,5 @@
-use Rattle.std.proofs.Common.{arith}
-use Rattle.report.proofs.Counting.{set_there, none_there}
+use Rattle.report.proofs.Imports.{arith}
+use Rattle.report.proofs.Counting.{none_there, set_there}
 use Rattle.report.proofs.tallies.RulesetTallies.count.Goals as goal
 
 pub returns-then-number-len : goal.returns-then-number-len

@@ -1,6 +1,5 @@
 -- what the events that are left make of the tallies so far
-use Rattle.std.proofs.Common.{◌≡◌, drop}
-use Rattle.report.specs.steps.Tallying.{counted_all}
+use Rattle.report.proofs.Imports.{counted_all, drop, ◌≡◌}
 use Rattle.report.proofs.tallies.RulesetTallies.count_events.Given as goal
 
 abbrev pub invariant-loop-event : goal.invariant-loop-event

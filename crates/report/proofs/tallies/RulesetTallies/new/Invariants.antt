@@ -1,8 +1,5 @@
 -- the tallies so far
-use Rattle.std.proofs.Common.{◌≡◌, map, take}
-use Rattle.std.specs.Prelude.{All}
-use Rattle.nft_tree.specs.Tree.{table_tree}
-use Rattle.report.specs.steps.Tallying.{fresh_table}
+use Rattle.report.proofs.Imports.{All, fresh_table, map, table_tree, take, ◌≡◌}
 use Rattle.report.proofs.Fresh.{FitsStart}
 use Rattle.report.proofs.tallies.RulesetTallies.new.Given as goal
 

@@ -1,10 +1,7 @@
-use Rattle.std.proofs.Common.{arith}
-use Rattle.std.proofs.lemmas.Grind.{common_steps}
-use Rattle.std.proofs.lemmas.List.Elements.{All-push}
-use Rattle.std.specs.Prelude.{All}
+use Rattle.report.proofs.Imports.{All, All-push, arith, common_steps}
 use Rattle.report.proofs.Fresh.{FitsStart}
-use Rattle.report.proofs.tallies.TableTallies.new.Goals as goal
 use Rattle.report.proofs.tallies.TableTallies.new.Goals.{in-Some+in_ok-new+in_ok-push, in_default}
+use Rattle.report.proofs.tallies.TableTallies.new.Goals as goal
 
 pub loop-item-preserved : goal.loop-item-preserved
 loop-item-preserved c = record {

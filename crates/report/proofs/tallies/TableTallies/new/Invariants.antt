@@ -1,9 +1,6 @@
 -- the tallies so far, and those of the chains from this item on
-use Rattle.std.proofs.Common.{◌≡◌, ◌++◌, map, drop}
-use Rattle.std.specs.Prelude.{All}
-use Rattle.nft_tree.specs.Tree.{table_tree}
-use Rattle.nft_tree.proofs.Chains.{chains_among}
-use Rattle.report.specs.steps.Tallying.{fresh_chain, fresh_table}
+use Rattle.report.proofs.Imports.{All, chains_among, drop, fresh_table, map, table_tree, ◌++◌, ◌≡◌}
+use Rattle.report.specs.steps.Tallying.{fresh_chain}
 use Rattle.report.proofs.Fresh.{FitsStart}
 use Rattle.report.proofs.tallies.TableTallies.new.Given as goal
 
