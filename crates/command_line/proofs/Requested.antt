@@ -2,8 +2,8 @@
 -- (`task_requested`), and words that are a task are never refused but for memory (`words_pass`).
 -- `Words` has the pass over the words of a subcommand, which finds what the definitions say, and `Parse` shows
 -- that clap finds the same, for each command of one form; the three subcommands are such.
-use Rattle.std.proofs.Common.{◌==◌, ◌||◌, ◌∙◌, ◌∷◌, ◌≡◌, [], ℕ, Bool, List, None, Option, Some, ap, arith, codes, cond, false, is_some, refl, rules, subst, sym, true}
-use Rattle.std.proofs.Common.{◌&&◌, length, fold, map, option_map, option_and_then, slice_get, slice_index_or, bytes_eq}
+use Rattle.std.proofs.Common.{◌==◌, ◌||◌, ◌∙◌, ◌∷◌, ◌≡◌, [], ℕ, Bool, List, None, Option, Some, ap, codes, cond, false, is_some, refl, rules, subst, sym, true}
+use Rattle.std.proofs.Common.{arith, ◌&&◌, length, fold, map, option_map, option_and_then, slice_get, slice_index_or, bytes_eq}
 use Rattle.std.specs.Prelude.{unwrap_or}
 use Rattle.std.proofs.Math.Bool.{or-true}
 use Rattle.std.proofs.lemmas.Slice.Eq.{bytes_eq-Decides}
