@@ -54,7 +54,12 @@ ending_from format Malformed count bytes (few, long, over) = by_malformed _ _ _ 
 -- no record begins after as many as a file may have, nor in fewer bytes than it takes
 pub begins_from : (format : Format) (count : ℕ) (bytes : List ℕ) → ending_at format count bytes ≡ None
     → (count ≢ MOST_RECORDS) × (16 ≤ length bytes) × IsGood format bytes × (16 + captured_length_in format bytes ≤ length bytes)
-begins_from format count bytes is = (grind (arith, nat_tests), grind (arith, nat_tests), (grind (arith, nat_tests), grind (arith, nat_tests)), grind (arith, nat_tests))
+begins_from format count bytes is = (
+  grind (arith, nat_tests),
+  grind (arith, nat_tests),
+  (grind (arith, nat_tests), grind (arith, nat_tests)),
+  grind (arith, nat_tests),
+)
 
 -- a record begins where its header and its bytes are there
 pub begins_at : (format : Format) (count : ℕ) (bytes : List ℕ) {captured fraction : ℕ} → count < MOST_RECORDS → 16 + captured ≤ length bytes
@@ -63,7 +68,8 @@ pub begins_at : (format : Format) (count : ℕ) (bytes : List ℕ) {captured fra
 begins_at format count bytes few there is_captured is_fraction small within = rw (is_captured, is_fraction) (grind (arith, nat_tests))
 
 -- and the other way around
-pub ends_from : (format : Format) (ending : Ending) (count : ℕ) (bytes : List ℕ) → count ≤ MOST_RECORDS → ending_at format count bytes ≡ Some ending → Ends format ending count bytes
+pub ends_from : (format : Format) (ending : Ending) (count : ℕ) (bytes : List ℕ)
+    → count ≤ MOST_RECORDS → ending_at format count bytes ≡ Some ending → Ends format ending count bytes
 ends_from format Whole count bytes most is = no_bytes bytes (grind (arith, nat_tests))
 ends_from format Over count bytes most is = (some_from bytes (grind (arith, nat_tests)), grind (arith, nat_tests))
 ends_from format Torn count bytes most is = grind (arith, some_from, cases_lt)

@@ -29,7 +29,20 @@ header_first format r more is =
 not_ended : (format : Format) (e : Ending) (count : ℕ) (r : Captured) (more : List ℕ) → IsRecord format r
     → count < MOST_RECORDS → Ends format e count (frame r ++ more) → ⊥
 not_ended format e count r more is few ends =
-    grind (arith, header_first, ending_at, begins_at, length-append, is.head_length, captured_length_kept, is.captured, fraction_kept, is.good.0, is.good.1, ending_from)
+    grind (
+      arith,
+      header_first,
+      ending_at,
+      begins_at,
+      length-append,
+      is.head_length,
+      captured_length_kept,
+      is.captured,
+      fraction_kept,
+      is.good.0,
+      is.good.1,
+      ending_from,
+    )
 
 -- a stream has one ending
 one_ending : (format : Format) (e e' : Ending) (count : ℕ) (rest : List ℕ) → Ends format e count rest

@@ -1,6 +1,6 @@
 -- A report of one record more.
-use Rattle.report.proofs.Imports.{AllWithin, Bool, Cause, Entry, Event, List, Note, TableTree, Tallies, Text, ap, arith, counted_all, flat_map, inl, inr, length}
-use Rattle.report.proofs.Imports.{note_line, report_index, set, sym, tally_at, ℕ, ◌*◌, ◌++◌, ◌+◌, ◌<◌, ◌∙◌, ◌∷◌, ◌≡◌, ◌≤◌}
+use Rattle.report.proofs.Imports.{AllWithin, Bool, Cause, Entry, Event, List, Note, TableTree, Tallies, Text, ap, arith, counted_all, flat_map, inl, inr}
+use Rattle.report.proofs.Imports.{length, note_line, report_index, set, sym, tally_at, ℕ, ◌*◌, ◌++◌, ◌+◌, ◌<◌, ◌∙◌, ◌∷◌, ◌≡◌, ◌≤◌}
 use Rattle.std.proofs.Common.{get_or-set_other, get_or-set_same, slice_index, subst, ◌^◌, ◌⊎◌}
 use Rattle.std.proofs.Math.Nat.{mul-le-mul}
 use Rattle.std.proofs.lemmas.Bool.{cases_eq, cases_lt}

@@ -7,7 +7,8 @@ pub returns-in-Some-clause-used : goal.returns-in-Some-clause-used
 returns-in-Some-clause-used c =
     let port = c.args.port in
     let in_use = IfSome_at _ (IsInUse c.args.key) c.in-Some.pool.now (sym c.in-Some.ensures.value) (c.requires.used c.args.key) in
-    sets_all same_pool pool_test _ _ _ _ ((c.get_mut.follows.holds c.take.new.self).3 (ap is_some (sym c.in-Some.ensures.value))).0 (λ q o. IfSome o (IsInUse q))
+    let held = (c.get_mut.follows.holds c.take.new.self).3 (ap is_some (sym c.in-Some.ensures.value)) in
+    sets_all same_pool pool_test _ _ _ _ held.0 (λ q o. IfSome o (IsInUse q))
     (λ q apart. c.requires.used q) (record {
       order = c.take.ensures.order ∙ in_use.order;
       bitmap = in_use.bitmap;

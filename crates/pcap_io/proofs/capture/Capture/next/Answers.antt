@@ -22,7 +22,22 @@ returns-in_default-fill-clause-broken g c _ _ = grind (arith, not_ready, part_of
 
 pub returns-in_default-fill-clause-next_answers : goal.returns-in_default-fill-clause-next_answers
 returns-in_default-fill-clause-next_answers g c none =
-    grind (arith, nat_tests, c.self-in-loop-self.view_is, not_ready, c.is_ready.ensures, c.loop-self-test.true, part_of, c.self-in-loop-self.invariant.few, c.in_default-fill.ensures.err, g.R.Read.remaining, c.loop-self.reader.inner, c.loop-self.self, failed, Keeps-trans, c.loop-self.invariant.whole, c.self.view_is, known)
+    grind (
+      arith,
+      nat_tests,
+      c.self-in-loop-self.view_is,
+      not_ready,
+      c.is_ready.ensures,
+      c.loop-self-test.true,
+      part_of,
+      c.self-in-loop-self.invariant.few,
+      c.in_default-fill.ensures.err,
+      failed,
+      Keeps-trans,
+      c.loop-self.invariant.whole,
+      c.self.view_is,
+      known,
+    )
 
 pub returns-clause-next_answers : goal.returns-clause-next_answers
 returns-clause-next_answers g c none =
