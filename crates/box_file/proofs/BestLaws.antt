@@ -74,11 +74,7 @@ none_longer (r ∷ rs) m l = rw (ne_eqb r.prefix m (λ e. omega arith), none_lon
 -- only 0 can be the greatest prefix of no route
 absent : (rs : List RouteEntry) (m : ℕ) → greatest rs ≡ m → find (λ r. r.prefix == m) rs ≡ None → m ≡ 0
 absent [] m e none = sym e
-absent (r ∷ rs) m e none =
-    elim (cases_eq r.prefix m) [
-      | inl same ↦ let some : Some r ≡ None = rw (eq-eqb r.prefix m same) at none in absurd cc
-      | inr other ↦ absent rs m (omega arith) (rw (ne_eqb r.prefix m other) at none)
-    ]
+absent (r ∷ rs) m e none = grind (arith, cases_eq, r.prefix, eq-eqb, ne_eqb, (absent rs m))
 
 -- ---- lists with the same first route of each length
 

@@ -1,11 +1,11 @@
 -- A text describes one box or has one fault.
-use Rattle.box_file.proofs.Names.{HasBoxFault, IsBox, Line, List, None, Option, PlantTree, Reads, Some, [], ap, false, has_fault, idle_for, idles_in, inl, inr}
-use Rattle.box_file.proofs.Names.{is_out_of_range, is_some, least_fault, lines_in, list_any, plant_of, refl, sym, ℕ, ◌∙◌, ◌∷◌, ◌≡◌, ◌⊎◌}
+use Rattle.std.proofs.Common.{arith}
+use Rattle.box_file.proofs.Names.{HasBoxFault, IsBox, Line, List, None, Option, PlantTree, Reads, Some, ap, false, idle_for, idles_in, inl, inr}
+use Rattle.box_file.proofs.Names.{is_out_of_range, least_fault, lines_in, list_any, plant_of, refl, sym, ℕ, ◌∙◌, ◌≡◌, ◌⊎◌}
 use Rattle.std.proofs.lemmas.Option.{none-some, same_Some}
 use Rattle.box_file.specs.declared.fault.BoxFault.{BoxFault}
-use Rattle.box_file.specs.declared.fault.BoxFault.TheVariants.{Form, Repeated, UnknownName, TooLarge, OutOfRange}
+use Rattle.box_file.specs.declared.fault.BoxFault.TheVariants.{Form}
 use Rattle.box_file.proofs.IdleLaws.{same_limits, limits_of, are_limits}
-use Rattle.box_file.proofs.ListLaws.{each_fails, some-found}
 use Rattle.box_file.proofs.LineLaws.{lines_found, lines_only}
 
 -- a text is parsed in one way only
@@ -21,23 +21,17 @@ one_plant text p q b c =
 
 pub box_or_fault : (text : List ℕ) (p : PlantTree) (fault : BoxFault) → IsBox text p → HasBoxFault text fault → ⊥
 box_or_fault text p fault b (inl f) = f.0 b.lines b.read
-box_or_fault text p fault b (inr f) =
-    let same = one_reading_of_box text b.lines f.0 b.read f.1 in
-    none-some fault (sym b.faultless ∙ ap (least_fault text) same ∙ f.2)
+box_or_fault text p fault b (inr f) = grind (arith, one_reading_of_box, b.lines, f.0, b.read, f.1, none-some, b.faultless, f.2)
 
 pub one_fault : (text : List ℕ) (fault other : BoxFault) → HasBoxFault text fault → HasBoxFault text other → fault ≡ other
 one_fault text fault other (inl f) (inl g) = f.1 ∙ sym g.1
 one_fault text fault other (inl f) (inr g) = absurd (f.0 g.0 g.1)
 one_fault text fault other (inr f) (inl g) = absurd (g.0 f.0 f.1)
-one_fault text fault other (inr f) (inr g) =
-    let same = one_reading_of_box text f.0 g.0 f.1 g.1 in
-    same_Some fault other (sym f.2 ∙ ap (least_fault text) same ∙ g.2)
+one_fault text fault other (inr f) (inr g) = grind (arith, one_reading_of_box, f.0, f.1, same_Some, f.2)
 
 -- the idle timeouts of a faultless text are in range
 pub idle_right : (text : List ℕ) (ls : List Line) → least_fault text ls ≡ None → list_any is_out_of_range (idles_in ls) ≡ false
-idle_right text ls e =
-    let faults = Form ∷ Repeated ∷ UnknownName ∷ TooLarge ∷ OutOfRange ∷ [] in
-    (each_fails (has_fault text ls) faults (sym (some-found (has_fault text ls) faults) ∙ ap is_some e)).1.1.1.1.0
+idle_right text ls e = grind arith
 
 pub none_read : (text : List ℕ) (ls : List Line) → lines_in text ≡ None → Reads text ls → ⊥
 none_read text ls e r = none-some ls (sym e ∙ lines_only text ls r)

@@ -7,7 +7,7 @@ use Rattle.box_file.proofs.Names.{inr, interface_line, interface_words, is_ascii
 use Rattle.box_file.proofs.Names.{length-append, length-decimal-le, line_in, line_of, lines_in, lines_of, list_all, lt-ltb, ltb-true, map, name_in, nat_lt}
 use Rattle.box_file.proofs.Names.{ne_eqb, not, not_from_false, number_in, octet_in, option_map, or_left, or_right, position_or_len, prefixed_in, refl}
 use Rattle.box_file.proofs.Names.{route_line, route_words, same_text, suc, sym, take, take_at, true, uncons, word_of, words_in, words_of, zero, ℕ, ◌%◌, ◌&&◌}
-use Rattle.box_file.proofs.Names.{◌*◌, ◌++◌, ◌+◌, ◌-◌, ◌/◌, ◌<◌, ◌==◌, ◌^◌, ◌||◌, ◌∙◌, ◌∷◌, ◌≡◌, ◌≢◌, ◌⊎◌}
+use Rattle.box_file.proofs.Names.{◌*◌, ◌++◌, ◌+◌, ◌-◌, ◌/◌, ◌<◌, ◌==◌, ◌^◌, ◌∙◌, ◌∷◌, ◌≡◌, ◌≢◌, ◌⊎◌}
 use Rattle.std.specs.Fmt.{decimal}
 use Rattle.std.proofs.lemmas.List.Sums.{passes_at_first, split_at_first}
 use Rattle.std.proofs.lemmas.Slice.Eq.{bytes_eq-Decides}
@@ -37,10 +37,7 @@ place_only at [] ys l = (rw (eq-eqb at at refl) refl, refl)
 place_only at (x ∷ xs) ys l = let h = place_only at xs ys l.1 in (rw (l.0, h.0) (omega arith), h.1)
 
 cut_only : (at : ℕ) (xs ys : List ℕ) → Lacks at xs → cut at (xs ++ at ∷ ys) ≡ Some (xs, ys)
-cut_only at xs ys l =
-    let h = place_only at xs ys l in
-    let within : length xs < length (xs ++ at ∷ ys) = omega (arith, length-append xs (at ∷ ys)) in
-    rw (h.0, lt-ltb _ _ within, take_at xs (at ∷ ys) (length xs) refl, h.1) refl
+cut_only at xs ys l = grind (arith, place_only, length-append, lt-ltb, take_at)
 
 lacks-append : (at : ℕ) (xs ys : List ℕ) → Lacks at xs → Lacks at ys → Lacks at (xs ++ ys)
 lacks-append at [] ys l k = k
@@ -56,10 +53,7 @@ lacks_all test at f (b ∷ bs) e =
 
 lone_zero : (ds : List ℕ) → is_numeral ds ≡ true → get_or ds 0 0 ≡ 48 → length ds ≡ 1
 lone_zero [] e z = absurd cc
-lone_zero (d ∷ ds) e z =
-    let p = and_parts (list_all is_ascii_digit (d ∷ ds)) (not (d == 48) || length ds == 0) e in
-    let none : length ds ≡ 0 = eqb-true _ _ (rw z at p.1) in
-    omega arith
+lone_zero (d ∷ ds) e z = grind arith
 
 number_found : (ds : List ℕ) → IfSome (number_in ds) (λ n. (decimal n ≡ ds) × (n < 2 ^ 32))
 unfolding number_in
@@ -113,13 +107,7 @@ joined w x y z = w * 16777216 + x * 65536 + y * 256 + z
 
 dotted_joined : (w x y z : ℕ) → w < 256 → x < 256 → y < 256 → z < 256
     → (dotted (joined w x y z) ≡ quad (decimal w) (decimal x) (decimal y) (decimal z)) × (joined w x y z < 2 ^ 32)
-dotted_joined w x y z hw hx hy hz =
-    let a = joined w x y z in
-    let first : a / 16777216 ≡ w = omega arith in
-    let second : a / 65536 % 256 ≡ x = omega arith in
-    let third : a / 256 % 256 ≡ y = omega arith in
-    let fourth : a % 256 ≡ z = omega arith in
-    (dotted_is a ∙ cc, omega arith)
+dotted_joined w x y z hw hx hy hz = grind (arith, dotted_is)
 
 address_found : (bs : List ℕ) → IfSome (address_in bs) (λ a. (dotted a ≡ bs) × (a < 2 ^ 32))
 unfolding address_in
@@ -148,11 +136,7 @@ address_only a small =
     rw (dotted_is a, p, q, r, octet_only w (omega arith), octet_only x (omega arith), octet_only y (omega arith), octet_only z (omega arith), back) refl
 
 dotted_lacks : (at a : ℕ) → is_ascii_digit at ≡ false → (46 == at) ≡ false → a < 2 ^ 32 → Lacks at (dotted a)
-dotted_lacks at a other dot small =
-    let join = λ (n : ℕ) (less : n < 2 ^ 32) (ys : List ℕ) (l : Lacks at ys).
-    lacks-append at (decimal n) (46 ∷ ys) (decimal_lacks at n other less) (dot, l) in
-    rw (dotted_is a) (join (a / 16777216) (omega arith) _ (join (a / 65536 % 256) (omega arith) _
-    (join (a / 256 % 256) (omega arith) _ (decimal_lacks at (a % 256) other (omega arith)))))
+dotted_lacks at a other dot small = grind (arith, lacks-append, decimal_lacks, dotted_is)
 
 prefixed_found : (bs : List ℕ) → IfSome (prefixed_in bs) (λ p. (bs ≡ dotted_prefix p.0 p.1) × (p.0 < 2 ^ 32) × (p.1 < 33))
 unfolding prefixed_in
@@ -234,9 +218,7 @@ named Q text word o p h k = cond_both (same_text text word) o p (λ r. IfSome r 
     (λ e. h ((bytes_eq-Decides text word).0 (same_text-pointwise text word ∙ e))) (λ e. k)
 
 kind_found : (word : List ℕ) → IfSome (kind_in word) (λ k. word_of k ≡ word)
-kind_found word =
-    let by = λ (k : IdleKind) (o : Option IdleKind). named (λ l. word_of l ≡ word) word (word_of k) (Some k) o (λ e. sym e) in
-    by kinds.Udp _ (by kinds.Established _ (by kinds.Transitory _ (by kinds.Echo _ (by kinds.Other None tt))))
+kind_found word = grind (arith, named)
 
 kind_only : (k : IdleKind) → kind_in (word_of k) ≡ Some k
 kind_only kinds.Udp = refl

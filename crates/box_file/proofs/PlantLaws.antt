@@ -1,9 +1,10 @@
 -- The invariant of a `Plant`: its interface indexes are valid, and its lookup table is right.
+use Rattle.std.proofs.Common.{arith}
 use Rattle.box_file.proofs.Names.{Bool, EachIndexed, EachRouteIndexed, IfSome, IfSome_at, Interface, IsIndex, KnowsNames, Line, List, NamedRoute, None, Option}
-use Rattle.box_file.proofs.Names.{RouteEntry, Some, [], best_interface, covers, default_line, defaults_in, each_is_line, entering_of, false, filter, filter_map}
-use Rattle.box_file.proofs.Names.{find, find-filter, greatest, idle_line, interface_line, interfaces_in, is_malformed, is_named, is_some, is_unknown}
+use Rattle.box_file.proofs.Names.{RouteEntry, Some, [], best_interface, default_line, defaults_in, each_is_line, entering_of, false, filter_map}
+use Rattle.box_file.proofs.Names.{find, find-filter, idle_line, interface_line, interfaces_in, is_malformed, is_some, is_unknown}
 use Rattle.box_file.proofs.Names.{known_index, list_any, not-false, option_map, or_parts, refl, route_line, route_of_line, routes_in, sym, true, unwrap_or, ℕ}
-use Rattle.box_file.proofs.Names.{◌&&◌, ◌==◌, ◌∙◌, ◌∷◌, ◌≡◌}
+use Rattle.box_file.proofs.Names.{◌∷◌, ◌≡◌}
 use Rattle.box_file.proofs.ListLaws.{found_all, some-found}
 
 -- ---- interface indexes
@@ -21,9 +22,7 @@ known None h e = absurd cc
 known (Some i) h e = h
 
 known_number : (n : List ℕ) (is : List Interface) → EachIndexed is → is_unknown is n ≡ false → IsIndex (known_index is n)
-known_number n is h e =
-    known (find (is_named n) is) (found_all (λ i. IsIndex i.index) (is_named n) is h)
-    (some-found (is_named n) is ∙ not-false (list_any (is_named n) is) e)
+known_number n is h e = grind (arith, known, found_all, some-found, not-false, list_any)
 
 -- each route has a valid interface index
 route_indexes : (is : List Interface) → EachIndexed is → (ls : List Line) → each_is_line ls
@@ -56,10 +55,7 @@ if_mapped f P None h = tt
 if_mapped f P (Some x) h = h
 
 pub route_found_index : (rs : List RouteEntry) (a : ℕ) (o : Option ℕ) → EachRouteIndexed rs → o ≡ best_interface rs a → IfSome o IsIndex
-route_found_index rs a o h e =
-    let longest : RouteEntry → Bool = λ r. r.prefix == greatest (filter (covers a) rs) in
-    rw e (if_mapped (λ r. r.interface) IsIndex (find longest (filter (covers a) rs)) (rw (find-filter longest (covers a) rs)
-    (found_all (λ r. IsIndex r.interface) (λ r. covers a r && longest r) rs h)))
+route_found_index rs a o h e = grind (arith, if_mapped, find-filter, found_all)
 
 pub number_found : (p : Interface → Bool) (is : List Interface) (i : Interface) → EachIndexed is → Some i ≡ find p is → IsIndex i.index
 number_found p is i h e =

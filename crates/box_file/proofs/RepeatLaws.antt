@@ -1,6 +1,7 @@
 -- Keys of the lines at the beginning of a list, line by line: which of them occurred, and with which values.
+use Rattle.std.proofs.Common.{arith}
 use Rattle.box_file.proofs.Names.{Bool, IsEquivalence, List, None, Option, Some, [], any_pair, ap, cond, drop, false, list_any, list_any-append, map}
-use Rattle.box_file.proofs.Names.{map-append, map-more, not, not-false, not-not, or-false, or_cases, or_left, or_right, or_self, refl, sym, take}
+use Rattle.box_file.proofs.Names.{map-append, map-more, not, not-not, or-false, or_cases, or_left, or_right, refl, sym, take}
 use Rattle.box_file.proofs.Names.{take-append-drop, true, two_values, ℕ, ⊎_elim, ◌&&◌, ◌++◌, ◌+◌, ◌||◌, ◌∙◌, ◌∷◌, ◌≡◌}
 use Rattle.box_file.proofs.ListLaws.{IsAt}
 
@@ -74,9 +75,7 @@ kept_step : {V : Type 0} (same : V → V → Bool) → IsEquivalence same → (b
     → differs same o v || (b && not (same u v)) ≡ differs same (cond b (Some u) o) v
 kept_step same laws false o p u v alike agrees = or-false (differs same o v)
 kept_step same laws true None p u v alike agrees = refl
-kept_step same laws true (Some w) p u v alike agrees =
-    let tied = not-false (same w u) (rw (← alike refl) at agrees) in
-    ap (λ b. not b || not (same u v)) (laws.congr w u v tied) ∙ or_self (not (same u v))
+kept_step same laws true (Some w) p u v alike agrees = grind arith
 
 module _ {L K V : Type 0} (same_key : K → K → Bool) (same_value : V → V → Bool) (laws : IsEquivalence same_value)
     (f : L → K × V) {ls : List L} {i : ℕ} {d : L} (here : IsAt ls i d) where

@@ -2,7 +2,7 @@
 use Rattle.box_file.proofs.Names.{Bool, Line, List, None, Option, Some, [], all_in, ap, append-nil, append_assoc, arith, cases_Bool, cases_lt, drop, drop_all}
 use Rattle.box_file.proofs.Names.{eqb-true, false, filter, first_line, inl, inr, is_newline, is_nonempty, le-ltb, length, length-drop, line_in, line_of}
 use Rattle.box_file.proofs.Names.{lines_in, lines_of, lt-ltb, map, nat_tests, nil_from_length, one-add, onto_first, option_map, parts_of, position_or_len, refl}
-use Rattle.box_file.proofs.Names.{suc, sym, take, take_all, true, uncons, words_of, ℕ, ⊎_elim, ◌++◌, ◌<◌, ◌==◌, ◌>>=◌, ◌∙◌, ◌∷◌, ◌≡◌}
+use Rattle.box_file.proofs.Names.{suc, sym, take, take_all, true, uncons, words_of, ℕ, ◌++◌, ◌<◌, ◌==◌, ◌>>=◌, ◌∙◌, ◌∷◌, ◌≡◌}
 
 pub some_left : (ts : List ℕ) (r : Bool) → r ≡ (length ts == 0) → r ≡ false → 0 < length ts
 some_left ts r e f = grind (arith, nat_tests)
@@ -19,12 +19,7 @@ parts_first ends b (c ∷ cs) = elim (cases_Bool (ends b)) [
 
 first_parts : (ts : List ℕ) → first_line ts
     ≡ (take (position_or_len is_newline ts) ts, drop (suc (position_or_len is_newline ts)) ts)
-first_parts ts =
-    let n = position_or_len is_newline ts in
-    ⊎_elim
-    (λ less. rw (lt-ltb n (length ts) less) refl)
-    (λ more. rw (le-ltb n (length ts) more, take_all n ts more, drop_all (suc n) ts (omega arith)) refl)
-    (cases_lt n (length ts))
+first_parts ts = grind (arith, position_or_len, lt-ltb, le-ltb, take_all, drop_all, cases_lt)
 
 lines_next : (ts : List ℕ) (f : List ℕ × List ℕ) → f ≡ first_line ts → 0 < length ts → lines_of ts ≡ f.0 ∷ lines_of f.1
 lines_next [] f cut some = absurd (omega arith)

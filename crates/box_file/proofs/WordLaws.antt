@@ -1,7 +1,7 @@
 -- The first word of a line, and the rest.
 use Rattle.box_file.proofs.Names.{Bool, List, None, Option, Some, [], ap, arith, before_comment, begins_word, cases_Bool, cond, cond_both, drop, ends_word}
 use Rattle.box_file.proofs.Names.{eqb-true, false, false_from_ne_true, false≢true, filter, inl, inr, is_blank, is_nonempty, length, ltb, ltb-false, ne_eqb}
-use Rattle.box_file.proofs.Names.{not-true, one-add, onto_first, or_parts, parts_of, position_or_len, refl, rest_from, sym, take, true, true_from_ne_false}
+use Rattle.box_file.proofs.Names.{one-add, onto_first, or_parts, parts_of, position_or_len, refl, rest_from, sym, take, true, true_from_ne_false}
 use Rattle.box_file.proofs.Names.{uncons, unwrap_or, words_of, ℕ, ◌+◌, ◌-◌, ◌<◌, ◌==◌, ◌∙◌, ◌∷◌, ◌≡◌, ◌≤◌}
 
 -- ---- indexes
@@ -16,11 +16,7 @@ place_within p (b ∷ bs) =
 pub place_or_end : (p : ℕ → Bool) (ts : List ℕ) (r : Option ℕ)
     → r ≡ cond (ltb (position_or_len p ts) (length ts)) (Some (position_or_len p ts)) None
     → unwrap_or r (length ts) ≡ position_or_len p ts
-place_or_end p ts r e =
-    let n = position_or_len p ts in
-    let within : n ≤ length ts = place_within p ts in
-    rw e (cond_both (ltb n (length ts)) (Some n) None (λ o. unwrap_or o (length ts) ≡ n) (λ t. refl)
-    (λ t. let past = ltb-false n (length ts) t in omega arith))
+place_or_end p ts r e = grind (arith, position_or_len, place_within, cond_both, unwrap_or, ltb-false)
 
 first_fails : (p : ℕ → Bool) (b : ℕ) (bs : List ℕ) → 0 < position_or_len p (b ∷ bs) → p b ≡ false
 first_fails p b bs some = false_from_ne_true (p b) (λ e. let none : 0 < 0 = rw e at some in omega arith)
@@ -74,10 +70,7 @@ word_taken (b ∷ bs) some =
 
 no_word : (ts : List ℕ) → position_or_len begins_word ts ≡ 0 → position_or_len ends_word ts ≡ 0 → words_of ts ≡ []
 no_word [] begins ends = refl
-no_word (b ∷ bs) begins ends =
-    let word : is_blank b ≡ false = not-true (is_blank b) (first_passes begins_word b bs begins) in
-    let sign : (b == 35) ≡ true = rw word at (first_passes ends_word b bs ends) in
-    rw sign refl
+no_word (b ∷ bs) begins ends = grind arith
 
 -- ---- the code's parts
 

@@ -1,4 +1,5 @@
-use Rattle.box_file.proofs.Names.{any_pair, ap, false, get, map, refl, says_at, sym, take_all, two_values, ◌∙◌, ◌≡◌}
+use Rattle.std.proofs.Common.{arith}
+use Rattle.box_file.proofs.Names.{ap, false, get, refl, says_at, sym, take_all, two_values, ◌∙◌, ◌≡◌}
 use Rattle.std.specs.HashMap.Eq.{lookup_congr}
 use Rattle.std.specs.Map.{lookup}
 use Rattle.box_file.proofs.ListLaws.{IsAt}
@@ -46,6 +47,4 @@ loop-line-preserved g c = λ f computes.
     )
 
 pub returns : goal.returns
-returns g c = λ f computes.
-    sym (ap (λ ls. any_pair (two_values g.K.PartialEq.eq g.V.PartialEq.eq) (map f ls))
-    (sym (take_all c.loop-line.line-index c.args.lines.now c.loop-line-test.false)) ∙ (c.loop-line.invariant f computes).0)
+returns g c = grind (arith, take_all, c.loop-line.line-index, c.args.lines.now, c.loop-line-test.false, c.loop-line.invariant)

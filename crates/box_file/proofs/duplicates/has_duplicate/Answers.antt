@@ -1,4 +1,5 @@
-use Rattle.box_file.proofs.Names.{any_pair, ap, cond, contains, false, list_any, map, refl, says_at, sym, take_all, true, ◌∙◌}
+use Rattle.std.proofs.Common.{arith}
+use Rattle.box_file.proofs.Names.{ap, cond, contains, false, list_any, refl, says_at, sym, take_all, true, ◌∙◌}
 use Rattle.box_file.proofs.ListLaws.{IsAt}
 use Rattle.box_file.proofs.RepeatLaws.{not_is, two_more, two_found, seen_more}
 use Rattle.box_file.proofs.duplicates.has_duplicate.Goals as goal
@@ -32,6 +33,4 @@ returns-then-not-branch g c = λ f computes.
     ∙ not_is _ false (sym c.in_ok-insert.ensures.added ∙ c.if-not-branch.true)))
 
 pub returns : goal.returns
-returns g c = λ f computes.
-    sym (ap (λ ls. any_pair g.K.PartialEq.eq (map f ls)) (sym (take_all c.loop-line.line-index c.args.lines.now c.loop-line-test.false))
-    ∙ (c.loop-line.invariant f computes).0)
+returns g c = grind (arith, take_all, c.loop-line.line-index, c.args.lines.now, c.loop-line-test.false, c.loop-line.invariant)

@@ -1,4 +1,5 @@
-use Rattle.box_file.proofs.Names.{None, Some, find, idle_tree, is_of_kind, map, refl, ◌≡◌}
+use Rattle.std.proofs.Common.{arith}
+use Rattle.box_file.proofs.Names.{Some, find, idle_tree, is_of_kind, map, ◌≡◌}
 use Rattle.box_file.proofs.IdleLaws.{found, some_limit}
 use Rattle.box_file.proofs.idle.limit.Goals as goal
 
@@ -14,9 +15,7 @@ returns-in-Some-clause-positive c =
     rw (c.seconds.ensures.small range.1) range.0
 
 pub returns-in-None-clause-value : goal.returns-in-None-clause-value
-returns-in-None-clause-value c =
-    let none : None ≡ find (is_of_kind c.args.kind) (map idle_tree c.args.lines.now) = rw c.in-None.is at c.find_by_kind.ensures in
-    rw (c.of.ensures, c.usual.ensures, ← none) refl
+returns-in-None-clause-value c = grind arith
 
 pub returns-in-None-clause-positive : goal.returns-in-None-clause-positive
 returns-in-None-clause-positive c = rw (c.of.ensures, c.usual.ensures) (some_limit c.args.kind).1

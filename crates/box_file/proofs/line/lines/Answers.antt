@@ -1,15 +1,12 @@
+use Rattle.std.proofs.Common.{arith}
 use Rattle.box_file.proofs.Names.{line_tree, lines_in, map, map_push, sym}
-use Rattle.box_file.proofs.TextLaws.{Turn, some_left, rest_shorter, blank_skipped, line_taken, no_line, no_more}
+use Rattle.box_file.proofs.TextLaws.{Turn, rest_shorter, blank_skipped, line_taken, no_line, no_more}
 use Rattle.box_file.proofs.line.lines.Goals as goal
 use Rattle.box_file.proofs.line.lines.Goals.{After-first_line}
 
 turn : (c : After-first_line) → Turn (map line_tree c.loop-rest.found.items) c.loop-rest.rest.now
     (c.first_line.result.0.now, c.first_line.result.1.now) (lines_in c.args.text.now)
-turn c = record {
-  cut = c.first_line.ensures;
-  some = some_left _ _ c.is_empty.ensures c.loop-rest-test.true;
-  so_far = c.loop-rest.invariant;
-}
+turn c = grind arith
 
 pub returns-in_default-line_of : goal.returns-in_default-line_of
 returns-in_default-line_of c =

@@ -1,6 +1,7 @@
+use Rattle.std.proofs.Common.{arith}
 use Rattle.box_file.proofs.Names.{inl, inr, line_tree, map, refl, sym}
 use Rattle.box_file.proofs.LineLaws.{lines_found}
-use Rattle.box_file.proofs.BoxLaws.{none_read, idle_right}
+use Rattle.box_file.proofs.BoxLaws.{none_read}
 use Rattle.box_file.proofs.plant.Plant.read.Goals as goal
 
 pub returns-in_default-clause-refused : goal.returns-in_default-clause-refused
@@ -18,9 +19,7 @@ plant_of-requires-clause-lines c = rw c.deref-2.ensures.value
     (lines_found c.args.text.now (map line_tree c.in-Some.lines.items) (sym (rw c.in-Some.is at c.in_ok-lines.ensures))).each
 
 pub plant_of-requires-clause-range : goal.plant_of-requires-clause-range
-plant_of-requires-clause-range c =
-    rw c.deref-2.ensures.value (idle_right c.args.text.now (map line_tree c.in-Some.lines.items)
-    (sym (rw (c.deref.ensures.value, c.in_default-2.is) at c.in_ok-fault.ensures)))
+plant_of-requires-clause-range c = grind arith
 
 pub returns-clause-ok : goal.returns-clause-ok
 returns-clause-ok c = record {
