@@ -61,11 +61,7 @@ cost_at t costs cost j c is at =
     (slice_get-map (λ (d : ChainTree). capped (cost (a_chain d.name))) (chains_of t) j ∙ ap (option_map (λ (d : ChainTree). capped (cost (a_chain d.name)))) at)
 
 part_le : (cost : Caller → ℕ) (c : ChainTree) → base_part c.head (capped (cost (a_chain c.name))) ≤ base_cost cost c.name c.head
-part_le cost c = by_head c.head
-  where
-    by_head : (head : Option HeadTree) → base_part head (capped (cost (a_chain c.name))) ≤ base_cost cost c.name head
-    by_head None = omega arith
-    by_head (Some head) = omega arith
+part_le cost c = grind arith
 
 parts_le : (cost : Caller → ℕ) (cs : List ChainTree) → sum_by (λ p. base_part p.0.head p.1)
     (zip cs (map (λ c. capped (cost (a_chain c.name))) cs)) ≤ sum_by (λ c. base_cost cost c.name c.head) cs

@@ -1,3 +1,4 @@
+use Rattle.std.proofs.Common.{arith}
 use Rattle.std.proofs.Common.{rules, ◌≡◌, List, false, subst, sym, ◌∙◌}
 use Rattle.std.specs.List.{list_any}
 use Rattle.list_laws.specs.Options.{IfSome_at}
@@ -28,21 +29,11 @@ none4 c apart =
 
 none5 : (c : In-Some-2) → HasNone 1 4 (tables_of c.args.tree.now) c.args.plant.now
     → HasNone 1 5 (tables_of c.args.tree.now) c.args.plant.now
-none5 c none4 =
-    let tables : List TableTree = tables_of c.args.tree.now in
-    let plant : PlantTree = c.args.plant.now in
-    let again : c.deref-2.result.now ≡ tables = search rules in
-    let known : AreFindings tables c.in-Some-2.found =
-    findings_of tables plant c.deref-2.result.now c.in-Some-2.found again
-    (at_some c.in_ok-found.field-0 (Cycles c.deref-2.result.now) (λ found. AreFindings c.deref-2.result.now found)
-    _ c.in-Some-2.is c.in_ok-found.ensures) in
-    after_cycles tables plant c.in-Some-2.found none4 known
+none5 c none4 = grind arith
 
 none12 : (c : In_default-fault_of_chains) → HasNone 1 5 (tables_of c.args.tree.now) c.args.plant.now
     → HasNone 1 12 (tables_of c.args.tree.now) c.args.plant.now
-none12 c none5 =
-    after_chains (tables_of c.args.tree.now) c.args.plant.now c.fault_of_chains.result none5
-    c.in_default-fault_of_chains.is c.fault_of_chains.ensures
+none12 c none5 = grind arith
 
 -- ---- the answers
 
