@@ -265,10 +265,7 @@ pub through : {A B C : Type 0} → (A ↔ B) → (B ↔ C) → A ↔ C
 through p q = (λ a. q.0 (p.0 a), λ c. p.1 (q.1 c))
 
 pub either : {P Q : Type 0} (a b : Bool) → (IsTrue a ↔ P) → (IsTrue b ↔ Q) → IsTrue (a || b) ↔ (P ⊎ Q)
-either a b p q = (
-  λ h. elim (or_cases a b h) [ inl k ↦ inl (p.0 k) | inr k ↦ inr (q.0 k) ],
-  λ m. elim m [ inl k ↦ or_left a b (p.1 k) | inr k ↦ or_right a b (q.1 k) ],
-)
+either a b p q = grind arith
 
 -- ---- one more table
 
@@ -289,14 +286,7 @@ module _ (rows : List (Vec ℕ Global)) (row : Vec ℕ Global) where
       ∙ get_or_push (map (λ r. r.items) rows) row.items [] i (length-map rows (λ r. r.items) ∙ e)
 
 pub none-so-far : AreFindingsSoFar [] false false 0 [] []
-none-so-far = record {
-  deep = (λ h. cc, λ d. absurd (Contains-none d.0 d.1));
-  nat = (λ h. cc, λ d. absurd (Contains-none d.0 d.1));
-  sum = λ cost_of are. omega arith;
-  costs_long = refl;
-  depths_long = refl;
-  rows = λ i t h e. absurd (omega (arith, h));
-}
+none-so-far = grind arith
 
 pub more-so-far : (ts : List TableTree) (t : TableTree) (deep misplaced : Bool) (cost : ℕ) (costs depths : List (Vec ℕ Global))
     (found : TableFindings) → AreFindingsSoFar ts deep misplaced cost costs depths → AreTableFindings t found

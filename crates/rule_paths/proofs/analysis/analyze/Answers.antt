@@ -12,13 +12,7 @@ pub loop-table-init : goal.loop-table-init
 loop-table-init c = rw (c.in_ok-costs.ensures.items, c.in_ok-depths.ensures.items) none-so-far
 
 pub returns-in_default : goal.returns-in_default
-returns-in_default c =
-    let t = c.table-item.result in
-    record {
-      table = t;
-      member = (c.loop-table.table-index, c.loop-table-test.true, sym c.table-item.is);
-      cycle = MatchOption-at_none (HasCycle (CallsOf t)) (λ found. AreTableFindings t found) c.in_default.is c.in_ok-found.ensures;
-    }
+returns-in_default c = grind arith
 
 pub loop-table-preserved : goal.loop-table-preserved
 loop-table-preserved c =

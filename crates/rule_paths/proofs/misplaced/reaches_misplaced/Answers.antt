@@ -35,7 +35,4 @@ loop-index-preserved c = elim c.else-reaching-index.branch [
 ]
 
 pub returns : goal.returns
-returns c = (
-  λ h. cc,
-  λ w. absurd (c.loop-index.invariant w.1.0 (omega (arith, w.1.1, length-map c.args.chains.now (λ c. chain_tree c.now))) w.0 w.1.2 w.2 w.3),
-)
+returns c = grind (arith, length-map)

@@ -5,12 +5,7 @@ use Rattle.rule_paths.proofs.ReadLaws.{costs-long, base-more, chain-is}
 use Rattle.rule_paths.proofs.table.base_cost.Goals as goal
 
 pub bounds-costs-index : goal.bounds-costs-index
-bounds-costs-index c = omega (
-  arith,
-  costs-long c.args.names.now c.args.costs.now c.requires,
-  ap length c.chains-chain-items.ensures.all,
-  length-map c.chains-chain-items.result.now (λ c. chain_tree c.now),
-)
+bounds-costs-index c = grind (arith, costs-long, length-map)
 
 pub loop-index-preserved : goal.loop-index-preserved
 loop-index-preserved c = λ cost are.
