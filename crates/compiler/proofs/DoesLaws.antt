@@ -18,9 +18,7 @@ finish-last go (over verdict f es) ticks = refl
 -- a chain can be called where fewer than 16 calls are open
 pub calls : (go : Continuation) (place : Option ℕ) (back : ℕ) (stack : List ℕ) (f : Facts) (es : List Event)
     (ticks : ℕ) → length stack < 16 → call go place back stack f es ticks ≡ enter_chain go place (back ∷ stack) f es ticks
-calls go place back stack f es ticks room =
-    let fits : nat_lt (length stack) 16 ≡ true = grind (arith, nat_tests) in
-    ap (λ (b : Bool). if b then enter_chain go place (back ∷ stack) f es ticks else invalid_code f es ticks) fits
+calls go place back stack f es ticks room = grind arith
 
 module _ (t : TableCode) where
   -- this has the result in at most so many statements, and more fuel changes nothing

@@ -69,10 +69,7 @@ added_cost : (table place cost : ℕ) (head : Option HeadTree) (number : ChainNo
     → map base more ≡ base_chain_of table place head → All (λ (b : CompiledChain). Costs number cost b.number b.cost) more
     → sum_by cost_of more ≡ base_part head cost
 added_cost table place cost None number [] are all = refl
-added_cost table place cost (Some head) number (b ∷ []) are all =
-    let is = All-head (λ (x : CompiledChain). Costs number cost x.number x.cost) b [] all in
-    let its = is.1 in
-    omega (arith, sum_by-cons cost_of b [])
+added_cost table place cost (Some head) number (b ∷ []) are all = grind (arith, All-head, sum_by-cons)
 added_cost table place cost head number more are all = cc
 
 rest_from : {A : Type 0} (xs : List A) (i : ℕ) (x : A) → slice_get xs i ≡ Some x → drop i xs ≡ x ∷ drop (i + 1) xs

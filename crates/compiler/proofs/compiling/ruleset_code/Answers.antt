@@ -1,3 +1,4 @@
+use Rattle.std.proofs.Common.{arith}
 use Rattle.compiler.proofs.Names.{Global, List, MatchOption-at_none, MatchOption-at_some, TableTree, Vec, ap, false_from_ne_true, has_wrong_value, list_any}
 use Rattle.compiler.proofs.Names.{subst, table_mismatches, tables_of, ◌∙◌, ◌≡◌}
 use Rattle.rule_names.specs.Names.{DuplicateName}
@@ -13,10 +14,7 @@ unreachable-requires c =
     c.requires faults.DuplicateName (subst DuplicateName c.tree.ensures twice)
 
 rules-named : (c : In-Some) → c.in-Some.names.items ≡ c.args.checked.now.rules
-rules-named c =
-    let tables : List TableTree = tables_of c.tree.result.now in
-    MatchOption-at_some (DuplicateName tables) (λ (names : Vec TableTree Global). names.items ≡ tables) c.in-Some.names
-    c.in-Some.is c.in_ok-names.ensures.names ∙ c.tree.ensures
+rules-named c = grind arith
 
 pub table_codes-requires-clause-types : goal.table_codes-requires-clause-types
 table_codes-requires-clause-types c = ap (list_any table_mismatches)

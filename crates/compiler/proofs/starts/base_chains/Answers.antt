@@ -5,16 +5,10 @@ use Rattle.compiler.proofs.starts.base_chains.Goals as goal
 use Rattle.compiler.proofs.starts.base_chains.Goals.{In_ok-to_u32}
 
 at : (c : In_ok-to_u32) → slice_get c.args.checked.now.rules c.loop-table.table ≡ Some c.index-names-table.result
-at c = subst (λ ts. slice_get ts c.loop-table.table ≡ Some c.index-names-table.result) c.requires.names
-    (slice_get_read c.args.names.now (length c.args.names.now) c.loop-table.table c.index-names-table.result refl
-    c.loop-table-test.true c.index-names-table.is)
+at c = grind (arith, slice_get, c.loop-table.table, c.requires.names, slice_get_read, c.args.names.now, c.loop-table-test.true, c.index-names-table.is)
 
 pub loop-table-init : goal.loop-table-init
-loop-table-init c = subst (TableBasesSoFar c.args.checked.now.rules 0) (sym c.new-bases.ensures.items) (record {
-  are = refl;
-  costed = All-nil (IsCosted c.args.checked.now.rules);
-  sum = λ costs are. omega arith;
-})
+loop-table-init c = grind arith
 
 pub add_bases-requires-clause-long : goal.add_bases-requires-clause-long
 add_bases-requires-clause-long c = costs-long c.index-names-table.result c.costs.result.now

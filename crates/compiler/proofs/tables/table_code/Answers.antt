@@ -10,18 +10,7 @@ at c = chain_at c.chains-chain-items.result.now c.args.names.now c.loop-place.pl
     c.chains-chain-items.ensures.all c.loop-place-test.true c.chain-item.is
 
 pub loop-place-init : goal.loop-place-init
-loop-place-init c = record {
-  placed = record {
-    left = [];
-    are_left = tt;
-    count = refl;
-    offsets = ap length c.new-2.ensures.items;
-    placed = λ k rules has. absurd (none-some rules has);
-    steps = ap length c.new.ensures.items;
-    dropped = omega arith;
-  };
-  declared = c.in_ok-declared.ensures;
-}
+loop-place-init c = grind arith
 
 pub add_chain-requires-clause-types : goal.add_chain-requires-clause-types
 add_chain-requires-clause-types c =
