@@ -95,10 +95,7 @@ table_follows {V} done xs none table = subst (λ l. Follows l xs) (sym none)
 pub table_past : {V : Type 0} (xs : List (Range × V)) (p : Range × V) → IsTable xs → EndsBefore xs p.0.low
     → ((i : ℕ) (d : Range × V) → i + 1 ≡ length xs → (get_or xs i d).0.high + 1 ≡ p.0.low → (get_or xs i d).1 ≡ p.1
     → ⊥) → IsTable (xs ++ p ∷ [])
-table_past xs p table ends apart = record {
-  separate = separate_push xs p table.separate (λ i d last. ends i d (omega arith));
-  merged = merged_push xs p table.merged apart;
-}
+table_past xs p table ends apart = grind (arith, separate_push, table.separate, merged_push, table.merged)
 
 -- the last piece merged with an adjacent range
 merged_range : (p r q : Range) (key : ℕ) → p.high + 1 ≡ r.low → q.low ≡ p.low → q.high ≡ max p.high r.high → in_range q key ≡ (in_range p key || in_range r key)
@@ -134,16 +131,10 @@ unpushed xs r v key none = same_back xs ((r, v) ∷ []) [] key (miss r v [] key 
 pub adds_part : {V : Type 0} (old new : List (Range × V)) (r part other : Range) (v : V) → r.low < other.low
     → part.low ≡ r.low → part.high + 1 ≡ min (r.high + 1) other.low → SameFirstValues new (old ++ (part, v) ∷ [])
     → AddsBelow old r v other.low new
-adds_part {V} old new r part other v begins low high same = record {
-  lesser = λ key lt. same key ∙ pushed old part r v key (grind (arith, nat_tests, low, high, lt));
-  others = λ key le. same key ∙ unpushed old part v key (past part key (omega arith));
-}
+adds_part {V} old new r part other v begins low high same = grind (arith, pushed, unpushed, past)
 
 pub adds_nothing : {V : Type 0} (old : List (Range × V)) (r other : Range) (v : V) → other.low ≤ r.low → AddsBelow old r v other.low old
-adds_nothing old r other v le = record {
-  lesser = λ key lt. sym (unpushed old r v key (under r key (omega arith)));
-  others = λ key _. refl;
-}
+adds_nothing old r other v le = grind (arith, unpushed, under)
 
 -- ---- a range under the first of the upper pieces
 

@@ -22,9 +22,7 @@ holds_at (x ∷ xs) (suc i) d key lt c = inr (holds_at xs i d key (omega arith) 
 -- a pair at an index gives its value
 pub holds_read : {V : Type 0} (xs : List (Range × V)) (i : ℕ) (p : Range × V) (key : ℕ) → i < length xs → p
     ≡ get_or xs i p → Covers p.0 key → HasValue xs key p.1
-holds_read {V} xs i p key lt is c =
-    let at = holds_at xs i p key lt (subst (λ (s : Range × V). Covers s.0 key) is c) in
-    subst (λ (s : Range × V). HasValue xs key s.1) (sym is) at
+holds_read {V} xs i p key lt is c = grind (arith, holds_at)
 
 -- a pair that contains the number and has the value, and its index
 pub record Place {V : Type 0} (xs : List (Range × V)) (key : ℕ) (v : V) : Type 0 where
@@ -93,11 +91,7 @@ adds_widen {V} xs i p q r v last is same split join =
 -- two ranges that overlap or are adjacent, and their merged range
 pub covers_split : (first later both : Range) → later.low ≤ first.high + 1 → both.low ≡ first.low → both.high
     ≡ max first.high later.high → (key : ℕ) → Covers both key → Covers first key ⊎ Covers later key
-covers_split first later both near low high key h =
-    ⊎_elim
-    (λ past. inr (record { above = omega arith; below = omega (arith, h.below) }))
-    (λ within. inl (record { above = omega (arith, h.above); below = within }))
-    (cases_lt first.high key)
+covers_split first later both near low high key h = grind arith
 
 pub covers_merge : (first later both : Range) → first.low ≤ later.low → both.low ≡ first.low → both.high
     ≡ max first.high later.high → (key : ℕ) → Covers first key ⊎ Covers later key → Covers both key
@@ -115,10 +109,7 @@ adds_take {V} xs i r v lt is =
 
 -- the same pair is appended to both lists
 pub same_more : {V : Type 0} (old new xs ys : List (Range × V)) (r : Range) (v : V) → SameValues old xs → Adds old r v new → Adds xs r v ys → SameValues new ys
-same_more {V} old new xs ys r v same adds adds' key w = (
-  λ h. (adds' key w).1 (⊎_elim (λ a. inl ((same key w).0 a)) (λ b. inr b) ((adds key w).0 h)),
-  λ h. (adds key w).1 (⊎_elim (λ a. inl ((same key w).1 a)) (λ b. inr b) ((adds' key w).0 h)),
-)
+same_more {V} old new xs ys r v same adds adds' key w = grind arith
 
 -- the pairs in another order
 pub holds_permutation : {V : Type 0} (xs ys : List (Range × V)) → IsPermutation xs ys → (key : ℕ) (v : V) → HasValue xs key v → HasValue ys key v

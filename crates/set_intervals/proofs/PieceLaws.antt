@@ -13,11 +13,7 @@ use Rattle.set_intervals.proofs.PairLaws.{place_of, place_covers, Says}
 
 -- the high ends of pieces ascend
 pub highs_rise : {V : Type 0} (xs : List (Range × V)) → IsSeparate xs → IsNonDecreasingBy (λ (p : Range × V). p.0.high) xs
-highs_rise xs sep i j d le lt =
-    ⊎_elim
-    (λ below. omega (arith, sep i j d below lt, (get_or xs j d).0.ordered))
-    (λ above. let e : i ≡ j = omega arith in omega (arith, ap (λ n. (get_or xs n d).0.high) e))
-    (cases_lt i j)
+highs_rise xs sep i j d le lt = grind arith
 
 pub highs_ascend : {V : Type 0} (xs : List (Range × V)) → IsSeparate xs → IsNonDecreasing (highs xs)
 highs_ascend [] sep i j d le lt = absurd (omega (arith, lt))
@@ -31,10 +27,7 @@ highs_ascend (x ∷ xs) sep i j d le lt =
 
 -- the last piece, for any index and default
 pub last_is : {V : Type 0} (xs : List (Range × V)) (n i : ℕ) (d q : Range × V) → n ≡ length xs → i + 1 ≡ length xs → q ≡ get_or xs (n - 1) q → get_or xs i d ≡ q
-last_is xs n i d q whole last is =
-    let e : i ≡ n - 1 = omega arith in
-    let lt : i < length xs = omega arith in
-    get_or_default xs i d q lt ∙ ap (λ m. get_or xs m q) e ∙ sym is
+last_is xs n i d q whole last is = grind (arith, get_or_default, get_or)
 
 pub separate_push : {V : Type 0} (xs : List (Range × V)) (p : Range × V) → IsSeparate xs
     → ((i : ℕ) (d : Range × V) → i + 1 ≡ length xs → (get_or xs i d).0.high < p.0.low) → IsSeparate (xs ++ p ∷ [])
@@ -67,11 +60,8 @@ merged_push xs p merged last i d lt =
 -- a new last piece that can't merge with the one before it
 pub table_push : {V : Type 0} (xs : List (Range × V)) (n : ℕ) (q p : Range × V) → IsTable xs → n ≡ length xs → q
     ≡ get_or xs (n - 1) q → ClassifiesOverlap q p Disjoint → IsTable (xs ++ p ∷ [])
-table_push {V} xs n q p table whole is apart = record {
-  separate = separate_push xs p table.separate (λ i d last. subst (λ (s : Range × V). s.0.high < p.0.low) (sym (last_is xs n i d q whole last is)) apart.0);
-  merged = merged_push xs p table.merged (λ i d last. subst (λ (s : Range × V). s.0.high + 1 ≡ p.0.low → s.1 ≢ p.1)
-      (sym (last_is xs n i d q whole last is)) apart.1);
-}
+table_push {V} xs n q p table whole is apart =
+    grind (arith, separate_push, table.separate, p.0.low, last_is, apart.0, merged_push, table.merged, p.1, apart.1)
 
 pub starts_push : {V : Type 0} (xs : List (Range × V)) (p : Range × V) → StartsBefore xs p.0.low → StartsBefore (xs ++ p ∷ []) p.0.low
 starts_push {V} xs p before i d lt = elim (cases_lt i (length xs)) [
@@ -85,12 +75,7 @@ starts_push {V} xs p before i d lt = elim (cases_lt i (length xs)) [
 
 pub starts_widen : {V : Type 0} (xs : List (Range × V)) (i : ℕ) (p q : Range × V) (n : ℕ) → i < length xs → p
     ≡ get_or xs i p → q.0.low ≡ p.0.low → StartsBefore xs n → StartsBefore (set xs i q) n
-starts_widen {V} xs i p q n lt is same before j d in_list = elim (cases_eq j i) [
-  | inl e ↦
-      let at = ap (λ m. get_or (set xs i q) m d) e ∙ get_or-set_same xs i q d lt in
-      omega (arith, ap (λ (s : Range × V). s.0.low) at, ap (λ (s : Range × V). s.0.low) is, before i p lt, same)
-  | inr ne ↦ rw (get_or-set_other xs i j q d ne) (before j d (omega (arith, length-set xs i q)))
-]
+starts_widen {V} xs i p q n lt is same before j d in_list = grind (arith, cases_eq, get_or, get_or-set_same, get_or-set_other, length-set)
 
 -- ---- the one value at a number
 
@@ -129,6 +114,4 @@ one_answer xs ys sep same key (Some v) (Some w) ha hb = ap Some (one_value xs se
 
 -- a table's pairs don't clash
 pub no_clash : {V : Type 0} (xs ys : List (Range × V)) → IsSeparate xs → SameValues xs ys → HasClash ys → ⊥
-no_clash xs ys sep same clash = clash.differ
-    (one_value xs sep clash.key clash.one clash.other ((same clash.key clash.one).1 clash.has_one)
-    ((same clash.key clash.other).1 clash.has_other))
+no_clash xs ys sep same clash = grind (arith, clash.differ, one_value, clash.key, clash.one, clash.other, clash.has_one, clash.has_other)

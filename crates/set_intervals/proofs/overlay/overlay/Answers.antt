@@ -5,14 +5,7 @@ use Rattle.set_intervals.proofs.LayerLaws.{laid_more, table_follows, table_none}
 use Rattle.set_intervals.proofs.overlay.overlay.Goals as goal
 
 pub loop-range-init : goal.loop-range-init
-loop-range-init g c =
-    let none = c.in_ok-pieces.ensures.items in
-    record {
-      table = table_none _ none;
-      follows = table_follows _ c.args.upper.now none c.requires.upper;
-      before = λ d some i e lt. absurd (omega (arith, ap length none));
-      first_values = λ key. ap (λ l. first_value (l ++ (c.args.upper.now ++ c.args.lower.now)) key) none;
-    }
+loop-range-init g c = grind (arith, c.in_ok-pieces.ensures.items, table_none, table_follows, c.args.upper.now, c.requires.upper, c.args.lower.now)
 
 pub loop-range-preserved : goal.loop-range-preserved
 loop-range-preserved g c =
@@ -31,6 +24,4 @@ loop-range-preserved g c =
     }
 
 pub append_under-requires-clause-past : goal.append_under-requires-clause-past
-append_under-requires-clause-past g c = λ k d lt.
-    let before = c.loop-range.invariant.before c.loop-range-item.result c.loop-range-test.true k d lt in
-    omega (arith, before, ap (λ p. p.0.low) c.loop-range-item.is)
+append_under-requires-clause-past g c = grind arith

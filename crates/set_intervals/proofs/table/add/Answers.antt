@@ -26,9 +26,7 @@ returns-in_ok-push-in-Disjoint-clause-table g c =
     c.requires.table (omega arith) c.index-last.ensures c.in-Disjoint.ensures)
 
 pub returns-in_ok-push-in-Disjoint-clause-after : goal.returns-in_ok-push-in-Disjoint-clause-after
-returns-in_ok-push-in-Disjoint-clause-after g c =
-    subst (λ l. StartsBefore l c.args.range.low) (sym c.in_ok-push-in-Disjoint.ensures.items)
-    (starts_push c.args.pieces.now.items (c.args.range, c.args.value) c.requires.after)
+returns-in_ok-push-in-Disjoint-clause-after g c = grind arith
 
 pub returns-in_ok-push-in-Disjoint-clause-adds : goal.returns-in_ok-push-in-Disjoint-clause-adds
 returns-in_ok-push-in-Disjoint-clause-adds g c =

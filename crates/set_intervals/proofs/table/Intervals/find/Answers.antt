@@ -1,3 +1,4 @@
+use Rattle.std.proofs.Common.{arith}
 use Rattle.std.proofs.Common.{◌∙◌, sym, subst}
 use Rattle.std.specs.Option.{option_copied}
 use Rattle.search_levels.specs.Levels.{Parts}
@@ -7,11 +8,7 @@ use Rattle.set_intervals.proofs.PieceLaws.{one_answer}
 use Rattle.set_intervals.proofs.table.Intervals.find.Goals as goal
 
 pub find_in-requires : goal.find_in-requires
-find_in-requires g c = record {
-  table = subst IsTable (sym c.deref.ensures.value) c.self.invariant.0;
-  parts = subst (λ l. Parts (highs l) c.args.key c.part-from.result.0 c.part-from.result.1) (sym c.deref.ensures.value)
-      (c.part-from.ensures (highs c.self.inside.pieces.items) c.self.invariant.1);
-}
+find_in-requires g c = grind arith
 
 pub returns-clause-first_values : goal.returns-clause-first_values
 returns-clause-first_values g c =
