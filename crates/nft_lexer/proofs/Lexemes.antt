@@ -97,9 +97,7 @@ run_exact test ds rest s none = run_more test ds rest s ∙ rw (none, append-nil
 
 byte_found : (k : ℕ) (ts : List ℕ) → IfSome (after_byte k ts) (λ r. ts ≡ k ∷ r)
 byte_found k [] = tt
-byte_found k (b ∷ bs) =
-    by_test (λ o. IfSome o (λ r. b ∷ bs ≡ k ∷ r)) (b == k) (Some bs) None
-    (λ e. ap (λ (x : ℕ). x ∷ bs) (eqb-true b k e)) (λ _. tt)
+byte_found k (b ∷ bs) = grind arith
 
 -- ---- soundness: what is read is spelled
 
@@ -270,9 +268,7 @@ digit_read (b ∷ bs) rest s = rw (and_parts (is_ascii_digit b) (list_all is_asc
 else_reads : (p : Lexeme) (first ts rest : List ℕ) (o d : Option (Lexeme × List ℕ))
     → IfSome o (Onward first ts) → length ts ≤ length rest → Reads p rest d → Reads p rest (option_or o d)
 else_reads p first ts rest None d h le r = r
-else_reads p first ts rest (Some x) d h le r =
-    let less : length x.1 < length ts = h.1 in
-    (omega arith, λ e. absurd (omega (arith, ap length e)))
+else_reads p first ts rest (Some x) d h le r = grind arith
 
 number_reads : (n rest : List ℕ) → IsDigits n → Reads (digits n) rest (number_at (n ++ rest))
 unfolding number_at
@@ -321,10 +317,7 @@ punctuation_reads : (long m : Punctuator) (rest : List ℕ)
     → Reads (punctuation m) rest (option_or (after_byte 61 rest >>= (λ r. Some (punctuation long, r)))
     (Some (punctuation m, rest)))
 punctuation_reads long m [] = (omega arith, λ _. refl)
-punctuation_reads long m (b ∷ bs) =
-    by_test (λ o. Reads (punctuation m) (b ∷ bs)
-    (option_or (o >>= (λ r. Some (punctuation long, r))) (Some (punctuation m, b ∷ bs)))) (b == 61)
-    (Some bs) None (λ _. (omega arith, λ e. absurd cc)) (λ _. (omega arith, λ _. refl))
+punctuation_reads long m (b ∷ bs) = grind arith
 
 punctuators_read : (m : Punctuator) (rest : List ℕ)
     → Reads (punctuation m) rest (lexeme_at (punctuator_text m ++ rest))
@@ -415,10 +408,7 @@ pub longest_lexeme_unique : (p q : Lexeme) (bytes others from to rest : List ℕ
     → IsLongestLexeme p bytes from to → IsLongestLexeme q others from rest
     → (p ≡ q) × (bytes ≡ others) × (to ≡ rest)
 longest_lexeme_unique p q bytes others from to rest s t =
-    let more : length bytes ≤ length others = t.longest p bytes to s.spelled s.joined in
-    let less : length others ≤ length bytes = s.longest q others rest t.spelled t.joined in
-    let same = same_front bytes others to rest (sym s.joined ∙ t.joined) (omega arith) in
-    (one_lexeme p q bytes s.spelled (subst (SpellsLexeme q) (sym same.0) t.spelled), same.0, same.1)
+    grind (arith, t.longest, s.spelled, s.joined, s.longest, t.spelled, t.joined, same_front, one_lexeme)
 
 pub tokens_unique : (p : Lexeme) (bytes : List ℕ) (xs ys : List LexedToken) → SpellsLexeme p bytes
     → HasTokens p bytes xs → HasTokens p bytes ys → xs ≡ ys
@@ -432,18 +422,10 @@ none_begins ts e q others after s joined = rw e at (reaches q ts others after s 
 
 -- The bytes before a suffix of the text.
 pub before : (ts bytes rest : List ℕ) → ts ≡ bytes ++ rest → take (length ts - length rest) ts ≡ bytes
-before ts bytes rest e =
-    let n : length ts - length rest ≡ length bytes = omega (arith, ap length e, length-append bytes rest) in
-    rw n (ap (take (length bytes)) e ∙ take_at bytes rest (length bytes) refl)
+before ts bytes rest e = grind (arith, length-append, take_at)
 
 pub lexeme_within : (ts : List ℕ) → IfSome (scanned_kind (lexeme_at ts)) (λ x. length x.1 ≤ length ts)
-lexeme_within ts =
-    elim (option_cases (lexeme_at ts)) [
-      | inl e ↦ rw e tt
-      | inr w ↦
-          let stands = lexeme_is_longest ts w.0 w.1 in
-          rw w.1 (omega (arith, ap length stands.1.joined, length-append stands.0 w.0.1))
-    ]
+lexeme_within ts = grind (arith, option_cases, lexeme_is_longest, length-append)
 
 abbrev pub IsNextOrFault : List ℕ → Result (List LexedToken × List ℕ) Fault → Type 0
 IsNextOrFault ts r = MatchResult r (λ x. ScansOne ts x.0 x.1)

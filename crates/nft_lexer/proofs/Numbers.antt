@@ -132,9 +132,7 @@ octet_found ds s =
     )) (below_found 256 n))
 
 valid_decimal : (n : ℕ) → n < 256 → IsValidDecimal (decimal n)
-valid_decimal zero less =
-    let one : length (decimal 0) ≡ 1 = rw (decimal_digit 0 (omega arith)) refl in
-    (λ many. absurd (omega (arith, one)), omega (arith, (decimal_is_IsNumeral 0 (omega arith)).1))
+valid_decimal zero less = grind (arith, decimal_digit, decimal_is_IsNumeral)
 valid_decimal (suc k) less =
     let first : 48 < get_or (decimal (suc k)) 0 0 = first_decimal (suc k) (omega arith) (omega arith) in
     (λ _. omega arith, omega (arith, (decimal_is_IsNumeral (suc k) (omega arith)).1))
@@ -210,12 +208,7 @@ meaning_found (name w) bytes s = ap (λ (t : List ℕ). one (word t) bytes) s.0
 meaning_found (digits n) bytes s = rw (as_number (decimal_at n) bytes)
     (view_found _ (decimal_at n) (λ v. one (number v) bytes) (decimal_found n s.1)
     (λ v h. (h.0, ap (λ (k : ℕ). one (number k) bytes) h.1)))
-meaning_found (hexadecimal n) bytes s =
-    rw (as_number (value_after 16 0 n) bytes, hexadecimal_is n s.1)
-    (view_found _ (below (2 ^ 64) (digits_value 16 n)) (λ v. one (number v) bytes)
-    (below_found (2 ^ 64) (digits_value 16 n)) (λ v h.
-    let less : v < 2 ^ 64 = h.1 in
-    (rw h.0 at less, ap (λ (k : ℕ). one (number k) bytes) h.0)))
+meaning_found (hexadecimal n) bytes s = grind (arith, as_number, hexadecimal_is, s.1, view_found, digits_value, below_found)
 meaning_found (dotted_quad a b c d) bytes s =
     rw (as_address (address_at a b c d) bytes)
     (view_found _ (address_at a b c d) (λ v. one (address v) bytes) (address_found a b c d s.1 s.2 s.3 s.4)
@@ -232,12 +225,7 @@ meaning_only (name w) bytes tokens s m =
     some_of tokens _ (m ∙ ap (λ (t : List ℕ). one (word t) bytes) (sym s.0))
 meaning_only (digits n) bytes tokens s m =
     rw (as_number (decimal_at n) bytes, decimal_only n s.1 m.0) (some_of tokens _ m.1)
-meaning_only (hexadecimal n) bytes tokens s m =
-    rw (
-      as_number (value_after 16 0 n) bytes,
-      hexadecimal_is n s.1,
-      below_only (2 ^ 64) (digits_value 16 n) m.0,
-    ) (some_of tokens _ m.1)
+meaning_only (hexadecimal n) bytes tokens s m = grind (arith, as_number, hexadecimal_is, s.1, below_only, digits_value, m.0, some_of, m.1)
 meaning_only (dotted_quad a b c d) bytes tokens s m =
     rw (as_address (address_at a b c d) bytes, address_only a b c d m.0 s.1 s.2 s.3 s.4 m.1)
     (some_of tokens _ m.2)

@@ -94,9 +94,7 @@ pub faultless : (text : List ℕ) (xs : List LexedToken) (fault : LexFault) → 
     → HasLexFault text fault → ⊥
 faultless text xs fault c (inl f) = omega (arith, c.fits, f.0)
 faultless text xs fault c (inr f) =
-    let same = one_scan c.lexemes f.lexemes text [] f.rest xs f.tokens c.scan f.scan end_stops
-    (fault_stops f.rest (line_after f.done) fault f.faulty) in
-    no_fault_at_end f.rest (line_after f.done) fault same.1 f.faulty
+    grind (arith, one_scan, c.lexemes, f.lexemes, f.rest, f.tokens, c.scan, f.scan, end_stops, fault_stops, f.done, f.faulty, no_fault_at_end)
 
 one_fault_at : (rest : List ℕ) (line : ℕ) (first second : LexFault) → IsFaultAt rest line first
     → IsFaultAt rest line second → first ≡ second
@@ -151,16 +149,7 @@ reached_none text = record { lexemes = []; done = []; joined = refl; scan = (ref
 scan_push : (ps : List Lexeme) (from mid to : List ℕ) (xs new : List LexedToken) (p : Lexeme) (bytes : List ℕ)
     → ScansInto ps from mid xs → IsLongestLexeme p bytes mid to → HasTokens p bytes new
     → ScansInto (ps ++ p ∷ []) from to (xs ++ new)
-scan_push [] from mid to xs new p bytes c s m = (
-  bytes,
-  to,
-  new,
-  [],
-  subst (λ (t : List ℕ). IsLongestLexeme p bytes t to) (sym c.0) s,
-  m,
-  ap (λ (t : List LexedToken). t ++ new) c.1 ∙ sym (append-nil new),
-  (refl, refl),
-)
+scan_push [] from mid to xs new p bytes c s m = grind arith
 scan_push (q ∷ qs) from mid to xs new p bytes c s m = (
   c.0,
   c.1,
@@ -191,31 +180,16 @@ passes_less from to tokens x = lexeme_shortens x.0 x.1 from to x.2
 
 pub reached_all : (text rest : List ℕ) (tokens : List LexedToken) → length text ≤ MOST_BYTES → length rest ≡ 0
     → ScannedUpTo text rest tokens → TokenizesTo text tokens
-reached_all text rest tokens fits nothing r = record {
-  fits = fits;
-  lexemes = r.lexemes;
-  scan = subst (λ (t : List ℕ). ScansInto r.lexemes text t tokens) (nil_from_length rest nothing) r.scan;
-}
+reached_all text rest tokens fits nothing r = grind (arith, r.lexemes, nil_from_length, r.scan)
 
 fault_there : (text rest : List ℕ) (tokens : List LexedToken) (fault : LexFault) → length text ≤ MOST_BYTES
     → (r : ScannedUpTo text rest tokens) → IsFaultAt rest (line_after r.done) fault → FirstFault text fault
-fault_there text rest tokens fault fits r f = record {
-  fits = fits;
-  lexemes = r.lexemes;
-  done = r.done;
-  rest = rest;
-  tokens = tokens;
-  joined = r.joined;
-  scan = r.scan;
-  faulty = f;
-}
+fault_there text rest tokens fault fits r f = grind arith
 
 pub reached_fault : (text rest : List ℕ) (tokens : List LexedToken) (fault : LexFault)
     → length text ≤ MOST_BYTES → ScannedUpTo text rest tokens
     → IsFaultAt rest (line_after (take (length text - length rest) text)) fault → FirstFault text fault
-reached_fault text rest tokens fault fits r f =
-    fault_there text rest tokens fault fits r
-    (subst (λ (t : List ℕ). IsFaultAt rest (line_after t) fault) (before text r.done rest r.joined) f)
+reached_fault text rest tokens fault fits r f = grind (arith, fault_there, before, r.done, r.joined)
 
 -- ---- a text has a tokenization or a fault
 
