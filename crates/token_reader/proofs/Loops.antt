@@ -22,11 +22,7 @@ length_ahead tokens at = length-map (drop at tokens) (λ (t : Token). terminal_o
 
 pub none_yet : {A : Type 0} (read : List Terminal → Option (A × List Terminal)) (before : List A)
     (from : List Terminal) → Read read before before from from
-none_yet read before from = record {
-  turns = 0;
-  shorter = omega arith;
-  together = λ more. ap (λ n. with_front before (many_at read n from)) (omega arith);
-}
+none_yet read before from = grind arith
 
 pub one_more : {A : Type 0} (read : List Terminal → Option (A × List Terminal)) (before found : List A)
     (from here : List Terminal) (x : A × List Terminal) → read here ≡ Some x → length x.1 < length here

@@ -6,12 +6,7 @@ use Rattle.token_reader.proofs.productions.more.Given as given
 use Rattle.token_reader.proofs.productions.more.Goals as goal
 
 pub loop-part-init : goal.loop-part-init
-loop-part-init g c = record {
-  read = none_yet g.P.Production.read_at (map g.P.Production.tree c.args.found.now.items)
-      (remaining c.args.tokens.now c.args.at);
-  after = omega arith;
-  within = λ inside. inside;
-}
+loop-part-init g c = grind arith
 
 -- The next part ends after this position, and within the tokens.
 after_here : (g : given.Over) (c : goal.In_ok-push g)
