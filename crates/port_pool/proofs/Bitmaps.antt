@@ -140,11 +140,7 @@ bit-clear ws at q inside =
 
 -- a bitmap of zeros
 zero_at : (n i : ℕ) → get_or (replicate n zero) i zero ≡ zero
-zero_at n i =
-    ⊎_elim
-    (λ (lt : i < n). get_or-replicate n i 0 0 lt)
-    (λ (ge : n ≤ i). get_or_past (replicate n zero) i zero (omega (arith, length-replicate n zero)))
-    (cases_lt i n)
+zero_at n i = grind (arith, get_or-replicate, get_or_past, length-replicate, cases_lt)
 
 pub bit-zeros : (n q : ℕ) → bit (replicate n zero) q ≡ false
 unfolding bit
@@ -302,9 +298,7 @@ all_clear ws count bitmap none q =
 
 -- where the count is 0 no bit is set
 pub clear_at : (ws now : List ℕ) (count : ℕ) → IsCounted ws count → ws ≡ now → OnTrue (count == 0) ((q : ℕ) → bit now q ≡ false)
-clear_at ws now count bitmap is =
-    OnTrue_from (count == 0) ((q : ℕ) → bit now q ≡ false)
-    (λ none q. ap (λ (l : List ℕ). bit l q) (sym is) ∙ all_clear ws count bitmap (eqb-true count 0 none) q)
+clear_at ws now count bitmap is = grind (arith, OnTrue_from, all_clear, eqb-true)
 
 -- where it is another number, some bit is set
 pub set_at : (ws now : List ℕ) (count : ℕ) → IsCounted ws count → ws ≡ now → OnFalse (count == 0) ((q : ℕ) × (bit now q ≡ true))

@@ -29,11 +29,7 @@ use Rattle.port_pool.proofs.Spans.{or_these-first}
 -- the number found passes
 found_passes : (p : ℕ → Bool) (xs : List ℕ) → IfSome (find p xs) (λ x. p x ≡ true)
 found_passes p [] = tt
-found_passes p (x ∷ xs) =
-    ⊎_elim
-    (λ (here : p x ≡ true). rw here here)
-    (λ (later : p x ≡ false). rw later (found_passes p xs))
-    (cases_Bool (p x))
+found_passes p (x ∷ xs) = grind (arith, cases_Bool, (found_passes p xs))
 
 pub found_free : (taken : ℕ → Bool) (xs : List ℕ) (r : Option ℕ) → r ≡ find (λ p. not (taken p)) xs → IfSome r (λ p. taken p ≡ false)
 found_free taken xs r e =
@@ -44,11 +40,7 @@ found_free taken xs r e =
 -- none is found exactly where none passes
 nothing_found : (taken : ℕ → Bool) (xs : List ℕ) → find (λ p. not (taken p)) xs ≡ None → All (λ p. taken p ≡ true) xs
 nothing_found taken [] e = All-nil (λ p. taken p ≡ true)
-nothing_found taken (x ∷ xs) e =
-    elim (cases_Bool (taken x)) [
-      | inl here ↦ All-cons (λ p. taken p ≡ true) x xs here (nothing_found taken xs (rw here at e))
-      | inr free ↦ absurd (let found : Some x ≡ None = rw free at e in cc)
-    ]
+nothing_found taken (x ∷ xs) e = grind (arith, cases_Bool, All-cons, (nothing_found taken xs))
 
 pub all_taken : (taken : ℕ → Bool) (xs : List ℕ) → All (λ p. taken p ≡ true) xs → find (λ p. not (taken p)) xs ≡ None
 all_taken taken [] all = refl

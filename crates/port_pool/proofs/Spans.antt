@@ -34,14 +34,7 @@ unique p low to (Some j) (Some k) f g = ap Some (grind (arith, g.before j f.abov
 -- the number before the interval fails too
 earlier : (p : ℕ → Bool) (low to : ℕ) (r : Option ℕ) → p low ≡ false → IsFirst p (low + 1) to r → IsFirst p low to r
 earlier p low to None fails f = λ k above below. grind (arith, f k, fails)
-earlier p low to (Some k) fails f =
-    let above = f.above in
-    record {
-      above = omega arith;
-      below = f.below;
-      passes = f.passes;
-      before = λ j after less. grind (arith, f.before j, fails);
-    }
+earlier p low to (Some k) fails f = grind arith
 
 exists_range : (p : ℕ → Bool) (low n : ℕ) → IsFirst p low (low + n) (find p (range_with_len low n))
 exists_range p low zero = λ k above below. absurd (omega arith)
@@ -79,30 +72,14 @@ pub narrowed : (q q' : ℕ → Bool) (low to a b : ℕ) (r : Option ℕ) → low
     → ((k : ℕ) → low ≤ k → k < to → q k ≡ true → a ≤ k) → ((k : ℕ) → low ≤ k → k < to → q k ≡ true → k < b)
     → ((k : ℕ) → a ≤ k → k < b → q' k ≡ q k) → IsFirst q low to r → IsFirst q' a b r
 narrowed q q' low to a b None la bt lower upper same f = λ k above below. same k above below ∙ f k (omega arith) (omega arith)
-narrowed q q' low to a b (Some k) la bt lower upper same f =
-    let above = lower k f.above f.below f.passes in
-    let below = upper k f.above f.below f.passes in
-    record {
-      above = above;
-      below = below;
-      passes = same k above below ∙ f.passes;
-      before = λ j after less. same j after (omega arith) ∙ f.before j (omega arith) less;
-    }
+narrowed q q' low to a b (Some k) la bt lower upper same f = grind arith
 
 -- nothing else passes p, which is q in a..b
 pub widened : (q p : ℕ → Bool) (a b low to : ℕ) (r : Option ℕ) → low ≤ a → b ≤ to
     → ((k : ℕ) → a ≤ k → k < b → p k ≡ q k) → ((k : ℕ) → low ≤ k → k < a → p k ≡ false)
     → ((k : ℕ) → b ≤ k → k < to → p k ≡ false) → IsFirst q a b r → IsFirst p low to r
 widened q p a b low to None la bt same under over f = λ k above below. grind (arith, under k, same k, over k, f k)
-widened q p a b low to (Some k) la bt same under over f =
-    let above = f.above in
-    let below = f.below in
-    record {
-      above = omega arith;
-      below = omega arith;
-      passes = same k above below ∙ f.passes;
-      before = λ j after less. grind (arith, under j, same j, f.before j);
-    }
+widened q p a b low to (Some k) la bt same under over f = grind arith
 
 -- ---- the first list that isn't empty
 
@@ -213,17 +190,10 @@ module _ (s low high a b : ℕ) (parity : Parity) (part : IsClassPart s low high
 
 pub starting_at-find : (s : ℕ) (p : ℕ → Bool) (xs : List ℕ)
     → find p (starting_at s xs) ≡ option_or (find (λ k. nat_le s k && p k) xs) (find (λ k. nat_lt k s && p k) xs)
-starting_at-find s p xs =
-    find-append p (filter (λ k. nat_le s k) xs) (filter (λ k. nat_lt k s) xs)
-    ∙ ap (λ o. option_or o (find p (filter (λ k. nat_lt k s) xs))) (find-filter p (λ k. nat_le s k) xs)
-    ∙ ap (option_or (find (λ k. nat_le s k && p k) xs)) (find-filter p (λ k. nat_lt k s) xs)
+starting_at-find s p xs = grind (arith, find-append, nat_le, nat_lt, option_or, find-filter)
 
 pub starting_at-same : (s : ℕ) (xs ys : List ℕ) → SameFinds xs ys → SameFinds (starting_at s xs) (starting_at s ys)
-starting_at-same s xs ys same p =
-    starting_at-find s p xs
-    ∙ ap (λ o. option_or o (find (λ k. nat_lt k s && p k) xs)) (same (λ k. nat_le s k && p k))
-    ∙ ap (option_or (find (λ k. nat_le s k && p k) ys)) (same (λ k. nat_lt k s && p k))
-    ∙ sym (starting_at-find s p ys)
+starting_at-same s xs ys same p = grind (arith, starting_at-find, option_or, nat_lt, nat_le)
 
 pub all_match_parity : (xs : List ℕ) → SameFinds (filter (matches_parity All) xs) xs
 all_match_parity xs p = find-filter p (matches_parity All) xs

@@ -18,13 +18,7 @@ returns-clause-number c = zero_alone (λ p. not (is_taken c.args.self.now p))
     (order_of c.args.self.now) c.args.s c.args.range c.first_candidate.result c.first_candidate.ensures
 
 pub returns-clause-port : goal.returns-clause-port
-returns-clause-port c is has free =
-    c.first_candidate.ensures ∙ port_itself (λ p. not (is_taken c.args.self.now p))
-    (order_of c.args.self.now) c.args.s c.args.range is has
-    (not_from_false (is_taken c.args.self.now c.args.s) free)
+returns-clause-port c is has free = grind (arith, c.first_candidate.ensures, port_itself, c.args.self.now, not_from_false)
 
 pub returns-clause-identifier : goal.returns-clause-identifier
-returns-clause-identifier c is free =
-    c.first_candidate.ensures ∙ identifier_itself (λ p. not (is_taken c.args.self.now p))
-    (order_of c.args.self.now) c.args.s c.args.range is (omega arith)
-    (not_from_false (is_taken c.args.self.now c.args.s) free)
+returns-clause-identifier c is free = grind (arith, c.first_candidate.ensures, identifier_itself, c.args.self.now, not_from_false)
