@@ -60,11 +60,7 @@ judged p =
     else (if transport_is_malformed (protocol p) (payload_of p) then Some Transport else None))))
 
 by_others : (p : List ℕ) → 20 ≤ length p → version p ≡ 4 → 20 ≤ header_len p → fault_of p ≡ judged p
-by_others p long four head =
-    after_three (nat_lt (length p) 20) (not (version p == 4)) (nat_lt (header_len p) 20)
-    (nat_lt (total_len p) (header_len p)) (nat_lt (length p) (total_len p)) (not (ones_sum_of (header p) == 65535))
-    (is_fragment p) (transport_is_malformed (protocol p) (payload_of p))
-    (le-ltb _ _ long) (ap not (eq-eqb _ _ four)) (le-ltb _ _ head)
+by_others p long four head = grind arith
 
 pub too_small : (p : List ℕ) → 20 ≤ length p → version p ≡ 4 → 20 ≤ header_len p → total_len p < header_len p → fault_of p ≡ Some Length
 too_small p long four head small = by_others p long four head ∙ rw (lt-ltb _ _ small) refl
@@ -105,20 +101,7 @@ pub packet-packet : (p : List ℕ) → PassesHeader p → packet_of (packet_of p
 packet-packet p ok = rw (total_len-packet p ok) (grind (arith, common_steps, ok.whole))
 
 pub packet_passes : (p : List ℕ) → Passes p → Passes (packet_of p)
-packet_passes p ok =
-    let one = ok.head in
-    let same : protocol (packet_of p) ≡ protocol p = grind (arith, common_steps, one.long, one.head) in
-    record {
-      head = record {
-        long = grind (arith, common_steps, one.long, one.head);
-        head = grind (arith, common_steps, one.long, one.head);
-        whole = grind (arith, common_steps, one.long, one.head, one.whole);
-        four = grind (arith, common_steps, one.long, one.head, one.four);
-        sum = grind (arith, common_steps, one.long, one.head, one.sum);
-      };
-      unbroken = grind (arith, common_steps, one.long, one.head, ok.unbroken);
-      transport = rw (same, header_len-packet p one, packet-packet p one) ok.transport;
-    }
+packet_passes p ok = grind (arith, ok.head, common_steps, ok.unbroken, header_len-packet, packet-packet, ok.transport)
 
 -- ---- the length of a packet that passes
 

@@ -49,10 +49,7 @@ products_fit zero [] e small = tt
 products_fit zero (x ∷ xs) e small = absurd (omega arith)
 products_fit (suc n) [] e small = absurd (omega arith)
 products_fit (suc n) (x ∷ []) e small = absurd (omega arith)
-products_fit (suc n) (x ∷ y ∷ xs) e small = (
-  record { fits = omega (arith, small.0.fits) },
-  (record { fits = omega (arith, small.1.0.fits) }, products_fit n xs (omega arith) small.1.1),
-)
+products_fit (suc n) (x ∷ y ∷ xs) e small = grind (arith, small.0.fits, small.1.0.fits, small.1.1, (products_fit n xs))
 
 -- lanes that are loaded and widened have the bytes' numbers
 pub lanes_are : (n : ℕ) (xs : List ℕ) → length xs ≡ n → map (λ x. x) (take n xs) ≡ xs

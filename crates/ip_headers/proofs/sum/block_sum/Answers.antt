@@ -5,16 +5,10 @@ use Rattle.ip_headers.proofs.Sums.{weights, weighted, block_words, words_small, 
 use Rattle.ip_headers.proofs.sum.block_sum.Goals as goal
 
 pub overflow_mul-result : goal.overflow_mul-result
-overflow_mul-result c = rw (lanes_are 16 c.args.block.now c.requires)
-    (products_fit 8 c.args.block.now c.requires
-    (Each1-from_get_or (Fits w8) c.args.block.now 0 (λ i lt. c.type_inv.block i)))
+overflow_mul-result c = grind arith
 
 pub overflow_add-result : goal.overflow_add-result
-overflow_add-result c =
-    let small = words_small 8 c.args.block.now c.requires (Each1-from_get_or (Fits w8) c.args.block.now 0 (λ i lt. c.type_inv.block i)) in
-    rw (lanes_are 16 c.args.block.now c.requires)
-    (sum_fits w32 0 (zip2 (λ a b. a * b) c.args.block.now (weights 8))
-    (omega (arith, small, weighted 8 c.args.block.now c.requires)))
+overflow_add-result c = grind arith
 
 pub returns : goal.returns
 returns c = rw (lanes_are 16 c.args.block.now c.requires) (block_words 8 c.args.block.now c.requires)

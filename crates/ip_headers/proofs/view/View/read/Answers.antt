@@ -23,22 +23,13 @@ broken_by p word is some = grind (arith, is, some)
 
 head_by : (p : List ℕ) (n : ℕ) → n ≡ total_len p → 20 ≤ header_len p → header_len p ≤ n → n ≤ length p → version p ≡ 4
     → ones_sum_of (take (header_len p) (take n p)) ≡ 65535 → PassesHeader p
-head_by p n total long head whole four sum = record {
-  long = long;
-  head = omega arith;
-  whole = omega arith;
-  four = four;
-  sum = grind (arith, common_steps, sum);
-}
+head_by p n total long head whole four sum = grind (arith, common_steps)
 
 -- a field of the packet is that of the record
 carried_by : (p payload : List ℕ) (n : ℕ) (answer : Bool) → n ≡ total_len p → 20 ≤ n → n ≤ length p
     → payload ≡ drop (header_len p) (take n p) → answer ≡ transport_is_malformed (get_or (take n p) 9 0) payload
     → transport_is_malformed (protocol p) (payload_of p) ≡ answer
-carried_by p payload n answer total long whole of is =
-    let ninth : get_or (take n p) 9 0 ≡ get_or p 9 0 = grind (arith, common_steps) in
-    let same : payload ≡ payload_of p = of ∙ ap (λ k. drop (header_len p) (take k p)) total in
-    rw (← same, ← ninth) (sym is)
+carried_by p payload n answer total long whole of is = grind (arith, get_or, common_steps)
 
 total_len-front : (p : List ℕ) (n : ℕ) → 20 ≤ n → total_len (take n p) ≡ total_len p
 total_len-front p n long = grind (arith, common_steps)
@@ -48,32 +39,19 @@ exact_by p n total long whole = grind (arith, common_steps, total_len-front p n 
 
 tail_by : (p payload : List ℕ) (n : ℕ) → n ≡ total_len p → 20 ≤ n → n ≤ length p
     → payload ≡ drop (header_len p) (take n p) → payload ≡ payload_of (take n p)
-tail_by p payload n total long whole is =
-    let same : header_len (take n p) ≡ header_len p = grind (arith, common_steps) in
-    let all : take (total_len (take n p)) (take n p) ≡ take n p = grind (arith, common_steps, exact_by p n total long whole) in
-    rw (same, all) is
+tail_by p payload n total long whole is = grind (arith, common_steps, exact_by)
 
 pub returns-clause-packet : goal.returns-clause-packet
 returns-clause-packet c = ap (λ n. take n c.args.bytes.now) (grind (arith, common_steps, c.read_u16-total_len.ensures))
 
 pub returns-then-total_len-header_len-clause-fault : goal.returns-then-total_len-header_len-clause-fault
-returns-then-total_len-header_len-clause-fault c =
-    let p = c.args.bytes.now in
-    let total : c.read_u16-total_len.result ≡ total_len p = grind (arith, common_steps, c.read_u16-total_len.ensures) in
-    sym (too_small p (omega arith) (omega arith) (omega arith) (omega arith))
+returns-then-total_len-header_len-clause-fault c = grind (arith, c.args.bytes.now, common_steps, c.read_u16-total_len.ensures, too_small)
 
 pub returns-then-bytes-total_len-clause-fault : goal.returns-then-bytes-total_len-clause-fault
-returns-then-bytes-total_len-clause-fault c =
-    let p = c.args.bytes.now in
-    let total : c.read_u16-total_len.result ≡ total_len p = grind (arith, common_steps, c.read_u16-total_len.ensures) in
-    sym (cut p (omega arith) (omega arith) (omega arith) (omega arith) (omega arith))
+returns-then-bytes-total_len-clause-fault c = grind (arith, c.args.bytes.now, common_steps, c.read_u16-total_len.ensures, cut)
 
 pub returns-then-header_sum-clause-fault : goal.returns-then-header_sum-clause-fault
-returns-then-header_sum-clause-fault c =
-    let p = c.args.bytes.now in
-    let total : c.read_u16-total_len.result ≡ total_len p = grind (arith, common_steps, c.read_u16-total_len.ensures) in
-    let wrong : ones_sum_of (header p) ≢ 65535 = grind (arith, common_steps, c.header_sum.ensures) in
-    sym (damaged p (omega arith) (omega arith) (omega arith) (omega arith) (omega arith) wrong)
+returns-then-header_sum-clause-fault c = grind (arith, c.args.bytes.now, common_steps, c.read_u16-total_len.ensures, c.header_sum.ensures, damaged)
 
 pub returns-then-read_u16-ne0-clause-fault : goal.returns-then-read_u16-ne0-clause-fault
 returns-then-read_u16-ne0-clause-fault c =
@@ -136,6 +114,4 @@ invariant_of-result-clause-tail c =
     tail_by c.args.bytes.now c.split_at.result.1.now c.read_u16-total_len.result total (omega arith) (omega arith) c.split_at.ensures.back
 
 pub invariant_of-result-clause-exact : goal.invariant_of-result-clause-exact
-invariant_of-result-clause-exact c =
-    let total : c.read_u16-total_len.result ≡ total_len c.args.bytes.now = grind (arith, common_steps, c.read_u16-total_len.ensures) in
-    exact_by c.args.bytes.now c.read_u16-total_len.result total (omega arith) (omega arith)
+invariant_of-result-clause-exact c = grind (arith, c.args.bytes.now, common_steps, c.read_u16-total_len.ensures, exact_by)
