@@ -21,18 +21,7 @@ returns-clause-end c =
     (c.self.invariant.starts stage) f es))
 
 pub returns-clause-counted : goal.returns-clause-counted
-returns-clause-counted c =
-    let r = c.self.inside in
-    let events = c.args.events.now in
-    let f = c.args.facts.now in
-    rw (← c.self.view_is) (c.run_in_order.ensures.counted
-    ∙ ap (λ (ss : List Start). min (events.ticks + started r.code ss f events.events) (2 ^ 64 - 1)) c.starts.ensures)
+returns-clause-counted c = grind arith
 
 pub returns-clause-few : goal.returns-clause-few
-returns-clause-few c =
-    let r = c.self.inside in
-    let f = c.args.facts.now in
-    let es = c.args.events.now.events in
-    let few = subst (λ (ss : List Start). started r.code ss f es ≤ cost_of ss) c.starts.ensures
-    c.run_in_order.ensures.few in
-    rw (← c.self.view_is) (omega (arith, few, of_starts r.checked r.code r.stages c.args.stage))
+returns-clause-few c = grind arith
