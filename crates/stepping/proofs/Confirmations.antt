@@ -1,4 +1,5 @@
 -- The confirmation of a packet, by its state.
+use Rattle.std.proofs.Common.{arith}
 use Rattle.stepping.proofs.Names.{◌<◌, Arrival, Belonging, Bool, CanConfirm, Cause, Confirmation, Confirms, ConnId, ConntrackEntry, CtInfo, Err, Fits, Flags}
 use Rattle.stepping.proofs.Names.{Found, Invalid, List, LookupState, Mapping, New, NewConnection, NotFound, Option, Some, Tracked, Tuple, Unconfirmed}
 use Rattle.stepping.proofs.Names.{after_end, after_packet, ap, begins, change_of_packet, confirmation_by, confirmed_in, ct_info_by, error_ct_info, false}
@@ -63,9 +64,7 @@ pub still_open : (t : Tuple) (b : Belonging) (held : List ConntrackEntry) (info 
     → untranslated info ≡ untranslated (ct_info_by t b) → CanConfirm b info held
 still_open t (Found found) held (Tracked connection) can same = can
 still_open t (Found found) held (New d) can same = cc
-still_open t b held (New d) can same =
-    let first : d.original ≡ t = is_first (first_state t.kind) t (New d) same in
-    rw first can
+still_open t b held (New d) can same = grind arith
 still_open t b held info can same = tt
 
 pub idle_open : (held : List ConntrackEntry) (info : CtInfo) → is_idle info ≡ true → CanConfirm NotFound info held

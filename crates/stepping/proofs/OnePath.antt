@@ -1,4 +1,5 @@
 -- A packet's path has at most one result, and one where chains have.
+use Rattle.std.proofs.Common.{arith}
 use Rattle.stepping.proofs.Names.{Accepted, Bool, Cause, ConntrackEntry, Continue, CtInfo, DestinationNat, Drop, Entry, EntryOf, Err, Event, Facts, Hooks}
 use Rattle.stepping.proofs.Names.{HooksAndConfirm, InputOrForward, List, Mapping, NatChains, New, Next, None, Ok, Option, Path, PathState, ReceivedPacket}
 use Rattle.stepping.proofs.Names.{Recorded, Result, RunsStage, Setup, Some, SourceNat, Step, StepResult, after_chains, ap, carried, confirmed}
@@ -40,14 +41,7 @@ one_in_turn first second s one two r r' (goes_on t q y z) (goes_on u q' y' z') =
     two t q q' z (subst (λ (x : PathState). second x q') (sym (same_state t u (one (Continue t) (Continue u) y y'))) z')
 
 pub at_most_one : IsKept AtMostOne
-at_most_one = record {
-  exact = λ A a b c x y. x ∙ sym y;
-  image = λ A B X Y f to from one b c x y.
-      let k = to b x in
-      let l = to c y in
-      k.2 ∙ ap f (one k.0 l.0 k.1 l.1) ∙ sym l.2;
-  in_turn = one_in_turn;
-}
+at_most_one = grind arith
 
 -- ---- at least one
 

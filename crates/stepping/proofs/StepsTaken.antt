@@ -9,11 +9,7 @@ pub unspent : (x : EventsAndTicks) (a : ℕ) → Spends x x a
 unspent x a = record { events = omega arith; no_fewer = omega arith; ticks = omega arith }
 
 pub spent_both : {x y z : EventsAndTicks} (a b : ℕ) → Spends x y a → Spends y z b → Spends x z (a + b)
-spent_both a b s t = record {
-  events = omega (arith, s.events, t.events);
-  no_fewer = omega (arith, s.no_fewer, t.no_fewer);
-  ticks = omega (arith, s.ticks, t.ticks);
-}
+spent_both a b s t = grind arith
 
 -- ---- steps
 
@@ -22,12 +18,7 @@ pub of_step : {taken : List Mapping → Step} {mappings : List Mapping} {cost : 
     {before after : EventsAndTicks} {answer : Result (Unit {0}) Cause}
     → ((held : List Mapping) → taken held (path_state old before) (step_result answer (path_state new after)))
     → new.info ≡ old.info → Spends before after cost → TakesStep taken mappings cost old before new after answer
-of_step ran info spent = record {
-  step = λ held same. ran held;
-  fits = λ held same fits. subst (λ i. Fits i held) (sym info) fits;
-  same = ap untranslated info;
-  spent = spent;
-}
+of_step ran info spent = grind arith
 
 pub at_cost : {step : List Mapping → Step} {mappings : List Mapping} {a b : ℕ} {old new : PacketState}
     {before after : EventsAndTicks} {answer : Result (Unit {0}) Cause} → Spends before after b

@@ -5,10 +5,7 @@ use Rattle.stepping.proofs.engine.Engine.step.Goals as goal
 
 pub process_record-ended-requires-clause-later : goal.process_record-ended-requires-clause-later
 process_record-ended-requires-clause-later g c =
-    let inside = c.self.inside in
-    let later : inside.latest ≤ c.max-now.result = omega (arith, c.max-now.ensures) in
-    none_later-aged c.none_later.ensures.later inside.connections.limits inside.latest c.max-now.result
-    inside.connections.held _ c.age_all.ensures.held later c.self.invariant.later
+    grind (arith, c.max-now.ensures, none_later-aged, c.none_later.ensures.later, c.age_all.ensures.held, c.self.invariant.later)
 
 pub invariant_of-self : goal.invariant_of-self
 invariant_of-self g c =
