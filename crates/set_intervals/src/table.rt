@@ -1,9 +1,9 @@
 //! The lookup table: values by number, kept as sorted intervals.
-ghost use Rattle.std.specs.Prelude.{◌≡◌, ◌≤◌, ◌<◌, ◌↔◌, ℕ, List, length, IsTrue, IfOk, OnOk, IfErr, MatchOption};
+ghost use Rattle.std.specs.Prelude.{◌≡◌, ◌≤◌, ◌<◌, ◌↔◌, ℕ, Contains, List, Some, length, IsTrue, IfOk, OnOk, IfErr, MatchOption};
 ghost use Rattle.std.specs.Option.{option_copied};
 ghost use Rattle.set_intervals.specs.declared.range.Range.{Range};
 ghost use Rattle.search_levels.specs.Levels.{IsLevel, Parts};
-ghost use Rattle.set_intervals.specs.Pairs.{HasClash, HasRuns, HasValue, IsExact, SameValues, first_value};
+ghost use Rattle.set_intervals.specs.Pairs.{Covers, HasClash, HasRuns, HasValue, IsExact, SameValues, first_value};
 ghost use Rattle.set_intervals.specs.steps.Pieces.{Adds, ClashesWith, IsLowerBound, IsTable, ClassifiesOverlap, StartsBefore, highs};
 
 use crate::fault::SetError;
@@ -93,9 +93,11 @@ impl<V: Copy + Eq> Intervals<V> {
         find_in(&self.pieces, from, to, key)
     }
 
-    /// The intervals with their values, ascending.
+    /// The intervals with their values, ascending and disjoint.
     pub fn pieces(&self) -> &[(Range, V)]
-        ensures { result.now ≡ self.now }
+        ensures all { result.now ≡ self.now }
+        ensures first_values { (piece : Range × V) (key : ℕ) → Contains self.now piece
+            → Covers piece.0 key → first_value self.now key ≡ Some piece.1 }
     {
         &self.pieces
     }
