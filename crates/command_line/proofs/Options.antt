@@ -2,6 +2,7 @@
 use Rattle.std.proofs.Common.{◌+◌, ◌<◌, ◌∷◌, ◌≡◌, [], ℕ, List, add-one, ap, arith, codes, false, get_or, length, map, refl, remove, suc, sym, true, zero}
 use Rattle.std.proofs.Common.{◌∙◌}
 use Rattle.std.specs.Borrow.{Bor}
+use Rattle.std.proofs.lemmas.List.{drop-map, map-append, take-map}
 use Rattle.std.specs.Str.{bytes_eq}
 use Rattle.clap.specs.Words.{Text}
 use Rattle.command_line.specs.CommandLine.{has_flag, without_flag, without_option}
@@ -14,38 +15,27 @@ word_at ws k = (get_or ws k (record { ref_ptr = (0, 0); now = [] })).now
 
 -- the first k words are neither `--` nor the flag
 abbrev pub Passed : Text → List (Bor Text) → ℕ → Type 0
-Passed flag ws zero = Unit {0}
-Passed flag [] (suc k) = Unit {0}
-Passed flag (w ∷ ws) (suc k) = (bytes_eq w.now (codes "--") ≡ false) × (bytes_eq w.now flag ≡ false) × Passed flag ws k
+Passed flag ws k = (i : ℕ) → i < k → (bytes_eq (word_at ws i) (codes "--") ≡ false) × (bytes_eq (word_at ws i) flag ≡ false)
 
 module _ (flag : Text) where
-  pub passed_more : (ws : List (Bor Text)) (k : ℕ) → Passed flag ws k → k < length ws → bytes_eq (word_at ws k) (codes "--") ≡ false
-      → bytes_eq (word_at ws k) flag ≡ false → Passed flag ws (suc k)
-  passed_more [] k p lt d x = tt
-  passed_more (w ∷ ws) zero p lt d x = (d, x, tt)
-  passed_more (w ∷ ws) (suc k) p lt d x = (p.0, p.1, passed_more ws k p.2 (omega arith) d x)
-
   -- the words end there, or a `--` follows
   pub passed_all : (ws : List (Bor Text)) (k : ℕ) → Passed flag ws k → (k < length ws → bytes_eq (word_at ws k) (codes "--") ≡ true)
       → (has_flag flag (texts ws) ≡ false) × (without_flag flag (texts ws) ≡ texts ws)
   passed_all [] k p ends = (refl, refl)
   passed_all (w ∷ ws) zero p ends = let d = ends (omega arith) in (simp d, simp d)
   passed_all (w ∷ ws) (suc k) p ends =
-      let more = passed_all ws k p.2 (λ lt. ends (omega arith)) in (simp (p.0, p.1) more.0, simp (p.0, p.1, more.1))
+      grind (arith, p 0, passed_all ws k (λ i lt. p (suc i) (omega arith)) (λ lt. ends (omega arith)))
 
   pub passed_flag : (ws : List (Bor Text)) (k : ℕ) → Passed flag ws k → k < length ws → bytes_eq (word_at ws k) (codes "--") ≡ false
       → bytes_eq (word_at ws k) flag ≡ true → (has_flag flag (texts ws) ≡ true) × (without_flag flag (texts ws) ≡ remove (texts ws) k)
   passed_flag [] k p lt d x = absurd (omega arith)
   passed_flag (w ∷ ws) zero p lt d x = (simp (d, x), simp (d, x))
   passed_flag (w ∷ ws) (suc k) p lt d x =
-      let more = passed_flag ws k p.2 (omega arith) d x in (simp (p.0, p.1) more.0, simp (p.0, p.1, more.1))
+      grind (arith, p 0, passed_flag ws k (λ i lt. p (suc i) (omega arith)) (omega arith) d x)
 
 -- the texts of the words without the k-th
 texts_without : (ws : List (Bor Text)) (k : ℕ) → texts (remove ws k) ≡ remove (texts ws) k
-texts_without [] zero = refl
-texts_without [] (suc k) = refl
-texts_without (v ∷ ws) zero = refl
-texts_without (v ∷ ws) (suc k) = ap (λ (l : List Text). v.now ∷ l) (texts_without ws k)
+texts_without ws k = grind (arith, map-append, take-map, drop-map)
 
 -- the words without the one of this index after the first
 pub taken : (flag : Text) (ws rest : List (Bor Text)) (first : Bor Text) (place : ℕ) → ws ≡ first ∷ rest

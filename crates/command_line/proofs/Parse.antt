@@ -2,23 +2,22 @@
 -- the pass over them (`parsed`): where the pass finds nothing the parse has a fault, and else it has none and the
 -- rows are those of what the pass found.
 use Rattle.std.proofs.Common.{◌&&◌, ◌++◌, ◌+◌, ◌==◌, ◌||◌, ◌∙◌, ◌∷◌, ◌≡◌, [], ℕ, Bool, List, None, Option, Some, ap, append-nil, arith, codes, cond, false}
-use Rattle.std.proofs.Common.{is_some, length, not, refl, sym, true, true≢false, subst, find, fold, min, option_map, slice_get, bytes_eq}
+use Rattle.std.proofs.Common.{is_some, length, not, refl, sym, true, true≢false, subst, find, fold, min, slice_get, bytes_eq, unwrap_or}
 use Rattle.std.specs.List.{list_any}
 use Rattle.std.specs.Option.{option_map_or, option_or}
 use Rattle.std.specs.Str.{chars}
 use Rattle.std.proofs.lemmas.Slice.Eq.{bytes_eq-Decides}
 use Rattle.std.proofs.lemmas.List.Folds.{find-append}
-use Rattle.clap.specs.Facts.{explicit_source}
-use Rattle.clap.specs.Faults.{bundle_fault, bundle_step_fault, defaults_fault, flag_word_fault, flags_fault, long_fault, other_fault, short_fault, step_fault}
+use Rattle.clap.specs.Faults.{bundle_fault, bundle_step_fault, defaults_fault, flags_fault, long_fault, step_fault}
 use Rattle.clap.specs.Faults.{turn_fault, check_fault, settle_fault, use_fault, walk_fault}
 use Rattle.clap.specs.Kinds.{Kinds, or_else, check_kinds}
 use Rattle.clap.specs.Lexer.{long_of, short_of, usize_max}
 use Rattle.clap.specs.Simple.{Shape, filled, help_rule, new_shape, version_rule, with_index}
 use Rattle.clap.specs.Takes.{is_given}
 use Rattle.clap.specs.Walk.{Held, Names, Outcome, Row, Rule, Step, Text, Waiting, Walk, after_flag, after_step, arg_by_id, arg_by_index, arg_by_long}
-use Rattle.clap.specs.Walk.{arg_by_short, at_row, has_row, idle, long_or_other, long_word, more_values, plain, plain_word, reading_by, short_or_plain}
-use Rattle.clap.specs.Walk.{subcommand_met, subcommand_or_other, trailing, walked, with_default, with_values, without, finished, long_met as clap_long_met}
-use Rattle.clap.specs.Walk.{next, option, option_word, settled, settled_rows, to_positional, used_by_id, value}
+use Rattle.clap.specs.Walk.{arg_by_short, at_row, has_row, idle, long_word, more_values, plain, plain_word, reading_by, short_or_plain}
+use Rattle.clap.specs.Walk.{subcommand_met, trailing, walked, with_default, with_values, without, finished, long_met as clap_long_met}
+use Rattle.clap.specs.Walk.{option, settled, settled_rows, to_positional, used_by_id, value}
 use Rattle.clap.specs.declared.error.kind.ErrorKind.{ErrorKind}
 use Rattle.clap.specs.declared.builder.value_parser.Reading.{Reading}
 use Rattle.clap.specs.declared.parser.matches.ValueSource.{ValueSource}
@@ -28,7 +27,6 @@ use Rattle.clap.proofs.FaultLemmas.{fault_ends}
 use Rattle.command_line.specs.steps.Program.{flag_rule, path_rule, report_rule}
 use Rattle.command_line.proofs.Words.{Pairs, Seen, has_no_short, Place, after, at_end, before, flag_word, is_flag, is_taken, naming, operand_met, scan}
 use Rattle.command_line.proofs.Words.{word_met, none_of}
-use Rattle.std.proofs.Math.Bool.{and-false, or-false}
 use Rattle.clap.specs.declared.error.kind.ErrorKind.TheVariants.{ArgumentConflict}
 use Rattle.command_line.specs.CommandLine.{as_report, report_option}
 
@@ -74,25 +72,21 @@ appended id how s values all none = past_rows id (more_values s values) (new_row
 pub appended_anew : (id : Text) (how : Reading) (s : ValueSource) (values : List Text) (all : List Row)
     → row_at id all ≡ None → with_values id how s values (without id all) ≡ all ++ new_row id how s values ∷ []
 appended_anew id how s values all none =
-    ap (with_values id how s values) (past_rows id (λ _. []) [] all none ∙ append-nil all)
-    ∙ appended id how s values all none
+    grind (arith, past_rows id (λ _. []) [] all none, append-nil all, appended id how s values all none)
 
 -- a value is the word itself, of a path and of the report's file
 abbrev pub row : Text → Text → Row
 row id v = new_row id (reading_by (filled (path_rule id))) CommandLine (v ∷ [])
 
-abbrev pub flag_row : Text → ValueSource → Text → Row
-flag_row id s v = new_row id (reading_by (filled (flag_rule id))) s (v ∷ [])
-
 abbrev pub set_row : Text → Row
-set_row id = flag_row id CommandLine (codes "true")
+set_row id = new_row id (reading_by (filled (flag_rule id))) CommandLine (codes "true" ∷ [])
 
 abbrev pub unset_row : Text → Row
-unset_row id = flag_row id DefaultValue (codes "false")
+unset_row id = new_row id (reading_by (filled (flag_rule id))) DefaultValue (codes "false" ∷ [])
 
 -- the row of the report, and of a flag before and after its default is in
 abbrev pub row_of : Text → Option Text → Option Row
-row_of id o = option_map (row id) o
+row_of id o = cond (is_some o) (Some (row id (unwrap_or o []))) None
 
 abbrev pub flag_of : Text → Bool → Option Row
 flag_of id met = cond met (Some (set_row id)) None
@@ -125,9 +119,15 @@ walk_with waiting h p t = record { held = h; waiting = waiting; position = p; is
 abbrev pub idle_walk : Held → ℕ → Bool → Walk
 idle_walk h p t = walk_with idle h p t
 
+abbrev pub help : Rule
+help = with_index 1 (filled help_rule)
+
+abbrev pub version : Rule
+version = with_index 1 (filled version_rule)
+
+-- each short flag shows a text
 abbrev pub AsksHelp : Shape → Type 0
-AsksHelp s = (x : ℕ) (rest : Text) (h : Held) (next : Held → Kinds)
-    → short_fault s.rules s.args_override_self (arg_by_short s.rules x) rest h next ≡ [] → ⊥
+AsksHelp s = (x : ℕ) → (a : Bool) × (b : Bool) × (arg_by_short s.rules x ≡ cond a (Some help) (cond b (Some version) None))
 
 module _ (s : Shape) (asks : AsksHelp s) (names : Names) (waiting : Waiting) (rows : List Row) (pending : Pending) (p : ℕ)
     (word : Text) where
@@ -137,23 +137,20 @@ module _ (s : Shape) (asks : AsksHelp s) (names : Names) (waiting : Waiting) (ro
   abbrev walk_now : Walk
   walk_now = walk_with waiting held_now p false
 
-  -- the word has this fault, and is this step
-  abbrev Met : Kinds → Held × Step → Type 0
-  Met fault m = (other_fault s None word held_now ≡ fault) × (subcommand_or_other s.rules None waiting p word held_now ≡ m)
-
-  -- and so it goes in its turn
+  -- the word has this fault in its turn, and is this step
   abbrev pub Turn : Kinds → Held × Step → Type 0
   Turn k m = (turn_fault s names walk_now word ≡ or_else k (step_fault s p m.0 m.1))
       × (walked s.rules names walk_now word ≡ after_step s.rules word walk_now m.0 m.1)
 
-  plain_met : (u : Option Text) → has_no_short u ≡ true
-      → Met (option_map_or (λ flags. bundle_fault s.rules s.args_override_self flags held_now) u [])
-      (short_or_plain s.rules waiting word u held_now) → Met [] (plain_word s.rules waiting word held_now)
-  plain_met None e met = met
-  plain_met (Some flags) e met =
+  -- where no short flag begins the word is no option
+  bare_met : (u : Option Text) → has_no_short u ≡ true
+      → (option_map_or (λ flags. bundle_fault s.rules s.args_override_self flags held_now) u [] ≡ [])
+      × (short_or_plain s.rules waiting word u held_now ≡ plain_word s.rules waiting word held_now)
+  bare_met None e = (refl, refl)
+  bare_met (Some flags) e =
       let none : None ≡ slice_get (chars flags) 0 = sym (none_of (slice_get (chars flags) 0) e) in (
-        met.0 ∙ sym (fault_ends s.rules s.args_override_self (length flags) flags 0 held_now none),
-        met.1 ∙ ap (λ (q : Held × Outcome). after_flag s.rules waiting word q.0 q.1)
+        sym (fault_ends s.rules s.args_override_self (length flags) flags 0 held_now none),
+        ap (λ (q : Held × Outcome). after_flag s.rules waiting word q.0 q.1)
             (sym (bundle_ends s.rules (length flags) flags 0 plain held_now none)),
       )
 
@@ -165,37 +162,28 @@ module _ (s : Shape) (asks : AsksHelp s) (names : Names) (waiting : Waiting) (ro
       first : (o : Option ℕ) → not (is_some o) ≡ false → bundle_step_fault s.rules s.args_override_self o (x ∷ rest) 0 held_now
           (flags_fault s.rules s.args_override_self (length rest)) ≡ [] → ⊥
       first None none f = true≢false none
-      first (Some y) none f = asks y _ _ _ f
+      first (Some y) none f = grind (arith, (asks y).2, f)
   short_fails u some e = true≢false some
 
-  module _ (none : subcommand_met names waiting word ≡ None) where
-    turns : (k : Kinds) (m : Held × Step) → Met k m → Turn k m
-    unfolding walked
-    turns k m met = (grind (arith, none, met.0, met.1), grind (arith, none, met.0, met.1))
-
-    -- a word is `--`, an option by its long name, no option, or a bundle of short flags, which has a fault
-    pub by_word : (P : Bool → Option (Text × Option Text) → Bool → Type 0)
-        → ((o : Option (Text × Option Text)) (b : Bool) → Turn [] (held_now, trailing p) → P true o b)
-        → ((q : Text × Option Text) (b : Bool) → Turn (long_fault s.rules s.args_override_self (arg_by_long s.rules q.0) q.1 held_now)
-        (long_word s.rules waiting word q.0 q.1 held_now) → P false (Some q) b)
-        → (Turn [] (plain_word s.rules waiting word held_now) → P false None true)
-        → ((turn_fault s names walk_now word ≡ [] → ⊥) → P false None false)
-        → P (bytes_eq word (codes "--")) (long_of word) (has_no_short (short_of word))
-    by_word P dashed long bare short =
-        go (bytes_eq word (codes "--")) refl (long_of word) refl (has_no_short (short_of word)) refl
-      where
-        met : (d : Bool) → bytes_eq word (codes "--") ≡ d → (o : Option (Text × Option Text)) → long_of word ≡ o
-            → Met (cond d [] (flag_word_fault s.rules s.args_override_self o word held_now))
-            (cond d (held_now, trailing p) (long_or_other s.rules waiting word o held_now))
-        met d dashes o is = (grind (arith, dashes, is), grind (arith, dashes, is))
-
-        go : (d : Bool) → bytes_eq word (codes "--") ≡ d → (o : Option (Text × Option Text)) → long_of word ≡ o
-            → (b : Bool) → has_no_short (short_of word) ≡ b → P d o b
-        go true d o is b e = dashed o b (turns _ _ (met true d o is))
-        go false d (Some q) is b e = long q b (turns _ _ (met false d (Some q) is))
-        go false d None is true e = bare (turns _ _ (plain_met (short_of word) e (met false d None is)))
-        go false d None is false e = short (λ f. short_fails (short_of word) e
-            (sym (met false d None is).0 ∙ ap (λ o. other_fault s o word held_now) (sym none) ∙ first_nil _ _ f))
+  -- a word is `--`, an option by its long name, no option, or a bundle of short flags, which has a fault
+  pub by_word : subcommand_met names waiting word ≡ None → (P : Bool → Option (Text × Option Text) → Bool → Type 0)
+      → ((o : Option (Text × Option Text)) (b : Bool) → Turn [] (held_now, trailing p) → P true o b)
+      → ((q : Text × Option Text) (b : Bool) → Turn (long_fault s.rules s.args_override_self (arg_by_long s.rules q.0) q.1 held_now)
+      (long_word s.rules waiting word q.0 q.1 held_now) → P false (Some q) b)
+      → (Turn [] (plain_word s.rules waiting word held_now) → P false None true)
+      → ((turn_fault s names walk_now word ≡ [] → ⊥) → P false None false)
+      → P (bytes_eq word (codes "--")) (long_of word) (has_no_short (short_of word))
+  unfolding walked
+  by_word none P dashed long bare short =
+      go (bytes_eq word (codes "--")) refl (long_of word) refl (has_no_short (short_of word)) refl
+    where
+      go : (d : Bool) → bytes_eq word (codes "--") ≡ d → (o : Option (Text × Option Text)) → long_of word ≡ o
+          → (b : Bool) → has_no_short (short_of word) ≡ b → P d o b
+      go true d o is b e = dashed o b (grind (arith, none, d), grind (arith, none, d))
+      go false d (Some q) is b e = long q b (grind (arith, none, d, is), grind (arith, none, d, is))
+      go false d None is true e =
+          let met = bare_met (short_of word) e in bare (grind (arith, none, d, is, met.0), grind (arith, none, d, is, met.1))
+      go false d None is false e = short (λ f. short_fails (short_of word) e (grind (arith, none, d, is, f)))
 
 pub either : {A : Type 0} (b : Bool) (x : A) → cond b x x ≡ x
 either true x = refl
@@ -206,20 +194,10 @@ either false x = refl
 abbrev pub leaf : Text → List Rule → Shape
 leaf name rules = record (new_shape name) { rules = rules; disable_help_subcommand = true; is_built = true }
 
-abbrev pub help : Rule
-help = with_index 1 (filled help_rule)
-
-abbrev pub version : Rule
-version = with_index 1 (filled version_rule)
-
 -- options that show a text, and others that are unknown
 pub shown_long : (c : List Rule) (b d : Bool) (v : Option Text) (h : Held)
     → long_fault c false (cond b (Some help) (cond d (Some version) None)) v h ≡ [] → ⊥
 shown_long c b d v h e = grind arith
-
-pub shown_short : (c : List Rule) (b d : Bool) (rest : Text) (h : Held) (more : Held → Kinds)
-    → short_fault c false (cond b (Some help) (cond d (Some version) None)) rest h more ≡ [] → ⊥
-shown_short c b d rest h more e = grind arith
 
 abbrev pub flag_filled : Text → Rule
 flag_filled flag = filled (flag_rule flag)
@@ -300,10 +278,8 @@ module _ (c : Form) where
   pub record Fits (all : List Row) (done : Pairs) (left : List Text) (met : Bool) (file : Option Text) : Type 0 where
     pub holds : Holds all done
     pub unused : Each (λ id. row_at id all ≡ None) left
-    pub flagged : c.has_flag ≡ true → row_at c.flag all ≡ flag_of c.flag met
-    pub unflagged : c.has_flag ≡ false → met ≡ true
-    pub filed : c.has_file ≡ true → row_at (codes "report") all ≡ row_of (codes "report") file
-    pub unfiled : c.has_file ≡ false → is_some file ≡ true
+    pub flagged : (c.has_flag ≡ true → row_at c.flag all ≡ flag_of c.flag met) × (c.has_flag ≡ false → met ≡ true)
+    pub filed : (c.has_file ≡ true → row_at (codes "report") all ≡ row_of (codes "report") file) × (c.has_file ≡ false → is_some file ≡ true)
     pub owes : (final : List Row) → Holds final done → lacks final c.ids ≡ lacks final left
 
   -- and of those at the end
@@ -316,42 +292,18 @@ module _ (c : Form) where
     pub fits_path : (id word : Text) (file : Option Text) → Other id (c.flag ∷ codes "report" ∷ left)
         → Fits all done (id ∷ left) met file → Fits (all ++ row id word ∷ []) ((id, word) ∷ done) left met file
     fits_path id word file other fits =
-        let r = row id word in record {
-          holds = (newly all r fits.unused.0, holds_more all (r ∷ []) done fits.holds);
-          unused = each_kept r all left other.1.1 fits.unused.1;
-          flagged = λ so. kept c.flag all r other.0 ∙ fits.flagged so;
-          unflagged = fits.unflagged;
-          filed = λ so. kept (codes "report") all r other.1.0 ∙ fits.filed so;
-          unfiled = fits.unfiled;
-          owes = λ final holds. fits.owes final holds.1
-              ∙ ap (λ (o : Option Row). not (option_map_or (λ r. explicit_source r.source) o false) || lacks final left) holds.0;
-        }
+        let r = row id word in
+        grind (arith, fits, newly all r, holds_more, each_kept, kept c.flag all r other.0, kept (codes "report") all r other.1.0)
 
-    pub fits_flag : (file : Option Text) → c.has_flag ≡ true → Other c.flag (codes "report" ∷ left)
-        → Fits all done left false file → Fits (all ++ set_row c.flag ∷ []) done left true file
-    fits_flag file so other fits =
-        let r = set_row c.flag in record {
-          holds = holds_more all (r ∷ []) done fits.holds;
-          unused = each_kept r all left other.1 fits.unused;
-          flagged = λ _. newly all r (fits.flagged so);
-          unflagged = λ _. refl;
-          filed = λ f. kept (codes "report") all r other.0 ∙ fits.filed f;
-          unfiled = fits.unfiled;
-          owes = fits.owes;
-        }
+    pub fits_flag : (file : Option Text) → row_at c.flag all ≡ None → Other c.flag (codes "report" ∷ left)
+        → Fits all done left met file → Fits (all ++ set_row c.flag ∷ []) done left true file
+    fits_flag file none other fits =
+        let r = set_row c.flag in grind (arith, fits, newly all r, holds_more all (r ∷ []) done, each_kept r all left, kept (codes "report") all r)
 
-    pub fits_file : (f : Text) → c.has_file ≡ true → Other (codes "report") (c.flag ∷ left)
-        → Fits all done left met None → Fits (all ++ row (codes "report") f ∷ []) done left met (Some f)
-    fits_file f so other fits =
-        let r = row (codes "report") f in record {
-          holds = holds_more all (r ∷ []) done fits.holds;
-          unused = each_kept r all left other.1 fits.unused;
-          flagged = λ b. kept c.flag all r other.0 ∙ fits.flagged b;
-          unflagged = fits.unflagged;
-          filed = λ _. newly all r (fits.filed so);
-          unfiled = λ _. refl;
-          owes = fits.owes;
-        }
+    pub fits_file : (f : Text) (file : Option Text) → row_at (codes "report") all ≡ None → Other (codes "report") (c.flag ∷ left)
+        → Fits all done left met file → Fits (all ++ row (codes "report") f ∷ []) done left met (Some f)
+    fits_file f file none other fits =
+        let r = row (codes "report") f in grind (arith, fits, newly all r, holds_more all (r ∷ []) done, each_kept r all left, kept c.flag all r)
 
 -- ---- faults
 
@@ -360,15 +312,9 @@ long_settles : (c : List Rule) (a : Option Rule) (v : Option Text) (h : Held) �
     → settle_fault c false h ≡ []
 long_settles c a v h e = grind arith
 
--- a first use, and a second
+-- a second use is refused
 abbrev repeats : Bool → Kinds
 repeats b = or_else (cond (b && true) (ArgumentConflict ∷ []) []) []
-
-first_use : (id : Text) (rows : List Row) → row_at id rows ≡ None → repeats (has_row id rows) ≡ []
-first_use id rows none = grind (arith, has_row-at id rows)
-
-again : (id : Text) (r : Row) (rows : List Row) → row_at id rows ≡ Some r → repeats (has_row id rows) ≡ [] → ⊥
-again id r rows is e = grind (arith, has_row-at id rows)
 
 -- ---- the command
 
@@ -377,8 +323,7 @@ module _ (c : Form) (is : IsCommand c) where
   s = leaf c.name c.rules
 
   asks : AsksHelp s
-  asks x rest h later e =
-      shown_short c.rules (104 == x || false) false rest h later (ap (λ o. short_fault c.rules false o rest h later) (sym (is.shorts x)) ∙ e)
+  asks x = (104 == x || false, false, is.shorts x)
 
   -- what may be at fault at the end of a walk
   abbrev pub ends : Walk → Kinds
@@ -431,49 +376,23 @@ module _ (c : Form) (is : IsCommand c) where
 
   ended : (all : List Row) (met : Bool) → (c.has_flag ≡ true → row_at c.flag all ≡ flag_of c.flag met)
       → Ended met all (fold with_default all c.rules)
-  ended all met unset = subst (Ended met all) (sym (is.defaults all).0) (go c.has_flag refl met unset)
-    where
-      default_by : Bool → List Row
-      default_by b = cond b all (with_values c.flag (unset_row c.flag).reading DefaultValue (codes "false" ∷ []) all)
-
-      has : (m : Bool) → row_at c.flag all ≡ flag_of c.flag m → has_row c.flag all ≡ is_some (flag_of c.flag m)
-      has m at = has_row-at c.flag all ∙ ap (λ (o : Option Row). is_some o) at
-
-      go : (b : Bool) → c.has_flag ≡ b → (m : Bool) → (c.has_flag ≡ true → row_at c.flag all ≡ flag_of c.flag m)
-          → Ended m all (cond b (with_default all (flag_filled c.flag)) all)
-      go false so m unset = (λ done holds. holds, λ id other. refl, λ bad. absurd (true≢false (sym bad ∙ so)))
-      go true so true unset =
-          subst (Ended true all) (sym (ap default_by (has true (unset so)))) (λ done holds. holds, λ id other. refl, λ _. unset so)
-      go true so false unset = subst (Ended false all) (sym (ap default_by (has false (unset so))
-          ∙ appended c.flag (unset_row c.flag).reading DefaultValue (codes "false" ∷ []) all (unset so))) (
-            holds_more all (unset_row c.flag ∷ []),
-            λ id other. kept id all (unset_row c.flag) other,
-            λ _. newly all (unset_row c.flag) (unset so),
-          )
+  ended all met unset =
+      grind (arith, (is.defaults all).0, unset, has_row-at c.flag all, appended, holds_more all, kept, newly all (unset_row c.flag))
 
   end_faults : (rows : List Row) (pending : Pending) (p : ℕ) (t : Bool) (left : List Text) → Stands rows pending
       → let final = finished c.rules (at rows pending) in lacks final c.ids ≡ lacks final left
       → ends (idle_walk (at rows pending) p t) ≡ check_kinds false false (lacks final left)
-  end_faults rows pending p t left stands owes =
-      let final = finished c.rules (at rows pending) in
-      (λ j. or_else (stands j) (or_else ((is.defaults (now rows pending)).1 j) (check_fault s final false)))
-      ∙ ap (check_kinds false false) (is.required final ∙ owes)
+  end_faults rows pending p t left stands owes = simp (stands, (is.defaults (now rows pending)).1, is.required, owes)
 
   words_end : (t : Bool) (done : Pairs) (left : List Text) (met : Bool) (file : Option Text) (p : ℕ) (rows : List Row) (pending : Pending)
       → Paths c.rules c.flag p left → Stands rows pending → fits (now rows pending) done left met file
       → AnswersAt (ends (idle_walk (at rows pending) p t)) (idle_walk (at rows pending) p t) (at_end done left met file)
   words_end t done [] met file p rows pending paths stands known =
-      let end = ended (now rows pending) met known.flagged in
-      let holds = end.0 done known.holds in (
-        end_faults rows pending p t [] stands (known.owes _ holds),
-        record { holds = holds; flagged = end.2; filed = λ so. end.1 (codes "report") is.apart.0 ∙ known.filed so },
-      )
-  words_end t done (id ∷ left) met file p rows pending paths stands known = λ e.
-      let final = finished c.rules (at rows pending) in
-      let end = ended (now rows pending) met known.flagged in
-      let none : row_at id final ≡ None = end.1 id paths.3 ∙ known.unused.0 in
-      let faults = end_faults rows pending p t (id ∷ left) stands (known.owes _ (end.0 done known.holds)) in
-      grind (arith, faults, none, e)
+      let end = ended (now rows pending) met known.flagged.0 in
+      grind (arith, end, known, end_faults rows pending p t [] stands (known.owes _ (end.0 done known.holds)), is.apart)
+  words_end t done (id ∷ left) met file p rows pending paths stands known =
+      let end = ended (now rows pending) met known.flagged.0 in
+      grind (arith, end.1 id paths.3, known.unused.0, end_faults rows pending p t (id ∷ left) stands (known.owes _ (end.0 done known.holds)))
 
   -- ---- an operand
 
@@ -485,22 +404,8 @@ module _ (c : Form) (is : IsCommand c) where
   pends : (id word : Text) (a : Rule) (rows : List Row) → arg_by_id c.rules id ≡ Some a → row_at id rows ≡ None
       → use_fault false a (word ∷ []) rows ≡ repeats (has_row id rows)
       → used_by_id (Some a) (word ∷ []) rows ≡ with_values id (row id word).reading CommandLine (word ∷ []) (without id rows) → Pends id word rows
-  pends id word a rows found none fault used = (
-    ap (λ o. option_map_or (λ a. use_fault false a (word ∷ []) rows) o []) found ∙ fault ∙ first_use id rows none,
-    ap (λ o. used_by_id o (word ∷ []) rows) found ∙ used ∙ appended_anew id (row id word).reading CommandLine (word ∷ []) rows none,
-  )
-
-  operand_fault : (id : Text) (p : ℕ) (rows : List Row) (pending : Pending) → arg_by_index c.rules p ≡ Some (place_of id p)
-      → step_fault s p (at rows pending) value ≡ settle_fault c.rules false (at rows pending)
-  operand_fault id p rows pending found = simp (found, and-false)
-
-  stray : (p : ℕ) (h : Held) → arg_by_index c.rules p ≡ None → step_fault s p h value ≡ [] → ⊥
-  stray p h none e = grind arith
-
-  moves : (id word : Text) (p : ℕ) (t : Bool) (rows : List Row) (pending : Pending) → arg_by_index c.rules p ≡ Some (place_of id p)
-      → to_positional c.rules (arg_by_index c.rules p) word (idle_walk (at rows pending) p t) (at rows pending)
-      ≡ idle_walk (at (now rows pending) (Some (id, word ∷ []))) (min (p + 1) usize_max) t
-  moves id word p t rows pending found = simp (found, and-false, or-false)
+  pends id word a rows found none fault used =
+      grind (arith, found, fault, used, has_row-at id rows, appended_anew id (row id word).reading CommandLine (word ∷ []) rows none)
 
   abbrev place_by : Bool → Place
   place_by t = cond t after before
@@ -520,15 +425,14 @@ module _ (c : Form) (is : IsCommand c) where
       → Answers (idle_walk (at rows pending) p t) (word ∷ rest)
       (operand_met word (place_by t) done left met file (scan is_taken c.flag rest))
   operand_answers t word rest done [] met file p rows pending turn goes paths stands known later =
-      stops (idle_walk (at rows pending) p t) word rest (λ e. stray p (at rows pending) paths (sym turn ∙ e))
+      stops (idle_walk (at rows pending) p t) word rest (λ e. grind (arith, turn, paths, e))
   operand_answers t word rest done (id ∷ left) met file p rows pending turn goes paths stands known later =
       let all = now rows pending in
       let pends = pends id word (place_of id p) all paths.1 known.unused.0 refl refl in
       passes (idle_walk (at rows pending) p t) (idle_walk (at all (Some (id, word ∷ []))) (min (p + 1) usize_max) t) word rest _
-      (turn ∙ operand_fault id p rows pending paths.0 ∙ stands) (goes ∙ moves id word p t rows pending paths.0)
+      (grind (arith, turn, paths.0, stands)) (grind (arith, goes, paths.0))
       (later ((id, word) ∷ done) left met file (min (p + 1) usize_max) all (Some (id, word ∷ [])) paths.5 pends.0
-      (subst (λ (x : List Row). fits x ((id, word) ∷ done) left met file) (sym pends.1)
-      (fits_path c all done left met id word file paths.2 known)))
+      (rw pends.1 (fits_path c all done left met id word file paths.2 known)))
 
   -- ---- what is pending has a fault, whatever follows
 
@@ -537,8 +441,8 @@ module _ (c : Form) (is : IsCommand c) where
 
   bad_step : (rows : List Row) (pending : Pending) (p : ℕ) (left : List Text) → Paths c.rules c.flag p left → Bad rows pending
       → step_fault s p (at rows pending) value ≡ [] → ⊥
-  bad_step rows pending p [] paths bad e = stray p (at rows pending) paths e
-  bad_step rows pending p (id ∷ left) paths bad e = grind (arith, operand_fault id p rows pending paths.0)
+  bad_step rows pending p [] paths bad e = grind (arith, paths, e)
+  bad_step rows pending p (id ∷ left) paths bad e = grind (arith, paths.0, bad, e)
 
   bad_after : (waiting : Waiting) (rows : List Row) (pending : Pending) (p : ℕ) (left rest : List Text) → Paths c.rules c.flag p left
       → Bad rows pending → fault (walk_with waiting (at rows pending) p true) rest ≡ [] → ⊥
@@ -547,19 +451,29 @@ module _ (c : Form) (is : IsCommand c) where
   bad_after waiting rows pending p left (word ∷ rest) paths bad e =
       bad_step rows pending p left paths bad (first_nil _ _ (first_nil _ _ e))
 
+  -- the word has to be a value of what is pending
+  bad_word : (waiting : Waiting) (word : Text) (rest left : List Text) (rows : List Row) (pending : Pending) (p : ℕ) (o : Option Seen)
+      → subcommand_met [] waiting word ≡ None → Paths c.rules c.flag p left → Bad rows pending → let w = walk_with waiting (at rows pending) p false in
+      (Turn s asks [] waiting rows pending p word [] (plain_word c.rules waiting word (at rows pending)) → Answers w (word ∷ rest) o)
+      → Answers w (word ∷ rest) (cond (is_taken word) o None)
+  bad_word waiting word rest left rows pending p o none paths bad bare =
+      let w = walk_with waiting (at rows pending) p false in
+      by_word s asks [] waiting rows pending p word none
+      (λ d q b. Answers w (word ∷ rest) (cond (not d && (not (is_some q) && b)) o None))
+      (λ q b turn. passes w (walk_with waiting (at rows pending) p true) word rest None turn.0 turn.1
+      (bad_after waiting rows pending p left rest paths bad))
+      (λ q b turn. stops w word rest (λ e.
+      bad (long_settles c.rules (arg_by_long c.rules q.0) q.1 (at rows pending) (first_nil _ _ (sym turn.0 ∙ e)))))
+      bare (λ fails. stops w word rest fails)
+
   bad_before : (rows : List Row) (pending : Pending) (p : ℕ) (left rest : List Text) → Paths c.rules c.flag p left
       → Bad rows pending → fault (idle_walk (at rows pending) p false) rest ≡ [] → ⊥
   unfolding walk_fault
   bad_before rows pending p left [] paths bad = λ e. bad (first_nil _ _ e)
   bad_before rows pending p left (word ∷ rest) paths bad =
       let w = idle_walk (at rows pending) p false in
-      by_word s asks [] idle rows pending p word refl (λ d o b. fault w (word ∷ rest) ≡ [] → ⊥)
-      (λ o b turn. passes w (idle_walk (at rows pending) p true) word rest None turn.0 turn.1
-      (bad_after idle rows pending p left rest paths bad))
-      (λ q b turn. stops w word rest (λ e.
-      bad (long_settles c.rules (arg_by_long c.rules q.0) q.1 (at rows pending) (first_nil _ _ (sym turn.0 ∙ e)))))
-      (λ turn. stops w word rest (λ e. bad_step rows pending p left paths bad (sym turn.0 ∙ e)))
-      (λ fails. stops w word rest fails)
+      subst (Answers w (word ∷ rest)) (either (is_taken word) None) (bad_word idle word rest left rows pending p None refl paths bad
+      (λ turn. stops w word rest (λ e. bad_step rows pending p left paths bad (sym turn.0 ∙ e))))
 
   -- ---- the word behind `--report`
 
@@ -572,48 +486,24 @@ module _ (c : Form) (is : IsCommand c) where
   report_is : c.has_file ≡ true → arg_by_id c.rules (codes "report") ≡ Some report_filled
   report_is so = is.report ∙ ap (λ b. cond b (Some report_filled) None) so
 
-  file_fault : (words : List Text) (all : List Row) → c.has_file ≡ true
-      → settle_fault c.rules false (at all (file_pending words)) ≡ use_fault false report_filled words all
-  file_fault words all so = ap (λ o. option_map_or (λ a. use_fault false a words all) o []) (report_is so)
-
   unnamed_bad : (all : List Row) → c.has_file ≡ true → Bad all (file_pending [])
-  unnamed_bad all so e = not_nil _ _ (sym (file_fault [] all so) ∙ e)
+  unnamed_bad all so e = grind (arith, is.report, so, e)
 
   named_so : (word : Text) (rest left : List Text) (p : ℕ) (all : List Row) (o : Option Seen) → c.has_file ≡ true
       → Paths c.rules c.flag p left → Answers (idle_walk (at all (file_pending (word ∷ []))) p false) rest o
       → Answers (waits all p) (word ∷ rest) (cond (is_taken word) o None)
   named_so word rest left p all o so paths later =
-      let h = at all (file_pending []) in
-      by_word s asks [] (option (codes "report")) all (file_pending []) p word refl
-      (λ d q b. Answers (waits all p) (word ∷ rest) (cond (not d && (not (is_some q) && b)) o None))
-      (λ q b turn. passes (waits all p) (walk_with (option (codes "report")) h p true) word rest None turn.0 turn.1
-      (bad_after (option (codes "report")) all (file_pending []) p left rest paths (unnamed_bad all so)))
-      (λ q b turn. stops (waits all p) word rest (λ e. unnamed_bad all so
-      (long_settles c.rules (arg_by_long c.rules q.0) q.1 h (first_nil _ _ (sym turn.0 ∙ e)))))
-      (λ turn.
-      let met = ap (λ (a : Option Rule). option_word a (codes "report") word h) (report_is so) in
+      bad_word (option (codes "report")) word rest left all (file_pending []) p o refl paths (unnamed_bad all so) (λ turn.
       passes (waits all p) (idle_walk (at all (file_pending (word ∷ []))) p false) word rest o
-      (turn.0 ∙ ap (λ (m : Held × Waiting). step_fault s p m.0 (next m.1)) met)
-      (turn.1 ∙ ap (λ (m : Held × Waiting). after_step c.rules word (waits all p) m.0 (next m.1)) met) later)
-      (λ fails. stops (waits all p) word rest fails)
-
-  -- a second file for the report
-  twice : (file : Text) (rest left : List Text) (p : ℕ) (all : List Row) → c.has_file ≡ true
-      → row_at (codes "report") all ≡ Some (row (codes "report") file) → Paths c.rules c.flag p left
-      → fault (waits all p) rest ≡ [] → ⊥
-  unfolding walk_fault
-  twice file [] left p all so there paths = λ e. unnamed_bad all so (first_nil _ _ e)
-  twice file (word ∷ rest) left p all so there paths =
-      subst (Answers (waits all p) (word ∷ rest)) (either (is_taken word) None) (named_so word rest left p all None so paths
-      (bad_before all (file_pending (word ∷ [])) p left rest paths
-      (λ e. again (codes "report") (row (codes "report") file) all there (sym (file_fault (word ∷ []) all so) ∙ e))))
+      (grind (arith, turn.0, report_is so)) (grind (arith, turn.1, report_is so)) later)
 
   -- ---- the words
 
+  -- of a second `--report` the file is refused
   abbrev Wait : List Text → Type 0
-  Wait rest = (done : Pairs) (left : List Text) (met : Bool) (p : ℕ) (all : List Row) → c.has_file ≡ true
-      → Paths c.rules c.flag p left → fits all done left met None
-      → Answers (waits all p) rest (scan is_taken c.flag rest naming done left met None)
+  Wait rest = (done : Pairs) (left : List Text) (met : Bool) (file : Option Text) (p : ℕ) (all : List Row) → c.has_file ≡ true
+      → Paths c.rules c.flag p left → fits all done left met file
+      → Answers (waits all p) rest (cond (is_some file) None (scan is_taken c.flag rest naming done left met None))
 
   others : (left : List Text) (p : ℕ) → Paths c.rules c.flag p left → Other c.flag left × Other (codes "report") left
   others [] p paths = (tt, tt)
@@ -634,47 +524,35 @@ module _ (c : Form) (is : IsCommand c) where
     Turned v a = let m = clap_long_met c.rules a v (at rows pending) in
         Turn s asks [] idle rows pending p word (long_fault c.rules false a v (at rows pending)) (after_flag c.rules idle word m.0 m.1)
 
-    -- an option is used, with these values
-    abbrev Uses : Text → Reading → List Text → Type 0
-    Uses id how values =
-        (turn_fault s [] w word ≡ or_else (or_else (settle_fault c.rules false (at rows pending)) (repeats (has_row id so_far))) [])
+    -- an option is used with these values, for the first time or again
+    used : (id : Text) (how : Reading) (values : List Text) (met : Bool) (r : Row) (o : Option Seen)
+        → (turn_fault s [] w word ≡ or_else (or_else (settle_fault c.rules false (at rows pending)) (repeats (has_row id so_far))) [])
         × (walked c.rules [] w word ≡ idle_walk (at (with_values id how CommandLine values (without id so_far)) None) p false)
-
-    once : (id : Text) (how : Reading) (values : List Text) (o : Option Seen) → Uses id how values → row_at id so_far ≡ None
-        → Answers (idle_walk (at (so_far ++ new_row id how CommandLine values ∷ []) None) p false) rest o → Answers w (word ∷ rest) o
-    once id how values o turn none later =
+        → row_at id so_far ≡ cond met (Some r) None
+        → (row_at id so_far ≡ None → Answers (idle_walk (at (so_far ++ new_row id how CommandLine values ∷ []) None) p false) rest o)
+        → Answers w (word ∷ rest) (cond met None o)
+    used id how values false r o turn none later =
         passes w (idle_walk (at (so_far ++ new_row id how CommandLine values ∷ []) None) p false) word rest o
-        (turn.0 ∙ (λ j. or_else (or_else (stands j) (first_use id so_far none j)) []))
-        (turn.1 ∙ ap (λ (x : List Row). idle_walk (at x None) p false) (appended_anew id how CommandLine values so_far none)) later
-
-    once_more : (id : Text) (how : Reading) (values : List Text) (r : Row) → Uses id how values → row_at id so_far ≡ Some r
-        → fault w (word ∷ rest) ≡ [] → ⊥
-    once_more id how values r turn there = stops w word rest (λ e. again id r so_far there
-        (then_nil (settle_fault c.rules false (at rows pending)) _ (first_nil _ _ (sym turn.0 ∙ e))))
+        (grind (arith, turn.0, stands, none, has_row-at id so_far))
+        (grind (arith, turn.1, appended_anew id how CommandLine values so_far none)) (later none)
+    used id how values true r o turn there later = stops w word rest (λ e. grind (arith, turn.0, e, there, has_row-at id so_far))
 
     flag_met : (met : Bool) (file : Option Text) → fits so_far done left met file → Turned None (Some (flag_filled c.flag))
         → c.has_flag ≡ true → After false true None false met file
-    flag_met true file known turn so =
-        once_more c.flag (set_row c.flag).reading (codes "true" ∷ []) (set_row c.flag) turn (known.flagged so)
-    flag_met false file known turn so =
-        once c.flag (set_row c.flag).reading (codes "true" ∷ []) _ turn (known.flagged so)
-        (goes_on done left true file p (so_far ++ set_row c.flag ∷ []) None paths refl
-        (fits_flag c so_far done left false file so (is.apart.0, (others left p paths).0) known))
+    flag_met met file known turn so =
+        used c.flag (set_row c.flag).reading (codes "true" ∷ []) met (set_row c.flag) _ turn (known.flagged.0 so)
+        (λ none. goes_on done left true file p (so_far ++ set_row c.flag ∷ []) None paths refl
+        (fits_flag c so_far done left met file none (is.apart.0, (others left p paths).0) known))
 
     file_met : (v : Option Text) (met : Bool) (file : Option Text) → fits so_far done left met file → Turned v (Some report_filled)
         → c.has_file ≡ true → After false false (Some v) false met file
-    file_met None met (Some g) known turn so =
-        passes w (waits so_far p) word rest None (turn.0 ∙ ap (λ k. or_else k []) stands) turn.1
-        (twice g rest left p so_far so (known.filed so) paths)
-    file_met (Some f) met (Some g) known turn so = once_more (codes "report") (row (codes "report") g).reading (f ∷ [])
-        (row (codes "report") g) turn (known.filed so)
-    file_met None met None known turn so =
+    file_met None met file known turn so =
         passes w (waits so_far p) word rest _ (turn.0 ∙ ap (λ k. or_else k []) stands) turn.1
-        (waits_on done left met p so_far so paths known)
-    file_met (Some f) met None known turn so =
-        once (codes "report") (row (codes "report") f).reading (f ∷ []) _ turn (known.filed so)
-        (goes_on done left met (Some f) p (so_far ++ row (codes "report") f ∷ []) None paths refl
-        (fits_file c so_far done left met f so (is.apart.1, (others left p paths).1) known))
+        (waits_on done left met file p so_far so paths known)
+    file_met (Some f) met file known turn so = used (codes "report") (row (codes "report") f).reading (f ∷ []) (is_some file)
+        (row (codes "report") (unwrap_or file [])) _ turn (known.filed.0 so)
+        (λ none. goes_on done left met (Some f) p (so_far ++ row (codes "report") f ∷ []) None paths refl
+        (fits_file c so_far done left met f file none (is.apart.1, (others left p paths).1) known))
 
     no_option : (b : Bool) (v : Option Text) → Turned v (cond b (Some help) None) → fault w (word ∷ rest) ≡ [] → ⊥
     no_option b v turn = stops w word rest (λ e. shown_long c.rules b false v (at rows pending) (first_nil _ _ (sym turn.0 ∙ e)))
@@ -694,12 +572,12 @@ module _ (c : Form) (is : IsCommand c) where
     long_answers name v false f true re hf hfe true hr turn met file known = file_met v met file known turn hr
     long_answers name v false f true re hf hfe false hr turn met (Some g) known = no_option _ v turn
     long_answers name v false f false re hf hfe hr hre turn met file known = no_option _ v turn
-    long_answers name v f fe r re hf hfe hr hre turn met file known = grind (arith, known.unflagged, known.unfiled)
+    long_answers name v f fe r re hf hfe hr hre turn met file known = grind (arith, known.flagged.1, known.filed.1)
 
     word_answers : (met : Bool) (file : Option Text) → fits so_far done left met file → Go true rest
         → After (bytes_eq word (codes "--")) (bytes_eq word (45 ∷ 45 ∷ c.flag)) (as_report word) (is_taken word) met file
     word_answers met file known trails =
-        subst (λ (f : Bool). After (bytes_eq word (codes "--")) f (as_report word) (is_taken word) met file) (sym (flag_word c.flag is.long word))
+        rw (flag_word c.flag is.long word)
         (by_word s asks [] idle rows pending p word refl
         (λ d q b. After d (is_flag c.flag q) (report_option q) (not d && (not (is_some q) && b)) met file)
         (λ q b turn. passes w (idle_walk (at rows pending) p true) word rest _ turn.0 turn.1
@@ -724,10 +602,13 @@ module _ (c : Form) (is : IsCommand c) where
         (parsed true rest)
 
     named : (rest : List Text) → Wait rest
-    named [] done left met p all so paths known = λ e. unnamed_bad all so (first_nil _ _ e)
-    named (word ∷ rest) done left met p all so paths known =
-        named_so word rest left p all _ so paths
-        (let pends = pends (codes "report") word report_filled all (report_is so) (known.filed so) refl refl in
+    named [] done left met file p all so paths known =
+        subst (Answers (waits all p) []) (sym (either (is_some file) None)) (λ e. unnamed_bad all so (first_nil _ _ e))
+    named (word ∷ rest) done left met None p all so paths known = named_so word rest left p all _ so paths
+        (let pends = pends (codes "report") word report_filled all (report_is so) (known.filed.0 so) refl refl in
         parsed false rest done left met (Some word) p all (file_pending (word ∷ [])) paths pends.0
-        (subst (λ (x : List Row). fits x done left met (Some word)) (sym pends.1)
-        (fits_file c all done left met word so (is.apart.1, (others left p paths).1) known)))
+        (rw pends.1 (fits_file c all done left met word None (known.filed.0 so) (is.apart.1, (others left p paths).1) known)))
+    named (word ∷ rest) done left met (Some file) p all so paths known =
+        subst (Answers (waits all p) (word ∷ rest)) (either (is_taken word) None) (named_so word rest left p all None so paths
+        (bad_before all (file_pending (word ∷ [])) p left rest paths
+        (λ e. grind (arith, is.report, so, known.filed.0, has_row-at (codes "report") all, e))))

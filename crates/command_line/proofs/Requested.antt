@@ -4,32 +4,30 @@
 -- that clap finds the same, for each command of one form; the three subcommands are such.
 use Rattle.std.proofs.Common.{◌==◌, ◌||◌, ◌∙◌, ◌∷◌, ◌≡◌, [], ℕ, Bool, List, None, Option, Some, ap, codes, cond, false, is_some, refl, rules, subst, sym, true}
 use Rattle.std.proofs.Common.{arith, ◌&&◌, length, fold, map, option_map, option_and_then, slice_get, slice_index_or, bytes_eq}
-use Rattle.std.specs.Prelude.{unwrap_or}
 use Rattle.std.proofs.Math.Bool.{or-true}
 use Rattle.std.proofs.lemmas.Slice.Eq.{bytes_eq-Decides}
-use Rattle.clap.specs.Faults.{check_fault, defaults_fault, entered_fault, level_fault, other_fault, settle_fault, stray_fault, turn_fault, walk_fault}
+use Rattle.clap.specs.Faults.{check_fault, defaults_fault, entered_fault, level_fault, settle_fault, stray_fault, turn_fault, walk_fault}
 use Rattle.clap.specs.Kinds.{Kinds, or_else, HasKind}
-use Rattle.clap.specs.Simple.{App, Shape, built, entered, names_of, new_shape, subcommand_of, HasMatchesOf, is_simple, subcommand_rows_of}
-use Rattle.clap.specs.Walk.{Names, Row, Text, Walk, arg_by_long, finished, idle, nothing_held, rows_after, settled, subcommand_met, walked, row_text, rows_of}
+use Rattle.clap.specs.Simple.{App, Shape, built, entered, names_of, new_shape, subcommand_of, HasMatchesOf, subcommand_rows_of}
+use Rattle.clap.specs.Walk.{Names, Row, Text, Walk, arg_by_long, finished, idle, nothing_held, rows_after, settled, subcommand_met, walked, rows_of}
 use Rattle.clap.specs.declared.error.kind.ErrorKind.TheVariants.{InvalidSubcommand, UnknownArgument, OutOfMemory}
 use Rattle.clap.proofs.FaultLemmas.{stopped_fault}
 use Rattle.clap.proofs.OnLiterals.{clap_on_literals}
-use Rattle.clap.proofs.WalkLemmas.{walk_stopped, both, first_value-rows, one_text-rows}
+use Rattle.clap.proofs.WalkLemmas.{walk_stopped, first_value-rows, one_text-rows}
 use Rattle.command_line.specs.steps.Program.{program_app}
 use Rattle.command_line.proofs.Parse.{Defaults, Fits, Form, Gives, IsCommand, Paths, by_word, either, first_nil, idle_walk, leaf, not_nil, option_by}
-use Rattle.command_line.proofs.Parse.{shown_long, shown_short, then_nil, Holds, row_of, source_of, AnswersAt, parsed}
-use Rattle.command_line.proofs.Words.{Seen, before, is_taken, scan, taken_bare, Pairs, formed_found, found_formed, scan_parts, is_met, is_named, match_up}
+use Rattle.command_line.proofs.Parse.{shown_long, then_nil, Holds, row_of, AnswersAt, parsed}
+use Rattle.command_line.proofs.Words.{Seen, before, is_taken, scan, Pairs, formed_found, found_said, is_met, is_formed}
 use Rattle.command_line.proofs.Words.{pairs, seen_of, words_of}
 use Rattle.std.specs.Borrow.{Bor}
 use Rattle.clap.specs.declared.error.Error.{Error}
 use Rattle.clap.specs.declared.parser.matches.ArgMatches.{ArgMatches}
-use Rattle.clap.specs.declared.parser.matches.ArgMatches.TheViews.{out-ArgMatches}
 use Rattle.clap.specs.declared.parser.matches.Found.{Found}
-use Rattle.command_line.specs.CommandLine.{AreTexts, RequestsTask, are_operands, is_well_formed, operands}
+use Rattle.command_line.specs.CommandLine.{AreTexts, RequestsTask, is_well_formed, operands, report_of}
 use Rattle.command_line.specs.steps.Given.{GivesTask, Sets, value_at}
 use Rattle.command_line.specs.declared.task.Task.{Task}
 use Rattle.command_line.specs.declared.task.Task.TheVariants.{Check, Explain, Run}
-use Rattle.clap.specs.Words.{first_value, found_of, one_text, subcommand_name_of, kind_of, fault_of, is_simple_and_free}
+use Rattle.clap.specs.Words.{found_of, subcommand_name_of, kind_of, fault_of, is_simple_and_free}
 
 abbrev pub whole : App
 whole = built program_app
@@ -75,9 +73,11 @@ explain_form = record check_form { name = codes "explain"; rules = (sub 2).rules
 abbrev pub found_in : Form → List Text → Option Seen
 found_in c rest = scan is_taken c.flag rest before [] c.ids c.met c.file
 
--- what it finds, and the rows of it
+-- the words are well-formed, and these are the rows of what they say
 abbrev pub Took : Form → List Text → List Row → Type 0
-Took c rest rows = (seen : Seen) × (found_in c rest ≡ Some seen) × Gives c seen rows
+Took c rest rows = ((length (operands (words_of c.flag c.met c.file rest)) == length c.ids) ≡ true)
+    × (AreTexts rest → is_formed c.flag c.ids c.met c.file rest ≡ true)
+    × Gives c (seen_of c.flag [] c.ids c.met c.file rest) rows
 
 abbrev level : Form → List Text → Kinds
 level c rest = level_fault (leaf c.name c.rules) [] nothing_held rest false []
@@ -112,9 +112,7 @@ enters : (c : Form) (program : Text) (rest : List Text)
 enters c program rest goes faults ends met =
     let stops : ◌≡◌ {A = Walk} (fold (walked top.rules names) first (c.name ∷ rest)) (stopped_at c.name rest) =
     goes ∙ sym (walk_stopped top.rules names first c.name [] rest) in (
-      ap (λ x. or_else x (ended (fold (walked top.rules names) first (c.name ∷ rest))))
-          (faults ∙ stopped_fault top names first (c.name, []) rest)
-          ∙ ap ended stops ∙ ends ∙ nothing_else (level c rest),
+      (λ j. or_else ((faults ∙ stopped_fault top names first (c.name, []) rest) j) (ended (stops j))) ∙ ends ∙ nothing_else (level c rest),
       ap (λ (w : Walk). entered whole w.stopped) stops ∙ met,
     )
 
@@ -127,32 +125,26 @@ pub record IsSubcommand (c : Form) : Type 0 where
 pub run_sub : IsSubcommand run_form
 unfolding clap_on_literals defaults_fault
 run_sub =
-    let defaults : Defaults run_form = λ all. (simp either, simp (or-true, either)) in record {
-      command = search (rules, defaults);
-      begins = search rules;
-      enters = λ program rest. enters run_form program rest refl refl refl refl;
-    }
+    let defaults : Defaults run_form = λ all. (simp either, simp (or-true, either)) in
+    let begins : Fits run_form [] [] run_form.ids run_form.met run_form.file = search rules in
+    search (rules, defaults, begins, enters run_form)
 
 pub check_sub : IsSubcommand check_form
 unfolding clap_on_literals defaults_fault
 check_sub =
     let longs : (name : Text) → arg_by_long (sub 1).rules name ≡ option_by true false (codes "all") name = λ name. simp either in
     let defaults : Defaults check_form = λ all. (simp either, simp (or-true, either)) in
-    let paths : Paths check_form.rules check_form.flag 1 check_form.ids = search rules in record {
-      command = search (rules, longs, defaults, paths);
-      begins = search rules;
-      enters = λ program rest. enters check_form program rest refl refl refl refl;
-    }
+    let begins : Fits check_form [] [] check_form.ids check_form.met check_form.file = search rules in
+    let paths : Paths check_form.rules check_form.flag 1 check_form.ids = search rules in
+    search (rules, longs, defaults, begins, paths, enters check_form)
 
 pub explain_sub : IsSubcommand explain_form
 unfolding clap_on_literals defaults_fault
 explain_sub =
     let longs : (name : Text) → arg_by_long (sub 2).rules name ≡ option_by false false (codes "all") name = λ name. simp either in
-    let defaults : Defaults explain_form = λ all. (simp either, simp or-true) in record {
-      command = search (rules, longs, defaults);
-      begins = search rules;
-      enters = λ program rest. enters explain_form program rest refl refl refl refl;
-    }
+    let defaults : Defaults explain_form = λ all. (simp either, simp or-true) in
+    let begins : Fits explain_form [] [] explain_form.ids explain_form.met explain_form.file = search rules in
+    search (rules, longs, defaults, begins, enters explain_form)
 
 -- ---- other words
 
@@ -160,28 +152,22 @@ explain_sub =
 stray : (rest : List Text) → let w = idle_walk nothing_held 1 true in
     walk_fault top names w rest ≡ [] → ended (fold (walked top.rules names) w rest) ≡ [] → ⊥
 unfolding walked walk_fault defaults_fault
-stray [] none e = not_nil _ _ e
-stray (word ∷ rest) none e =
-    let w = idle_walk nothing_held 1 true in
-    not_nil _ _ (first_nil (turn_fault top names w word) (walk_fault top names (walked top.rules names w word) rest) none)
+stray [] none e = grind arith
+stray (word ∷ rest) none e = grind (arith, none)
 
 module _ (program word : Text) (rest : List Text) (e : fault_of program_app (program ∷ word ∷ rest) ≡ []) where
   -- neither the word nor the walk over those after it has a fault
   no_fault : let w = walked top.rules names first word in (turn_fault top names first word ≡ [])
       × (walk_fault top names w rest ≡ []) × (ended (fold (walked top.rules names) w rest) ≡ [])
   unfolding walk_fault
-  no_fault =
-      let walk : walk_fault top names first (word ∷ rest) ≡ [] = first_nil _ _ e in (
-        first_nil _ _ walk,
-        then_nil (turn_fault top names first word) _ walk,
-        then_nil (walk_fault top names first (word ∷ rest)) _ e,
-      )
-
-  helped : subcommand_met names idle word ≡ Some (codes "help") → ⊥
-  helped met = not_nil _ _ (sym (ap (λ o. other_fault top o word nothing_held) met) ∙ first_nil _ _ no_fault.0)
+  no_fault = (
+    first_nil _ _ (first_nil _ _ e),
+    then_nil (turn_fault top names first word) _ (first_nil _ _ e),
+    then_nil (walk_fault top names first (word ∷ rest)) _ e,
+  )
 
   stranger : subcommand_met names idle word ≡ None → ⊥
-  stranger none = by_word top (λ x rest h more e. shown_short top.rules (104 == x || false) (86 == x || false) rest h more e)
+  stranger none = by_word top (λ x. (104 == x || false, 86 == x || false, refl))
       names idle [] None 1 word none (λ d o b. ⊥)
       (λ o b turn. let at = λ (w : Walk). (walk_fault top names w rest ≡ []) × (ended (fold (walked top.rules names) w rest) ≡ []) in
       let none = subst at turn.1 (no_fault.1, no_fault.2) in stray rest none.0 none.1)
@@ -214,38 +200,25 @@ module _ (c : Form) (is : IsSubcommand c) (program word : Text) (rest : List Tex
 
   read_as : form_of c.name ≡ c → bytes_eq c.name word ≡ true → fault_of program_app (program ∷ word ∷ rest) ≡ []
       → IsRead (program ∷ word ∷ rest)
-  read_as of named = subst (λ (w : Text). fault_of program_app (program ∷ w ∷ rest) ≡ [] → IsRead (program ∷ w ∷ rest))
-      ((bytes_eq-Decides c.name word).0 named) (λ e. (
-        c.name,
-        rows_after c.rules [] rest,
-        (is.enters program rest).1,
-        (
-          program,
-          rest,
-          refl,
-          ap (λ (d : Form). d.name) (sym of),
-          subst (λ (d : Form). Took d rest (rows_after c.rules [] rest)) (sym of)
-              (go (found_in c rest) refl answer (sym (is.enters program rest).0 ∙ e)),
-        ),
-      ))
+  read_as of named e =
+      let is_name : word ≡ c.name = sym ((bytes_eq-Decides c.name word).0 named) in
+      let none = subst (λ (w : Text). fault_of program_app (program ∷ w ∷ rest) ≡ []) is_name e in
+      let took : Took (form_of c.name) rest (rows_after c.rules [] rest) =
+      rw of (go (found_in c rest) refl answer (sym (is.enters program rest).0 ∙ none)) in
+      rw is_name (c.name, rows_after c.rules [] rest, (is.enters program rest).1, (program, rest, refl, ap (λ (d : Form). d.name) (sym of), took))
     where
       go : (o : Option Seen) → found_in c rest ≡ o → Answer o → level c rest ≡ [] → Took c rest (rows_after c.rules [] rest)
       go None found a e = absurd (a e)
-      go (Some seen) found a e = (seen, found, a.1)
+      go (Some seen) found a e =
+          let said = found_said c.flag is.command.long is.command.apart.1 rest c.ids c.met c.file seen found in
+          (said.0, said.1, subst (λ (m : Seen). Gives c m (rows_after c.rules [] rest)) (sym said.2) a.1)
 
   -- well-formed words of this name have no fault
-  words_fit : (n : ℕ) → length c.ids ≡ n
-      → (bytes_eq word c.name && (is_named c.file rest && are_operands n (words_of c.flag c.met c.file rest))) ≡ true
+  words_fit : (bytes_eq word c.name && is_formed c.flag c.ids c.met c.file rest) ≡ true
       → fault_of program_app (program ∷ word ∷ rest) ≡ []
-  words_fit n count e =
-      let p = both (bytes_eq word c.name) (is_named c.file rest && are_operands n (words_of c.flag c.met c.file rest)) e in
-      subst (λ (t : Text). fault_of program_app (program ∷ t ∷ rest) ≡ []) (sym ((bytes_eq-Decides word c.name).0 p.0))
-      ((is.enters program rest).0 ∙ (subst Answer (formed_found c.flag is.command.long is.command.apart.1 rest c.ids c.met c.file n count p.1) answer).0)
-
-abbrev name_by : Bool → Bool → Bool → Bool → Option Text
-name_by r c x h = option_map (λ (s : Text × List Text). s.0)
-    (cond (r || false) (Some (codes "run", [])) (cond (c || false) (Some (codes "check", []))
-    (cond (x || false) (Some (codes "explain", [])) (cond (h || false) (Some (codes "help", [])) None))))
+  words_fit e =
+      let found = formed_found c.flag is.command.long is.command.apart.1 rest c.ids c.met c.file in
+      grind (arith, e, bytes_eq-Decides word c.name, (is.enters program rest).0, found, answer)
 
 pub task_read : (words : List Text) → fault_of program_app words ≡ [] → IsRead words
 unfolding clap_on_literals
@@ -256,21 +229,21 @@ task_read (program ∷ word ∷ rest) e =
     (bytes_eq (codes "help") word) refl
   where
     go : (r : Bool) → bytes_eq (codes "run") word ≡ r → (c : Bool) → bytes_eq (codes "check") word ≡ c
-        → (x : Bool) → bytes_eq (codes "explain") word ≡ x → (h : Bool) → subcommand_met names idle word ≡ name_by r c x h
+        → (x : Bool) → bytes_eq (codes "explain") word ≡ x → (h : Bool) → bytes_eq (codes "help") word ≡ h
         → IsRead (program ∷ word ∷ rest)
     go true is c f x g h met = read_as run_form run_sub program word rest refl is e
     go false is true f x g h met = read_as check_form check_sub program word rest refl f e
     go false is false f true g h met = read_as explain_form explain_sub program word rest refl g e
-    go false is false f false g true met = absurd (helped program word rest e met)
-    go false is false f false g false met = absurd (stranger program word rest e met)
+    go false is false f false g true h = grind (arith, is, f, g, h, (no_fault program word rest e).0)
+    go false is false f false g false h = absurd (stranger program word rest e (grind (arith, is, f, g, h)))
 
 pub words_pass : (words : List Text) → is_well_formed words ≡ true → fault_of program_app words ≡ []
 words_pass (program ∷ name ∷ rest) e =
     grind (
       arith,
-      words_fit run_form run_sub program name rest 4 refl,
-      words_fit check_form check_sub program name rest 2 refl,
-      words_fit explain_form explain_sub program name rest 1 refl,
+      words_fit run_form run_sub program name rest,
+      words_fit check_form check_sub program name rest,
+      words_fit explain_form explain_sub program name rest,
     )
 words_pass words e = grind arith
 
@@ -279,10 +252,6 @@ words_pass words e = grind arith
 pub is_simple_program : is_simple_and_free program_app ≡ true
 unfolding clap_on_literals
 is_simple_program = refl
-
-option_maps : {A B C : Type 0} (f : B → C) (g : A → B) (o : Option A)
-    → option_map (λ a. f (g a)) o ≡ option_map f (option_map g o)
-option_maps f g o = grind arith
 
 -- the words of the subcommand that the matches give
 pub has_read : (app : App) (words : List Text) (m : ArgMatches) (o : Option (Bor Text × Bor ArgMatches)) (p : Bor Text × Bor ArgMatches)
@@ -294,30 +263,18 @@ pub has_read : (app : App) (words : List Text) (m : ArgMatches) (o : Option (Bor
 has_read app words m o p is fault matches found names rows =
     let got = task_read words (subst (λ (a : App). fault_of a words ≡ []) is
     (fault (ap is_simple_and_free is ∙ is_simple_program))) in
-    let sub : subcommand_rows_of m ≡ Some (got.0, got.1) =
-    (matches (ap is_simple is ∙ (both (is_simple program_app) _ is_simple_program).0)).1
-    ∙ ap (λ (a : App). subcommand_of a words) is ∙ got.2 in
-    let named : subcommand_name_of m ≡ option_map (λ (p : Text × List Row). p.0) (subcommand_rows_of m) =
-    option_maps (λ (p : Text × List Row). p.0) _ (out-ArgMatches m).subcommand in
-    let same : Some p.0.now ≡ Some got.0 = ap (option_map (λ (q : Bor Text × Bor ArgMatches). q.0.now)) (sym found) ∙ names ∙ named
-    ∙ ap (option_map (λ (p : Text × List Row). p.0)) sub in
-    let name_is : p.0.now ≡ got.0 = cc in
-    let all : Some (rows_of (found_of p.1.now)) ≡ Some got.1 =
-    ap (option_map (λ (q : Bor Text × Bor ArgMatches). rows_of (found_of q.1.now))) (sym found) ∙ rows
-    ∙ ap (option_map (λ (p : Text × List Row). p.1)) sub in
-    let rows_are : rows_of (found_of p.1.now) ≡ got.1 = cc in
-    subst (λ (p : Text × List Row). HasRead words p.0 p.1) (λ j. (sym name_is j, sym rows_are j)) got.3
+    let sub : subcommand_rows_of m ≡ Some (got.0, got.1) = grind (arith, is, matches, is_simple_program, got.2) in
+    let name_is : p.0.now ≡ got.0 = grind (arith, found, names, sub) in
+    let rows_are : rows_of (found_of p.1.now) ≡ got.1 = grind (arith, found, rows, sub) in
+    rw (name_is, rows_are) got.3
 
 -- ---- the values
 
 -- the operands are the values of the paths
-values : (f : Found) (done : Pairs) (ids ops : List Text) → match_up ops ids ≡ true → Holds (rows_of f) (pairs done ids ops)
+values : (f : Found) (done : Pairs) (ids ops : List Text) → (length ops == length ids) ≡ true → Holds (rows_of f) (pairs done ids ops)
     → (ops ≡ map (value_at f) ids) × Holds (rows_of f) done
 values f done [] [] e holds = (refl, holds)
-values f done (id ∷ ids) (word ∷ ops) e holds =
-    let more = values f ((id, word) ∷ done) ids ops e holds in
-    let first : first_value f id ≡ Some word = first_value-rows f id ∙ ap (option_and_then (λ (r : Row). slice_get r.values 0)) more.1.0 in
-    (λ j. unwrap_or (sym first j) [] ∷ more.0 j, more.1.1)
+values f done (id ∷ ids) (word ∷ ops) e holds = grind (arith, values f ((id, word) ∷ done) ids ops, e, holds, first_value-rows f id)
 values f done ids ops e holds = grind arith
 
 file_of : (file : Option Text) → option_and_then (λ (r : Row). slice_get r.values 0) (row_of (codes "report") file) ≡ file
@@ -332,53 +289,33 @@ module _ (words : List Text) (name : Text) (f : Found) (got : HasRead words name
   taken : (c : Form) → form_of name ≡ c → Taken c
   taken c of = subst Taken of (got.2 ∙ ap (λ (n : Text). got.0 ∷ n ∷ got.1) got.3, got.4)
 
-  module _ (c : Form) (is : IsSubcommand c) (t : Taken c) where
-    abbrev ops : List Text
-    ops = operands (words_of c.flag c.met c.file got.1)
-
-    found : (match_up ops c.ids ≡ true) × (seen_of c.flag [] c.ids c.met c.file got.1 ≡ t.1.0)
-    found =
-        let is = scan_parts c.flag is.command.long is.command.apart.1 got.1 c.ids c.met c.file is_taken taken_bare t.1.0 t.1.1 in (is.2, is.3)
-
-    -- texts in which the pass finds something are well-formed
-    formed : (n : ℕ) → length c.ids ≡ n → AreTexts got.1
-        → (is_named c.file got.1 && are_operands n (words_of c.flag c.met c.file got.1)) ≡ true
-    formed n count = found_formed c.flag is.command.long is.command.apart.1 got.1 c.ids c.met c.file n count t.1.0 t.1.1
-
-    paths_are : ops ≡ map (value_at f) c.ids
-    paths_are = (values f [] c.ids ops found.0 (subst (λ (m : Seen). Holds (rows_of f) m.0) (sym found.1) t.1.2.holds)).0
+  module _ (c : Form) (t : Taken c) where
+    paths_are : operands (words_of c.flag c.met c.file got.1) ≡ map (value_at f) c.ids
+    paths_are = (values f [] c.ids (operands (words_of c.flag c.met c.file got.1)) t.1.0 t.1.2.holds).0
 
     flag_is : (flag : Bool) → c.has_flag ≡ true → Sets f c.flag flag → flag ≡ is_met c.flag c.met c.file got.1
-    flag_is flag so sets = go t.1.0.1 (one_text-rows f c.flag ∙ ap (option_and_then (λ (r : Row). row_text r)) (t.1.2.flagged so))
-        ∙ ap (λ (m : Seen). m.1) (sym found.1)
-      where
-        go : (m : Bool) → one_text f c.flag ≡ row_text (source_of c.flag m) → flag ≡ m
-        go m r = grind (arith, sets.0, sets.1)
+    flag_is flag so sets = grind (arith, one_text-rows f c.flag, t.1.2.flagged so, sets.0, sets.1)
 
   -- the task is the one that the words request
   pub task_requested : (task : Task) → GivesTask name f task → RequestsTask words task
   task_requested (Run task) gives =
       let t = taken run_form (λ j. cond (gives.0 j) check_form (cond (gives.1 j) explain_form run_form)) in
-      subst (λ (ws : List Text). RequestsTask ws (Run task)) (sym t.0) (
+      rw t.0 (
         refl,
-        formed run_form run_sub t 4 refl,
+        t.1.1,
         gives.3 ∙ first_value-rows f (codes "report") ∙ ap (option_and_then (λ (r : Row). slice_get r.values 0)) (t.1.2.filed refl)
-            ∙ file_of t.1.0.2 ∙ ap (λ (m : Seen). m.2) (sym (found run_form run_sub t).1),
-        flag_is run_form run_sub t task.trace refl gives.2,
-        paths_are run_form run_sub t ∙ sym (λ j. gives.4 j ∷ gives.5 j ∷ gives.6 j ∷ gives.7 j ∷ []),
+            ∙ file_of (report_of got.1),
+        flag_is run_form t task.trace refl gives.2,
+        paths_are run_form t ∙ sym (λ j. gives.4 j ∷ gives.5 j ∷ gives.6 j ∷ gives.7 j ∷ []),
       )
   task_requested (Check task) gives =
       let t = taken check_form (λ j. cond (gives.0 j) check_form (cond (bytes_eq name (codes "explain")) explain_form run_form)) in
-      subst (λ (ws : List Text). RequestsTask ws (Check task)) (sym t.0) (
-        refl,
-        formed check_form check_sub t 2 refl,
-        flag_is check_form check_sub t task.all refl gives.1,
-        paths_are check_form check_sub t ∙ sym (λ j. gives.2 j ∷ gives.3 j ∷ []),
-      )
+      rw t.0
+      (refl, t.1.1, flag_is check_form t task.all refl gives.1, paths_are check_form t ∙ sym (λ j. gives.2 j ∷ gives.3 j ∷ []))
   task_requested (Explain code) gives =
       let t = taken explain_form (λ j. cond (gives.0 j) check_form (cond (gives.1 j) explain_form run_form)) in
-      subst (λ (ws : List Text). RequestsTask ws (Explain code)) (sym t.0)
-      (refl, formed explain_form explain_sub t 1 refl, paths_are explain_form explain_sub t ∙ sym (λ j. gives.2 j ∷ []))
+      rw t.0
+      (refl, t.1.1, paths_are explain_form t ∙ sym (λ j. gives.2 j ∷ []))
 
 -- ---- errors
 

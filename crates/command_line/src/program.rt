@@ -144,6 +144,7 @@ fn top<'a>(alloc: Global) -> Command<'a>
         .subcommand_required(true)
 }
 
+#[tactic(auto, using(std::proofs::lemmas::List::Sums::fold_more))]
 fn with_subcommands<'a>(
     alloc: Global,
     mut command: Command<'a>,
@@ -159,6 +160,7 @@ fn with_subcommands<'a>(
 }
 
 impl Subcommand {
+    #[tactic(auto, using(std::proofs::lemmas::List::Sums::fold_more))]
     fn command<'a>(&self, alloc: Global) -> Result<Command<'a>, AllocError>
         ensures app { IfOk result (λ c. app_of c ≡ app_for self.now) }
         ensures local { IfOk result (λ c. (out-Command c).has_globals ≡ false) }

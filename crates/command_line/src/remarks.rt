@@ -80,6 +80,7 @@ fn take_option(words: &mut Vec<&str>, option: &str) -> bool
 }
 
 // The index of the first such option before any `--`.
+#[tactic(auto, using(crate::proofs::Options::passed_flag))]
 fn option_index(words: &[&str], option: &str) -> Option<usize>
     ensures { let texts = map (λ w. w.now) words.now in
         MatchOption result
