@@ -32,11 +32,7 @@ same_fewer x one old new before after m = omega (arith, holders_cons m x one, ho
 
 pub listed_is : (some : Option Mapping) (m : Mapping) → Contains (listed some) m → some ≡ Some m
 listed_is None m among = absurd (omega (arith, among.1))
-listed_is (Some x) m among = alone (Contains-push_cases [] x m among)
-  where
-    alone : Contains [] m ⊎ (x ≡ m) → Some x ≡ Some m
-    alone (inl none) = absurd (omega (arith, none.1))
-    alone (inr e) = cc
+listed_is (Some x) m among = grind arith
 
 pub length-listed : (some : Option Mapping) → length (listed some) ≤ 1
 length-listed None = omega arith

@@ -29,22 +29,13 @@ module _ (id : ConnId) (direction : Direction) (flags : Flags) (mark now : ℕ) 
 
 pub holders-first : (m : Mapping) (h : ConntrackEntry) (held : List ConntrackEntry) → holders_of m (mappings_in (h ∷ held))
     ≡ holders_of m (listed h.source) + (holders_of m (listed h.dest) + holders_of m (mappings_in held))
-holders-first m h held =
-    let both = holders-append m (mappings_of h) (mappings_in held) in
-    omega (arith, both, holders-append m (listed h.source) (listed h.dest))
+holders-first m h held = grind (arith, holders-append, h.source, h.dest)
 
 pub holders-begun : (m : Mapping) (held : List ConntrackEntry) (h : ConntrackEntry) → holders_of m (mappings_in (held ++ h ∷ []))
     ≡ holders_of m (listed h.dest) + (holders_of m (listed h.source) + holders_of m (mappings_in held))
-holders-begun m held h =
-    let split : mappings_in (held ++ h ∷ []) ≡ mappings_in held ++ mappings_in (h ∷ []) =
-    flat_map-append mappings_of held (h ∷ []) in
-    let both = holders-append m (mappings_in held) (mappings_in (h ∷ [])) in
-    rw split (omega (arith, both, holders-first m h [], holders_none m))
+holders-begun m held h = grind (arith, flat_map-append, holders-append, holders-first)
 
 -- two for each entry at most
 pub length-mappings_in : (held : List ConntrackEntry) → length (mappings_in held) ≤ 2 * length held
 length-mappings_in [] = omega arith
-length-mappings_in (h ∷ held) =
-    let both = length-append (mappings_of h) (mappings_in held) in
-    let two = length-append (listed h.source) (listed h.dest) in
-    omega (arith, both, two, length-listed h.source, length-listed h.dest, length-mappings_in held)
+length-mappings_in (h ∷ held) = grind (arith, length-append, h.source, h.dest, length-listed, (length-mappings_in held))

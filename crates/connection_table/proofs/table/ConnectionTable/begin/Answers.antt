@@ -43,9 +43,7 @@ hold-requires-clause-one_to_one g c =
 
 pub hold-requires-clause-few : goal.hold-requires-clause-few
 hold-requires-clause-few g c m =
-    let held = g.T.Tracker.held c.self.inside.tracker in
-    let few = not_full c.in_ok-begin.field-0 (length held) c.in_ok-begin.ensures.full.1 in
-    omega (arith, few_held _ _ c.self.invariant few m)
+    grind (arith, c.self.inside.tracker, not_full, c.in_ok-begin.field-0, c.in_ok-begin.ensures.full.1, few_held, c.self.invariant)
 
 pub hold-requires-2-clause-one_to_one : goal.hold-requires-2-clause-one_to_one
 hold-requires-2-clause-one_to_one g c =
