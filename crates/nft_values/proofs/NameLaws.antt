@@ -41,13 +41,7 @@ unfoldable pub padded_to : ℕ → ℕ → List ℕ → ℕ
 padded_to count fill n = bytes_number 0 (take count (n ++ replicate 16 fill))
 
 byte_of : (m at fill : ℕ) (n : List ℕ) → at < m → get_or (n ++ replicate m fill) at 0 ≡ get_or n at fill
-byte_of m at fill n lt =
-    elim (cases_lt at (length n)) [
-      | inl inside ↦ get_or-append n (replicate m fill) 0 at inside ∙ sym (get_or_default_zero n at fill inside)
-      | inr past ↦
-          let far : at - length n < m = omega arith in
-          get_or-append_right n (replicate m fill) (length n) at 0 refl past ∙ get_or-replicate m (at - length n) fill 0 far ∙ sym (get_or_past n at fill past)
-    ]
+byte_of m at fill n lt = grind (arith, cases_lt, get_or-append, get_or_default_zero, get_or-append_right, get_or-replicate, get_or_past)
 
 bytes-more : (xs : List ℕ) (at : ℕ) → at < length xs → bytes_number 0 (take at xs) * 256 + get_or xs at 0 ≡ bytes_number 0 (take (at + 1) xs)
 bytes-more xs at lt = sym (ap (bytes_number 0) (take_more xs at 0 lt) ∙ bytes-append 0 (take at xs) (get_or xs at 0))

@@ -58,6 +58,4 @@ pub range_made : (plant : PlantTree) (k : ComparedType) (range : RangeTree) (s :
     → is_range plant k range ≡ true → has_numbers plant k range ≡ true → s ≡ range_span plant k range
     → MatchOption r (s.high < s.low) (λ r. (r.low ≡ s.low) × (r.high ≡ s.high)) → option_map span_of r
     ≡ numbers_of plant k range
-range_made plant k range s r good here e h =
-    let Rises : Span → Type 0 = λ t. t.low ≤ t.high in
-    made s r (subst Rises (sym e) (range-rises plant k range good)) h ∙ guarded _ _ s _ good here e
+range_made plant k range s r good here e h = grind (arith, made, range-rises, guarded)
