@@ -1,17 +1,10 @@
+use Rattle.std.proofs.Common.{arith}
 use Rattle.std.proofs.Common.{refl}
 use Rattle.semantics_examples.proofs.ComputedHooks.{forwards}
 use Rattle.semantics_examples.proofs.examples.fields.Goals as goal
 
 pub returns-clause-header : goal.returns-clause-header
-returns-clause-header c = (
-  forwards _ _ _ refl,
-  forwards _ _ _ refl,
-  forwards _ _ _ refl,
-  forwards _ _ _ refl,
-  forwards _ _ _ refl,
-  forwards _ _ _ refl,
-  forwards _ _ _ refl,
-)
+returns-clause-header c = grind (arith, forwards)
 
 pub returns-clause-udp : goal.returns-clause-udp
 returns-clause-udp c = (forwards _ _ _ refl, forwards _ _ _ refl, forwards _ _ _ refl, forwards _ _ _ refl)
