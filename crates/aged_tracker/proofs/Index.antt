@@ -2,12 +2,12 @@
 use Rattle.aged_tracker.proofs.Names.{AgedSlots, Belonging, Bool, ConnId, ConntrackEntry, Direction, Flags, Found, IsAllLive, IsIndexed, IsTable, Limits, List}
 use Rattle.aged_tracker.proofs.Names.{None, NotFound, Option, Reply, Some, Tuple, [], and_parts, ap, apart-filter, apart-push, apart-touched_at, arith}
 use Rattle.aged_tracker.proofs.Names.{belonging_by, belonging_of, belongs_in, cases_Bool, common_steps, cond, connection_ref, cons_held, distinct-filter}
-use Rattle.aged_tracker.proofs.Names.{distinct-push, distinct-touched_at, entry_at, eq-eqb, eqb-true, false, filter, find, find-filter}
-use Rattle.aged_tracker.proofs.Names.{found_by_id, has_distinct_ids, has_id, have_disjoint_tuples, held_by, if◌then◌else◌, inl, inr, is_incoming, is_live}
-use Rattle.aged_tracker.proofs.Names.{is_some, is_taken, key_in, length, length-append, length-map, list_any, live_at, map, nat_tests, not, not-true}
-use Rattle.aged_tracker.proofs.Names.{option_cases, option_map, or_cases, or_parts, refl, rules, same_id, same_tuple, same_tuple-true, serial_at, slots_of}
-use Rattle.aged_tracker.proofs.Names.{some_of_map, sym, touched, touched_at, true, without_new, ℕ, ◌&&◌, ◌++◌, ◌+◌, ◌-◌, ◌==◌, ◌||◌, ◌∙◌, ◌∷◌, ◌≡◌}
-use Rattle.aged_tracker.proofs.Lists.{named_at, some_map, some_of}
+use Rattle.aged_tracker.proofs.Names.{distinct-push, distinct-touched_at, entry_at, eq-eqb, eqb-true, false, filter, find, find-filter, found_by_id}
+use Rattle.aged_tracker.proofs.Names.{has_distinct_ids, has_id, have_disjoint_tuples, held_by, if◌then◌else◌, inl, inr, is_incoming, is_live, is_some, is_taken}
+use Rattle.aged_tracker.proofs.Names.{key_in, length, length-append, length-map, list_any, live_at, map, nat_tests, not, not-true, option_cases, option_map}
+use Rattle.aged_tracker.proofs.Names.{or_cases, or_parts, refl, rules, same_id, same_tuple, same_tuple-true, serial_at, slots_of, some_of_map, sym, touched}
+use Rattle.aged_tracker.proofs.Names.{touched_at, true, without_new, ℕ, ◌&&◌, ◌++◌, ◌+◌, ◌-◌, ◌||◌, ◌∙◌, ◌∷◌, ◌≡◌}
+use Rattle.aged_tracker.proofs.Lists.{named_at}
 use Rattle.aged_tracker.proofs.Order.{all_pass, at_slot, found_from, of_slot}
 use Rattle.conntrack.specs.ConntrackEntry.{without}
 use Rattle.ip_headers.specs.contracts.tuple.TuplePartialEq.TheImpl.{eq-value}
@@ -38,10 +38,7 @@ IsOnce p (x ∷ held) = (p x ≡ true → list_any p held ≡ false) × IsOnce p
 
 pub once_by_id : (id : ConnId) (held : List ConntrackEntry) → has_distinct_ids held ≡ true → IsOnce (same_id id) held
 once_by_id id [] distinct = tt
-once_by_id id (x ∷ held) distinct =
-    let parts = and_parts (not (has_id x.id held)) (has_distinct_ids held) distinct in
-    let none = λ (same : same_id id x ≡ true). ap (λ n. list_any (λ h. h.id.0 == n) held) (sym (eqb-true x.id.0 id.0 same)) ∙ not-true _ parts.0 in
-    (none, once_by_id id held parts.1)
+once_by_id id (x ∷ held) distinct = grind (arith, nat_tests, once_by_id id held)
 
 pub once_by_tuple : (tuple : Tuple) (held : List ConntrackEntry) → have_disjoint_tuples held ≡ true → IsOnce (is_incoming tuple) held
 once_by_tuple tuple [] apart = tt
@@ -61,8 +58,7 @@ kept_if f (Some x) = cond (f x) (Some x) None
 
 pub kept_step : (p : ConntrackEntry → Bool) (o : Option ConntrackEntry) (held : List ConntrackEntry)
     → filter p (cons_held o held) ≡ cons_held (kept_if p o) (filter p held)
-kept_step p None held = refl
-kept_step p (Some x) held = elim (cases_Bool (p x)) [ inl t ↦ rw t refl | inr f ↦ rw f refl ]
+kept_step p o held = grind arith
 
 module _ (p f : ConntrackEntry → Bool) where
   find_none : (held : List ConntrackEntry) → list_any p held ≡ false → find (λ x. f x && p x) held ≡ None
@@ -77,8 +73,7 @@ module _ (p f : ConntrackEntry → Bool) where
 
 touched_alike : (direction : Direction) (flags : Flags) (mark now : ℕ) (tuple : Tuple) (b : Bool) (x : ConntrackEntry)
     → let y = cond b (touched direction flags mark now x) x in (is_incoming tuple y ≡ is_incoming tuple x) × (y.id.0 ≡ x.id.0)
-touched_alike direction flags mark now tuple true x = (refl, refl)
-touched_alike direction flags mark now tuple false x = (refl, refl)
+touched_alike direction flags mark now tuple b x = grind arith
 
 -- ---- an entry is added
 
@@ -136,14 +131,13 @@ module _ (id : ConnId) (h : ConntrackEntry) where
       by : (o : Option ConntrackEntry) → kept_if (is_incoming tuple) (Some h) ≡ kept_if (same_id id) o
           → cond (same_tuple h.reply tuple) None (cond (same_tuple h.original tuple) None (option_map (λ (x : ConntrackEntry). x.id.0) o))
           ≡ option_map (λ (x : ConntrackEntry). x.id.0) (kept_if (λ x. not (same_id id x)) o)
-      by None same = grind arith
-      by (Some y) same = key_dropped (same_tuple h.original tuple) (same_tuple h.reply tuple) (same_id id y) y same
+      by o same = grind (arith, option_cases o, key_dropped)
 
 -- ---- the index
 
 module _ (held : List ConntrackEntry) (at : Tuple → Option ℕ) (live : ℕ) (is : IsIndexed held at live) where
   pub taken_as : (tuple : Tuple) → is_taken tuple held ≡ is_some (at tuple)
-  taken_as tuple = any_is (is_incoming tuple) held ∙ sym (ap is_some (is.keyed tuple) ∙ some_map _ (find (is_incoming tuple) held))
+  taken_as tuple = grind (arith, any_is, is.keyed tuple)
 
   pub unfound : (tuple : Tuple) → at tuple ≡ None → find (is_incoming tuple) held ≡ None
   unfound tuple none = grind (arith, common_steps, option_cases (find (is_incoming tuple) held), is.keyed tuple)
@@ -163,23 +157,13 @@ module _ (held : List ConntrackEntry) (at : Tuple → Option ℕ) (live : ℕ) (
       → is_taken h.reply held ≡ false → ((q : Tuple) → at' q ≡ cond (same_tuple h.reply q) (Some h.id.0) (cond (same_tuple h.original q) (Some h.id.0) (at q)))
       → IsIndexed (held ++ h ∷ []) at' (live + 1)
   indexed_begun at' h fresh o r now =
-      record {
-        keyed = λ q. let e = rw (is.keyed q) at (now q) in e ∙ key_in-push h q held o r;
-        distinct = distinct-push held h is.distinct fresh;
-        apart = apart-push held h is.apart o r;
-        count = omega (arith, is.count, length-append held (h ∷ []));
-      }
+      grind (arith, nat_tests, is.keyed, key_in-push, distinct-push, is.distinct, apart-push, is.apart, is.count, length-append)
 
   pub indexed_ended : (at' : Tuple → Option ℕ) (id : ConnId) (h : ConntrackEntry) → find (same_id id) held ≡ Some h
       → ((q : Tuple) → at' q ≡ cond (same_tuple h.reply q) None (cond (same_tuple h.original q) None (at q)))
       → IsIndexed (without id held) at' (live - 1)
   indexed_ended at' id h found now =
-      record {
-        keyed = λ q. let e = rw (is.keyed q) at (now q) in e ∙ key_in-without id h q held is.distinct is.apart found;
-        distinct = distinct-filter (λ x. not (same_id id x)) held is.distinct;
-        apart = apart-filter (λ x. not (same_id id x)) held is.apart;
-        count = omega (arith, is.count, one_fewer id h held (once_by_id id held is.distinct) found);
-      }
+      grind (arith, is.keyed, key_in-without, is.distinct, is.apart, distinct-filter, apart-filter, is.count, one_fewer, once_by_id)
 
 -- ---- lookups
 
@@ -210,8 +194,7 @@ module _ (limits : Limits) (now : ℕ) (tuple : Tuple) (flags : Flags) (held : L
   -- a test that only incoming tuples pass
   found_by : (f : ConntrackEntry → Bool) → ((x : ConntrackEntry) → f x ≡ (f x && is_incoming tuple x)) → have_disjoint_tuples held ≡ true
       → (o : Option ConntrackEntry) → find (is_incoming tuple) held ≡ o → find f held ≡ kept_if f o
-  found_by f its apart o is =
-      (λ i. find (λ x. its x i) held) ∙ find_both (is_incoming tuple) f held (once_by_tuple tuple held apart) ∙ ap (kept_if f) is
+  found_by f its apart o is = grind (arith, its, find_both (is_incoming tuple) f held (once_by_tuple tuple held apart))
 
   pub belongs_by : have_disjoint_tuples held ≡ true → (o : Option ConntrackEntry) → find (is_incoming tuple) held ≡ o
       → lookup o ≡ belongs_in (live_at limits now held) tuple flags
@@ -227,12 +210,10 @@ module _ (limits : Limits) (now : ℕ) (tuple : Tuple) (flags : Flags) (held : L
 module _ (t : AgedSlots) (table : IsTable t) where
   pub found_at : (id : ConnId) → find (same_id id) (held_by t) ≡ slots_of t id.0
   found_at id =
-      found_from (entry_at t.slots) id (slots_of t id.0)
+      found_from (entry_at t.slots) (same_id id) (slots_of t id.0) (serial_at t.slots id.0)
       (λ n h is same. ap (slots_of t) (sym (eqb-true h.id.0 id.0 same)) ∙ (of_slot t.slots n h is).0)
-      (λ h is. eq-eqb h.id.0 id.0 (named_at t.slots id.0 h is)) 0 t.next_serial (λ some.
-      let h = some_of (slots_of t id.0) some in
-      let at = at_slot t.slots t.next_serial table.numbered id.0 h.0 h.1 ∙ sym h.1 in
-      (serial_at t.slots id.0, omega arith, omega (arith, table.numbered.below id.0 some), at))
+      (λ h is. (eq-eqb h.id.0 id.0 (named_at t.slots id.0 h is), at_slot t.slots t.next_serial table.numbered id.0 h is ∙ sym is))
+      0 t.next_serial (λ some. (omega arith, omega (arith, table.numbered.below id.0 some)))
 
   pub live_all : (limits : Limits) (now : ℕ) → IsAllLive limits (slots_of t) now → live_at limits now (held_by t) ≡ held_by t
   live_all limits now live =

@@ -1,12 +1,11 @@
 -- Circular lists of slots: their keys, links, changes and fronts.
 use Rattle.aged_tracker.proofs.Names.{AreOldest, AreOldestBut, ConntrackEntry, HasRings, IfNone, IfSome, Inserts, IsApart, IsIn, IsNode, IsOn, IsRing}
 use Rattle.aged_tracker.proofs.Names.{IsRing-kept, IsRing-push, IsRing-skip, IsRings, IsRising, IsSome, Joins, Link, List, Lists, Next, None, Option, Previous}
-use Rattle.aged_tracker.proofs.Names.{Relinks, Relists, SameBy, Slab, Slot, Some, Updates, [], ap, arith, cases_eq, cond-true}
-use Rattle.aged_tracker.proofs.Names.{eq-eqb, eqb, eqb-true, except_links, get, get_or, get_or-set_other, get_or-set_same, held_at, held_of, inl}
-use Rattle.aged_tracker.proofs.Names.{inr, is_first, is_some, length, link_at, link_by, nat_tests, ne_eqb, neighbour, next_of, next_on, none-some}
-use Rattle.aged_tracker.proofs.Names.{not_from_false, off, option_map, owner_by, owner_of, prev_end_on, prev_of, prev_on, pushed, refl, rings_apart, same_Some}
-use Rattle.aged_tracker.proofs.Names.{set, slice_get, some_of_map, subst, suc, sym, true, without, without_absent, without_head, zero, ℕ, ◌++◌, ◌+◌, ◌-◌, ◌<◌}
-use Rattle.aged_tracker.proofs.Names.{◌∙◌, ◌∷◌, ◌≡◌, ◌≢◌, ◌≤◌, ◌⊎◌}
+use Rattle.aged_tracker.proofs.Names.{Relinks, Relists, SameBy, Slab, Slot, Some, Updates, [], ap, arith, cases_eq, cond-true, eqb, except_links, get, get_or}
+use Rattle.aged_tracker.proofs.Names.{get_or-set_other, get_or-set_same, held_at, held_of, inl, inr, is_first, is_some, length, link_at, link_by, nat_tests}
+use Rattle.aged_tracker.proofs.Names.{ne_eqb, neighbour, next_of, next_on, none-some, not_from_false, off, option_map, owner_by, owner_of, prev_end_on, prev_of}
+use Rattle.aged_tracker.proofs.Names.{prev_on, pushed, refl, rings_apart, same_Some, set, slice_get, some_of_map, subst, suc, sym, true, without}
+use Rattle.aged_tracker.proofs.Names.{without_absent, without_head, zero, ℕ, ◌++◌, ◌+◌, ◌-◌, ◌<◌, ◌∙◌, ◌∷◌, ◌≡◌, ◌≢◌, ◌≤◌, ◌⊎◌}
 use Rattle.futures.specs.Links as ring
 
 -- ---- lists of distinct keys
@@ -37,12 +36,10 @@ IsIn-first [] front is = absurd (none-some front is)
 IsIn-first (first ∷ rest) front is = inl (same_Some first front is)
 
 pub first_is : (key : ℕ) (keys : List ℕ) (front : ℕ) → slice_get keys 0 ≡ Some front → is_first key keys ≡ true → front ≡ key
-first_is key [] front is test = absurd (none-some front is)
-first_is key (first ∷ rest) front is test = sym (same_Some first front is) ∙ eqb-true first key test
+first_is key keys front is test = grind (arith, nat_tests)
 
 pub is_first-of : (key : ℕ) (keys : List ℕ) → slice_get keys 0 ≡ Some key → is_first key keys ≡ true
-is_first-of key [] is = absurd (none-some key is)
-is_first-of key (first ∷ rest) is = eq-eqb first key (same_Some first key is)
+is_first-of key keys is = grind (arith, nat_tests)
 
 pub none_in : (keys : List ℕ) (key : ℕ) → slice_get keys 0 ≡ None → ¬ IsIn key keys
 none_in [] key none found = found
@@ -61,12 +58,10 @@ rising_as f g keys same rising i j d le less = grind (arith, IsIn-at)
 -- ---- the links after a write to a slot or a head
 
 pub some_of : {X : Type 0} (o : Option X) → IsSome o → (x : X) × (o ≡ Some x)
-some_of None is = absurd cc
-some_of (Some x) is = (x, refl)
+some_of o is = grind arith
 
 pub some_map : {X Y : Type 0} (f : X → Y) (o : Option X) → is_some (option_map f o) ≡ is_some o
-some_map f None = refl
-some_map f (Some x) = refl
+some_map f o = grind arith
 
 -- a function of slots that reads only what a write keeps
 pub kept_by : {X : Type 0} (f : Option Slot → X) (keep : Slot → Slot) → ((s : Slot) → f (Some s) ≡ f (Some (keep s)))
@@ -90,8 +85,7 @@ pub aside_place : (old new : Slab Slot) → SameBy except_links old new → (p :
 aside_place old new same p is above = kept_by is_some except_links (λ s. refl) (get old (p - 5)) (get new (p - 5)) (same (p - 5)) ∙ is above
 
 pub owned_some : (o : Option Slot) (list : ℕ) → owner_by o ≡ Some list → IsSome o
-owned_some None list is = absurd (none-some list is)
-owned_some (Some s) list is = refl
+owned_some o list is = grind arith
 
 -- a node of a circular list exists
 pub on_place : (slots : Slab Slot) (heads : List Link) (list : ℕ) (keys : List ℕ) (p : ℕ) → list < 5
@@ -225,20 +219,16 @@ module _ (next prev : ℕ → ℕ) (list : ℕ) where
   first_read (first ∷ rest) (Some key) range chain some none = ap Some (omega (arith, chain.0, some))
 
   pub first_tested : (keys : List ℕ) (key : ℕ) → list < 5 → ring.IsChain next prev 5 list keys list → eqb (next list) (5 + key) ≡ is_first key keys
-  first_tested [] key range chain = ne_eqb _ _ (λ e. omega (arith, range, chain.0, e))
-  first_tested (first ∷ rest) key range chain = grind (arith, nat_tests, chain.0)
+  first_tested keys key range chain = grind (arith, nat_tests)
 
   -- the key that the head leads back to is the last
   last_from : (key from first : ℕ) (rest : List ℕ) → ring.IsChain next prev 5 from (first ∷ rest) list
       → IsApart (first ∷ rest) → prev list ≡ 5 + key → without key (first ∷ rest) ++ key ∷ [] ≡ first ∷ rest
-  last_from key from first [] chain apart end =
-      let same : first ≡ key = omega (arith, chain.2.1, end) in
-      ap (λ ks. ks ++ key ∷ []) (without_head key first [] same) ∙ ap (λ k. k ∷ []) (sym same)
+  last_from key from first [] chain apart end = grind (arith, nat_tests, without_head)
   last_from key from first (second ∷ rest) chain apart end =
       let rec = last_from key (5 + first) second rest chain.2 apart.1 end in
       let there = subst (IsIn key) rec (IsIn-push_last key (without key (second ∷ rest))) in
-      ap (λ ks. ks ++ key ∷ []) (without_past key first (second ∷ rest)
-      (λ e. apart.0 (subst (λ k. IsIn k (second ∷ rest)) (sym e) there))) ∙ ap (λ ks. first ∷ ks) rec
+      grind (arith, nat_tests, rec, there, apart.0, without_past key first (second ∷ rest))
 
   last_at_end : (key : ℕ) (keys : List ℕ) → list < 5 → ring.IsChain next prev 5 list keys list → IsApart keys → prev list ≡ 5 + key
       → without key keys ++ key ∷ [] ≡ keys
@@ -258,16 +248,10 @@ module _ (slots : Slab Slot) (heads : List Link) (key list : ℕ) (range : list 
   last_owned lists rings = (rings list range).owned key (subst (IsIn key) (at_end lists rings) (IsIn-push_last key (without key (lists list))))
 
   pub last_stays : (lists : Lists) → IsRings slots heads lists → (l : ℕ) → l < 5 → pushed key list (off key lists) l ≡ lists l
-  last_stays lists rings l r = pushed_by (λ keys. keys ≡ lists l) key list l (off key lists)
-      (λ e. ap (λ m. without key (lists m) ++ key ∷ []) e ∙ at_end lists rings ∙ ap lists (sym e))
-      (λ d. without_absent key (lists l) (λ found. d (same_Some l list (sym ((rings l r).owned key found) ∙ last_owned lists rings))))
+  last_stays lists rings l r = grind (arith, pushed_by, without_absent, rings l r, last_owned lists rings, at_end lists rings)
 
   pub relists_last : HasRings slots heads → Relists slots slots heads heads key (Some list) (λ lists. pushed key list (off key lists))
-  relists_last known = record {
-    rings = λ lists rings l r. subst (IsRing slots heads l) (sym (last_stays lists rings l r)) (rings l r);
-    here = last_owned known.0 known.1;
-    others = λ k d. refl;
-  }
+  relists_last known = grind (arith, last_stays, last_owned, known.0, known.1)
 
 -- ---- the moments of fronts
 

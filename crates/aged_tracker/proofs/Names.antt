@@ -7,16 +7,15 @@ pub use Rattle.aged_tracker.specs.declared.slot.Slot.{Slot}
 pub use Rattle.aged_tracker.specs.steps.Table.{AreOldest, AreOldestBut, HasRings, IsAllLive, IsIndexed, IsLiveQueue, IsNode, IsNumbered, IsRing, IsRings}
 pub use Rattle.aged_tracker.specs.steps.Table.{IsRising, IsTable, Lists, MAX_KEYS, Relinks, Relists, SameBy, Sets, belonging_of, connections_by, cons_held}
 pub use Rattle.aged_tracker.specs.steps.Table.{entry_at, entry_below, except_links, held_at, held_by, held_from, held_of, idle_at, is_first, key_in, last_at}
-pub use Rattle.aged_tracker.specs.steps.Table.{last_by, limit_at, link_at, link_by, neighbour, next_of, no_link, number, numbered_entry, off, owner_by}
-pub use Rattle.aged_tracker.specs.steps.Table.{owner_of, picked, prev_of, pushed, queue_by, queue_number, queue_of, serial_at, serial_by, slots_of, updated}
+pub use Rattle.aged_tracker.specs.steps.Table.{last_by, limit_at, link_at, link_by, neighbour, next_of, number, numbered_entry, off, owner_by, owner_of, picked}
+pub use Rattle.aged_tracker.specs.steps.Table.{prev_of, pushed, queue_by, queue_number, queue_of, serial_at, serial_by, slots_of, updated}
 pub use Rattle.box_file.specs.declared.idle_line.IdleKind.{IdleKind}
 pub use Rattle.box_file.specs.declared.limits.Limits.{Limits}
 pub use Rattle.conntrack.proofs.Ids.{apart-filter, apart-push, apart-touched_at, distinct-filter, distinct-push, distinct-touched_at, found_by_id}
 pub use Rattle.conntrack.proofs.Ids.{length-without, without_new}
 pub use Rattle.conntrack.specs.ConntrackEntry.{IsNoneLater, aged_of, begun_with, belonging_by, belongs_in, connection_of, connection_ref, has_distinct_ids}
-pub use Rattle.conntrack.specs.ConntrackEntry.{has_id, have_disjoint_tuples, is_incoming, is_live, is_taken, limit_of, live_at, removed_entry, same_id}
-pub use Rattle.conntrack.specs.ConntrackEntry.{touched, touched_at}
-pub use Rattle.conntrack.specs.Phases.{idle_kind, limit_in, phase_of}
+pub use Rattle.conntrack.specs.ConntrackEntry.{has_id, have_disjoint_tuples, is_incoming, is_live, is_taken, limit_of, live_at, removed_entry, same_id, touched}
+pub use Rattle.conntrack.specs.ConntrackEntry.{touched_at}
 pub use Rattle.conntrack.specs.declared.belonging.Belonging.{Belonging}
 pub use Rattle.conntrack.specs.declared.belonging.Belonging.TheVariants.{Found, NotFound}
 pub use Rattle.conntrack.specs.declared.connection.Aged.{Aged}
@@ -33,17 +32,16 @@ pub use Rattle.futures.specs.Links.{Inserts, Joins}
 pub use Rattle.ip_headers.specs.Same.{same_tuple}
 pub use Rattle.ip_headers.specs.declared.tuple.Tuple.{Tuple}
 pub use Rattle.ip_headers.specs.steps.Equal.{same_tuple-true}
-pub use Rattle.list_laws.specs.Decisions.{Contains-cases, Contains-none}
-pub use Rattle.list_laws.specs.Elements.{Contains-map, Contains-tail, Contains-unmap}
-pub use Rattle.list_laws.specs.Lists.{Contains-head, find-filter}
+pub use Rattle.list_laws.specs.Elements.{Contains-map, Contains-unmap}
+pub use Rattle.list_laws.specs.Lists.{find-filter}
 pub use Rattle.list_laws.specs.Options.{option_cases, some_of_map}
 pub use Rattle.slab.proofs.SlabLemmas.{Contains-entries, ContainsKey-within}
 pub use Rattle.slab.specs.Slab.{Slab, Updates, entries, entries_from, get}
-pub use Rattle.std.proofs.Common.{Bool, IsSome, IsTrue, List, None, Option, Some, [], add-one, ap, arith, cond, eqb, false, get_or, inl, inr, is_some, length}
-pub use Rattle.std.proofs.Common.{length-append, lt-ltb, map, not, refl, rules, set, subst, suc, sym, true, zero, ℕ, ◌&&◌, ◌++◌, ◌+◌, ◌-◌, ◌<◌, ◌||◌, ◌∙◌, ◌∷◌}
-pub use Rattle.std.proofs.Common.{◌≡◌, ◌≢◌, ◌≤◌, ◌⊎◌}
-pub use Rattle.std.proofs.lemmas.Bool.{and_parts, cases_Bool, cases_eq, cond-false, cond-true, eq-eqb, eqb-true, false_from_ne_true, ne_eqb, not-true}
-pub use Rattle.std.proofs.lemmas.Bool.{not_from_false, or_cases, or_parts, true≢false}
+pub use Rattle.std.proofs.Common.{Bool, IsSome, List, None, Option, Some, [], add-one, ap, arith, cond, eqb, false, get_or, inl, inr, is_some, length}
+pub use Rattle.std.proofs.Common.{length-append, map, not, refl, rules, set, subst, suc, sym, true, zero, ℕ, ◌&&◌, ◌++◌, ◌+◌, ◌-◌, ◌<◌, ◌||◌, ◌∙◌, ◌∷◌, ◌≡◌}
+pub use Rattle.std.proofs.Common.{◌≢◌, ◌≤◌, ◌⊎◌}
+pub use Rattle.std.proofs.lemmas.Bool.{and_parts, cases_Bool, cases_eq, cond-true, eq-eqb, eqb-true, ne_eqb, not-true, not_from_false, or_cases, or_parts}
+pub use Rattle.std.proofs.lemmas.Bool.{true≢false}
 pub use Rattle.std.proofs.lemmas.Bool.Decides.{nat_tests}
 pub use Rattle.std.proofs.lemmas.Grind.{common_steps}
 pub use Rattle.std.proofs.lemmas.Iterator.{YieldsList-from_map, YieldsList-from_slice, items_from_collect}
@@ -52,8 +50,8 @@ pub use Rattle.std.proofs.lemmas.List.{get_or-set_other, get_or-set_same, length
 pub use Rattle.std.proofs.lemmas.List.Kept.{IsNonDecreasingBy-filter}
 pub use Rattle.std.proofs.lemmas.List.Sorted.{Contains-permutation, IsNonDecreasingBy-from_sort_by_key, IsNonDecreasingBy-push, IsPermutation-map}
 pub use Rattle.std.proofs.lemmas.List.Sorted.{IsPermutation-sym}
-pub use Rattle.std.proofs.lemmas.Map.Keys.{IsDistinct-IsPermutation, IsDistinct-head, IsDistinct-tail}
+pub use Rattle.std.proofs.lemmas.Map.Keys.{IsDistinct-IsPermutation}
 pub use Rattle.std.proofs.lemmas.Option.{none-some, same_Some}
 pub use Rattle.std.specs.List.{AllByRecursion, Contains, filter, find, list_any}
 pub use Rattle.std.specs.List.Sorted.{IsNonDecreasingBy, IsPermutation}
-pub use Rattle.std.specs.Prelude.{IfNone, IfSome, if◌then◌else◌, option_map, slice_get, ◌==◌}
+pub use Rattle.std.specs.Prelude.{IfNone, IfSome, if◌then◌else◌, option_map, slice_get}

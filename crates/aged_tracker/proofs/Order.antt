@@ -1,49 +1,43 @@
 -- The entries in the order of their creation, and the queues, as a table changes.
-use Rattle.aged_tracker.proofs.Names.{AgedSlots, AllByRecursion, AreOldest, Bool, ConnId, Connection, ConntrackEntry, Contains, Contains-cases}
-use Rattle.aged_tracker.proofs.Names.{Contains-entries, Contains-head, Contains-map, Contains-none, Contains-permutation, Contains-tail, Contains-unmap}
-use Rattle.aged_tracker.proofs.Names.{ContainsKey-within, IdleKind, IfSome, IsAllLive, IsDistinct, IsDistinct-IsPermutation, IsDistinct-head, IsDistinct-tail}
-use Rattle.aged_tracker.proofs.Names.{IsIn, IsIn-without, IsLiveQueue, IsNonDecreasingBy, IsNonDecreasingBy-filter, IsNonDecreasingBy-push, IsNoneLater}
-use Rattle.aged_tracker.proofs.Names.{IsNumbered, IsPermutation, IsPermutation-map, IsPermutation-sym, IsRising, IsSome, IsTable, Limits, Link, List, Lists}
-use Rattle.aged_tracker.proofs.Names.{MAX_KEYS, None, Option, Relists, SameBy, Sets, Slab, Slot, Some, Updates, [], ap, arith, cases_Bool, cases_eq}
-use Rattle.aged_tracker.proofs.Names.{common_steps, connection_of, connections_by, cons_held, entries, entries_from, entry_at, entry_below, eq-eqb, eqb}
-use Rattle.aged_tracker.proofs.Names.{eqb-true, except_links, false, filter, find, get, get_or, held_at, held_by, held_from, held_of, idle_at, idle_kind, inl}
-use Rattle.aged_tracker.proofs.Names.{inr, is_live, is_some, last_at, last_by, length, limit_at, limit_in, limit_of, lt-ltb, map, nat_tests, ne_eqb, none-some}
-use Rattle.aged_tracker.proofs.Names.{numbered_entry, off, option_cases, option_map, owner_by, owner_of, phase_of, picked, pushed, queue_number, queue_of}
-use Rattle.aged_tracker.proofs.Names.{refl, same_Some, same_id, serial_at, serial_by, slice_get, slots_of, some_of_map, subst, suc, sym, true, true≢false}
-use Rattle.aged_tracker.proofs.Names.{without, zero, ℕ, ◌++◌, ◌+◌, ◌-◌, ◌<◌, ◌==◌, ◌∙◌, ◌∷◌, ◌≡◌, ◌≢◌, ◌≤◌, ◌⊎◌}
-use Rattle.aged_tracker.proofs.Lists.{front_owned, kept_by, named_at, none_in, pushed_by, rising_as, rising_first, some_map, some_of}
-use Rattle.box_file.specs.declared.idle_line.IdleKind.TheVariants as idle
+use Rattle.aged_tracker.proofs.Names.{AgedSlots, AllByRecursion, AreOldest, Bool, Connection, ConntrackEntry, Contains, Contains-entries, Contains-map}
+use Rattle.aged_tracker.proofs.Names.{Contains-permutation, Contains-unmap, ContainsKey-within, IdleKind, IfSome, IsAllLive, IsDistinct}
+use Rattle.aged_tracker.proofs.Names.{IsDistinct-IsPermutation, IsIn, IsIn-without, IsLiveQueue, IsNonDecreasingBy, IsNonDecreasingBy-filter}
+use Rattle.aged_tracker.proofs.Names.{IsNonDecreasingBy-push, IsNoneLater, IsNumbered, IsPermutation, IsPermutation-map, IsPermutation-sym, IsRising, IsSome}
+use Rattle.aged_tracker.proofs.Names.{IsTable, Limits, Link, List, Lists, MAX_KEYS, None, Option, Relists, SameBy, Sets, Slab, Slot, Some, Updates, []}
+use Rattle.aged_tracker.proofs.Names.{and_parts, ap, arith, cases_eq, common_steps, connection_of, connections_by, cons_held, entries, entries_from, entry_at}
+use Rattle.aged_tracker.proofs.Names.{entry_below, eq-eqb, eqb, eqb-true, except_links, false, filter, find, get, get_or, held_at, held_by, held_from, held_of}
+use Rattle.aged_tracker.proofs.Names.{idle_at, inl, inr, is_live, is_some, last_at, last_by, length, limit_at, limit_of, map, nat_tests, ne_eqb, none-some, not}
+use Rattle.aged_tracker.proofs.Names.{numbered_entry, off, option_cases, option_map, picked, pushed, queue_number, queue_of, refl, same_Some, serial_at}
+use Rattle.aged_tracker.proofs.Names.{serial_by, slice_get, slots_of, some_of_map, subst, suc, sym, true, true≢false, without, zero, ℕ, ◌&&◌, ◌++◌, ◌+◌, ◌-◌}
+use Rattle.aged_tracker.proofs.Names.{◌<◌, ◌∙◌, ◌∷◌, ◌≡◌, ◌≢◌, ◌≤◌, ◌⊎◌}
+use Rattle.aged_tracker.proofs.Lists.{front_owned, kept_by, named_at, none_in, pushed_by, rising_as, rising_first, some_of}
+use Rattle.std.proofs.lemmas.Cmp.{nat_eq_equiv}
+use Rattle.std.proofs.lemmas.Map.Entries.{lookup_tail}
+use Rattle.std.proofs.lemmas.Map.Views.{Contains-from_lookup, lookup-from_Contains}
+use Rattle.std.specs.Map.{keys_of, lookup}
+use Rattle.std.specs.Prelude.{nat_lt}
 
 -- ---- the order of creation: the entries by rising numbers
 
 pub not_none : {X P : Type 0} (o : Option X) → o ≡ None → IsSome o → P
-not_none None e is = absurd cc
-not_none (Some x) e is = absurd (none-some x (sym e))
+not_none o e is = grind arith
 
 same_options : {X : Type 0} (a b : Option X) → ((x : X) → a ≡ Some x → b ≡ Some x) → ((x : X) → b ≡ Some x → a ≡ Some x) → a ≡ b
-same_options None None to from = refl
-same_options None (Some y) to from = from y refl
-same_options (Some x) b to from = sym (to x refl)
+same_options a b to from = grind (arith, to, from)
 
 pub slot_by : (slots : Slab Slot) (key : ℕ) → IsSome (held_at slots key) → IsSome (get slots key)
-slot_by slots key is = sym (some_map (held_of key) (get slots key)) ∙ is
+slot_by slots key is = grind (arith, common_steps)
 
 -- ---- the entry with a number
 
 picked_from : (b : Bool) (o rest : Option ConntrackEntry) (h : ConntrackEntry) → picked b o rest ≡ Some h
     → ((b ≡ true) × (o ≡ Some h)) ⊎ (rest ≡ Some h)
-picked_from true (Some x) rest h is = inl (refl, is)
-picked_from true None rest h is = inr is
-picked_from false o rest h is = inr is
+picked_from b o rest h is = grind arith
 
 module _ (s : ℕ → Option ConntrackEntry) (serial : ℕ → ℕ) (n : ℕ) where
   from_below : (most : ℕ) (h : ConntrackEntry) → entry_below s serial n most ≡ Some h → (k : ℕ) × ((s k ≡ Some h) × (serial k ≡ n))
   from_below zero h is = absurd (none-some h is)
-  from_below (suc k) h is =
-      elim (picked_from (serial k == n) (s k) (entry_below s serial n k) h is) [
-        | inl at ↦ (k, (at.1, eqb-true (serial k) n at.0))
-        | inr rest ↦ from_below k h rest
-      ]
+  from_below (suc k) h is = grind (arith, nat_tests, from_below k h)
 
   to_below : ((j k : ℕ) → IsSome (s j) → IsSome (s k) → serial j ≡ serial k → j ≡ k) → (most k : ℕ) (h : ConntrackEntry) → k < most
       → s k ≡ Some h → serial k ≡ n → entry_below s serial n most ≡ Some h
@@ -59,8 +53,7 @@ at_slot slots next numbered k h is =
 pub of_slot : (slots : Slab Slot) (n : ℕ) (h : ConntrackEntry) → entry_at slots n ≡ Some h
     → (held_at slots h.id.0 ≡ Some h) × (serial_at slots h.id.0 ≡ n)
 of_slot slots n h is =
-    let at = from_below (held_at slots) (serial_at slots) n (length slots.slots) h is in
-    let name = named_at slots at.0 h at.1.0 in (ap (held_at slots) name ∙ at.1.0, ap (serial_at slots) name ∙ at.1.1)
+    let at = from_below (held_at slots) (serial_at slots) n (length slots.slots) h is in grind (arith, named_at slots at.0 h at.1.0, at.1)
 
 -- the entry with a number, where this is what becomes of the slots
 entry_as : (old new : Slab Slot) (next next' : ℕ) → IsNumbered old next → IsNumbered new next' → (one : Option ConntrackEntry → Option ConntrackEntry)
@@ -82,8 +75,7 @@ entry_as old new next next' numbered numbered' one none n from to =
     ap (entry_at new) (sym now.1) ∙ at_slot new next' numbered' x.0.id.0 y (now.0 ∙ becomes))
   where
     kept : (o : Option ConntrackEntry) (y : ConntrackEntry) → one o ≡ Some y → IsSome o
-    kept None y is = absurd (none-some y (sym none ∙ is))
-    kept (Some x) y is = refl
+    kept o y is = grind (arith, none)
 
 -- ---- the entries from a number on
 
@@ -121,40 +113,28 @@ module _ (f : ℕ → Option ConntrackEntry) where
 
   later_step : (now : ℕ) (o : Option ConntrackEntry) (rest : List ConntrackEntry) → IsNoneLater now (cons_held o rest)
       → (last_by o ≤ now) × IsNoneLater now rest
-  later_step now None rest none = (omega arith, none)
-  later_step now (Some h) rest none = none
+  later_step now o rest none = grind arith
 
   pub none_later-at : (now first count : ℕ) → IsNoneLater now (held_from f first count) → (n : ℕ) → first ≤ n → n < first + count
       → last_by (f n) ≤ now
   none_later-at now first zero none n past below = absurd (omega (arith, past, below))
   none_later-at now first (suc count) none n past below =
       let parts = later_step now (f first) (held_from f (suc first) count) none in
-      elim (cases_eq first n) [
-        | inl e ↦ omega (arith, ap (λ k. last_by (f k)) e, parts.0)
-        | inr d ↦ none_later-at now (suc first) count parts.1 n (omega (arith, past, d)) (omega (arith, below))
-      ]
+      grind (arith, cases_eq first n, parts.0, none_later-at now (suc first) count parts.1 n)
 
-  -- the one entry with an id
-  pub found_from : (id : ConnId) (o : Option ConntrackEntry) → ((n : ℕ) (h : ConntrackEntry) → f n ≡ Some h → same_id id h ≡ true → o ≡ Some h)
-      → ((h : ConntrackEntry) → o ≡ Some h → same_id id h ≡ true) → (first count : ℕ)
-      → (IsSome o → (n : ℕ) × (first ≤ n) × (n < first + count) × (f n ≡ o)) → find (same_id id) (held_from f first count) ≡ o
-  found_from id o only its first zero reach =
-      elim (option_cases o) [
-        | inl none ↦ sym none
-        | inr x ↦ let at = reach (ap is_some x.1) in absurd (omega (arith, at.1, at.2))
-      ]
-  found_from id o only its first (suc count) reach =
-      let rest = λ (other : (h : ConntrackEntry) → o ≡ Some h → f first ≢ Some h). found_from id o only its (suc first) count (λ some.
-      let at = reach some in
-      let d : first ≢ at.0 = λ e. elim (option_cases o) [ inl none ↦ not_none o none some | inr x ↦ other x.0 x.1 (ap f e ∙ at.3 ∙ x.1) ] in
-      (at.0, omega (arith, at.1, d), omega (arith, at.2), at.3)) in
-      elim (option_cases (f first)) [
-        | inl none ↦ rw none (rest (λ h is e. none-some h (sym none ∙ e)))
-        | inr x ↦ elim (cases_Bool (same_id id x.0)) [
-          | inl t ↦ rw (x.1, t) (sym (only first x.0 x.1 t))
-          | inr n ↦ rw (x.1, n) (rest (λ h is e. true≢false (sym (its h is) ∙ ap (same_id id) (same_Some h x.0 (sym e ∙ x.1)) ∙ n)))
-        ]
-      ]
+  -- the one entry that passes a test
+  pub found_from : (p : ConntrackEntry → Bool) (o : Option ConntrackEntry) (m : ℕ)
+      → ((n : ℕ) (h : ConntrackEntry) → f n ≡ Some h → p h ≡ true → o ≡ Some h)
+      → ((h : ConntrackEntry) → o ≡ Some h → (p h ≡ true) × (f m ≡ o)) → (first count : ℕ) → (IsSome o → (first ≤ m) × (m < first + count))
+      → find p (held_from f first count) ≡ o
+  found_from p o m only its first zero reach = grind (arith, common_steps, option_cases o, reach)
+  found_from p None m only its first (suc count) reach =
+      let rest = found_from p None m only its (suc first) count (λ some. absurd (cc)) in
+      grind (arith, common_steps, option_cases (f first), only first, rest)
+  found_from p (Some x) m only its first (suc count) reach =
+      let past = λ (d : first ≢ m). found_from p (Some x) m only its (suc first) count
+      (λ some. (omega (arith, (reach some).0, d), omega (arith, (reach some).1))) in
+      grind (arith, common_steps, option_cases (f first), cases_eq first m, only first, its x refl, past)
 
 -- ---- the effect of the calls on slots and lists on the table
 
@@ -169,11 +149,7 @@ writes_between old mid mid' new key slot before updates after = grind arith
 
 module _ (t : AgedSlots) (table : IsTable t) (new : Slab Slot) (key : ℕ) (slot : Option Slot) (writes : Writes t.slots new key slot) where
   pub sets : Sets (slots_of t) (held_at new) key (option_map (held_of key) slot)
-  sets =
-      record {
-        changed = kept_by (option_map (held_of key)) except_links (λ s. refl) slot (get new key) writes.here;
-        others = λ k d. kept_by (option_map (held_of k)) except_links (λ s. refl) (get t.slots k) (get new k) (writes.others k d);
-      }
+  sets = grind (arith, kept_by, option_map, writes.here, t.slots, writes.others)
 
   serial : serial_at new key ≡ serial_by slot
   serial = kept_by serial_by except_links (λ s. refl) slot (get new key) writes.here
@@ -184,17 +160,9 @@ module _ (t : AgedSlots) (table : IsTable t) (new : Slab Slot) (key : ℕ) (slot
   -- it gets the last packet of all
   pub least : (now : ℕ) → last_at (held_at new) key ≡ now → IsNoneLater now (held_by t) → (k : ℕ) → last_at (held_at new) k ≤ last_at (held_at new) key
   least now at none k =
-      elim (cases_eq k key) [
-        | inl e ↦ let same = ap (last_at (held_at new)) e in omega (arith, same)
-        | inr d ↦ elim (option_cases (slots_of t k)) [
-          | inl free ↦ omega (arith, ap last_by (sets.others k d), ap last_by free)
-          | inr some ↦
-              let at' = at_slot t.slots t.next_serial table.numbered k some.0 some.1 ∙ sym some.1 in
-              let less = none_later-at (entry_at t.slots) now 0 t.next_serial none (serial_at t.slots k) (omega arith)
-              (omega (arith, table.numbered.below k (ap is_some some.1))) in
-              omega (arith, at, ap last_by (sets.others k d), ap last_by at', less)
-        ]
-      ]
+      let late = none_later-at (entry_at t.slots) now 0 t.next_serial none (serial_at t.slots k) in
+      let found = at_slot t.slots t.next_serial table.numbered k in
+      grind (arith, cases_eq k key, option_cases (slots_of t k), sets.others k, found, late, table.numbered.below k)
 
   -- moments don't fall along lists without the key
   rising_off : (keys : List ℕ) → ((k : ℕ) → IsIn k keys → k ≢ key) → IsRising (last_at (slots_of t)) keys → IsRising (last_at (held_at new)) keys
@@ -208,17 +176,13 @@ module _ (t : AgedSlots) (table : IsTable t) (new : Slab Slot) (key : ℕ) (slot
 
   pub rising_free : get t.slots key ≡ None → (q : ℕ) → q < 5 → IsRising (last_at (held_at new)) (table.rings.0 q)
   rising_free free q range =
-      rising_off (table.rings.0 q)
-      (λ k found e. none-some q (sym (ap (λ k. owner_of t.slots k) e ∙ ap owner_by free) ∙ (table.rings.1 q range).owned k found))
-      (table.rising q range)
+      rising_off (table.rings.0 q) (λ k found. grind (arith, (table.rings.1 q range).owned k found)) (table.rising q range)
 
   pub rising_pushed : (to : ℕ) (lists : Lists) → ((q : ℕ) → q < 5 → IsRising (last_at (held_at new)) (lists q))
       → ((k : ℕ) → last_at (held_at new) k ≤ last_at (held_at new) key) → (q : ℕ) → q < 5
       → IsRising (last_at (held_at new)) (pushed key to lists q)
   rising_pushed to lists rising most q range =
-      pushed_by (IsRising (last_at (held_at new))) key to q lists
-      (λ e. IsNonDecreasingBy-push (last_at (held_at new)) (lists q) key (rising q range) (λ d some. most _))
-      (λ d. rising q range)
+      grind (arith, pushed_by, IsNonDecreasingBy-push (last_at (held_at new)) (lists q) key, rising q range, most)
 
   -- the table then
   pub table_after : (heads : List Link) (to : Option ℕ) (change : Lists → Lists) (moments : List ℕ) (next : ℕ)
@@ -242,15 +206,7 @@ module _ (t : AgedSlots) (table : IsTable t) (new : Slab Slot) (key : ℕ) (slot
   pub numbered_after : (next : ℕ) → t.next_serial ≤ next
       → (IsSome (held_at new key) → (serial_by slot < next)
       × ((k : ℕ) → IsSome (slots_of t k) → serial_at t.slots k ≡ serial_by slot → k ≡ key)) → IsNumbered new next
-  numbered_after next more here =
-      let own : (m : ℕ) → IsSome (held_at new key) → IsSome (slots_of t m) → serial_at t.slots m ≡ serial_by slot → m ≡ key = λ m h. (here h).1 m in
-      let now : (k : ℕ) → k ≡ key → IsSome (held_at new k) → IsSome (held_at new key) = λ k e is. subst (λ k. IsSome (held_at new k)) e is in
-      let was : (k : ℕ) → k ≢ key → IsSome (held_at new k) → IsSome (slots_of t k) = λ k d is. subst IsSome (sets.others k d) is in
-      let each = table.numbered.apart in
-      record {
-        apart = λ j k f g e. grind (arith, cases_eq j key, cases_eq k key, now j, now k, was j, was k, serials j, serials k, serial, own j, own k, each j k);
-        below = λ k is. grind (arith, more, cases_eq k key, now k, is, here, serial, serials k, was k, table.numbered.below k);
-      }
+  numbered_after next more here = grind (arith, nat_tests, t.slots, table.numbered.apart, cases_eq, serials, serial, table.numbered.below)
 
   -- the entry changes or leaves, with its number
   pub held_changed : IsNumbered new t.next_serial → (h : ConntrackEntry) → slots_of t key ≡ Some h
@@ -265,21 +221,10 @@ module _ (t : AgedSlots) (table : IsTable t) (new : Slab Slot) (key : ℕ) (slot
       (λ k some e. (became k, sym (stays k some) ∙ e)) (λ k some e. (became k, stays k (subst IsSome (sym (became k)) some) ∙ e))) 0 t.next_serial
     where
       became : (k : ℕ) → held_at new k ≡ one (slots_of t k)
-      became k =
-          elim (cases_eq k key) [
-            | inl e ↦ subst (λ j. held_at new j ≡ one (slots_of t j)) (sym e) (sets.changed ∙ sym here ∙ sym (ap one is))
-            | inr d ↦ sets.others k d ∙ elim (option_cases (slots_of t k)) [
-              | inl gone ↦ rw gone (sym none)
-              | inr x ↦ rw x.1 (sym (other x.0 (λ e. d (sym (named_at t.slots k x.0 x.1) ∙ e))))
-            ]
-          ]
+      became k = grind (arith, cases_eq k key, sets.changed, sets.others k, here, is, option_cases (slots_of t k), none, other, named_at t.slots k)
 
       stays : (k : ℕ) → IsSome (held_at new k) → serial_at new k ≡ serial_at t.slots k
-      stays k some =
-          elim (cases_eq k key) [
-            | inl e ↦ ap (serial_at new) e ∙ serial ∙ same (subst (λ j. IsSome (held_at new j)) e some) ∙ sym (ap (serial_at t.slots) e)
-            | inr d ↦ serials k d
-          ]
+      stays k some = grind (arith, cases_eq k key, serial, same, serials k, some)
 
   -- it was free, and has the next number now
   pub held_begun : IsNumbered new (t.next_serial + 1) → slots_of t key ≡ None → serial_by slot ≡ t.next_serial → (h : ConntrackEntry)
@@ -293,141 +238,111 @@ module _ (t : AgedSlots) (table : IsTable t) (new : Slab Slot) (key : ℕ) (slot
 
 -- ---- entries that are sorted by their numbers, which differ, are in the order of creation
 
-past : (low key : ℕ) → low < key → (slots : List (Option Slot)) (e : ℕ × Slot) → Contains (entries_from key slots) e → low < e.0
-past low key less [] e there = absurd (Contains-none e there)
-past low key less (None ∷ rest) e there = past low (key + 1) (omega (arith, less)) rest e there
-past low key less (Some s ∷ rest) e there =
-    elim (Contains-cases (key, s) e _ there) [
-      | inl same ↦ omega (arith, less, ap (λ (p : ℕ × Slot). p.0) same)
-      | inr later ↦ past low (key + 1) (omega (arith, less)) rest e later
-    ]
+-- where no slot has the number of this one, no later entry has it
+others_differ : (s : Slot) (key : ℕ) (slots : List (Option Slot)) → ((i : ℕ) (r : Slot) → get_or slots i None ≡ Some r → s.serial ≢ r.serial)
+    → AllByRecursion (λ n. eqb s.serial n ≡ false) (keys_of (map numbered_entry (entries_from key slots)))
+others_differ s key [] apart = tt
+others_differ s key (None ∷ rest) apart = others_differ s (key + 1) rest (λ i. apart (suc i))
+others_differ s key (Some r ∷ rest) apart = (ne_eqb _ _ (apart zero r refl), others_differ s (key + 1) rest (λ i. apart (suc i)))
 
-all_by : (P : ℕ → Type 0) (es : List (ℕ × Slot)) → ((e : ℕ × Slot) → Contains es e → P e.1.serial)
-    → AllByRecursion P (map (λ q. q.0) (map numbered_entry es))
-all_by P [] each = tt
-all_by P (e ∷ es) each = (each e (Contains-head e es), all_by P es (λ r there. each r (Contains-tail e es r there)))
-
-distinct_numbers : (key : ℕ) (slots : List (Option Slot)) → ((a b : ℕ × Slot) → Contains (entries_from key slots) a
-    → Contains (entries_from key slots) b → a.1.serial ≡ b.1.serial → a.0 ≡ b.0)
-    → IsDistinct eqb (map (λ q. q.0) (map numbered_entry (entries_from key slots)))
+distinct_numbers : (key : ℕ) (slots : List (Option Slot)) → ((i j : ℕ) (s r : Slot) → get_or slots i None ≡ Some s
+    → get_or slots j None ≡ Some r → s.serial ≡ r.serial → i ≡ j) → IsDistinct eqb (keys_of (map numbered_entry (entries_from key slots)))
 unfolding IsDistinct
 distinct_numbers key [] apart = tt
-distinct_numbers key (None ∷ rest) apart = distinct_numbers (key + 1) rest apart
-distinct_numbers key (Some s ∷ rest) apart =
-    let later = entries_from (key + 1) rest in (
-      all_by (λ n. eqb s.serial n ≡ false) later (λ e there. ne_eqb s.serial e.1.serial (λ same.
-          let one = apart (key, s) e (Contains-head (key, s) later) (Contains-tail (key, s) later e there) same in
-          omega (arith, past key (key + 1) (omega arith) rest e there, one))),
-      distinct_numbers (key + 1) rest
-          (λ a b f g. apart a b (Contains-tail (key, s) later a f) (Contains-tail (key, s) later b g)),
-    )
+distinct_numbers key (None ∷ rest) apart =
+    distinct_numbers (key + 1) rest (λ i j a b at there same. omega (arith, apart (suc i) (suc j) a b at there same))
+distinct_numbers key (Some s ∷ rest) apart = (
+  others_differ s (key + 1) rest (λ i r at same. omega (arith, apart zero (suc i) s r refl at same)),
+  distinct_numbers (key + 1) rest (λ i j a b at there same. omega (arith, apart (suc i) (suc j) a b at there same)),
+)
 
--- ---- sorted pairs
+-- whether the numbers of pairs rise from one on
+abbrev rise : ℕ → List (ℕ × Connection) → Bool
+rise first [] = true
+rise first (q ∷ qs) = not (nat_lt q.0 first) && rise (suc q.0) qs
 
-all_at : (P : ℕ → Type 0) (qs : List (ℕ × Connection)) → AllByRecursion P (map (λ q. q.0) qs) → (q : ℕ × Connection) → Contains qs q → P q.0
-all_at P [] all q there = absurd (Contains-none q there)
-all_at P (r ∷ qs) all q there =
-    elim (Contains-cases r q qs there) [
-      | inl e ↦ subst (λ (p : ℕ × Connection). P p.0) e all.0
-      | inr later ↦ all_at P qs all.1 q later
+rise_sorted : (first : ℕ) (qs : List (ℕ × Connection)) → IsNonDecreasingBy (λ q. q.0) qs → IsDistinct eqb (keys_of qs)
+    → ((d : ℕ × Connection) → 0 < length qs → first ≤ (get_or qs 0 d).0) → rise first qs ≡ true
+unfolding IsDistinct
+rise_sorted first [] sorted distinct least = refl
+rise_sorted first (q ∷ []) sorted distinct least = let le : first ≤ q.0 = least q (omega arith) in grind (arith, nat_tests, le)
+rise_sorted first (q ∷ r ∷ qs) sorted distinct least =
+    let le : first ≤ q.0 = least q (omega arith) in
+    let up : q.0 ≤ r.0 = sorted 0 1 q (omega arith) (omega arith) in
+    let d : q.0 ≢ r.0 = λ e. true≢false (sym (eq-eqb q.0 r.0 e) ∙ distinct.0.0) in
+    let next : suc q.0 ≤ r.0 = omega (arith, up, d) in
+    let rest = rise_sorted (suc q.0) (r ∷ qs) (λ i j d le less. sorted (suc i) (suc j) d (omega (arith, le)) (omega (arith, less))) distinct.1
+    (λ d some. next) in
+    grind (arith, nat_tests, le, rest)
+
+-- a number below all others has no entry
+none_before : (n first : ℕ) (qs : List (ℕ × Connection)) → rise first qs ≡ true → n < first → lookup (eqb n) qs ≡ None
+none_before n first [] rises less = refl
+none_before n first (q ∷ qs) rises less = grind (arith, nat_tests, none_before n (suc q.0) qs)
+
+-- pairs by rising numbers that give each number its entry are the entries in turn
+in_turn : (f : ℕ → Option ConntrackEntry) (first count : ℕ) (qs : List (ℕ × Connection)) → rise first qs ≡ true
+    → ((n : ℕ) → first ≤ n → lookup (eqb n) qs ≡ option_map connection_of (f n)) → ((n : ℕ) → first + count ≤ n → f n ≡ None)
+    → connections_by qs ≡ map connection_of (held_from f first count)
+in_turn f first zero [] rises found end = refl
+in_turn f first zero (q ∷ qs) rises found end = grind (arith, nat_tests, found q.0, end q.0)
+in_turn f first (suc count) [] rises found end =
+    let rest = in_turn f (suc first) count [] refl (λ n le. found n (omega (arith, le))) (λ n le. end n (omega (arith, le))) in
+    grind (arith, common_steps, option_cases (f first), found first, rest)
+in_turn f first (suc count) (q ∷ qs) rises found end =
+    let ends : (n : ℕ) → suc first + count ≤ n → f n ≡ None = λ n le. end n (omega (arith, le)) in
+    elim (cases_eq q.0 first) [
+      | inl e ↦
+          let rest = in_turn f (suc first) count qs (subst (λ k. rise (suc k) qs ≡ true) e (and_parts _ _ rises).1) (λ n le.
+          sym (lookup_tail (eqb n) q qs (ne_eqb n q.0 (λ same. omega (arith, le, e, same)))) ∙ found n (omega (arith, le))) ends in
+          grind (arith, nat_tests, common_steps, e, option_cases (f first), found first, rest)
+      | inr d ↦
+          let up : rise (suc first) (q ∷ qs) ≡ true = grind (arith, nat_tests, d) in
+          let none = none_before first (suc first) (q ∷ qs) up (omega arith) in
+          let rest = in_turn f (suc first) count (q ∷ qs) up (λ n le. found n (omega (arith, le))) ends in
+          grind (arith, common_steps, option_cases (f first), found first, none, rest)
     ]
-
--- pairs of all numbers with an entry, from one on
-module _ (f : ℕ → Option ConntrackEntry) where
-  pub record IsListed (first count : ℕ) (qs : List (ℕ × Connection)) : Type 0 where
-    pub rising : IsNonDecreasingBy (λ q. q.0) qs
-    pub distinct : IsDistinct eqb (map (λ q. q.0) qs)
-    pub from : (q : ℕ × Connection) → Contains qs q
-        → (first ≤ q.0) × (q.0 < first + count) × (h : ConntrackEntry) × (f q.0 ≡ Some h) × (q.1 ≡ connection_of h)
-    pub to : (n : ℕ) (h : ConntrackEntry) → f n ≡ Some h → first ≤ n → Contains qs (n, connection_of h)
-
-  first_listed : (first count : ℕ) (h : ConntrackEntry) (held : List ConntrackEntry) → f first ≡ Some h
-      → ((rest : List (ℕ × Connection)) → IsListed (suc first) count rest → connections_by rest ≡ map connection_of held)
-      → (qs : List (ℕ × Connection)) → IsListed first (suc count) qs → connections_by qs ≡ connection_of h ∷ map connection_of held
-  first_listed first count h held is more [] listed = absurd (Contains-none _ (listed.to first h is (omega arith)))
-  first_listed first count h held is more (q ∷ qs) listed =
-      let there = listed.to first h is (omega arith) in
-      let it = listed.from q (Contains-head q qs) in
-      let least = listed.rising zero there.0 (first, connection_of h) (omega arith) there.1 in
-      let at : q.0 ≡ first = omega (arith, it.0, least, ap (λ (p : ℕ × Connection). p.0) there.2) in
-      rw (it.4 ∙ ap connection_of (same_Some it.2 h (sym it.3 ∙ ap f at ∙ is))) (ap (λ xs. connection_of h ∷ xs) (more qs (record {
-        rising = λ i j d le less. listed.rising (suc i) (suc j) d (omega (arith, le)) (omega (arith, less));
-        distinct = IsDistinct-tail eqb q.0 (map (λ q. q.0) qs) listed.distinct;
-        from = λ r there.
-            let was = listed.from r (Contains-tail q qs r there) in
-            let d : q.0 ≢ r.0 = λ e. true≢false (sym (eq-eqb q.0 r.0 e)
-            ∙ all_at (λ n. eqb q.0 n ≡ false) qs (IsDistinct-head eqb q.0 (map (λ q. q.0) qs) listed.distinct) r there) in
-            (omega (arith, was.0, d, at), omega (arith, was.1), was.2, was.3, was.4);
-        to = λ n x there past. elim (Contains-cases q (n, connection_of x) qs (listed.to n x there (omega (arith, past)))) [
-          | inl e ↦ absurd (omega (arith, past, ap (λ (p : ℕ × Connection). p.0) e, at))
-          | inr later ↦ later
-        ];
-      })))
-
-  in_turn : (first count : ℕ) (qs : List (ℕ × Connection)) → IsListed first count qs → connections_by qs ≡ map connection_of (held_from f first count)
-  in_turn first zero [] listed = refl
-  in_turn first zero (q ∷ qs) listed = let it = listed.from q (Contains-head q qs) in absurd (omega (arith, it.0, it.1))
-  in_turn first (suc count) qs listed =
-      elim (option_cases (f first)) [
-        | inl none ↦ rw none (in_turn (suc first) count qs (record {
-          rising = listed.rising;
-          distinct = listed.distinct;
-          from = λ q there.
-              let was = listed.from q there in
-              let d : first ≢ q.0 = λ e. none-some was.2 (sym none ∙ ap f e ∙ was.3) in
-              (omega (arith, was.0, d), omega (arith, was.1), was.2, was.3, was.4);
-          to = λ n h is past. listed.to n h is (omega (arith, past));
-        }))
-        | inr h ↦ rw h.1 (first_listed first count h.0 _ h.1 (in_turn (suc first) count) qs listed)
-      ]
 
 -- ---- slots that were sorted
 
 pub listed_order : (slots : Slab Slot) (qs : List (ℕ × Connection)) (next : ℕ) → IsNumbered slots next
     → IsPermutation (map numbered_entry (entries slots)) qs → IsNonDecreasingBy (λ q. q.0) qs
     → connections_by qs ≡ map connection_of (held_from (entry_at slots) 0 next)
-listed_order slots qs next numbered moved rising =
+listed_order slots qs next numbered moved sorted =
     let entry : (k : ℕ) (s : Slot) → get slots k ≡ Some s → held_at slots k ≡ Some (held_of k s) = λ k s is. ap (option_map (held_of k)) is in
-    in_turn (entry_at slots) 0 next qs (record {
-      rising = rising;
-      distinct = IsDistinct-IsPermutation eqb (λ x y. grind (arith, nat_tests)) _ _ (IsPermutation-map (λ q. q.0) _ _ moved)
-          (distinct_numbers 0 slots.slots (λ a b f g same.
-          let at = (Contains-entries slots a.0 a.1).0 f in
-          let at' = (Contains-entries slots b.0 b.1).0 g in
-          numbered.apart a.0 b.0 (ap is_some (entry a.0 a.1 at)) (ap is_some (entry b.0 b.1 at'))
-          (ap serial_by at ∙ same ∙ sym (ap serial_by at'))));
-      from = λ q there.
-          let e = Contains-unmap numbered_entry (entries slots) q (Contains-permutation _ _ q (IsPermutation-sym _ _ moved) there) in
-          let at = (Contains-entries slots e.0.0 e.0.1).0 e.1 in
-          let is = entry e.0.0 e.0.1 at in
-          let number : serial_at slots e.0.0 ≡ q.0 = ap serial_by at ∙ ap (λ (p : ℕ × Connection). p.0) e.2 in
-          let entered = ap (entry_at slots) (sym number) ∙ at_slot slots next numbered e.0.0 _ is in
-          let below : q.0 < 0 + next = omega (arith, number, numbered.below e.0.0 (ap is_some is)) in
-          (omega arith, below, held_of e.0.0 e.0.1, entered, sym (ap (λ (p : ℕ × Connection). p.1) e.2));
-      to = λ n h is past.
-          let at = of_slot slots n h is in
-          let s = some_of (get slots h.id.0) (slot_by slots h.id.0 (ap is_some at.0)) in
-          let same : held_of h.id.0 s.0 ≡ h = same_Some _ h (sym (entry h.id.0 s.0 s.1) ∙ at.0) in
-          let number : s.0.serial ≡ n = sym (ap serial_by s.1) ∙ at.1 in
-          subst (λ (x : ConntrackEntry). Contains qs (n, connection_of x)) same
-          (subst (λ m. Contains qs (m, connection_of (held_of h.id.0 s.0))) number (Contains-permutation _ _ _ moved
-          (Contains-map numbered_entry (entries slots) (h.id.0, s.0) ((Contains-entries slots h.id.0 s.0).1 s.1))));
-    })
+    let distinct = IsDistinct-IsPermutation eqb (λ x y. grind (arith, nat_tests)) _ _ (IsPermutation-map (λ q. q.0) _ _ moved)
+    (distinct_numbers 0 slots.slots (λ i j s r at there same. numbered.apart i j (ap is_some (entry i s at)) (ap is_some (entry j r there))
+    (ap serial_by at ∙ same ∙ sym (ap serial_by there)))) in
+    in_turn (entry_at slots) 0 next qs (rise_sorted 0 qs sorted distinct (λ d some. omega arith)) (λ n le. same_options _ _ (λ x is.
+    let e = Contains-unmap numbered_entry (entries slots) (n, x)
+    (Contains-permutation _ _ _ (IsPermutation-sym _ _ moved) (Contains-from_lookup eqb-true n x qs is)) in
+    let at = (Contains-entries slots e.0.0 e.0.1).0 e.1 in
+    let number : serial_at slots e.0.0 ≡ n = ap serial_by at ∙ ap (λ (p : ℕ × Connection). p.0) e.2 in
+    ap (λ m. option_map connection_of (entry_at slots m)) (sym number)
+    ∙ ap (option_map connection_of) (at_slot slots next numbered e.0.0 _ (entry e.0.0 e.0.1 at)) ∙ ap (λ (p : ℕ × Connection). Some p.1) e.2)
+    (λ x is.
+    let h = some_of_map connection_of (entry_at slots n) x is in
+    let at = of_slot slots n h.0 h.1 in
+    let s = some_of (get slots h.0.id.0) (slot_by slots h.0.id.0 (ap is_some at.0)) in
+    let same : held_of h.0.id.0 s.0 ≡ h.0 = same_Some _ h.0 (sym (entry h.0.id.0 s.0 s.1) ∙ at.0) in
+    let number : s.0.serial ≡ n = sym (ap serial_by s.1) ∙ at.1 in
+    lookup-from_Contains nat_eq_equiv n x qs distinct (subst (Contains qs) (λ i. (number i, (ap connection_of same ∙ h.2) i))
+    (Contains-permutation _ _ _ moved (Contains-map numbered_entry (entries slots) (h.0.id.0, s.0) ((Contains-entries slots h.0.id.0 s.0).1 s.1))))))
+    (λ n past. elim (option_cases (entry_at slots n)) [
+      | inl none ↦ none
+      | inr h ↦ let at = of_slot slots n h.0 h.1 in absurd (omega (arith, past, at.1, numbered.below h.0.id.0 (ap is_some at.0)))
+    ])
 
 -- ---- a queue's front is its oldest entry, so if the front is live all are
 
 known_queue : (k : IdleKind) → (queue_number k < 5) × (idle_at (queue_number k) ≡ k)
-known_queue idle.Udp = (omega arith, refl)
-known_queue idle.Established = (omega arith, refl)
-known_queue idle.Transitory = (omega arith, refl)
-known_queue idle.Echo = (omega arith, refl)
-known_queue idle.Other = (omega arith, refl)
+known_queue k = grind arith
 
 pub queue_of-range : (h : ConntrackEntry) → queue_of h < 5
-queue_of-range h = (known_queue (idle_kind h.original.kind (phase_of h))).0
+queue_of-range h = grind arith
 
 limit_of-at : (limits : Limits) (h : ConntrackEntry) (q : ℕ) → queue_of h ≡ q → limit_of limits h ≡ limit_at limits q
-limit_of-at limits h q is = ap (limit_in limits) (sym (known_queue (idle_kind h.original.kind (phase_of h))).1) ∙ ap (limit_at limits) is
+limit_of-at limits h q is = grind arith
 
 module _ (limits : Limits) (t : AgedSlots) (now q : ℕ) (table : IsTable t) (range : q < 5) where
   listed : (key : ℕ) (h : ConntrackEntry) → slots_of t key ≡ Some h → queue_of h ≡ q → IsIn key (table.rings.0 q)
@@ -440,18 +355,14 @@ module _ (limits : Limits) (t : AgedSlots) (now q : ℕ) (table : IsTable t) (ra
     pub queue_live : now - get_or t.oldest q 0 < limit_at limits q → IsLiveQueue limits (slots_of t) now q
     queue_live live k h is at =
         let least = rising_first (last_at (slots_of t)) (table.rings.0 q) key k (table.rising q range) front (listed k h is at) in
-        lt-ltb (now - h.last) (limit_of limits h)
-        (omega (arith, least, ap last_by is, table.oldest q range key front, live, limit_of-at limits h q at))
+        grind (arith, nat_tests, least, table.oldest q range key front, limit_of-at limits h q at)
 
     pub front_expired : limit_at limits q ≤ now - get_or t.oldest q 0
         → IfSome (slots_of t key) (λ h. is_live limits now h ≡ false) × IsSome (slots_of t key)
     front_expired expired =
-        let placed = sym (table.owners key) ∙ front_owned t.slots t.queues table.rings.0 table.rings.1 q key range front in
-        let slot = some_of_map queue_of (slots_of t key) q placed in
-        let late : limit_of limits slot.0 ≤ now - slot.0.last =
-        omega (arith, ap last_by slot.1, table.oldest q range key front, expired, limit_of-at limits slot.0 q slot.2) in
-        let test : is_live limits now slot.0 ≡ false = grind (arith, nat_tests, late) in
-        rw slot.1 (test, refl)
+        let owned = front_owned t.slots t.queues table.rings.0 table.rings.1 q key range front in
+        let found = some_of_map queue_of (slots_of t key) q in
+        grind (arith, nat_tests, table.owners key, owned, found, table.oldest q range key front, limit_of-at limits)
 
 pub all_live : (limits : Limits) (t : AgedSlots) (now : ℕ) → ((q : ℕ) → q < 5 → IsLiveQueue limits (slots_of t) now q)
     → IsAllLive limits (slots_of t) now

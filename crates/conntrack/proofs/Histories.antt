@@ -1,10 +1,9 @@
 -- The connections of a history that no record removed, and what one more record does to them.
 use Rattle.conntrack.proofs.Names.{Arrival, Belonging, Bool, Confirmation, Confirmed, ConnectionChange, ConntrackEntry, Creation, Ends, Found, Limits, List}
 use Rattle.conntrack.proofs.Names.{NotFound, TrackedPacket, Unconfirmed, [], after_packet, append-nil, arith, begun_in, change_of_packet, cond, connection_in}
-use Rattle.conntrack.proofs.Names.{creation_of, ended_by_packet, entries_of, entry_of, eq-eqb, eqb, false, filter, filter-append, has_distinct_ids, has_id}
-use Rattle.conntrack.proofs.Names.{is_ended, is_live, is_that, is_touch_of, length, list_all, list_all-append, live_at, live_list, ltb-true, map, map-append}
-use Rattle.conntrack.proofs.Names.{map-id, nat_lt, nat_tests, ne_eqb, not, number_if_begins, or-false, refl, replayed, same_id, touched, true, ℕ, ◌&&◌, ◌++◌}
-use Rattle.conntrack.proofs.Names.{◌||◌, ◌∷◌, ◌≡◌, ◌≤◌}
+use Rattle.conntrack.proofs.Names.{ended_by_packet, entry_of, eq-eqb, false, filter, filter-append, has_distinct_ids, has_id, is_ended, is_live, is_that}
+use Rattle.conntrack.proofs.Names.{is_touch_of, length, list_all, list_all-append, live_at, live_list, map, map-append, map-id, nat_lt, nat_tests, not}
+use Rattle.conntrack.proofs.Names.{number_if_begins, or-false, refl, replayed, same_id, touched, true, ℕ, ◌&&◌, ◌++◌, ◌||◌, ◌∷◌, ◌≡◌, ◌≤◌}
 use Rattle.conntrack.proofs.Lists.{filter-map, filter-true, map-filter-change, map-filter-later}
 use Rattle.conntrack.proofs.Ids.{distinct-filter, distinct-push}
 
@@ -40,9 +39,7 @@ module _ (b : Belonging) (p : Arrival) (confirmation : Confirmation) (history : 
   earlier : (c : ℕ) → nat_lt c (length history) ≡ true → (not (is_ended c (entry_of b p confirmation ∷ history))
       ≡ (not (is_ended c history) && not (is_that c (ended_by_packet b))))
       × (connection_in c (entry_of b p confirmation ∷ history) ≡ touched_by b p confirmation (connection_in c history))
-  earlier c below =
-      let other : eqb (length history) c ≡ false = ne_eqb _ _ (λ same. omega (arith, ltb-true _ _ below)) in
-      (rw other (not-or _ _), rw other (replayed-cons b p confirmation c (creation_of c history) (entries_of c history)))
+  earlier c below = grind (arith, nat_tests, replayed-cons)
 
 -- a packet's record does to them what the packet does to entries
 pub unended_after : (b : Belonging) (p : Arrival) (confirmation : Confirmation) (history : List TrackedPacket)

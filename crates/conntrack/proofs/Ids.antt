@@ -1,7 +1,7 @@
 -- Ids of entries, and lists that are equal except for ids.
 use Rattle.conntrack.proofs.Names.{Bool, ConnId, ConntrackEntry, Direction, Flags, List, Some, Tuple, [], and_parts, arith, cond, false, filter, find}
 use Rattle.conntrack.proofs.Names.{has_distinct_ids, has_id, has_ids_below, have_disjoint_tuples, is_incoming, is_taken, length, list_any, list_any-append, map}
-use Rattle.conntrack.proofs.Names.{nat_tests, not, not-true, or_parts, refl, same_id, same_tuple, same_tuple-refl, same_tuple-true, touched, touched_at, true}
+use Rattle.conntrack.proofs.Names.{nat_tests, not-true, or_parts, refl, same_id, same_tuple, same_tuple-refl, same_tuple-true, touched, touched_at, true}
 use Rattle.conntrack.proofs.Names.{without, ℕ, ◌++◌, ◌+◌, ◌<◌, ◌∷◌, ◌≡◌}
 use Rattle.std.proofs.lemmas.List.Sums.{count_by-le-length, length-filter}
 use Rattle.conntrack.proofs.Lists.{filter_where_none, list_any-filter, none_passes}
@@ -47,9 +47,7 @@ module _ (id : ConnId) (direction : Direction) (flags : Flags) (mark now : ℕ) 
   pub apart-touched_at : (held : List ConntrackEntry)
       → have_disjoint_tuples (touched_at id direction flags mark now held) ≡ have_disjoint_tuples held
   apart-touched_at [] = refl
-  apart-touched_at (x ∷ held) =
-      let by = λ (t : Tuple). any-touched_at (is_incoming t) (λ h. refl) held in
-      grind (arith, by x.original, by x.reply, apart-touched_at held)
+  apart-touched_at (x ∷ held) = grind (arith, any-touched_at, x.original, x.reply, (apart-touched_at held))
 
 -- an id above all others is new
 pub has_id-below : (n : ℕ) (held : List ConntrackEntry) → has_ids_below n held ≡ true → has_id (record { 0 = n }) held ≡ false
@@ -100,8 +98,7 @@ apart-filter p (x ∷ held) h =
 
 free-push : (tuple : Tuple) (held : List ConntrackEntry) (new : ConntrackEntry) → is_taken tuple held ≡ false
     → same_tuple tuple new.original ≡ false → same_tuple tuple new.reply ≡ false → is_taken tuple (held ++ new ∷ []) ≡ false
-free-push tuple held new h o r =
-    rw (list_any-append (is_incoming tuple) held (new ∷ []), h, same_tuple-sym new.original tuple, same_tuple-sym new.reply tuple, o, r) refl
+free-push tuple held new h o r = grind (arith, nat_tests, list_any-append, same_tuple-sym)
 
 pub apart-push : (held : List ConntrackEntry) (new : ConntrackEntry) → have_disjoint_tuples held ≡ true
     → is_taken new.original held ≡ false → is_taken new.reply held ≡ false
@@ -118,9 +115,7 @@ apart-push (x ∷ held) new h o r =
 
 pub length-without : (id : ConnId) (held : List ConntrackEntry) → has_id id held ≡ true → length (without id held) < length held
 length-without id [] h = cc
-length-without id (x ∷ held) h =
-    let some = λ (y : ConntrackEntry). not (same_id id y) in
-    grind (arith, length-filter some held, count_by-le-length some held, length-without id held)
+length-without id (x ∷ held) h = grind (arith, length-filter, count_by-le-length, (length-without id held))
 
 pub ruleset id_rules = (
   distinct-filter,

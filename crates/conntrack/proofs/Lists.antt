@@ -1,6 +1,6 @@
 -- Lemmas on lists: searches in filtered lists.
-use Rattle.conntrack.proofs.Names.{Bool, List, None, Some, [], and_parts, ap, arith, false, filter, find, find-filter, list_all, list_any, map, not, refl, true}
-use Rattle.conntrack.proofs.Names.{◌&&◌, ◌||◌, ◌∷◌, ◌≡◌}
+use Rattle.conntrack.proofs.Names.{Bool, List, None, Some, [], ap, arith, false, filter, find, find-filter, list_all, list_any, map, not, refl, true, ◌&&◌}
+use Rattle.conntrack.proofs.Names.{◌||◌, ◌∷◌, ◌≡◌}
 
 pub ruleset find_filter_rules = (find-filter)
 
@@ -32,8 +32,7 @@ pub map-filter-change : {A B : Type 0} (f g : A → B) (p q : A → Bool) (r : B
     → ((c : A) → t c ≡ true → (p c ≡ (q c && r (f c))) × (g c ≡ u (f c))) → (cs : List A) → list_all t cs ≡ true
     → map g (filter p cs) ≡ map u (filter r (map f (filter q cs)))
 map-filter-change f g p q r u t h [] all = refl
-map-filter-change f g p q r u t h (c ∷ cs) all =
-    let one = h c (and_parts _ _ all).0 in grind (arith, one.0, one.1, map-filter-change f g p q r u t h cs)
+map-filter-change f g p q r u t h (c ∷ cs) all = grind (arith, h c, map-filter-change f g p q r u t h cs)
 
 pub map-filter-later : {A B : Type 0} (f : A → B) (q : A → Bool) (p : B → Bool) (xs : List A)
     → map f (filter (λ x. q x && p (f x)) xs) ≡ filter p (map f (filter q xs))

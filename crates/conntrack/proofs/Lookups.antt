@@ -1,9 +1,9 @@
 -- What a lookup finds, and changes of the entry found.
 use Rattle.list_laws.specs.Options.{option_cases}
-use Rattle.conntrack.proofs.Names.{Bool, ConnId, ConnectionRef, ConntrackEntry, Direction, Ends, Flags, Found, List, None, NotFound, Option, Original, Reply}
-use Rattle.conntrack.proofs.Names.{Some, Tuple, [], ap, arith, belonging_by, belonging_without_id, belongs_in, cond, false, filter, find, has_distinct_ids}
-use Rattle.conntrack.proofs.Names.{has_id, has_tuple, have_disjoint_tuples, is_taken, map, map-append, nat_tests, not, of_original, of_reply, option_map, refl}
-use Rattle.conntrack.proofs.Names.{same_tuple, same_tuple-true, sym, true, without, without_id, ◌++◌, ◌∙◌, ◌∷◌, ◌≡◌}
+use Rattle.conntrack.proofs.Names.{Bool, ConnId, ConnectionRef, ConntrackEntry, Direction, Ends, Flags, Found, List, NotFound, Option, Original, Reply, Some}
+use Rattle.conntrack.proofs.Names.{Tuple, [], ap, arith, belonging_by, belonging_without_id, belongs_in, cond, false, filter, find, has_distinct_ids, has_id}
+use Rattle.conntrack.proofs.Names.{has_tuple, have_disjoint_tuples, is_taken, map, map-append, nat_tests, not, of_original, of_reply, option_map, refl}
+use Rattle.conntrack.proofs.Names.{same_tuple, same_tuple-true, true, without, without_id, ◌++◌, ◌∷◌, ◌≡◌}
 use Rattle.conntrack.proofs.Lists.{list_any_either, list_any_found}
 use Rattle.conntrack.proofs.Ids.{changed_at, changed_at_none, has_id-found, other_id, without_new}
 
@@ -22,12 +22,10 @@ without_id_by flags o r = grind arith
 pub same_belonging : (held others : List ConntrackEntry) (tuple : Tuple) (flags : Flags)
     → map without_id held ≡ map without_id others
     → belonging_without_id (belongs_in held tuple flags) ≡ belonging_without_id (belongs_in others tuple flags)
-same_belonging held others tuple flags e = by held ∙ ap (λ ns. belonging_without_id (belongs_in ns tuple flags)) e ∙ sym (by others)
-  where
-    by : (held : List ConntrackEntry) → belonging_without_id (belongs_in held tuple flags) ≡ belonging_without_id (belongs_in (map without_id held) tuple flags)
-    by held = without_id_by flags _ _
-        ∙ (λ i. belonging_without_id (belonging_by flags (option_map-find without_id (λ h. same_tuple h.original tuple) held i)
-        (option_map-find without_id (λ h. same_tuple h.reply tuple) held i)))
+same_belonging held others tuple flags e =
+    let o = option_map-find without_id (λ h. same_tuple h.original tuple) in
+    let r = option_map-find without_id (λ h. same_tuple h.reply tuple) in
+    grind (arith, without_id_by flags, o held, o others, r held, r others, e)
 
 -- ---- changes of the entry found
 
@@ -90,17 +88,13 @@ module _ (held : List ConntrackEntry) (tuple : Tuple) (flags : Flags) where
       grind (arith, either, option_cases (of_original held tuple), option_cases (of_reply held tuple))
 
   ends_by : (o r : Option ConntrackEntry) (id : ConnId) → belonging_by flags o r ≡ Ends id → (h : ConntrackEntry) × (o ≡ Some h) × (h.id ≡ id)
-  ends_by (Some h) r id e = (h, refl, grind arith)
-  ends_by None (Some h) id e = cc
-  ends_by None None id e = cc
+  ends_by o r id e = grind arith
 
   pub ends_is_held : (id : ConnId) → belongs_in held tuple flags ≡ Ends id → has_id id held ≡ true
   ends_is_held id e = let at = ends_by _ _ id e in rw (← at.2) (found_has Original at.0 at.1)
 
   pub ended_is_free : (id : ConnId) → has_distinct_ids held ≡ true → have_disjoint_tuples held ≡ true → belongs_in held tuple flags ≡ Ends id
       → is_taken tuple (without id held) ≡ false
-  ended_is_free id d a e =
-      let at = ends_by _ _ id e in
-      rw (← at.2, without_first (λ n. same_tuple n.original tuple) held at.0 d at.1) (free_first held at.0 tuple a at.1)
+  ended_is_free id d a e = grind (arith, ends_by, without_first (λ n. same_tuple n.original tuple) held, free_first held)
 
 pub ruleset looked_up_rules = (found_is_held, ends_is_held, nowhere_is_free, ended_is_free)

@@ -1,15 +1,14 @@
 -- Names of other crates and of the definitions, for the proofs.
-pub use Rattle.box_file.specs.declared.idle_line.IdleKind.{IdleKind}
 pub use Rattle.box_file.specs.declared.limits.Limits.{Limits}
-pub use Rattle.conntrack.specs.ConntrackEntry.{IsNoneLater, aged_of, begun_with, belonging_by, belonging_without_id, belongs_in, connection_of, connection_ref}
-pub use Rattle.conntrack.specs.ConntrackEntry.{has_distinct_ids, has_id, have_disjoint_tuples, is_incoming, is_live, is_original, is_taken, limit_of, live_at}
-pub use Rattle.conntrack.specs.ConntrackEntry.{of_original, of_reply, same_id, state_of, touched, touched_at, without, without_id}
-pub use Rattle.conntrack.specs.Histories.{Begins, ConnectionChange, Creation, TrackedPacket, begun_in, belongs, connection_in, creation_of, entries_of}
-pub use Rattle.conntrack.specs.Histories.{is_ended, is_that, is_touch_of, live_list, number_if_begins, replayed}
-pub use Rattle.conntrack.specs.Phases.{idle_kind, is_closing, is_lone_syn, limit_in, no_flags, phase_of}
+pub use Rattle.conntrack.specs.ConntrackEntry.{IsNoneLater, begun_with, belonging_by, belonging_without_id, belongs_in, connection_of, connection_ref}
+pub use Rattle.conntrack.specs.ConntrackEntry.{has_distinct_ids, has_id, have_disjoint_tuples, is_incoming, is_live, is_taken, limit_of, live_at, of_original}
+pub use Rattle.conntrack.specs.ConntrackEntry.{of_reply, same_id, state_of, touched, touched_at, without, without_id}
+pub use Rattle.conntrack.specs.Histories.{ConnectionChange, Creation, TrackedPacket, begun_in, belongs, connection_in, is_ended, is_that, is_touch_of}
+pub use Rattle.conntrack.specs.Histories.{live_list, number_if_begins, replayed}
+pub use Rattle.conntrack.specs.Phases.{no_flags}
 pub use Rattle.conntrack.specs.Tuples.{no_tuple}
-pub use Rattle.conntrack.specs.Updates.{Arrival, Confirmation, Confirmed, DoesNotClash, Unconfirmed, after_end, after_packet, change_of_packet}
-pub use Rattle.conntrack.specs.Updates.{ended_by_packet, entry_at, entry_of, with_begun}
+pub use Rattle.conntrack.specs.Updates.{Arrival, Confirmation, Confirmed, DoesNotClash, Unconfirmed, after_end, after_packet, change_of_packet, ended_by_packet}
+pub use Rattle.conntrack.specs.Updates.{entry_at, entry_of, with_begun}
 pub use Rattle.conntrack.specs.declared.belonging.Belonging.{Belonging}
 pub use Rattle.conntrack.specs.declared.belonging.Belonging.TheVariants.{Ends, Found, NotFound}
 pub use Rattle.conntrack.specs.declared.belonging.ConnectionRef.{ConnectionRef}
@@ -22,15 +21,13 @@ pub use Rattle.conntrack.specs.declared.connection.Flags.{Flags}
 pub use Rattle.conntrack.specs.steps.Entries.{has_ids_below, has_tuple}
 pub use Rattle.ip_headers.specs.Same.{same_tuple}
 pub use Rattle.ip_headers.specs.declared.tuple.Kind.{Kind}
-pub use Rattle.ip_headers.specs.declared.tuple.Mapping.{Mapping}
 pub use Rattle.ip_headers.specs.declared.tuple.Tuple.{Tuple}
 pub use Rattle.ip_headers.specs.steps.Equal.{same_tuple-refl, same_tuple-true}
 pub use Rattle.list_laws.specs.Lists.{any_of_map, find-filter}
-pub use Rattle.std.proofs.Common.{Bool, List, None, Option, Some, [], ap, arith, cond, drop, eqb, false, inl, inr, length, map, not, refl, rules, subst, sym}
-pub use Rattle.std.proofs.Common.{take, tests, true, ℕ, ◌&&◌, ◌++◌, ◌+◌, ◌-◌, ◌<◌, ◌||◌, ◌∙◌, ◌∷◌, ◌≡◌, ◌≤◌}
+pub use Rattle.std.proofs.Common.{Bool, List, None, Option, Some, [], ap, arith, cond, drop, false, length, map, not, refl, rules, subst, sym, take, tests}
+pub use Rattle.std.proofs.Common.{true, ℕ, ◌&&◌, ◌++◌, ◌+◌, ◌-◌, ◌<◌, ◌||◌, ◌∙◌, ◌∷◌, ◌≡◌, ◌≤◌}
 pub use Rattle.std.proofs.Math.Bool.{or-false}
-pub use Rattle.std.proofs.lemmas.Bool.{and_from, and_parts, both_ways, cases_Bool, eq-eqb, false_from_ne_true, lt-ltb, ltb-true, ne_eqb, not-true}
-pub use Rattle.std.proofs.lemmas.Bool.{not_from_false, or_from, or_parts}
+pub use Rattle.std.proofs.lemmas.Bool.{and_parts, eq-eqb, lt-ltb, ltb-true, not-true, or_parts}
 pub use Rattle.std.proofs.lemmas.Bool.Decides.{nat_tests}
 pub use Rattle.std.proofs.lemmas.Iterator.{YieldsList-from_slice}
 pub use Rattle.std.proofs.lemmas.Iterator.Search.{find_from_yields_List}

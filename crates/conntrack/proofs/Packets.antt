@@ -1,12 +1,11 @@
 -- The effect of one packet on a table's entries and on a history's connections.
 use Rattle.conntrack.proofs.Names.{Arrival, Belonging, Bool, Confirmation, Confirmed, ConnId, Connection, ConnectionRef, ConntrackEntry, Direction}
-use Rattle.conntrack.proofs.Names.{DoesNotClash, Ends, Flags, Found, IdleKind, IsNoneLater, Kind, Limits, List, None, NotFound, Option, Original, Reply, Some}
+use Rattle.conntrack.proofs.Names.{DoesNotClash, Ends, Flags, Found, IsNoneLater, Kind, Limits, List, None, NotFound, Option, Original, Reply, Some}
 use Rattle.conntrack.proofs.Names.{TrackedPacket, Tuple, Unconfirmed, [], after_end, after_packet, any_of_map, ap, arith, begun_with, belonging_by}
 use Rattle.conntrack.proofs.Names.{belonging_without_id, belongs, belongs_in, connection_of, connection_ref, entry_at, entry_of, filter, filter-append, find}
-use Rattle.conntrack.proofs.Names.{has_distinct_ids, has_id, has_tuple, have_disjoint_tuples, idle_kind, is_incoming, is_live, is_taken, length, length-map}
-use Rattle.conntrack.proofs.Names.{limit_in, limit_of, live_at, live_list, lt-ltb, ltb-true, map, map-append, nat_tests, no_flags, no_tuple, not, of_original}
-use Rattle.conntrack.proofs.Names.{of_reply, phase_of, refl, same_id, state_of, subst, sym, touched, touched_at, true, with_begun, without, without_id, ℕ, ◌++◌}
-use Rattle.conntrack.proofs.Names.{◌-◌, ◌<◌, ◌∙◌, ◌∷◌, ◌≡◌, ◌≤◌}
+use Rattle.conntrack.proofs.Names.{has_distinct_ids, has_id, has_tuple, have_disjoint_tuples, is_incoming, is_live, is_taken, length, length-map, limit_of}
+use Rattle.conntrack.proofs.Names.{live_at, live_list, lt-ltb, ltb-true, map, map-append, nat_tests, no_flags, no_tuple, of_original, of_reply, refl, same_id}
+use Rattle.conntrack.proofs.Names.{state_of, subst, sym, touched, touched_at, true, with_begun, without_id, ℕ, ◌++◌, ◌-◌, ◌∙◌, ◌∷◌, ◌≡◌, ◌≤◌}
 use Rattle.std.proofs.lemmas.Simd.{map-map}
 use Rattle.conntrack.proofs.Ids.{apart-filter, apart-push, apart-touched_at, changed_at_none, distinct-filter}
 use Rattle.conntrack.proofs.Histories.{live_list-unended, unended, unended-distinct, unended_after}
@@ -26,10 +25,7 @@ live_at-later limits now later held le = filter_again (is_live limits later) (is
 
 -- a connection is live at the moment of its packet
 pub live_at_last : (limits : Limits) (now : ℕ) (h : ConntrackEntry) → h.last ≡ now → is_live limits now h ≡ true
-live_at_last limits now h e = lt-ltb _ _ (omega (arith, limit_positive (idle_kind h.original.kind (phase_of h))))
-  where
-    limit_positive : (kind : IdleKind) → 0 < limit_in limits kind
-    limit_positive kind = grind (arith, nat_tests, limits.positive)
+live_at_last limits now h e = grind (arith, lt-ltb, h.original.kind, limits.positive)
 
 -- a touch of a live entry, at that moment
 module _ (limits : Limits) (id : ConnId) (direction : Direction) (flags : Flags) (mark now : ℕ) where
@@ -56,12 +52,7 @@ live_begun limits id p (Confirmed mark reply source dest) held =
 pub live_after : (limits : Limits) (b : Belonging) (id : ConnId) (p : Arrival) (confirmation : Confirmation)
     (held : List ConntrackEntry) → has_distinct_ids held ≡ true → IsFoundIn b (live_at limits p.moment held) →
     live_at limits p.moment (after_packet b id p confirmation held) ≡ after_packet b id p confirmation (live_at limits p.moment held)
-live_after limits (Found found) id p Unconfirmed held d h = refl
-live_after limits (Found found) id p (Confirmed mark reply source dest) held d h =
-    live_at-touched_at limits found.id found.direction p.flags mark p.moment held d (h found refl)
-live_after limits NotFound id p confirmation held d h = live_begun limits id p confirmation held
-live_after limits (Ends ended) id p confirmation held d h = live_begun limits id p confirmation (without ended held)
-    ∙ ap (with_begun id p confirmation) (filter-swap (is_live limits p.moment) (λ h. not (same_id ended h)) held)
+live_after limits b id p confirmation held d h = grind (arith, live_at-touched_at, live_begun, filter-swap, h)
 
 -- ---- ids
 
@@ -80,8 +71,7 @@ after_found NotFound p confirmation ns = with_begun (record { 0 = 0 }) p confirm
 module _ (held : List ConntrackEntry) (d : has_distinct_ids held ≡ true) (i : ConnId) (p : Arrival) where
   end_blind : (confirmation : Confirmation) (h : ConntrackEntry) → find (has_tuple p.tuple Original) held ≡ Some h
       → map without_id (after_packet (Ends h.id) i p confirmation held) ≡ after_found (Ends h.id) p confirmation (map without_id held)
-  end_blind confirmation h e = begun_blind i p confirmation (without h.id held) ∙ ap (with_begun (record { 0 = 0 }) p confirmation)
-      (ap (map without_id) (without_first (has_tuple p.tuple Original) held h d e) ∙ at_first-blind (has_tuple p.tuple Original) (λ x. []) (λ x. refl) held)
+  end_blind confirmation h e = grind (arith, begun_blind, without_first (has_tuple p.tuple Original), at_first-blind (has_tuple p.tuple Original))
 
   touch_blind : (confirmation : Confirmation) (direction : Direction) (h : ConntrackEntry) → find (has_tuple p.tuple direction) held ≡ Some h
       → map without_id (after_packet (Found (connection_ref h direction)) i p confirmation held)
@@ -104,9 +94,7 @@ module _ (held others : List ConntrackEntry) (e : map without_id held ≡ map wi
   pub packet_alike : (i j : ConnId) (p : Arrival) (confirmation : Confirmation)
       → map without_id (after_packet (belongs_in held p.tuple p.flags) i p confirmation held)
       ≡ map without_id (after_packet (belongs_in others p.tuple p.flags) j p confirmation others)
-  packet_alike i j p confirmation = after_blind held d i p confirmation _ _ refl refl
-      ∙ (λ k. after_found (same_belonging held others p.tuple p.flags e k) p confirmation (e k))
-      ∙ sym (after_blind others d' j p confirmation _ _ refl refl)
+  packet_alike i j p confirmation = grind (arith, after_blind, same_belonging, d, e)
 
   pub ended_alike : (tuple : Tuple) (flags : Flags) → map without_id (after_end (belongs_in held tuple flags) held)
       ≡ map without_id (after_end (belongs_in others tuple flags) others)
@@ -119,7 +107,7 @@ state_alike kind one other e = grind arith
 
 module _ (held others : List ConntrackEntry) (e : map without_id held ≡ map without_id others) where
   pub taken_alike : (tuple : Tuple) → is_taken tuple held ≡ is_taken tuple others
-  taken_alike tuple = let by = any_of_map (is_incoming tuple) without_id in by held ∙ ap (is_taken tuple) e ∙ sym (by others)
+  taken_alike tuple = grind (arith, any_of_map (is_incoming tuple) without_id)
 
   pub length_alike : length held ≡ length others
   length_alike = sym (length-map held without_id) ∙ ap length e ∙ length-map others without_id
@@ -147,23 +135,19 @@ pub recorded : (limits : Limits) (p : Arrival) (confirmation : Confirmation) (hi
     live_list limits (entry_of (belongs limits history p.moment p.tuple p.flags) p confirmation ∷ history) p.moment
     ≡ after_packet (belongs limits history p.moment p.tuple p.flags) (record { 0 = length history }) p confirmation
     (live_list limits history p.moment)
-recorded limits p confirmation history =
-    recorded_by limits _ p confirmation history (found_is_held (live_list limits history p.moment) p.tuple p.flags)
+recorded limits p confirmation history = grind (arith, recorded_by, found_is_held)
 
 pub recorded_nothing : (limits : Limits) (history : List TrackedPacket) (now : ℕ)
     → live_list limits (entry_at now ∷ history) now ≡ live_list limits history now
 recorded_nothing limits history now =
-    let p : Arrival = record { tuple = no_tuple; flags = no_flags; moment = now } in
-    recorded_by limits NotFound p Unconfirmed history (λ found e. cc)
+    recorded_by limits NotFound (record { tuple = no_tuple; flags = no_flags; moment = now }) Unconfirmed history (λ found e. cc)
 
 pub live_list-later : (limits : Limits) (history : List TrackedPacket) (now later : ℕ) → now ≤ later
     → live_list limits history later ≡ live_at limits later (live_list limits history now)
-live_list-later limits history now later le = live_list-unended limits history later
-    ∙ sym (live_at-later limits now later _ le) ∙ ap (live_at limits later) (sym (live_list-unended limits history now))
+live_list-later limits history now later le = grind (arith, live_list-unended, live_at-later)
 
 pub live_list-distinct : (limits : Limits) (history : List TrackedPacket) (now : ℕ) → has_distinct_ids (live_list limits history now) ≡ true
-live_list-distinct limits history now = rw (live_list-unended limits history now)
-    (distinct-filter (is_live limits now) (unended history) (unended-distinct history))
+live_list-distinct limits history now = grind (arith, live_list-unended, distinct-filter, unended-distinct)
 
 -- ---- tuples stay disjoint
 

@@ -1,9 +1,9 @@
 -- The list of mappings that entries represent.
 use Rattle.nat_mapping.proofs.Names.{Bool, IsDistinct, IsDistinct-tail, IsUnique, List, MappedPort, Mapping, None, Option, Some, SourceKey, Sources, [], ap}
 use Rattle.nat_mapping.proofs.Names.{arith, cond, from_internal, get, held_by, holders_at, holders_of, keys_of, lookup, lookup-none, nat_tests, none_past_head}
-use Rattle.nat_mapping.proofs.Names.{refl, replicate, same_endpoint, same_kind, same_mapping, same_source, source_key_of, sum_by, sum_by-append}
-use Rattle.nat_mapping.proofs.Names.{sum_by-replicate, sym, true, ℕ, ◌&&◌, ◌*◌, ◌++◌, ◌+◌, ◌==◌, ◌∙◌, ◌∷◌, ◌≡◌}
-use Rattle.nat_mapping.proofs.Equal.{equivalence, source_parts, source_test}
+use Rattle.nat_mapping.proofs.Names.{refl, replicate, same_mapping, same_source, source_key_of, sum_by, sum_by-append}
+use Rattle.nat_mapping.proofs.Names.{sum_by-replicate, true, ℕ, ◌&&◌, ◌*◌, ◌++◌, ◌+◌, ◌==◌, ◌∙◌, ◌∷◌, ◌≡◌}
+use Rattle.nat_mapping.proofs.Equal.{equivalence, source_test}
 
 regroup : (a b c d : Bool) → (a && (b && (c && d))) ≡ ((a && (b && c)) && d)
 regroup a b c d = grind (arith, nat_tests)

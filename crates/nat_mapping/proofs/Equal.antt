@@ -1,10 +1,7 @@
 -- Equal keys and mappings.
-use Rattle.std.proofs.Common.{arith}
-use Rattle.nat_mapping.proofs.Names.{Bool, Endpoint, InboundKey, IsEquivalence, PoolKey, SourceKey, and_from, and_parts, ap, eq-eqb}
-use Rattle.nat_mapping.proofs.Names.{eqb, eqb-true, false, false_from_ne_true, nat_tests, refl, rules, same_endpoint, same_endpoint-refl}
-use Rattle.nat_mapping.proofs.Names.{same_endpoint-true, same_inbound, same_kind, same_kind-refl, same_kind-true, same_mapping, same_pool, same_source, subst}
-use Rattle.nat_mapping.proofs.Names.{sym, true, ℕ, ◌&&◌, ◌∙◌, ◌≡◌}
-use Rattle.list_laws.specs.Tests.{same-tests}
+use Rattle.nat_mapping.proofs.Names.{Bool, InboundKey, IsEquivalence, PoolKey, SourceKey, ap, arith, eq-eqb, eqb, eqb-true, false, false_from_ne_true}
+use Rattle.nat_mapping.proofs.Names.{nat_tests, refl, rules, same_endpoint, same_endpoint-refl, same_endpoint-true, same_inbound, same_kind, same_kind-refl}
+use Rattle.nat_mapping.proofs.Names.{same_kind-true, same_mapping, same_pool, same_source, subst, sym, true, ◌&&◌, ◌∙◌, ◌≡◌}
 
 -- a test passes where the two are equal, and only there
 pub record IsTest {K : Type 0} (e : K → K → Bool) : Type 0 where

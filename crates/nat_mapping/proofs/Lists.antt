@@ -1,7 +1,6 @@
 -- What a search of the list finds is in it.
 use Rattle.nat_mapping.proofs.Names.{Bool, Contains, Contains-cases, Contains-head, Contains-none, Contains-there, HoldsSame, IsOneToOne, List, Mapping, None}
-use Rattle.nat_mapping.proofs.Names.{Some, [], ap, arith, cond-true, cond_both, filter, find, get_or, holders_cons}
-use Rattle.nat_mapping.proofs.Names.{holders_of, inl, inr, none-some, refl, same_Some, same_mapping, subst, sym, true, ◌<◌, ◌∙◌, ◌∷◌, ◌≡◌}
+use Rattle.nat_mapping.proofs.Names.{Some, [], arith, filter, find, get_or, holders_cons, holders_of, refl, same_mapping, subst, sym, true, ◌<◌, ◌∷◌, ◌≡◌}
 use Rattle.std.proofs.lemmas.List.Elements.{All-contains, All-contains_itself, All-filter, filter_passes}
 use Rattle.std.proofs.lemmas.List.Sums.{length-filter}
 use Rattle.list_laws.specs.Elements.{Contains-at}
@@ -10,19 +9,13 @@ use Rattle.nat_mapping.proofs.Equal.{mapping_test}
 
 -- what a search finds is in the list and passes
 pub found_among : {X : Type 0} (p : X → Bool) (xs : List X) (x : X) → find p xs ≡ Some x → Contains xs x × (p x ≡ true)
-found_among p [] x e = absurd (none-some x e)
-found_among p (y ∷ xs) x e = cond_both (p y) (Some y) (find p xs) (λ o. o ≡ Some x → Contains (y ∷ xs) x × (p x ≡ true))
-    (λ t is. (subst (Contains (y ∷ xs)) (same_Some y x is) (Contains-head y xs), ap p (sym (same_Some y x is)) ∙ t))
-    (λ f is. let rest = found_among p xs x is in (Contains-there y x xs rest.0, rest.1)) e
+found_among p [] x e = cc
+found_among p (y ∷ xs) x e = grind (arith, Contains-head y xs, Contains-there y x xs, found_among p xs x)
 
 -- where it finds nothing, nothing passes
 pub none_such : {X : Type 0} (p : X → Bool) (xs : List X) (x : X) → find p xs ≡ None → Contains xs x → p x ≡ true → ⊥
 none_such p [] x e among passes = Contains-none x among
-none_such p (y ∷ xs) x e among passes = elim (Contains-cases y x xs among) [
-  | inl same ↦ none-some y (sym e ∙ cond-true (p y) (Some y) (find p xs) (ap p same ∙ passes))
-  | inr there ↦ cond_both (p y) (Some y) (find p xs) (λ o. o ≡ None → ⊥) (λ t none. none-some y (sym none))
-      (λ f none. none_such p xs x none there passes) e
-]
+none_such p (y ∷ xs) x e among passes = grind (arith, Contains-cases y x xs among, none_such p xs x)
 
 -- ---- a mapping with a holder is in the list
 

@@ -1,10 +1,10 @@
 -- What lookups by key find in a list of mappings, and after one more or one fewer.
-use Rattle.nat_mapping.proofs.Names.{Bool, CandidateRange, Contains, Contains-cases, Endpoint, Finds, HoldsSame, InboundKey}
+use Rattle.nat_mapping.proofs.Names.{Bool, CandidateRange, Contains, Contains-cases, Contains-head, Contains-there, Endpoint, Finds, HoldsSame, InboundKey}
 use Rattle.nat_mapping.proofs.Names.{IsOneToOne, Kind, List, Mapping, None, Option, Some, SourceKey, ap, arith, candidates, cond, find, from_external}
 use Rattle.nat_mapping.proofs.Names.{from_internal, inbound_key_of, inbound_of, inl, inr, is_port_held, is_some, none-some, not, option_cases, option_map}
-use Rattle.nat_mapping.proofs.Names.{or_else, order_of, port_of, refl, same_Some, same_endpoint, same_inbound, same_kind, some_of_map, source_key_of}
-use Rattle.nat_mapping.proofs.Names.{source_of, subst, sym, true, ℕ, ◌&&◌, ◌==◌, ◌∙◌, ◌∷◌, ◌≡◌}
-use Rattle.nat_mapping.proofs.Equal.{IsTest, here_true, inbound_parts, inbound_parts_test, source_parts_test}
+use Rattle.nat_mapping.proofs.Names.{or_else, order_of, port_of, refl, same_Some, some_of_map, source_key_of, source_of, subst, sym, true, ℕ, ◌↔◌, ◌∙◌, ◌∷◌}
+use Rattle.nat_mapping.proofs.Names.{◌≡◌}
+use Rattle.nat_mapping.proofs.Equal.{IsTest, here_true, inbound_parts_test, source_parts_test}
 use Rattle.nat_mapping.proofs.Lists.{SameMembers, contains_alike, found_among, members_alike, more_alike, none_such, one_to_one-within, one_to_one_alike}
 use Rattle.nat_mapping.proofs.Sets.{sets_all}
 
@@ -29,73 +29,65 @@ module _ {K Y : Type 0} (make : K → Y → Mapping) where
   one_value held look finds k q same y z at also = same_Some y z (sym (finds.all k y at) ∙ ap look same ∙ finds.all q z also)
 
 -- a mapping consists of a key and a value
-pub record Keying {K Y : Type 0} (make : K → Y → Mapping) (e : K → K → Bool) : Type 0 where
+pub record Keying {K Y : Type 0} (make : K → Y → Mapping) : Type 0 where
   pub key : Mapping → K
   pub value : Mapping → Y
   pub is_key : (k : K) (y : Y) → key (make k y) ≡ k
   pub is_value : (k : K) (y : Y) → value (make k y) ≡ y
   pub made : (m : Mapping) → make (key m) (value m) ≡ m
-  pub test : IsTest e
 
-module _ {K Y : Type 0} (make : K → Y → Mapping) (e : K → K → Bool) (by : Keying make e) where
+module _ {K Y : Type 0} (make : K → Y → Mapping) (by : Keying make) (e : K → K → Bool) (test : IsTest e) where
   abbrev pub look : List Mapping → K → Option Y
   look held k = option_map by.value (find (λ m. e (by.key m) k) held)
 
   pub found : (held : List Mapping) (k : K) (y : Y) → look held k ≡ Some y → Contains held (make k y)
-  found held k y is =
-      let x = some_of_map by.value (find (λ m. e (by.key m) k) held) y is in
-      let at = found_among (λ m. e (by.key m) k) held x.0 x.1 in
-      subst (Contains held) (sym (by.made x.0) ∙ (λ i. make (by.test.exact (by.key x.0) k at.1 i) (x.2 i))) at.0
+  found held k y is = grind (arith, some_of_map, by.key, found_among, by.made, test.exact)
 
   pub listed : (held : List Mapping) → ((k : K) (y z : Y) → Contains held (make k y) → Contains held (make k z) → y ≡ z)
       → Finds make held (look held)
   listed held one = record {
     some = found held;
     all = λ k y among. elim (option_cases (find (λ m. e (by.key m) k) held)) [
-      | inl none ↦ absurd (none_such (λ m. e (by.key m) k) held (make k y) none among (here_true e by.test _ _ (by.is_key k y)))
+      | inl none ↦ absurd (none_such (λ m. e (by.key m) k) held (make k y) none among (here_true e test _ _ (by.is_key k y)))
       | inr some ↦
           let is : look held k ≡ Some (by.value some.0) = ap (option_map by.value) some.1 in
           is ∙ ap Some (one k (by.value some.0) y (found held k _ is) among)
     ];
   }
 
-  -- one more, under a key that had none
-  pub fresh : (held : List Mapping) (f : K → Option Y) (k : K) (y : Y) → Finds make held f → f k ≡ None
-      → Finds make (make k y ∷ held) (look (make k y ∷ held))
-  fresh held f k y old free =
-      let value = sets_all e by.test f (λ q. cond (e k q) (Some y) (f q)) k (Some y) (λ q. refl)
-      (λ q o. (z : Y) → Contains (make k y ∷ held) (make q z) → o ≡ Some z)
-      (λ q apart z among. elim (Contains-cases _ _ held among) [
-        | inl same ↦ absurd (apart (sym (by.is_key k y) ∙ ap by.key same ∙ by.is_key q z))
-        | inr there ↦ old.all q z there
-      ])
-      (λ z among. elim (Contains-cases _ _ held among) [
-        | inl same ↦ ap Some (sym (by.is_value k y) ∙ ap by.value same ∙ by.is_value k z)
-        | inr there ↦ absurd (none-some z (sym free ∙ old.all k z there))
-      ]) in
-      listed (make k y ∷ held) (λ q v w at also. same_Some v w (sym (value q v at) ∙ value q w also))
+  -- one more, the only one under its key
+  pub finds_more : (held : List Mapping) (f g : K → Option Y) (k : K) (y : Y) → Finds make held f
+      → ((q : K) → g q ≡ cond (e k q) (Some y) (f q)) → ((z : Y) → Contains held (make k z) → z ≡ y) → Finds make (make k y ∷ held) g
+  finds_more held f g k y old sets one =
+      let each = sets_all e test f g k (Some y) sets (λ q o. (z : Y) → (o ≡ Some z) ↔ Contains (make k y ∷ held) (make q z))
+      (λ q apart z. (
+        λ is. Contains-there _ _ held (old.some q z is),
+        λ among. grind (arith, Contains-cases (make k y) (make q z) held among, apart, by.is_key, old.all q z),
+      ))
+      (λ z. (
+        λ is. grind (arith, is, Contains-head (make k y) held),
+        λ among. grind (arith, Contains-cases (make k y) (make k z) held among, by.is_value, one z),
+      )) in
+      record { some = λ q z. (each q z).0; all = λ q z. (each q z).1 }
 
 -- ---- the two lookups
 
-abbrev pub by_external : Keying from_external (λ a b. same_kind a.kind b.kind && same_endpoint a.external b.external)
+abbrev pub by_external : Keying from_external
 by_external = record {
   key = inbound_key_of;
   value = λ m. m.internal;
   is_key = λ k y. refl;
   is_value = λ k y. refl;
   made = λ m. refl;
-  test = inbound_parts_test;
 }
 
 abbrev pub by_internal : Keying from_internal
-    (λ a b. same_kind a.kind b.kind && (same_endpoint a.internal b.internal && a.address == b.address))
 by_internal = record {
   key = source_key_of;
   value = λ m. m.external.port;
   is_key = λ k y. refl;
   is_value = λ k y. refl;
   made = λ m. refl;
-  test = source_parts_test;
 }
 
 abbrev pub inbound_in : List Mapping → InboundKey → Option Endpoint
@@ -107,22 +99,12 @@ port_in held k = port_of k.kind k.internal k.address held
 pub inbound_finds : (held : List Mapping) → IsOneToOne held → Finds from_external held (inbound_in held)
 unfolding inbound_of
 inbound_finds held one =
-    listed from_external _ by_external held (λ k y z at also. one.one_internal (from_external k y) (from_external k z) at also refl refl)
-
-map_cond : (b : Bool) (m : Mapping) (o : Option Mapping)
-    → option_map (λ x. x.internal) (cond b (Some m) o) ≡ cond b (Some m.internal) (option_map (λ x. x.internal) o)
-map_cond b m o = grind arith
-
-pub inbound_cons : (m : Mapping) (held : List Mapping) (k : InboundKey)
-    → inbound_in (m ∷ held) k ≡ cond (same_inbound (inbound_key_of m) k) (Some m.internal) (inbound_in held k)
-unfolding inbound_of
-inbound_cons m held k =
-    map_cond _ m _ ∙ ap (λ b. cond b (Some m.internal) (inbound_in held k)) (sym (inbound_parts (inbound_key_of m) k))
+    listed from_external by_external _ inbound_parts_test held (λ k y z at also. one.one_internal (from_external k y) (from_external k z) at also refl refl)
 
 pub port_finds : (held : List Mapping) → IsOneToOne held → Finds from_internal held (port_in held)
 unfolding port_of
 port_finds held one =
-    listed from_internal _ by_internal held (λ k y z at also. one.one_port (from_internal k y) (from_internal k z) at also refl refl refl)
+    listed from_internal by_internal _ source_parts_test held (λ k y z at also. one.one_port (from_internal k y) (from_internal k z) at also refl refl refl)
 
 -- a list with both lookups is one to one
 pub one_to_one_by : (held : List Mapping) (f : InboundKey → Option Endpoint) (g : SourceKey → Option ℕ) → Finds from_external held f
@@ -150,8 +132,10 @@ source_one_to_one held kind internal address range port one is =
           let free = found_among (λ p. not (is_port_held key.kind key.address held p)) (candidates (order_of key.kind) key.internal.port range) port
           (rw none at is) in
           one_to_one_by (from_internal key port ∷ held) _ _
-          (fresh from_external _ by_external held _ (inbound_key_of (from_internal key port)) key.internal inbounds (not_some _ free.1))
-          (fresh from_internal _ by_internal held _ key port ports none)
+          (finds_more from_external by_external _ inbound_parts_test held _ _ (inbound_key_of (from_internal key port)) key.internal inbounds
+          (λ q. refl) (λ z there. absurd (none-some z (sym (not_some _ free.1) ∙ inbounds.all _ z there))))
+          (finds_more from_internal by_internal _ source_parts_test held _ _ key port ports (λ q. refl)
+          (λ z there. absurd (none-some z (sym none ∙ ports.all key z there))))
       | inr some ↦
           let there = ports.some key port (some.1 ∙ (rw some.1 at is)) in
           one_to_one-within (from_internal key port ∷ held) held (λ n among. elim (Contains-cases _ n held among) [

@@ -22,7 +22,7 @@ pub use Rattle.nat_mapping.specs.declared.mappings.MapError.{MapError}
 pub use Rattle.nat_mapping.specs.declared.mappings.MapError.TheVariants.{NoPort}
 pub use Rattle.nat_mapping.specs.declared.pools.Pools.{Pools}
 pub use Rattle.nat_mapping.specs.steps.Consistent.{ArePorts, Finds, Inbounds, IsConsistent, IsTable, Sources, holders_at}
-pub use Rattle.nat_mapping.specs.steps.Holders.{holders_cons, holders_none}
+pub use Rattle.nat_mapping.specs.steps.Holders.{holders_cons}
 pub use Rattle.nat_mapping.specs.steps.KeyTests.{same_inbound, same_pool, same_source}
 pub use Rattle.nat_mapping.specs.steps.Keys.{from_external, from_internal, inbound_at, inbound_key_of, one_fewer, one_more, pool_key_of, source_key_of}
 pub use Rattle.nat_mapping.specs.steps.Pooled.{IsPooled, taken_in}
@@ -33,8 +33,8 @@ pub use Rattle.port_pool.specs.declared.order.Order.TheVariants.{Zero}
 pub use Rattle.port_pool.specs.declared.pool.Pool.{Pool}
 pub use Rattle.port_pool.specs.declared.range.CandidateRange.{CandidateRange}
 pub use Rattle.std.proofs.Common.{Bool, Err, IfSome, IsSome, List, None, Option, Result, Some, [], ap, arith, cond, eqb, false, get_or, inl, inr, is_some}
-pub use Rattle.std.proofs.Common.{length, not, refl, rules, subst, sym, true, vec_len, ℕ, ◌*◌, ◌++◌, ◌+◌, ◌-◌, ◌<◌, ◌↔◌, ◌∙◌, ◌∷◌, ◌≡◌, ◌≢◌, ◌≤◌, ◌⊎◌}
-pub use Rattle.std.proofs.lemmas.Bool.{and_from, and_parts, both_ways, cases_Bool, cond-false, cond-true, cond_both, eq-eqb, eqb-true, false_from_ne_true}
+pub use Rattle.std.proofs.Common.{length, not, refl, rules, subst, sym, true, vec_len, ℕ, ◌*◌, ◌++◌, ◌+◌, ◌-◌, ◌<◌, ◌↔◌, ◌∙◌, ◌∷◌, ◌≡◌, ◌≢◌, ◌≤◌}
+pub use Rattle.std.proofs.lemmas.Bool.{both_ways, cond-false, cond-true, cond_both, eq-eqb, eqb-true, false_from_ne_true}
 pub use Rattle.std.proofs.lemmas.Bool.Decides.{nat_tests, same_from_decides}
 pub use Rattle.std.proofs.lemmas.List.Folds.{sum_by-replicate}
 pub use Rattle.std.proofs.lemmas.List.Sums.{sum_by-append}

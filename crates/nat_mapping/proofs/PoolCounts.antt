@@ -1,9 +1,8 @@
 -- The number of pools.
-use Rattle.nat_mapping.proofs.Names.{Contains, IfSome_at, Inbounds, IsConsistent, IsInUse, List, Mapping}
-use Rattle.nat_mapping.proofs.Names.{None, Option, Pool, PoolKey, Pools, Some, Sources, [], any_of_map, ap, arith, from_external, get}
-use Rattle.nat_mapping.proofs.Names.{has_pool, hash_map_len, held_by, inbound_at, is_member, is_member-Decides, is_some, is_some-lookup, is_taken_by}
-use Rattle.nat_mapping.proofs.Names.{keys_of, length, length-from_keys, length-keys_of, list_any, map, pool_count_of, pool_key_of, pooled, refl}
-use Rattle.nat_mapping.proofs.Names.{same_from_decides, same_pool, share_pool, subst, sym, true, unique_keys, ℕ, ◌∙◌, ◌∷◌, ◌≡◌}
+use Rattle.nat_mapping.proofs.Names.{Contains, IfSome_at, Inbounds, IsConsistent, IsInUse, List, Mapping, Option, Pool, PoolKey, Pools, Some, Sources, []}
+use Rattle.nat_mapping.proofs.Names.{any_of_map, ap, arith, from_external, get, has_pool, hash_map_len, held_by, inbound_at, is_member, is_member-Decides}
+use Rattle.nat_mapping.proofs.Names.{is_some, is_some-lookup, is_taken_by, keys_of, length, length-from_keys, length-keys_of, list_any, map, pool_count_of}
+use Rattle.nat_mapping.proofs.Names.{pool_key_of, pooled, refl, same_from_decides, same_pool, share_pool, subst, sym, true, unique_keys, ℕ, ◌∙◌, ◌∷◌, ◌≡◌}
 use Rattle.std.proofs.lemmas.List.Elements.{All-contains, All-contains_itself, All-filter, filter_passes}
 use Rattle.list_laws.specs.Elements.{Contains-map, Contains-unmap}
 use Rattle.list_laws.specs.Filters.{has_filter}
@@ -20,8 +19,7 @@ unique_map (x ∷ held) =
     grind (arith, member, unique_map held)
 
 some_of : {X : Type 0} (o : Option X) → is_some o ≡ true → (x : X) × (o ≡ Some x)
-some_of None e = absurd (cc)
-some_of (Some x) e = (x, refl)
+some_of o e = grind arith
 
 taken_some : (o : Option Pool) (port : ℕ) → is_taken_by o port ≡ true → is_some o ≡ true
 taken_some o port t = grind arith
@@ -44,8 +42,8 @@ module _ (sources : Sources) (inbounds : Inbounds) (pools : Pools) (kept : IsCon
   held_pool m among =
       let is_pooled = λ (x : Mapping). has_pool x.kind in
       let there = All-contains (Contains held) (pooled held) m (All-filter is_pooled (Contains held) held (All-contains_itself held)) among in
-      taken_some (get same_pool pools.pools (pool_key_of m)) m.external.port (port_taken sources inbounds pools kept m (same.there m there)
-      (All-contains (λ x. is_pooled x ≡ true) (pooled held) m (filter_passes is_pooled held) among))
+      let passes = All-contains (λ x. is_pooled x ≡ true) (pooled held) m (filter_passes is_pooled held) among in
+      grind (arith, taken_some, port_taken sources inbounds pools kept m (same.there m there) passes)
 
   pub pools_counted : hash_map_len pools.pools ≡ pool_count_of held
   unfolding pool_count_of

@@ -1,15 +1,15 @@
 -- The tables represent the mappings held: what they say of one, and what a change of its holders leaves.
-use Rattle.nat_mapping.proofs.Names.{ArePorts, Bool, CandidateRange, Contains, Contains-head, Contains-there, Endpoint, Finds, HoldsSame, IfSome, IfSome_at}
-use Rattle.nat_mapping.proofs.Names.{InboundKey, Inbounds, IsConsistent, IsOneToOne, IsPooled, IsTable, Kind, List, MappedPort, Mapping, None, Option, PoolKey}
-use Rattle.nat_mapping.proofs.Names.{Pools, Some, SourceKey, Sources, ap, arith, candidates, cond, cond-false, false, find, from_external, from_internal, get}
+use Rattle.nat_mapping.proofs.Names.{ArePorts, Bool, CandidateRange, Contains, Contains-cases, Contains-head, Contains-there, Endpoint, Finds, HoldsSame}
+use Rattle.nat_mapping.proofs.Names.{IfSome, InboundKey, Inbounds, IsConsistent, IsOneToOne, IsPooled, IsTable, Kind, List, MappedPort, Mapping, None, Option}
+use Rattle.nat_mapping.proofs.Names.{PoolKey, Pools, Some, SourceKey, Sources, ap, arith, candidates, cond, false, find, from_external, from_internal, get}
 use Rattle.nat_mapping.proofs.Names.{has_pool, held_by, holders_at, holders_cons, holders_of, if◌then◌else◌, inbound_at, inbound_key_of, inl, inr, is_some}
 use Rattle.nat_mapping.proofs.Names.{nat_tests, none-some, not, one_fewer, one_more, option_cases, option_map, or_else, order_of, pool_key_of, refl}
-use Rattle.nat_mapping.proofs.Names.{same_inbound, same_source, some_of_map, source_key_of, source_of, subst, sym, taken_in, true, ℕ, ◌&&◌, ◌+◌, ◌<◌, ◌==◌}
+use Rattle.nat_mapping.proofs.Names.{same_inbound, same_source, some_of_map, source_key_of, source_of, subst, sym, taken_in, true, ℕ, ◌&&◌, ◌+◌, ◌<◌, ◌==◌, ◌↔◌}
 use Rattle.nat_mapping.proofs.Names.{◌∙◌, ◌∷◌, ◌≡◌}
 use Rattle.nat_mapping.proofs.Equal.{apart_false, inbound_test, source_test}
 use Rattle.nat_mapping.proofs.Sets.{set_at, sets_all, sets_back}
-use Rattle.nat_mapping.proofs.Lists.{has_holder, is_among, members_alike, one_to_one-within, one_to_one_alike}
-use Rattle.nat_mapping.proofs.Lookups.{finds_alike, finds_as, inbound_alike, inbound_cons, inbound_finds, inbound_in, one_to_one_by, port_finds, source_alike}
+use Rattle.nat_mapping.proofs.Lists.{has_holder, is_among, members_alike, one_to_one_alike}
+use Rattle.nat_mapping.proofs.Lookups.{by_external, finds_alike, finds_as, finds_more, inbound_finds, inbound_in, one_to_one_by, port_finds, source_alike}
 use Rattle.nat_mapping.proofs.Entries.{counts_of, same_by}
 
 -- ---- entries and mappings
@@ -28,19 +28,9 @@ port_at sources key = option_map (λ h. h.port) (get same_source sources key)
 module _ (sources : Sources) (table : IsTable sources) where
   pub table_finds : Finds from_internal (held_by sources.entries) (port_at sources)
   table_finds = record {
-    some = λ k p is.
-        let h = some_of_map (λ (h : MappedPort). h.port) (get same_source sources k) p is in
-        is_among (from_internal k p) (held_by sources.entries) (omega (
-          arith,
-          counts_of sources table.unique (from_internal k p),
-          holders_by (get same_source sources k) p h.0 h.1 h.2,
-          IfSome_at (get same_source sources k) (λ x. 0 < x.holders) h.0 h.1 (table.live k),
-        ));
-    all = λ k p among. holds_port (get same_source sources k) p (omega (
-      arith,
-      counts_of sources table.unique (from_internal k p),
-      has_holder (from_internal k p) (held_by sources.entries) among,
-    ));
+    some = λ k p is. grind (arith, is_among, counts_of sources table.unique (from_internal k p), holders_by, some_of_map, table.live k);
+    all = λ k p among. let some = has_holder (from_internal k p) (held_by sources.entries) among in
+        grind (arith, holds_port, counts_of sources table.unique (from_internal k p), some);
   }
 
   module _ (m : Mapping) (one : IsOneToOne (m ∷ held_by sources.entries)) where
@@ -53,8 +43,7 @@ module _ (sources : Sources) (table : IsTable sources) where
 
     pub few_holders : (limit : ℕ) → holders_of m (held_by sources.entries) < limit
         → (o : Option MappedPort) → get same_source sources (source_key_of m) ≡ o → IfSome o (λ h. h.holders < limit)
-    few_holders limit few None is = tt
-    few_holders limit few (Some h) is = omega (arith, counts_of sources table.unique m, holders_by _ m.external.port h is (own_port h is))
+    few_holders limit few o is = grind (arith, counts_of sources table.unique m, holders_by, own_port)
 
 pub held_same : (one other : Sources) → IsTable one → IsTable other
     → ((q : SourceKey) → get same_source other q ≡ get same_source one q) → HoldsSame (held_by one.entries) (held_by other.entries)
@@ -83,11 +72,7 @@ pub has_fewer : (m : Mapping) (old new : Sources) (before : MappedPort)
     → ((q : SourceKey) → get same_source new q ≡ cond (same_source (source_key_of m) q) (one_fewer before) (get same_source old q))
     → get same_source old (source_key_of m) ≡ Some before → before.port ≡ m.external.port → 0 < before.holders → HasMore m new old
 has_fewer m old new before sets was port some =
-    let at = set_at same_source source_test _ _ _ _ sets in
-    let more = whole before some in record {
-      fits = λ h is. ap (λ (x : MappedPort). x.port) (ap (one_more before.port) (sym (sym at ∙ is)) ∙ more) ∙ port;
-      sets = sets_back same_source source_test _ _ _ _ sets _ (was ∙ ap Some (sym more ∙ (λ i. one_more (port i) (sym at i))));
-    }
+    grind (arith, set_at same_source source_test _ _ _ _ sets, sets_back same_source source_test _ _ _ _ sets, whole)
 
 pub more_live : (port : ℕ) (o : Option MappedPort) → 0 < (one_more port o).holders
 more_live port o = grind arith
@@ -99,19 +84,11 @@ count_with m less k p = cond (same_source k (source_key_of m) && p == m.external
 module _ (m : Mapping) (less more : Sources) (has : HasMore m less more) where
   by_key : (k : SourceKey) (p : ℕ) → holders_at (get same_source more k) p ≡ count_with m less k p
   by_key = sets_all same_source source_test _ _ (source_key_of m) _ has.sets (λ k o. (p : ℕ) → holders_at o p ≡ count_with m less k p)
-      (λ k apart p. let none : ◌≡◌ {A = ℕ} (cond (same_source k (source_key_of m) && p == m.external.port) 1 0) 0 =
-      ap (λ b. cond (b && p == m.external.port) 1 0) (apart_false same_source source_test k (source_key_of m) (λ e. apart (sym e))) in
-      omega (arith, none))
-      (λ p. more_at (get same_source less (source_key_of m)) m.external.port p has.fits
-      ∙ ap (λ b. cond (b && p == m.external.port) 1 0 + holders_at (get same_source less (source_key_of m)) p)
-      (sym (source_test.same (source_key_of m))))
+      (λ k apart p. grind (arith, apart_false same_source source_test k (source_key_of m)))
+      (λ p. grind (arith, more_at (get same_source less (source_key_of m)) m.external.port p has.fits, source_test.same (source_key_of m)))
 
   pub held_more : IsTable less → IsTable more → HoldsSame (m ∷ held_by less.entries) (held_by more.entries)
-  held_more old new q =
-      let counted = by_key (source_key_of q) q.external.port
-      ∙ ap (λ b. cond b 1 0 + holders_at (get same_source less (source_key_of q)) q.external.port)
-      (sym (same_by q (source_key_of m) (record { port = m.external.port; holders = 0 }))) in
-      omega (arith, holders_cons q m (held_by less.entries), counted, counts_of less old.unique q, counts_of more new.unique q)
+  held_more old new q = grind (arith, by_key, same_by q, holders_cons, counts_of, old.unique, new.unique)
 
 -- ---- what a change of the tables and the pools leaves
 
@@ -187,8 +164,8 @@ module _ (sources : Sources) (inbounds : Inbounds) (pools : Pools) (kept : IsCon
         record {
           table = table;
           inbound = finds_as from_external (held_by sources.entries) (held_by sources'.entries) _ _ (record {
-            there = λ m x. new.some (source_key_of m) _ (same_port (source_key_of m) ∙ old.all (source_key_of m) m.external.port x);
-            back = λ m x. old.some (source_key_of m) _ (sym (same_port (source_key_of m)) ∙ new.all (source_key_of m) m.external.port x);
+            there = λ m x. grind (arith, new.some (source_key_of m), same_port, old.all (source_key_of m) m.external.port x);
+            back = λ m x. grind (arith, old.some (source_key_of m), same_port, new.all (source_key_of m) m.external.port x);
           }) same_inbounds kept.inbound;
           ports = λ key port some. same_ports key port ∙ kept.ports key port some ∙ ap is_some (sym (same_inbounds (inbound_at key port)));
           pooled = pooled;
@@ -201,10 +178,10 @@ module _ (sources : Sources) (inbounds : Inbounds) (pools : Pools) (kept : IsCon
           → PortSet pools pools' (pool_key_of m) m.external.port true → IsConsistent sources' inbounds' pools'
       begun same one set set_port = record {
         table = table;
-        inbound = finds_as from_external (m ∷ held_by sources.entries) (held_by sources'.entries) _ _ (members_alike _ _ same)
-            (λ q. set q ∙ ap (cond (same_inbound (inbound_key_of m) q) (Some m.internal)) (inbound_is q)
-            ∙ sym (inbound_cons m (held_by sources.entries) q))
-            (inbound_finds (m ∷ held_by sources.entries) one);
+        inbound = finds_as from_external (m ∷ held_by sources.entries) (held_by sources'.entries) _ _ (members_alike _ _ same) (λ q. refl)
+            (finds_more from_external by_external same_inbound inbound_test (held_by sources.entries) _ _ (inbound_key_of m) m.internal
+            kept.inbound set (λ z among. one.one_internal (from_external (inbound_key_of m) z) m
+            (Contains-there m _ (held_by sources.entries) among) (Contains-head m (held_by sources.entries)) refl refl));
         ports = ports_set inbounds inbounds' pools pools' (pool_key_of m) m.external.port (Some m.internal) kept.ports set set_port;
         pooled = pooled;
       }
@@ -216,20 +193,21 @@ module _ (sources : Sources) (inbounds : Inbounds) (pools : Pools) (kept : IsCon
       ended same absent set set_port =
           let left = held_by sources'.entries in
           let all = one_to_one_alike (m ∷ left) (held_by sources.entries) (λ q. sym (same q)) one_to_one in
-          let finds = inbound_finds left (one_to_one-within left (m ∷ left) (λ n. Contains-there m n left) all) in record {
+          let both = members_alike (held_by sources.entries) (m ∷ left) same in
+          let each = sets_all same_inbound inbound_test _ _ (inbound_key_of m) None set
+          (λ k o. (y : Endpoint) → (o ≡ Some y) ↔ Contains left (from_external k y))
+          (λ k apart y. (
+            λ is. grind (arith, Contains-cases m (from_external k y) left (both.there _ (kept.inbound.some k y is)), apart),
+            λ among. kept.inbound.all k y (both.back _ (Contains-there m _ left among)),
+          ))
+          (λ y. (
+            λ none. absurd (none-some y none),
+            λ among. absurd (absent (subst (λ i. Contains left (from_external (inbound_key_of m) i))
+                (all.one_internal (from_external (inbound_key_of m) y) m (Contains-there m _ left among) (Contains-head m left) refl refl) among)),
+          )) in
+          record {
             table = table;
-            inbound = finds_as from_external left left _ _ (record { there = λ n x. x; back = λ n x. x })
-                (sets_all same_inbound inbound_test _ _ (inbound_key_of m) None set (λ q o. o ≡ inbound_in left q)
-                (λ q apart. inbound_is q ∙ inbound_alike _ (m ∷ left) same all q.kind q.external ∙ inbound_cons m left q
-                ∙ cond-false _ _ (inbound_in left q) (apart_false same_inbound inbound_test _ q apart))
-                (elim (option_cases (inbound_in left (inbound_key_of m))) [
-                  | inl none ↦ sym none
-                  | inr some ↦
-                      let there = finds.some (inbound_key_of m) some.0 some.1 in
-                      absurd (absent (subst (λ i. Contains left (from_external (inbound_key_of m) i)) (all.one_internal
-                      (from_external (inbound_key_of m) some.0) m (Contains-there m _ left there) (Contains-head m left) refl refl) there))
-                ]))
-                finds;
+            inbound = record { some = λ k y. (each k y).0; all = λ k y. (each k y).1 };
             ports = ports_set inbounds inbounds' pools pools' (pool_key_of m) m.external.port None kept.ports set set_port;
             pooled = pooled;
           }

@@ -1,5 +1,4 @@
-use Rattle.std.proofs.Common.{arith}
-use Rattle.aged_tracker.proofs.Names.{off, pushed}
+use Rattle.aged_tracker.proofs.Names.{arith, off, pushed}
 use Rattle.aged_tracker.proofs.Lists.{last_stays, oldest_pushed, relists_last, relists_then}
 use Rattle.std.proofs.Common.{eqb-true}
 use Rattle.aged_tracker.proofs.aged_slots.requeue.Goals as goal

@@ -1,8 +1,8 @@
 use Rattle.aged_tracker.proofs.Names.{IsIn-without, IsNumbered, IsSome, None, Relists, Some, ap, arith, eq-eqb, held_at, held_of, inl, last_by, ne_eqb, not}
-use Rattle.aged_tracker.proofs.Names.{off, option_map, owner_of, refl, same_id, slots_of, sym, ◌∙◌, ◌≡◌}
+use Rattle.aged_tracker.proofs.Names.{off, owner_of, refl, same_id, slots_of, sym, ◌∙◌, ◌≡◌}
 use Rattle.aged_tracker.proofs.Index.{kept_if, kept_step}
 use Rattle.aged_tracker.proofs.Lists.{IsIn-first, relists_then, relists_written}
-use Rattle.aged_tracker.proofs.Order.{Writes, held_changed, not_none, numbered_after, rising_left, sets, table_after, writes_between}
+use Rattle.aged_tracker.proofs.Order.{Writes, held_changed, numbered_after, rising_left, sets, table_after, writes_between}
 use Rattle.conntrack.specs.ConntrackEntry.{without}
 use Rattle.aged_tracker.proofs.aged_slots.AgedSlots.remove.Goals.{After-remove}
 use Rattle.aged_tracker.proofs.aged_slots.AgedSlots.remove.Goals as goal
@@ -22,10 +22,10 @@ emptied c =
     let free = c.take_out.ensures.relists.here in relists_written _ _ _ c.args.id.0 None c.remove.ensures.updates (sym free) (inl free)
 
 gone : (c : After-remove) → IsSome (held_at c.remove.new.self c.args.id.0) → ⊥
-gone c is = not_none _ (ap (option_map (held_of c.args.id.0)) c.remove.ensures.updates.changed) is
+gone c is = grind arith
 
 numbered : (c : After-remove) → IsNumbered c.remove.new.self c.args.self.now.next_serial
-numbered c = numbered_after c.args.self.now c.requires.table _ c.args.id.0 None (writes c) _ (omega arith) (λ is. absurd (gone c is))
+numbered c = grind (arith, numbered_after, c.requires.table, writes, gone)
 
 pub returns-clause-table : goal.returns-clause-table
 returns-clause-table c =

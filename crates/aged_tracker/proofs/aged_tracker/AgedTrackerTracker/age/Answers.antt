@@ -1,5 +1,4 @@
-use Rattle.std.proofs.Common.{arith}
-use Rattle.aged_tracker.proofs.Names.{Aged, ConnId, Some, aged_of, ap, find, held_by, is_live, length-without, live_at, option_map, removed_entry}
+use Rattle.aged_tracker.proofs.Names.{Aged, ConnId, Some, aged_of, ap, arith, find, held_by, is_live, length-without, live_at, option_map, removed_entry}
 use Rattle.aged_tracker.proofs.Names.{same_Some, same_id, slots_of, sym, ◌∙◌, ◌≡◌}
 use Rattle.aged_tracker.proofs.Index.{filter_without, found_at, has_as, live_all, once_by_id}
 use Rattle.aged_tracker.proofs.Lists.{named_at, some_of}

@@ -1,5 +1,4 @@
-use Rattle.std.proofs.Common.{arith}
-use Rattle.aged_tracker.proofs.Names.{Some, ap, begun_with, cond, false, has_id, held_by, is_some, is_taken, same_tuple, sym, ◌∙◌, ◌≡◌}
+use Rattle.aged_tracker.proofs.Names.{Some, ap, arith, begun_with, cond, false, has_id, held_by, is_some, is_taken, same_tuple, sym, ◌∙◌, ◌≡◌}
 use Rattle.aged_tracker.proofs.Index.{has_as, indexed_begun, not_both, taken_as}
 use Rattle.aged_tracker.proofs.aged_tracker.AgedTrackerTracker.begin.Goals.{After-insert-id, After-is_some}
 use Rattle.aged_tracker.proofs.aged_tracker.AgedTrackerTracker.begin.Goals as goal
@@ -8,7 +7,7 @@ taken : (c : After-is_some) → is_taken c.args.connection.reply (held_by c.self
 taken c = taken_as _ _ _ c.self.invariant.indexed c.args.connection.reply ∙ sym (c.is_some.ensures ∙ ap is_some c.key_of.ensures)
 
 fresh : (c : After-insert-id) → has_id c.insert-id.result (held_by c.self.inside.slots) ≡ false
-fresh c = has_as c.self.inside.slots c.self.invariant.table c.insert-id.result ∙ ap is_some c.insert-id.ensures.free
+fresh c = grind (arith, has_as, c.self.invariant.table, c.insert-id.ensures.free)
 
 pub returns-then-is_some-clause-clash : goal.returns-then-is_some-clause-clash
 returns-then-is_some-clause-clash c = grind (arith, c.self.view_is, taken, c.if-is_some.true)

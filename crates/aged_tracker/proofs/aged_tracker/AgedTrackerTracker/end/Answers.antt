@@ -1,5 +1,4 @@
-use Rattle.std.proofs.Common.{arith}
-use Rattle.aged_tracker.proofs.Names.{None, ap, cond, same_tuple, ◌∙◌}
+use Rattle.aged_tracker.proofs.Names.{None, ap, arith, cond, same_tuple, ◌∙◌}
 use Rattle.aged_tracker.proofs.Index.{found_at, has_as, indexed_ended}
 use Rattle.aged_tracker.proofs.aged_tracker.AgedTrackerTracker.end.Goals as goal
 

@@ -1,5 +1,4 @@
-use Rattle.std.proofs.Common.{arith}
-use Rattle.aged_tracker.proofs.Names.{◌∙◌}
+use Rattle.aged_tracker.proofs.Names.{arith, ◌∙◌}
 use Rattle.aged_tracker.proofs.Index.{same_fun}
 use Rattle.aged_tracker.proofs.aged_tracker.AgedTrackerTracker.reserve_one.Goals as goal
 

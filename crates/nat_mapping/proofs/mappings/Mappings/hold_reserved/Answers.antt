@@ -1,6 +1,5 @@
-use Rattle.std.proofs.Common.{arith}
-use Rattle.nat_mapping.proofs.Names.{HoldsSame, IfSome, IsOneToOne, IsTable, MappedPort, PoolKey, Some, SourceKey, ap, get, has_pool, held_by, one_more}
-use Rattle.nat_mapping.proofs.Names.{option_map, refl, same_source, source_key_of, subst, sym, taken_in, ◌<◌, ◌∙◌, ◌∷◌, ◌≡◌}
+use Rattle.nat_mapping.proofs.Names.{HoldsSame, IfSome, IsOneToOne, IsTable, MappedPort, Some, SourceKey, arith, get, held_by, one_more, option_map, refl}
+use Rattle.nat_mapping.proofs.Names.{same_source, source_key_of, subst, sym, ◌<◌, ◌∙◌, ◌∷◌, ◌≡◌}
 use Rattle.nat_mapping.proofs.Equal.{source_test}
 use Rattle.nat_mapping.proofs.Sets.{sets_all}
 use Rattle.nat_mapping.proofs.Represented.{HasMore, begun, few_holders, grown, held_more, more_live, own_port, port_at, port_free}
@@ -16,10 +15,7 @@ module _ (c : After-add_holder) where
   before = sym (rw c.source_key.ensures at c.add_holder.ensures.before)
 
   has : HasMore c.args.m c.self.inside.sources c.add_holder.new.sources
-  has = record {
-    fits = own_port _ c.self.invariant.table c.args.m stays;
-    sets = rw (c.source_key.ensures, ← before) at c.add_holder.ensures.values;
-  }
+  has = grind (arith, own_port, c.self.invariant.table, stays, c.source_key.ensures, before, c.add_holder.ensures.values)
 
   table : IsTable c.add_holder.new.sources
   table = record {

@@ -1,6 +1,6 @@
-use Rattle.nat_mapping.proofs.Names.{Contains, HoldsSame, IfSome, IfSome_at, IsSome, IsTable, MappedPort, None, PoolKey, Some, SourceKey, ap, arith}
-use Rattle.nat_mapping.proofs.Names.{cond, get, has_pool, held_by, nat_tests, none-some, one_fewer, option_map, refl, same_Some, same_source}
-use Rattle.nat_mapping.proofs.Names.{some_of_map, source_key_of, subst, sym, taken_in, ◌<◌, ◌∙◌, ◌∷◌, ◌≡◌, ◌≤◌}
+use Rattle.nat_mapping.proofs.Names.{Contains, HoldsSame, IsSome, IsTable, MappedPort, None, Some, SourceKey, ap, arith, cond, get, held_by, nat_tests}
+use Rattle.nat_mapping.proofs.Names.{none-some, one_fewer, option_map, refl, same_Some, same_source, some_of_map, source_key_of, subst, sym, ◌<◌, ◌∙◌, ◌∷◌, ◌≡◌}
+use Rattle.nat_mapping.proofs.Names.{◌≤◌}
 use Rattle.nat_mapping.proofs.Equal.{source_test}
 use Rattle.nat_mapping.proofs.Sets.{set_at, sets_all}
 use Rattle.nat_mapping.proofs.Represented.{ended, fewer_live, grown, has_fewer, held_more, port_at, port_taken, table_finds}
@@ -21,16 +21,10 @@ module _ (c : After-remove_holder-before) where
   sets = rw c.source_key.ensures at c.remove_holder-before.ensures.values
 
   table : IsTable c.remove_holder-before.new.sources
-  table = record {
-    unique = c.remove_holder-before.ensures.unique;
-    live = sets_all same_source source_test _ _ _ _ sets (λ q o. IfSome o (λ (h : MappedPort). 0 < h.holders))
-        (λ q apart. c.self.invariant.table.live q) (fewer_live c.remove_holder-before.result);
-  }
+  table = grind (arith, c.remove_holder-before.ensures.unique, sets_all, source_test, sets, c.self.invariant.table.live, fewer_live)
 
   held : HoldsSame (held_by c.self.inside.sources.entries) (c.args.m ∷ held_by c.remove_holder-before.new.sources.entries)
-  held q = sym (held_more c.args.m _ _ (has_fewer c.args.m _ _ c.remove_holder-before.result sets was port
-      (IfSome_at _ (λ (h : MappedPort). 0 < h.holders) _ was (c.self.invariant.table.live (source_key_of c.args.m))))
-      table c.self.invariant.table q)
+  held q = grind (arith, held_more, has_fewer, sets, was, port, c.self.invariant.table.live, table, c.self.invariant.table)
 
 pub remove_holder-before-requires : goal.remove_holder-before-requires
 remove_holder-before-requires c =

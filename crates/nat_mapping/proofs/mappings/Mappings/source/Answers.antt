@@ -1,5 +1,5 @@
-use Rattle.nat_mapping.proofs.Names.{Err, HoldsSame, IfOk, List, MapError, Mapping, NoPort, None, Option, Result, Some, none-some, ok_or, refl}
-use Rattle.nat_mapping.proofs.Names.{subst, sym, ℕ, ◌↔◌, ◌∙◌, ◌≡◌}
+use Rattle.nat_mapping.proofs.Names.{Err, HoldsSame, IfOk, List, MapError, Mapping, NoPort, None, Option, Result, Some, arith, ok_or, subst, sym, ℕ, ◌↔◌, ◌∙◌}
+use Rattle.nat_mapping.proofs.Names.{◌≡◌}
 use Rattle.nat_mapping.proofs.Represented.{source_is}
 use Rattle.nat_mapping.proofs.mappings.Mappings.source.Goals as goal
 
@@ -8,8 +8,7 @@ abbrev Answers : Option ℕ → Result ℕ MapError → Type 0
 Answers want r = IfOk r (λ port. want ≡ Some port) × ((r ≡ Err NoPort) ↔ (want ≡ None))
 
 answered : (o want : Option ℕ) → want ≡ o → Answers want (ok_or o NoPort)
-answered None want is = (tt, (λ e. is, λ none. refl))
-answered (Some port) want is = (is, (λ e. absurd (cc), λ none. absurd (none-some port (sym none ∙ is))))
+answered o want is = grind arith
 
 pub returns-in-Some : goal.returns-in-Some
 returns-in-Some c =
