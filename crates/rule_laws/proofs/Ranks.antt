@@ -167,17 +167,13 @@ module _ (plant : PlantTree) (number : ℕ) (t : TableTree) where
         → option_map (λ (c : ChainTree). map (λ r. r.statements) c.rules) o ≡ Some rules
         → sum_by (sum_by (weight_by cost)) rules ≤ cost_of cost o
     sums_at i rules None at is = absurd cc
-    sums_at i rules (Some c) at is =
-        let same = ap (λ o. sum_by (sum_by (weight_by cost)) (unwrap_or o [])) is in
-        omega (arith, same, costs_at i c at)
+    sums_at i rules (Some c) at is = grind (arith, sum_by, unwrap_or, costs_at)
 
     -- ---- depths
 
     module _ (deep : HasDeepPath t → ⊥) (depths : List ℕ) (depths_are : AreChainDepths t depths) where
       depth_at : (i : ℕ) (c : ChainTree) → slice_get (chains_of t) i ≡ Some c → HasDepth t (a_chain c.name) (slice_index depths i)
-      depth_at i c at =
-          subst (λ n. HasDepth t (a_chain n) (slice_index depths i)) (name_at (chains_of t) i c at)
-          (depths_are.are i (omega (arith, depths_are.long, got_within (chains_of t) i c at)))
+      depth_at i c at = grind (arith, slice_index, name_at, got_within)
 
       bounded : (i : ℕ) (c : ChainTree) → slice_get (chains_of t) i ≡ Some c → (b : Caller) (es : List (Call Caller))
           → IsPath (CallsOf t) (a_chain c.name) es b → jumps es ≤ MAX_JUMPS

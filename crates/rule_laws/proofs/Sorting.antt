@@ -51,11 +51,7 @@ module _ {X : Type 0} (lt : X → X → Bool) where
   module _ (o : IsStrictWeakOrder lt) where
     before_put : (y x : X) (ys : List X) → Before y ys → lt y x ≡ true → Before y (put x ys)
     before_put y x [] h less = o.one_way y x less
-    before_put y x (z ∷ zs) h less = by_test (lt z x)
-      where
-        by_test : (b : Bool) → Before y (cond b (z ∷ put x zs) (x ∷ z ∷ zs))
-        by_test true = h
-        by_test false = o.one_way y x less
+    before_put y x (z ∷ zs) h less = grind arith
 
     up_put : (x : X) (xs : List X) → Up xs → Up (put x xs)
     up_put x [] up = (tt, tt)
@@ -76,14 +72,7 @@ module _ {X : Type 0} (lt : X → X → Bool) where
 
     -- what is less than an element doesn't tie with anything that the element ties with
     no_tie : (z x y : X) → ties lt z x ≡ true → lt y x ≡ true → ties lt z y ≡ false
-    no_tie z x y tied less = by_tests (lt z x) (lt x z) (lt z y) (lt y z) refl refl refl refl tied
-      where
-        by_tests : (a b c d : Bool) → lt z x ≡ a → lt x z ≡ b → lt z y ≡ c → lt y z ≡ d → not a && not b ≡ true → not c && not d ≡ false
-        by_tests a b true d ea eb ec ed h = refl
-        by_tests a b false true ea eb ec ed h = refl
-        by_tests true b false false ea eb ec ed h = absurd cc
-        by_tests false true false false ea eb ec ed h = absurd cc
-        by_tests false false false false ea eb ec ed h = let e : lt y x ≡ false = o.chain y z x ed ea in absurd cc
+    no_tie z x y tied less = grind arith
 
     swapped : (x y : X) (c t : Bool) (kept rest : List X) → (c ≡ true → t ≡ false) → kept ≡ cond c (x ∷ rest) rest
         → cond t (y ∷ kept) kept ≡ cond c (x ∷ cond t (y ∷ rest) rest) (cond t (y ∷ rest) rest)
@@ -94,13 +83,7 @@ module _ {X : Type 0} (lt : X → X → Bool) where
 
     kept_put : (z x : X) (xs : List X) → filter (ties lt z) (put x xs) ≡ filter (ties lt z) (x ∷ xs)
     kept_put z x [] = refl
-    kept_put z x (y ∷ ys) = by_test (lt y x) refl (kept_put z x ys)
-      where
-        by_test : (b : Bool) → lt y x ≡ b → filter (ties lt z) (put x ys) ≡ filter (ties lt z) (x ∷ ys)
-            → filter (ties lt z) (cond b (y ∷ put x ys) (x ∷ y ∷ ys)) ≡ filter (ties lt z) (x ∷ y ∷ ys)
-        by_test false less later = refl
-        by_test true less later = swapped x y (ties lt z x) (ties lt z y) (filter (ties lt z) (put x ys))
-            (filter (ties lt z) ys) (λ tied. no_tie z x y tied less) later
+    kept_put z x (y ∷ ys) = grind (arith, swapped, no_tie, (kept_put z x ys))
 
     pub stable : (xs : List X) → IsStableBy lt xs (ordered xs)
     stable [] z = refl

@@ -137,16 +137,7 @@ module _ (cost : Caller → ℕ) where
     pub rules_weigh : (rs : List RuleTree) → rules_weight p (weight_by cost) Good (map (λ r. r.statements) rs)
         ≡ chain_cost cost (map statement_calls (flat_map (λ r. r.statements) rs))
     rules_weigh [] = refl
-    rules_weigh (r ∷ rs) =
-        let split = ap (chain_cost cost) (map-append statement_calls r.statements (flat_map (λ x. x.statements) rs)) in
-        omega (
-          arith,
-          split,
-          cost_append (map statement_calls r.statements)
-              (map statement_calls (flat_map (λ x. x.statements) rs)),
-          rule_weighs r.statements,
-          rules_weigh rs,
-        )
+    rules_weigh (r ∷ rs) = grind (arith, map-append, r.statements, flat_map, cost_append, rule_weighs, (rules_weigh rs))
 
     module _ (are : AreCosts t cost) (whole : There t (targets_of t)) where
       lighter_at : (s : Statement) (name : Text) (o : Option ChainTree) → chain_named t name ≡ o → is_some o ≡ true
@@ -202,9 +193,7 @@ module _ (cost : Caller → ℕ) where
       pub less_chosen : (s : Statement) (v : VerdictTree) → Chooses t s v → greatest cost (verdict_calls v) < weight_by cost s
       less_chosen s v verdicts.itself = omega arith
       less_chosen s v (verdicts.of_pairs {ps = ps} has) = omega (arith, least_among ps v has)
-      less_chosen s v (verdicts.of_map {name = name} m found has) =
-          let weighs = are (a_map name) ∙ ap (λ o. node_cost cost (map_node o)) found in
-          omega (arith, weighs, least_among (some_of m.elements) v has)
+      less_chosen s v (verdicts.of_map {name = name} m found has) = grind (arith, least_among, m.elements)
 
       lighter : (s : Statement) (i : ℕ) (name : Text) → chain_number t name ≡ i → is_some (chain_named t name) ≡ true
           → cost (a_chain name) < weight_by cost s → Lighter p (weight_by cost) Good s i

@@ -1,4 +1,5 @@
 -- The possible verdicts of a statement.
+use Rattle.std.proofs.Common.{arith}
 use Rattle.std.proofs.Common.{◌≡◌, ℕ, Bool, true, false, cond, List, [], ◌∷◌, map, Contains, Option, Some, None, option_and_then, refl, sym, subst}
 use Rattle.std.specs.Option.{option_or}
 use Rattle.list_laws.specs.Lists.{Contains-head}
@@ -110,9 +111,7 @@ module _ (t : TableTree) where
   of_declared : (plant : PlantTree) (x : Selector) (name : Text) (n : ℕ) (o : Option MapTree) → map_named t name ≡ o
       → Chosen (tree.verdict_map x (tree.named_map name)) (declared_gives data_verdict plant o n)
   of_declared plant x name n None is = tt
-  of_declared plant x name n (Some m) is =
-      of_named x name m (pairs_give data_verdict plant (map_key_compared_type m.types) (some_of m.elements) n) is
-      (from_list plant (map_key_compared_type m.types) (some_of m.elements) n)
+  of_declared plant x name n (Some m) is = grind (arith, of_named, m.types, m.elements, from_list)
 
   -- ---- statements
 
