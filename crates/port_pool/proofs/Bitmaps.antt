@@ -257,23 +257,13 @@ module _ (ws : List ℕ) (count at i word : ℕ) (bitmap : IsCounted ws count) (
   with_clear = set ws (i / 64) (bit_and word (bit_not w64 (1 * 2 ^ (at % 64) % 2 ^ 64)))
 
   pub set_gives : (now : List ℕ) → ws ≡ now → (q : ℕ) → bit with_set q ≡ cond (q == at) true (bit now q)
-  set_gives now same q =
-      ap (λ n. bit (set ws (n / 64) (bit_or word (1 * 2 ^ (at % 64) % 2 ^ 64))) q) e
-      ∙ ap (λ w. bit (set ws (at / 64) (bit_or w (1 * 2 ^ (at % 64) % 2 ^ 64))) q) known
-      ∙ bit-set ws at q inside
-      ∙ ap (λ (l : List ℕ). cond (q == at) true (bit l q)) same
+  set_gives now same q = grind (arith, bit_or, known, bit-set, inside)
 
   pub clear_gives : (now : List ℕ) → ws ≡ now → (q : ℕ) → bit with_clear q ≡ cond (q == at) false (bit now q)
-  clear_gives now same q =
-      ap (λ n. bit (set ws (n / 64) (bit_and word (bit_not w64 (1 * 2 ^ (at % 64) % 2 ^ 64)))) q) e
-      ∙ ap (λ w. bit (set ws (at / 64) (bit_and w (bit_not w64 (1 * 2 ^ (at % 64) % 2 ^ 64)))) q) known
-      ∙ bit-clear ws at q inside
-      ∙ ap (λ (l : List ℕ). cond (q == at) false (bit l q)) same
+  clear_gives now same q = grind (arith, bit_and, bit_not, known, bit-clear, inside)
 
   pub set_counts : (now : List ℕ) → ws ≡ now → bit now at ≡ false → IsCounted with_set (count + 1)
-  set_counts now same unset =
-      counted_more ws with_set count at bitmap (length-set ws (i / 64) (bit_or word (1 * 2 ^ (at % 64) % 2 ^ 64))) small
-      (ap (λ (l : List ℕ). bit l at) same ∙ unset) (set_gives ws refl)
+  set_counts now same unset = grind (arith, counted_more, length-set, bit_or, set_gives)
 
   pub clear_counts : (now : List ℕ) → ws ≡ now → bit now at ≡ true → (1 ≤ count) × IsCounted with_clear (count - 1)
   clear_counts now same before =
