@@ -1,4 +1,5 @@
 -- Running the remainder of a chain is deterministic.
+use Rattle.std.proofs.Common.{arith}
 use Rattle.std.proofs.Common.{◌≡◌, ℕ, ◌+◌, List, Some, unwrap_or, sym, ap, ◌∙◌, subst}
 use Rattle.rule_meaning.specs.declared.facts.Facts.{Facts}
 use Rattle.rule_meaning.specs.declared.event.RuleVerdict.TheVariants.{Accept, Drop, Continue, Return, Jump, Goto, Translate}
@@ -23,19 +24,13 @@ module _ {S : Type 0} (p : Program S) where
       (later : List Event) (o o' : RunResult) → p.rules_at t ≡ Some chain
       → ((x : RunResult) → Runs p t 1 (at_rule chain) f es x → at_end g later ≡ x)
       → ((x : RunResult) → Runs p c (n + 1) (at_rule rs) g later x → o ≡ x) → Jumped p c n t rs f es o' → o ≡ o'
-  one_back c n t rs f es chain g later o o' at first then (inversion.back other h last stands a b) =
-      let same = first (at_end h last) (subst (λ x. Runs p t 1 (at_rule x) f es (at_end h last)) (same_chain t other chain stands at) a) in
-      then o' (subst (Next c n rs o') (sym same) b)
-  one_back c n t rs f es chain g later o o' at first then (inversion.away other stands a ends) =
-      let same = first o' (subst (λ x. Runs p t 1 (at_rule x) f es o') (same_chain t other chain stands at) a) in
-      absurd (subst IsTerminal (sym same) ends)
+  one_back c n t rs f es chain g later o o' at first then (inversion.back other h last stands a b) = grind arith
+  one_back c n t rs f es chain g later o o' at first then (inversion.away other stands a ends) = grind arith
 
   one_away : (c n t : ℕ) (rs : List (List S)) (f : Facts) (es : List Event) (chain : List (List S)) (o o' : RunResult)
       → p.rules_at t ≡ Some chain → ((x : RunResult) → Runs p t 1 (at_rule chain) f es x → o ≡ x) → IsTerminal o
       → Jumped p c n t rs f es o' → o ≡ o'
-  one_away c n t rs f es chain o o' at first ends (inversion.back other h last stands a b) =
-      let same = first (at_end h last) (subst (λ x. Runs p t 1 (at_rule x) f es (at_end h last)) (same_chain t other chain stands at) a) in
-      absurd (subst IsTerminal same ends)
+  one_away c n t rs f es chain o o' at first ends (inversion.back other h last stands a b) = grind arith
   one_away c n t rs f es chain o o' at first ends (inversion.away other stands a _) =
       first o' (subst (λ x. Runs p t 1 (at_rule x) f es o') (same_chain t other chain stands at) a)
 

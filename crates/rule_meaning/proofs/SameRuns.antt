@@ -45,21 +45,11 @@ module _ {S : Type 0} (p : Program S) where
   follows : (c n : ℕ) (rs : List (List S)) (f : Facts) (es : List Event) (o : RunResult) (g : Facts)
       (later : List Event) → at_end g later ≡ at_end f es → Runs p c (n + 1) (at_rule rs) g later o
       → Runs p c (n + 1) (at_rule rs) f es o
-  follows c n rs f es o g later same = subst Next same
-    where
-      Next : RunResult → Type 0
-      Next x = elim x as (λ y. Type 0) [ at_end h e ↦ Runs p c (n + 1) (at_rule rs) h e o | over e h l ↦ ⊥ ]
+  follows c n rs f es o g later same = grind arith
 
   empty_run : (t : ℕ) (chain : List (List S)) (f : Facts) (es : List Event) (o : RunResult) → p.rules_at t ≡ Some []
       → p.rules_at t ≡ Some chain → Runs p t 1 (at_rule chain) f es o → o ≡ at_end f es
-  empty_run t chain f es o none at r = open_run p (subst (λ l. Runs p t 1 (at_rule l) f es o) (same chain (sym at ∙ none)) r)
-    where
-      same : (chain : List (List S)) → Some chain ≡ Some [] → chain ≡ []
-      same [] e = refl
-      same (x ∷ xs) e = absurd (apart e)
-        where
-          apart : Some (x ∷ xs) ≡ Some [] → ⊥
-          apart h = cc
+  empty_run t chain f es o none at r = grind arith
 
   empty_jumped : (c n t : ℕ) (rs : List (List S)) (f : Facts) (es : List Event) (o : RunResult) → p.rules_at t
       ≡ Some [] → Jumped p c n t rs f es o → Runs p c (n + 1) (at_rule rs) f es o
@@ -97,12 +87,7 @@ module _ {S : Type 0} (p : Program S) where
     behind k s ss f es (give d) is next e = absurd (none-some _ e)
 
     pub comes_through : (before : List S) (k : ℕ) (f : Facts) (es : List Event) → Comes c n k before rest rs f es g later o
-    comes_through [] k f es e =
-        let same : ◌≡◌ {A = Facts × List Event} (f, es) (g, later) = ap (λ (x : Option (Facts × List Event)). unwrap_or x (f, es)) e in
-        let on : k ≡ k + 0 = omega arith in (
-          λ r. renumbered _ _ on (subst (λ (x : Facts × List Event). Runs p c n (in_rule k rest rs) x.0 x.1 o) same r),
-          λ r. subst (λ (x : Facts × List Event). Runs p c n (in_rule k rest rs) x.0 x.1 o) (sym same) (renumbered _ _ (sym on) r),
-        )
+    comes_through [] k f es e = grind arith
     comes_through (s ∷ ss) k f es e = behind k s ss f es (p.effect_of (statement_position p c n k) s f) refl (λ h x. comes_through ss (k + 1) h x) e
 
   -- ---- statements that it doesn't pass

@@ -13,14 +13,8 @@ module _ {X : Type 0} (lt : X → X → Bool) (o : IsStrictWeakOrder lt) where
   rest_rises x xs up i j d le within = up (suc i) (suc j) d (omega arith) (omega arith)
 
   not_both : (b c : Bool) → not b && not c ≡ true → (b ≡ false) × (c ≡ false)
-  not_both true c e = absurd (true_or_false e)
-    where
-      true_or_false : false ≡ true → ⊥
-      true_or_false h = cc
-  not_both false true e = absurd (true_or_false e)
-    where
-      true_or_false : false ≡ true → ⊥
-      true_or_false h = cc
+  not_both true c e = grind arith
+  not_both false true e = grind arith
   not_both false false e = (refl, refl)
 
   neither : (b : Bool) → (b ≡ true → b ≡ false) → b ≡ false
@@ -42,10 +36,7 @@ module _ {X : Type 0} (lt : X → X → Bool) (o : IsStrictWeakOrder lt) where
   -- what ties with an element of a list is no less than a lower bound of the list
   not_less : (x y : X) (b : List X) → ((k : ℕ) (d : X) → k < length b → lt (get_or b k d) y ≡ false)
       → (x' : X) (rest : List X) → filter (ties lt x) b ≡ x' ∷ rest → lt x y ≡ false
-  not_less x y [] h x' rest e = absurd (nothing e)
-    where
-      nothing : [] ≡ x' ∷ rest → ⊥
-      nothing n = cc
+  not_less x y [] h x' rest e = grind arith
   not_less x y (z ∷ zs) h x' rest e = by_test (ties lt x z) refl (not_less x y zs (λ k d p. h (suc k) d (omega arith)) x' rest)
     where
       by_test : (b : Bool) → ties lt x z ≡ b → (filter (ties lt x) zs ≡ x' ∷ rest → lt x y ≡ false) → lt x y ≡ false
@@ -73,17 +64,10 @@ module _ {X : Type 0} (lt : X → X → Bool) (o : IsStrictWeakOrder lt) where
       ap (hd x) (sym at_x ∙ h x ∙ kept (ties lt x) y ys (tie x y low high))
 
   same_rest : (x : X) (xs ys : List X) (z : X) → filter (ties lt z) (x ∷ xs) ≡ filter (ties lt z) (x ∷ ys) → filter (ties lt z) xs ≡ filter (ties lt z) ys
-  same_rest x xs ys z e = by_test (ties lt z x) refl
-    where
-      by_test : (b : Bool) → ties lt z x ≡ b → filter (ties lt z) xs ≡ filter (ties lt z) ys
-      by_test true is = ap tl (sym (kept (ties lt z) x xs is) ∙ e ∙ kept (ties lt z) x ys is)
-      by_test false is = sym (left_out (ties lt z) x xs is) ∙ e ∙ left_out (ties lt z) x ys is
+  same_rest x xs ys z e = grind arith
 
   no_more : (y : X) (ys : List X) → filter (ties lt y) [] ≡ filter (ties lt y) (y ∷ ys) → ⊥
-  no_more y ys e = nothing (e ∙ kept (ties lt y) y ys (tie y y (itself y) (itself y)))
-    where
-      nothing : [] ≡ y ∷ filter (ties lt y) ys → ⊥
-      nothing n = cc
+  no_more y ys e = grind arith
 
   one_list : (a b : List X) → Rises a → Rises b → ((z : X) → filter (ties lt z) a ≡ filter (ties lt z) b) → a ≡ b
   one_list [] [] up up' h = refl

@@ -19,9 +19,7 @@ no_test v test e = ap (λ x. tests x test) e
 module _ (s : Selector) (f : Facts) (nothing : value s f ≡ None) where
   none_joined : (ss : List Selector) (k high : ℕ) → k < length ss → slice_index_or ss k s ≡ s → join high (map (λ x. (selector_width x, value x f)) ss) ≡ None
   none_joined [] k high within is = absurd (omega (arith, within))
-  none_joined (x ∷ xs) zero high within is =
-      ap (option_and_then (λ n. join (high * 2 ^ selector_width x + n) (map (λ y. (selector_width y, value y f)) xs)))
-      (ap (λ y. value y f) is ∙ nothing)
+  none_joined (x ∷ xs) zero high within is = grind arith
   none_joined (x ∷ xs) (suc k) high within is = by_value (value x f) (λ n. none_joined xs k (high * 2 ^ selector_width x + n) (omega arith) is)
     where
       by_value : (v : Option ℕ)
@@ -35,11 +33,7 @@ module _ (s : Selector) (f : Facts) (nothing : value s f ≡ None) where
 
   -- the one selector of a match
   only : (x : Selector) → Contains (x ∷ []) s → value x f ≡ None
-  only x has = at has.0 has.1 has.2
-    where
-      at : (k : ℕ) → k < length (x ∷ []) → slice_index_or (x ∷ []) k s ≡ s → value x f ≡ None
-      at zero within is = ap (λ y. value y f) is ∙ nothing
-      at (suc k) within is = absurd (omega (arith, within))
+  only x has = grind arith
 
   pub reads_nothing : (scope : Scope) (m : MatchTree) → Contains (selectors_of m) s → holds scope m f ≡ false
   reads_nothing scope (tree.compare x o r) has = no_test _ _ (only x has)
