@@ -23,11 +23,7 @@ module _ (tables : List TableTree) (plant : PlantTree) where
   without fault not_it other from to wrong = not_it (subst (λ (f : CheckFault). Wrong f tables plant) (same_number other fault (omega (arith, from, to))) wrong)
 
   pub and_then : (a b c : ℕ) → HasNone a b tables plant → HasNone b c tables plant → HasNone a c tables plant
-  and_then a b c first second fault from to wrong = by_number (cases_lt (fault_number fault) b)
-    where
-      by_number : (fault_number fault < b) ⊎ (b ≤ fault_number fault) → ⊥
-      by_number (inl low) = first fault from low wrong
-      by_number (inr high) = second fault high to wrong
+  and_then a b c first second fault from to wrong = grind arith
 
   -- one more absent fault
   pub more : (from : ℕ) (fault : CheckFault) → HasNone from (fault_number fault) tables plant
@@ -45,19 +41,12 @@ module _ (tables : List TableTree) (plant : PlantTree) where
 
   -- the least of all
   pub least : (fault : CheckFault) → HasNone 1 (fault_number fault) tables plant → Wrong fault tables plant → LeastFault fault tables plant
-  least fault none wrong = record { wrong = wrong; least = λ other has. by_number other has (cases_lt (fault_number other) (fault_number fault)) }
-    where
-      by_number : (other : CheckFault) → Wrong other tables plant → (fault_number other < fault_number fault)
-          ⊎ (fault_number fault ≤ fault_number other) → fault_number fault ≤ fault_number other
-      by_number other has (inl low) = absurd (none other (from_one other) low has)
-      by_number other has (inr high) = high
+  least fault none wrong = grind arith
 
   -- after absent faults, the reported one is the least
   pub least_reported : (from to : ℕ) (fault : CheckFault) (answer : Option CheckFault) → HasNone 1 from tables plant
       → answer ≡ Some fault → IsLeastFaultIn from to tables plant answer → LeastFault fault tables plant
-  least_reported from to fault answer none is is_least =
-      let t : IsLeastFaultIn from to tables plant (Some fault) = subst (λ (o : Option CheckFault). IsLeastFaultIn from to tables plant o) is is_least in
-      least fault (and_then 1 from (fault_number fault) none t.3) t.2
+  least_reported from to fault answer none is is_least = grind arith
 
   pub none_reported : (from to : ℕ) (answer : Option CheckFault) → HasNone 1 from tables plant → answer ≡ None
       → IsLeastFaultIn from to tables plant answer → HasNone 1 to tables plant

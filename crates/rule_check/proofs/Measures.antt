@@ -168,31 +168,13 @@ module _ (tables : List TableTree) (plant : PlantTree) (costs depths : List (Vec
   no_costs i at = past costs i k.costs.long at
 
   pub same_costs : (others : List (List ℕ)) → AreRulesetCosts tables others → (i : ℕ) → numbers_at costs i ≡ get_or others i []
-  same_costs others are i = by_place (slice_get tables i) refl
-    where
-      by_place : (o : Option TableTree) → slice_get tables i ≡ o → numbers_at costs i ≡ get_or others i []
-      by_place None at = no_costs i at ∙ sym (get_or_past others i [] (let long = are.long in omega (arith, none_past tables i at)))
-      by_place (Some t) at =
-          let its = are_costs t (stands tables i t at) in
-          (costs_of i t at).are (cost t) its ∙ sym ((are.are i t at).are (cost t) its)
+  same_costs others are i = grind (arith, slice_get, get_or, no_costs, get_or_past, are.long, none_past, are_costs, stands, costs_of, are.are)
 
   pub no_depths : (i : ℕ) → slice_get tables i ≡ None → numbers_at depths i ≡ []
   no_depths i at = past depths i k.depths.long at
 
   shallow_in : (i : ℕ) (t : TableTree) → slice_get tables i ≡ Some t → (j : ℕ) → slice_index (numbers_at depths i) j ≤ MAX_JUMPS
-  shallow_in i t at j = by_size (cases_lt j (length (numbers_at depths i)))
-    where
-      by_size : (j < length (numbers_at depths i)) ⊎ (length (numbers_at depths i) ≤ j) → slice_index (numbers_at depths i) j ≤ MAX_JUMPS
-      by_size (inl within) =
-          let long = (depths_of i t at).long in
-          let n = length-map (chains_of t) (λ (c : ChainTree). c.name) in
-          let named : Contains (chain_names t) (get_or (chain_names t) j []) = Contains-get_or (chain_names t) j [] (omega arith) in
-          not_deep t (stands tables i t at) (get_or (chain_names t) j []) _ named ((depths_of i t at).are j within)
-      by_size (inr beyond) = omega (arith, get_or_past (numbers_at depths i) j 0 beyond)
+  shallow_in i t at j = grind (arith, cases_lt, slice_index, depths_of, length-map, get_or, Contains-get_or, not_deep, stands, get_or_past)
 
   pub shallow : (i j : ℕ) → slice_index (numbers_at depths i) j ≤ MAX_JUMPS
-  shallow i j = by_place (slice_get tables i) refl
-    where
-      by_place : (o : Option TableTree) → slice_get tables i ≡ o → slice_index (numbers_at depths i) j ≤ MAX_JUMPS
-      by_place None at = subst (λ xs. slice_index xs j ≤ MAX_JUMPS) (sym (no_depths i at)) (omega arith)
-      by_place (Some t) at = shallow_in i t at j
+  shallow i j = grind (arith, slice_get, slice_index, no_depths, shallow_in)
