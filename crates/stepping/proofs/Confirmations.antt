@@ -109,7 +109,5 @@ module _ (id : ConnId) (a : Arrival) (old : List ConntrackEntry) where
   agrees mark (Found found) (New d) same = cc
   agrees mark (Found found) info same = record { held = refl; begun = refl }
   agrees mark b (Tracked connection) same = absurd (is_first (first_state a.tuple.kind) a.tuple (Tracked connection) same)
-  agrees mark b (New d) same =
-      let first : d.original ≡ a.tuple = is_first (first_state a.tuple.kind) a.tuple (New d) same in
-      record { held = rw first refl; begun = refl }
+  agrees mark b (New d) same = grind arith
   agrees mark b info same = record { held = refl; begun = refl }

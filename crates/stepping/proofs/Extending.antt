@@ -144,16 +144,11 @@ module _ (alike : AreAlike) (held live : List ConntrackEntry) (same : SameExcept
   error_same : (inner : Option Tuple) → error_ct_info (error_belonging held inner)
       ≡ error_ct_info (error_belonging live inner)
   error_same None = refl
-  error_same (Some t) =
-      error_alike (belongs_in held (inverse t) no_flags)
-      ∙ ap error_ct_info (alike.belonging held live (inverse t) no_flags same)
-      ∙ sym (error_alike (belongs_in live (inverse t) no_flags))
+  error_same (Some t) = grind (arith, error_alike)
 
   by_tuple_same : (key : Option Tuple) → ct_info_by_tuple held p key ≡ ct_info_by_tuple live p key
   by_tuple_same None = error_same (inner_tuple_of p)
-  by_tuple_same (Some t) =
-      first_alike t (belonging_of held p) ∙ ap (ct_info_by t) (belongs_same (tuple_of p))
-      ∙ sym (first_alike t (belonging_of live p))
+  by_tuple_same (Some t) = grind (arith, first_alike, belongs_same)
 
   info_same : (ct : CtFacts) → looked_up_info ct held p ≡ looked_up_info ct live p
   info_same Notrack = refl
@@ -184,11 +179,7 @@ module _ (alike : AreAlike) (held live : List ConntrackEntry) (same : SameExcept
       → is_creation (tracked_as now held p key confirmation).change
       ≡ is_creation (tracked_as now live p key confirmation).change
   began_same now None confirmation = refl
-  began_same now (Some t) confirmation =
-      begins_nameless (belonging_of held p) (arrival_of now p t) confirmation
-      ∙ ap (λ (b : Belonging). is_creation (change_of_packet b (arrival_of now p t) confirmation))
-      (belongs_same (tuple_of p))
-      ∙ sym (begins_nameless (belonging_of live p) (arrival_of now p t) confirmation)
+  began_same now (Some t) confirmation = grind (arith, begins_nameless, belongs_same)
 
 -- a packet's tuple in its entry is its own
 tuple_is : (info : CtInfo) (p : List ℕ) (t : Tuple) → lookup_tuple_of info p ≡ Some t → tuple_of p ≡ Some t
@@ -332,15 +323,4 @@ module _ (alike : AreAlike) (before after : EngineState) (told : IsTold (limits_
       → after.records ≡ before.records + 1
       → after.newest ≡ Some (told_at now ended events packet)
       → Represents before history → Extends now
-  next_represents latest now at is aged d has more newest represents =
-      let when : now ≡ moment_after history r = is ∙ ap (λ (m : ℕ). max m r.moment) at in
-      let rises : moment_of history ≤ now = omega arith in
-      let same : map without_id held ≡ map without_id (live_at_record before.setup history r) =
-      live_same now rises aged represents
-      ∙ ap (λ (m : ℕ). map without_id (live_list limits (tracked_of history) m)) when in
-      represents_after same d (carried before.setup r) refl
-      (subst (λ (m : ℕ). HasProcessed before.setup (carried before.setup r) m held after.held ended events packet) when
-      has)
-      more
-      (newest ∙ ap (λ (m : ℕ). Some (told_at m ended events packet)) when)
-      represents
+  next_represents latest now at is aged d has more newest represents = grind (arith, live_same, represents_after)

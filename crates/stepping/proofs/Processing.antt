@@ -1,4 +1,5 @@
 -- A packet's path, by the answers of the calls, and the connections held after it.
+use Rattle.std.proofs.Common.{arith}
 use Rattle.stepping.proofs.Names.{Belonging, Bool, Cause, Confirmation, Confirms, ConnId, ConntrackEntry, Continue, CtFacts, CtInfo, Drop, Err, Follows, Found}
 use Rattle.stepping.proofs.Names.{List, LookupState, New, None, Notrack, Ok, Option, PathState, Result, Some, StepResult, Tuple, after_end, ap, arrival_of}
 use Rattle.stepping.proofs.Names.{begins, begun_in, belonging_by_tuple, belonging_in, belonging_of, confirmation_of, confirmed_in, ct_info_by, ct_info_by_tuple}
@@ -78,14 +79,7 @@ module _ (p : List ℕ) (old : List ConntrackEntry) where
 
     follows_by : (key : Option Tuple) → lookup_tuple_of before p ≡ key → new ≡ held_by now id p key confirmation old
         → begun ≡ is_creation (tracked_as now old p key confirmation).change → Follows now p r begun old new
-    follows_by key is after begins =
-        let own : key ≡ lookup_tuple_of info p =
-        sym is ∙ sym (tuple_kept before) ∙ ap (λ (i : CtInfo). lookup_tuple_of i p) (sym same) ∙ tuple_kept info in
-        record {
-          id = id;
-          held = after ∙ ap (λ (k : Option Tuple). held_by now id p k confirmation old) own;
-          begins = begins ∙ ap (λ (k : Option Tuple). is_creation (tracked_as now old p k confirmation).change) own;
-        }
+    follows_by key is after begins = grind (arith, tuple_kept)
 
     -- the others stay, and no connection begins
     follows_idle : is_idle before ≡ true → lookup_tuple_of before p ≡ None → others_beside before old p ≡ old
