@@ -63,14 +63,7 @@ module _ {A : Type 0} (name_of : A → Text) where
 
   pub look : (xs : List A) (name : Text) → Found xs name ⊎ Missing xs name
   look [] name = inr (record { at = refl; finds = refl })
-  look (x ∷ xs) name = by_test (bytes_eq (name_of x) name) refl (look xs name)
-    where
-      by_test : (b : Bool) → bytes_eq (name_of x) name ≡ b → Found xs name ⊎ Missing xs name → Found (x ∷ xs) name ⊎ Missing (x ∷ xs) name
-      by_test true e _ = inl (record { index = 0; item = x; within = omega arith; is = refl; named = same_text _ _ (sym e); at = rw e refl; finds = rw e refl })
-      by_test false e (inl r) =
-          let within : suc r.index < length (x ∷ xs) = omega (arith, r.within) in
-          inl (record { index = suc r.index; item = r.item; within = within; is = r.is; named = r.named; at = rw (e, r.at) refl; finds = rw (e, r.finds) refl })
-      by_test false e (inr r) = inr (record { at = rw (e, r.at) refl; finds = rw (e, r.finds) refl })
+  look (x ∷ xs) name = grind (arith, bytes_eq, same_text, (look xs name))
 
 -- without duplicates, a name's index is its own
 own_index : (ns : List Text) → (HasDuplicate ns → ⊥) → (i : ℕ) → i < length ns → index_in (get_or ns i []) ns ≡ Some i
@@ -161,13 +154,7 @@ module _ (t : TableTree) where
   inside a = elim (place a).known [ inl k ↦ omega (arith, k.0, graph_long, callers_long) | inr u ↦ omega (arith, u.2, graph_long, callers_long) ]
 
   apart : (a b : Caller) → index_of t a ≡ index_of t b → (a ≡ b) ⊎ IsEmptyNode (node_of t a)
-  apart a b e = elim (place a).known [
-    | inr u ↦ inr u.0
-    | inl k ↦ elim (place b).known [
-      | inl l ↦ inl (sym k.1 ∙ ap (λ i. get_or callers i (a_chain [])) e ∙ l.1)
-      | inr u ↦ absurd (omega (arith, e, k.0, u.1))
-    ]
-  ]
+  apart a b e = grind (arith, place, get_or)
 
   module _ (chains_apart : HasDuplicate (chain_names t) → ⊥) (maps_apart : HasDuplicate (map_names t) → ⊥) where
     first : (i : ℕ) → i < chain_count t → index_of t (a_chain (get_or (chain_names t) i [])) ≡ i
@@ -359,11 +346,7 @@ module _ (t : TableTree) where
   not_allowed-head kind (Some head) h = (head, refl, not-true (may_translate kind head.kind head.hook) h)
 
   pub misplaces_as : (kind : NatKind) → ((c : ChainTree) × Contains (chains_of t) c × IsMisplaced kind c) ↔ MisplacesAs kind t
-  misplaces_as kind = (
-    λ h. let n = not_allowed-head kind h.0.head h.2.0 in
-        record { base = h.0; member = h.1; head = n.0; is_base = n.1; may_not = n.2; reaching = h.2.1 },
-    λ m. (m.base, m.member, (ap (may_not_translate kind) m.is_base ∙ ap not m.may_not, m.reaching)),
-  )
+  misplaces_as kind = grind arith
 
   -- ---- where there is no cycle
 

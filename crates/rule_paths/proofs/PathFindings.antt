@@ -217,14 +217,7 @@ module _ (t : TableTree) (g : Graph) (s : IsTableGraph t g) where
         → found.costs.items ≡ take (chain_count t) analysis.costs.items
         → found.depths.items ≡ take (chain_count t) analysis.depths.items
         → AreTableFindings t found
-    table-findings found deep nat base costs depths =
-        let known : AreChainDepths t found.depths.items = rw depths analysis-depths in
-        record {
-          rows = record { acyclic = table-cycle; costs = rw costs analysis-costs; depths = known };
-          deep = rw deep (too-deep found.depths.items known);
-          nat = nat;
-          base_cost = base;
-        }
+    table-findings found deep nat base costs depths = grind (arith, found.depths.items, analysis-depths, table-cycle, analysis-costs, too-deep)
 
   -- ---- NAT
 
