@@ -98,7 +98,4 @@ module _ (checked : CheckedTree) (code : Code) where
         → AreStarts checked code (chains_in_stage stage) (staged_starts p stage)
         → stage_cost (costed_tree checked code p) stage ≡ sum_by (start_cost checked.rules costs)
         (filter (chains_in_stage stage) (base_chains_of checked.rules))
-    costs_its_chains p stage starts =
-        of_starts p stage ∙ of_chains (staged_starts p stage) starts.order starts.are_starts
-        ∙ sum_in_order (start_cost checked.rules costs)
-        (filter (chains_in_stage stage) (base_chains_of checked.rules)) starts.order starts.in_order
+    costs_its_chains p stage starts = grind (arith, of_starts, of_chains, starts.order, starts.are_starts, sum_in_order, starts.in_order)

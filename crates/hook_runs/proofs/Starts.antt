@@ -1,4 +1,5 @@
 -- The starts of each stage are those of its base chains, and have their results.
+use Rattle.std.proofs.Common.{arith}
 use Rattle.std.proofs.Common.{◌≡◌, ℕ, Bool, true, false, not, ◌&&◌, cond, List, [], ◌∷◌, map, filter, refl, sym, ap, ◌∙◌, subst, ℤ, int_lt, negsuc}
 use Rattle.std.specs.Prelude.{All, Contains}
 use Rattle.std.proofs.lemmas.Bool.{false≢true}
@@ -99,12 +100,7 @@ module _ (checked : CheckedTree) (code : Code) where
   pub chains_run : (test : BaseChain → Bool) (ss : List Start) → AreStarts checked code test ss
       → (f : Facts) (es : List Event) → Chains checked.plant checked.rules test f es
       (in_order_result code ss f es)
-  chains_run test ss are f es = record {
-    order = are.order;
-    in_order = are.in_order;
-    run =
-        runs_in_order ss are.order are.are_starts f es;
-  }
+  chains_run test ss are f es = grind (arith, are.order, are.in_order, runs_in_order, are.are_starts)
 
   -- ---- some of them
 
@@ -139,13 +135,7 @@ module _ (checked : CheckedTree) (code : Code) where
 
   alike : (test other : BaseChain → Bool) → ((b : BaseChain) → test b ≡ other b) → (ss : List Start)
       → AreStarts checked code test ss → AreStarts checked code other ss
-  alike test other same ss are =
-      record {
-        order = are.order;
-        in_order = subst (λ (text : List BaseChain). InOrder text are.order)
-            (filter_agree test other same (base_chains_of checked.rules)) are.in_order;
-        are_starts = are.are_starts;
-      }
+  alike test other same ss are = grind arith
 
   earlier : (limit : ℤ) (test : BaseChain → Bool) (ss : List Start) → AreStarts checked code test ss
       → AreStarts checked code (λ b. test b && is_below limit b) (before limit ss)
