@@ -1,7 +1,6 @@
-mod BitWidths
-mod Gathered
-mod Unions
+mod Names
+mod Remaining
+mod Entries
+mod Widths
 mod Pairwise
-mod Found
-mod Kept
-mod Chosen
+mod ByName

@@ -1,7 +1,7 @@
 //! Lookup tables for the sets and maps that a table declares.
 ghost use Rattle.std.specs.Prelude.{◌≡◌, false, map, IfOk};
 ghost use Rattle.nft_tree.specs.Tree.{map_tree, pair_tree, set_tree};
-ghost use Rattle.nft_tree.specs.TableItems.{maps_of, sets_of};
+ghost use Rattle.nft_tree.specs.TableItems.{sets_of};
 ghost use Rattle.rule_types.specs.Types.{is_too_wide, table_mismatches};
 ghost use Rattle.rule_names.specs.Names.{some_of};
 ghost use Rattle.nft_tree.specs.ComparedTypes.{key_compared_types};
@@ -103,38 +103,6 @@ fn declared_numbers(
     }
 }
 
-/// The verdict tables of the declared maps, in text order.
-fn all_verdicts(
-    alloc: Global,
-    plant: &Plant,
-    names: &TableNames,
-) -> Result<Vec<Intervals<RuleVerdict>>, AllocError>
-    ensures { IfOk result (λ tables.
-        AllPairs (IsMapVerdicts plant.now names.now) (maps_of names.now) tables.items) }
-{
-    let mut tables = Vec::new(alloc);
-    for map in names.maps() {
-        tables.push(declared_verdicts(alloc, plant, names, map)?)?;
-    }
-    Ok(tables)
-}
-
-/// The number tables of the declared maps, in text order.
-fn all_numbers(
-    alloc: Global,
-    plant: &Plant,
-    names: &TableNames,
-) -> Result<Vec<Intervals<u32>>, AllocError>
-    ensures { IfOk result (λ tables.
-        AllPairs (IsMapNumbers plant.now) (maps_of names.now) tables.items) }
-{
-    let mut tables = Vec::new(alloc);
-    for map in names.maps() {
-        tables.push(declared_numbers(alloc, plant, map)?)?;
-    }
-    Ok(tables)
-}
-
 /// The lookup tables of the sets and maps that a table declares, in text order, on a box.
 ///
 /// # Errors
@@ -143,9 +111,16 @@ pub fn declared(alloc: Global, plant: &Plant, names: &TableNames) -> Result<Look
     requires types { table_mismatches names.now ≡ false }
     ensures { IfOk result (λ lookups. HasDeclared plant.now names.now lookups) }
 {
+    let sets = declared_sets(alloc, plant, names)?;
+    let mut verdicts = Vec::new(alloc);
+    let mut numbers = Vec::new(alloc);
+    for map in names.maps() {
+        verdicts.push(declared_verdicts(alloc, plant, names, map)?)?;
+        numbers.push(declared_numbers(alloc, plant, map)?)?;
+    }
     Ok(Lookups {
-        sets: declared_sets(alloc, plant, names)?,
-        verdicts: all_verdicts(alloc, plant, names)?,
-        numbers: all_numbers(alloc, plant, names)?,
+        sets,
+        verdicts,
+        numbers,
     })
 }

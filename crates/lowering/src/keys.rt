@@ -1,9 +1,9 @@
 //! The numbers of keys: the elements of sets and maps as intervals.
-ghost use Rattle.std.specs.Prelude.{◌≡◌, ◌+◌, ◌*◌, ◌^◌, ◌≤◌, false, map, IfOk};
+ghost use Rattle.std.specs.Prelude.{◌≡◌, ◌+◌, ◌*◌, ◌^◌, ◌<◌, false, map, IfOk};
 ghost use Rattle.std.specs.Option.{option_map};
 ghost use Rattle.nft_tree.specs.Tree.{key_tree, set_type_tree, value_tree};
 ghost use Rattle.nft_tree.specs.ComparedTypes.{key_compared_types, selector_compared_type};
-ghost use Rattle.nft_values.specs.Values.{span_of};
+ghost use Rattle.nft_values.specs.Values.{compared_type_width, span_of};
 ghost use Rattle.rule_types.specs.Types.{is_too_wide};
 ghost use Rattle.rule_meaning.specs.Sets.{key_numbers, parts};
 ghost use Rattle.rule_meaning.specs.Selectors.{join};
@@ -50,13 +50,18 @@ pub(crate) fn key_compared_types(
     }
 }
 
-/// The number, shifted left.
-fn shifted(number: u128, bits: u32) -> u128
-    requires { (number + 1) * 2 ^ bits ≤ 2 ^ 128 }
-    ensures { result ≡ number * 2 ^ bits }
+/// The number with the next one, of this type, behind it.
+fn appended(number: u128, kind: ComparedType, next: u128) -> u128
+    requires { number * 2 ^ compared_type_width kind + next < 2 ^ 128 }
+    ensures { result ≡ number * 2 ^ compared_type_width kind + next }
 {
+    let bits = width(kind);
     // Nothing fits before 128 bits or more: the number is 0.
-    if bits >= 128 { 0 } else { number << bits }
+    if bits >= 128 {
+        next
+    } else {
+        (number << bits) + next
+    }
 }
 
 /// The concatenation of values of these types, the first one in the highest bits. `None` where a
@@ -65,13 +70,14 @@ fn concatenated(plant: &Plant, kinds: &[ComparedType], values: &[Value]) -> Opti
     requires { is_too_wide kinds.now ≡ false }
     ensures { result ≡ join 0 (parts plant.now kinds.now (map value_tree values.now)) }
 {
-    if kinds.len() != values.len() {
-        return None;
-    }
     let mut number = 0;
     for (part, kind) in kinds.iter().enumerate() {
-        let next = value_numbers(plant, *kind, &values[part])?.low();
-        number = shifted(number, width(*kind)) + next;
+        let value = values.get(part)?;
+        let next = value_numbers(plant, *kind, value)?.low();
+        number = appended(number, *kind, next);
+    }
+    if values.len() > kinds.len() {
+        return None;
     }
     Some(number)
 }

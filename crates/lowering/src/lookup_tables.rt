@@ -1,11 +1,12 @@
 //! Lookup tables that actions refer to by index.
 ghost use Rattle.std.specs.Prelude.{◌≡◌, false, map, slice_get, IfOk, OnOk};
-ghost use Rattle.nft_tree.specs.Tree as tree;
-ghost use Rattle.nft_tree.specs.Tree.{TableTree, element_tree, map_ref_tree, pair_tree, set_ref_tree};
+ghost use Rattle.std.specs.Option.{option_map};
+ghost use Rattle.nft_tree.specs.Tree.{element_tree, map_ref_tree, pair_tree, set_ref_tree};
 ghost use Rattle.nft_tree.specs.ComparedTypes.{selector_compared_type};
 ghost use Rattle.nft_tree.specs.declared.compared_types.ComparedType.TheVariants.{Named};
 ghost use Rattle.rule_types.specs.Types.{is_too_wide, lookup_mismatches, map_ref_mismatches};
-ghost use Rattle.rule_meaning.specs.Sets.{elements_have, set_has};
+ghost use Rattle.rule_meaning.specs.Sets.{data_number, data_verdict, elements_have, map_gives, pairs_give, set_has};
+ghost use Rattle.rule_meaning.specs.Statements.{rule_verdict_of};
 ghost use Rattle.lowering.specs.Lowered.{Extends, HasDeclared, Keeps};
 ghost use Rattle.lowering.specs.steps.Tables.{IsNumberType};
 ghost use Rattle.lowering.specs.steps.Actions.{HasNumbers, HasSet, HasVerdicts, scope_of};
@@ -86,8 +87,9 @@ fn add_verdicts(
     lookups: &mut Lookups,
 ) -> Result<usize, AllocError>
     ensures extends { OnOk result (Extends lookups.old lookups.new) }
-    ensures gives { IfOk result (HasVerdicts plant.now names.now lookups.new selector
-        (tree.pairs (map pair_tree pairs.now))) }
+    ensures gives { IfOk result (HasVerdicts lookups.new (λ n. option_map (rule_verdict_of names.now)
+        (pairs_give data_verdict plant.now (selector_compared_type selector)
+        (map pair_tree pairs.now) n))) }
 {
     let table = verdict_table(alloc, plant, names, selector.kind(), pairs)?;
     add_table(&mut lookups.verdicts, table)
@@ -106,8 +108,9 @@ pub(crate) fn verdict_map_index(
     requires declared { HasDeclared plant.now names.now lookups.old }
     requires types { map_ref_mismatches names.now selector None (map_ref_tree map.now) ≡ false }
     ensures extends { OnOk result (Extends lookups.old lookups.new) }
-    ensures gives { IfOk result (HasVerdicts plant.now names.now lookups.new selector
-        (map_ref_tree map.now)) }
+    ensures gives { IfOk result (HasVerdicts lookups.new (λ n. option_map (rule_verdict_of names.now)
+        (map_gives data_verdict (scope_of plant.now names.now) selector (map_ref_tree map.now)
+        n))) }
 {
     match map {
         MapRef::Named(name) => match names.map_index(name) {
@@ -130,9 +133,9 @@ fn add_numbers(
 ) -> Result<usize, AllocError>
     requires { IsNumberType given }
     ensures extends { OnOk result (Extends lookups.old lookups.new) }
-    ensures gives { IfOk result (λ i. (t : TableTree)
-        → HasNumbers plant.now t lookups.new selector given (tree.pairs (map pair_tree pairs.now))
-        i) }
+    ensures gives { IfOk result (HasNumbers lookups.new
+        (pairs_give (data_number plant.now (Named given)) plant.now
+        (selector_compared_type selector) (map pair_tree pairs.now))) }
 {
     let table = number_table(alloc, plant, selector.kind(), given, pairs)?;
     add_table(&mut lookups.numbers, table)
@@ -154,8 +157,9 @@ pub(crate) fn number_map_index(
     requires types { map_ref_mismatches names.now selector (Some (Named given))
         (map_ref_tree map.now) ≡ false }
     ensures extends { OnOk result (Extends lookups.old lookups.new) }
-    ensures gives { IfOk result (HasNumbers plant.now names.now lookups.new selector given
-        (map_ref_tree map.now)) }
+    ensures gives { IfOk result (HasNumbers lookups.new
+        (map_gives (data_number plant.now (Named given)) (scope_of plant.now names.now) selector
+        (map_ref_tree map.now))) }
 {
     match map {
         MapRef::Named(name) => match names.map_index(name) {

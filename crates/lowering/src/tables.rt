@@ -1,10 +1,11 @@
 //! Tables of intervals for sets and maps.
 ghost use Rattle.std.specs.Prelude.{◌≡◌, ℕ, false, map, slice_get, is_some, IfOk, OnOk, IfSome};
-ghost use Rattle.std.specs.Option.{option_map};
+ghost use Rattle.std.specs.Option.{option_map, option_or};
+ghost use Rattle.set_intervals.specs.Pairs.{first_value};
 ghost use Rattle.nft_tree.specs.Tree.{data_tree, element_tree, pair_tree, verdict_tree};
 ghost use Rattle.nft_tree.specs.declared.compared_types.ComparedType.TheVariants.{Named};
 ghost use Rattle.rule_types.specs.Types.{is_too_wide};
-ghost use Rattle.rule_meaning.specs.Sets.{data_number, data_verdict, pair_gives};
+ghost use Rattle.rule_meaning.specs.Sets.{data_number, data_verdict, key_numbers, pair_gives, spans};
 ghost use Rattle.rule_meaning.specs.Statements.{chain_number, rule_verdict_of};
 ghost use Rattle.lowering.specs.Lowered.{Keeps};
 ghost use Rattle.lowering.specs.steps.Tables.{IsNumberTable, IsNumberType, IsSetTable, IsVerdictTable, entry_gives};
@@ -47,6 +48,30 @@ pub(crate) fn rule_verdict(names: &TableNames, verdict: &Verdict) -> Result<Rule
     })
 }
 
+/// Appends an entry, if there is one. It counts for the numbers that no earlier entry has.
+fn push_entry<V: Drop>(
+    entries: &mut Vec<(Range, V)>,
+    entry: Option<(Range, V)>,
+) -> Result<(), AllocError>
+    ensures { OnOk result ((n : ℕ) → first_value entries.new.items n
+        ≡ option_or (first_value entries.old.items n) (entry_gives entry n)) }
+{
+    if let Some(entry) = entry {
+        entries.push(entry)?;
+    }
+    Ok(())
+}
+
+/// The interval of an element's key; `None` where it has no number of these types.
+fn element_entry(plant: &Plant, kinds: &[ComparedType], element: &Element) -> Option<(Range, ())>
+    requires { is_too_wide kinds.now ≡ false }
+    ensures { (n : ℕ) → is_some (entry_gives result n)
+        ≡ spans (key_numbers plant.now kinds.now (element_tree element.now).key) n }
+{
+    let range = key_numbers(plant, kinds, &element.key)?;
+    Some((range, ()))
+}
+
 /// The intervals of elements of these types. An element that has none is left out.
 fn element_pairs(
     alloc: Global,
@@ -60,9 +85,7 @@ fn element_pairs(
 {
     let mut pairs = Vec::new(alloc);
     for element in elements {
-        if let Some(range) = key_numbers(plant, kinds, &element.key) {
-            pairs.push((range, ()))?;
-        }
+        push_entry(&mut pairs, element_entry(plant, kinds, element))?;
     }
     Ok(pairs)
 }
@@ -127,9 +150,7 @@ fn verdict_pairs(
 {
     let mut entries = Vec::new(alloc);
     for pair in pairs {
-        if let Some(entry) = verdict_entry(plant, names, kind, pair)? {
-            entries.push(entry)?;
-        }
+        push_entry(&mut entries, verdict_entry(plant, names, kind, pair)?)?;
     }
     Ok(entries)
 }
@@ -194,9 +215,7 @@ fn number_pairs(
 {
     let mut entries = Vec::new(alloc);
     for pair in pairs {
-        if let Some(entry) = number_entry(plant, kind, given, pair) {
-            entries.push(entry)?;
-        }
+        push_entry(&mut entries, number_entry(plant, kind, given, pair))?;
     }
     Ok(entries)
 }

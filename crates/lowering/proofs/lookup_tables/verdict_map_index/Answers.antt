@@ -1,15 +1,17 @@
-use Rattle.std.proofs.Common.{ap}
-use Rattle.std.proofs.lemmas.Result.{IfOk-weaker}
-use Rattle.nft_tree.specs.Tree.{map_ref_tree}
-use Rattle.lowering.proofs.Kept.{named-verdicts, absent-verdicts}
+use Rattle.lowering.proofs.Names.{IfOk-weaker, MapTree, None, map_data_compared_type, maps_of, same}
+use Rattle.lowering.proofs.ByName.{by_name, has-verdicts, named-map, stays}
 use Rattle.lowering.proofs.lookup_tables.verdict_map_index.Goals as goal
 
 pub returns-in-Some-clause-gives : goal.returns-in-Some-clause-gives
-returns-in-Some-clause-gives c = named-verdicts c.args.plant.now c.args.names.now c.args.lookups.now c.args.selector
-    (map_ref_tree c.args.map.now) c.in-Named.name.items c.in-Some.place (ap map_ref_tree c.in-Named.is) c.requires.declared (cc)
-    c.requires.types
+returns-in-Some-clause-gives c later grown n =
+    let t = c.args.names.now in
+    let i = c.in-Some.place in
+    let m = named-map t c.args.selector None c.in-Named.name.items i (cc) (rw c.in-Named.is at c.requires.types) in
+    rw (c.in-Named.is, m.2) (stays _ later.verdicts.items i same _ (has-verdicts c.args.plant.now t c.args.lookups.now i m.0
+    (map_data_compared_type m.0.types) m.3 (c.requires.declared.maps i m.0 m.1)) grown.verdicts n)
 
 pub returns-in-None-clause-gives : goal.returns-in-None-clause-gives
-returns-in-None-clause-gives c = IfOk-weaker c.add_verdicts.result _ _
-    (λ i has. absent-verdicts c.args.plant.now c.args.names.now c.add_verdicts.new.lookups c.args.selector
-    (map_ref_tree c.args.map.now) c.in-Named.name.items i (ap map_ref_tree c.in-Named.is) (cc) has) c.add_verdicts.ensures.gives
+returns-in-None-clause-gives c = IfOk-weaker c.add_verdicts.result _ _ (λ i has later grown n. rw (
+  c.in-Named.is,
+  by_name (λ (d : MapTree). d.name) c.in-Named.name.items (maps_of c.args.names.now) None (cc),
+) (has later grown n)) c.add_verdicts.ensures.gives

@@ -1,17 +1,14 @@
-use Rattle.std.proofs.Common.{sym, subst}
-use Rattle.nft_tree.specs.Tree.{map_ref_tree, statement}
-use Rattle.rule_meaning.specs.Statements.{statement_effect}
-use Rattle.rule_code.specs.declared.code.Action.TheVariants.{LookUpVerdict}
-use Rattle.lowering.specs.steps.Actions.{HasEffect, scope_of}
-use Rattle.lowering.proofs.Chosen.{chosen}
+use Rattle.lowering.proofs.Names.{None, Option, Some, VerdictTree, arith, give, option_and_then, option_map, refl, with_value, ℕ, ◌≡◌}
+use Rattle.rule_meaning.specs.declared.event.RuleVerdict.{RuleVerdict}
 use Rattle.lowering.proofs.statements.action.Goals as goal
 
+-- a lookup in a table of what a map gives has the map's effect
+looked_up : (f : VerdictTree → RuleVerdict) (read : Option ℕ) (has : ℕ → Option RuleVerdict) (gives : ℕ → Option VerdictTree)
+    → ((n : ℕ) → has n ≡ option_map f (gives n))
+    → with_value give (option_and_then has read) ≡ with_value (λ v. give (f v)) (option_and_then gives read)
+looked_up f None has gives same = refl
+looked_up f (Some n) has gives same = grind arith
+
 pub returns-in_ok-verdict_map_index-in-VerdictMap-clause-effect : goal.returns-in_ok-verdict_map_index-in-VerdictMap-clause-effect
-returns-in_ok-verdict_map_index-in-VerdictMap-clause-effect c =
-    subst (λ s. HasEffect c.verdict_map_index.new.lookups
-    (statement_effect (scope_of c.args.plant.now c.args.names.now) c.args.position (statement s))
-    (LookUpVerdict c.in-VerdictMap.selector c.in_ok-verdict_map_index-in-VerdictMap.field-0))
-    (sym c.in-VerdictMap.is)
-    (chosen c.args.plant.now c.args.names.now c.verdict_map_index.new.lookups c.in-VerdictMap.selector
-    (map_ref_tree c.in-VerdictMap.map) c.in_ok-verdict_map_index-in-VerdictMap.field-0 c.args.position
-    c.in_ok-verdict_map_index-in-VerdictMap.ensures.gives)
+returns-in_ok-verdict_map_index-in-VerdictMap-clause-effect c = rw c.in-VerdictMap.is (λ later grown f.
+    looked_up _ _ _ _ (c.in_ok-verdict_map_index-in-VerdictMap.ensures.gives later grown))

@@ -1,11 +1,8 @@
-use Rattle.std.proofs.Common.{map, take}
-use Rattle.nft_tree.specs.declared.compared_types.ComparedType.TheVariants.{Named}
-use Rattle.nft_tree.specs.Tree.{pair_tree}
-use Rattle.rule_meaning.specs.Sets.{data_number}
-use Rattle.lowering.proofs.Gathered.{IsTableOf}
+use Rattle.lowering.proofs.Names.{Named, data_number, drop, first_value, map, option_or, pair_tree, pairs_give, ℕ, ◌≡◌}
 use Rattle.lowering.proofs.tables.number_pairs.Given as goal
 
--- the intervals of the elements so far
+-- with the elements that are left, the map of all
 abbrev pub invariant-loop-pair : goal.invariant-loop-pair
-invariant-loop-pair l = IsTableOf (data_number l.plant (Named l.given)) l.plant l.kind
-    (map pair_tree (take l.pair-index l.pairs)) l.entries.items
+invariant-loop-pair l = (n : ℕ) → option_or (first_value l.entries.items n)
+    (pairs_give (data_number l.plant (Named l.given)) l.plant l.kind (map pair_tree (drop l.pair-index l.pairs)) n)
+    ≡ pairs_give (data_number l.plant (Named l.given)) l.plant l.kind (map pair_tree l.pairs) n

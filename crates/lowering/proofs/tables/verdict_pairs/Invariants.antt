@@ -1,12 +1,8 @@
-use Rattle.std.proofs.Common.{map, take}
-use Rattle.std.specs.Option.{option_map}
-use Rattle.nft_tree.specs.Tree.{pair_tree}
-use Rattle.rule_meaning.specs.Sets.{data_verdict}
-use Rattle.rule_meaning.specs.Statements.{rule_verdict_of}
-use Rattle.lowering.proofs.Gathered.{IsTableOf}
+use Rattle.lowering.proofs.Names.{data_verdict, drop, first_value, map, option_map, option_or, pair_tree, pairs_give, rule_verdict_of, ℕ, ◌≡◌}
 use Rattle.lowering.proofs.tables.verdict_pairs.Given as goal
 
--- the intervals of the elements so far
+-- with the elements that are left, the map of all
 abbrev pub invariant-loop-pair : goal.invariant-loop-pair
-invariant-loop-pair l = IsTableOf (λ d. option_map (rule_verdict_of l.names) (data_verdict d)) l.plant l.kind
-    (map pair_tree (take l.pair-index l.pairs)) l.entries.items
+invariant-loop-pair l = (n : ℕ) → option_or (first_value l.entries.items n) (option_map (rule_verdict_of l.names)
+    (pairs_give data_verdict l.plant l.kind (map pair_tree (drop l.pair-index l.pairs)) n))
+    ≡ option_map (rule_verdict_of l.names) (pairs_give data_verdict l.plant l.kind (map pair_tree l.pairs) n)
