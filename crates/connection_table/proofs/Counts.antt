@@ -1,9 +1,8 @@
 -- The holders of a mapping in lists made of others.
-use Rattle.std.proofs.Common.{◌≡◌, ◌+◌, ◌≤◌, cond, List, [], ◌∷◌, ◌++◌, ◌⊎◌, inl, inr}
+use Rattle.std.proofs.Common.{◌≡◌, ◌+◌, ◌≤◌, cond, List, ◌∷◌, ◌++◌}
 use Rattle.std.proofs.Common.{Option, Some, None, length, arith}
 use Rattle.std.specs.List.{Contains}
 use Rattle.std.proofs.lemmas.List.Sums.{sum_by-append, count_by-le-length}
-use Rattle.std.proofs.lemmas.List.Elements.{Contains-push_cases}
 use Rattle.nat_mapping.specs.steps.Holders.{holders_cons}
 use Rattle.ip_headers.specs.declared.tuple.Mapping.{Mapping}
 use Rattle.nat_mapping.specs.Mappings.{HoldsSame, holders_of, same_mapping}

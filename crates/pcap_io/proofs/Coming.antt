@@ -1,6 +1,6 @@
 -- The bytes to come, while more are read.
-use Rattle.std.proofs.Common.{◌≡◌, ℕ, ◌-◌, ◌<◌, Bool, true, false, cond, List, [], ◌++◌, length, inl, inr, Option}
-use Rattle.std.proofs.Common.{Some, None, IfSome, Result, Ok, Err, refl, sym, ap, ◌∙◌, arith, append_assoc}
+use Rattle.std.proofs.Common.{◌≡◌, ℕ, ◌-◌, ◌<◌, Bool, true, false, cond, List, [], ◌++◌, length, Option}
+use Rattle.std.proofs.Common.{Some, None, IfSome, Result, Ok, Err, refl, ap, arith, append_assoc}
 use Rattle.std.proofs.Common.{append-nil, length-append}
 use Rattle.std.proofs.lemmas.Bool.{false≢true}
 use Rattle.std.specs.Io.KnownBytes.{IsAtEnd, Keeps, prepend_known}

@@ -1,10 +1,9 @@
 -- The header of a file, and what is read of it.
 use Rattle.std.proofs.Common.{◌≡◌, ℕ, ◌≤◌, Bool, true, false, cond, List, ◌++◌, length, drop, ◌⊎◌, inl, inr, Option}
-use Rattle.std.proofs.Common.{Some, None, IfSome, Ok, Err, refl, sym, ap, ◌∙◌, arith, append-nil, length-append}
+use Rattle.std.proofs.Common.{Some, None, IfSome, Ok, Err, refl, arith, append-nil, length-append}
 use Rattle.std.proofs.lemmas.Bool.{le-ltb}
 use Rattle.std.proofs.lemmas.List.{drop-append-le}
 use Rattle.std.specs.Io.KnownBytes.{Consumes, IsAtEnd, prepend_known}
-use Rattle.std.specs.Result.{result_err}
 use Rattle.pcap_io.specs.declared.fault.CaptureFault.{CaptureFault}
 use Rattle.pcap_io.specs.declared.format.Endianness.{Endianness}
 use Rattle.pcap_io.specs.declared.format.Endianness.TheVariants.{Little, Big}

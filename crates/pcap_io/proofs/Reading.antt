@@ -9,7 +9,7 @@ use Rattle.std.specs.Result.{result_err}
 use Rattle.pcap_io.specs.declared.fault.CaptureFault.{CaptureFault}
 use Rattle.pcap_io.specs.declared.format.Format.{Format}
 use Rattle.pcap_io.specs.Pcap.{Captured, frame, IsRecord, IsGood, format_of, header_fault}
-use Rattle.pcap_io.specs.Pcap.{captured_length_in, fraction_in, stream_of, Ending, Ends}
+use Rattle.pcap_io.specs.Pcap.{captured_length_in, stream_of, Ending, Ends}
 use Rattle.pcap_io.specs.Pcap.{Pcap, HEADER_BYTES, MOST_RECORDS}
 use Rattle.pcap_io.proofs.Endings.{begins_at, begins_from, ending_at, ending_from, ends_from}
 use Rattle.pcap_io.proofs.Steps.{captured_length_kept, fraction_kept, captured_of, joined_of, is_record_of}

@@ -14,7 +14,7 @@ use Rattle.chain_graph.specs.Graph.{Call, greatest, chain_cost, node_cost}
 use Rattle.rule_names.specs.Names.{index_in, chain_named, target_of, data_target, pair_targets, one_or_none}
 use Rattle.rule_names.specs.Names.{statement_targets, rule_targets, some_of, item_targets, targets_of}
 use Rattle.list_laws.specs.Decisions.{Contains-none, Contains-cases}
-use Rattle.rule_paths.specs.Paths.{Caller, a_chain, a_map, verdict_calls, data_calls, pair_calls, statement_calls, chain_node, map_node, AreCosts}
+use Rattle.rule_paths.specs.Paths.{Caller, a_chain, verdict_calls, data_calls, pair_calls, statement_calls, chain_node, AreCosts}
 use Rattle.rule_meaning.specs.declared.event.RuleVerdict.{RuleVerdict}
 use Rattle.rule_meaning.specs.declared.event.RuleVerdict.TheVariants as decisions
 use Rattle.rule_meaning.specs.Statements.{chain_number}

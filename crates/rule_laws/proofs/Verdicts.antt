@@ -9,7 +9,7 @@ use Rattle.nft_tree.specs.declared.statement.MarkField.{MarkField}
 use Rattle.nft_tree.specs.declared.statement.MarkField.TheVariants as marks
 use Rattle.nft_tree.specs.Tree as tree
 use Rattle.nft_tree.specs.Tree.{Text, VerdictTree, DataTree, PairTree, MapRefTree, Statement, MapTree, TableTree}
-use Rattle.nft_tree.specs.ComparedTypes.{selector_compared_type, map_key_compared_type}
+use Rattle.nft_tree.specs.ComparedTypes.{selector_compared_type}
 use Rattle.nft_values.specs.Values.{numbers_of}
 use Rattle.box_file.specs.Box.{PlantTree}
 use Rattle.rule_names.specs.Names.{map_named, some_of}

@@ -6,7 +6,7 @@ use Rattle.rule_meaning.specs.declared.event.RuleVerdict.TheVariants.{Accept, Dr
 use Rattle.rule_meaning.specs.declared.event.Event.{Event}
 use Rattle.rule_meaning.specs.Statements.{pass, fail, note, give}
 use Rattle.rule_meaning.specs.Runs as runs
-use Rattle.rule_meaning.specs.Runs.{Program, Remainder, at_rule, in_rule, RunResult, at_end, over, IsTerminal, Runs}
+use Rattle.rule_meaning.specs.Runs.{Program, Remainder, at_rule, RunResult, at_end, over, IsTerminal, Runs}
 use Rattle.rule_meaning.proofs.Inversion as inversion
 use Rattle.rule_meaning.proofs.Inversion.{Jumped, Gone, open_run, saying}
 

@@ -1,5 +1,5 @@
 -- Remainders of chains with the same results.
-use Rattle.std.proofs.Common.{◌≡◌, ◌↔◌, ℕ, ◌+◌, List, [], ◌∷◌, ◌++◌, length, Option, Some, None, unwrap_or, append-nil, refl, sym, ap, ◌∙◌, subst, arith}
+use Rattle.std.proofs.Common.{◌≡◌, ◌↔◌, ℕ, ◌+◌, List, [], ◌∷◌, ◌++◌, length, Some, None, append-nil, refl, sym, subst, arith}
 use Rattle.std.proofs.lemmas.Option.{none-some}
 use Rattle.nft_tree.specs.Tree as tree
 use Rattle.nft_tree.specs.Tree.{Statement, TableTree}
@@ -16,7 +16,7 @@ use Rattle.rule_meaning.specs.Runs.{Program, table_program, Remainder, at_rule, 
 use Rattle.rule_meaning.specs.Runs.{IsTerminal, Runs, statement_position, with_verdict}
 use Rattle.rule_meaning.specs.Laws.{state_after, state_behind, EmptyJump, CounterCounts, UnreachedHasNoEffect}
 use Rattle.rule_meaning.proofs.Inversion as inversion
-use Rattle.rule_meaning.proofs.Inversion.{Jumped, Decided, open_run, saying}
+use Rattle.rule_meaning.proofs.Inversion.{Jumped, Decided, saying}
 
 module _ {S : Type 0} (p : Program S) where
   -- ---- from a statement's effect to the run

@@ -1,6 +1,6 @@
 -- Matches whose selector has no value.
 use Rattle.std.proofs.Common.{◌≡◌, ℕ, zero, suc, ◌+◌, ◌*◌, ◌^◌, ◌<◌, Bool, false, List, [], ◌∷◌, length}
-use Rattle.std.proofs.Common.{slice_index_or, map, Contains, Option, Some, None, refl, ap, ◌∙◌, arith}
+use Rattle.std.proofs.Common.{slice_index_or, map, Contains, Option, Some, None, refl, ap, arith}
 use Rattle.std.specs.Option.{option_and_then}
 use Rattle.nft_tree.specs.declared.selector.Selector.{Selector}
 use Rattle.nft_tree.specs.declared.selector.Selector.TheVariants as selectors

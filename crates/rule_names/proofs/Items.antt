@@ -1,6 +1,6 @@
 -- A duplicate set or a duplicate map is a duplicate among sets and maps.
 use Rattle.std.proofs.Common.{arith}
-use Rattle.rule_names.proofs.Names.{Contains, HasDuplicate, List, Text, [], map, subst, sym, ⊎_elim, ◌∷◌}
+use Rattle.rule_names.proofs.Names.{Contains, HasDuplicate, List, Text, [], map, ⊎_elim, ◌∷◌}
 use Rattle.std.specs.List.{filter_map}
 use Rattle.nft_tree.specs.Tree.{ItemTree}
 use Rattle.nft_tree.specs.TableItems.{map_in, set_in}

@@ -1,6 +1,6 @@
 -- `any` over lists of lists.
 use Rattle.std.proofs.Common.{arith}
-use Rattle.rule_names.proofs.Names.{Bool, List, None, Option, Some, Text, [], any_of_map, ap, false, list_any, map, refl, sym, true, ◌||◌, ◌∙◌, ◌∷◌, ◌≡◌}
+use Rattle.rule_names.proofs.Names.{Bool, List, None, Option, Some, Text, [], any_of_map, ap, list_any, map, refl, sym, ◌||◌, ◌∙◌, ◌∷◌, ◌≡◌}
 use Rattle.std.specs.Prelude.{flat_map}
 use Rattle.std.specs.List.{cons_option, filter_map}
 use Rattle.std.proofs.lemmas.List.Folds.{list_any-append}

@@ -1,6 +1,6 @@
 -- The chains and maps of a table, by name and by index: the call graph by index shows the calls by name, and what is asked of them is
 -- decidable.
-use Rattle.std.proofs.Common.{◌≡◌, ◌⊎◌, ℕ, zero, suc, ◌+◌, ◌-◌, ◌<◌, ◌≤◌, max, List, [], ◌∷◌, ◌++◌, Option, Some, None, Bool, true, false, not}
+use Rattle.std.proofs.Common.{◌≡◌, ◌⊎◌, ℕ, zero, suc, ◌+◌, ◌-◌, ◌<◌, ◌≤◌, max, List, [], ◌∷◌, ◌++◌, Option, Some, None, Bool, true, false}
 use Rattle.std.proofs.Common.{length, get_or, map, refl, sym, ap, ap₂, subst, ◌∙◌, inl, inr, arith, sum_by, flat_map, bytes_eq, Contains}
 use Rattle.std.specs.Prelude.{find, ◌↔◌}
 use Rattle.std.specs.Cmp.Lexicographic.{same_text}

@@ -9,9 +9,8 @@ use Rattle.std.proofs.lemmas.List.{get_or_push, map-append}
 use Rattle.std.proofs.lemmas.List.Folds.{list_any_at, Any-from_list_any}
 use Rattle.std.proofs.lemmas.List.Elements.{Contains-push_cases, Contains-push, Contains-append_left}
 use Rattle.std.proofs.lemmas.List.Sums.{sum_by_push}
-use Rattle.std.proofs.lemmas.Bool.{cases_lt, or_right, or_cases, or_left}
+use Rattle.std.proofs.lemmas.Bool.{cases_lt}
 use Rattle.list_laws.specs.Elements.{Contains-at, Contains-map, Contains-unmap}
-use Rattle.list_laws.specs.Decisions.{Contains-none}
 use Rattle.nft_tree.specs.Tree.{Text, Statement, ChainTree, TableTree}
 use Rattle.nft_tree.specs.TableItems.{chains_of}
 use Rattle.rule_names.specs.Names.{chain_names}

@@ -1,6 +1,6 @@
 use Rattle.chain_graph.proofs.Names.{List, ap, arith, graph_of, length, rows_of, subst, sym, ℕ, ◌∙◌, ◌≡◌}
 use Rattle.chain_graph.specs.declared.search.SortResult.{SortResult}
-use Rattle.chain_graph.specs.declared.search.SortResult.TheVariants.{Cycle, Order}
+use Rattle.chain_graph.specs.declared.search.SortResult.TheVariants.{Order}
 use Rattle.chain_graph.specs.steps.Search.{IsSortResult}
 use Rattle.chain_graph.specs.steps.Targets.{TargetsInRange}
 use Rattle.chain_graph.proofs.CostLaws.{has-costs}

@@ -1,7 +1,5 @@
-use Rattle.std.proofs.Common.{◌*◌, arith, Fits, w8, w32}
-use Rattle.std.specs.Simd.Lanes.{zip2}
-use Rattle.std.proofs.lemmas.Simd.{Each1-from_get_or, sum_fits}
-use Rattle.ip_headers.proofs.Sums.{weights, weighted, block_words, words_small, products_fit, lanes_are}
+use Rattle.std.proofs.Common.{arith}
+use Rattle.ip_headers.proofs.Sums.{block_words, lanes_are}
 use Rattle.ip_headers.proofs.sum.block_sum.Goals as goal
 
 pub overflow_mul-result : goal.overflow_mul-result

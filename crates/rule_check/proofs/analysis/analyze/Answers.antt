@@ -11,7 +11,7 @@ use Rattle.rule_values.specs.Faults.{has_contradiction}
 use Rattle.rule_check.specs.declared.fault.CheckFault.TheVariants as faults
 use Rattle.rule_check.specs.steps.FaultRanges.{HasNone, IsLeastFaultIn}
 use Rattle.rule_check.proofs.LeastFaults.{least, least_reported, none_yet, without}
-use Rattle.rule_check.proofs.Stages.{after_all, after_chains, after_cycles, after_maps, after_names, at_none, at_some, findings_of}
+use Rattle.rule_check.proofs.Stages.{after_all, after_maps, after_names, at_none}
 use Rattle.rule_check.proofs.analysis.analyze.Goals as goal
 use Rattle.rule_check.proofs.analysis.analyze.Goals.{In-Some, In_default-fault_of_names, In-Some-2, In_default-fault_of_chains}
 

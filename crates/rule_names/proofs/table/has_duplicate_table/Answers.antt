@@ -1,6 +1,5 @@
-use Rattle.rule_names.proofs.Names.{HasDuplicate, IsAdded, [], ap₂, arith, refl, subst, sym, ◌++◌, ◌∙◌, ◌∷◌}
+use Rattle.rule_names.proofs.Names.{arith}
 use Rattle.rule_names.proofs.Tables.{names-duplicate, names-more, names-same, same-family}
-use Rattle.rule_names.proofs.table.has_duplicate_table.Goals.{else-eq, then-eq+in_ok-add+else-not-branch}
 use Rattle.rule_names.proofs.table.has_duplicate_table.Goals as goal
 
 pub returns-then-not-branch : goal.returns-then-not-branch

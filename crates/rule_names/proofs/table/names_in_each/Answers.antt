@@ -1,4 +1,4 @@
-use Rattle.rule_names.proofs.Names.{All, HasUniqueNames, MatchOption, TableTree, [], ap, ap₂, arith, map, map-more, subst, sym, table_tree, ⊎_elim, ◌++◌, ◌∙◌}
+use Rattle.rule_names.proofs.Names.{All, HasUniqueNames, MatchOption, TableTree, [], ap₂, arith, map-more, subst, sym, table_tree, ⊎_elim, ◌++◌, ◌∙◌}
 use Rattle.rule_names.proofs.Names.{◌∷◌, ◌≡◌}
 use Rattle.std.specs.Prelude.{IfSome}
 use Rattle.std.proofs.lemmas.List.{take_all}

@@ -1,6 +1,6 @@
-use Rattle.std.proofs.Common.{◌≡◌, ◌+◌, take, sym, subst, arith, refl}
+use Rattle.std.proofs.Common.{◌≡◌, ◌+◌, take, subst, arith, refl}
 use Rattle.std.proofs.lemmas.List.{take_all, take_more}
-use Rattle.std.proofs.lemmas.Option.{MatchOption-at_none, MatchOption-at_some}
+use Rattle.std.proofs.lemmas.Option.{MatchOption-at_some}
 use Rattle.chain_graph.specs.Graph.{HasCycle}
 use Rattle.chain_graph.specs.Measures.{saturated}
 use Rattle.rule_paths.specs.Paths.{CallsOf}

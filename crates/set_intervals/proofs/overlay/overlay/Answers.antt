@@ -1,6 +1,5 @@
-use Rattle.std.proofs.Common.{◌+◌, ◌++◌, ◌∙◌, length, ap, arith}
+use Rattle.std.proofs.Common.{◌+◌, ◌++◌, ◌∙◌, ap, arith}
 use Rattle.std.proofs.lemmas.List.{get_or_default}
-use Rattle.set_intervals.specs.Pairs.{first_value}
 use Rattle.set_intervals.proofs.LayerLaws.{laid_more, table_follows, table_none}
 use Rattle.set_intervals.proofs.overlay.overlay.Goals as goal
 

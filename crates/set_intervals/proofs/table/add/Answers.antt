@@ -1,7 +1,7 @@
 use Rattle.std.proofs.Common.{◌≤◌, ◌<◌, ◌-◌, length, sym, ap, subst, arith}
-use Rattle.set_intervals.specs.steps.Pieces.{Adds, IsTable, StartsBefore}
+use Rattle.set_intervals.specs.steps.Pieces.{Adds, IsTable}
 use Rattle.set_intervals.proofs.PairLaws.{holds_read, adds_widen, adds_push, covers_split, covers_merge}
-use Rattle.set_intervals.proofs.PieceLaws.{table_push, starts_push, starts_widen}
+use Rattle.set_intervals.proofs.PieceLaws.{table_push, starts_widen}
 use Rattle.set_intervals.proofs.table.add.Goals as goal
 
 pub returns-in-Clashes-clause-clash : goal.returns-in-Clashes-clause-clash

@@ -1,7 +1,7 @@
 use Rattle.std.proofs.Common.{◌≡◌, ◌<◌, ◌∷◌, ◌++◌, [], length, map, sym, arith}
 use Rattle.std.proofs.lemmas.List.{map_push}
 use Rattle.token_reader.specs.Readers.{IsAfter, remaining}
-use Rattle.token_reader.proofs.Loops.{length_ahead, none_yet, one_more, all_read}
+use Rattle.token_reader.proofs.Loops.{length_ahead, one_more, all_read}
 use Rattle.token_reader.proofs.productions.more.Given as given
 use Rattle.token_reader.proofs.productions.more.Goals as goal
 

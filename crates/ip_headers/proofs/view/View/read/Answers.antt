@@ -5,7 +5,7 @@ use Rattle.byteorder.specs.Endian.{big_number}
 use Rattle.ip_headers.specs.Bytes.{u16_at}
 use Rattle.ip_headers.specs.Sum.{ones_sum_of}
 use Rattle.ip_headers.specs.Transport.{transport_is_malformed}
-use Rattle.ip_headers.specs.Header.{version, header, total_len, header_len, protocol, is_fragment, flags_and_offset, packet_of, payload_of}
+use Rattle.ip_headers.specs.Header.{version, total_len, header_len, protocol, is_fragment, flags_and_offset, packet_of, payload_of}
 use Rattle.ip_headers.specs.Passing.{PassesHeader}
 use Rattle.ip_headers.proofs.Faults.{packet_passes, fault_free, too_small, cut, damaged, broken, refused}
 use Rattle.ip_headers.proofs.view.View.read.Goals as goal

@@ -1,5 +1,4 @@
 use Rattle.std.proofs.Common.{arith}
-use Rattle.ip_headers.proofs.Faults.{passes}
 use Rattle.ip_headers.proofs.view.View.transport.Goals as goal
 
 pub read-requires : goal.read-requires

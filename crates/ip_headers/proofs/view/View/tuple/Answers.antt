@@ -1,5 +1,4 @@
-use Rattle.std.proofs.Common.{length, ap, arith}
-use Rattle.ip_headers.proofs.Faults.{passes, eight_bytes}
+use Rattle.std.proofs.Common.{arith}
 use Rattle.ip_headers.proofs.view.View.tuple.Goals as goal
 
 pub tuple_in-requires-clause-ports : goal.tuple_in-requires-clause-ports

@@ -1,7 +1,4 @@
-use Rattle.std.proofs.Common.{◌≡◌, ◌+◌, ◌*◌, ◌∙◌, max, ap, refl, subst, sym, arith}
-use Rattle.pcap_io.specs.CaptureStates.{CaptureState}
-use Rattle.pcap_io.specs.Pcap.{nanoseconds}
-use Rattle.pcap_io.specs.steps.Buffered.{IsBuffered}
+use Rattle.std.proofs.Common.{arith}
 use Rattle.pcap_io.proofs.Steps.{reads_one}
 use Rattle.pcap_io.proofs.capture.Capture.advance.Goals as goal
 

@@ -1,11 +1,10 @@
 use Rattle.std.proofs.Common.{arith}
 use Rattle.std.proofs.lemmas.Bool.Decides.{nat_tests}
-use Rattle.std.proofs.Common.{◌≡◌, ◌∙◌, ap, subst, refl, sym, cond, Some, ◌++◌}
+use Rattle.std.proofs.Common.{◌≡◌, Some, ◌++◌}
 use Rattle.std.proofs.lemmas.Bool.{true≢false}
-use Rattle.std.specs.Io.KnownBytes.{Keeps, prepend_known}
 use Rattle.pcap_io.specs.steps.CaptureInvariant.{capture_state_of}
 use Rattle.std.proofs.KnownBytes.{Consumes-trans, Keeps-refl, Keeps-trans}
-use Rattle.pcap_io.specs.CaptureStates.{CaptureState, ahead, is_ready, decides_next, IsPartialRecord}
+use Rattle.pcap_io.specs.CaptureStates.{ahead, is_ready}
 use Rattle.pcap_io.proofs.Endings.{part_of, not_ready}
 use Rattle.pcap_io.proofs.Steps.{no_last}
 use Rattle.pcap_io.proofs.Coming.{filled, ended_only_at_end, less_room, failed, known, behind, next_from}

@@ -1,7 +1,5 @@
 use Rattle.std.proofs.Common.{arith}
-use Rattle.std.proofs.Common.{◌++◌, ◌+◌, take, ◌∙◌, ap, rules}
 use Rattle.std.proofs.lemmas.List.{with_items_is, places}
-use Rattle.pcap_io.specs.Sll2.{sent, sll2_record}
 use Rattle.pcap_io.proofs.write_buffer.WriteBuffer.append_record.Goals as goal
 
 pub returns : goal.returns

@@ -1,4 +1,4 @@
-use Rattle.std.proofs.Common.{not, ◌∙◌, arith}
+use Rattle.std.proofs.Common.{not, arith}
 use Rattle.std.proofs.lemmas.Bool.{not_from_false}
 use Rattle.port_pool.specs.Taken.{is_taken, order_of}
 use Rattle.port_pool.specs.Candidates.{candidates}

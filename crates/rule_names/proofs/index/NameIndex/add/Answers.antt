@@ -1,6 +1,5 @@
 use Rattle.std.proofs.Common.{arith}
-use Rattle.rule_names.proofs.Names.{IsAdded, refl, subst}
-use Rattle.rule_names.specs.steps.Index.{texts}
+use Rattle.rule_names.proofs.Names.{refl}
 use Rattle.rule_names.proofs.Duplicates.{key-added}
 use Rattle.rule_names.proofs.index.NameIndex.add.Goals as goal
 

@@ -1,5 +1,5 @@
 use Rattle.std.proofs.Common.{arith}
-use Rattle.rule_names.proofs.Names.{IsAdded, inr, subst}
+use Rattle.rule_names.proofs.Names.{IsAdded, subst}
 use Rattle.std.proofs.lemmas.Result.{IfOk-weaker}
 use Rattle.std.proofs.lemmas.List.Elements.{filter_map-append}
 use Rattle.rule_names.proofs.Additions.{chain-added, comment-added, map-added, set-added, shared-duplicate}

@@ -1,6 +1,5 @@
 use Rattle.std.proofs.Common.{arith}
 use Rattle.rule_names.proofs.Names.{ap, sym, ◌∙◌}
-use Rattle.nft_tree.specs.Tree.{head_tree}
 use Rattle.nft_tree.specs.TableItems.{chains_of}
 use Rattle.rule_names.proofs.Bases.{any-base, is-some-map, is_base}
 use Rattle.rule_names.proofs.table.TableNames.has_base_chain.Goals as goal

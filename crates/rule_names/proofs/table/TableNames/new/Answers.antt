@@ -1,7 +1,5 @@
-use Rattle.rule_names.proofs.Names.{List, ap, arith, get_or, item_tree, length, map, subst, take, ◌∙◌}
+use Rattle.rule_names.proofs.Names.{ap, arith, get_or, item_tree, length, map, take, ◌∙◌}
 use Rattle.std.proofs.lemmas.List.{take_all}
-use Rattle.nft_tree.specs.declared.ruleset.Item.{Item}
-use Rattle.rule_names.specs.steps.Table.{Represents}
 use Rattle.rule_names.proofs.Additions.{item-duplicate, item-held}
 use Rattle.rule_names.proofs.table.TableNames.new.Goals as goal
 

@@ -1,5 +1,4 @@
-use Rattle.std.proofs.Common.{◌≡◌, length, subst, ap, arith}
-use Rattle.set_intervals.specs.steps.Pieces.{IsTable}
+use Rattle.std.proofs.Common.{arith}
 use Rattle.set_intervals.proofs.RunLaws.{has_runs}
 use Rattle.set_intervals.proofs.table.Intervals.count.Goals as goal
 

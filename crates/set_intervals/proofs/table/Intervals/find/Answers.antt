@@ -1,8 +1,7 @@
 use Rattle.std.proofs.Common.{arith}
-use Rattle.std.proofs.Common.{◌∙◌, sym, subst}
+use Rattle.std.proofs.Common.{◌∙◌, subst}
 use Rattle.std.specs.Option.{option_copied}
-use Rattle.search_levels.specs.Levels.{Parts}
-use Rattle.set_intervals.specs.steps.Pieces.{IsTable, highs}
+use Rattle.set_intervals.specs.steps.Pieces.{IsTable}
 use Rattle.set_intervals.proofs.PairLaws.{Says, first_value_holds, same_itself}
 use Rattle.set_intervals.proofs.PieceLaws.{one_answer}
 use Rattle.set_intervals.proofs.table.Intervals.find.Goals as goal
