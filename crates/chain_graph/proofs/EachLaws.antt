@@ -5,23 +5,10 @@ use Rattle.chain_graph.specs.steps.Search.{EachAfter}
 
 module _ (R : List ℕ → ℕ → Type 0) (xs : List ℕ) (x : ℕ) where
   pub each-push : EachAfter R xs → R xs x → EachAfter R (xs ++ x ∷ [])
-  each-push each new i h =
-      let n = length_push xs x in
-      elim (cases_lt i (length xs)) [
-        | inl l ↦ rw (get_or_append_left xs (x ∷ []) 0 i l, take-append-le i xs (x ∷ []) (omega (arith, l))) (each i l)
-        | inr l ↦
-            let same : length xs ≡ i = omega (arith, l, n, h) in
-            rw (get_or_push xs x 0 i same, take_at xs (x ∷ []) i same) new
-      ]
+  each-push each new i h = grind (arith, length_push, cases_lt, get_or_append_left, take-append-le, get_or_push, take_at)
 
   pub each-front : EachAfter R (xs ++ x ∷ []) → EachAfter R xs
-  each-front each i h =
-      let n = length_push xs x in
-      let inside : i < length (xs ++ x ∷ []) = omega arith in
-      rw (get_or_append_left xs (x ∷ []) 0 i h, take-append-le i xs (x ∷ []) (omega (arith, h))) at (each i inside)
+  each-front each i h = grind (arith, length_push, get_or_append_left, take-append-le)
 
   pub each-last : EachAfter R (xs ++ x ∷ []) → R xs x
-  each-last each =
-      let n = length_push xs x in
-      let inside : length xs < length (xs ++ x ∷ []) = omega arith in
-      rw (get_or_push xs x 0 (length xs) refl, take_at xs (x ∷ []) (length xs) refl) at (each (length xs) inside)
+  each-last each = grind (arith, length_push, get_or_push, take_at)

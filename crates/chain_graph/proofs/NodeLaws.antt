@@ -82,11 +82,7 @@ all-before nodes order i x o h l =
 module _ (nodes : List Node) (order : List ℕ) (i : ℕ) (node : Node) (o : IsTopologicalOrder (targets_of (graph_of nodes)) order)
     (inside : i < length order) (read : node ≡ get_or nodes (get_or order i 0) node) where
   pub pass-below : get_or order i 0 < length nodes
-  pass-below =
-      let below = o.below i 0 inside in
-      let long = graph-long nodes in
-      let long' = targets-long (graph_of nodes) in
-      omega arith
+  pass-below = grind (arith, graph-long, targets-long)
 
   pub pass-node : node_of node ≡ node_at (graph_of nodes) (get_or order i 0)
   pass-node = sym (node-is nodes (get_or order i 0) node pass-below read)

@@ -1,4 +1,5 @@
 -- Reaching a marked node.
+use Rattle.std.proofs.Common.{arith}
 use Rattle.chain_graph.proofs.Names.{Call, Calls, Graph, List, [], ap, false, get_or, refl, some_call, ℕ, ⊎_elim, ◌↔◌, ◌∙◌, ◌∷◌, ◌≡◌}
 use Rattle.std.proofs.Common.{Bool, true, ◌||◌}
 use Rattle.std.specs.Prelude.{IsTrue}
@@ -13,9 +14,7 @@ module _ (g : Graph) (marked : List Bool) (c : ℕ) (table : List Bool)
   pub reaching-from : (b : ℕ) (es : List (Call ℕ)) → IsPath (Calls g) c es b → get_or marked b false ≡ true
       → get_or marked c false || some_call (λ k. get_or table k false) (calls_of g c) ≡ true
   reaching-from b [] p m = ap (λ x. x || some_call (λ k. get_or table k false) (calls_of g c)) (ap (λ k. get_or marked k false) p ∙ m)
-  reaching-from b (e ∷ es) p m = or_right (get_or marked c false) (some_call (λ k. get_or table k false) (calls_of g c))
-      (list_any-from_Any (λ x. get_or table x.to false) (calls_of g c)
-      (p.0.0, e, p.0.1, p.0.2, (known e p.0).1 (record { to = b; along = es; path = p.1; good = m })))
+  reaching-from b (e ∷ es) p m = grind (arith, or_right, get_or, list_any-from_Any, p.0.0, p.0.1, p.0.2, p.0, p.1)
 
   pub reaching-now : IsTrue (get_or marked c false || some_call (λ k. get_or table k false) (calls_of g c)) ↔ ReachesMarked g marked c
   reaching-now = (

@@ -26,11 +26,7 @@ module _ (t : List (Vec ℕ Global)) {marks : List Mark} {left path order : List
   left-read = let n = s.left_long in let m = rows-long t in sym (get_or_read left c l (omega arith) left-is 0)
 
   pub inside-row : {row : Vec ℕ Global} → (l ≡ 0 → ⊥) → row ≡ get_or t c row → l - 1 < length row.items
-  inside-row {row = row} some row-is =
-      let least = (s.scanned c).0 in
-      let n = ap length (row-of t c row below row-is) in
-      let m = left-read in
-      omega arith
+  inside-row {row = row} some row-is = grind (arith, row-of, left-read)
 
   pub reads_target : {x : ℕ} {row : Vec ℕ Global} → (l ≡ 0 → ⊥) → row ≡ get_or t c row → TargetsInRange (rows_of t)
       → x ≡ get_or row.items (l - 1) x → ReadsTarget (rows_of t) left c l x
