@@ -1,7 +1,7 @@
 -- Histories, record by record.
-use Rattle.engine.proofs.Names.{Captured, Entry, Format, IsHistoryOf, List, Next, Recorded, Setup, WellFormed, [], ap, append-nil, append_assoc, arith}
-use Rattle.engine.proofs.Names.{capture_text, decoded_after, decoded_records, flat_map, flat_map-append, in_order, length, max, own_moment, refl, sends}
-use Rattle.engine.proofs.Names.{sent_records, sll2_header, sll2_record, subst, suc, sym, zero-add, ℕ, ◌++◌, ◌+◌, ◌∙◌, ◌∷◌, ◌≡◌}
+use Rattle.engine.proofs.Names.{Captured, Entry, Format, IsHistoryOf, List, Next, Recorded, Setup, WellFormed, [], ap, append-nil, append_assoc, capture_text}
+use Rattle.engine.proofs.Names.{decoded_after, decoded_records, flat_map, flat_map-append, max, own_moment, refl, sends, sll2_record, subst, sym, ℕ, ◌++◌, ◌∙◌}
+use Rattle.engine.proofs.Names.{◌∷◌, ◌≡◌}
 
 -- each record has an entry after a history, if the ruleset is well-formed
 abbrev pub OneEntry : Type 0
@@ -72,24 +72,3 @@ pub decoded_more : (format : Format) (records : List Captured) (x : Captured) (r
     → r ≡ record { moment = max latest (own_moment format x); link = format.link; bytes = x.bytes }
     → decoded_records format (records ++ x ∷ []) ≡ decoded_records format records ++ r ∷ []
 decoded_more format records x r latest is decoded_is = rw (decoded_is, is) (decoded_after_more format 0 records x)
-
--- ---- the number of entries
-
-is_history_length : (setup : Setup) (before : List Entry) (rs : List Recorded) (after : List Entry)
-    → IsHistoryOf setup before rs after → length after ≡ length rs + length before
-is_history_length setup before [] after g = ap length g ∙ sym (zero-add (length before))
-is_history_length setup before (r ∷ rs) after (e, n, g) = let rest = is_history_length setup (e ∷ before) rs after g in
-    omega (arith, rest)
-
-decoded_length : (format : Format) (latest : ℕ) (records : List Captured)
-    → length (decoded_after format latest records) ≡ length records
-decoded_length format latest [] = refl
-decoded_length format latest (r ∷ rs) = ap suc (decoded_length format (max latest (own_moment format r)) rs)
-
--- as many as records
-pub history_length : (setup : Setup) (format : Format) (records : List Captured) (history : List Entry)
-    → IsHistoryOf setup [] (decoded_records format records) history → length history ≡ length records
-history_length setup format records history g =
-    let long = is_history_length setup [] (decoded_records format records) history g in
-    let decoded_long = decoded_length format 0 records in
-    omega (arith, long, decoded_long)

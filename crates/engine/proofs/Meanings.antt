@@ -1,24 +1,18 @@
 -- A run, from the results of its calls.
-use Rattle.engine.proofs.Names.{Accepted, Bool, Box, Capture, CaptureFault, CaptureState, Consumes, Device, Devices, Err, Format, HEADER_BYTES, IfErr, IfOk}
-use Rattle.engine.proofs.Names.{IfSome, IsAtEnd, IsChecked, IsHistoryOf, IsWithin, JudgeRefuses, Laws, LeavesPrefix, LeftDevices, List, Meaning, Memory, None}
-use Rattle.engine.proofs.Names.{NothingTaken, Ok, Option, Pcap, READ_AHEAD, Recorded, Refuses, Result, Rules, RunFault, Setup, Some, Unchanged, Untouched}
-use Rattle.engine.proofs.Names.{WritesOutputs, WroteOutputs, [], ahead, ap, arith, decoded_records, drop, ending_of, failed_header_read, false, format_of}
-use Rattle.engine.proofs.Names.{header_fault, inl, inr, length, one_more, refl, setup_of, subst, sym, true, unread_input, ℕ, ◌++◌, ◌<◌, ◌∙◌, ◌≡◌, ◌≤◌, ◌⊎◌}
-use Rattle.engine.proofs.Replays.{ahead_is}
+use Rattle.engine.proofs.Names.{Accepted, Bool, Capture, CaptureFault, CaptureState, Consumes, Device, Devices, Format, HEADER_BYTES, IfErr, IfSome, IsAtEnd}
+use Rattle.engine.proofs.Names.{IsBeforeHeader, IsChecked, IsHistoryOf, JudgeRefuses, Laws, LeavesPrefix, LeftDevices, List, Meaning, None, NothingTaken, Ok}
+use Rattle.engine.proofs.Names.{Option, READ_AHEAD, Refuses, Result, RunFault, Setup, Some, Untouched, WritesOutputs, WroteOutputs, [], ahead, ap, append-nil}
+use Rattle.engine.proofs.Names.{arith, decoded_records, drop, ending_of, format_of, header_fault, inl, inr, length, one_more, rules, setup_of, sym, true}
+use Rattle.engine.proofs.Names.{unread_input, ℕ, ◌<◌, ◌∙◌, ◌≡◌, ◌≤◌}
 use Rattle.engine.proofs.Histories.{OneEntry, one_history}
 use Rattle.engine.specs.declared.runs.Summary.{Summary}
 use Rattle.rule_check.specs.Checked.{CheckedTree}
 
 -- ---- what follows under a result
 
-pub if_ok_then : {T E : Type 0} (r : Result T E) (P Q : T → Type 0) → IfOk r P → ((x : T) → P x → Q x) → IfOk r Q
-if_ok_then (Ok x) P Q p h = h x p
-if_ok_then (Err e) P Q p h = tt
-
 pub if_err_both : {T E : Type 0} (r : Result T E) (O P Q : E → Type 0) → IfErr r O → IfErr r P
     → ((e : E) → O e → P e → Q e) → IfErr r Q
-if_err_both (Ok x) O P Q o p h = tt
-if_err_both (Err e) O P Q o p h = h e o p
+if_err_both r O P Q o p h = grind arith
 
 -- ---- one meaning
 
@@ -36,13 +30,10 @@ same_setup laws rules box a b =
       plant = laws.plant box a.setup.plant b.setup.plant a.read b.read i;
     }
 
-same_sign : (s t : Bool) → ending_of s ≡ ending_of t → s ≡ t
-same_sign s t e = grind arith
-
 pub one_meaning_of : Laws → OneEntry → OneMeaning
 one_meaning_of laws one = λ rules box capture trace count others torn other_torn sent other_sent report other_report m n.
     let same = laws.reading capture m.records n.records (ending_of torn) (ending_of other_torn) m.read n.read in
-    let signs : torn ≡ other_torn = same_sign torn other_torn same.1 in
+    let signs : torn ≡ other_torn = grind (arith, same.1) in
     let setups : m.accepted.setup ≡ n.accepted.setup = same_setup laws rules box m.accepted n.accepted in
     let mine : IsHistoryOf n.accepted.setup [] (decoded_records n.read.format n.records) m.history =
     rw (← same.2, ← same.0, ← setups) m.is_history in
@@ -66,9 +57,7 @@ pub opened : (input : Option (List ℕ)) (s : CaptureState) (unread : Option (Li
     → Consumes input unread part → (s.ended ≡ true → IsAtEnd unread)
     → IfSome input (λ bytes. (HEADER_BYTES ≤ length bytes) × (format_of bytes ≡ Ok s.format)
     × (ahead s unread ≡ Some (drop HEADER_BYTES bytes))) → Opened input (unread_input s unread) s.format
-opened None s unread part takes at_end h = tt
-opened (Some bytes) s None part takes at_end h = absurd takes
-opened (Some bytes) s (Some left) part takes at_end h = (h.0, h.1, sym (ahead_is s (Some left) left refl at_end) ∙ h.2)
+opened input s unread part takes at_end h = grind (arith, append-nil)
 
 pub wrote : OneMeaning → {rules box : List ℕ} (accepted : Accepted rules box) (input : Option (List ℕ)) {setup : Setup}
     (trace : Bool) (records : CaptureState) (summary : Summary) (old new : Devices) → setup ≡ accepted.setup
@@ -93,85 +82,39 @@ pub refuses_capture : (rules box : List ℕ) (trace : Bool) (input : Option (Lis
     (fault : CaptureFault) → Accepted rules box
     → IfSome input (λ bytes. LeftDevices rules box bytes trace old new (Capture fault))
     → Refuses rules box input (Capture fault)
-refuses_capture rules box trace None old new fault a left = (a, tt)
-refuses_capture rules box trace (Some bytes) old new fault a (inl h) = (a, inl h.0)
-refuses_capture rules box trace (Some bytes) old new fault a (inr h) =
-    let t = h.taken_so_far in
-    let read : Pcap bytes t.records h.ending = record {
-      format = t.format;
-      accepted = t.header;
-      rest = t.ahead ++ t.left;
-      whole = t.joined;
-      each = t.each;
-      not_over = t.not_over;
-      ends = h.ends;
-    } in (a, inr (t.records, h.ending, read, h.refused))
+refuses_capture rules box trace input old new fault a left = grind arith
 
 -- a fault within the records is a refusal of the capture, or none
 pub refuses_within : (rules box : List ℕ) (trace : Bool) (input : Option (List ℕ)) (old new : Devices) (fault : RunFault)
-    → Accepted rules box → IsWithin fault → IfSome input (λ bytes. LeftDevices rules box bytes trace old new fault)
+    → Accepted rules box → (IsBeforeHeader fault → ⊥) → IfSome input (λ bytes. LeftDevices rules box bytes trace old new fault)
     → Refuses rules box input fault
-refuses_within rules box trace input old new (Capture fault) a within left =
-    refuses_capture rules box trace input old new fault a left
-refuses_within rules box trace input old new Device a within left = tt
-refuses_within rules box trace input old new Memory a within left = tt
-refuses_within rules box trace input old new _ a within left = absurd within
+refuses_within rules box trace input old new fault a within left = grind (arith, refuses_capture)
 
 -- ---- before the first record
-
--- what a reader gave of known bytes and has left
-consumed : (input unread : Option (List ℕ)) (part : List ℕ) {P : List ℕ → Type 0} → Consumes input unread part
-    → ((bytes left : List ℕ) → unread ≡ Some left → bytes ≡ part ++ left → P bytes) → IfSome input P
-consumed None unread part takes h = tt
-consumed (Some bytes) None part takes h = absurd takes
-consumed (Some bytes) (Some left) part takes h = h bytes left refl takes
 
 -- no record was processed
 pub nothing_taken : (input : Option (List ℕ)) (old new : Devices) (part : List ℕ) → Consumes input new.unread part
     → length part ≤ READ_AHEAD → Untouched old new → new.reads_failed ≡ old.reads_failed
     → IfSome input (λ bytes. NothingTaken bytes old new)
-nothing_taken input old new part takes few kept no_failure =
-    consumed input new.unread part takes (λ bytes left e joined. record {
-      part = part;
-      left = left;
-      unread = e;
-      joined = joined;
-      few = few;
-      untouched = kept;
-      all_read = no_failure;
-    })
+nothing_taken input old new part takes few kept no_failure = grind arith
 
 -- a read failed before the header was there
 pub left_unopened : {rules box : List ℕ} (accepted : Accepted rules box) (trace : Bool) (input : Option (List ℕ))
     (old new : Devices) (part : List ℕ) → Consumes input new.unread part → length part < HEADER_BYTES
     → Untouched old new → new.reads_failed ≡ one_more old.reads_failed
     → IfSome input (λ bytes. LeftDevices rules box bytes trace old new Device)
-left_unopened accepted trace input old new part takes short kept failed =
-    consumed input new.unread part takes (λ bytes left e joined. failed_header_read (record {
-      accepted = accepted;
-      part = part;
-      left = left;
-      unread = e;
-      joined = joined;
-      short = short;
-      untouched = kept;
-      failed = failed;
-    }))
+left_unopened accepted trace input old new part takes short kept failed = grind arith
 
 -- the header is refused
 pub left_unread : (rules box : List ℕ) (trace : Bool) (input : Option (List ℕ)) (old new : Devices) (fault : CaptureFault)
     → IfSome input (λ bytes. NothingTaken bytes old new) → IfSome input (λ bytes. header_fault bytes ≡ Some fault)
     → IfSome input (λ bytes. LeftDevices rules box bytes trace old new (Capture fault))
-left_unread rules box trace None old new fault nothing refused = tt
-left_unread rules box trace (Some bytes) old new fault nothing refused = inl (refused, nothing)
+left_unread rules box trace input old new fault nothing refused = grind arith
 
 -- a fault of the texts, or a failed allocation
 pub left_of_texts : (rules box : List ℕ) (trace : Bool) {bytes : List ℕ} {old new : Devices} (fault : RunFault)
     → JudgeRefuses rules box fault → NothingTaken bytes old new → LeftDevices rules box bytes trace old new fault
-left_of_texts rules box trace (Rules fault) of nothing = nothing.untouched
-left_of_texts rules box trace (Box fault) of nothing = nothing.untouched
-left_of_texts rules box trace Memory of nothing = inl nothing
-left_of_texts rules box trace _ of nothing = absurd of
+left_of_texts rules box trace fault of nothing = let untouched = nothing.untouched in grind arith
 
 -- ---- the texts that were checked
 
@@ -193,12 +136,7 @@ pub left_all : {rules box : List ℕ} (accepted : Accepted rules box) (input : O
     → IfSome input (λ bytes. LeftDevices rules box bytes trace old new fault)
 left_all accepted None trace records old new unread failed part fault before takes few same is says = tt
 left_all {rules} {box} accepted (Some bytes) trace records old new unread failed part fault before takes few same is says =
-    by (says rules box bytes accepted is.1 old.unread same is.2)
-  where
-    by : LeftDevices rules box bytes trace (record old { reads_failed = failed }) new fault ⊎ ((fault ≡ Memory)
-        × Unchanged (record old { unread = unread; reads_failed = failed }) new)
-        → LeftDevices rules box bytes trace old new fault
-    by (inl h) = subst (λ (n : ℕ). LeftDevices rules box bytes trace (record old { reads_failed = n }) new fault) before h
-    by (inr (of, h)) =
-        subst (LeftDevices rules box bytes trace old new) (sym of) (inl (nothing_taken (Some bytes) old new part
-        (subst (λ (u : Option (List ℕ)). Consumes (Some bytes) u part) (sym h.0) takes) few h.1 (h.2 ∙ before)))
+    elim (says rules box bytes accepted is.1 old.unread same is.2) [
+      | inl h ↦ rw (← before) h
+      | inr (of, h) ↦ rw of (inl (nothing_taken (Some bytes) old new part (rw h.0 takes) few h.1 (h.2 ∙ before)))
+    ]

@@ -1,22 +1,17 @@
 -- Inputs have at most one refusal, and then no meaning; and two texts have at most one judgement.
-use Rattle.engine.proofs.Names.{Accepted, Bool, Box, Capture, CaptureFault, Captured, Check, CheckFault, Counts, Device, Ending, IsOfTexts, IsRefusal}
-use Rattle.engine.proofs.Names.{IsRefused, JudgeRefuses, Judged, Laws, LeastFault, List, Meaning, Memory, Option, Pcap, PlantTree, Refuses, Rules, RunFault}
-use Rattle.engine.proofs.Names.{Some, Spelled, TableTree, Text, WellFormed, [], ap, arith, chain_count, ending_of, false, fault_at, header_fault, inl, inr}
-use Rattle.engine.proofs.Names.{length, min, rule_count, subst, sym, true, ℕ, ◌-◌, ◌^◌, ◌∙◌, ◌≡◌}
+use Rattle.engine.proofs.Names.{Accepted, Bool, Box, Capture, CaptureFault, Captured, Check, CheckFault, Counts, Ending, IsOfTexts, IsRefusal, IsRefused}
+use Rattle.engine.proofs.Names.{JudgeRefuses, Judged, Laws, LeastFault, List, Meaning, Option, Pcap, Refuses, Rules, RunFault, Some, Spelled, Text, WellFormed}
+use Rattle.engine.proofs.Names.{[], ap, arith, chain_count, ending_of, fault_at, header_fault, inl, inr, length, min, rule_count, rules, sym, ℕ, ◌-◌, ◌^◌, ◌∙◌}
+use Rattle.engine.proofs.Names.{◌≡◌}
 use Rattle.std.specs.Result.{result_err}
 
 -- where judging the texts refuses them a run does
 pub misjudged : (rules box : List ℕ) (input : Option (List ℕ)) (fault : RunFault) → JudgeRefuses rules box fault
     → Refuses rules box input fault
-misjudged rules box input (Rules fault) h = h
-misjudged rules box input (Box fault) h = h
-misjudged rules box input Memory h = tt
-misjudged rules box input _ h = absurd h
+misjudged rules box input fault h = grind arith
 
 pub refusal_of : (fault : RunFault) → IsOfTexts fault → IsRefusal fault
-refusal_of (Rules fault) is = tt
-refusal_of (Box fault) is = tt
-refusal_of _ is = absurd is
+refusal_of fault is = grind arith
 
 -- a well-formed ruleset is accepted
 pub accepted_by : (rules box : List ℕ) (texts : Spelled rules box) → WellFormed texts.tables texts.plant
@@ -33,9 +28,6 @@ not_both : (capture : List ℕ) (fault : CaptureFault) (records : List Captured)
     → header_fault capture ≡ Some fault → Pcap capture records ending → ⊥
 not_both capture fault records ending h read = let e = sym h ∙ ap result_err read.accepted in cc
 
-not_ending : (torn : Bool) (fault : CaptureFault) → fault_at (ending_of torn) ≡ Some fault → ⊥
-not_ending torn fault e = grind arith
-
 module _ (laws : Laws) where
   one_of : (capture : List ℕ) (fault other : CaptureFault) → IsRefused capture fault → IsRefused capture other
       → fault ≡ other
@@ -48,8 +40,9 @@ module _ (laws : Laws) where
   not_read : (capture : List ℕ) (fault : CaptureFault) (records : List Captured) (torn : Bool)
       → IsRefused capture fault → Pcap capture records (ending_of torn) → ⊥
   not_read capture fault records torn (inl h) read = not_both capture fault records (ending_of torn) h read
-  not_read capture fault records torn (inr h) read = not_ending torn fault
-      (ap fault_at (sym (laws.reading capture h.0 records h.1 (ending_of torn) h.2 read).1) ∙ h.3)
+  not_read capture fault records torn (inr h) read =
+      let same = (laws.reading capture h.0 records h.1 (ending_of torn) h.2 read).1 in
+      let e : fault_at (ending_of torn) ≡ Some fault = rw (← same) h.3 in absurd (grind arith)
 
 module _ (laws : Laws) (rules box : List ℕ) where
   -- the texts spell one ruleset and one box
@@ -91,10 +84,10 @@ module _ (laws : Laws) (rules box : List ℕ) where
       ap (λ x. Rules (Check x)) (laws.one_check h.0.tables h.0.plant f g h.1 (least_in g k.0 h.0 k.1))
   alone capture (Rules (Check f)) (Box g) is is' h k = absurd (laws.sound_box box h.0.plant g h.0.read k.2)
   alone capture (Rules f) (Capture g) is is' h k = absurd (unaccepted (Rules f) tt k.0 h)
+  alone capture (Box f) (Capture g) is is' h k = absurd (unaccepted (Box f) tt k.0 h)
   alone capture (Box f) (Rules (Text g)) is is' h k = absurd (laws.faultless rules h.0 g h.1 k)
   alone capture (Box f) (Rules (Check g)) is is' h k = absurd (laws.sound_box box k.0.plant f k.0.read h.2)
   alone capture (Box f) (Box g) is is' h k = ap Box (laws.one_box_fault box f g h.2 k.2)
-  alone capture (Box f) (Capture g) is is' h k = absurd (unaccepted (Box f) tt k.0 h)
   alone capture (Capture f) (Rules g) is is' h k = absurd (unaccepted (Rules g) tt h.0 k)
   alone capture (Capture f) (Box g) is is' h k = absurd (unaccepted (Box g) tt h.0 k)
   alone capture (Capture f) (Capture g) is is' h k = ap Capture (one_of laws capture f g h.1 k.1)

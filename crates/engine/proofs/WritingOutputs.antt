@@ -1,10 +1,12 @@
 -- The written and the pending output of a history.
 use Rattle.engine.proofs.Names.{AllWritten, Appends, Appends-kept, Appends-trans, AppendsPrefix, Bool, BreaksAtRecord, EngineState, Entry, IfSome, IsEntry}
-use Rattle.engine.proofs.Names.{IsNewest, Keeps, List, Next, None, Option, OutputsFinished, PrefixWritten, Recorded, Replay, ReplayRepresents, ReplayStart}
-use Rattle.engine.proofs.Names.{ReportUnfinished, Represents, Sent, Setup, Some, TableTree, TakesRecord, [], ap, append-nil, capture_text, closing_lines}
-use Rattle.engine.proofs.Names.{entry_lines, flat_map, gets_more, gets_part, length, lines_of, live_in, part_after, part_first, part_same, part_whole}
-use Rattle.engine.proofs.Names.{report_text, sends, sends_of, sll2_record, subst, sym, ℕ, ◌++◌, ◌∙◌, ◌∷◌, ◌≡◌}
+use Rattle.engine.proofs.Names.{IsNewest, Keeps, List, Next, None, Option, PrefixWritten, Recorded, Replay, ReplayRepresents, ReplayStart, Represents, Sent}
+use Rattle.engine.proofs.Names.{Setup, Some, TableTree, TakesRecord, [], ap, append-nil, capture_text, closing_lines, entry_lines, flat_map, gets_more}
+use Rattle.engine.proofs.Names.{gets_part, length, lines_of, live_in, part_after, part_first, part_same, part_whole, report_text, rules, sends, sends_of}
+use Rattle.engine.proofs.Names.{sll2_record, subst, sym, ℕ, ◌++◌, ◌∙◌, ◌∷◌, ◌≡◌}
+use Rattle.std.proofs.Common.{arith}
 use Rattle.engine.proofs.Histories.{captured_more}
+use Rattle.std.proofs.lemmas.Option.{IfSome_then}
 use Rattle.pcap_io.specs.Buffering.{AppendsBuffered, SinkState}
 use Rattle.report.specs.Representing.{AppendsRest, AppendsRestPrefix, IsReportOf, ReportState, note_line}
 use Rattle.history.specs.declared.outcome.Outcome.{Outcome}
@@ -13,20 +15,14 @@ use Rattle.history.specs.declared.entry.Entry as lent
 -- ---- the outputs of a history
 
 abbrev pub replay_of : EngineState → ReportState → Replay → SinkState → Replay
-replay_of engine numbers replay sink = record {
-  engine = engine;
-  numbers = numbers;
-  records = replay.records;
-  sink = sink;
-}
+replay_of engine numbers replay sink = record replay { engine = engine; numbers = numbers; sink = sink }
 
 -- what was written before and now
-lines_all : (a b c : Option (List ℕ)) (lines text : List ℕ) → Appends a b lines → AppendsRest b c lines text
+pub lines_all : (a b c : Option (List ℕ)) (lines text : List ℕ) → Appends a b lines → AppendsRest b c lines text
     → Appends a c text
-lines_all a b c lines text before (rest, whole, after) =
-    subst (Appends a c) whole (Appends-trans a b c lines rest before after)
+lines_all a b c lines text before (rest, whole, after) = grind (arith, Appends-trans)
 
-lines_part : (a b c : Option (List ℕ)) (lines text : List ℕ) → Appends a b lines → AppendsRestPrefix b c lines text
+pub lines_part : (a b c : Option (List ℕ)) (lines text : List ℕ) → Appends a b lines → AppendsRestPrefix b c lines text
     → AppendsPrefix a c text
 lines_part a b c lines text before (rest, whole, after) =
     part_same a c (lines ++ rest) text (part_after a b c lines rest before after) whole
@@ -37,16 +33,14 @@ module _ (start : ReplayStart) (history : List Entry) where
   abbrev lines : List ℕ
   lines = entry_lines start.setup.rules start.trace history
 
-  -- what is written stays so
-  pub prefix_written : (w w' r r' : Option (List ℕ)) → AllWritten start history w r → Keeps w w' → Keeps r r'
-      → PrefixWritten start history w' r'
-  prefix_written w w' r r' all kept kept' =
-      record {
-        part_sent = part_whole start.sent w' (capture_text history) (Appends-kept start.sent w w' (capture_text history)
-            all.all_sent kept);
-        part_lines = part_whole start.report r' lines (Appends-kept start.report r r' lines all.all_lines kept');
-      }
+  -- all is a prefix
+  pub prefix_written : (w r : Option (List ℕ)) → AllWritten start history w r → PrefixWritten start history w r
+  prefix_written w r all = record {
+    part_sent = part_whole start.sent w (capture_text history) all.all_sent;
+    part_lines = part_whole start.report r lines all.all_lines;
+  }
 
+  -- what is written stays so
   pub still_written : (w r r' : Option (List ℕ)) → AllWritten start history w r → Keeps r r'
       → AllWritten start history w r'
   still_written w r r' all kept = record {
@@ -59,10 +53,8 @@ module _ (start : ReplayStart) (history : List Entry) where
       → PrefixWritten start (e ∷ history) w r
   part_more e w r p =
       record {
-        part_sent = part_same start.sent w (capture_text history ++ flat_map sll2_record (sends e))
-            (capture_text (e ∷ history)) (part_first start.sent w (capture_text history) (flat_map sll2_record (sends e))
-            p.part_sent)
-            (sym (captured_more history e));
+        part_sent = subst (AppendsPrefix start.sent w) (sym (captured_more history e))
+            (part_first start.sent w (capture_text history) (flat_map sll2_record (sends e)) p.part_sent);
         part_lines = part_first start.report r lines (lines_of start.setup.rules start.trace (length (e ∷ history)) e)
             p.part_lines;
       }
@@ -71,19 +63,10 @@ module _ (start : ReplayStart) (history : List Entry) where
   pub broke_writing : (last : Option Recorded) (w w' r r' : Option (List ℕ))
       → IfSome last (λ taken. BreaksAtRecord start history taken w r) → PrefixWritten start history w' r'
       → IfSome last (λ taken. BreaksAtRecord start history taken w' r')
-  broke_writing None w w' r r' b part = tt
-  broke_writing (Some taken) w w' r r' b part = record {
-    entry = b.entry;
-    next = b.next;
-    part = part_more b.entry w' r' part;
-  }
+  broke_writing last w w' r r' broke part =
+      IfSome_then last broke (λ _ b. record { entry = b.entry; next = b.next; part = part_more b.entry w' r' part })
 
 -- ---- what doesn't change the represented history
-
--- the reserved notes
-with_room : (k : ReportState) (room : ℕ) (rules : List TableTree) (trace : Bool) (history : List Entry) (told : List ℕ)
-    → IsReportOf k rules trace history told → IsReportOf (record k { room = room }) rules trace history told
-with_room k room rules trace history told h = search rules
 
 -- whether the engine is ready
 pub readied : (engine now : EngineState) (ready : Bool) (history : List Entry) → now ≡ record engine { ready = ready }
@@ -131,7 +114,7 @@ module _ {replay : Replay} {start : ReplayStart} {history : List Entry} {w r : O
         → P rs start.trace history p.lines) (e ∙ ap (λ (s : Setup). s.rules) p.same) (drains start.trace history p.lines) p.reports
 
     -- all that is buffered was sent
-    all_sent : (w' : Option (List ℕ)) → Appends w w' replay.sink.buffered → Appends start.sent w' (capture_text history)
+    pub all_sent : (w' : Option (List ℕ)) → Appends w w' replay.sink.buffered → Appends start.sent w' (capture_text history)
     all_sent w' sent = subst (Appends start.sent w') (sym p.gets.1)
         (Appends-trans start.sent w w' p.gets.0 replay.sink.buffered p.gets.2 sent)
 
@@ -192,36 +175,16 @@ module _ {replay : Replay} {start : ReplayStart} {history : List Entry} {w r : O
     -- ---- after the last record
 
     -- what the last lines append, where the number of live connections is the engine's
-    closed : {live : ℕ} (torn : Bool) {rules : List TableTree} → rules ≡ replay.engine.setup.rules
-        → live ≡ length (live_in replay.engine.setup history) → (Q : List ℕ → List ℕ → Type 0) (P : List ℕ → Type 0)
-        → ((lines text : List ℕ) → Appends start.report r lines → Q lines text → P text)
+    pub closed : {live : ℕ} (torn : Bool) {rules : List TableTree} {Q : List ℕ → List ℕ → Type 0} {P : List ℕ → Type 0}
+        → ((lines text : List ℕ) → Appends start.report r lines → Q lines text → P text) → rules ≡ replay.engine.setup.rules
+        → live ≡ length (live_in replay.engine.setup history)
         → ((trace : Bool) (history : List Entry) (lines : List ℕ) → IsReportOf replay.numbers rules trace history lines
         → Q lines (entry_lines rules trace history ++ closing_lines rules history live torn))
         → P (report_text start.setup start.trace history torn)
-    closed {live} torn {rules} e lives Q P joins says = subst (λ (n : ℕ). P (entry_lines start.setup.rules start.trace history
+    closed {live} torn {rules} {Q} {P} joins e lives says = subst (λ (n : ℕ). P (entry_lines start.setup.rules start.trace history
         ++ closing_lines start.setup.rules history n torn)) (lives ∙ ap (λ (s : Setup). length (live_in s history)) p.same)
         (joins p.lines _ p.appends_report (drained (λ rules trace history lines.
         Q lines (entry_lines rules trace history ++ closing_lines rules history live torn)) rules e says))
-
-    module _ {live : ℕ} (torn : Bool) {w' r' : Option (List ℕ)} {rules : List TableTree}
-        (sent : Appends w w' replay.sink.buffered) (e : rules ≡ replay.engine.setup.rules)
-        (lives : live ≡ length (live_in replay.engine.setup history))
-      where
-        pub finished : ((trace : Bool) (history : List Entry) (lines : List ℕ) → IsReportOf replay.numbers rules trace history lines
-            → AppendsRest r r' lines (entry_lines rules trace history ++ closing_lines rules history live torn))
-            → OutputsFinished start history torn w' r'
-        finished says = record {
-          all_sent = all_sent w' sent;
-          all_lines = closed torn e lives (AppendsRest r r') (Appends start.report r') (lines_all start.report r r') says;
-        }
-
-        pub unfinished : ((trace : Bool) (history : List Entry) (lines : List ℕ) → IsReportOf replay.numbers rules trace history lines
-            → AppendsRestPrefix r r' lines (entry_lines rules trace history ++ closing_lines rules history live torn))
-            → ReportUnfinished start history torn w' r'
-        unfinished says = record {
-          all_sent = all_sent w' sent;
-          part_lines = closed torn e lives (AppendsRestPrefix r r') (AppendsPrefix start.report r') (lines_part start.report r r') says;
-        }
 
     -- ---- the next record
 
@@ -235,7 +198,7 @@ module _ {replay : Replay} {start : ReplayStart} {history : List Entry} {w r : O
           represents = readied replay.engine engine ready history is_engine p.represents;
           gets = p.gets;
           lines = p.lines;
-          reports = rw is (with_room replay.numbers numbers.room start.setup.rules start.trace history p.lines p.reports);
+          reports = let h = p.reports in rw is (search rules);
           appends_report = p.appends_report;
         }
 

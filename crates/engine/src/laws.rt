@@ -64,9 +64,7 @@ pub fn some_answer()
         × Meaning rules box capture trace count torn sent report) ⊎ ((fault : RunFault)
         × IsRefusal fault × Refuses rules box (Some capture) fault) }
 {
-    nft_parser::some_answer();
-    some_box();
-    well_formed_or_least_fault();
+    some_judging();
     some_reading();
     one_entry();
 }

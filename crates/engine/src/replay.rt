@@ -9,11 +9,11 @@ ghost use Rattle.pcap_io.specs.declared.sink.SinkError.{SinkError};
 ghost use Rattle.stepping.specs.Representing.{Represents};
 ghost use Rattle.engine.specs.declared.fault.RunFault.{RunFault};
 ghost use Rattle.engine.specs.AfterFault.{AllFlushed, CountsFault, devices};
-ghost use Rattle.engine.specs.Refusals.{IsOfRecord};
-ghost use Rattle.engine.specs.steps.Replayed.{BreaksAtLast, CountsFailedWrite, CountsWriteFault, IsBegun, IsOpened};
+ghost use Rattle.engine.specs.Refusals.{IsBeforeHeader, IsOfRecord};
+ghost use Rattle.engine.specs.steps.Replayed.{BreaksAtLast, CountsFailedWrite, IsBegun, IsOpened};
 ghost use Rattle.engine.specs.steps.Replayed.{IsStop, KeepsLast, ReplaysAll, RepresentsSome, StillRepresents};
 ghost use Rattle.engine.specs.steps.Replayed.{TakesLast, WritesAll, WritesPrefix, writers};
-ghost use Rattle.engine.specs.steps.Replayed.{Finishes, IsWithin, LeavesPrefix, WritesOutputs, torn_at};
+ghost use Rattle.engine.specs.steps.Replayed.{Finishes, LeavesPrefix, WritesOutputs, torn_at};
 
 use crate::fault::RunFault;
 use crate::runs::Summary;
@@ -71,7 +71,7 @@ pub(crate) fn replay_capture<R: Read, W: Write, W2: Write>(
     ensures refused { IfErr result (λ fault. IsOfRecord fault → AllFlushed sent.new report.new) }
     ensures memory { IsErrOf result RunFault.Memory
         → ((sent.new ≡ sent.old) × (report.new ≡ report.old)) ⊎ AllFlushed sent.new report.new }
-    ensures within { IfErr result IsWithin }
+    ensures within { IfErr result (λ fault. IsBeforeHeader fault → ⊥) }
     ensures left { IfErr result (λ fault. LeavesPrefix engine.setup trace records fault
         (devices R.remaining W.contents W2.contents capture.old sent.old report.old)
         (devices R.remaining W.contents W2.contents capture.new sent.new report.new)) }
@@ -140,7 +140,7 @@ impl Replay {
         ensures stop { IfOk result IsStop }
         ensures drained { IfOk result (λ stop. (torn : Bool) → torn_at stop ≡ Ok torn
             → IsAtEnd (R.remaining capture.new.inner)) }
-        ensures within { IfErr result IsWithin }
+        ensures within { IfErr result (λ fault. IsBeforeHeader fault → ⊥) }
         ensures refused { IfErr result (λ fault. IsOfRecord fault → AllFlushed sent.new report.new) }
         ensures flushed { IsErrOf result RunFault.Memory → AllFlushed sent.new report.new }
         ensures failures { CountsFault result
@@ -288,7 +288,7 @@ impl Replay {
         ensures flushed { result ≢ Err RunFault.Device → AllFlushed sent.new report.new }
         ensures refused { IfErr result (λ fault. IsOfRecord fault → AllFlushed sent.new report.new) }
         ensures records { self.new.numbers.records ≡ self.old.numbers.records }
-        ensures failures { CountsWriteFault result
+        ensures failures { CountsFault result
             (writers W.contents W2.contents sent.old report.old)
             (writers W.contents W2.contents sent.new report.new) }
     {

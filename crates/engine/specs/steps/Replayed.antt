@@ -1,19 +1,18 @@
 -- The replay of a capture's records, and the outputs of a capture whose header is accepted.
 use Rattle.std.specs.Prelude.{◌≡◌, ◌≤◌, ℕ, Bool, true, List, [], ◌∷◌, ◌++◌, length, drop, All, ◌⊎◌, Option, Some, None, IfSome, Result, Err, MatchResult}
 use Rattle.std.specs.Prelude.{false, Ok}
-use Rattle.std.specs.List.{flat_map}
 use Rattle.std.specs.Io.KnownBytes.{Appends, IsAtEnd, prepend_known}
 use Rattle.pcap_io.specs.declared.format.Format.{Format}
 use Rattle.pcap_io.specs.declared.fault.CaptureFault.{CaptureFault}
 use Rattle.pcap_io.specs.Pcap.{Captured, Recorded, IsRecord, Ending, Whole, Torn, Malformed, Over, Ends, stream_of, decoded_records, HEADER_BYTES}
 use Rattle.pcap_io.specs.Pcap.{MOST_RECORDS, format_of}
-use Rattle.pcap_io.specs.CaptureStates.{CaptureState, READ_AHEAD}
-use Rattle.pcap_io.specs.Sll2.{sll2_record}
+use Rattle.pcap_io.specs.CaptureStates.{CaptureState, IsOfRecords, READ_AHEAD}
+use Rattle.pcap_io.specs.declared.fault.CaptureError.TheVariants.{Refused}
 use Rattle.pcap_io.specs.Counting.{AppendsPrefix, one_more}
 use Rattle.pcap_io.specs.declared.counted.Counted.{Counted}
 use Rattle.pcap_io.specs.declared.whole.DeviceFailed.{DeviceFailed}
 use Rattle.pcap_io.specs.Buffering.{AppendsBuffered}
-use Rattle.history.specs.History.{Entry, capture_text, in_order, sends}
+use Rattle.history.specs.History.{Entry, capture_text}
 use Rattle.report.specs.Report.{entry_lines, report_text}
 use Rattle.report.specs.Representing.{IsReportOf}
 use Rattle.history.specs.Setup.{Setup}
@@ -22,22 +21,14 @@ use Rattle.stepping.specs.Representing.{EngineState, Represents}
 use Rattle.engine.specs.declared.fault.RunFault.{RunFault}
 use Rattle.engine.specs.declared.fault.RunFault.TheVariants.{Device, Memory, Capture}
 use Rattle.engine.specs.declared.replay.Replay.{Replay}
-use Rattle.engine.specs.AfterFault.{Devices, LeftDevices, Untouched}
+use Rattle.engine.specs.AfterFault.{Devices, LeftDevices, NoneFailed, OneFailed, Untouched}
 use Rattle.engine.specs.Meaning.{Accepted, Meaning}
 use Rattle.engine.specs.declared.runs.Summary.{Summary}
 use Rattle.pcap_io.specs.declared.fault.CaptureFault.TheVariants as captures
 
--- the output capture's records of a history
-abbrev pub sent_records : List Entry → List ℕ
-sent_records history = flat_map sll2_record (flat_map sends (in_order history))
-
 -- the faults at which records stop
 abbrev pub IsStop : Option CaptureFault → Type 0
-IsStop None = Unit {0}
-IsStop (Some captures.TornEnd) = Unit {0}
-IsStop (Some captures.Malformed) = Unit {0}
-IsStop (Some captures.TooMany) = Unit {0}
-IsStop _ = ⊥
+IsStop stop = IfSome stop (λ fault. IsOfRecords (Refused fault))
 
 -- the ending at such a fault, or at none
 abbrev pub ending_at : Option CaptureFault → Ending
@@ -48,42 +39,21 @@ ending_at _ = Whole
 
 -- ---- the writers
 
--- what the two writers hold, where it is known, and their numbers of failed calls
-pub record Writers : Type 0 where
-  pub sent : Option (List ℕ)
-  pub report : Option (List ℕ)
-  pub sends_failed : ℕ
-  pub reports_failed : ℕ
-
--- of two writers that count their calls, by what each holds
+-- of two writers that count their calls, by what each holds; there is no reader
 abbrev pub writers : {W W2 : Type 0} → (W → Option (List ℕ)) → (W2 → Option (List ℕ)) → Counted W
-    → Counted W2 → Writers
+    → Counted W2 → Devices
 writers sent_bytes report_bytes sent report = record {
+  unread = None;
   sent = sent_bytes sent.inner;
   report = report_bytes report.inner;
+  reads_failed = 0;
   sends_failed = sent.failures;
   reports_failed = report.failures;
 }
 
--- no call of a writer failed
-abbrev pub NoWriteFailed : Writers → Writers → Type 0
-NoWriteFailed old new = (new.sends_failed ≡ old.sends_failed) × (new.reports_failed ≡ old.reports_failed)
-
--- exactly one did
-abbrev pub OneWriteFailed : Writers → Writers → Type 0
-OneWriteFailed old new =
-    ((new.sends_failed ≡ one_more old.sends_failed) × (new.reports_failed ≡ old.reports_failed))
-    ⊎ ((new.sends_failed ≡ old.sends_failed) × (new.reports_failed ≡ one_more old.reports_failed))
-
 -- an error is one failed call
-abbrev pub CountsFailedWrite : {T : Type 0} → Result T DeviceFailed → Writers → Writers → Type 0
-CountsFailedWrite result old new =
-    MatchResult result (λ _. NoWriteFailed old new) (λ _. OneWriteFailed old new)
-
--- `Device` is
-abbrev pub CountsWriteFault : {T : Type 0} → Result T RunFault → Writers → Writers → Type 0
-CountsWriteFault (Err Device) old new = OneWriteFailed old new
-CountsWriteFault _ old new = NoWriteFailed old new
+abbrev pub CountsFailedWrite : {T : Type 0} → Result T DeviceFailed → Devices → Devices → Type 0
+CountsFailedWrite result old new = MatchResult result (λ _. NoneFailed old new) (λ _. OneFailed old new)
 
 -- the start of a replay: the configuration, whether it traces, and what the two writers hold, where it is
 -- known
@@ -142,43 +112,38 @@ pub record BreaksAtRecord (start : ReplayStart) (history : List Entry) (taken : 
 
 -- ---- what a call leaves of the history that a replay represents, whichever it is
 
+abbrev pub OfHistory : Replay → Option (List ℕ) → Option (List ℕ) → (ReplayStart → List Entry → Type 0) → Type 0
+OfHistory replay w r P = (start : ReplayStart) (history : List Entry) → ReplayRepresents replay start history w r
+    → P start history
+
 -- it still represents it
-abbrev pub StillRepresents : Replay → Replay → Writers → Writers → Type 0
-StillRepresents replay now old new = (start : ReplayStart) (history : List Entry)
-    → ReplayRepresents replay start history old.sent old.report
-    → ReplayRepresents now start history new.sent new.report
+abbrev pub StillRepresents : Replay → Replay → Devices → Devices → Type 0
+StillRepresents replay now old new = OfHistory replay old.sent old.report
+    (λ start history. ReplayRepresents now start history new.sent new.report)
 
 -- its outputs are written
-abbrev pub WritesAll : Replay → Writers → Writers → Type 0
-WritesAll replay old new = (start : ReplayStart) (history : List Entry)
-    → ReplayRepresents replay start history old.sent old.report
-    → AllWritten start history new.sent new.report
+abbrev pub WritesAll : Replay → Devices → Devices → Type 0
+WritesAll replay old new = OfHistory replay old.sent old.report
+    (λ start history. AllWritten start history new.sent new.report)
 
 -- a prefix of them is
-abbrev pub WritesPrefix : Replay → Writers → Writers → Type 0
-WritesPrefix replay old new = (start : ReplayStart) (history : List Entry)
-    → ReplayRepresents replay start history old.sent old.report
-    → PrefixWritten start history new.sent new.report
+abbrev pub WritesPrefix : Replay → Devices → Devices → Type 0
+WritesPrefix replay old new = OfHistory replay old.sent old.report
+    (λ start history. PrefixWritten start history new.sent new.report)
 
 -- the last record read is processed too, or it isn't, or a prefix of the outputs with its entry is written;
 -- the report's writer isn't called
 abbrev pub TakesLast : Replay → Replay → Option (List ℕ) → Option (List ℕ) → Type 0
-TakesLast replay now old_sent new_sent =
-    (start : ReplayStart) (history : List Entry) (report : Option (List ℕ))
-    → ReplayRepresents replay start history old_sent report
-    → IfSome replay.records.last (λ taken. TakesRecord now start history taken new_sent report)
+TakesLast replay now old_sent new_sent = (report : Option (List ℕ)) → OfHistory replay old_sent report
+    (λ start history. IfSome replay.records.last (λ taken. TakesRecord now start history taken new_sent report))
 
 abbrev pub KeepsLast : Replay → Replay → Option (List ℕ) → Option (List ℕ) → Type 0
-KeepsLast replay now old_sent new_sent =
-    (start : ReplayStart) (history : List Entry) (report : Option (List ℕ))
-    → ReplayRepresents replay start history old_sent report
-    → ReplayRepresents now start history new_sent report
+KeepsLast replay now old_sent new_sent = (report : Option (List ℕ)) → OfHistory replay old_sent report
+    (λ start history. ReplayRepresents now start history new_sent report)
 
 abbrev pub BreaksAtLast : Replay → Option (List ℕ) → Option (List ℕ) → Type 0
-BreaksAtLast replay old_sent new_sent =
-    (start : ReplayStart) (history : List Entry) (report : Option (List ℕ))
-    → ReplayRepresents replay start history old_sent report
-    → IfSome replay.records.last (λ taken. BreaksAtRecord start history taken new_sent report)
+BreaksAtLast replay old_sent new_sent = (report : Option (List ℕ)) → OfHistory replay old_sent report
+    (λ start history. IfSome replay.records.last (λ taken. BreaksAtRecord start history taken new_sent report))
 
 -- ---- all records
 
@@ -210,9 +175,9 @@ start_of input = record {
   report = input.before.report;
 }
 
--- the bytes behind the header begin with the records of this history, and then these follow
-pub record BeginsWithRecords (input : ReplayInput) (after : List ℕ) (history : List Entry) : Type 0 where
-  pub records : List Captured
+-- the bytes behind the header begin with these records, of this history, and then these bytes follow
+pub record BeginsWithRecords (input : ReplayInput) (records : List Captured) (after : List ℕ)
+    (history : List Entry) : Type 0 where
   pub joined : drop HEADER_BYTES input.capture ≡ stream_of records after
   pub each : All (IsRecord input.format) records
   pub not_over : length records ≤ MOST_RECORDS
@@ -224,10 +189,12 @@ pub record Replayed (replay : Replay) (input : ReplayInput) (ending : Ending) (u
   pub ahead : List ℕ
   pub left : List ℕ
   pub is_left : unread ≡ Some left
+  pub records : List Captured
   pub history : List Entry
-  pub follows : BeginsWithRecords input (ahead ++ left) history
+  pub follows : BeginsWithRecords input records (ahead ++ left) history
+  pub noted : replay.numbers.records ≡ length records
   pub few : length ahead ≤ READ_AHEAD
-  pub ends : Ends input.format ending (length follows.records) (ahead ++ left)
+  pub ends : Ends input.format ending (length records) (ahead ++ left)
   pub replay_represents : ReplayRepresents replay (start_of input) history w r
 
 -- the devices after a fault of an input, before whose records so many reads had failed
@@ -235,13 +202,17 @@ abbrev pub LeavesOf : ReplayInput → ℕ → Devices → RunFault → Type 0
 LeavesOf input failed new fault = LeftDevices input.rules input.box input.capture input.trace
     (record input.before { reads_failed = failed }) new fault
 
+-- what holds of each input at whose first record a replay is
+abbrev pub OfBegun : Replay → Devices → (ReplayInput → Type 0) → Type 0
+OfBegun replay old P = (input : ReplayInput) → replay.records.format ≡ input.format
+    → unread_input replay.records old.unread ≡ Some (drop HEADER_BYTES input.capture)
+    → ReplayRepresents replay (start_of input) [] old.sent old.report → P input
+
 -- the bytes to come are the records processed, and stop so; or a fault interrupts them
 abbrev pub ReplaysAll : Replay → Replay → Result (Option CaptureFault) RunFault → Devices → Devices → Type 0
-ReplaysAll replay now result old new = (input : ReplayInput) → replay.records.format ≡ input.format
-    → unread_input replay.records old.unread ≡ Some (drop HEADER_BYTES input.capture)
-    → ReplayRepresents replay (start_of input) [] old.sent old.report → MatchResult result
+ReplaysAll replay now result old new = OfBegun replay old (λ input. MatchResult result
     (λ stop. Replayed now input (ending_at stop) new.unread new.sent new.report)
-    (LeavesOf input old.reads_failed new)
+    (LeavesOf input old.reads_failed new))
 
 -- whether the capture ends inside a record, or the fault at which its records stop
 abbrev pub torn_at : Option CaptureFault → Result Bool RunFault
@@ -251,33 +222,22 @@ torn_at (Some fault) = Err (Capture fault)
 
 -- ---- after the last record
 
--- both outputs of a history are written
-pub record OutputsFinished (start : ReplayStart) (history : List Entry) (torn : Bool)
-    (w r : Option (List ℕ)) : Type 0 where
-  pub all_sent : Appends start.sent w (capture_text history)
-  pub all_lines : Appends start.report r (report_text start.setup start.trace history torn)
-
--- the output capture is written, and a prefix of the report
-pub record ReportUnfinished (start : ReplayStart) (history : List Entry) (torn : Bool)
-    (w r : Option (List ℕ)) : Type 0 where
-  pub all_sent : Appends start.sent w (capture_text history)
-  pub part_lines : AppendsPrefix start.report r (report_text start.setup start.trace history torn)
-
 -- the writers, and the report's failed calls, after a fault behind the last record
 abbrev pub FinishFails : ReplayStart → List Entry → Option CaptureFault → Option (List ℕ) → Option (List ℕ)
     → ℕ → ℕ → RunFault → Type 0
 FinishFails start history stop w r before after (Capture fault) = (torn_at stop ≡ Err (Capture fault))
     × AllWritten start history w r
 FinishFails start history stop w r before after Device = PrefixWritten start history w r ⊎ ((torn : Bool)
-    × (torn_at stop ≡ Ok torn) × ReportUnfinished start history torn w r × (after ≡ one_more before))
+    × (torn_at stop ≡ Ok torn) × (Appends start.sent w (capture_text history)
+    × AppendsPrefix start.report r (report_text start.setup start.trace history torn)) × (after ≡ one_more before))
 FinishFails start history stop w r before after _ = ⊥
 
 -- a replay whose records stop so is finished, or a fault stops it
-abbrev pub Finishes : Replay → Option CaptureFault → Result Bool RunFault → Writers → Writers → Type 0
-Finishes replay stop result old new = (start : ReplayStart) (history : List Entry)
-    → ReplayRepresents replay start history old.sent old.report
-    → MatchResult result (λ torn. OutputsFinished start history torn new.sent new.report)
-    (FinishFails start history stop new.sent new.report old.reports_failed new.reports_failed)
+abbrev pub Finishes : Replay → Option CaptureFault → Result Bool RunFault → Devices → Devices → Type 0
+Finishes replay stop result old new = OfHistory replay old.sent old.report (λ start history.
+    MatchResult result (λ torn. Appends start.sent new.sent (capture_text history)
+    × Appends start.report new.report (report_text start.setup start.trace history torn))
+    (FinishFails start history stop new.sent new.report old.reports_failed new.reports_failed))
 
 -- ---- the whole
 
@@ -317,11 +277,3 @@ WritesOutputs setup trace records summary old new = OfEach setup trace records o
 abbrev pub LeavesPrefix : Setup → Bool → CaptureState → RunFault → Devices → Devices → Type 0
 LeavesPrefix setup trace records fault old new = OfEach setup trace records old (λ input.
     LeavesOf input old.reads_failed new fault ⊎ ((fault ≡ Memory) × Unchanged old new))
-
--- a fault among the records
-abbrev pub IsWithin : RunFault → Type 0
-IsWithin (Capture captures.Malformed) = Unit {0}
-IsWithin (Capture captures.TooMany) = Unit {0}
-IsWithin Device = Unit {0}
-IsWithin Memory = Unit {0}
-IsWithin _ = ⊥

@@ -1,14 +1,9 @@
-use Rattle.engine.proofs.Names.{Consumes-nil, Err, Keeps-refl, [], ap, arith, devices, err_from_is_err_and, inl, refl}
+use Rattle.engine.proofs.Names.{Consumes-nil, Err, Keeps-refl, [], ap, arith, devices, err_from_is_err_and, refl}
 use Rattle.list_laws.specs.Options.{IfSome_weaker}
-use Rattle.engine.proofs.Refusing.{misjudged}
-use Rattle.engine.proofs.Meanings.{accepted_of, if_err_both, if_ok_then, left_all, left_of_texts, left_unopened, left_unread, nothing_taken, opened}
+use Rattle.std.proofs.lemmas.Result.{IfOk-weaker}
+use Rattle.engine.proofs.Meanings.{accepted_of, if_err_both, left_all, left_of_texts, left_unopened, left_unread, nothing_taken, opened}
 use Rattle.engine.proofs.Meanings.{refuses_capture, refuses_within, wrote}
 use Rattle.engine.proofs.runs.run.Goals as goal
-
-pub returns-in_err-checked-clause-refusals : goal.returns-in_err-checked-clause-refusals
-returns-in_err-checked-clause-refusals g c =
-    let p = err_from_is_err_and c.from_residual.result c.from_residual.ensures.1 in
-    rw p.1 (rw p.2 (misjudged _ _ _ c.in_err-checked.field-0.0 c.in_err-checked.ensures.refused))
 
 pub returns-in_err-checked-clause-left : goal.returns-in_err-checked-clause-left
 returns-in_err-checked-clause-left g c =
@@ -32,21 +27,16 @@ returns-in-Err-Refused-clause-refusals g c =
     refuses_capture _ _ _ _ _ _ _ (accepted_of c.in_ok-checked.ensures.fine)
     (returns-in-Err-Refused-clause-left g c)
 
-pub returns-in-Err-Memory-clause-left : goal.returns-in-Err-Memory-clause-left
-returns-in-Err-Memory-clause-left g c =
-    let read = c.open.ensures.read in
-    IfSome_weaker _ _ _ (λ bytes h. inl h) (nothing_taken _ _ _ read.0 read.1 read.2 (Keeps-refl _, Keeps-refl _)
-    (c.in-Err-Memory.ensures.no_failure (λ e. cc)))
-
 pub returns-clause-meaning : goal.returns-clause-meaning
 returns-clause-meaning g c =
     let state = devices g.R.Read.remaining g.W.Write.contents g.W2.Write.contents in
     let read = c.open.ensures.read in
-    if_ok_then _ _ _ c.replay_capture.ensures.written (λ summary done.
+    IfOk-weaker _ _ _ (λ summary done.
     wrote c.one_meaning.ensures (accepted_of c.in_ok-checked.ensures.fine) _ c.args.trace c.in-Ok.records summary
     (state c.open.new.reader c.args.sent.now c.args.report.now)
     (state c.replay_capture.new.capture c.replay_capture.new.sent c.replay_capture.new.report) c.in_ok-engine.ensures.setup
     (opened _ c.in-Ok.records _ read.0 read.1 c.in-Ok.ensures.drained c.in-Ok.ensures.bytes) done)
+    c.replay_capture.ensures.written
 
 pub returns-clause-left : goal.returns-clause-left
 returns-clause-left g c =
@@ -70,10 +60,7 @@ returns-in-Err-Device-clause-left g c =
 
 pub returns-in_err-engine-clause-left : goal.returns-in_err-engine-clause-left
 returns-in_err-engine-clause-left g c =
-    let p = err_from_is_err_and c.from_residual-in_err-engine.result c.from_residual-in_err-engine.ensures.1 in
-    let read = c.open.ensures.read in
-    rw p.1 (rw p.2 (IfSome_weaker _ _ _ (λ bytes h. inl h) (nothing_taken _ _ _ read.0 read.1 read.2
-    (Keeps-refl _, Keeps-refl _) (c.in-Ok.ensures.no_failure (λ e. cc)))))
+    grind (arith, err_from_is_err_and, c.from_residual-in_err-engine.ensures.1, c.open.ensures.read, nothing_taken, Keeps-refl, c.in-Ok.ensures.no_failure)
 
 pub returns-clause-refusals : goal.returns-clause-refusals
 returns-clause-refusals g c =

@@ -1,4 +1,4 @@
-use Rattle.engine.proofs.Names.{Keeps-refl, err_from_is_err_and}
+use Rattle.engine.proofs.Names.{err_from_is_err_and}
 use Rattle.engine.proofs.WritingOutputs.{all_drained, part_undrained, part_unsent, prefix_written, still_written}
 use Rattle.engine.proofs.replay.Replay.close.Goals as goal
 
@@ -23,4 +23,4 @@ pub returns-in-Err-clause-written : goal.returns-in-Err-clause-written
 returns-in-Err-clause-written g c = λ start history p.
     let done = all_drained p _ c.drain.new.self c.finish.new.self _ _ c.rules.ensures
     c.in_ok-finish.ensures.ok c.in_ok-finish.ensures.empty c.in_ok-drain.ensures.ok in
-    prefix_written start history _ _ _ _ done.1 (Keeps-refl _) c.flush.ensures.bytes
+    prefix_written start history _ _ (still_written start history _ _ _ done.1 c.flush.ensures.bytes)

@@ -15,10 +15,10 @@ returns-in_err-drain-clause-kept g c =
 
 pub returns-clause-kept : goal.returns-clause-kept
 returns-clause-kept g c = λ start history p.
-    let done = all_drained p _ c.drain.new.self c.send.new.self _ _ c.rules.ensures
-    c.in_ok-send.ensures.ok c.in_ok-send.ensures.empty c.in_ok-drain.ensures.ok in done.0
+    (all_drained p _ c.drain.new.self c.send.new.self _ _ c.rules.ensures c.in_ok-send.ensures.ok c.in_ok-send.ensures.empty
+    c.in_ok-drain.ensures.ok).0
 
 pub returns-clause-written : goal.returns-clause-written
 returns-clause-written g c = λ unready start history p.
-    let done = all_drained p _ c.drain.new.self c.send.new.self _ _ c.rules.ensures
-    c.in_ok-send.ensures.ok c.in_ok-send.ensures.empty c.in_ok-drain.ensures.ok in done.1
+    (all_drained p _ c.drain.new.self c.send.new.self _ _ c.rules.ensures c.in_ok-send.ensures.ok c.in_ok-send.ensures.empty
+    c.in_ok-drain.ensures.ok).1

@@ -10,22 +10,22 @@ unreachable-requires-in_default-entry g c =
     c.in_default-entry.ensures.newest (t.0 ∷ s.0) t.2
 
 pub returns-in_default-clause-broken : goal.returns-in_default-clause-broken
-returns-in_default-clause-broken g c = λ is start history report p.
+returns-in_default-clause-broken g c = λ is report start history p.
     broke_unread p _ (λ taken. c.one_entry.ensures.some _ history taken c.judged.ensures)
 
 pub returns-in_default-reserve-clause-broken : goal.returns-in_default-reserve-clause-broken
-returns-in_default-reserve-clause-broken g c = λ is start history report p.
+returns-in_default-reserve-clause-broken g c = λ is report start history p.
     broke_unread p _ (λ taken. c.one_entry.ensures.some _ history taken c.judged.ensures)
 
 pub returns-in_err-put-clause-broken : goal.returns-in_err-put-clause-broken
-returns-in_err-put-clause-broken g c = λ is start history report p.
+returns-in_err-put-clause-broken g c = λ is report start history p.
     let q = roomier p c.reserve.new.self true c.reserve-2.new.self c.in-Ok.ensures.ok c.reserve-2.ensures.same in
     at_record _ (recorded_of c.in-Some.record) _ c.in-Some.ensures
     (broke_sending q (c.in-Ok-step.ensures.represents history q.represents) _ _ c.in-Some-leaving.ensures.sends
     c.in_err-put.ensures.part)
 
 pub returns-in_ok-put-clause-taken : goal.returns-in_ok-put-clause-taken
-returns-in_ok-put-clause-taken g c = λ is start history report p.
+returns-in_ok-put-clause-taken g c = λ is report start history p.
     let q = roomier p c.reserve.new.self true c.reserve-2.new.self c.in-Ok.ensures.ok c.reserve-2.ensures.same in
     at_record _ (recorded_of c.in-Some.record) _ c.in-Some.ensures
     (took q (c.in-Ok-step.ensures.represents history q.represents) {told = c.in-Some-entry.entry}
@@ -33,7 +33,7 @@ returns-in_ok-put-clause-taken g c = λ is start history report p.
     c.in-Some-leaving.ensures.sends (rw append-nil c.in_ok-put.ensures.ok))
 
 pub returns-in_default-leaving-clause-taken : goal.returns-in_default-leaving-clause-taken
-returns-in_default-leaving-clause-taken g c = λ is start history report p.
+returns-in_default-leaving-clause-taken g c = λ is report start history p.
     let q = roomier p c.reserve.new.self true c.reserve-2.new.self c.in-Ok.ensures.ok c.reserve-2.ensures.same in
     at_record _ (recorded_of c.in-Some.record) _ c.in-Some.ensures
     (took q (c.in-Ok-step.ensures.represents history q.represents) {told = c.in-Some-entry.entry}
