@@ -1,7 +1,7 @@
 -- One more packet at a position.
-use Rattle.report.proofs.Imports.{List, [], ap, arith, get_or, inl, inr, length, refl, set, suc, zero, ℕ, ◌-◌, ◌<◌, ◌∙◌, ◌∷◌, ◌≡◌, ◌≤◌}
+use Rattle.report.proofs.Imports.{List, [], ap, arith, changed, changed_from_one, get_or, inl, inr, length, refl, set, suc, zero, ℕ, ◌-◌, ◌<◌, ◌∙◌, ◌∷◌, ◌≡◌}
+use Rattle.report.proofs.Imports.{◌≤◌}
 use Rattle.std.proofs.Common.{◌⊎◌}
-use Rattle.report.specs.steps.Tallying.{changed, changed_from_one}
 
 -- ---- what a write changes
 

@@ -1,12 +1,9 @@
 mod Imports
 mod Counting
 mod Putting
-mod Texts
 mod Listing
-mod Summing
 mod CounterTexts
 mod Tallied
 mod NotedLines
-mod Ended
 mod OneMore
 mod Fresh

@@ -1,20 +1,19 @@
 -- What is put, one after another.
-use Rattle.report.proofs.Imports.{Appends, AppendsPrefix, Bool, List, Option, PutsAllBut, Text, [], ap, append_assoc, arith, drop, false, flat_map, get_or}
-use Rattle.report.proofs.Imports.{length, refl, sym, true, ℕ, ◌++◌, ◌+◌, ◌<◌, ◌∙◌, ◌∷◌, ◌≡◌}
-use Rattle.std.proofs.Common.{Err, Ok, Result, add-one, subst}
-use Rattle.std.proofs.KnownBytes.{Appends-trans}
-use Rattle.std.proofs.Math.Seq.{drop-cons}
+use Rattle.report.proofs.Imports.{Appends, AppendsPrefix, Bool, List, Option, PutsAllBut, Text, [], add-one, ap, append-nil, append_assoc, arith, drop}
+use Rattle.report.proofs.Imports.{drop-cons, false, flat_map, get_or, length, refl, sym, true, ℕ, ◌++◌, ◌+◌, ◌<◌, ◌∙◌, ◌≡◌}
+use Rattle.std.proofs.Common.{Err, Ok, OnErr, OnOk, Result, subst}
+use Rattle.std.specs.Prelude.{is_err}
 use Rattle.pcap_io.specs.declared.counted.Counted.{Counted}
-use Rattle.pcap_io.specs.steps.Written.{gets_more, gets_none, gets_part, part_after, part_first, part_same}
+use Rattle.pcap_io.specs.steps.Written.{gets_more, gets_none, gets_part, part_first, part_same}
 use Rattle.pcap_io.specs.Counting.{one_more}
 use Rattle.report.specs.declared.page.Page.{Page}
-use Rattle.report.specs.steps.Paging.{CountsFailure, Goes, IsSent, Puts, Sends, WroteText}
+use Rattle.report.specs.steps.Paging.{CountsFailure, Goes, IsSent, Puts, WroteText}
 
 goes_none : (f : Bool) (u : Text) (a : Option Text) (k : ℕ) → Goes f f u a u a k k []
 goes_none false u a k = (gets_none u a, refl)
 goes_none true u a k = (refl, refl, refl)
 
-goes_on : (f g h : Bool) (u v w : Text) (a b c : Option Text) (k m n : ℕ) (xs ys : Text) → Goes f g u a v b k m xs
+pub goes_on : (f g h : Bool) (u v w : Text) (a b c : Option Text) (k m n : ℕ) (xs ys : Text) → Goes f g u a v b k m xs
     → Goes g h v b w c m n ys → Goes f h u a w c k n (xs ++ ys)
 goes_on false false false u v w a b c k m n xs ys (x, l) (y, r) = (gets_more u v w a b c xs ys x y, r ∙ l)
 goes_on false false true u v w a b c k m n xs ys (x, l) (y, r) = (gets_part u v a b c xs ys x y, r ∙ ap one_more l)
@@ -26,6 +25,13 @@ goes_on false true true u v w a b c k m n xs ys (x, l) (y, is, r) = (
 )
 goes_on true false h u v w a b c k m n xs ys x y = let q = x.0 in absurd cc
 goes_on true true h u v w a b c k m n xs ys (x, is, l) (y, js, r) = (y, js ∙ is, r ∙ l)
+
+-- the buffered bytes and more are written by one call, or a prefix of them
+pub called : {T E : Type 0} (r : Result T E) (u : Text) (a b : Option Text) (k m : ℕ) (xs whole : Text) → whole ≡ u ++ xs
+    → OnOk r (Appends a b whole) → OnErr r (AppendsPrefix a b whole) → OnOk r (m ≡ k) → OnErr r (m ≡ one_more k)
+    → Goes false (is_err r) u a [] b k m xs
+called (Ok t) u a b k m xs whole is ok part same more = ((whole, sym is ∙ sym (append-nil whole), ok), same)
+called (Err t) u a b k m xs whole is ok part same more = (part_same a b whole (u ++ xs) part is, more)
 
 module _ {W : Type 0} {contents : W → Option Text} where
   pub puts_none : (p : Page) (w : Counted W) → Puts contents p w p w []
@@ -60,29 +66,28 @@ module _ {W : Type 0} {contents : W → Option Text} where
     puts = puts_on s.puts t;
   }
 
--- the lines of a list from an item on are its lines and those of the items after it
-pub written_at : {A : Type 0} (f : A → List ℕ) (xs : List A) (i : ℕ) (d : A) → i < length xs
-    → flat_map f (drop i xs) ≡ f (get_or xs i d) ++ flat_map f (drop (i + 1) xs)
-written_at f xs i d h = grind (arith, get_or, drop-cons, add-one)
+  -- of the lines of a list those of one more item are put
+  pub left_on : {A : Type 0} {p q r : Page} {w x y : Counted W} {whole : Text} (f : A → Text) (xs : List A) (i : ℕ) (d : A) → i < length xs
+      → PutsAllBut contents p w q x (flat_map f (drop i xs)) whole → Puts contents q x r y (f (get_or xs i d))
+      → PutsAllBut contents p w r y (flat_map f (drop (i + 1) xs)) whole
+  left_on f xs i d h s t =
+      let next : flat_map f (drop i xs) ≡ f (get_or xs i d) ++ flat_map f (drop (i + 1) xs) = grind (arith, get_or, drop-cons, add-one) in
+      left_more s next t
 
 -- ---- the last page
 
-sent : {T E : Type 0} (f g : Bool) (r : Result T E) (u v : Text) (a b c : Option Text) (k m n : ℕ) (xs : Text) → f ≡ false → u ≡ []
-    → Goes f g u a v b k m xs → Sends g r v b c m n → WroteText r a c xs × CountsFailure r k n
-sent true g r u v a b c k m n xs e none x y = absurd cc
-sent false false (Ok t) u v a b c k m n xs e none ((p, is, x), l) (y, s) =
-    (subst (λ zs. Appends a c zs) (sym is ∙ ap (λ ys. ys ++ xs) none) (Appends-trans a b c p v x y), s ∙ l)
-sent false false (Err t) u v a b c k m n xs e none ((p, is, x), l) (y, s) =
-    (part_same a c (p ++ v) xs (part_after a b c p v x y) (sym is ∙ ap (λ ys. ys ++ xs) none), s ∙ ap one_more l)
-sent false true (Ok t) u v a b c k m n xs e none x y = absurd y
-sent false true (Err t) u v a b c k m n xs e none (x, l) (is, s) =
-    (subst (λ o. AppendsPrefix a o xs) (sym is) (part_same a b (u ++ xs) xs x (ap (λ ys. ys ++ xs) none)), s ∙ l)
+sent : {T E : Type 0} (r : Result T E) (a b : Option Text) (k m : ℕ) (xs : Text) → Goes false (is_err r) [] a [] b k m (xs ++ [])
+    → WroteText r a b xs × CountsFailure r k m
+sent (Ok t) a b k m xs ((p, is, w), l) =
+    (subst (λ zs. Appends a b zs) (sym (append-nil p) ∙ (sym is ∙ append-nil xs)) w, l)
+sent (Err t) a b k m xs (w, l) = (part_same a b (xs ++ []) xs w (append-nil xs), l)
 
 -- what was put on a page that was empty is written, or as much as a call wrote
 pub sent_all : {W T E : Type 0} {contents : W → Option Text} {r : Result T E} {p q : Page} {w x y : Counted W} {xs : Text}
     → p.failed ≡ false → p.text.items ≡ [] → Puts contents p w q x xs → IsSent contents r q x y
     → WroteText r (contents w.inner) (contents y.inner) xs × CountsFailure r w.failures y.failures × (y.flushes ≡ w.flushes)
 sent_all {contents = contents} {r} {p} {q} {w} {x} {y} {xs} e none s t =
-    let done = sent p.failed q.failed r p.text.items q.text.items (contents w.inner) (contents x.inner) (contents y.inner)
-    w.failures x.failures y.failures xs e none s.goes t.sends in
+    let all = goes_on p.failed q.failed (is_err r) p.text.items q.text.items [] (contents w.inner) (contents x.inner) (contents y.inner)
+    w.failures x.failures y.failures xs [] s.goes t.sends in
+    let done = sent r (contents w.inner) (contents y.inner) w.failures y.failures xs (rw (e, none) at all) in
     (done.0, done.1, t.flushes ∙ s.flushes)

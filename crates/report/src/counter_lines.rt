@@ -14,6 +14,7 @@ use pcap_io::Counted;
 use std::io::Write;
 
 /// Appends the lines of all counters, in the ruleset's order.
+#[tactic(auto, using(crate::proofs::Putting::left_start))]
 pub fn put_counters<W: Write>(
     page: &mut Page,
     writer: &mut Counted<W>,
@@ -51,6 +52,7 @@ fn put_table<W: Write>(
 }
 
 /// Appends those of one chain; both numbers are from 0.
+#[tactic(auto, using(crate::proofs::Putting::left_start))]
 fn put_chain<W: Write>(
     page: &mut Page,
     writer: &mut Counted<W>,

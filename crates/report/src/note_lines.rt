@@ -20,6 +20,7 @@ use rule_meaning::Event;
 use std::io::Write;
 
 /// Appends the lines of notes, in their order.
+#[tactic(auto, using(crate::proofs::Putting::left_start))]
 pub fn put_notes<W: Write>(
     page: &mut Page,
     writer: &mut Counted<W>,

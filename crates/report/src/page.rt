@@ -1,8 +1,8 @@
 //! A text that is written page by page.
 ghost use Rattle.std.specs.Prelude.{◌≡◌, ◌≤◌, ◌+◌, [], false, length, OnOk, OnErr};
 ghost use Rattle.std.specs.Io.KnownBytes.{Appends};
-ghost use Rattle.pcap_io.specs.Counting.{AppendsPrefix};
-ghost use Rattle.report.specs.steps.Paging.{CountsFailure, IsSent, Puts, piece_text, pieces_text};
+ghost use Rattle.pcap_io.specs.Counting.{AppendsPrefix, one_more};
+ghost use Rattle.report.specs.steps.Paging.{IsSent, Puts, piece_text, pieces_text};
 
 use crate::piece::Piece;
 use arrayvec::ArrayVec;
@@ -76,6 +76,7 @@ impl Page {
     }
 
     /// Puts a line, or several, by their parts.
+    #[tactic(auto, using(crate::proofs::Putting::left_start))]
     pub fn put_all<W: Write>(&mut self, writer: &mut Counted<W>, pieces: &[Piece])
         ensures { Puts W.contents self.old writer.old self.new writer.new (pieces_text pieces.now) }
     {
@@ -93,7 +94,8 @@ impl Page {
         ensures part { OnErr result (AppendsPrefix (W.contents writer.old.inner)
             (W.contents writer.new.inner) self.old.text.items) }
         ensures failed { self.new.failed ≡ self.old.failed }
-        ensures counts { CountsFailure result writer.old.failures writer.new.failures }
+        ensures no_failure { OnOk result (writer.new.failures ≡ writer.old.failures) }
+        ensures device { OnErr result (writer.new.failures ≡ one_more writer.old.failures) }
         ensures flushes { writer.new.flushes ≡ writer.old.flushes }
         ensures none { self.old.text.items ≡ [] → writer.new ≡ writer.old }
     {

@@ -85,6 +85,7 @@ impl RuleTallies {
         Ok(RuleTallies { statements })
     }
 
+    #[tactic(auto, using(crate::proofs::Counting::set_from_one, crate::proofs::Counting::none_from_one))]
     fn count(&mut self, statement: u32, length: u16)
         ensures { self.new ≡ rule_counted length statement self.old }
     {
@@ -127,6 +128,7 @@ impl ChainTallies {
     ghost use Rattle.nft_tree.specs.TableItems.{numbered_from_one};
     ghost use Rattle.report.specs.steps.Tallying.{fresh_chain, chain_counted};
 
+    #[tactic(auto, using(crate::proofs::Fresh::growing))]
     fn new(alloc: Global, chain: &Chain) -> Result<Self, AllocError>
         ensures starts { IfOk result (λ c. c ≡ fresh_chain (chain_tree chain.now)) }
         ensures fits { IfOk result (λ c.
@@ -139,6 +141,7 @@ impl ChainTallies {
         Ok(ChainTallies { rules })
     }
 
+    #[tactic(auto, using(crate::proofs::Counting::set_from_one, crate::proofs::Counting::none_from_one))]
     fn count(&mut self, rule: u32, statement: u32, length: u16)
         ensures { self.new ≡ chain_counted length statement rule self.old }
     {
@@ -196,6 +199,7 @@ impl TableTallies {
         Ok(TableTallies { chains })
     }
 
+    #[tactic(auto, using(crate::proofs::Counting::set_there, crate::proofs::Counting::none_there))]
     fn count(&mut self, chain: u32, rule: u32, statement: u32, length: u16)
         ensures { self.new ≡ table_counted length statement rule chain self.old }
     {
@@ -236,6 +240,7 @@ impl RulesetTallies {
     ghost use Rattle.report.specs.steps.Tallying.{fresh, counted, counted_all};
 
     /// The counters at their initial values.
+    #[tactic(auto, using(crate::proofs::Fresh::growing))]
     pub fn new(alloc: Global, rules: &Ruleset) -> Result<Self, AllocError>
         ensures starts { IfOk result (λ tallies. tallies ≡ fresh (tables_of rules.now)) }
         ensures fits { IfOk result (λ tallies.
@@ -249,6 +254,7 @@ impl RulesetTallies {
     }
 
     /// Counts one packet of this length at a position, if the rules have it.
+    #[tactic(auto, using(crate::proofs::Counting::set_there, crate::proofs::Counting::none_there))]
     pub fn count(&mut self, position: StatementPosition, length: u16)
         ensures { self.new ≡ counted length position self.old }
     {

@@ -62,6 +62,7 @@ pub fn put_totals<W: Write>(page: &mut Page, writer: &mut Counted<W>, totals: &T
 }
 
 /// Appends a line for each cause.
+#[tactic(auto, using(crate::proofs::Putting::left_start))]
 fn put_drops<W: Write>(
     page: &mut Page,
     writer: &mut Counted<W>,

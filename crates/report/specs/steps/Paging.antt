@@ -1,5 +1,5 @@
 -- Text that is written through a page.
-use Rattle.std.specs.Prelude.{◌≡◌, ℕ, ◌++◌, Bool, true, false, List, Option, Result, MatchResult}
+use Rattle.std.specs.Prelude.{◌≡◌, ℕ, ◌++◌, Bool, true, false, List, [], Option, Result, MatchResult, is_err}
 use Rattle.std.specs.List.{flat_map}
 use Rattle.std.specs.Io.KnownBytes.{Appends}
 use Rattle.pcap_io.specs.declared.counted.Counted.{Counted}
@@ -47,10 +47,6 @@ abbrev pub WroteText : {T E : Type 0} → Result T E → Option Text → Option 
 WroteText r old new text = MatchResult r (λ _. Appends old new text) (λ _. AppendsPrefix old new text)
 
 -- what waits on the page is written, unless a write failed, now or before
-abbrev pub Sends : {T E : Type 0} → Bool → Result T E → Text → Option Text → Option Text → ℕ → ℕ → Type 0
-Sends false r waits old new fails fails' = WroteText r old new waits × CountsFailure r fails fails'
-Sends true r waits old new fails fails' = MatchResult r (λ _. ⊥) (λ _. (new ≡ old) × (fails' ≡ fails))
-
 pub record IsSent {W T E : Type 0} (contents : W → Option Text) (r : Result T E) (p : Page) (w x : Counted W) : Type 0 where
-  pub sends : Sends p.failed r p.text.items (contents w.inner) (contents x.inner) w.failures x.failures
+  pub sends : Goes p.failed (is_err r) p.text.items (contents w.inner) [] (contents x.inner) w.failures x.failures []
   pub flushes : x.flushes ≡ w.flushes

@@ -39,18 +39,17 @@ statements_text tallies t c at k (s ∷ ss) =
 abbrev pub first_of : ℕ → ℕ → ℕ → StatementPosition
 first_of table chain n = record { rule = record { table = table; chain = chain; rule = n }; statement = 1 }
 
+-- the lines of a list's items, each by its number, from n on
+abbrev pub numbered_lines : {A : Type 0} → (ℕ → A → Text) → ℕ → List A → Text
+numbered_lines line n [] = []
+numbered_lines line n (x ∷ xs) = line n x ++ numbered_lines line (n + 1) xs
+
 abbrev pub rules_text : Tallies → TableTree → ChainTree → ℕ → ℕ → ℕ → List RuleTree → Text
-rules_text tallies t c table chain n [] = []
-rules_text tallies t c table chain n (r ∷ rs) =
-    statements_text tallies t c (first_of table chain n) 1 r.statements
-    ++ rules_text tallies t c table chain (n + 1) rs
+rules_text tallies t c table chain =
+    numbered_lines (λ n r. statements_text tallies t c (first_of table chain n) 1 r.statements)
 
 abbrev pub chains_text : Tallies → TableTree → ℕ → ℕ → List ChainTree → Text
-chains_text tallies t table chain [] = []
-chains_text tallies t table chain (c ∷ cs) =
-    rules_text tallies t c table chain 1 c.rules ++ chains_text tallies t table (chain + 1) cs
+chains_text tallies t table = numbered_lines (λ n c. rules_text tallies t c table n 1 c.rules)
 
 abbrev pub tables_text : Tallies → ℕ → List TableTree → Text
-tables_text tallies table [] = []
-tables_text tallies table (t ∷ ts) =
-    chains_text tallies t table 0 (chains_of t) ++ tables_text tallies (table + 1) ts
+tables_text tallies = numbered_lines (λ n t. chains_text tallies t n 0 (chains_of t))

@@ -1,6 +1,5 @@
 -- the statements whose counters are left to put
-use Rattle.report.proofs.Imports.{PutsAllBut, chain_tree, drop, map, rule_tree, statement, statements_text, table_tree, ◌+◌, ◌≤◌}
-use Rattle.report.specs.steps.TallyLines.{position_of}
+use Rattle.report.proofs.Imports.{PutsAllBut, chain_tree, drop, map, position_of, rule_tree, statement, statements_text, table_tree, ◌+◌, ◌≤◌}
 use Rattle.report.proofs.counter_lines.put_rule.Given as goal
 
 abbrev pub invariant-loop-before : goal.invariant-loop-before

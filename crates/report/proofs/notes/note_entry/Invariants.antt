@@ -1,7 +1,6 @@
 -- the notes so far, and those of the events that are left
-use Rattle.report.proofs.Imports.{drop, length, ◌++◌, ◌+◌, ◌-◌, ◌≡◌, ◌≤◌}
+use Rattle.report.proofs.Imports.{drop, length, noted_events, ◌++◌, ◌+◌, ◌-◌, ◌≡◌, ◌≤◌}
 use Rattle.std.proofs.Common.{vec_capacity, vec_len}
-use Rattle.report.specs.steps.Noting.{noted_events}
 use Rattle.report.proofs.notes.note_entry.Given as goal
 
 abbrev pub invariant-loop-event : goal.invariant-loop-event

@@ -1,4 +1,4 @@
-use Rattle.report.proofs.Imports.{arith, refl, report_index}
+use Rattle.report.proofs.Imports.{arith}
 use Rattle.report.proofs.Fresh.{fresh_fits, fresh_starts, none_at}
 use Rattle.report.proofs.report.Report.new.Goals as goal
 

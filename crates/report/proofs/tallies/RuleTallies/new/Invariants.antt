@@ -1,6 +1,5 @@
 -- the tallies so far
-use Rattle.report.proofs.Imports.{All, map, statement, take, ◌≡◌}
-use Rattle.report.specs.steps.Tallying.{fresh_statement}
+use Rattle.report.proofs.Imports.{All, fresh_statement, map, statement, take, ◌≡◌}
 use Rattle.report.proofs.Fresh.{FitsStart}
 use Rattle.report.proofs.tallies.RuleTallies.new.Given as goal
 
