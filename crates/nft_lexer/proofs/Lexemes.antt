@@ -1,16 +1,17 @@
 -- What the reader gives is the longest lexeme, and it gives one wherever there is one.
-use Rattle.std.proofs.Common.{◌≡◌, ◌≢◌, ℕ, suc, ◌+◌, ◌-◌, ◌<◌, ◌≤◌, Bool, true, false, ◌==◌, List, [], ◌∷◌, ◌++◌}
-use Rattle.std.proofs.Common.{length, take, drop, Option, Some, None, inl, inr, refl, sym, ap, subst, ◌∙◌}
-use Rattle.std.proofs.Common.{append_assoc, arith, rules}
-use Rattle.std.specs.Prelude.{IfSome, IsSomeAnd, IsTrue, MatchResult, Result, Err, slice_index}
+use Rattle.std.proofs.Common.{◌≡◌, ◌≢◌, ℕ, suc, ◌+◌, ◌-◌, ◌<◌, ◌≤◌, Bool, true, ◌==◌, List, [], ◌∷◌, ◌++◌}
+use Rattle.std.proofs.Common.{length, take, Option, Some, None, inl, inr, refl, sym, ap, ◌∙◌}
+use Rattle.std.proofs.Common.{append_assoc, arith}
+use Rattle.std.specs.Prelude.{IfSome, IsSomeAnd, IsTrue, MatchResult, Result, Ok, Err}
+use Rattle.nft_lexer.specs.declared.fault.LexFault.{LexFault}
 use Rattle.std.specs.Char.{is_ascii_digit, is_ascii_hexdigit}
-use Rattle.std.specs.List.{AllByRecursion, prefix_len, list_all}
+use Rattle.std.specs.List.{prefix_len, list_all}
 use Rattle.std.specs.Option.{option_or}
-use Rattle.std.proofs.lemmas.Bool.{and_parts, eqb-true, eqb-false}
+use Rattle.std.proofs.lemmas.Bool.{and_parts, cond_both, eqb-true, eqb-false}
 use Rattle.std.proofs.lemmas.Bool.Decides.{nat_tests}
-use Rattle.std.proofs.lemmas.List.{take_at, drop_at, take-append-drop, length-append, length-drop, append-nil}
+use Rattle.std.proofs.lemmas.List.{take_at, take-append-drop, length-append, length-drop, append-nil, nil_from_length}
 use Rattle.std.proofs.Math.Seq.{take-append-add, drop-append-add}
-use Rattle.list_laws.specs.Options.{option_cases, IfSome_at, IfSome_weaker}
+use Rattle.list_laws.specs.Options.{◌>>=◌, option_cases, IfSome_at, IfSome_bind, IfSome_weaker}
 use Rattle.nft_lexer.specs.declared.token.Punctuator.{Punctuator}
 use Rattle.nft_lexer.specs.declared.token.Punctuator.TheVariants.{Equals, EqualTo, AtMost, AtLeast, Below, Above}
 use Rattle.nft_lexer.specs.declared.lexeme.Class.{Class}
@@ -23,11 +24,11 @@ use Rattle.nft_lexer.specs.Lexing.{dotted_quad, quoted, punctuation, is_blank, b
 use Rattle.nft_lexer.specs.Lexing.{is_no_newline, is_string_byte, punctuator_text, IsDigits, SpellsLexeme}
 use Rattle.nft_lexer.specs.Lexing.{IsLongestLexeme, HasTokens, BeginsNoLexeme, no_lexeme, open_string, no_token}
 use Rattle.nft_lexer.specs.Lexing.{IsFaultAt}
-use Rattle.nft_lexer.specs.steps.Reading.{◌>>=◌, class_of, punctuator_from, short_punctuators, long_punctuators}
+use Rattle.nft_lexer.specs.steps.Reading.{class_of, punctuator_from, short_punctuators, long_punctuators}
 use Rattle.nft_lexer.specs.steps.Reading.{after_byte, front, behind, run_at, is_zero, hexadecimal_at, next_octet_at}
 use Rattle.nft_lexer.specs.steps.Reading.{dotted_quad_at, number_at, quoted_at, long_punctuator_at, punctuator_at}
 use Rattle.nft_lexer.specs.steps.Reading.{class_at, lexeme_at, scanned_kind, meaning, next_at, at_line, ScansOne}
-use Rattle.nft_lexer.proofs.Numbers.{bind_found, view_found, by_test, meaning_found, meaning_only}
+use Rattle.nft_lexer.proofs.Numbers.{meaning_found, meaning_only}
 
 -- ---- options
 
@@ -42,12 +43,15 @@ else_found Q (Some x) d h k = h
 front_all : (test : ℕ → Bool) (ts : List ℕ) → list_all test (front test ts) ≡ true
 front_all test [] = refl
 front_all test (b ∷ bs) =
-    by_test (λ n. list_all test (take n (b ∷ bs)) ≡ true) (test b) (1 + prefix_len test bs) 0 (λ e.
+    cond_both (test b) (1 + prefix_len test bs) 0 (λ n. list_all test (take n (b ∷ bs)) ≡ true) (λ e.
     let one : 1 + prefix_len test bs ≡ suc (prefix_len test bs) = omega arith in
     rw (one, e) (front_all test bs)) (λ _. refl)
 
 front_behind : (test : ℕ → Bool) (ts : List ℕ) → ts ≡ front test ts ++ behind test ts
 front_behind test ts = sym (take-append-drop (prefix_len test ts) ts)
+
+front_read : (test : ℕ → Bool) (b : ℕ) (bs : List ℕ) → b ∷ bs ≡ (b ∷ front test bs) ++ behind test bs
+front_read test b bs = ap (λ (t : List ℕ). b ∷ t) (front_behind test bs)
 
 behind_short : (test : ℕ → Bool) (ts : List ℕ) → length (behind test ts) ≤ length ts
 behind_short test ts = omega (arith, length-drop (prefix_len test ts) ts)
@@ -56,10 +60,7 @@ behind_short test ts = omega (arith, length-drop (prefix_len test ts) ts)
 passed : (test : ℕ → Bool) (xs rest : List ℕ) → list_all test xs ≡ true
     → prefix_len test (xs ++ rest) ≡ length xs + prefix_len test rest
 passed test [] rest all = omega arith
-passed test (x ∷ xs) rest all =
-    let lexemes = and_parts (test x) (list_all test xs) all in
-    let others = passed test xs rest lexemes.1 in
-    rw lexemes.0 (omega arith)
+passed test (x ∷ xs) rest all = grind (arith, and_parts, passed test xs rest)
 
 front_more : (test : ℕ → Bool) (xs rest : List ℕ) → list_all test xs ≡ true
     → front test (xs ++ rest) ≡ xs ++ front test rest
@@ -77,9 +78,9 @@ run_found : (test : ℕ → Bool) (ts : List ℕ)
 unfolding run_at
 run_found test [] = tt
 run_found test (b ∷ bs) =
-    by_test (λ o. IfSome o (λ x. (b ∷ bs ≡ x.0 ++ x.1) × IsRun test x.0)) (test b)
-    (Some (b ∷ front test bs, behind test bs)) None
-    (λ e. (ap (λ (t : List ℕ). b ∷ t) (front_behind test bs), ((λ n. absurd cc), rw e (front_all test bs))))
+    cond_both (test b) (Some (b ∷ front test bs, behind test bs)) None
+    (λ o. IfSome o (λ x. (b ∷ bs ≡ x.0 ++ x.1) × IsRun test x.0))
+    (λ e. (front_read test b bs, ((λ n. absurd cc), rw e (front_all test bs))))
     (λ _. tt)
 
 -- A run is read together with the bytes that continue it.
@@ -111,25 +112,26 @@ Onward first ts x = SpellsFront x.0 (first ++ ts) x.1 × (length x.1 < length ts
 
 zero_is : (ds : List ℕ) → is_zero ds ≡ true → ds ≡ 48 ∷ []
 zero_is [] e = absurd cc
-zero_is (b ∷ []) e = ap (λ (x : ℕ). x ∷ []) (eqb-true b 48 e)
-zero_is (b ∷ c ∷ cs) e = absurd (grind (arith, nat_tests))
+zero_is (b ∷ ds) e = grind (arith, nat_tests, nil_from_length)
 
 hexadecimal_found : (first ts : List ℕ) → IfSome (hexadecimal_at first ts) (Onward first ts)
 unfolding hexadecimal_at
 hexadecimal_found first ts =
-    bind_found _ (after_byte 120 ts) _ (byte_found 120 ts) (λ r er.
-    by_test (λ o. IfSome (o >>= (λ x. Some (hexadecimal x.0, x.1))) (Onward first ts)) (is_zero first)
-    (run_at is_ascii_hexdigit r) None (λ zero.
-    bind_found _ (run_at is_ascii_hexdigit r) _ (run_found is_ascii_hexdigit r) (λ x h. (
+    IfSome_bind _ (after_byte 120 ts) _ (byte_found 120 ts) (λ r er.
+    cond_both (is_zero first) (run_at is_ascii_hexdigit r) None
+    (λ o. IfSome (o >>= (λ x. Some (hexadecimal x.0, x.1))) (Onward first ts)) (λ zero.
+    IfSome_bind _ (run_at is_ascii_hexdigit r) _ (run_found is_ascii_hexdigit r) (λ x h. (
       (48 ∷ 120 ∷ x.0, rw (zero_is first zero, er, h.0) refl, (refl, h.1)),
       omega (arith, ap length er, ap length h.0, length-append x.0 x.1),
     ))) (λ _. tt))
 
-octet_found : (ts : List ℕ) → IfSome (next_octet_at ts) (λ x. (ts ≡ 46 ∷ (x.0 ++ x.1)) × IsDigits x.0)
+octet_found : (ts : List ℕ)
+    → IfSome (next_octet_at ts) (λ x. (ts ≡ 46 ∷ (x.0 ++ x.1)) × IsDigits x.0 × (length x.1 < length ts))
 unfolding next_octet_at
 octet_found ts =
-    bind_found _ (after_byte 46 ts) (run_at is_ascii_digit) (byte_found 46 ts) (λ r er.
-    IfSome_weaker (run_at is_ascii_digit r) _ _ (λ x h. (er ∙ ap (λ (t : List ℕ). 46 ∷ t) h.0, h.1))
+    IfSome_bind _ (after_byte 46 ts) (run_at is_ascii_digit) (byte_found 46 ts) (λ r er.
+    IfSome_weaker (run_at is_ascii_digit r) _ _
+    (λ x h. (cc (er, h.0), h.1, omega (arith, ap length er, ap length h.0, length-append x.0 x.1)))
     (run_found is_ascii_digit r))
 
 -- The text after the first of four octets, associated to the right.
@@ -142,122 +144,91 @@ regroup a b c d rest = simp append_assoc
 dotted_quad_found : (first ts : List ℕ) → IsDigits first → IfSome (dotted_quad_at first ts) (Onward first ts)
 unfolding dotted_quad_at
 dotted_quad_found first ts s =
-    bind_found _ (next_octet_at ts) _ (octet_found ts) (λ b hb.
-    bind_found _ (next_octet_at b.1) _ (octet_found b.1) (λ c hc.
-    bind_found _ (next_octet_at c.1) _ (octet_found c.1) (λ d hd.
-    let all : ts ≡ octets_after b.0 c.0 d.0 d.1 =
-    hb.0 ∙ ap (λ (t : List ℕ). 46 ∷ (b.0 ++ t)) (hc.0 ∙ ap (λ (t : List ℕ). 46 ∷ (c.0 ++ t)) hd.0) in (
-      (
-        _,
-        ap (λ (t : List ℕ). first ++ t) all
-            ∙ sym (regroup first b.0 c.0 d.0 d.1),
-        (refl, s, hb.1, hc.1, hd.1),
-      ),
-      omega (
-        arith,
-        ap length hb.0,
-        ap length hc.0,
-        ap length hd.0,
-        length-append b.0 b.1,
-        length-append c.0 c.1,
-        length-append d.0 d.1,
-      ),
-    ))))
+    IfSome_bind _ (next_octet_at ts) _ (octet_found ts) (λ b hb.
+    IfSome_bind _ (next_octet_at b.1) _ (octet_found b.1) (λ c hc.
+    IfSome_bind _ (next_octet_at c.1) _ (octet_found c.1) (λ d hd.
+    let all : ts ≡ octets_after b.0 c.0 d.0 d.1 = cc (hb.0, hc.0, hd.0) in
+    let split = sym (regroup first b.0 c.0 d.0 d.1) in
+    ((_, rw all split, (refl, s, hb.1, hc.1, hd.1)), omega (arith, hb.2, hc.2, hd.2)))))
 
 number_found : (ts : List ℕ) → IfSome (number_at ts) (λ x. SpellsFront x.0 ts x.1)
 unfolding number_at
 number_found ts =
-    bind_found _ (run_at is_ascii_digit ts) _ (run_found is_ascii_digit ts) (λ a h.
+    IfSome_bind _ (run_at is_ascii_digit ts) _ (run_found is_ascii_digit ts) (λ a h.
     rw h.0 (else_found _ (hexadecimal_at a.0 a.1)
     _ (IfSome_weaker _ _ _ (λ x (g : Onward a.0 a.1 x). g.0) (hexadecimal_found a.0 a.1))
     (else_found _ (dotted_quad_at a.0 a.1)
     _ (IfSome_weaker _ _ _ (λ x (g : Onward a.0 a.1 x). g.0) (dotted_quad_found a.0 a.1 h.1))
     (a.0, refl, (refl, h.1)))))
 
-abbrev EndIn : List ℕ → List Punctuator → Type 0
-EndIn t ms = AllByRecursion (λ m. punctuator_text m ≡ slice_index (punctuator_text m) 0 ∷ t) ms
-
-punctuator_found : (t : List ℕ) (b : ℕ) (ms : List Punctuator) → EndIn t ms
-    → IfSome (punctuator_from b ms) (λ m. punctuator_text m ≡ b ∷ t)
-punctuator_found t b [] all = tt
-punctuator_found t b (m ∷ ms) all =
-    by_test (λ o. IfSome o (λ m. punctuator_text m ≡ b ∷ t)) (b == slice_index (punctuator_text m) 0) (Some m)
-    (punctuator_from b ms)
-    (λ e. all.0 ∙ ap (λ (x : ℕ). x ∷ t) (sym (eqb-true b (slice_index (punctuator_text m) 0) e)))
-    (λ _. punctuator_found t b ms all.1)
-
 punctuators_found : (b : ℕ) (bs : List ℕ) → IfSome (punctuator_at b bs) (λ x. SpellsFront x.0 (b ∷ bs) x.1)
 unfolding punctuator_at long_punctuator_at
 punctuators_found b bs =
-    let long : EndIn (61 ∷ []) long_punctuators = search rules in
-    let short : EndIn [] short_punctuators = search rules in
-    else_found _ (long_punctuator_at b bs) _
-    (bind_found _ (punctuator_from b long_punctuators) _ (punctuator_found (61 ∷ []) b long_punctuators long)
-    (λ m e.
-    bind_found _ (after_byte 61 bs) _ (byte_found 61 bs)
-    (λ r er. (b ∷ 61 ∷ [], ap (λ (t : List ℕ). b ∷ t) er, sym e))))
-    (view_found _ (punctuator_from b short_punctuators) _ (punctuator_found [] b short_punctuators short)
-    (λ m e. (b ∷ [], refl, sym e)))
+    let long : IfSome (punctuator_from b long_punctuators) (λ m. punctuator_text m ≡ b ∷ 61 ∷ []) =
+    grind (arith, nat_tests) in
+    let short : IfSome (punctuator_from b short_punctuators) (λ m. punctuator_text m ≡ b ∷ []) =
+    grind (arith, nat_tests) in
+    else_found _ (long_punctuator_at b bs) _ (IfSome_bind _ (punctuator_from b long_punctuators) _ long (λ m e.
+    IfSome_bind _ (after_byte 61 bs) _ (byte_found 61 bs) (λ r er. (b ∷ 61 ∷ [], rw er refl, sym e))))
+    (IfSome_bind _ (punctuator_from b short_punctuators) _ short (λ m e. (b ∷ [], refl, sym e)))
 
 quoted_found : (ts : List ℕ) → IfSome (quoted_at ts) (λ x. SpellsFront x.0 (34 ∷ ts) x.1)
 unfolding quoted_at
 quoted_found ts =
     let s = front is_string_byte ts in
-    view_found _ (after_byte 34 (behind is_string_byte ts)) _ (byte_found 34 (behind is_string_byte ts))
+    IfSome_bind _ (after_byte 34 (behind is_string_byte ts)) _ (byte_found 34 (behind is_string_byte ts))
     (λ r e.
-    let all : ts ≡ s ++ 34 ∷ r = front_behind is_string_byte ts ∙ ap (λ (t : List ℕ). s ++ t) e in (
-      34 ∷ (s ++ 34 ∷ []),
-      ap (λ (t : List ℕ). 34 ∷ t) (all ∙ sym (append_assoc s (34 ∷ []) r)),
-      (refl, front_all is_string_byte ts),
-    ))
+    let all : ts ≡ (s ++ 34 ∷ []) ++ r = cc (front_behind is_string_byte ts, e, append_assoc s (34 ∷ []) r) in
+    (34 ∷ (s ++ 34 ∷ []), ap (λ (t : List ℕ). 34 ∷ t) all, (refl, front_all is_string_byte ts)))
 
-abbrev Found : ℕ → List ℕ → Class → Type 0
-Found b bs k = IfSome (class_at k b bs) (λ x. SpellsFront x.0 (b ∷ bs) x.1)
+-- What is known of a byte by its class.
+abbrev IsIn : ℕ → Class → Type 0
+IsIn b classes.Letter = begins_word b ≡ true
+IsIn b classes.Blank = is_blank b ≡ true
+IsIn b classes.LineEnd = b ≡ 10
+IsIn b classes.Backslash = b ≡ 92
+IsIn b classes.Hash = b ≡ 35
+IsIn b classes.Quote = b ≡ 34
+IsIn b k = Unit {0}
 
-class_found : (b : ℕ) (bs : List ℕ) → Found b bs (class_of b)
+in_class : (b : ℕ) → IsIn b (class_of b)
+in_class b = grind (arith, nat_tests)
+
+class_found : (b : ℕ) (bs : List ℕ) (k : Class) → IsIn b k
+    → IfSome (class_at k b bs) (λ x. SpellsFront x.0 (b ∷ bs) x.1)
 unfolding class_at
-class_found b bs =
-    by_test (Found b bs) (is_ascii_digit b) classes.Digit _ (λ _. number_found (b ∷ bs)) (λ _.
-    by_test (Found b bs) (begins_word b) classes.Letter _ (λ e. (
-      b ∷ front continues_word bs,
-      ap (λ (t : List ℕ). b ∷ t) (front_behind continues_word bs),
-      (refl, (e, front_all continues_word bs)),
-    )) (λ _.
-    by_test (Found b bs) (is_blank b) classes.Blank _ (λ e. (b ∷ [], refl, (b, refl, e))) (λ _.
-    by_test (Found b bs) (b == 10) classes.LineEnd
-    _ (λ e. (b ∷ [], refl, ap (λ (x : ℕ). x ∷ []) (eqb-true b 10 e))) (λ _.
-    by_test (Found b bs) (b == 92) classes.Backslash
-    _ (λ e. view_found _ (after_byte 10 bs) (λ r. (line_continuation, r)) (byte_found 10 bs) (λ r h.
-    (b ∷ 10 ∷ [], ap (λ (t : List ℕ). b ∷ t) h, ap (λ (x : ℕ). x ∷ 10 ∷ []) (eqb-true b 92 e)))) (λ _.
-    by_test (Found b bs) (b == 35) classes.Hash _ (λ e. (
-      b ∷ front is_no_newline bs,
-      ap (λ (t : List ℕ). b ∷ t) (front_behind is_no_newline bs),
-      (ap (λ (x : ℕ). x ∷ front is_no_newline bs) (eqb-true b 35 e), front_all is_no_newline bs),
-    )) (λ _.
-    by_test (Found b bs) (b == 34) classes.Quote _ (λ e. rw (eqb-true b 34 e) (quoted_found bs))
-    (λ _. punctuators_found b bs)))))))
+class_found b bs classes.Digit e = number_found (b ∷ bs)
+class_found b bs classes.Letter e =
+    (b ∷ front continues_word bs, front_read continues_word b bs, (refl, (e, front_all continues_word bs)))
+class_found b bs classes.Blank e = (b ∷ [], refl, (b, refl, e))
+class_found b bs classes.LineEnd e = (b ∷ [], refl, rw e refl)
+class_found b bs classes.Backslash e = IfSome_bind _ (after_byte 10 bs) _ (byte_found 10 bs)
+    (λ r h. (b ∷ 10 ∷ [], rw h refl, rw e refl))
+class_found b bs classes.Hash e =
+    (b ∷ front is_no_newline bs, front_read is_no_newline b bs, (rw e refl, front_all is_no_newline bs))
+class_found b bs classes.Quote e = rw e (quoted_found bs)
+class_found b bs classes.Other e = punctuators_found b bs
 
 lexeme_spelled : (ts : List ℕ) → IfSome (lexeme_at ts) (λ x. SpellsFront x.0 ts x.1)
 unfolding lexeme_at
 lexeme_spelled [] = tt
-lexeme_spelled (b ∷ bs) = class_found b bs
+lexeme_spelled (b ∷ bs) = class_found b bs (class_of b) (in_class b)
 
 -- ---- completeness: each spelling is read, or a longer one
 
--- The reader leaves at most this text; where it leaves exactly this, it gives this lexeme.
+-- The reader leaves at most this text; where it leaves no less, it gives this lexeme and leaves this text.
 abbrev Reads : Lexeme → List ℕ → Option (Lexeme × List ℕ) → Type 0
-Reads p rest o = IsSomeAnd o (λ x. (length x.1 ≤ length rest) × (rest ≡ [] → x.0 ≡ p))
+Reads p rest o = IsSomeAnd o (λ x. (length x.1 ≤ length rest) × (length rest ≤ length x.1 → x ≡ (p, rest)))
+
+none_passes : (test : ℕ → Bool) (ts : List ℕ) → length ts ≤ length (behind test ts) → prefix_len test ts ≡ 0
+none_passes test [] e = refl
+none_passes test (b ∷ bs) e = grind (arith, length-drop)
 
 -- The lexeme together with all bytes that continue it.
 with_all : (test : ℕ → Bool) (f : List ℕ → Lexeme) (xs rest : List ℕ)
     → Reads (f xs) rest (Some (f (xs ++ front test rest), behind test rest))
-with_all test f xs rest = (behind_short test rest, λ e. ap f (rw e (append-nil xs)))
-
-no_digit : (b : ℕ) → begins_word b ≡ true → is_ascii_digit b ≡ false
-no_digit b e = grind (arith, nat_tests)
-
-blank_apart : (b : ℕ) → is_blank b ≡ true → (is_ascii_digit b ≡ false) × (begins_word b ≡ false)
-blank_apart b e = (grind (arith, nat_tests), grind (arith, nat_tests))
+with_all test f xs rest =
+    (behind_short test rest, λ e. rw (none_passes test rest e, append-nil xs) refl)
 
 digit_read : (ds rest : List ℕ) → IsDigits ds → lexeme_at (ds ++ rest) ≡ number_at (ds ++ rest)
 unfolding lexeme_at class_at
@@ -282,36 +253,6 @@ number_reads n rest s =
     (else_reads (digits n) first ts rest (dotted_quad_at first ts) _ (dotted_quad_found first ts all.1) le
     (with_all is_ascii_digit digits n rest)))
 
-hexadecimal_read : (n rest : List ℕ) → IsRun is_ascii_hexdigit n
-    → lexeme_at (48 ∷ 120 ∷ (n ++ rest)) ≡ Some
-    (hexadecimal (n ++ front is_ascii_hexdigit rest), behind is_ascii_hexdigit rest)
-unfolding lexeme_at class_at number_at run_at hexadecimal_at
-hexadecimal_read n rest s = rw (run_more is_ascii_hexdigit n rest s) refl
-
-dotted_quad_read : (a b c d rest : List ℕ) → IsDigits a → IsDigits b → IsDigits c → IsDigits d
-    → lexeme_at (a ++ octets_after b c d rest)
-    ≡ Some (dotted_quad a b c (d ++ front is_ascii_digit rest), behind is_ascii_digit rest)
-unfolding number_at hexadecimal_at dotted_quad_at next_octet_at
-dotted_quad_read a b c d rest sa sb sc sd =
-    let last = 46 ∷ (d ++ rest) in
-    let third = 46 ∷ (c ++ last) in
-    digit_read a (octets_after b c d rest) sa
-    ∙ rw (
-      run_exact is_ascii_digit a (46 ∷ (b ++ third)) sa refl,
-      run_exact is_ascii_digit b third sb refl,
-      run_exact is_ascii_digit c last sc refl,
-      run_more is_ascii_digit d rest sd,
-    ) refl
-
-string_read : (s rest : List ℕ) → list_all is_string_byte s ≡ true
-    → quoted_at (s ++ 34 ∷ rest) ≡ Some (quoted s, rest)
-unfolding quoted_at
-string_read s rest all = rw (
-  front_more is_string_byte s (34 ∷ rest) all,
-  behind_more is_string_byte s (34 ∷ rest) all,
-  append-nil s,
-) refl
-
 -- A punctuator of one byte, where one with `=` after it may follow.
 punctuation_reads : (long m : Punctuator) (rest : List ℕ)
     → Reads (punctuation m) rest (option_or (after_byte 61 rest >>= (λ r. Some (punctuation long, r)))
@@ -328,9 +269,9 @@ punctuators_read Above rest = punctuation_reads AtLeast Above rest
 punctuators_read m rest = (omega arith, λ _. refl)
 
 reads : (p : Lexeme) (bytes rest : List ℕ) → SpellsLexeme p bytes → Reads p rest (lexeme_at (bytes ++ rest))
-unfolding lexeme_at class_at
-reads blank bytes rest s = let apart = blank_apart s.0 s.2 in
-    rw (s.1, apart.0, apart.1, s.2) (omega arith, λ _. refl)
+unfolding lexeme_at class_at number_at run_at hexadecimal_at dotted_quad_at next_octet_at quoted_at
+reads blank bytes rest s = let class : class_of s.0 ≡ classes.Blank = grind (arith, nat_tests, s.2) in
+    rw (s.1, class) (omega arith, λ _. refl)
 reads line_continuation bytes rest s = rw s (omega arith, λ _. refl)
 reads (comment c) bytes rest s = rw (
   s.0,
@@ -339,41 +280,48 @@ reads (comment c) bytes rest s = rw (
 ) (with_all is_no_newline comment c rest)
 reads line_end bytes rest s = rw s (omega arith, λ _. refl)
 reads (name []) bytes rest s = absurd s.1
-reads (name (b ∷ bs)) bytes rest s = rw (
-  s.0,
-  no_digit b s.1.0,
-  s.1.0,
-  front_more continues_word bs rest s.1.1,
-  behind_more continues_word bs rest s.1.1,
-)
+reads (name (b ∷ bs)) bytes rest s = let class : class_of b ≡ classes.Letter = grind (arith, nat_tests, s.1.0) in
+    rw (s.0, class, front_more continues_word bs rest s.1.1, behind_more continues_word bs rest s.1.1)
     (with_all continues_word (λ t. name (b ∷ t)) bs rest)
 reads (digits n) bytes rest s = rw (s.0, digit_read n rest s.1) (number_reads n rest s.1)
-reads (hexadecimal n) bytes rest s = rw (s.0, hexadecimal_read n rest s.1)
+reads (hexadecimal n) bytes rest s = rw (s.0, run_more is_ascii_hexdigit n rest s.1)
     (with_all is_ascii_hexdigit hexadecimal n rest)
 reads (dotted_quad a b c d) bytes rest s =
-    rw (s.0, regroup a b c d rest, dotted_quad_read a b c d rest s.1 s.2 s.3 s.4)
-    (with_all is_ascii_digit (dotted_quad a b c) d rest)
-reads (quoted t) bytes rest s = rw (s.0, append_assoc t (34 ∷ []) rest, string_read t rest s.1)
-    (omega arith, λ _. refl)
+    let last = 46 ∷ (d ++ rest) in
+    let third = 46 ∷ (c ++ last) in
+    rw (
+      s.0,
+      regroup a b c d rest,
+      digit_read a (octets_after b c d rest) s.1,
+      run_exact is_ascii_digit a (46 ∷ (b ++ third)) s.1 refl,
+      run_exact is_ascii_digit b third s.2 refl,
+      run_exact is_ascii_digit c last s.3 refl,
+      run_more is_ascii_digit d rest s.4,
+    ) (with_all is_ascii_digit (dotted_quad a b c) d rest)
+reads (quoted t) bytes rest s = rw (
+  s.0,
+  append_assoc t (34 ∷ []) rest,
+  front_more is_string_byte t (34 ∷ rest) s.1,
+  behind_more is_string_byte t (34 ∷ rest) s.1,
+  append-nil t,
+) (omega arith, λ _. refl)
 reads (punctuation m) bytes rest s = rw s (punctuators_read m rest)
-
-both_read : (p q : Lexeme) (o : Option (Lexeme × List ℕ)) → Reads p [] o → Reads q [] o → p ≡ q
-both_read p q None h k = absurd h
-both_read p q (Some x) h k = sym (h.1 refl) ∙ k.1 refl
-
--- Bytes spell at most one lexeme.
-one_lexeme : (p q : Lexeme) (bytes : List ℕ) → SpellsLexeme p bytes → SpellsLexeme q bytes → p ≡ q
-one_lexeme p q bytes s t = both_read p q (lexeme_at (bytes ++ [])) (reads p bytes [] s) (reads q bytes [] t)
 
 -- ---- the longest lexeme
 
 reaches : (q : Lexeme) (ts others rest : List ℕ) → SpellsLexeme q others → ts ≡ others ++ rest
-    → IsSomeAnd (lexeme_at ts) (λ x. length x.1 ≤ length rest)
-reaches q ts others rest s split =
-    elim (option_cases (lexeme_at ts)) [
-      | inl e ↦ let h = reads q others rest s in absurd (rw (sym split, e) at h)
-      | inr w ↦ let h = reads q others rest s in let g = rw (sym split, w.1) at h in rw w.1 g.0
-    ]
+    → Reads q rest (lexeme_at ts)
+reaches q ts others rest s split = rw split (reads q others rest s)
+
+-- A spelling has a byte or more, since the reader gives nothing for the empty text.
+pub spelled_some : (p : Lexeme) (bytes : List ℕ) → SpellsLexeme p bytes → 0 < length bytes
+unfolding lexeme_at
+spelled_some p [] s = absurd (reads p [] [] s)
+spelled_some p (b ∷ bs) s = omega arith
+
+same_length : (xs vs ys ws : List ℕ) → xs ++ vs ≡ ys ++ ws
+    → length xs + length vs ≡ length ys + length ws
+same_length xs vs ys ws e = omega (arith, ap length e, length-append xs vs, length-append ys ws)
 
 pub lexeme_is_longest : (ts : List ℕ) (x : Lexeme × List ℕ) → lexeme_at ts ≡ Some x
     → (bytes : List ℕ) × IsLongestLexeme x.0 bytes ts x.1
@@ -385,40 +333,32 @@ lexeme_is_longest ts x e =
         joined = there.1;
         spelled = there.2;
         longest = λ q others rest s split.
-            let less : length x.1 ≤ length rest = rw e at (reaches q ts others rest s split) in
-            omega (
-              arith,
-              less,
-              ap length there.1,
-              ap length split,
-              length-append there.0 x.1,
-              length-append others rest,
-            );
+            let less = (rw e at (reaches q ts others rest s split)).0 in
+            omega (arith, less, same_length there.0 x.1 others rest (sym there.1 ∙ split));
       },
     )
 
-same_front : (xs ys vs ws : List ℕ) → xs ++ vs ≡ ys ++ ws → length xs ≡ length ys → (xs ≡ ys) × (vs ≡ ws)
-same_front xs ys vs ws e n = (
-  sym (take_at xs vs (length xs) refl) ∙ ap (take (length xs)) e ∙ take_at ys ws (length xs) (sym n),
-  sym (drop_at xs vs (length xs) refl) ∙ ap (drop (length xs)) e ∙ drop_at ys ws (length xs) (sym n),
-)
-
--- At a position there is at most one longest lexeme.
-pub longest_lexeme_unique : (p q : Lexeme) (bytes others from to rest : List ℕ)
-    → IsLongestLexeme p bytes from to → IsLongestLexeme q others from rest
-    → (p ≡ q) × (bytes ≡ others) × (to ≡ rest)
-longest_lexeme_unique p q bytes others from to rest s t =
-    grind (arith, t.longest, s.spelled, s.joined, s.longest, t.spelled, t.joined, same_front, one_lexeme)
-
-pub tokens_unique : (p : Lexeme) (bytes : List ℕ) (xs ys : List LexedToken) → SpellsLexeme p bytes
-    → HasTokens p bytes xs → HasTokens p bytes ys → xs ≡ ys
-tokens_unique p bytes xs ys s m n = cc (meaning_only p bytes xs s m, meaning_only p bytes ys s n)
+-- The reader gives each longest lexeme, so that there is at most one at a position.
+lexeme_only : (p : Lexeme) (bytes from to : List ℕ) → IsLongestLexeme p bytes from to
+    → lexeme_at from ≡ Some (p, to)
+lexeme_only p bytes from to s =
+    let read = reaches p from bytes to s.spelled s.joined in
+    elim (option_cases (lexeme_at from)) [
+      | inl none ↦ absurd (rw none at read)
+      | inr w ↦
+          let there = lexeme_is_longest from w.0 w.1 in
+          let less = s.longest w.0.0 there.0 w.0.1 there.1.spelled there.1.joined in
+          let lengths = same_length there.0 w.0.1 bytes to (sym there.1.joined ∙ s.joined) in
+          w.1 ∙ ap (λ x. Some x) ((rw w.1 at read).1 (omega (arith, less, lengths)))
+    ]
 
 -- ---- the next token or fault
 
--- Where the reader gives none, no lexeme starts.
-none_begins : (ts : List ℕ) → lexeme_at ts ≡ None → BeginsNoLexeme ts
-none_begins ts e q others after s joined = rw e at (reaches q ts others after s joined)
+begins_none : (ts : List ℕ) → BeginsNoLexeme ts → lexeme_at ts ≡ None
+begins_none ts none = elim (option_cases (lexeme_at ts)) [
+  | inl e ↦ e
+  | inr w ↦ let s = lexeme_is_longest ts w.0 w.1 in absurd (none w.0.0 s.0 w.0.1 s.1.spelled s.1.joined)
+]
 
 -- The bytes before a suffix of the text.
 pub before : (ts bytes rest : List ℕ) → ts ≡ bytes ++ rest → take (length ts - length rest) ts ≡ bytes
@@ -437,9 +377,10 @@ next_is [] some = absurd (omega arith)
 next_is (b ∷ bs) some =
     elim (option_cases (lexeme_at (b ∷ bs))) [
       | inl none ↦
-          let begins = none_begins (b ∷ bs) none in
-          rw none (by_test (λ fault. IsNextOrFault (b ∷ bs) (Err fault)) (b == 34) faults.OpenString
-          faults.Byte (λ e line. open_string (eqb-true b 34 e) begins refl)
+          let begins : BeginsNoLexeme (b ∷ bs) =
+          λ q others after s joined. rw none at (reaches q (b ∷ bs) others after s joined) in
+          rw none (cond_both (b == 34) faults.OpenString faults.Byte
+          (λ fault. IsNextOrFault (b ∷ bs) (Err fault)) (λ e line. open_string (eqb-true b 34 e) begins refl)
           (λ e line. no_lexeme (eqb-false b 34 e) begins refl))
       | inr w ↦
           let there = lexeme_is_longest (b ∷ bs) w.0 w.1 in
@@ -447,16 +388,34 @@ next_is (b ∷ bs) some =
           elim (option_cases (meaning w.0.0 there.0)) [
             | inl none ↦
                 rw (w.1, bytes, none) (λ line.
-                no_token w.0.0 there.0 w.0.1 there.1
-                (λ tokens m. let meant = meaning_only w.0.0 there.0 tokens there.1.spelled m in
-                absurd (cc (none, meant))) refl)
+                no_token w.0.0 there.0 w.0.1 there.1 (λ tokens m. absurd (cc (none, meaning_only w.0.0 there.0 tokens there.1.spelled m))) refl)
             | inr m ↦
-                rw (w.1, bytes, m.1) (
-                  w.0.0,
-                  there.0,
-                  there.1,
-                  IfSome_at (meaning w.0.0 there.0) (λ xs. HasTokens w.0.0 there.0 xs) m.0 m.1
-                      (meaning_found w.0.0 there.0 there.1.spelled),
-                )
+                let meant = IfSome_at (meaning w.0.0 there.0) _ m.0 m.1 (meaning_found w.0.0 there.0 there.1.spelled) in
+                rw (w.1, bytes, m.1) (w.0.0, there.0, there.1, meant)
           ]
+    ]
+
+-- The next tokens are those of the longest lexeme, if it has some.
+pub next_only : (p : Lexeme) (bytes from to : List ℕ) (tokens : List LexedToken)
+    → IsLongestLexeme p bytes from to → HasTokens p bytes tokens → next_at from ≡ Ok (tokens, to)
+unfolding next_at
+next_only p bytes from to tokens s m = rw (
+  lexeme_only p bytes from to s,
+  before from bytes to s.joined,
+  meaning_only p bytes tokens s.spelled m,
+) refl
+
+pub fault_only : (ts : List ℕ) (line : ℕ) (fault : LexFault) → IsFaultAt ts line fault
+    → (kind : Fault) × (next_at ts ≡ Err kind) × (fault ≡ at_line kind line)
+unfolding next_at
+fault_only [] line fault f = absurd f
+fault_only (b ∷ bs) line fault (no_lexeme other none is) =
+    (faults.Byte, grind (arith, nat_tests, begins_none (b ∷ bs) none, other), is)
+fault_only (b ∷ bs) line fault (open_string quote none is) =
+    (faults.OpenString, rw (quote, rw quote at (begins_none (b ∷ bs) none)) refl, is)
+fault_only (b ∷ bs) line fault (no_token p bytes to s none is) =
+    elim (option_cases (meaning p bytes)) [
+      | inl e ↦
+          (faults.Number, rw (lexeme_only p bytes (b ∷ bs) to s, before (b ∷ bs) bytes to s.joined, e) refl, is)
+      | inr w ↦ absurd (none w.0 (IfSome_at (meaning p bytes) _ w.0 w.1 (meaning_found p bytes s.spelled)))
     ]

@@ -1,42 +1,24 @@
 -- The values of digits, and the tokens of lexemes.
-use Rattle.std.proofs.Common.{◌≡◌, ◌≢◌, ℕ, zero, suc, ◌+◌, ◌-◌, ◌*◌, ◌/◌, ◌%◌, ◌^◌, ◌<◌, ◌≤◌, Bool, true, false, cond}
-use Rattle.std.proofs.Common.{◌&&◌, ◌==◌, List, [], ◌∷◌, ◌++◌, length, take, drop, get_or, Some, None, Option, inl}
-use Rattle.std.proofs.Common.{inr, refl, sym, ap, ◌∙◌, arith, rules}
-use Rattle.std.specs.Prelude.{IfSome, nat_lt, option_map}
+use Rattle.std.proofs.Common.{◌≡◌, ℕ, zero, suc, ◌+◌, ◌-◌, ◌*◌, ◌/◌, ◌%◌, ◌^◌, ◌<◌, ◌≤◌, true}
+use Rattle.std.proofs.Common.{List, [], ◌∷◌, ◌++◌, length, take, drop, get_or, Some}
+use Rattle.std.proofs.Common.{refl, sym, ap, ◌∙◌, arith, rules}
+use Rattle.std.specs.Prelude.{IfSome, nat_lt}
 use Rattle.std.specs.Char.{is_ascii_digit, is_ascii_hexdigit, digit_value}
 use Rattle.std.specs.Fmt.{decimal}
 use Rattle.std.specs.List.{list_all}
 use Rattle.std.specs.Str.Parse.{AllDigits, digits_value, digits_value_after}
-use Rattle.std.proofs.lemmas.Bool.{and_parts, lt-ltb, le-ltb, cases_lt}
+use Rattle.std.proofs.lemmas.Bool.{and_parts, lt-ltb}
 use Rattle.std.proofs.lemmas.Bool.Decides.{nat_tests}
-use Rattle.std.proofs.lemmas.List.{length-append}
+use Rattle.std.proofs.lemmas.List.{length-append, nil_from_length}
 use Rattle.std.proofs.Math.Seq.{take-append_seam}
 use Rattle.std.proofs.lemmas.Fmt.{decimal_digit, decimal_is_IsNumeral, decimal-digits_value, first_decimal}
 use Rattle.std.proofs.lemmas.Str.Parse.{IsNumeralModel, numerals_by_value}
-use Rattle.list_laws.specs.Options.{IfSome_weaker}
-use Rattle.nft_lexer.specs.Terminal.{LexedToken, word, number, address, string}
+use Rattle.list_laws.specs.Options.{IfSome_bind, IfSome_weaker}
+use Rattle.nft_lexer.specs.Terminal.{LexedToken, word, number, string}
 use Rattle.nft_lexer.specs.Lexing.{Lexeme, name, digits, hexadecimal, dotted_quad, quoted, IsDigits, IsHexadecimal}
 use Rattle.nft_lexer.specs.Lexing.{IsValidDecimal, AreOctets, SpellsLexeme, HasTokens}
-use Rattle.nft_lexer.specs.steps.Reading.{◌>>=◌, has_leading_zero, below, value_after, decimal_at, octet_at}
-use Rattle.nft_lexer.specs.steps.Reading.{address_of, address_at, number_kind, address_kind, tokens_of, meaning, one}
-
--- ---- options
-
-pub bind_found : {A B : Type 0} {P : A → Type 0} (Q : B → Type 0) (o : Option A) (f : A → Option B)
-    → IfSome o P → ((x : A) → P x → IfSome (f x) Q) → IfSome (o >>= f) Q
-bind_found Q None f h k = tt
-bind_found Q (Some x) f h k = k x h
-
-pub view_found : {A B : Type 0} {P : A → Type 0} (Q : B → Type 0) (o : Option A) (f : A → B) → IfSome o P
-    → ((x : A) → P x → Q (f x)) → IfSome (option_map f o) Q
-view_found Q None f h k = tt
-view_found Q (Some x) f h k = k x h
-
--- What holds of both branches holds of the conditional.
-pub by_test : {A : Type 0} (P : A → Type 0) (b : Bool) (x y : A) → (b ≡ true → P x) → (b ≡ false → P y)
-    → P (cond b x y)
-by_test P true x y h k = h refl
-by_test P false x y h k = k refl
+use Rattle.nft_lexer.specs.steps.Reading.{below, value_after, decimal_at, octet_at}
+use Rattle.nft_lexer.specs.steps.Reading.{address_of, meaning, one}
 
 -- ---- the value of digits
 
@@ -53,29 +35,20 @@ value_is radix n [] some all less = rw (lt-ltb n (2 ^ 64) less) refl
 value_is radix n (b ∷ bs) some all less =
     let next = n * radix + digit_value b in
     let digit : nat_lt (digit_value b) radix ≡ true = lt-ltb (digit_value b) radix all.0 in
-    elim (cases_lt next (2 ^ 64)) [
-      | inl fits ↦ rw (digit, lt-ltb next (2 ^ 64) fits) (value_is radix next bs some all.1 fits)
-      | inr large ↦
-          let most : 2 ^ 64 ≤ digits_value_after radix next bs =
-          omega (arith, large, grows radix next bs some) in
-          rw (digit, le-ltb next (2 ^ 64) large, le-ltb (digits_value_after radix next bs) (2 ^ 64) most) refl
-    ]
+    let more : next ≤ digits_value_after radix next bs = grows radix next bs some in
+    rw digit (grind (arith, nat_tests, value_is radix next bs some all.1, more))
 
 below_found : (most n : ℕ) → IfSome (below most n) (λ m. (m ≡ n) × (m < most))
-below_found most n = elim (cases_lt n most)
-    [ inl less ↦ rw (lt-ltb n most less) (refl, less) | inr large ↦ rw (le-ltb n most large) tt ]
+below_found most n = grind (arith, nat_tests)
 
 below_only : (most n : ℕ) → n < most → below most n ≡ Some n
 below_only most n less = rw (lt-ltb n most less) refl
-
-hexadecimal_value : (b : ℕ) → is_ascii_hexdigit b ≡ true → digit_value b < 16
-hexadecimal_value b e = grind (arith, nat_tests)
 
 all_hexadecimal : (ds : List ℕ) → list_all is_ascii_hexdigit ds ≡ true → AllDigits 16 ds
 all_hexadecimal [] all = tt
 all_hexadecimal (b ∷ bs) all =
     let lexemes = and_parts (is_ascii_hexdigit b) (list_all is_ascii_hexdigit bs) all in
-    (hexadecimal_value b lexemes.0, all_hexadecimal bs lexemes.1)
+    (grind (arith, nat_tests, lexemes.0), all_hexadecimal bs lexemes.1)
 
 hexadecimal_is : (ds : List ℕ) → IsHexadecimal ds → value_after 16 0 ds ≡ below (2 ^ 64) (digits_value 16 ds)
 hexadecimal_is ds s = value_is 16 0 ds (omega arith) (all_hexadecimal ds s.1) (omega arith)
@@ -83,52 +56,31 @@ hexadecimal_is ds s = value_is 16 0 ds (omega arith) (all_hexadecimal ds s.1) (o
 own : IsNumeralModel (λ ds. list_all is_ascii_digit ds ≡ true) (digits_value 10)
 own = numerals_by_value _ (search rules)
 
-some_length : (ds : List ℕ) → ds ≢ [] → 0 < length ds
-some_length [] some = absurd (some refl)
-some_length (b ∷ bs) some = omega arith
-
 decimal_is : (ds : List ℕ) → IsDigits ds → value_after 10 0 ds ≡ below (2 ^ 64) (digits_value 10 ds)
 decimal_is ds s = value_is 10 0 ds (omega arith) (own.to ds s.1) (omega arith)
 
 -- ---- decimal numbers with no leading zero
 
-no_leading : (n first : ℕ) → (nat_lt 1 n && (first == 48)) ≡ false → 1 < n → first ≢ 48
-no_leading n first e many zero_first = grind (arith, nat_tests)
-
-not_leading : (n first : ℕ) → (1 < n → first ≢ 48) → (nat_lt 1 n && (first == 48)) ≡ false
-not_leading n first h = grind (arith, nat_tests)
-
-one_digit : (n first : ℕ) → 0 < n → (1 < n → first ≢ 48) → first ≡ 48 → n ≡ 1
-one_digit n first some h e = grind (arith, nat_tests)
-
 decimal_found : (ds : List ℕ) → IsDigits ds
     → IfSome (decimal_at ds) (λ n. IsValidDecimal ds × (n ≡ digits_value 10 ds))
 unfolding decimal_at
-decimal_found ds s =
-    by_test (λ o. IfSome o (λ n. IsValidDecimal ds × (n ≡ digits_value 10 ds))) (has_leading_zero ds) None
-    (value_after 10 0 ds) (λ _. tt) (λ plain.
-    rw (decimal_is ds s) (IfSome_weaker (below (2 ^ 64) (digits_value 10 ds)) _ _ (λ n h.
-    let less : n < 2 ^ 64 = h.1 in
-    ((no_leading (length ds) (get_or ds 0 0) plain, rw h.0 at less), h.0))
-    (below_found (2 ^ 64) (digits_value 10 ds))))
+decimal_found ds s = rw (decimal_is ds s) (grind (arith, nat_tests))
 
 decimal_only : (ds : List ℕ) → IsDigits ds → IsValidDecimal ds → decimal_at ds ≡ Some (digits_value 10 ds)
 unfolding decimal_at
-decimal_only ds s m =
-    let plain : has_leading_zero ds ≡ false = not_leading (length ds) (get_or ds 0 0) m.0 in
-    rw (plain, decimal_is ds s, below_only (2 ^ 64) (digits_value 10 ds) m.1) refl
+decimal_only ds s m = rw (decimal_is ds s) (grind (arith, nat_tests, m.0, m.1))
 
 -- ---- octets
 
 octet_found : (ds : List ℕ) → IsDigits ds → IfSome (octet_at ds) (λ n. (n < 256) × (ds ≡ decimal n))
 unfolding octet_at
 octet_found ds s =
-    bind_found _ (decimal_at ds) _ (decimal_found ds s) (λ n h.
+    IfSome_bind _ (decimal_at ds) _ (decimal_found ds s) (λ n h.
     IfSome_weaker (below 256 n) _ _ (λ m g.
-    let many = some_length ds s.0 in (
+    let many : 0 < length ds = grind (arith, nil_from_length, s.0) in (
       g.1,
       sym (ap decimal (g.0 ∙ h.1) ∙ decimal-digits_value own ds s.1 many
-          (one_digit (length ds) (get_or ds 0 0) many h.0.0) h.0.1),
+          (λ zero. grind (arith, h.0.0, many, zero)) h.0.1),
     )) (below_found 256 n))
 
 valid_decimal : (n : ℕ) → n < 256 → IsValidDecimal (decimal n)
@@ -153,25 +105,19 @@ joined : (a b c d : ℕ) → a < 256 → b < 256 → c < 256 → d < 256
 joined a b c d la lb lc ld = (omega arith, omega arith, omega arith, omega arith, omega arith)
 
 address_found : (a b c d : List ℕ) → IsDigits a → IsDigits b → IsDigits c → IsDigits d
-    → IfSome (address_at a b c d) (AreOctets a b c d)
-unfolding address_of octet_at
+    → IfSome (address_of a b c d) (AreOctets a b c d)
+unfolding address_of
 address_found a b c d sa sb sc sd =
-    bind_found _ (octet_at a) _ (octet_found a sa) (λ w hw.
-    bind_found _ (octet_at b) _ (octet_found b sb) (λ x hx.
-    bind_found _ (octet_at c) _ (octet_found c sc) (λ y hy.
-    bind_found _ (octet_at d) _ (octet_found d sd) (λ z hz.
-    let all = joined w x y z hw.0 hx.0 hy.0 hz.0 in (
-      all.0,
-      hw.1 ∙ ap decimal (sym all.1),
-      hx.1 ∙ ap decimal (sym all.2),
-      hy.1 ∙ ap decimal (sym all.3),
-      hz.1
-          ∙ ap decimal (sym all.4),
-    )))))
+    IfSome_bind _ (octet_at a) _ (octet_found a sa) (λ w hw.
+    IfSome_bind _ (octet_at b) _ (octet_found b sb) (λ x hx.
+    IfSome_bind _ (octet_at c) _ (octet_found c sc) (λ y hy.
+    IfSome_bind _ (octet_at d) _ (octet_found d sd) (λ z hz.
+    let all = joined w x y z hw.0 hx.0 hy.0 hz.0 in
+    (all.0, rw all.1 hw.1, rw all.2 hx.1, rw all.3 hy.1, rw all.4 hz.1)))))
 
 address_only : (a b c d : List ℕ) (n : ℕ) → IsDigits a → IsDigits b → IsDigits c → IsDigits d
-    → AreOctets a b c d n → address_at a b c d ≡ Some n
-unfolding address_of octet_at
+    → AreOctets a b c d n → address_of a b c d ≡ Some n
+unfolding address_of
 address_only a b c d n sa sb sc sd m =
     let small : n < 2 ^ 32 = m.0 in
     let whole : n / 16777216 * 16777216 + n / 65536 % 256 * 65536 + n / 256 % 256 * 256 + n % 256 ≡ n =
@@ -192,43 +138,24 @@ between s bytes e =
     let long : length (34 ∷ s ++ 34 ∷ []) - 2 ≡ length s = omega (arith, length-append s (34 ∷ [])) in
     rw (e, long) (take-append_seam s (34 ∷ []))
 
-as_number : (o : Option ℕ) (bytes : List ℕ)
-    → tokens_of (number_kind o) bytes ≡ option_map (λ v. one (number v) bytes) o
-as_number None bytes = refl
-as_number (Some n) bytes = refl
-
-as_address : (o : Option ℕ) (bytes : List ℕ)
-    → tokens_of (address_kind o) bytes ≡ option_map (λ v. one (address v) bytes) o
-as_address None bytes = refl
-as_address (Some a) bytes = refl
-
 pub meaning_found : (p : Lexeme) (bytes : List ℕ) → SpellsLexeme p bytes
     → IfSome (meaning p bytes) (λ tokens. HasTokens p bytes tokens)
 meaning_found (name w) bytes s = ap (λ (t : List ℕ). one (word t) bytes) s.0
-meaning_found (digits n) bytes s = rw (as_number (decimal_at n) bytes)
-    (view_found _ (decimal_at n) (λ v. one (number v) bytes) (decimal_found n s.1)
-    (λ v h. (h.0, ap (λ (k : ℕ). one (number k) bytes) h.1)))
-meaning_found (hexadecimal n) bytes s = grind (arith, as_number, hexadecimal_is, s.1, view_found, digits_value, below_found)
+meaning_found (digits n) bytes s =
+    IfSome_bind _ (decimal_at n) _ (decimal_found n s.1)
+    (λ v h. (h.0, ap (λ (k : ℕ). one (number k) bytes) h.1))
+meaning_found (hexadecimal n) bytes s = grind (arith, hexadecimal_is, s.1, IfSome_bind, digits_value, below_found)
 meaning_found (dotted_quad a b c d) bytes s =
-    rw (as_address (address_at a b c d) bytes)
-    (view_found _ (address_at a b c d) (λ v. one (address v) bytes) (address_found a b c d s.1 s.2 s.3 s.4)
-    (λ n h. (n, h, refl)))
+    IfSome_bind _ (address_of a b c d) _ (address_found a b c d s.1 s.2 s.3 s.4)
+    (λ n h. (n, h, refl))
 meaning_found (quoted q) bytes s = ap (λ (t : List ℕ). one (string t) bytes) (between q bytes s.0)
 meaning_found p bytes s = refl
 
-some_of : {A : Type 0} (x y : A) → x ≡ y → ◌≡◌ {A = Option A} (Some y) (Some x)
-some_of x y e = ap (λ z. Some z) (sym e)
-
 pub meaning_only : (p : Lexeme) (bytes : List ℕ) (tokens : List LexedToken) → SpellsLexeme p bytes
     → HasTokens p bytes tokens → meaning p bytes ≡ Some tokens
-meaning_only (name w) bytes tokens s m =
-    some_of tokens _ (m ∙ ap (λ (t : List ℕ). one (word t) bytes) (sym s.0))
-meaning_only (digits n) bytes tokens s m =
-    rw (as_number (decimal_at n) bytes, decimal_only n s.1 m.0) (some_of tokens _ m.1)
-meaning_only (hexadecimal n) bytes tokens s m = grind (arith, as_number, hexadecimal_is, s.1, below_only, digits_value, m.0, some_of, m.1)
-meaning_only (dotted_quad a b c d) bytes tokens s m =
-    rw (as_address (address_at a b c d) bytes, address_only a b c d m.0 s.1 s.2 s.3 s.4 m.1)
-    (some_of tokens _ m.2)
-meaning_only (quoted q) bytes tokens s m =
-    some_of tokens _ (m ∙ ap (λ (t : List ℕ). one (string t) bytes) (sym (between q bytes s.0)))
-meaning_only p bytes tokens s m = some_of tokens _ m
+meaning_only (name w) bytes tokens s m = cc (s.0, m)
+meaning_only (digits n) bytes tokens s m = rw (decimal_only n s.1 m.0) (cc m.1)
+meaning_only (hexadecimal n) bytes tokens s m = grind (arith, hexadecimal_is, s.1, below_only, digits_value, m.0, m.1)
+meaning_only (dotted_quad a b c d) bytes tokens s m = rw (address_only a b c d m.0 s.1 s.2 s.3 s.4 m.1) (cc m.2)
+meaning_only (quoted q) bytes tokens s m = cc (m, between q bytes s.0)
+meaning_only p bytes tokens s m = cc m

@@ -2,13 +2,13 @@
 ghost use Rattle.std.specs.Prelude.{◌≡◌, ◌≤◌, length, option_map};
 ghost use Rattle.std.specs.List.{prefix_len};
 ghost use Rattle.nft_lexer.specs.Lexing.{continues_word, punctuation, is_string_byte};
-ghost use Rattle.nft_lexer.specs.steps.Reading.{address_kind, after_byte, behind, class_at, class_of, continues_run};
-ghost use Rattle.nft_lexer.specs.steps.Reading.{octet_after, octets_after, hexadecimal_at, is_zero};
+ghost use Rattle.nft_lexer.specs.steps.Reading.{after_byte, behind, class_at, class_of, continues_run};
+ghost use Rattle.nft_lexer.specs.steps.Reading.{dotted_quad_at, hexadecimal_at, is_zero, next_octet_at, number_at};
 ghost use Rattle.nft_lexer.specs.steps.Reading.{long_punctuator_at, long_punctuators, punctuator_at, punctuator_from};
-ghost use Rattle.nft_lexer.specs.steps.Reading.{number_kind, numeral_at, lexeme_at, run_at, scanned_kind};
+ghost use Rattle.nft_lexer.specs.steps.Reading.{lexeme_at, run_at, scanned_kind};
 ghost use Rattle.nft_lexer.specs.steps.Reading.{short_punctuators};
 
-use crate::number::{address, leading_digits, value};
+use crate::number::{address, decimal, value};
 use crate::token::{Punctuator, TokenKind};
 
 /// Bytes by the lexemes that they may start.
@@ -32,6 +32,7 @@ enum Run {
     Line,
     /// All bytes before the next quote or the newline.
     String,
+    Decimal,
     Hexadecimal,
 }
 
@@ -41,8 +42,10 @@ pub(crate) enum LexemeKind {
     /// No token: a blank, a backslash with the newline after it, or a comment.
     Blank,
     Token(TokenKind),
-    /// Digits, or octets with dots, that are no valid number or address.
-    InvalidNumber,
+    /// A number; `None` if it is out of range.
+    Number(Option<u64>),
+    /// An address; `None` if an octet is out of range.
+    Address(Option<u32>),
 }
 
 fn class_of(byte: u8) -> Class
@@ -114,6 +117,7 @@ fn continues_run(run: Run, byte: u8) -> bool
         Run::Word => continues_word(byte),
         Run::Line => byte != b'\n',
         Run::String => byte != b'"' && byte != b'\n',
+        Run::Decimal => byte.is_ascii_digit(),
         Run::Hexadecimal => byte.is_ascii_hexdigit(),
     }
 }
@@ -143,26 +147,6 @@ fn some_run<'t>(run: Run, text: &'t [u8]) -> Option<(&'t [u8], &'t [u8])>
     Some(text.split_at(1 + run_length(run, rest)))
 }
 
-/// The kind of a number with this value.
-fn number_kind(number: Option<u64>) -> LexemeKind
-    ensures { result ≡ number_kind number }
-{
-    match number {
-        Some(number) => LexemeKind::Token(TokenKind::Number(number)),
-        None => LexemeKind::InvalidNumber,
-    }
-}
-
-/// The kind of an address with this value.
-fn address_kind(address: Option<u32>) -> LexemeKind
-    ensures { result ≡ address_kind address }
-{
-    match address {
-        Some(address) => LexemeKind::Token(TokenKind::Address(address)),
-        None => LexemeKind::InvalidNumber,
-    }
-}
-
 fn is_zero(digits: &[u8]) -> bool
     ensures { result ≡ is_zero digits.now }
 {
@@ -182,47 +166,50 @@ fn hexadecimal<'t>(first: &'t [u8], text: &'t [u8]) -> Option<(LexemeKind, &'t [
         return None;
     }
     let (digits, rest) = some_run(Run::Hexadecimal, rest)?;
-    Some((number_kind(value(digits, 16)), rest))
+    Some((LexemeKind::Number(value(digits, 16)), rest))
 }
 
-/// The value of the digits after a dot, and the rest of the text.
-#[tactic(auto, unfolding(crate::specs::steps::Reading::octet_after))]
-fn next_octet<'t>(text: &'t [u8]) -> Option<(Option<u64>, &'t [u8])>
-    ensures { option_map (λ x. (x.0, x.1.now)) result ≡ octet_after text.entry.now }
+/// The digits after a dot, and the rest of the text.
+#[tactic(auto, unfolding(crate::specs::steps::Reading::next_octet_at))]
+fn next_octet<'t>(text: &'t [u8]) -> Option<(&'t [u8], &'t [u8])>
+    ensures { option_map (λ x. (x.0.now, x.1.now)) result ≡ next_octet_at text.entry.now }
 {
     let [b'.', rest @ ..] = text else {
         return None;
     };
-    let (digits, rest) = leading_digits(rest)?;
-    Some((digits.number, rest))
+    some_run(Run::Decimal, rest)
 }
 
-/// The address whose first octet has this value, and the rest of the text. The last octet takes all
-/// digits that follow.
-#[tactic(auto, unfolding(crate::specs::steps::Reading::octets_after))]
-fn address_after_octet<'t>(first: Option<u64>, text: &'t [u8]) -> Option<(LexemeKind, &'t [u8])>
-    ensures { option_map (λ x. (x.0, x.1.now)) result ≡ octets_after first text.entry.now }
+/// The address whose first octet has these digits, and the rest of the text. The last octet takes
+/// all digits that follow.
+#[tactic(auto, unfolding(crate::specs::steps::Reading::dotted_quad_at))]
+fn address_after_octet<'t>(first: &'t [u8], text: &'t [u8]) -> Option<(LexemeKind, &'t [u8])>
+    ensures { option_map (λ x. (x.0, x.1.now)) result
+        ≡ scanned_kind (dotted_quad_at first.entry.now text.entry.now) }
 {
     let (second, rest) = next_octet(text)?;
     let (third, rest) = next_octet(rest)?;
     let (fourth, rest) = next_octet(rest)?;
-    Some((address_kind(address(first, second, third, fourth)), rest))
+    Some((
+        LexemeKind::Address(address(first, second, third, fourth)),
+        rest,
+    ))
 }
 
 /// The leading number or address, and the rest of the text. Both start with digits; what follows
 /// them decides.
-#[tactic(auto, unfolding(crate::specs::steps::Reading::numeral_at))]
+#[tactic(auto, unfolding(crate::specs::steps::Reading::number_at))]
 fn number<'t>(text: &'t [u8]) -> Option<(LexemeKind, &'t [u8])>
-    ensures { option_map (λ x. (x.0, x.1.now)) result ≡ numeral_at text.entry.now }
+    ensures { option_map (λ x. (x.0, x.1.now)) result ≡ scanned_kind (number_at text.entry.now) }
 {
-    let (digits, rest) = leading_digits(text)?;
-    if let Some(found) = hexadecimal(digits.text, rest) {
+    let (digits, rest) = some_run(Run::Decimal, text)?;
+    if let Some(found) = hexadecimal(digits, rest) {
         return Some(found);
     }
-    if let Some(found) = address_after_octet(digits.number, rest) {
+    if let Some(found) = address_after_octet(digits, rest) {
         return Some(found);
     }
-    Some((number_kind(digits.number), rest))
+    Some((LexemeKind::Number(decimal(digits)), rest))
 }
 
 /// The rest of the text after a string whose first quote is before it.
@@ -263,7 +250,7 @@ fn punctuator<'t>(first: u8, text: &'t [u8]) -> Option<(Punctuator, &'t [u8])>
 }
 
 /// The longest leading lexeme, and the rest of the text.
-#[tactic(auto, using(crate::specs::steps::Values::numeral_is), unfolding(crate::specs::steps::Reading::lexemes))]
+#[tactic(auto, unfolding(crate::specs::steps::Reading::lexemes))]
 pub(crate) fn next_lexeme<'t>(text: &'t [u8]) -> Option<(LexemeKind, &'t [u8])>
     ensures { option_map (λ x. (x.0, x.1.now)) result ≡ scanned_kind (lexeme_at text.entry.now) }
 {

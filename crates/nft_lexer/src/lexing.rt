@@ -1,13 +1,13 @@
 //! The lexer's main loop.
-ghost use Rattle.std.specs.Prelude.{◌≡◌, ◌<◌, ◌≤◌, ◌↔◌, ◌⊎◌, ◌++◌, Err, IfOk, IfErr, OnOk, List, length, map, ok_or, MatchResult};
+ghost use Rattle.std.specs.Prelude.{◌≡◌, ◌<◌, ◌≤◌, ◌↔◌, ◌⊎◌, ◌++◌, Err, IfOk, OnOk, List, length, map, ok_or, MatchResult};
 ghost use Rattle.nft_lexer.specs.declared.fault.LexFault.{LexFault};
 ghost use Rattle.nft_lexer.specs.Terminal.{LexedToken, spelled};
 ghost use Rattle.nft_lexer.specs.Lexing.{FirstFault, HasLexFault, TokenizesTo, MOST_BYTES, line_after};
-ghost use Rattle.nft_lexer.specs.steps.Reading.{IfRefused, listed, next_at, at_line, map_ok, tokens_of};
+ghost use Rattle.nft_lexer.specs.steps.Reading.{listed, next_at, at_line, map_ok, tokens_of};
 
 use crate::fault::{LexError, LexFault};
 use crate::lexeme::{LexemeKind, next_lexeme};
-use crate::token::Token;
+use crate::token::{Token, TokenKind};
 use std::alloc::{AllocError, Global};
 
 /// The greatest size of a ruleset in bytes.
@@ -48,7 +48,15 @@ fn token<'t>(lexeme: LexemeKind, text: &'t [u8]) -> Result<Option<Token<'t>>, Fa
     match lexeme {
         LexemeKind::Blank => Ok(None),
         LexemeKind::Token(kind) => Ok(Some(Token { text, kind })),
-        LexemeKind::InvalidNumber => Err(Fault::Number),
+        LexemeKind::Number(Some(number)) => Ok(Some(Token {
+            text,
+            kind: TokenKind::Number(number),
+        })),
+        LexemeKind::Address(Some(address)) => Ok(Some(Token {
+            text,
+            kind: TokenKind::Address(address),
+        })),
+        LexemeKind::Number(None) | LexemeKind::Address(None) => Err(Fault::Number),
     }
 }
 
@@ -84,7 +92,8 @@ fn append<'t>(found: &mut Vec<Token<'t>>, token: Option<Token<'t>>) -> Result<()
 fn tokens<'t>(alloc: Global, text: &'t [u8]) -> Result<Vec<Token<'t>>, LexError>
     requires { length text.now ≤ MOST_BYTES }
     ensures found { IfOk result (λ tokens. TokenizesTo text.entry.now (map spelled tokens.items)) }
-    ensures fault { IfErr result (IfRefused (FirstFault text.entry.now)) }
+    ensures fault { (fault : LexFault) → result ≡ Err (LexError.Refused fault)
+        → FirstFault text.entry.now fault }
 {
     // Few texts have more than one token for two bytes.
     let mut found = Vec::with_capacity(alloc, text.len() / 2)?;

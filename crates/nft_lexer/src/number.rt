@@ -1,15 +1,6 @@
 //! Digits and their values.
-ghost use Rattle.std.specs.Prelude.{◌≡◌, ◌≤◌, ◌<◌, ◌^◌, length, option_map};
-ghost use Rattle.std.specs.Char.{is_ascii_digit};
-ghost use Rattle.std.specs.List.{prefix_len};
-ghost use Rattle.nft_lexer.specs.steps.Reading.{address_of, byte_of, digit_at, digits_at, front, has_leading_zero, value_after, with_digit};
-
-/// Decimal digits with their value: `None` if it exceeds 64 bits or has a leading zero.
-#[derive(Clone, Copy)]
-pub(crate) struct Digits<'t> {
-    pub text: &'t [u8],
-    pub number: Option<u64>,
-}
+ghost use Rattle.std.specs.Prelude.{◌≡◌, ◌≤◌, ◌<◌, ◌^◌, length};
+ghost use Rattle.nft_lexer.specs.steps.Reading.{address_of, decimal_at, has_leading_zero, octet_at, value_after, with_digit};
 
 /// The number with one more digit, if it fits 64 bits.
 fn with_digit(number: u64, byte: u8, radix: u32) -> Option<u64>
@@ -44,84 +35,29 @@ fn has_leading_zero(digits: &[u8]) -> bool
     digits.len() > 1 && digits[0] == b'0'
 }
 
-/// The leading digit, and the rest of the text.
-fn digit<'t>(text: &'t [u8]) -> Option<(u8, &'t [u8])>
-    ensures { option_map (λ x. (x.0, x.1.now)) result ≡ digit_at text.entry.now }
+/// The value of decimal digits: `None` if it exceeds 64 bits or has a leading zero.
+#[tactic(auto, unfolding(crate::specs::steps::Reading::decimal_at))]
+pub(crate) fn decimal(digits: &[u8]) -> Option<u64>
+    ensures { result ≡ decimal_at digits.now }
 {
-    match text {
-        [first, rest @ ..] if first.is_ascii_digit() => Some((*first, rest)),
-        _ => None,
-    }
-}
-
-/// The number of leading digits.
-fn count_digits(text: &[u8]) -> usize
-    ensures value { result ≡ prefix_len is_ascii_digit text.now }
-    ensures within { result ≤ length text.now }
-{
-    text.iter().take_while(|byte| byte.is_ascii_digit()).count()
-}
-
-/// The number of leading digits, and their value if it fits 64 bits. One pass; the digits are
-/// counted again only if the value is too large.
-fn digits_in_front(text: &[u8]) -> (usize, Option<u64>)
-    ensures count { result.0 ≡ prefix_len is_ascii_digit text.now }
-    ensures within { result.0 ≤ length text.now }
-    ensures number { result.1 ≡ value_after 10 0 (front is_ascii_digit text.now) }
-{
-    let mut number = 0;
-    let mut rest = text;
-    while let Some((digit, after)) = digit(rest) {
-        let Some(next) = with_digit(number, digit, 10) else {
-            return (count_digits(text), None);
-        };
-        number = next;
-        rest = after;
-    }
-    (text.len() - rest.len(), Some(number))
-}
-
-/// The leading digits, at least one, and the rest of the text.
-#[tactic(auto, using(crate::specs::steps::Values::run_is), unfolding(crate::specs::steps::Reading::digits_at, crate::specs::steps::Reading::decimal_at))]
-pub(crate) fn leading_digits<'t>(text: &'t [u8]) -> Option<(Digits<'t>, &'t [u8])>
-    ensures { option_map (λ x. (x.0.text.now, x.0.number, x.1.now)) result
-        ≡ digits_at text.entry.now }
-{
-    let (count, number) = digits_in_front(text);
-    if count == 0 {
+    if has_leading_zero(digits) {
         return None;
     }
-    let (digits, rest) = text.split_at(count);
-    let number = if has_leading_zero(digits) {
-        None
-    } else {
-        number
-    };
-    Some((
-        Digits {
-            text: digits,
-            number,
-        },
-        rest,
-    ))
+    value(digits, 10)
 }
 
-/// The number as an octet.
-fn octet(number: Option<u64>) -> Option<u8>
-    ensures { result ≡ byte_of number }
+/// The value of an octet's digits.
+#[tactic(auto, unfolding(crate::specs::steps::Reading::octet_at))]
+fn octet(digits: &[u8]) -> Option<u8>
+    ensures { result ≡ octet_at digits.now }
 {
-    u8::try_from(number?).ok()
+    u8::try_from(decimal(digits)?).ok()
 }
 
-/// The address with these octets, the first the most significant.
+/// The address whose octets have these digits, the first the most significant.
 #[tactic(auto, unfolding(crate::specs::steps::Reading::address_of))]
-pub(crate) fn address(
-    first: Option<u64>,
-    second: Option<u64>,
-    third: Option<u64>,
-    fourth: Option<u64>,
-) -> Option<u32>
-    ensures { result ≡ address_of first second third fourth }
+pub(crate) fn address(first: &[u8], second: &[u8], third: &[u8], fourth: &[u8]) -> Option<u32>
+    ensures { result ≡ address_of first.now second.now third.now fourth.now }
 {
     Some(u32::from_be_bytes([octet(first)?, octet(second)?, octet(third)?, octet(fourth)?]))
 }

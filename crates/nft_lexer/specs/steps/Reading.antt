@@ -1,10 +1,11 @@
 -- Readers: each gives the lexeme at the start of a text, and the rest of the text.
 use Rattle.std.specs.Prelude.{ℕ, ◌+◌, ◌-◌, ◌*◌, ◌^◌, List, [], ◌∷◌, length, take, drop, Bool, ◌==◌, nat_lt, ◌&&◌}
-use Rattle.std.specs.Prelude.{Option, Some, None, option_and_then, option_map, option_to_list, ok_or, if◌then◌else◌}
+use Rattle.std.specs.Prelude.{Option, Some, None, option_map, option_to_list, ok_or, if◌then◌else◌}
 use Rattle.std.specs.Prelude.{slice_index, Result, Ok, Err}
 use Rattle.std.specs.Char.{digit_value, is_ascii_digit, is_ascii_hexdigit}
 use Rattle.std.specs.List.{prefix_len}
 use Rattle.std.specs.Option.{option_map_or, option_or}
+use Rattle.list_laws.specs.Options.{◌>>=◌}
 use Rattle.nft_lexer.specs.declared.token.Punctuator.{Punctuator}
 use Rattle.nft_lexer.specs.declared.token.Punctuator.TheVariants.{OpenBrace, CloseBrace, OpenParenthesis}
 use Rattle.nft_lexer.specs.declared.token.Punctuator.TheVariants.{CloseParenthesis, Comma, Semicolon, Colon, Dot}
@@ -17,20 +18,14 @@ use Rattle.nft_lexer.specs.declared.lexeme.LexemeKind.TheVariants as lexeme_kind
 use Rattle.nft_lexer.specs.declared.token.TokenKind.TheVariants as token_kinds
 use Rattle.nft_lexer.specs.declared.lexeme.Run.{Run}
 use Rattle.nft_lexer.specs.declared.lexeme.Run.TheVariants as runs
-use Rattle.nft_lexer.specs.declared.fault.LexError.{LexError}
-use Rattle.nft_lexer.specs.declared.fault.LexError.TheVariants.{Refused, Memory}
 use Rattle.nft_lexer.specs.declared.fault.LexFault.{LexFault}
 use Rattle.nft_lexer.specs.declared.fault.LexFault.TheVariants as lexical
 use Rattle.nft_lexer.specs.declared.lexing.Fault.{Fault}
 use Rattle.nft_lexer.specs.declared.lexing.Fault.TheVariants as faults
-use Rattle.nft_lexer.specs.Terminal.{Terminal, LexedToken, terminal_of}
+use Rattle.nft_lexer.specs.Terminal.{Terminal, number, address, LexedToken, terminal_of}
 use Rattle.nft_lexer.specs.Lexing.{Lexeme, blank, line_continuation, comment, line_end, name, digits, hexadecimal}
 use Rattle.nft_lexer.specs.Lexing.{dotted_quad, quoted, punctuation, is_blank, begins_word, continues_word}
 use Rattle.nft_lexer.specs.Lexing.{is_no_newline, is_string_byte, punctuator_text, IsLongestLexeme, HasTokens}
-
-infixl 10 ◌>>=◌
-abbrev pub ◌>>=◌ : {A B : Type 0} → Option A → (A → Option B) → Option B
-o >>= f = option_and_then f o
 
 -- ---- bytes
 
@@ -50,6 +45,7 @@ abbrev pub continues_run : Run → ℕ → Bool
 continues_run runs.Word = continues_word
 continues_run runs.Line = is_no_newline
 continues_run runs.String = is_string_byte
+continues_run runs.Decimal = is_ascii_digit
 continues_run runs.Hexadecimal = is_ascii_hexdigit
 
 -- The first punctuator of the list that starts with the byte.
@@ -130,52 +126,32 @@ unfoldable pub value_after : ℕ → ℕ → List ℕ → Option ℕ
 value_after radix n [] = Some n
 value_after radix n (b ∷ bs) = with_digit radix n b >>= (λ m. value_after radix m bs)
 
--- The leading digit.
-abbrev pub digit_at : List ℕ → Option (ℕ × List ℕ)
-digit_at [] = None
-digit_at (b ∷ bs) = if is_ascii_digit b then Some (b, bs) else None
-
+-- The value of decimal digits without a leading zero.
 unfoldable pub decimal_at : List ℕ → Option ℕ
 decimal_at ds = if has_leading_zero ds then None else value_after 10 0 ds
 
--- The number, if it is at most 255.
-abbrev pub byte_of : Option ℕ → Option ℕ
-byte_of n = n >>= below 256
-
+-- The value of an octet's digits.
 unfoldable pub octet_at : List ℕ → Option ℕ
-octet_at ds = byte_of (decimal_at ds)
+octet_at ds = decimal_at ds >>= below 256
 
--- The address with these octets, the first the most significant.
-unfoldable pub address_of : (first second third fourth : Option ℕ) → Option ℕ
+-- The address whose octets have these digits, the first the most significant.
+unfoldable pub address_of : (first second third fourth : List ℕ) → Option ℕ
 address_of first second third fourth = do
-  a ← byte_of first
-  b ← byte_of second
-  c ← byte_of third
-  d ← byte_of fourth
+  a ← octet_at first
+  b ← octet_at second
+  c ← octet_at third
+  d ← octet_at fourth
   Some (a * 16777216 + b * 65536 + c * 256 + d)
 
-abbrev pub address_at : (first second third fourth : List ℕ) → Option ℕ
-address_at first second third fourth = address_of (decimal_at first) (decimal_at second) (decimal_at third)
-    (decimal_at fourth)
-
 -- ---- the kinds of lexemes
-
--- Numbers and addresses, or the kind of a number that is out of range.
-abbrev pub number_kind : Option ℕ → LexemeKind
-number_kind (Some n) = lexeme_kinds.Token (token_kinds.Number n)
-number_kind None = lexeme_kinds.InvalidNumber
-
-abbrev pub address_kind : Option ℕ → LexemeKind
-address_kind (Some a) = lexeme_kinds.Token (token_kinds.Address a)
-address_kind None = lexeme_kinds.InvalidNumber
 
 -- What the code keeps of a lexeme.
 abbrev pub lexeme_kind : Lexeme → LexemeKind
 lexeme_kind line_end = lexeme_kinds.Token token_kinds.NewLine
 lexeme_kind (name w) = lexeme_kinds.Token token_kinds.Word
-lexeme_kind (digits n) = number_kind (decimal_at n)
-lexeme_kind (hexadecimal n) = number_kind (value_after 16 0 n)
-lexeme_kind (dotted_quad a b c d) = address_kind (address_at a b c d)
+lexeme_kind (digits n) = lexeme_kinds.Number (decimal_at n)
+lexeme_kind (hexadecimal n) = lexeme_kinds.Number (value_after 16 0 n)
+lexeme_kind (dotted_quad a b c d) = lexeme_kinds.Address (address_of a b c d)
 lexeme_kind (quoted s) = lexeme_kinds.Token token_kinds.String
 lexeme_kind (punctuation m) = lexeme_kinds.Token (token_kinds.Punctuator m)
 lexeme_kind p = lexeme_kinds.Blank
@@ -184,35 +160,13 @@ lexeme_kind p = lexeme_kinds.Blank
 abbrev pub scanned_kind : Option (Lexeme × List ℕ) → Option (LexemeKind × List ℕ)
 scanned_kind o = option_map (λ x. (lexeme_kind x.0, x.1)) o
 
--- ---- numbers and addresses with their values
-
--- The leading digits, at least one, with their value.
-unfoldable pub digits_at : List ℕ → Option (List ℕ × Option ℕ × List ℕ)
-digits_at ts = option_map (λ x. (x.0, decimal_at x.0, x.1)) (run_at is_ascii_digit ts)
-
--- A dot, and the value of the digits after it.
-unfoldable pub octet_after : List ℕ → Option (Option ℕ × List ℕ)
-octet_after ts = after_byte 46 ts >>= (λ r. option_map (λ x. (x.1, x.2)) (digits_at r))
-
--- After an octet of this value: three more.
-unfoldable pub octets_after : Option ℕ → List ℕ → Option (LexemeKind × List ℕ)
-octets_after first ts = do
-  b ← octet_after ts
-  c ← octet_after b.1
-  d ← octet_after c.1
-  Some (address_kind (address_of first b.0 c.0 d.0), d.1)
-
--- The leading number or address.
-unfoldable pub numeral_at : List ℕ → Option (LexemeKind × List ℕ)
-numeral_at ts = digits_at ts >>= (λ a. option_or (scanned_kind (hexadecimal_at a.0 a.2))
-    (option_or (octets_after a.1 a.2) (Some (number_kind a.1, a.2))))
-
 -- ---- lexemes
 
 -- After a quote: the bytes up to the next one on the line.
 unfoldable pub quoted_at : List ℕ → Option (Lexeme × List ℕ)
-quoted_at ts = option_map (λ r. (quoted (front is_string_byte ts), r))
-    (after_byte 34 (behind is_string_byte ts))
+quoted_at ts = do
+  r ← after_byte 34 (behind is_string_byte ts)
+  Some (quoted (front is_string_byte ts), r)
 
 -- This byte and `=`.
 unfoldable pub long_punctuator_at : ℕ → List ℕ → Option (Lexeme × List ℕ)
@@ -223,13 +177,13 @@ long_punctuator_at b bs = do
 
 unfoldable pub punctuator_at : ℕ → List ℕ → Option (Lexeme × List ℕ)
 punctuator_at b bs = option_or (long_punctuator_at b bs)
-    (option_map (λ m. (punctuation m, bs)) (punctuator_from b short_punctuators))
+    (punctuator_from b short_punctuators >>= (λ m. Some (punctuation m, bs)))
 
 -- The lexeme that starts with a byte of this class.
 unfoldable pub class_at : Class → ℕ → List ℕ → Option (Lexeme × List ℕ)
 class_at classes.Blank b bs = Some (blank, bs)
 class_at classes.LineEnd b bs = Some (line_end, bs)
-class_at classes.Backslash b bs = option_map (λ r. (line_continuation, r)) (after_byte 10 bs)
+class_at classes.Backslash b bs = after_byte 10 bs >>= (λ r. Some (line_continuation, r))
 class_at classes.Hash b bs = Some (comment (front is_no_newline bs), behind is_no_newline bs)
 class_at classes.Quote b bs = quoted_at bs
 class_at classes.Digit b bs = number_at (b ∷ bs)
@@ -246,11 +200,12 @@ lexeme_at (b ∷ bs) = class_at (class_of b) b bs
 abbrev pub one : Terminal → List ℕ → List LexedToken
 one s bytes = record { terminal = s; text = bytes } ∷ []
 
--- The tokens of a lexeme of this kind with these bytes; none for an invalid number.
+-- The tokens of a lexeme of this kind with these bytes; none for a number or an address out of range.
 abbrev pub tokens_of : LexemeKind → List ℕ → Option (List LexedToken)
 tokens_of lexeme_kinds.Blank bytes = Some []
 tokens_of (lexeme_kinds.Token k) bytes = Some (one (terminal_of k bytes) bytes)
-tokens_of lexeme_kinds.InvalidNumber bytes = None
+tokens_of (lexeme_kinds.Number n) bytes = n >>= (λ v. Some (one (number v) bytes))
+tokens_of (lexeme_kinds.Address a) bytes = a >>= (λ v. Some (one (address v) bytes))
 
 -- The tokens of a lexeme with these bytes.
 abbrev pub meaning : Lexeme → List ℕ → Option (List LexedToken)
@@ -281,11 +236,6 @@ abbrev pub at_line : Fault → ℕ → LexFault
 at_line faults.Byte line = lexical.Byte line
 at_line faults.OpenString line = lexical.OpenString line
 at_line faults.Number line = lexical.Number line
-
--- The property holds of the fault, if the error is one; a refused allocation says nothing about the text.
-abbrev pub IfRefused : (LexFault → Type 0) → LexError → Type 0
-IfRefused P (Refused fault) = P fault
-IfRefused P Memory = Unit {0}
 
 -- what the reader of a lexeme looks through
 unfoldable pub lexemes : Unit {0}

@@ -1,13 +1,15 @@
-use Rattle.std.proofs.Common.{◌<◌, length, map, sym, arith}
+use Rattle.std.proofs.Common.{◌≡◌, ◌<◌, length, map, subst, sym, arith}
 use Rattle.std.proofs.lemmas.Bool.Decides.{nat_tests}
+use Rattle.std.proofs.lemmas.List.{length-append, nil_from_length}
 use Rattle.nft_lexer.specs.Terminal.{spelled}
+use Rattle.nft_lexer.specs.Lexing.{FirstFault}
 use Rattle.nft_lexer.specs.steps.Reading.{ScansOne, listed}
 use Rattle.nft_lexer.proofs.Lexemes.{next_is}
-use Rattle.nft_lexer.proofs.Tokenizations.{passes_less, reached_none, reached_push, reached_fault}
+use Rattle.nft_lexer.proofs.Tokenizations.{passes_less, reached, reached_push, reached_all, reached_fault}
 use Rattle.nft_lexer.proofs.lexing.tokens.Goals as goal
 
 pub loop-rest-init : goal.loop-rest-init
-loop-rest-init c = rw c.in_ok-found.ensures.items (reached_none c.args.text.now)
+loop-rest-init c = rw c.in_ok-found.ensures.items (λ ps to others s. (ps, s))
 
 passed : (c : goal.In_ok-append) → ScansOne c.loop-rest.rest.now (listed spelled c.in-Ok.read.0)
     c.in-Ok.read.1.now
@@ -25,9 +27,17 @@ pub loop-rest-smaller : goal.loop-rest-smaller
 loop-rest-smaller c = passes_less c.loop-rest.rest.now c.in-Ok.read.1.now _ (passed c)
 
 pub returns-in-Err-clause-fault : goal.returns-in-Err-clause-fault
-returns-in-Err-clause-fault c =
+returns-in-Err-clause-fault c first e =
     let some : 0 < length c.loop-rest.rest.now =
     grind (arith, nat_tests, c.is_empty.ensures, c.loop-rest-test.true) in
     let fault = rw (sym c.in-Err.ensures) at (next_is c.loop-rest.rest.now some) in
-    rw c.at_line.ensures (reached_fault c.args.text.now c.loop-rest.rest.now _ _ c.requires
-    c.loop-rest.invariant (rw (sym c.line_after.ensures) (fault c.line_after.result)))
+    let same : c.at_line.result ≡ first = cc e in
+    subst (FirstFault c.args.text.now) same (rw c.at_line.ensures (reached_fault c.args.text.now c.loop-rest.rest.now _ _ c.requires
+    c.loop-rest.invariant (rw (sym c.line_after.ensures) (fault c.line_after.result))))
+
+pub slice_bounds-done-count : goal.slice_bounds-done-count
+slice_bounds-done-count c = grind (arith, length-append, (reached _ _ _ c.loop-rest.invariant).2.1)
+
+pub returns-clause-found : goal.returns-clause-found
+returns-clause-found c = reached_all _ _ _ c.requires
+    (nil_from_length _ (grind (arith, nat_tests, c.is_empty.ensures, c.loop-rest-test.false))) c.loop-rest.invariant
