@@ -1,10 +1,10 @@
 -- Updates of checksums, and what written bytes change under them.
 use Rattle.std.proofs.Math.Bool.{or-false}
-use Rattle.std.proofs.Common.{inl, ◌&&◌, ◌-◌, ◌++◌, take, length-take, length-append, inr, ◌≡◌, ℕ, ◌+◌, List, [], ◌∷◌, Bool, true, false, refl, sym, ap, arith}
+use Rattle.std.proofs.Common.{inl, ◌&&◌, ◌-◌, ◌++◌, take, length-take, length-append, inr, ◌≡◌, ℕ, ◌+◌, List, [], ◌∷◌, Bool, true, refl, sym, ap, arith}
 use Rattle.std.proofs.Common.{◌≢◌, ◌%◌, ◌<◌, length, ◌*◌, ◌/◌, ◌≤◌, length-drop, get_or, set, drop, ◌∙◌}
-use Rattle.rewrite.proofs.Words.{at_place, even_of, odd_of, byte_in, byte_after, byte_apart, high_at, words_sum-set}
+use Rattle.rewrite.proofs.Words.{byte_in, byte_after, byte_apart, even_weighs, odd_weighs}
 use Rattle.std.proofs.lemmas.List.{length-set, set-append_left, set-append_right, drop-set-lt, get_or-set_other, drop-set-add, get_or-set_same, set-get_or}
-use Rattle.std.specs.Prelude.{◌==◌, ◌||◌, if◌then◌else◌}
+use Rattle.std.specs.Prelude.{◌==◌, if◌then◌else◌}
 use Rattle.std.proofs.lemmas.Bool.{eqb-true, eq-eqb, and_parts, cond_both, ne_eqb, and_from}
 use Rattle.list_laws.specs.Tests.{same-tests}
 use Rattle.ip_headers.specs.Sum.{words_sum}
@@ -25,11 +25,7 @@ pub same_bytes-true : (xs ys : List ℕ) → same_bytes xs ys ≡ true → xs �
 same_bytes-true [] [] h = refl
 same_bytes-true [] (y ∷ ys) h = cc
 same_bytes-true (x ∷ xs) [] h = cc
-same_bytes-true (x ∷ xs) (y ∷ ys) h =
-    let parts = and_parts _ _ h in
-    let first : x ≡ y = eqb-true x y parts.0 in
-    let others : xs ≡ ys = same_bytes-true xs ys parts.1 in
-    rw (first, others) refl
+same_bytes-true (x ∷ xs) (y ∷ ys) h = grind (arith, same_bytes-true xs ys, and_parts, eqb-true, h)
 
 same_bytes-from : (xs ys : List ℕ) → xs ≡ ys → same_bytes xs ys ≡ true
 same_bytes-from xs ys e = rw e (same_bytes-itself ys)
@@ -46,24 +42,17 @@ same_is : (words : ChecksumDelta) (before after : List ℕ) → Covers words bef
 same_is words before after c = same-tests (same_bytes before after) words.is_same
     (λ h. c.other (same_bytes-true before after h)) (λ h. same_bytes-from before after (c.same h))
 
-chosen : (b : Bool) (bytes : List ℕ) (offset checksum x y : ℕ) → with_u16 bytes offset checksum ≡ bytes → x ≡ y
-    → (if b then bytes else with_u16 bytes offset x) ≡ with_u16 bytes offset (if b then checksum else y)
-chosen true bytes offset checksum x y kept e = sym kept
-chosen false bytes offset checksum x y kept e = ap (λ w. with_u16 bytes offset w) e
-
 module _ (over : List ℕ → List ℕ) (offset : ℕ) (old now : List ℕ) (words : ChecksumDelta) (c : Covers words (over old) (over now))
     (kept : with_u16 now offset (u16_at old offset) ≡ now) where
   corrected_is : corrected (u16_at old offset) (words_sum (over old)) (words_sum (over now)) ≡ corrected (u16_at old offset) words.old words.new
   corrected_is = omega (arith, c.sum)
 
   pub update_checksum-is : update_checksum over offset old now ≡ with_u16 now offset (updated_checksum words (u16_at old offset))
-  update_checksum-is = rw (same_is words (over old) (over now) c)
-      (chosen words.is_same now offset (u16_at old offset) _ _ kept corrected_is)
+  update_checksum-is = rw (same_is words (over old) (over now) c) (grind (arith, kept, corrected_is))
 
   pub update_udp_checksum-is : update_udp_checksum over offset old now
       ≡ with_u16 now offset (updated_udp_checksum words (u16_at old offset))
-  update_udp_checksum-is = rw (same_is words (over old) (over now) c)
-      (chosen (words.is_same || u16_at old offset == 0) now offset (u16_at old offset) _ _ kept (ap or_all_ones corrected_is))
+  update_udp_checksum-is = rw (same_is words (over old) (over now) c) (grind (arith, kept, corrected_is))
 
 -- it stays where none of the covered bytes changed
 pub update_checksum-kept : (over : List ℕ → List ℕ) (offset : ℕ) (old now : List ℕ) → over old ≡ over now
@@ -74,28 +63,20 @@ update_checksum-kept over offset old now e = rw (same_bytes-from (over old) (ove
 
 -- ---- one byte
 
--- a high or a low byte
-abbrev byte_change : Bool → ℕ → ℕ → ChecksumDelta
-byte_change high old new = record { old = at_place high old; new = at_place high new; is_same = old == new }
+-- a byte that counts `m` times in its word
+abbrev byte_change : ℕ → ℕ → ℕ → ChecksumDelta
+byte_change m old new = record { old = old * m; new = new * m; is_same = old == new }
 
-byte_kept : (ys : List ℕ) (i v : ℕ) → v ≡ get_or ys i 0 → set ys i v ≡ ys
-byte_kept ys i v is = ap (λ w. set ys i w) is ∙ set-get_or ys i 0
-
-byte_covered : (w : ChecksumDelta) (high : Bool) (xs ys : List ℕ) (i v old : ℕ) → high_at true i ≡ high → i < length ys
-    → get_or xs i 0 ≡ old → get_or ys i 0 ≡ old → Covers w xs ys → Covers (combined w (byte_change high old v)) xs (set ys i v)
-byte_covered w high xs ys i v old side lt was is c =
-    grind (arith, and_parts, c.same, byte_kept, eqb-true, get_or-set_same, get_or, and_from, c.other, eq-eqb, c.sum, words_sum-set)
+byte_covered : (w : ChecksumDelta) (m : ℕ) (xs ys : List ℕ) (i v old : ℕ)
+    → words_sum (set ys i v) + get_or ys i 0 * m ≡ words_sum ys + v * m → i < length ys → get_or xs i 0 ≡ old → get_or ys i 0 ≡ old
+    → Covers w xs ys → Covers (combined w (byte_change m old v)) xs (set ys i v)
+byte_covered w m xs ys i v old weighs lt was is c =
+    grind (arith, and_parts, c.same, set-get_or, eqb-true, get_or-set_same, get_or, and_from, c.other, eq-eqb, c.sum, weighs)
 
 -- ---- two digits are as their number
 
-word_digits : (b : Bool) (x y v : ℕ) → y < 256 → (b && x == v / 256 && y == v % 256) ≡ (b && x * 256 + y == v)
-word_digits b x y v small = grind arith
-
 number_digits : (b : Bool) (x y v : ℕ) → y < 65536 → (b && x == v / 65536 && y == v % 65536) ≡ (b && x * 65536 + y == v)
 number_digits b x y v small = grind arith
-
-high_digit : (b : Bool) (x v : ℕ) → (b && x == v) ≡ (b && x * 256 == v * 256)
-high_digit b x v = grind arith
 
 -- ---- what a checksum covers, of lists of one length
 
@@ -183,34 +164,32 @@ module _ (over : List ℕ → List ℕ) (p : List ℕ) {low n base : ℕ} (s : S
       ap (λ l. get_or l (base + i) 0) (ap over (sym (set-get_or q j 0)) ∙ s.written q (get_or q j 0) i j len is lt)
       ∙ get_or-set_same (over q) (base + i) (get_or q j 0) 0 (s.room q i len lt)
 
-  byte_more : (high : Bool) (i j v : ℕ) {w : ChecksumDelta} (q : List ℕ) → high_at true (base + i) ≡ high → j ≡ low + i → i < n
-      → Stays p q j → Writes over p w q → Writes over p (combined w (byte_change high (get_or p j 0) v)) (set q j v)
-  byte_more high i j v {w} q side is lt stays c = record {
+  byte_more : (m i j v : ℕ) {w : ChecksumDelta} (q : List ℕ)
+      → ((xs : List ℕ) → base + i < length xs → words_sum (set xs (base + i) v) + get_or xs (base + i) 0 * m ≡ words_sum xs + v * m)
+      → j ≡ low + i → i < n → Stays p q j → Writes over p w q
+      → Writes over p (combined w (byte_change m (get_or p j 0) v)) (set q j v)
+  byte_more m i j v {w} q weighs is lt stays c = record {
     len = length-set q j v ∙ c.len;
-    covers = rw (s.written q v i j c.len is lt) (byte_covered w high (over p) (over q) (base + i) v (get_or p j 0) side
-        (s.room q i c.len lt) (shown p i j refl is lt) (shown q i j c.len is lt ∙ stays) c.covers);
+    covers = rw (s.written q v i j c.len is lt) (byte_covered w m (over p) (over q) (base + i) v (get_or p j 0)
+        (weighs (over q) (s.room q i c.len lt)) (s.room q i c.len lt) (shown p i j refl is lt) (shown q i j c.len is lt ∙ stays) c.covers);
   }
 
   -- the high byte of a word
   pub high_byte_more : (i j v : ℕ) {w : ChecksumDelta} (q : List ℕ) → (base + i) % 2 ≡ 0 → j ≡ low + i → i < n → Stays p q j
       → Writes over p w q → Writes over p (combined w (u16_change (get_or p j 0 * 256) (v * 256))) (set q j v)
   high_byte_more i j v {w} q even is lt stays c =
-      counted_as _ _ (high_digit w.is_same (get_or p j 0) v) refl (byte_more true i j v q (even_of (base + i) even) is lt stays c)
+      counted_as _ _ (grind arith) refl (byte_more 256 i j v q (λ xs. even_weighs xs (base + i) v even) is lt stays c)
 
   -- both bytes of a word
   bytes_more : (i j v : ℕ) {w : ChecksumDelta} (q : List ℕ) → (base + i) % 2 ≡ 0 → j ≡ low + i → i + 1 < n
       → ((k : ℕ) → j ≤ k → k < j + 2 → Stays p q k) → Writes over p w q
-      → Writes over p (combined (combined w (byte_change true (get_or p j 0) (v / 256)))
-      (byte_change false (get_or p (j + 1) 0) (v % 256))) (with_u16 q j v)
+      → Writes over p (combined (combined w (byte_change 256 (get_or p j 0) (v / 256)))
+      (byte_change 1 (get_or p (j + 1) 0) (v % 256))) (with_u16 q j v)
   bytes_more i j v q even is lt stays c =
-      byte_more false (i + 1) (j + 1) (v % 256) (set q j (v / 256)) (odd_of (base + (i + 1)) (omega (arith, even))) (omega (arith, is)) lt
+      byte_more 1 (i + 1) (j + 1) (v % 256) (set q j (v / 256)) (λ xs. odd_weighs xs (base + (i + 1)) (v % 256) (omega (arith, even)))
+      (omega (arith, is)) lt
       (get_or-set_other q j (j + 1) (v / 256) 0 (omega arith) ∙ stays (j + 1) (omega arith) (omega arith))
-      (byte_more true i j (v / 256) q (even_of _ even) is (omega (arith, lt)) (stays j (omega arith) (omega arith)) c)
-
-  word_sum : (i j v : ℕ) → (base + i) % 2 ≡ 0 → j ≡ low + i → i + 1 < n
-      → words_sum (over (with_u16 p j v)) + u16_at p j ≡ words_sum (over p) + v
-  word_sum i j v even is lt =
-      omega (arith, (bytes_more i j v p even is lt (λ _ _ _. refl) (nothing_written over p)).covers.sum)
+      (byte_more 256 i j (v / 256) q (λ xs. even_weighs xs (base + i) (v / 256) even) is (omega (arith, lt)) (stays j (omega arith) (omega arith)) c)
 
 module _ (over : List ℕ → List ℕ) (p : List ℕ) (small : (k : ℕ) → get_or p k 0 < 256) {low n base : ℕ}
     (s : Shows over (length p) low n base) where
@@ -218,7 +197,7 @@ module _ (over : List ℕ → List ℕ) (p : List ℕ) (small : (k : ℕ) → ge
       → ((k : ℕ) → j ≤ k → k < j + 2 → Stays p q k) → Writes over p w q
       → Writes over p (combined w (u16_change (u16_at p j) v)) (with_u16 q j v)
   word_more i j v {w} q even is lt stays c =
-      counted_as _ _ (word_digits w.is_same (get_or p j 0) (get_or p (j + 1) 0) v (small (j + 1))) (omega arith)
+      counted_as _ _ (grind (arith, small (j + 1))) (omega arith)
       (bytes_more over p s i j v q even is lt stays c)
 
   pub number_more : (i j v : ℕ) {w : ChecksumDelta} (q : List ℕ) → (base + i) % 2 ≡ 0 → j ≡ low + i → i + 3 < n
@@ -234,20 +213,13 @@ module _ (over : List ℕ → List ℕ) (p : List ℕ) (small : (k : ℕ) → ge
 
 -- ==== A checksum update keeps the sum of what it covers, modulo 65535.
 
-corrected-keeps : (before after checksum now : ℕ) → now + checksum ≡ after + corrected checksum before after → now % 65535 ≡ before % 65535
-corrected-keeps before after checksum now e = omega (arith, e)
-
-all_ones-keeps : (before after checksum now : ℕ)
-    → now + checksum ≡ after + or_all_ones (corrected checksum before after) → now % 65535 ≡ before % 65535
-all_ones-keeps before after checksum now e = grind (arith, e)
-
 -- the checksum's word stands under it, at an offset that the first byte determines
 module _ (over view : List ℕ → List ℕ) (old now : List ℕ) (fixed : (q : List ℕ) → get_or q 0 0 ≡ get_or old 0 0 → over q ≡ view q)
     {low n base : ℕ} (s : Shows view (length now) low n base) (i offset : ℕ) (even : (base + i) % 2 ≡ 0) (is : offset ≡ low + i)
     (room : i + 1 < n) (past : 0 < offset) (first : get_or now 0 0 ≡ get_or old 0 0) (same : u16_at now offset ≡ u16_at old offset) where
   written_sum : (w : ℕ) → words_sum (over (with_u16 now offset w)) + u16_at old offset ≡ words_sum (over now) + w
   written_sum w = rw (fixed (with_u16 now offset w) (byte_apart now offset w 0 (inl past) ∙ first), fixed now first, sym same)
-      (word_sum view now s i offset w even is room)
+      (omega (arith, (bytes_more view now s i offset w now even is room (λ _ _ _. refl) (nothing_written view now)).covers.sum))
 
   by_same : (w : ℕ) → words_sum (over (with_u16 now offset w)) % 65535 ≡ words_sum (over old) % 65535
       → words_sum (over (if same_bytes (over old) (over now) then now else with_u16 now offset w)) % 65535
@@ -257,9 +229,9 @@ module _ (over view : List ℕ → List ℕ) (old now : List ℕ) (fixed : (q : 
       (λ e. ap (λ l. words_sum l % 65535) (sym (same_bytes-true (over old) (over now) e))) (λ _. keeps)
 
   pub update_keeps_sum : words_sum (over (update_checksum over offset old now)) % 65535 ≡ words_sum (over old) % 65535
-  update_keeps_sum = by_same _ (corrected-keeps (words_sum (over old)) (words_sum (over now)) (u16_at old offset) _ (written_sum _))
+  update_keeps_sum = let e = written_sum (corrected (u16_at old offset) (words_sum (over old)) (words_sum (over now))) in by_same _ (omega (arith, e))
 
   pub udp_update_keeps_sum : u16_at old offset ≢ 0
       → words_sum (over (update_udp_checksum over offset old now)) % 65535 ≡ words_sum (over old) % 65535
   udp_update_keeps_sum made = rw (ne_eqb _ _ made, or-false (same_bytes (over old) (over now)))
-      (by_same _ (all_ones-keeps (words_sum (over old)) (words_sum (over now)) (u16_at old offset) _ (written_sum _)))
+      (let e = written_sum (or_all_ones (corrected (u16_at old offset) (words_sum (over old)) (words_sum (over now)))) in by_same _ (grind (arith, e)))

@@ -1,25 +1,25 @@
 -- Writing the changed fields gives the rewritten datagram, and the changed words of its fields are those of its bytes.
 use Rattle.std.proofs.lemmas.Bool.Decides.{nat_tests}
-use Rattle.rewrite.proofs.Words.{number_stays, byte_apart, number_byte_apart, byte_before, number_rest_before, byte_of_part, word_of_rest, byte_after}
-use Rattle.rewrite.proofs.Words.{word_stays, fields_by, SameAt, same_at}
-use Rattle.rewrite.specs.steps.Fields.{fields_at, updated_udp_checksum, combined, u32_change, u16_change, transport_fields_of, changed_transport_fields}
+use Rattle.rewrite.proofs.Words.{number_stays, byte_apart, number_byte_apart, byte_of_part, word_of_rest, byte_after}
+use Rattle.rewrite.proofs.Words.{word_stays, fields_by, SameAt, same_at, either_by}
+use Rattle.rewrite.specs.steps.Fields.{port_change, fields_at, combined, u32_change, u16_change, transport_fields_of, changed_transport_fields}
 use Rattle.rewrite.specs.steps.Fields.{changed_fields, identifier_named, len_of, ports_named, updated_checksum, with_transport_fields, with_fields}
 use Rattle.rewrite.specs.steps.Fields.{keeps_endpoints, keeps_numbers, with_ttl_field, and_transport_words, transport_words, fields_change}
 use Rattle.rewrite.proofs.Checksums.{alone, Shows, Writes, hidden, nothing_written, number_more, word_more, high_byte_more, pair_shows, payload_shows}
 use Rattle.rewrite.proofs.Checksums.{rest_shows, head_shows, counted_as, pseudo, head_of, Covers, update_checksum-is, update_checksum-kept}
 use Rattle.rewrite.proofs.Checksums.{update_udp_checksum-is}
-use Rattle.std.proofs.Math.Bool.{and_assoc, and_comm, and-true}
-use Rattle.std.proofs.Common.{◌≡◌, ℕ, ◌+◌, ◌*◌, ◌%◌, ◌<◌, ◌≤◌, ◌⊎◌, inl, inr, ⊎_elim, List, length, get_or, set, take, drop, refl, sym, ap, ◌∙◌, arith, ◌-◌}
+use Rattle.std.proofs.Math.Bool.{and_assoc, and-true}
+use Rattle.std.proofs.Common.{◌≡◌, ℕ, ◌+◌, ◌*◌, ◌%◌, ◌<◌, ◌≤◌, ◌⊎◌, inl, inr, List, length, get_or, set, take, drop, refl, sym, ap, ◌∙◌, arith, ◌-◌}
 use Rattle.std.proofs.Common.{Option, Some, None, length-drop, true, false, suc}
-use Rattle.std.proofs.lemmas.Bool.{and_parts, cond_both, leb-true, leb-false, ne_eqb, eqb-true, le-leb, lt-leb, cases_eq, or_from}
+use Rattle.std.proofs.lemmas.Bool.{and_parts, cond_both, leb-true, leb-false, eqb-true, le-leb, lt-leb}
 use Rattle.std.proofs.lemmas.List.{length-set, get_or-drop, get_or-set_other, drop-set-lt, set-get_or}
 use Rattle.std.proofs.lemmas.Grind.{common_steps}
 use Rattle.ip_headers.specs.Bytes.{byte_at, u16_at, u32_at, with_u16, with_u32}
 use Rattle.ip_headers.specs.Header.{header_len, payload_at, protocol_at}
 use Rattle.rewrite.specs.declared.checksum.ChecksumDelta.{ChecksumDelta}
-use Rattle.rewrite.specs.Rewritten.{header_in, payload_in, pseudo_header_and_payload, with_ports, write_if_some, update_checksum, update_udp_checksum, replaced}
+use Rattle.rewrite.specs.Rewritten.{header_in, payload_in, pseudo_header_and_payload, with_ports, write_if_some, replaced}
 use Rattle.rewrite.specs.Rewritten.{update_transport_checksum, update_checksums, has_identifier, update_header_checksum, with_numbers, with_ttl}
-use Rattle.std.specs.Prelude.{◌==◌, ◌||◌, nat_le, unwrap_or}
+use Rattle.std.specs.Prelude.{◌==◌, ◌||◌, unwrap_or}
 use Rattle.rewrite.specs.declared.change.Change.{Change}
 use Rattle.rewrite.specs.declared.change.PortsOrIdentifier.{PortsOrIdentifier}
 use Rattle.rewrite.specs.declared.change.PortsOrIdentifier.TheVariants.{Ports, Identifier}
@@ -47,19 +47,14 @@ module _ (start : ℕ) (p : List ℕ) (from to ttl : ℕ) where
   timed = set addressed (start + 8) ttl
 
   timed_rest : (a : ℕ) → start + 20 ≤ a → drop a timed ≡ drop a p
-  timed_rest a past = drop-set-lt a addressed (start + 8) ttl (omega (arith, past))
-      ∙ number_rest_before sourced a (start + 16) to (omega (arith, past)) ∙ number_rest_before p a (start + 12) from (omega (arith, past))
+  timed_rest a past = grind (arith, drop-set-lt)
 
   -- a byte beside the fields
   timed_byte : (k : ℕ) → (k < start + 8) ⊎ (start + 8 < k) → (k < start + 12) ⊎ (start + 19 < k) → get_or timed k 0 ≡ get_or p k 0
-  timed_byte k apart past = get_or-set_other addressed (start + 8) k ttl 0 (grind arith)
-      ∙ number_byte_apart sourced (start + 16) to k (grind arith) ∙ number_byte_apart p (start + 12) from k (grind arith)
+  timed_byte k apart past = grind (arith, get_or-set_other)
 
   timed_first : get_or timed start 0 ≡ get_or p start 0
   timed_first = timed_byte start (inl (omega arith)) (inl (omega arith))
-
-  timed_len : length timed ≡ length p
-  timed_len = simp length-set
 
 -- the payload's offset stays, whatever is written after the first byte
 pub first_of_rest : (xs : List ℕ) (start : ℕ) → get_or (drop start xs) 0 0 ≡ get_or xs start 0
@@ -77,15 +72,7 @@ pub record Behind (start : ℕ) (p t : List ℕ) : Type 0 where
   pub small : (k : ℕ) → get_or p k 0 < 256
 
 pub timed_behind : (start : ℕ) (p : List ℕ) (from to ttl : ℕ) → IsDatagram start p → Behind start p (timed start p from to ttl)
-timed_behind start p from to ttl d =
-    let t = timed start p from to ttl in
-    record {
-      protocol = get_or-drop start t 9 0 ∙ timed_byte start p from to ttl (start + 9) (inr (omega arith))
-          (inl (omega arith)) ∙ sym (get_or-drop start p 9 0);
-      payload = ap (λ n. start + n) (same_byte-len start p t (timed_first start p from to ttl));
-      bytes = λ k le. timed_byte start p from to ttl k (inr (omega (arith, le, d.long))) (inr (omega (arith, le, d.long)));
-      small = d.small;
-    }
+timed_behind start p from to ttl d = grind (arith, get_or-drop, timed_byte, d.long, d.small)
 
 module _ (start : ℕ) (p t : List ℕ) (b : Behind start p t) where
   abbrev behind_at : ℕ
@@ -104,9 +91,8 @@ module _ (start : ℕ) (p t : List ℕ) (b : Behind start p t) where
 
   -- past two ports that were written
   kept_past_ports : (from to k : ℕ) → behind_at + 4 ≤ k → with_u16 (with_ports behind_at t from to) k (u16_at p k) ≡ with_ports behind_at t from to
-  kept_past_ports from to k le = kept_in (with_ports behind_at t from to) k (omega (arith, le)) (λ j past _.
-      byte_apart (with_u16 t behind_at from) (behind_at + 2) to j (inr (omega (arith, le, past)))
-      ∙ byte_apart t behind_at from j (inr (omega (arith, le, past))))
+  kept_past_ports from to k le =
+      kept_in (with_ports behind_at t from to) k (omega (arith, le)) (λ j past _. grind (arith, byte_apart))
 
   kept_past_identifier : (number : ℕ) → with_u16 (with_u16 t (behind_at + 4) number) (behind_at + 2) (u16_at p (behind_at + 2))
       ≡ with_u16 t (behind_at + 4) number
@@ -122,55 +108,27 @@ abbrev ttl_words : ℕ → List ℕ → ℕ → ChecksumDelta
 ttl_words start p ttl = u16_change (byte_at p (start + 8) * 256) (ttl * 256)
 
 module _ (over : List ℕ → List ℕ) (start : ℕ) (p : List ℕ) (from to : ℕ) (d : IsDatagram start p) {low n base : ℕ}
-    (s : Shows over (length p) low n base) (i : ℕ) (even : (base + i) % 2 ≡ 0) where
-  addresses_written : start + 12 ≡ low + i → i + 8 ≤ n
+    (s : Shows over (length p) low n base) where
+  addresses_written : (i : ℕ) → (base + i) % 2 ≡ 0 → start + 12 ≡ low + i → i + 8 ≤ n
       → Writes over p (pair_words start p from to) (with_u32 (with_u32 p (start + 12) from) (start + 16) to)
-  addresses_written is room =
-      number_more over p d.small s (i + 4) (start + 16) to (with_u32 p (start + 12) from) (omega (arith, even)) (omega (arith, is))
-      (omega (arith, room)) (λ k le _. number_byte_apart p (start + 12) from k (inr (omega (arith, le))))
+  addresses_written i even is room =
+      number_more over p d.small s (i + 4) (start + 16) to _ (omega (arith, even)) (omega (arith, is)) (omega (arith, room))
+      (λ k le _. number_byte_apart p (start + 12) from k (inr (omega (arith, le))))
       (alone (number_more over p d.small s i (start + 12) from p even is (omega (arith, room)) (λ _ _ _. refl) (nothing_written over p)))
 
-timed_written : (over : List ℕ → List ℕ) (start : ℕ) (p : List ℕ) (from to ttl : ℕ) → IsDatagram start p → {low n base : ℕ}
-    → Shows over (length p) low n base → (i : ℕ) → (base + i) % 2 ≡ 0 → start ≡ low + i → i + 20 ≤ n
-    → Writes over p (combined (pair_words start p from to) (ttl_words start p ttl)) (timed start p from to ttl)
-timed_written over start p from to ttl d s i even is room =
-    let one = with_u32 p (start + 12) from in
-    high_byte_more over p s (i + 8) (start + 8) ttl (with_u32 one (start + 16) to) (omega (arith, even)) (omega (arith, is))
-    (omega (arith, room)) (number_byte_apart one (start + 16) to (start + 8) (inl (omega arith))
-    ∙ number_byte_apart p (start + 12) from (start + 8) (inl (omega arith)))
-    (addresses_written over start p from to d s (i + 12) (omega (arith, even)) (omega (arith, is)) (omega (arith, room)))
+  timed_written : (ttl i : ℕ) → (base + i) % 2 ≡ 0 → start ≡ low + i → i + 20 ≤ n
+      → Writes over p (combined (pair_words start p from to) (ttl_words start p ttl)) (timed start p from to ttl)
+  timed_written ttl i even is room =
+      high_byte_more over p s (i + 8) (start + 8) ttl _ (omega (arith, even)) (omega (arith, is)) (omega (arith, room))
+      (grind (arith, number_byte_apart)) (addresses_written (i + 12) (omega (arith, even)) (omega (arith, is)) (omega (arith, room)))
 
 -- ---- the payload
-
-abbrev pub port_words : ℕ → List ℕ → ℕ → ℕ → ChecksumDelta
-port_words offset p from to = combined (u16_change (u16_at p offset) from) (u16_change (u16_at p (offset + 2)) to)
 
 none_more : {over : List ℕ → List ℕ} {p q : List ℕ} {w : ChecksumDelta} → Writes over p w q → Writes over p (combined w (u16_change 0 0)) q
 none_more {over} {p} {q} {w} c = counted_as w _ (sym (and-true w.is_same)) (omega arith) c
 
 abbrev pub carried_at : ℕ → List ℕ → TransportFields
 carried_at start p = transport_fields_of (protocol_at start p) (drop (payload_at start p) p)
-
--- which checksum is updated
-module _ (start : ℕ) (old now : List ℕ) where
-  pub by_tcp : protocol_at start old ≡ 6 → payload_at start old + 18 ≤ length old → update_transport_checksum start old now
-      ≡ update_checksum (pseudo_header_and_payload start) (payload_at start old + 16) old now
-  by_tcp is room = rw (is, le-leb _ _ room) refl
-
-  by_cut_tcp : protocol_at start old ≡ 6 → length old < payload_at start old + 18 → update_transport_checksum start old now ≡ now
-  by_cut_tcp is cut = rw (is, lt-leb _ _ cut) refl
-
-  pub by_udp : protocol_at start old ≡ 17 → update_transport_checksum start old now
-      ≡ update_udp_checksum (pseudo_header_and_payload start) (payload_at start old + 6) old now
-  by_udp is = rw is refl
-
-  pub by_icmp : protocol_at start old ≡ 1
-      → update_transport_checksum start old now ≡ update_checksum (payload_in start) (payload_at start old + 2) old now
-  by_icmp is = rw is refl
-
-  by_other : (protocol_at start old == 6) ≡ false → (protocol_at start old == 17) ≡ false → (protocol_at start old == 1) ≡ false
-      → update_transport_checksum start old now ≡ now
-  by_other a b c = rw (a, b, c) refl
 
 -- an identifier stands in ICMP messages alone
 pub is_icmp : (number message : ℕ) → has_identifier number message ≡ true → number ≡ 1
@@ -201,7 +159,7 @@ module _ (over : List ℕ → List ℕ) (start : ℕ) (p t : List ℕ) (b : Behi
       (u16_change (u16_at p (front + 2)) y)) (with_ports front t x y)
   ports_written x y room =
       word_more over p b.small s (i + 2) (front + 2) y (with_u16 t front x) (omega (arith, even)) (omega (arith, at))
-      (omega (arith, at, whole, room)) (λ k le _. byte_apart t front x k (inr (omega (arith, le))) ∙ b.bytes k (omega (arith, le)))
+      (omega (arith, at, whole, room)) (λ k le _. grind (arith, byte_apart, b.bytes))
       (word_more over p b.small s i front x t even at (omega (arith, at, whole, room)) (λ k le _. b.bytes k le) c)
 
   -- and a word after the ports
@@ -210,8 +168,7 @@ module _ (over : List ℕ → List ℕ) (start : ℕ) (p t : List ℕ) (b : Behi
       (u16_change (u16_at p (front + k)) v)) (with_u16 (with_ports front t x y) (front + k) v)
   after_ports x y k v past even_too room =
       word_more over p b.small s (i + k) (front + k) v (with_ports front t x y) (omega (arith, even, even_too)) (omega (arith, at))
-      (omega (arith, at, whole, room)) (λ j le _. byte_apart (with_u16 t front x) (front + 2) y j (inr (omega (arith, past, le)))
-      ∙ byte_apart t front x j (inr (omega (arith, past, le))) ∙ b.bytes j (omega (arith, le)))
+      (omega (arith, at, whole, room)) (λ j le _. grind (arith, byte_apart, b.bytes))
       (ports_written x y (omega (arith, past, room)))
 
   identifier_written : (x : ℕ) → front + 6 ≤ length p
@@ -242,6 +199,36 @@ module _ (over : List ℕ → List ℕ) (start : ℕ) (p t : List ℕ) (b : Behi
 
 -- ---- a field without a new value is written as it was
 
+-- a datagram with these fields, where a change writes its ports or its identifier
+abbrev numbered : ℕ → List ℕ → Option PortsOrIdentifier → TransportFields → List ℕ
+numbered offset t numbers (Tcp from to checksum) = let ports = ports_named numbers from to in with_ports offset t ports.0 ports.1
+numbered offset t numbers (Udp from to checksum) = let ports = ports_named numbers from to in with_ports offset t ports.0 ports.1
+numbered offset t numbers (Echo number checksum) = with_u16 t (offset + 4) (identifier_named numbers number)
+numbered offset t numbers Other = t
+
+module _ (start : ℕ) (p t : List ℕ) (b : Behind start p t) where
+  abbrev IsNumbered : Option PortsOrIdentifier → TransportFields → Type 0
+  IsNumbered numbers fields = write_if_some (with_numbers start) t numbers ≡ numbered (payload_at start p) t numbers fields
+
+  numbers_written : (numbers : Option PortsOrIdentifier) → IsNumbered numbers (carried_at start p)
+  numbers_written numbers =
+      let place = payload_at start p in
+      let ports = sym (ports_kept_behind start p t b) in
+      let word = sym (kept_behind start p t b (place + 4) (omega arith)) in
+      let number : (n : ℕ) → protocol_at start p ≡ n → protocol_at start t ≡ n = λ n is. b.protocol ∙ is in
+      let first = b.bytes place (omega arith) in
+      elim numbers as (λ o. IsNumbered o (carried_at start p)) [
+        | None ↦ by_protocol start p (IsNumbered None) (λ _ _. ports) (λ _ _. ports) (λ _. ports) (λ _. word) (λ _ _ _. refl)
+        | Some (Ports one other) ↦ by_protocol start p (IsNumbered (Some (Ports one other))) (λ is _. rw (number 6 is, b.payload) refl)
+            (λ is _. rw (number 6 is, b.payload) refl) (λ is. rw (number 17 is, b.payload) refl)
+            (λ there. rw (number 1 (is_icmp (protocol_at start p) (byte_at p place) there)) word) (λ x y _. rw (b.protocol, x, y) refl)
+        | Some (Identifier id) ↦ by_protocol start p (IsNumbered (Some (Identifier id))) (λ is _. rw (number 6 is) ports)
+            (λ is _. rw (number 6 is) ports) (λ is. rw (number 17 is) ports) (λ there. rw (b.protocol, b.payload, first, there) refl)
+            (λ _ _ none. rw (b.protocol, b.payload, first, none) refl)
+      ]
+
+-- ---- the header's fields
+
 named_number : (o : Option ℕ) (xs p : List ℕ) (i : ℕ) → ((k : ℕ) → get_or p k 0 < 256)
     → ((k : ℕ) → i ≤ k → k < i + 4 → get_or xs k 0 ≡ get_or p k 0)
     → write_if_some (λ bytes n. with_u32 bytes i n) xs o ≡ with_u32 xs i (unwrap_or o (u32_at p i))
@@ -253,35 +240,13 @@ named_ttl : (o : Option ℕ) (start : ℕ) (xs p : List ℕ) → get_or xs (star
 named_ttl None start xs p e = sym (ap (λ v. set xs (start + 8) v) (sym e) ∙ set-get_or xs (start + 8) 0)
 named_ttl (Some n) start xs p e = refl
 
-module _ (start : ℕ) (t : List ℕ) (number offset : ℕ) (is : protocol_at start t ≡ number) (here : payload_at start t ≡ offset) where
-  write_ports : (numbers : Option PortsOrIdentifier) (from to : ℕ) → (number == 6 || number == 17) ≡ true → (number == 1) ≡ false
-      → with_ports offset t from to ≡ t
-      → write_if_some (with_numbers start) t numbers ≡ with_ports offset t (ports_named numbers from to).0 (ports_named numbers from to).1
-  write_ports None from to some none kept = sym kept
-  write_ports (Some (Ports one other)) from to some none kept = rw (is, some, here) refl
-  write_ports (Some (Identifier other)) from to some none kept = rw (is, none) (sym kept)
-
-  write_identifier : (numbers : Option PortsOrIdentifier) (old : ℕ) → (number == 6 || number == 17) ≡ false
-      → has_identifier number (byte_at t offset) ≡ true → with_u16 t (offset + 4) old ≡ t
-      → write_if_some (with_numbers start) t numbers ≡ with_u16 t (offset + 4) (identifier_named numbers old)
-  write_identifier None old none some kept = sym kept
-  write_identifier (Some (Ports one other)) old none some kept = rw (is, none) (sym kept)
-  write_identifier (Some (Identifier other)) old none some kept = rw (is, here, some) refl
-
-  write_none : (numbers : Option PortsOrIdentifier) → (number == 6 || number == 17) ≡ false
-      → has_identifier number (byte_at t offset) ≡ false → write_if_some (with_numbers start) t numbers ≡ t
-  write_none None a b = refl
-  write_none (Some (Ports one other)) a b = rw (is, a) refl
-  write_none (Some (Identifier other)) a b = rw (is, here, b) refl
-
--- ---- the header's fields
-
 replaced_header : (start : ℕ) (p : List ℕ) (change : Change) → IsDatagram start p
     → replaced start p change ≡ write_if_some (with_numbers start)
     (timed start p (unwrap_or change.source (u32_at p (start + 12)))
     (unwrap_or change.destination (u32_at p (start + 16))) (unwrap_or change.ttl (byte_at p (start + 8))))
     change.numbers
-replaced_header start p change d = grind (arith, change.source, change.destination, named_number, d.small, number_byte_apart, named_ttl, change.ttl)
+replaced_header start p change d =
+    grind (arith, change.source, change.destination, named_number, d.small, number_byte_apart, named_ttl, change.ttl)
 
 -- ---- The header checksum.
 
@@ -293,29 +258,20 @@ header_right : (start : ℕ) (p x : List ℕ) (from to ttl : ℕ) → IsDatagram
     → head_of start (header_len (drop start p)) x
     ≡ head_of start (header_len (drop start p)) (timed start p from to ttl)
     → update_header_checksum start p x ≡ with_u16 x (start + 10)
-    (updated_checksum (combined (ttl_words start p ttl) (pair_words start p from to)) (u16_at p (start + 10)))
+    (updated_checksum (combined (pair_words start p from to) (ttl_words start p ttl)) (u16_at p (start + 10)))
 header_right start p x from to ttl d same =
     let n = header_len (drop start p) in
     let t = timed start p from to ttl in
     let first : get_or x start 0 ≡ get_or p start 0 =
     in_head start n 0 start x t same (omega arith) (omega (arith, d.long)) ∙ timed_first start p from to ttl in
-    let written = timed_written (head_of start n) start p from to ttl d (head_shows (length p) start n (omega (arith, d.whole))) 0 refl (omega arith) d.long in
-    update_checksum-is (header_in start) (start + 10) p x (combined (ttl_words start p ttl) (pair_words start p from to))
-    (rw (ap (λ k. take k (drop start x)) (same_byte-len start p x first) ∙ same)
-    (counted_as _ (combined (ttl_words start p ttl) (pair_words start p from to))
-    (and_comm (pair_words start p from to).is_same (ttl_words start p ttl).is_same) (omega arith) written).covers)
+    let written = timed_written (head_of start n) start p from to d (head_shows (length p) start n (omega (arith, d.whole))) ttl 0 refl (omega arith) d.long in
+    update_checksum-is (header_in start) (start + 10) p x _
+    (rw (ap (λ k. take k (drop start x)) (same_byte-len start p x first) ∙ same) written.covers)
     (word_stays x p (start + 10) d.small (λ k le lt.
     in_head start n (k - start) k x t same (omega (arith, le)) (omega (arith, d.long, lt))
     ∙ timed_byte start p from to ttl k (inr (omega (arith, le))) (inl (omega (arith, lt)))))
 
 -- ---- the payload
-
--- a datagram whose fields are these gets them as they are changed
-abbrev IsCarried : ℕ → List ℕ → ℕ → ℕ → ℕ → Option PortsOrIdentifier → TransportFields → Type 0
-IsCarried start p from to ttl numbers fields = payload_at start p + len_of fields ≤ length p
-    → update_transport_checksum start p (write_if_some (with_numbers start) (timed start p from to ttl) numbers)
-    ≡ with_transport_fields (payload_at start p) (timed start p from to ttl)
-    (changed_transport_fields numbers (pair_words start p from to) fields)
 
 module _ (start : ℕ) (p : List ℕ) (from to ttl : ℕ) (numbers : Option PortsOrIdentifier) (d : IsDatagram start p) where
   abbrev offset : ℕ
@@ -334,7 +290,7 @@ module _ (start : ℕ) (p : List ℕ) (from to ttl : ℕ) (numbers : Option Port
   payload_stays : (q : List ℕ) → get_or q start 0 ≡ get_or t start 0 → payload_at start q ≡ offset
   payload_stays q e = ap (λ n. start + n) (same_byte-len start p q (e ∙ timed_first start p from to ttl))
 
-  pseudo_covered : offset + 4 ≤ length p → Covers (combined (pair_words start p from to) (port_words offset p ports.0 ports.1))
+  pseudo_covered : offset + 4 ≤ length p → Covers (combined (pair_words start p from to) (port_change (u16_at p offset, u16_at p (offset + 2)) ports))
       (pseudo_header_and_payload start p) (pseudo_header_and_payload start (with_ports offset t ports.0 ports.1))
   pseudo_covered room =
       let over = pseudo start offset in
@@ -342,79 +298,44 @@ module _ (start : ℕ) (p : List ℕ) (from to ttl : ℕ) (numbers : Option Port
       let past : start + 20 ≤ offset = omega (arith, d.long) in
       let addresses = addresses_written over start p from to d (pair_shows (length p) start offset past (omega (arith, d.whole))) 0 refl (omega arith)
       (omega arith) in
-      let timed_too = hidden over p two t (length-set two (start + 8) ttl)
-      (rw (byte_before two (start + 12) 8 (start + 8) ttl (omega arith), drop-set-lt offset two (start + 8) ttl (omega (arith, past))) refl)
-      addresses in
+      let timed_too = hidden over p two t (length-set two (start + 8) ttl) (grind (arith, drop-set-lt)) addresses in
       let all = ports_written over start p t behind timed_too (payload_shows (length p) start offset past (omega (arith, d.whole))) 0 (omega arith) refl
       (omega (arith, d.whole)) ports.0 ports.1 room in
-      rw (payload_stays (with_ports offset t ports.0 ports.1)
-      (byte_apart (with_u16 t offset ports.0) (offset + 2) ports.1 start (inl (omega (arith, past)))
-      ∙ byte_apart t offset ports.0 start (inl (omega (arith, past)))))
-      (counted_as _ (combined (pair_words start p from to) (port_words offset p ports.0 ports.1))
+      rw (payload_stays (with_ports offset t ports.0 ports.1) (grind (arith, byte_apart)))
+      (counted_as _ (combined (pair_words start p from to) (port_change (u16_at p offset, u16_at p (offset + 2)) ports))
       (and_assoc (pair_words start p from to).is_same (u16_at p offset == ports.0) (u16_at p (offset + 2) == ports.1)) (omega arith) all).covers
 
   carried_covered : (number : ℕ) → offset + 6 ≤ length p → Covers (u16_change (u16_at p (offset + 4)) number) (payload_in start p)
       (payload_in start (with_u16 t (offset + 4) number))
   carried_covered number room =
       let past : start + 20 ≤ offset = omega (arith, d.long) in
-      let none = hidden (drop offset) p p t (timed_len start p from to ttl) (timed_rest start p from to ttl offset past)
-      (nothing_written (drop offset) p) in
+      let none = hidden (drop offset) p p t (simp length-set) (timed_rest start p from to ttl offset past) (nothing_written (drop offset) p) in
       rw (payload_stays (with_u16 t (offset + 4) number) (byte_apart t (offset + 4) number start (inl (omega (arith, past)))))
       (alone (identifier_written (drop offset) start p t behind none (rest_shows (length p) offset) 0 (omega arith) refl
       (omega (arith, d.whole)) number room)).covers
 
-  ports_written_there : (number : ℕ) → protocol_at start p ≡ number → (number == 6 || number == 17) ≡ true → (number == 1) ≡ false
-      → write_if_some (with_numbers start) t numbers ≡ with_ports offset t ports.0 ports.1
-  ports_written_there number is some none = write_ports start t number offset (behind.protocol ∙ is) behind.payload numbers
-      (u16_at p offset) (u16_at p (offset + 2)) some none (ports_kept_behind start p t behind)
+  -- a datagram whose fields are these gets them as they are changed
+  abbrev IsCarried : TransportFields → Type 0
+  IsCarried fields = offset + len_of fields ≤ length p → update_transport_checksum start p (numbered offset t numbers fields)
+      ≡ with_transport_fields offset t (changed_transport_fields numbers (pair_words start p from to) fields)
 
-  carried_tcp : protocol_at start p ≡ 6 → offset + 18 ≤ length p
-      → IsCarried start p from to ttl numbers (Tcp (u16_at p offset) (u16_at p (offset + 2)) (Some (u16_at p (offset + 16))))
-  carried_tcp is room _ =
-      ap (λ l. update_transport_checksum start p l) (ports_written_there 6 is refl refl) ∙ by_tcp start p _ is room
-      ∙ update_checksum-is (pseudo_header_and_payload start) (offset + 16) p (with_ports offset t ports.0 ports.1) _
-      (pseudo_covered (omega (arith, room)))
-      (kept_past_ports start p t behind ports.0 ports.1 (offset + 16) (omega arith))
-
-  carried_udp : protocol_at start p ≡ 17
-      → IsCarried start p from to ttl numbers (Udp (u16_at p offset) (u16_at p (offset + 2)) (u16_at p (offset + 6)))
-  carried_udp is room =
-      ap (λ l. update_transport_checksum start p l) (ports_written_there 17 is refl refl) ∙ by_udp start p _ is
-      ∙ update_udp_checksum-is (pseudo_header_and_payload start) (offset + 6) p (with_ports offset t ports.0 ports.1) _
-      (pseudo_covered (omega (arith, room)))
-      (kept_past_ports start p t behind ports.0 ports.1 (offset + 6) (omega arith))
-
-  carried_echo : has_identifier (protocol_at start p) (byte_at p offset) ≡ true
-      → IsCarried start p from to ttl numbers (Echo (u16_at p (offset + 4)) (u16_at p (offset + 2)))
-  carried_echo there room =
-      let is : protocol_at start p ≡ 1 = is_icmp (protocol_at start p) (byte_at p offset) there in
-      let type_there : has_identifier 1 (byte_at t offset) ≡ true = rw (behind.bytes offset (omega arith)) (rw is at there) in
-      let number = identifier_named numbers (u16_at p (offset + 4)) in
-      let written : write_if_some (with_numbers start) t numbers ≡ with_u16 t (offset + 4) number =
-      write_identifier start t 1 offset (behind.protocol ∙ is) behind.payload numbers (u16_at p (offset + 4)) refl type_there
-      (kept_behind start p t behind (offset + 4) (omega arith)) in
-      ap (λ l. update_transport_checksum start p l) written ∙ by_icmp start p _ is
-      ∙ update_checksum-is (payload_in start) (offset + 2) p (with_u16 t (offset + 4) number) _
-      (carried_covered number room) (kept_past_identifier start p t behind number)
-
-  -- the payload stays, and so does its checksum
-  carried_other : (protocol_at start p == 6) ≡ false → (protocol_at start p == 17) ≡ false
-      → has_identifier (protocol_at start p) (byte_at p offset) ≡ false → IsCarried start p from to ttl numbers Other
-  carried_other x y z _ =
-      let none : has_identifier (protocol_at start p) (byte_at t offset) ≡ false = rw (behind.bytes offset (omega arith)) z in
+  is_carried : IsCarried (carried_at start p)
+  is_carried = by_protocol start p IsCarried
+      (λ is cut _. rw (is, lt-leb _ _ cut) refl)
+      (λ is room _. rw (is, le-leb _ _ room)
+      (update_checksum-is (pseudo_header_and_payload start) (offset + 16) p (with_ports offset t ports.0 ports.1) _
+      (pseudo_covered (omega (arith, room))) (kept_past_ports start p t behind ports.0 ports.1 (offset + 16) (omega arith))))
+      (λ is room. rw is
+      (update_udp_checksum-is (pseudo_header_and_payload start) (offset + 6) p (with_ports offset t ports.0 ports.1) _
+      (pseudo_covered (omega (arith, room))) (kept_past_ports start p t behind ports.0 ports.1 (offset + 6) (omega arith))))
+      (λ there room. let number = identifier_named numbers (u16_at p (offset + 4)) in rw (is_icmp (protocol_at start p) (byte_at p offset) there)
+      (update_checksum-is (payload_in start) (offset + 2) p (with_u16 t (offset + 4) number) _
+      (carried_covered number room) (kept_past_identifier start p t behind number)))
+      (λ x y _ _.
       let rest : payload_in start t ≡ payload_in start p =
       ap (λ n. drop n t) behind.payload ∙ timed_rest start p from to ttl offset (omega (arith, d.long)) in
-      ap (λ l. update_transport_checksum start p l)
-      (write_none start t (protocol_at start p) offset behind.protocol behind.payload numbers (or_from _ _ x y) none)
-      ∙ ⊎_elim
-      (λ one. by_icmp start p t one ∙ update_checksum-kept (payload_in start) (offset + 2) p t (sym rest))
-      (λ not_one. by_other start p t x y (ne_eqb _ _ not_one))
-      (cases_eq (protocol_at start p) 1)
-
-  is_carried : IsCarried start p from to ttl numbers (carried_at start p)
-  is_carried = by_protocol start p (IsCarried start p from to ttl numbers)
-      (λ is cut _. ap (λ l. update_transport_checksum start p l) (ports_written_there 6 is refl refl) ∙ by_cut_tcp start p _ is cut)
-      carried_tcp carried_udp carried_echo carried_other
+      rw (x, y) (either_by (λ q. q ≡ t) (protocol_at start p == 1) _ t
+      (update_checksum-kept (payload_in start) (offset + 2) p t (sym rest)) refl))
 
 -- ---- the whole
 
@@ -430,7 +351,8 @@ whole_is start p change d =
     let x = with_transport_fields offset t c in
     let n = header_len (drop start p) in
     let fields : update_transport_checksum start p (replaced start p change) ≡ x =
-    ap (λ l. update_transport_checksum start p l) (replaced_header start p change d)
+    ap (λ l. update_transport_checksum start p l)
+    (replaced_header start p change d ∙ numbers_written start p t (timed_behind start p from to ttl d) change.numbers)
     ∙ is_carried start p from to ttl change.numbers d d.whole in
     sym (ap (λ l. update_header_checksum start p l) fields
     ∙ header_right start p x from to ttl d (fields_by (λ q. head_of start n q ≡ head_of start n t) (start + n)
@@ -438,23 +360,10 @@ whole_is start p change d =
 
 -- ==== A change that leaves the endpoints as they are writes the TTL and the header checksum alone.
 
--- the same words on both sides change no checksum
-header_kept : (old new from to checksum : ℕ)
-    → updated_checksum (combined (u16_change old new) (combined (u32_change from from) (u32_change to to))) checksum
-    ≡ updated_checksum (u16_change old new) checksum
-header_kept old new from to checksum = grind arith
-
-udp_kept : (words : ChecksumDelta) (checksum : ℕ) → words.is_same ≡ true → updated_udp_checksum words checksum ≡ checksum
-udp_kept words checksum same = rw same refl
-
 numbers_kept : (numbers : Option PortsOrIdentifier) (from to : ℕ) (fields : TransportFields)
     → keeps_numbers numbers fields ≡ true
     → changed_transport_fields numbers (combined (u32_change from from) (u32_change to to)) fields ≡ fields
-numbers_kept numbers from to (Tcp one other None) keeps = grind (arith, keeps)
-numbers_kept numbers from to (Tcp one other (Some checksum)) keeps = grind (arith, keeps)
-numbers_kept numbers from to (Udp one other checksum) keeps = grind (arith, nat_tests)
-numbers_kept numbers from to (Echo number checksum) keeps = grind (arith, keeps)
-numbers_kept numbers from to Other keeps = refl
+numbers_kept numbers from to fields keeps = grind (arith, fields, keeps, nat_tests)
 
 -- the payload's fields, written as they are, where only the TTL is another
 carried_kept : (start : ℕ) (p : List ℕ) (ttl : ℕ) → IsDatagram start p
@@ -470,33 +379,17 @@ carried_kept start p ttl d =
     (λ _. kept_past_ports start p t b _ _ (offset + 6) (omega arith) ∙ ports)
     (λ _. kept_past_identifier start p t b _ ∙ kept_behind start p t b (offset + 4) (omega arith)) (λ _ _ _. refl)
 
-timed_kept : (start : ℕ) (p : List ℕ) (ttl : ℕ) → IsDatagram start p
-    → timed start p (u32_at p (start + 12)) (u32_at p (start + 16)) ttl ≡ set p (start + 8) ttl
-timed_kept start p ttl d = grind (arith, number_stays, d.small)
-
 pub own_endpoints : (start : ℕ) (p : List ℕ) (change : Change) → IsDatagram start p → keeps_endpoints change (fields_at start p) ≡ true
     → with_ttl_field start p (fields_at start p) change.ttl ≡ with_fields start p (changed_fields change (fields_at start p))
 own_endpoints start p change d keeps =
-    let f = fields_at start p in
-    let one = and_parts _ _ keeps in
-    let two = and_parts _ _ one.1 in
-    let ttl = unwrap_or change.ttl f.ttl in
-    rw (
-      eqb-true (unwrap_or change.source f.source) f.source one.0,
-      eqb-true (unwrap_or change.destination f.destination) f.destination two.0,
-      header_kept (f.ttl * 256) (ttl * 256) f.source f.destination f.checksum,
-      numbers_kept change.numbers f.source f.destination f.transport two.1,
-      carried_kept start p ttl d,
-      timed_kept start p ttl d,
-    ) refl
+    let ttl = unwrap_or change.ttl (byte_at p (start + 8)) in
+    grind (arith, keeps, and_parts, eqb-true, numbers_kept, carried_kept start p ttl d, number_stays, d.small)
 
 -- ==== The changed words of a datagram under a checksum that covers the whole of it.
 
 -- with 8 bytes after a header all fields are there except the TCP checksum
 pub fields_room : (start : ℕ) (p : List ℕ) → payload_at start p + 8 ≤ length p → payload_at start p + len_of (carried_at start p) ≤ length p
-fields_room start p room =
-    by_protocol start p (λ c. payload_at start p + len_of c ≤ length p) (λ _ _. omega (arith, room)) (λ _ long. long) (λ _. room)
-    (λ _. omega (arith, room)) (λ _ _ _. omega (arith, room))
+fields_room start p room = grind (arith, by_protocol, room, length-drop, nat_tests)
 
 pub fields_exchanged : (a start : ℕ) (p : List ℕ) (change : Change) → start ≡ a + 8 → IsDatagram start p
     → Covers (fields_change (fields_at start p) (changed_fields change (fields_at start p))) (drop a p)
@@ -508,7 +401,7 @@ fields_exchanged a start p change is d =
     let t = timed start p from to ttl in
     let new = changed_transport_fields change.numbers (pair_words start p from to) (carried_at start p) in
     let s = rest_shows (length p) a in
-    let timed_too = timed_written (drop a) start p from to ttl d s 8 refl (omega (arith, is)) (omega (arith, is, d.long, d.whole)) in
+    let timed_too = timed_written (drop a) start p from to d s ttl 8 refl (omega (arith, is)) (omega (arith, is, d.long, d.whole)) in
     let carried = carried_exchanged (drop a) start p t (timed_behind start p from to ttl d) timed_too s
     (8 + header_len (drop start p)) (omega (arith, is)) (omega arith) (omega (arith, is, d.whole)) change.numbers
     (pair_words start p from to) d.whole in

@@ -1,10 +1,10 @@
 //! The fields of a datagram that a change may replace.
 ghost use Rattle.std.specs.Prelude.{◌≡◌, ◌+◌, ◌<◌, ◌≤◌, ℕ, drop, length, slice_index};
 ghost use Rattle.ip_headers.specs.Header.{payload_at, header_len};
-ghost use Rattle.rewrite.specs.steps.Fields.{address_change, keeps_endpoints, keeps_numbers, transport_fields_of};
+ghost use Rattle.rewrite.specs.steps.Fields.{keeps_endpoints, keeps_numbers, transport_fields_of};
 ghost use Rattle.rewrite.specs.steps.Fields.{transport_words, changed_transport_fields, changed_fields, fields_at};
 ghost use Rattle.rewrite.specs.steps.Fields.{fields_change, identifier_named, len_of, port_change, ports_named};
-ghost use Rattle.rewrite.specs.steps.Fields.{tcp_checksum_of, ttl_change, with_fields, with_ttl_field, HasFields};
+ghost use Rattle.rewrite.specs.steps.Fields.{tcp_checksum_of, with_fields, with_ttl_field, HasFields};
 
 use crate::change::{Change, PortsOrIdentifier};
 use crate::checksum::ChecksumDelta;
@@ -75,7 +75,7 @@ impl Fields {
             destination,
         ));
         // The TTL is the high byte of its word.
-        let header = ChecksumDelta::word(self.ttl as u16 * 256, ttl as u16 * 256).and(addresses);
+        let header = addresses.and(ChecksumDelta::word(self.ttl as u16 * 256, ttl as u16 * 256));
         Fields {
             source,
             destination,

@@ -98,25 +98,20 @@ changed_transport_fields numbers addresses (Echo number checksum) =
     Echo other (updated_checksum (u16_change number other) checksum)
 changed_transport_fields numbers addresses Other = Other
 
--- the change of the two addresses
-abbrev pub address_change : Fields → Change → ChecksumDelta
-address_change fields change =
-    combined (u32_change fields.source (unwrap_or change.source fields.source))
-    (u32_change fields.destination (unwrap_or change.destination fields.destination))
-
 -- the TTL is the high byte of its word
-abbrev pub ttl_change : Fields → Change → ChecksumDelta
-ttl_change fields change = u16_change (fields.ttl * 256) (unwrap_or change.ttl fields.ttl * 256)
-
 abbrev pub changed_fields : Change → Fields → Fields
-changed_fields change fields = record {
-  source = unwrap_or change.source fields.source;
-  destination = unwrap_or change.destination fields.destination;
-  ttl = unwrap_or change.ttl fields.ttl;
-  checksum = updated_checksum (combined (ttl_change fields change) (address_change fields change))
-      fields.checksum;
-  transport = changed_transport_fields change.numbers (address_change fields change) fields.transport;
-}
+changed_fields change fields =
+    let from = unwrap_or change.source fields.source in
+    let to = unwrap_or change.destination fields.destination in
+    let time = unwrap_or change.ttl fields.ttl in
+    let addresses = combined (u32_change fields.source from) (u32_change fields.destination to) in
+    record {
+      source = from;
+      destination = to;
+      ttl = time;
+      checksum = updated_checksum (combined addresses (u16_change (fields.ttl * 256) (time * 256))) fields.checksum;
+      transport = changed_transport_fields change.numbers addresses fields.transport;
+    }
 
 -- ---- a change of the TTL alone
 

@@ -1,6 +1,4 @@
 use Rattle.std.proofs.Common.{arith}
-use Rattle.std.proofs.Common.{ap, sym, ◌∙◌}
-use Rattle.rewrite.specs.steps.Fields.{changed_fields, keeps_endpoints, with_fields, with_ttl_field}
 use Rattle.rewrite.proofs.Datagrams.{IsDatagram, own_endpoints, whole_is}
 use Rattle.rewrite.proofs.sending.rewrite.Goals.{After-read-fields}
 use Rattle.rewrite.proofs.sending.rewrite.Goals as goal

@@ -1,5 +1,5 @@
 use Rattle.std.proofs.Common.{arith}
-use Rattle.rewrite.specs.Rewritten.{rewritten, write_if_some, replaced, update_checksums}
+use Rattle.rewrite.specs.Rewritten.{rewritten, replaced, update_checksums}
 use Rattle.rewrite.proofs.Rewritten.{inner_rewritten_is, quote_rewritten, inner_fields, inner_rewritten, inner_rewritten_passes, read_some}
 use Rattle.std.proofs.Common.{◌≡◌, ℕ, List, Option, sym, ap, subst, ◌∙◌}
 use Rattle.std.specs.Option.{option_and}
