@@ -1,5 +1,3 @@
 mod Names
 mod Chains
 mod Paths
-mod Preserved
-mod HistoryObeys

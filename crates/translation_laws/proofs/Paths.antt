@@ -1,26 +1,22 @@
 -- The path of a packet through the hooks, and its entry.
 use Rattle.std.proofs.Common.{arith}
-use Rattle.translation_laws.proofs.Names.{◌++◌, Accepted, AfterLookUp, AfterRouting, Belonging, Bool, Cause, ComesWith, ConnectionRef, ConntrackEntry, Continue}
-use Rattle.translation_laws.proofs.Names.{CtFacts, CtInfo, DestinationNat, Drop, Dropped, Entry, EntryOf, Err, Event, ExternalSource, Facts, Found, HookResult}
-use Rattle.translation_laws.proofs.Names.{HookVerdict, Hooks, HooksAndConfirm, InputOrForward, Interface, Invalid, IsAccepted, Known, List, LookUp, Mapping}
-use Rattle.translation_laws.proofs.Names.{NatChains, New, NewConnection, Next, NoChange, None, NotLookedUp, Notrack, Ok, Option, Path, PathState}
-use Rattle.translation_laws.proofs.Names.{ReceivedPacket, Recorded, Related, Result, Routing, RunsStage, Setup, Some, SourceNat, Step, StepResult, Tracked}
-use Rattle.translation_laws.proofs.Names.{TrackedPacket, Translated, Tuple, Unconfirmed, Untracked, [], after_chains, after_destination_nat, after_end}
-use Rattle.translation_laws.proofs.Names.{after_source_nat, ap, append-nil, append_assoc, arrival_of, belonging_of, belongs_in, both_ways, carried, cond_both}
-use Rattle.translation_laws.proofs.Names.{confirmation_by, confirmation_of, confirmed, ct_facts_after_nat, ct_facts_of, ct_info_by, ct_info_by_tuple}
-use Rattle.translation_laws.proofs.Names.{destination_nat_result, entry_at, entry_of, error_belonging, error_ct_info, external_source}
-use Rattle.translation_laws.proofs.Names.{facts_after_destination_nat, facts_after_source_nat, false, first_state, flags_in, forwarded_by, forwarded_facts}
-use Rattle.translation_laws.proofs.Names.{goes_on, inner_tuple_of, interface_facts, is_own, live_at_record, looked_up_info, lookup_tuple_of, mappings_in}
-use Rattle.translation_laws.proofs.Names.{mark_in, moment_after, new_connection_of, new_ct_info, none-some, none_not_some, on_arrival, others_beside, others_in}
-use Rattle.translation_laws.proofs.Names.{outcome_by, port_choice_for, refl, refusal, reply_to, route, same_Some, sent_on, some_of_map, some_unique}
-use Rattle.translation_laws.proofs.Names.{source_nat_result, stops, subst, sym, tracked_connection, transport_of, true, tuple_in, tuple_of, unless_dropped}
-use Rattle.translation_laws.proofs.Names.{unless_refused, with_destination_nat, with_source_nat, ℕ, ◌∙◌, ◌≡◌, ◌⨾◌}
+use Rattle.translation_laws.proofs.Names.{◌++◌, Accepted, AfterLookUp, AfterRouting, Belonging, Bool, Cause, ComesWith, ConnectionRef, ConntrackEntry}
+use Rattle.translation_laws.proofs.Names.{Continue, CtFacts, CtInfo, DestinationNat, Drop, Dropped, Entry, EntryOf, Err, Event, ExternalSource, Facts, Found}
+use Rattle.translation_laws.proofs.Names.{HookResult, HookVerdict, Hooks, HooksAndConfirm, InputOrForward, Interface, Invalid, IsAccepted, List, LookUp}
+use Rattle.translation_laws.proofs.Names.{Mapping, NatChains, New, NewConnection, Next, NoChange, None, Notrack, Ok, Option, Path, PathState, ReceivedPacket}
+use Rattle.translation_laws.proofs.Names.{Recorded, Result, Routing, RunsStage, Setup, Some, SourceNat, Step, StepResult, Tracked, Tuple, Unconfirmed, []}
+use Rattle.translation_laws.proofs.Names.{after_chains, after_destination_nat, after_end, after_source_nat, ap, append-nil, append_assoc, arrival_of}
+use Rattle.translation_laws.proofs.Names.{belonging_of, belongs_in, carried, confirmation_by, confirmed, ct_facts_after_nat, ct_info_by}
+use Rattle.translation_laws.proofs.Names.{ct_info_by_tuple, destination_nat_result, entry_at, entry_of, error_belonging, error_ct_info, external_source}
+use Rattle.translation_laws.proofs.Names.{facts_after_destination_nat, facts_after_source_nat, false, first_state, flags_in, inner_tuple_of, interface_facts}
+use Rattle.translation_laws.proofs.Names.{live_at_record, looked_up_info, lookup_tuple_of, mappings_in, mark_in, moment_after, new_connection_of, new_ct_info}
+use Rattle.translation_laws.proofs.Names.{on_arrival, others_beside, outcome_by, port_choice_for, refl, refusal, reply_to, sent_on, some_of_map, some_unique}
+use Rattle.translation_laws.proofs.Names.{source_nat_result, subst, sym, tracked_connection, transport_of, true, tuple_of, unless_dropped}
+use Rattle.translation_laws.proofs.Names.{with_destination_nat, with_source_nat, ℕ, ◌∙◌, ◌≡◌, ◌⨾◌}
 use Rattle.conntrack.specs.declared.belonging.LookupState.{LookupState}
 use Rattle.hook_runs.specs.Stages.{chains_in_stage}
 use Rattle.hook_runs.specs.declared.stages.HookStage.{HookStage}
-use Rattle.std.specs.Prelude.{nat_lt}
-use Rattle.translation_laws.proofs.Chains.{KeepsEnd, Kept, RecordsNat, TellExempt, chains_kept, did_exempt, did_nat_act, nothing_kept}
-use Rattle.history.specs.declared.outcome.Cause.TheVariants as causes
+use Rattle.translation_laws.proofs.Chains.{Held, HoldsThrough, RecordsNat, TellExempt, chains_hold, did_exempt, did_nat_act, none_earlier, nothing_holds}
 use Rattle.history.specs.declared.outcome.Outcome.TheVariants as outcomes
 use Rattle.hook_runs.specs.declared.stages.HookStage.TheVariants as stages
 use Rattle.conntrack.specs.declared.belonging.LookupState.TheVariants as states
@@ -41,27 +37,40 @@ Leads P step Q = (s : PathState) (r : StepResult) → step s r → P s → IfCon
 
 leads_then : (P Q R : PathState → Type 0) (first second : Step) → Leads P first Q → Leads Q second R
     → Leads P (first ⨾ second) R
-leads_then P Q R first second one two s r (stops cause t x) p = tt
-leads_then P Q R first second one two s r (goes_on t q x y) p = two t q y (one s (Continue t) x p)
+leads_then P Q R first second one two s r h9 p = grind arith
 
 -- ---- chains
 
-abbrev IsKeptByChains : (PathState → Type 0) → Type 0
-IsKeptByChains P = (s : PathState) (end : HookResult) → Kept s.facts end.facts s.events end.events → P s
-    → P (after_chains end s)
+-- of a state, an output interface and events
+abbrev pub Property : Type 1
+Property = CtInfo → Option Interface → List Event → Type 0
 
-stage_leads : (setup : Setup) (P : PathState → Type 0) → IsKeptByChains P → (stage : HookStage)
-    → Leads P (RunsStage setup stage) P
-stage_leads setup P kept stage s r x p = subst (IfContinues P) (sym x.is) (by_verdict x.end.verdict)
-  where
-    by_verdict : (v : HookVerdict) → IfContinues P (unless_dropped v (after_chains x.end s))
-    by_verdict Dropped = tt
-    by_verdict _ =
-        kept s x.end (chains_kept setup.plant setup.rules (chains_in_stage stage) s.facts s.events x.end x.ran).0 p
+abbrev pub Anything : Property
+Anything info output es = Unit {0}
 
-nat_chains_kept : (setup : Setup) (stage : HookStage) (info : CtInfo) → KeepsEnd (NatChains setup stage info)
-nat_chains_kept setup stage (New new_connection) = chains_kept setup.plant setup.rules (chains_in_stage stage)
-nat_chains_kept setup stage _ = nothing_kept
+-- further events keep it
+abbrev pub Grows : Property → Type 0
+Grows Q = (info : CtInfo) (output : Option Interface) (es later : List Event) → Q info output es → Q info output (es ++ later)
+
+-- the packet came by this interface, and has the property
+abbrev pub IsAt : Interface → Option Bool → Property → PathState → Type 0
+IsAt input at_look_up Q s = Held input at_look_up (Q s.info) s.facts s.events
+
+module _ (setup : Setup) (input : Interface) (at_look_up : Option Bool) (Q : Property) (grows : Grows Q) where
+  stage_leads : (stage : HookStage) → Leads (IsAt input at_look_up Q) (RunsStage setup stage) (IsAt input at_look_up Q)
+  stage_leads stage s r x p = subst (IfContinues (IsAt input at_look_up Q)) (sym x.is) (by_verdict x.end.verdict)
+    where
+      by_verdict : (v : HookVerdict) → IfContinues (IsAt input at_look_up Q) (unless_dropped v (after_chains x.end s))
+      by_verdict Dropped = tt
+      by_verdict _ = (chains_hold input at_look_up (Q s.info) (grows s.info) setup.plant setup.rules (chains_in_stage stage)
+          s.facts s.events x.end x.ran p).0
+
+nat_chains_hold : (setup : Setup) (input : Interface) (at_look_up : Option Bool) (Q : Option Interface → List Event → Type 0)
+    (grows : (output : Option Interface) (es later : List Event) → Q output es → Q output (es ++ later)) (stage : HookStage)
+    (info : CtInfo) → HoldsThrough input at_look_up Q grows (NatChains setup stage info)
+nat_chains_hold setup input at_look_up Q grows stage (New new_connection) =
+    chains_hold input at_look_up Q grows setup.plant setup.rules (chains_in_stage stage)
+nat_chains_hold setup input at_look_up Q grows stage _ = nothing_holds input at_look_up Q grows
 
 -- a packet that chains of type nat don't drop
 abbrev IsOpen : HookVerdict → Type 0
@@ -71,42 +80,32 @@ IsOpen _ = Unit {0}
 unless_destination_drops : (P : PathState → Type 0) (v : HookVerdict) (info : CtInfo) (s : PathState)
     → (IsOpen v → P (record s { facts = facts_after_destination_nat info s.facts; info = info }))
     → IfContinues P (destination_nat_result v info s)
-unless_destination_drops P Dropped info s so = tt
-unless_destination_drops P _ info s so = so tt
+unless_destination_drops P v info s so = grind arith
 
 unless_source_drops : (P : PathState → Type 0) (v : HookVerdict) (o : Option CtInfo) (s : PathState)
     → (IsOpen v → (info : CtInfo) → o ≡ Some info
     → P (record s { facts = facts_after_source_nat info s.facts; info = info }))
     → IfContinues P (source_nat_result v o s)
-unless_source_drops P Dropped o s so = tt
-unless_source_drops P _ None s so = tt
-unless_source_drops P _ (Some info) s so = so tt info refl
+unless_source_drops P v o s so = grind arith
 
 -- without a NAT statement among the events, chains that don't drop the packet accept it
 accepts : (v : HookVerdict) (es : List Event) → IsOpen v → RecordsNat v es → did_nat_act es ≡ false → v ≡ Accepted
-accepts Accepted es on told untold = refl
-accepts Dropped es on told untold = absurd on
-accepts (Translated t) es on told untold = absurd (both_ways (did_nat_act es) untold told)
+accepts v es on told untold = grind arith
 
 after_nat_tells : (info : CtInfo) (ct : CtFacts) (at_look_up : Option Bool) (exempt : Bool)
     → TellExempt ct at_look_up exempt → TellExempt (ct_facts_after_nat info ct) at_look_up exempt
-after_nat_tells (New new_connection) (Known c) at_look_up exempt told = told
-after_nat_tells _ ct at_look_up exempt told = told
+after_nat_tells info ct at_look_up exempt told = grind arith
 
 -- ---- NAT
 
--- not the state of the first packet of a connection
-abbrev pub IsOld : CtInfo → Type 0
-IsOld (New new_connection) = ⊥
-IsOld _ = Unit {0}
-
--- on a path with these events the nat chains of postrouting gave this result, for a packet in this state
-pub record IsAsked (setup : Setup) (info : CtInfo) (asked : HookResult) (es : List Event) : Type 0 where
+-- the nat chains of postrouting gave this result, for a packet in this state that came by this interface; without a NAT statement
+-- they accepted it
+pub record IsAsked (setup : Setup) (input : Interface) (info : CtInfo) (asked : HookResult) : Type 0 where
   pub facts : Facts
   pub before : List Event
   pub ran : NatChains setup stages.PostroutingNat info facts before asked
-  pub later : List Event
-  pub among : es ≡ asked.events ++ later
+  pub entered : asked.facts.input ≡ input
+  pub accepted : did_nat_act asked.events ≡ false → asked.verdict ≡ Accepted
 
 -- of a packet that came by this interface
 module _ (setup : Setup) (mappings : List Mapping) (input : Interface) where
@@ -116,8 +115,8 @@ module _ (setup : Setup) (mappings : List Mapping) (input : Interface) where
   -- the external source of a new connection behind destination NAT; none where the packet is for the box
   pub data HasSource (turned : NewConnection) (x : Option ExternalSource) (s : PathState) : Type 0 where
     delivered : s.facts.output ≡ None → x ≡ None → HasSource turned x s
-    forwarded_on : (asked : HookResult) → IsAsked setup (New turned) asked s.events
-        → (did_nat_act s.events ≡ false → asked.verdict ≡ Accepted) → asked.facts.input ≡ input
+    forwarded_on : (asked : HookResult) → IsAsked setup input (New turned) asked → (later : List Event)
+        → s.events ≡ asked.events ++ later
         → external_source setup.plant asked.facts turned asked.verdict ≡ x → HasSource turned x s
 
   -- a new connection behind destination and source NAT; without a NAT statement the chains of type nat accepted the packet
@@ -135,158 +134,123 @@ module _ (setup : Setup) (mappings : List Mapping) (input : Interface) where
   behind info asked = after_destination_nat setup.plant mappings asked.facts info asked.verdict
 
   -- and behind source NAT, which a packet for the box doesn't pass
-  data Leaves (turned : CtInfo) (s : PathState) : Type 0 where
-    kept_for_box : s.facts.output ≡ None → s.info ≡ turned → Leaves turned s
-    sent : (asked : HookResult) → IsAsked setup turned asked s.events
-        → (did_nat_act s.events ≡ false → asked.verdict ≡ Accepted) → asked.facts.input ≡ input
-        → after_source_nat setup.plant mappings asked.facts turned asked.verdict ≡ Some s.info → Leaves turned s
+  data Leaves (turned info : CtInfo) (output : Option Interface) (es : List Event) : Type 0 where
+    kept_for_box : output ≡ None → info ≡ turned → Leaves turned info output es
+    sent : (asked : HookResult) → IsAsked setup input turned asked → (later : List Event) → es ≡ asked.events ++ later
+        → after_source_nat setup.plant mappings asked.facts turned asked.verdict ≡ Some info → Leaves turned info output es
 
   -- what is true where the hooks begin, between destination and source NAT, and after both, where a `notrack` took effect
   -- before the look-up, or not, as its facts tell
   module _ (exempt : Bool) (info : CtInfo) where
-    record First (s : PathState) : Type 0 where
-      pub entered : s.facts.input ≡ input
-      pub is : s.info ≡ info
-      pub told : TellExempt s.facts.ct (Some exempt) (did_exempt s.events)
+    abbrev Before : Property
+    Before now output es = now ≡ info
 
-    record Between (s : PathState) : Type 0 where
-      pub asked : HookResult
-      pub accepted : did_nat_act s.events ≡ false → asked.verdict ≡ Accepted
-      pub entered : s.facts.input ≡ input
-      pub is : s.info ≡ behind info asked
-      pub told : TellExempt s.facts.ct (Some exempt) (did_exempt s.events)
+    abbrev Between : Property
+    Between now output es =
+        (asked : HookResult) × (did_nat_act es ≡ false → asked.verdict ≡ Accepted) × (now ≡ behind info asked)
 
-    record AfterNat (s : PathState) : Type 0 where
-      pub asked : HookResult
-      pub accepted : did_nat_act s.events ≡ false → asked.verdict ≡ Accepted
-      pub leaves : Leaves (behind info asked) s
-      pub told : TellExempt s.facts.ct (Some exempt) (did_exempt s.events)
+    abbrev AfterNat : Property
+    AfterNat now output es = (asked : HookResult) × (did_nat_act es ≡ false → asked.verdict ≡ Accepted)
+        × Leaves (behind info asked) now output es
 
-    after_kept : IsKeptByChains AfterNat
-    after_kept s end k n = record {
-      asked = n.asked;
-      accepted = λ none. n.accepted (k.untold none);
-      leaves = elim n.leaves [
-        | kept_for_box none is ↦ kept_for_box (ap (λ x. x.1) k.interfaces ∙ none) is
-        | sent asked q on entered is ↦ sent asked
-            (record {
-              facts = q.facts;
-              before = q.before;
-              ran = q.ran;
-              later = q.later ++ k.grown.0;
-              among = k.grown.1 ∙ ap (λ (l : List Event). l ++ k.grown.0) q.among
-                  ∙ append_assoc asked.events q.later k.grown.0;
-            })
-            (λ none. on (k.untold none)) entered is
-      ];
-      told = k.exempt (Some exempt) n.told;
-    }
+    abbrev At : Property → PathState → Type 0
+    At Q = IsAt input (Some exempt) Q
 
-    destination_leads : Leads First (DestinationNat setup mappings) Between
+    between_leads : (stage : HookStage) → Leads (At Between) (RunsStage setup stage) (At Between)
+    between_leads = stage_leads setup input (Some exempt) Between
+        (λ now output es later b. (b.0, λ none. b.1 (none_earlier es later none), b.2))
+
+    after_leads : (stage : HookStage) → Leads (At AfterNat) (RunsStage setup stage) (At AfterNat)
+    after_leads = stage_leads setup input (Some exempt) AfterNat (λ now output es later n. (
+      n.0,
+      λ none. n.1 (none_earlier es later none),
+      elim n.2 [
+        | kept_for_box none is ↦ kept_for_box none is
+        | sent asked q more among is ↦
+            sent asked q (more ++ later) (ap (λ (l : List Event). l ++ later) among ∙ append_assoc asked.events more later) is
+      ],
+    ))
+
+    destination_leads : Leads (At Before) (DestinationNat setup mappings) (At Between)
     destination_leads s r x h =
-        let k = nat_chains_kept setup stages.PreroutingNat s.info s.facts s.events x.end x.ran in
-        let turned = behind s.info x.end in
-        subst (IfContinues Between) (sym x.is)
-        (unless_destination_drops Between x.end.verdict turned (after_chains x.end s) (λ on. record {
-          asked = x.end;
-          accepted = accepts x.end.verdict x.end.events on k.1;
-          entered = ap (λ i. i.0) k.0.interfaces ∙ h.entered;
-          is = ap (λ (w : CtInfo). behind w x.end) h.is;
-          told = after_nat_tells turned x.end.facts.ct (Some exempt) (did_exempt x.end.events) (k.0.exempt (Some exempt) h.told);
+        let k = nat_chains_hold setup input (Some exempt) (λ output es. s.info ≡ info) (λ output es later is. is)
+        stages.PreroutingNat s.info s.facts s.events x.end x.ran h in
+        subst (IfContinues (At Between)) (sym x.is)
+        (unless_destination_drops (At Between) x.end.verdict (behind s.info x.end) (after_chains x.end s) (λ on. record {
+          entered = k.0.entered;
+          told = after_nat_tells (behind s.info x.end) x.end.facts.ct (Some exempt) (did_exempt x.end.events) k.0.told;
+          so = (x.end, accepts x.end.verdict x.end.events on k.1, ap (λ (w : CtInfo). behind w x.end) h.so);
         }))
 
-    source_leads : Leads Between (SourceNat setup mappings) AfterNat
-    source_leads s r y b =
-        let turned = behind info b.asked in
-        let x = subst (λ (w : CtInfo). SourceNat setup mappings (record s { info = w }) r) b.is y in
-        let k = nat_chains_kept setup stages.PostroutingNat turned s.facts s.events x.end x.ran in
-        subst (IfContinues AfterNat) (sym x.is)
-        (unless_source_drops AfterNat x.end.verdict (after_source_nat setup.plant mappings x.end.facts turned x.end.verdict)
+    source_leads : Leads (At Between) (SourceNat setup mappings) (At AfterNat)
+    source_leads s r y h =
+        let asked = h.so.0 in
+        let turned = behind info asked in
+        let x = subst (λ (w : CtInfo). SourceNat setup mappings (record s { info = w }) r) h.so.2 y in
+        let k = nat_chains_hold setup input (Some exempt) (λ output es. did_nat_act es ≡ false → asked.verdict ≡ Accepted)
+        (λ output es later accepted none. accepted (none_earlier es later none)) stages.PostroutingNat turned s.facts s.events
+        x.end x.ran (record { entered = h.entered; told = h.told; so = h.so.1 }) in
+        subst (IfContinues (At AfterNat)) (sym x.is)
+        (unless_source_drops (At AfterNat) x.end.verdict (after_source_nat setup.plant mappings x.end.facts turned x.end.verdict)
         (after_chains x.end (record s { info = turned })) (λ on left e. record {
-          asked = b.asked;
-          accepted = λ none. b.accepted (k.0.untold none);
-          leaves = sent x.end
-              (record { facts = s.facts; before = s.events; ran = x.ran; later = []; among = sym (append-nil x.end.events) })
-              (accepts x.end.verdict x.end.events on k.1) (ap (λ i. i.0) k.0.interfaces ∙ b.entered) e;
-          told = after_nat_tells left x.end.facts.ct (Some exempt) (did_exempt x.end.events) (k.0.exempt (Some exempt) b.told);
+          entered = k.0.entered;
+          told = after_nat_tells left x.end.facts.ct (Some exempt) (did_exempt x.end.events) k.0.told;
+          so = (
+            asked,
+            k.0.so,
+            sent x.end (record {
+              facts = s.facts;
+              before = s.events;
+              ran = x.ran;
+              entered = k.0.entered;
+              accepted = accepts x.end.verdict x.end.events on k.1;
+            }) [] (sym (append-nil x.end.events)) e,
+          );
         }))
 
-    routing_leads : Leads Between (Routing setup) Between
-    routing_leads s r is b =
-        subst (IfContinues Between) (sym is)
-        (cond_both (is_own setup.plant s.facts.packet.destination) (Continue s)
-        (forwarded_by setup (route setup.plant s.facts.packet.destination) s) (IfContinues Between)
-        (λ _. b) (λ _. by_route (route setup.plant s.facts.packet.destination)))
-      where
-        by_route : (o : Option ℕ) → IfContinues Between (forwarded_by setup o s)
-        by_route None = tt
-        by_route (Some interface) =
-            cond_both (nat_lt s.facts.packet.ttl 2) (Drop causes.Ttl s)
-            (Continue (record s { facts = forwarded_facts setup interface s.facts })) (IfContinues Between) (λ _. tt)
-            (λ _. record { asked = b.asked; accepted = b.accepted; entered = b.entered; is = b.is; told = b.told })
+    routing_leads : Leads (At Between) (Routing setup) (At Between)
+    routing_leads s r is b = grind arith
 
-    between_leads : (stage : HookStage) → Leads Between (RunsStage setup stage) Between
-    between_leads = stage_leads setup Between (λ s end k b. record {
-      asked = b.asked;
-      accepted = λ none. b.accepted (k.untold none);
-      entered = ap (λ x. x.0) k.interfaces ∙ b.entered;
-      is = b.is;
-      told = k.exempt (Some exempt) b.told;
-    })
-
-    after_leads : (stage : HookStage) → Leads AfterNat (RunsStage setup stage) AfterNat
-    after_leads = stage_leads setup AfterNat after_kept
-
-    after_routing_leads : Leads Between (AfterRouting setup mappings) AfterNat
+    after_routing_leads : Leads (At Between) (AfterRouting setup mappings) (At AfterNat)
     after_routing_leads s r x b = by_output s.facts.output refl x
       where
-        by_output : (o : Option Interface) → s.facts.output ≡ o → InputOrForward setup mappings o s r → IfContinues AfterNat r
+        by_output : (o : Option Interface) → s.facts.output ≡ o → InputOrForward setup mappings o s r → IfContinues (At AfterNat) r
         by_output None e y = after_leads stages.Input s r y
-            (record { asked = b.asked; accepted = b.accepted; leaves = kept_for_box e b.is; told = b.told })
+            (record { entered = b.entered; told = b.told; so = (b.so.0, b.so.1, kept_for_box e b.so.2) })
         by_output (Some output) e y =
             leads_then _ _ _ _ _ (between_leads stages.Forward)
             (leads_then _ _ _ _ _ (between_leads stages.PostroutingBeforeNat)
             (leads_then _ _ _ _ _ source_leads (after_leads stages.PostroutingAfterNat))) s r y b
 
-    hooks_lead : Leads First (Hooks setup mappings) AfterNat
+    hooks_lead : Leads (At Before) (Hooks setup mappings) (At AfterNat)
     hooks_lead =
         leads_then _ _ _ _ _
-        (leads_then _ _ _ _ _ (stage_leads setup First (λ s end k h. record {
-          entered = ap (λ x. x.0) k.interfaces ∙ h.entered;
-          is = h.is;
-          told = k.exempt (Some exempt) h.told;
-        }) stages.PreroutingBeforeNat)
+        (leads_then _ _ _ _ _
+        (stage_leads setup input (Some exempt) Before (λ now output es later is. is) stages.PreroutingBeforeNat)
         (leads_then _ _ _ _ _ destination_leads (between_leads stages.PreroutingAfterNat)))
         (leads_then _ _ _ _ _ routing_leads after_routing_leads)
 
-  -- NAT keeps the state of a packet that isn't the first of its connection
-  old_kept : (exempt : Bool) (info : CtInfo) (s : PathState) → IsOld info → AfterNat exempt info s → s.info ≡ info
-  old_kept exempt (New d) s old n = absurd old
-  old_kept exempt info s old n = elim n.leaves [
-    | kept_for_box none is ↦ is
-    | sent asked q on entered is ↦ sym (same_Some info s.info is)
-  ]
-
-  translated : (exempt : Bool) (d : NewConnection) (s : PathState) → AfterNat exempt (New d) s → IsTranslated d s
-  translated exempt d s n = elim n.leaves [
+  translated : (exempt : Bool) (d : NewConnection) (s : PathState) → At exempt (New d) (AfterNat exempt (New d)) s
+      → IsTranslated d s
+  translated exempt d s n = elim n.so.2 [
     | kept_for_box none is ↦ record {
-      asked = n.asked;
-      accepted = n.accepted;
+      asked = n.so.0;
+      accepted = n.so.1;
       external = None;
       source = delivered none refl;
-      left = turned_by d n.asked;
+      left = turned_by d n.so.0;
       drafted = refl;
       is = is;
     }
-    | sent asked q on entered is ↦
-        let turned = turned_by d n.asked in
+    | sent asked q later among is ↦
+        let turned = turned_by d n.so.0 in
         let external = external_source setup.plant asked.facts turned asked.verdict in
         let left = some_of_map (λ (x : NewConnection). New x) (with_source_nat mappings turned external) s.info is in
         record {
-          asked = n.asked;
-          accepted = n.accepted;
+          asked = n.so.0;
+          accepted = n.so.1;
           external = external;
-          source = forwarded_on asked q on entered refl;
+          source = forwarded_on asked q later among refl;
           left = left.0;
           drafted = left.1;
           is = sym left.2;
@@ -302,8 +266,7 @@ IsUnrefused others _ = Unit {0}
 
 unless_confirmation_drops : (others : List ConntrackEntry) (P : PathState → Type 0) (s : PathState) (info : CtInfo)
     → (IsUnrefused others info → P s) → IfContinues P (confirmed others info s)
-unless_confirmation_drops others P s (New d) so = grind arith
-unless_confirmation_drops others P s _ so = so tt
+unless_confirmation_drops others P s info so = grind arith
 
 -- ==== The path of a packet that isn't dropped.
 
@@ -325,30 +288,7 @@ abbrev is_notrack : CtFacts → Bool
 is_notrack Notrack = true
 is_notrack _ = false
 
-told_before : (ct : CtFacts) (exempt : Bool) → TellExempt ct None exempt → exempt ≡ is_notrack ct
-told_before NotLookedUp exempt told = told
-told_before Notrack exempt told = told
-told_before _ exempt told = absurd told
-
-told_after : (ct : CtFacts) (before exempt : Bool) → TellExempt ct (Some before) exempt → exempt ≡ before
-told_after NotLookedUp before exempt told = absurd told
-told_after Notrack before exempt told = absurd told
-told_after _ before exempt told = told
-
-info_tells : (info : CtInfo) (then exempt : Bool) → exempt ≡ then → TellExempt (ct_facts_of info) (Some then) exempt
-info_tells (Tracked connection) then exempt told = told
-info_tells _ then exempt told = told
-
 -- ==== The entry of a record.
-
--- the tuple of a look-up is the packet's
-its_tuple : (p : List ℕ) (t : Tuple) (info : CtInfo) → lookup_tuple_of info p ≡ Some t → tuple_of p ≡ Some t
-its_tuple p t Untracked e = absurd (none-some t e)
-its_tuple p t _ e = e
-
-undropped : (o : Option Interface) (cause : Cause) → outcome_by o ≡ outcomes.Dropped cause → ⊥
-undropped None cause e = cc
-undropped (Some output) cause e = cc
 
 -- a forwarded packet is accepted
 pub passes_accepted : (e : Entry) (interface : ℕ) → e.outcome ≡ outcomes.Passed interface → IsAccepted e
@@ -395,15 +335,9 @@ module _ (setup : Setup) (held : List ConntrackEntry) (now : ℕ) where
     abbrev p : List ℕ
     p = a.packet
 
-    tracked_is : (t : Tuple) (r : StepResult) → tuple_of p ≡ Some t → tuple_in p r ≡ Some t
-        → (entry_of now held p r).tracked ≡ updates.entry_of (belongs_by held p t) (arrival_of now p t) (confirmation_of r)
-    tracked_is t r read e = rw (e, read) refl
-
     looked_up_tuple : (t : Tuple) (s : PathState) → tuple_of p ≡ Some t → IsLookedUp setup held a (belongs_by held p t) t s
         → lookup_tuple_of s.info p ≡ Some t
-    looked_up_tuple t s read (refreshes place found is) = ap (λ (w : CtInfo). lookup_tuple_of w p) is ∙ read
-    looked_up_tuple t s read (begins none new n free) = ap (λ (w : CtInfo). lookup_tuple_of w p) n.is ∙ read
-    looked_up_tuple t s read (is_invalid none new is) = ap (λ (w : CtInfo). lookup_tuple_of w p) is ∙ read
+    looked_up_tuple t s read h3 = grind arith
 
     -- where it isn't dropped
     abbrev IsThrough : PathState → Type 0
@@ -412,10 +346,8 @@ module _ (setup : Setup) (held : List ConntrackEntry) (now : ℕ) where
     module _ (exempt : Bool) (s : PathState) where
       -- NAT beside these others, and confirmed
       abbrev IsConfirmed : List ConntrackEntry → CtInfo → Type 0
-      IsConfirmed others info = AfterNat setup (mappings_in others) input exempt info s × IsUnrefused others s.info
-
-      old_is : (others : List ConntrackEntry) (info : CtInfo) → IsOld info → IsConfirmed others info → s.info ≡ info
-      old_is others info old c = old_kept setup (mappings_in others) input exempt info s old c.0
+      IsConfirmed others info = At setup (mappings_in others) input exempt info (AfterNat setup (mappings_in others) input exempt info) s
+          × IsUnrefused others s.info
 
       by_state : (t : Tuple) (b : Belonging) → belonging_of held p ≡ b → IsNone b → (state : LookupState) → first_state t.kind ≡ state
           → IsConfirmed (others_beside (new_ct_info state t) held p) (new_ct_info state t) → IsLookedUp setup held a b t s
@@ -423,27 +355,16 @@ module _ (setup : Setup) (held : List ConntrackEntry) (now : ℕ) where
           let k : IsConfirmed (after_end b held) (New (new_connection_of t)) = rw is at c in
           let n = translated setup (mappings_in (after_end b held)) input exempt (new_connection_of t) s k.0 in
           begins none new n (subst (IsUnrefused (after_end b held)) n.is k.1)
-      by_state t b is none _ other c = is_invalid none (λ new. cc (new, other)) (old_is _ Invalid tt c)
+      by_state t b is none _ other c = is_invalid none (λ new. cc (new, other)) (grind arith)
 
       by_belonging : (t : Tuple) (b : Belonging) → belonging_of held p ≡ b
           → IsConfirmed (others_beside (ct_info_by t b) held p) (ct_info_by t b) → IsLookedUp setup held a b t s
-      by_belonging t (Found place) is c = refreshes place refl (old_is _ _ tt c)
+      by_belonging t (Found place) is c = refreshes place refl (grind arith)
       by_belonging t b is c = by_state t b is tt (first_state t.kind) refl c
-
-      -- it wasn't looked up with a tuple of its own, since a `notrack` took effect or it has none
-      unseen : (info : CtInfo) → s.info ≡ info → port_choice_for (mappings_in (others_in held p)) info ≡ None
-          → lookup_tuple_of info p ≡ None → ((t : Tuple) → tuple_of p ≡ Some t → did_exempt s.events ≡ false → ⊥) → IsThrough s
-      unseen info is untold none other =
-          unseen_so (rw (is, none) refl) (rw is untold)
-          (λ b t is read tracked accepted. let same : a ≡ b = cc in other t (ap (λ (x : ReceivedPacket). tuple_of x.packet) same ∙ read) tracked)
 
       by_error : tuple_of p ≡ None → (b : Belonging)
           → IsConfirmed (others_beside (error_ct_info b) held p) (error_ct_info b) → IsThrough s
-      by_error none (Found place) c =
-          unseen _ (old_is _ (Related (tracked_connection place)) tt c) refl none
-          (λ t read tracked. none_not_some (tuple_of p) t none read)
-      by_error none _ c =
-          unseen _ (old_is _ Invalid tt c) refl none (λ t read tracked. none_not_some (tuple_of p) t none read)
+      by_error none h1 c = grind arith
 
       by_tuple : did_exempt s.events ≡ false → (o : Option Tuple) → tuple_of p ≡ o
           → IsConfirmed (others_beside (ct_info_by_tuple held p o) held p) (ct_info_by_tuple held p o) → IsThrough s
@@ -455,7 +376,7 @@ module _ (setup : Setup) (held : List ConntrackEntry) (now : ℕ) where
             read = read;
             untouched = tracked;
             state = state;
-            tracked = tracked_is t (Continue s) read (looked_up_tuple t s read state);
+            tracked = rw (looked_up_tuple t s read state, read) refl;
             port_choice = rw read refl;
             events = refl;
             outcome = refl;
@@ -464,29 +385,23 @@ module _ (setup : Setup) (held : List ConntrackEntry) (now : ℕ) where
 
       by_facts : (ct : CtFacts) → did_exempt s.events ≡ is_notrack ct
           → IsConfirmed (others_beside (looked_up_info ct held p) held p) (looked_up_info ct held p) → IsThrough s
-      by_facts Notrack exempt c =
-          unseen _ (old_is _ Untracked tt c) refl refl (λ t read tracked. both_ways (did_exempt s.events) tracked exempt)
+      by_facts Notrack exempt c = grind arith
       by_facts _ tracked c = by_tuple tracked (tuple_of p) refl c
-
-    -- it came by this interface, and wasn't looked up
-    abbrev HasArrived : PathState → Type 0
-    HasArrived s = (s.facts.input ≡ input) × TellExempt s.facts.ct None (did_exempt s.events)
 
     -- it has the state of its look-up, by what rules could read of its connection before
     abbrev LookedUp : PathState → Type 0
     LookedUp s = (ct : CtFacts)
-        × First setup (mappings_in (others_beside (looked_up_info ct held p) held p)) input (is_notrack ct) (looked_up_info ct held p) s
+        × IsAt input (Some (is_notrack ct)) (λ info output es. info ≡ looked_up_info ct held p) s
 
-    look_up_leads : Leads HasArrived (LookUp held p) LookedUp
+    look_up_leads : Leads (IsAt input None Anything) (LookUp held p) LookedUp
     look_up_leads s r is h =
         let ct = s.facts.ct in
         subst (IfContinues LookedUp) (sym is) (
           ct,
           record {
-            entered = h.0;
-            is = refl;
-            told = info_tells (looked_up_info ct held p) (is_notrack ct) (did_exempt s.events)
-                (told_before ct (did_exempt s.events) h.1);
+            entered = h.entered;
+            told = grind (arith, h.told);
+            so = refl;
           },
         )
 
@@ -496,28 +411,28 @@ module _ (setup : Setup) (held : List ConntrackEntry) (now : ℕ) where
         let others = others_beside info held p in
         let exempt = is_notrack k.0 in
         let y : HooksAndConfirm setup others s r =
-        subst (λ (w : CtInfo). HooksAndConfirm setup (others_beside w held p) s r) k.1.is x in
-        leads_then _ (AfterNat setup (mappings_in others) input exempt info) IsThrough _ _
+        subst (λ (w : CtInfo). HooksAndConfirm setup (others_beside w held p) s r) k.1.so x in
+        leads_then _ (At setup (mappings_in others) input exempt info (AfterNat setup (mappings_in others) input exempt info)) IsThrough _ _
         (hooks_lead setup (mappings_in others) input exempt info) (λ u q is c.
         subst (IfContinues IsThrough) (sym is) (unless_confirmation_drops others IsThrough u u.info (λ free.
-        by_facts exempt u k.0 (told_after u.facts.ct exempt (did_exempt u.events) c.told) (c, free)))) s r y k.1
+        by_facts exempt u k.0 (grind (arith, c.told, u.facts.ct)) (c, free)))) s r y k.1
 
     by_result : (r : StepResult) → IfContinues IsThrough r → EntryCase (Ok a) (entry_of now held p r)
     by_result (Continue s) through = through
     by_result (Drop cause s) through = by_drop (lookup_tuple_of s.info p) refl
       where
         by_drop : (o : Option Tuple) → lookup_tuple_of s.info p ≡ o → EntryCase (Ok a) (entry_of now held p (Drop cause s))
-        by_drop None none =
-            unseen_so (rw none refl) refl (λ b t is read tracked accepted. accepted cause refl)
+        by_drop None none = unseen_so (rw none refl) refl (λ b t is read tracked accepted. accepted cause refl)
         by_drop (Some t) some =
-            let read = its_tuple p t s.info some in
-            dropped_so p t read (tracked_is t (Drop cause s) read some) refl cause refl
+            let read : tuple_of p ≡ Some t = grind arith in
+            dropped_so p t read (rw (some, read) refl) refl cause refl
 
     path_so : (r : StepResult) → Path setup held p (on_arrival p input) r → EntryCase (Ok a) (entry_of now held p r)
     path_so r x = by_result r
         (leads_then _ _ _ _ _
-        (stage_leads setup HasArrived (λ s end k h. (ap (λ x. x.0) k.interfaces ∙ h.0, k.exempt None h.1)) stages.PreroutingRaw)
-        (leads_then _ LookedUp _ (LookUp held p) _ look_up_leads after_look_up_leads) (on_arrival p input) r x (refl, refl))
+        (stage_leads setup input None Anything (λ info output es later h. h) stages.PreroutingRaw)
+        (leads_then _ LookedUp _ (LookUp held p) _ look_up_leads after_look_up_leads) (on_arrival p input) r x
+        (record { entered = refl; told = refl; so = tt }))
 
   by_carried : (x : Result ReceivedPacket Cause) (e : Entry) → EntryOf setup held now x e → EntryCase x e
   by_carried (Err cause) e is =
@@ -547,8 +462,4 @@ module _ (setup : Setup) (history : List Entry) (r : Recorded) (e : Entry) (next
 
   -- a dropped packet changes no connection
   pub dropped_none : (cause : Cause) → e.outcome ≡ outcomes.Dropped cause → e.tracked.change ≡ NoChange
-  dropped_none cause dropped = elim entry_case [
-    | unseen_so is untold other ↦ ap (λ (x : TrackedPacket). x.change) is
-    | dropped_so p u read is untold c d ↦ ap (λ (x : TrackedPacket). x.change) is
-    | accepted_so a arrived t p ↦ absurd (undropped p.end.facts.output cause (sym p.outcome ∙ dropped))
-  ]
+  dropped_none cause dropped = grind (arith, entry_case)

@@ -1,23 +1,22 @@
 -- The laws of NAT: of one entry, which connection it begins or refreshes, how the packet leaves, and the port that it
 -- allocates; and of each history. To be read before it: Chains, Paths, Preserved.
-use Rattle.translation_laws.proofs.Names.{◌++◌, ◌-◌, Accepted, All-contains, AllocatedAmong, AreApart, Arrival, Begins, Belonging, Bool, Cause, Confirmed}
-use Rattle.translation_laws.proofs.Names.{ConnId, ConnectionChange, ConnectionRef, ConntrackEntry, Contains, Contains-cases, Contains-head, Contains-tail}
-use Rattle.translation_laws.proofs.Names.{Contains-unmap, Creation, CtInfo, Direction, Dropped, EchoRequest, Endpoint, EndsSourceNat, EntriesFollow, Entry}
-use Rattle.translation_laws.proofs.Names.{EntryLaws, Err, Event, ExternalSource, Facts, Flags, Found, HasIncoming, HistoryLaws, HoldsMapping, HookResult}
-use Rattle.translation_laws.proofs.Names.{HookVerdict, Interface, Invalid, IsAccepted, IsHairpinned, IsHistory, IsHistoryOf, IsTrue, Kind, LeavesWith, List}
-use Rattle.translation_laws.proofs.Names.{LivesOn, Mapping, New, NewConnection, Next, NoChange, None, NotFound, Ok, Option, Original, PlantTree, ReceivedPacket}
-use Rattle.translation_laws.proofs.Names.{Recorded, Reply, Result, Setup, Some, Touches, TouchesLive, Tracked, TrackedPacket, Translated, Tuple, [], after_end}
-use Rattle.translation_laws.proofs.Names.{alive_at, and_from, and_parts, ap, arith, arrival_of, begun, begun_in, between, both_ways, carried, carried_after}
-use Rattle.translation_laws.proofs.Names.{carried_by, carried_with, cases_Bool, change_of, change_of_packet, cond, cond_both, confirmation_by, connection_in}
-use Rattle.translation_laws.proofs.Names.{connection_of, connection_ref, does_end, drop, external_source, false, fault_of, filter_passes, first_state, flags_in}
-use Rattle.translation_laws.proofs.Names.{hairpin, hairpinned, has_ports, have_disjoint_tuples, inbound_of, inl, input_interface, inr, interface_facts, inverse}
-use Rattle.translation_laws.proofs.Names.{inverse_kind, is_alive, is_creation, is_ended, is_incoming, is_live, is_same_interface, is_some, is_taken, kind_of}
-use Rattle.translation_laws.proofs.Names.{limits_of, live_at_record, lt-ltb, ltb-true, mappings_in, mark_in, moment_after, names_of, names_ports}
-use Rattle.translation_laws.proofs.Names.{new_connection_of, none-some, none_not_some, not, not_from_false, or_left, or_right, outcome_by, outgoing, owner}
-use Rattle.translation_laws.proofs.Names.{packet_of, payload_of, port_choice_by, port_choice_for, port_choice_in, port_of, protocol, range_of, refl, reply_to}
-use Rattle.translation_laws.proofs.Names.{rewritten, same_Some, same_tuple, same_tuple-refl, same_tuple-true, sent_on, some_of_map, source_of, subst, sym}
-use Rattle.translation_laws.proofs.Names.{to_internal, touch_of, tracked_connection, tracked_of, transport_of, true, ttl, tuple_of, tuple_with}
-use Rattle.translation_laws.proofs.Names.{with_destination_nat, with_source_mapping, with_source_nat, ℕ, ◌∙◌, ◌∷◌, ◌≡◌, ◌≢◌, ◌⊎◌}
+use Rattle.translation_laws.proofs.Names.{◌++◌, ◌-◌, All-contains, AllocatedAmong, AreApart, Arrival, Begins, Belonging, Bool, Cause, Confirmed, ConnId}
+use Rattle.translation_laws.proofs.Names.{ConnectionChange, ConnectionRef, ConntrackEntry, Contains, Contains-unmap, Creation, CtInfo, Direction, Endpoint}
+use Rattle.translation_laws.proofs.Names.{EndsSourceNat, EntriesFollow, Entry, EntryLaws, Err, Event, ExternalSource, Facts, Flags, Found, HasIncoming}
+use Rattle.translation_laws.proofs.Names.{HistoryLaws, HoldsMapping, HookResult, HookVerdict, Interface, Invalid, IsAccepted, IsHairpinned, IsHistory}
+use Rattle.translation_laws.proofs.Names.{IsHistoryOf, IsTrue, Kind, LeavesWith, List, LivesOn, Mapping, New, NewConnection, Next, NoChange, None, NotFound}
+use Rattle.translation_laws.proofs.Names.{Ok, Option, Original, PlantTree, ReceivedPacket, Recorded, Reply, Result, Setup, Some, Touches, TouchesLive}
+use Rattle.translation_laws.proofs.Names.{Tracked, TrackedPacket, Tuple, [], after_end, alive_at, and_from, and_parts, ap, arith, arrival_of, begun, begun_in}
+use Rattle.translation_laws.proofs.Names.{between, both_ways, carried, carried_after, carried_by, carried_with, change_of, change_of_packet, cond}
+use Rattle.translation_laws.proofs.Names.{confirmation_by, connection_in, connection_of, connection_ref, does_end, drop, external_source, false, fault_of}
+use Rattle.translation_laws.proofs.Names.{filter_passes, first_state, flags_in, hairpinned, has_ports, have_disjoint_tuples, inbound_of, inl, input_interface}
+use Rattle.translation_laws.proofs.Names.{inr, interface_facts, inverse, inverse_kind, is_alive, is_creation, is_ended, is_incoming, is_live}
+use Rattle.translation_laws.proofs.Names.{is_same_interface, is_some, is_taken, kind_of, limits_of, live_at_record, lt-ltb, ltb-true, mappings_in, mark_in}
+use Rattle.translation_laws.proofs.Names.{moment_after, names_of, names_ports, new_connection_of, none-some, none_not_some, not, not_from_false, or_left}
+use Rattle.translation_laws.proofs.Names.{or_right, outcome_by, outgoing, owner, packet_of, payload_of, port_choice_by, port_choice_for, port_choice_in}
+use Rattle.translation_laws.proofs.Names.{port_of, protocol, range_of, refl, reply_to, rewritten, same_Some, same_tuple, same_tuple-refl, same_tuple-true}
+use Rattle.translation_laws.proofs.Names.{sent_on, some_of_map, source_of, subst, sym, to_internal, touch_of, tracked_connection, tracked_of, transport_of}
+use Rattle.translation_laws.proofs.Names.{true, ttl, tuple_of, tuple_with, Ends, given_to, with_source_mapping, with_source_nat, ℕ, ◌∙◌, ◌∷◌, ◌≡◌, ◌≢◌, ◌⊎◌}
 use Rattle.conntrack.specs.declared.connection.Connection.{Connection}
 use Rattle.history.specs.declared.outcome.Outcome.TheVariants.{Passed}
 use Rattle.ip_headers.proofs.Faults.{packet_passes}
@@ -25,15 +24,17 @@ use Rattle.ip_headers.specs.declared.view.HeaderFault.{HeaderFault}
 use Rattle.pcap_io.specs.Links.{link_of}
 use Rattle.pcap_io.specs.declared.link.Link.{Link}
 use Rattle.pcap_io.specs.declared.link.LinkCause.{LinkCause}
-use Rattle.rule_meaning.specs.declared.event.NatAction.TheVariants.{Masquerade, Source}
+use Rattle.list_laws.specs.Filters.{has_filter}
+use Rattle.nat_mapping.proofs.Lookups.{inbound_finds, port_finds}
 use Rattle.std.specs.Prelude.{filter, map}
-use Rattle.translation_laws.proofs.Chains.{did_nat_act}
+use Rattle.translation_laws.proofs.Chains.{did_nat_act, none_earlier}
 use Rattle.translation_laws.proofs.Paths.{AcceptedWith, EntryCase, HasSource, IsLookedUp, IsNone, IsTranslated, accepted_so, accepted_with, begins, belongs_by}
 use Rattle.translation_laws.proofs.Paths.{beside, delivered, dropped_none, dropped_so, entry_case, forwarded_on, is_invalid, passes_accepted, refreshes}
 use Rattle.translation_laws.proofs.Paths.{turned_by, unseen_so}
-use Rattle.translation_laws.proofs.Preserved.{HasShapes, IsMade, IsShaped, Known, Preserved, allocated, drafted, ended, found_one, given_one, inbound_found}
-use Rattle.translation_laws.proofs.Preserved.{inverse_shaped, its_draft, mapping_at, mapping_of_holder, not_behind, parts, parts_same, port_found, ported_suits}
-use Rattle.translation_laws.proofs.Preserved.{preserved, taken_by, tuple_shaped, turned_so}
+use Rattle.translation_laws.proofs.translation_laws.Goals.{After-no_fault as Laws}
+use Rattle.translation_laws.proofs.translation_laws.Answers.Preserved.{HasShapes, IsShaped, Preserved, drafted, ended, found_by, found_one, given_one}
+use Rattle.translation_laws.proofs.translation_laws.Answers.Preserved.{inverse_shaped, its_draft, mapping_at, mapping_of_holder, not_behind, parts}
+use Rattle.translation_laws.proofs.translation_laws.Answers.Preserved.{ported_suits, preserved, taken_by, tuple_shaped, turned_so}
 use Rattle.conntrack.specs.declared.belonging.LookupState.TheVariants as states
 
 -- ==== A packet that a record carries has no fault.
@@ -42,12 +43,12 @@ abbrev IsFaultless : Result ReceivedPacket Cause → Type 0
 IsFaultless (Ok a) = fault_of a.packet ≡ None
 IsFaultless (Err cause) = Unit {0}
 
-carried_faultless : Known → (setup : Setup) (r : Recorded) → IsFaultless (carried setup r)
-carried_faultless known setup r = by_link (link_of r.link r.bytes)
+carried_faultless : Laws → (setup : Setup) (r : Recorded) → IsFaultless (carried setup r)
+carried_faultless laws setup r = by_link (link_of r.link r.bytes)
   where
     by_fault : (bytes : List ℕ) (index : ℕ) (o : Option HeaderFault) → fault_of bytes ≡ o → IsFaultless (carried_with index bytes o)
     by_fault bytes index (Some fault) e = tt
-    by_fault bytes index None e = known.faultless (packet_of bytes) (packet_passes bytes (known.passes bytes e))
+    by_fault bytes index None e = laws.no_fault.ensures.faultless (packet_of bytes) (packet_passes bytes (laws.no_fault.ensures.passes bytes e))
 
     by_interface : (bytes : List ℕ) (o : Option ℕ) → IsFaultless (carried_by bytes o)
     by_interface bytes None = tt
@@ -65,47 +66,42 @@ begins_as p d = change_of_packet NotFound p (Confirmed 0 (reply_to d) d.source d
 
 change_begun : (b : Belonging) → IsNone b → (p : Arrival) (mark : ℕ) (d : NewConnection)
     → change_of_packet b p (Confirmed mark (reply_to d) d.source d.dest) ≡ begins_as p d
-change_begun (Found place) none p mark d = absurd none
-change_begun _ none p mark d = refl
-
-abbrev IsTouch : ConnectionChange → Type 0
-IsTouch (Touches c direction) = Unit {0}
-IsTouch _ = ⊥
-
-same_touch : (c d : ℕ) (one other : Direction) → Touches c one ≡ Touches d other → c ≡ d
-same_touch c d one other e = cc
-
-same_found : (x y : ConnectionRef) → Found x ≡ Found y → x ≡ y
-same_found x y e = cc
+change_begun b none p mark d = grind arith
 
 abbrev source_begun : ConnectionChange → Option Mapping
 source_begun change = (begun change).source
 
 twice : (kind : Kind) → inverse_kind (inverse_kind kind) ≡ kind
-twice EchoRequest = refl
-twice _ = refl
+twice kind = grind arith
 
 -- whether the statement that gave a source names ports
-hairpin_names_none : (plant : PlantTree) (entered : ℕ) (dest : Option Mapping) (x : ExternalSource)
-    → hairpin plant entered dest ≡ Some x → is_some x.ports ≡ false
-hairpin_names_none plant entered None x e = cc
-hairpin_names_none plant entered (Some m) x e = grind arith
-
 named_so : (plant : PlantTree) (f : Facts) (d : NewConnection) (verdict : HookVerdict) (x : ExternalSource)
     → external_source plant f d verdict ≡ Some x → is_some x.ports ≡ names_ports verdict
-named_so plant f d Accepted x e = hairpin_names_none plant f.input.index d.dest x e
-named_so plant f d Dropped x e = absurd (none-some x e)
-named_so plant f d (Translated (Source address ports)) x e = ap (λ (y : ExternalSource). is_some y.ports) (sym (same_Some _ x e))
-named_so plant f d (Translated (Masquerade ports)) x e = ap (λ (y : ExternalSource). is_some y.ports) (sym (same_Some _ x e))
-named_so plant f d (Translated _) x e = absurd (none-some x e)
+named_so plant f d verdict x e = grind arith
 
 told_some : (named : Bool) (o : Option ℕ) → (port_choice_by named o ≡ None → ⊥) → port_choice_by named o ≡ Some named
-told_some named None allocated = refl
-told_some named (Some port) allocated = absurd (allocated refl)
+told_some named o allocated = grind arith
+
+its_parts : (m : Mapping) (kind : Kind) (external : Endpoint) → m.kind ≡ kind → m.external ≡ external
+    → m ≡ mapping_at kind m.internal external
+its_parts m kind external k e = grind arith
+
+-- what belongs to a connection that it doesn't remove belongs to some
+belongs_some : (h : ConntrackEntry) (ended original : Bool) → ended ≡ false → IsNone (cond ended (Ends h.id) (cond original
+    (Found (connection_ref h Original)) (Found (connection_ref h Reply)))) → ⊥
+belongs_some h ended original unended none = grind arith
+
+-- the endpoints with which a packet of a connection leaves
+leaves_as : (h : ConntrackEntry) (t out : Tuple) (original : Bool) → HasShapes h.original h.reply → is_incoming t h ≡ true
+    → same_tuple h.original t ≡ original → out ≡ cond original (inverse h.reply) (inverse h.original)
+    → (out.kind ≡ t.kind) × IsShaped out × (same_tuple h.original t ≡ true → out ≡ inverse h.reply)
+    × (same_tuple h.reply t ≡ true → out ≡ inverse h.original)
+leaves_as h t out original shapes incoming o is =
+    grind (arith, twice, inverse_shaped h.reply, inverse_shaped h.original, same_tuple-true h.original t, same_tuple-true h.reply t)
 
 -- ==== The entry of a record.
 
-module _ (known : Known) (setup : Setup) (history : List Entry) (r : Recorded) (e : Entry)
+module _ (laws : Laws) (setup : Setup) (history : List Entry) (r : Recorded) (e : Entry)
     (before : Preserved history (live_at_record setup history r)) where
   abbrev held : List ConntrackEntry
   held = live_at_record setup history r
@@ -163,7 +159,7 @@ module _ (known : Known) (setup : Setup) (history : List Entry) (r : Recorded) (
     leaves_between out kind shaped =
         let its = some_of_map (λ (one : Kind). tuple_with one a.packet (payload_of a.packet))
         (kind_of (protocol a.packet) (payload_of a.packet)) t p.read in
-        known.sending a.packet out (Some (ttl a.packet - 1)) (subst IsFaultless arrived (carried_faultless known setup r))
+        laws.rewritten_has_tuple.ensures a.packet out (Some (ttl a.packet - 1)) (subst IsFaultless arrived (carried_faultless laws setup r))
         (its.1 ∙ ap (λ (x : Tuple). Some x.kind) its.2 ∙ ap Some (sym kind)) shaped
 
     -- ---- the first packet of a connection begins it, where no connection has its tuple but one that it removes
@@ -181,60 +177,23 @@ module _ (known : Known) (setup : Setup) (history : List Entry) (r : Recorded) (
 
     module _ (h : ConntrackEntry) (among : Contains held h) (incoming : IsTrue (is_incoming t h))
         (unended : does_end h t flags ≡ false) where
-      given : (original : Bool) → same_tuple h.original t ≡ original
-          → b ≡ cond original (Found (connection_ref h Original)) (Found (connection_ref h Reply))
-      given original is = rw (unended, is) at (given_one t held flags h before.apart among incoming)
+      given : b ≡ given_to h t flags
+      given = given_one t held flags h before.apart among incoming
 
-      belongs_so : (original : Bool) → same_tuple h.original t ≡ original → IsNone b → ⊥
-      belongs_so true is none = subst IsNone (given true is) none
-      belongs_so false is none = subst IsNone (given false is) none
-
-      shapes : HasShapes h.original h.reply
-      shapes = (All-contains (IsMade history) held h before.mapped.all among).0
-
-      -- in this direction
-      module _ (place : ConnectionRef) (found : b ≡ Found place) (stayed : p.end.info ≡ Tracked (tracked_connection place))
-          (x : ConnectionRef) (is : b ≡ Found x) where
-        at_place : place ≡ x
-        at_place = same_found place x (sym found ∙ is)
-
-        touches_so : e.tracked.change ≡ Touches x.id.0 x.direction
-        touches_so = rw at_place at (refreshed place found stayed)
-
-        left_so : (interface : ℕ) → e.outcome ≡ Passed interface → (outgoing (tracked_connection x)).kind ≡ t.kind
-            → IsShaped (outgoing (tracked_connection x)) → tuple_of e.packet ≡ Some (outgoing (tracked_connection x))
-        left_so interface passed kind shaped =
-            left_as (Tracked (tracked_connection x)) (rw at_place at stayed) interface passed
-            ∙ leaves_between (outgoing (tracked_connection x)) kind shaped
+      of_it : IsNone b → ⊥
+      of_it none = belongs_some h (does_end h t flags) (same_tuple h.original t) unended (subst IsNone given none)
 
       goes_so : Does → (e.tracked.change ≡ touch_of h t) × ((interface : ℕ) → e.outcome ≡ Passed interface → LeavesWith h t e)
-      goes_so (begins none new n free) = absurd (belongs_so _ refl none)
-      goes_so (is_invalid none new stayed) = absurd (belongs_so _ refl none)
-      goes_so (refreshes place found stayed) = by_direction (same_tuple h.original t) refl
-        where
-          by_direction : (original : Bool) → same_tuple h.original t ≡ original → (e.tracked.change ≡ touch_of h t)
-              × ((interface : ℕ) → e.outcome ≡ Passed interface → LeavesWith h t e)
-          by_direction true is =
-              let same = same_tuple-true h.original t is in (
-                rw is (touches_so place found stayed _ (given true is)),
-                λ interface passed.
-                    let leaves : tuple_of e.packet ≡ Some (inverse h.reply) =
-                    left_so place found stayed _ (given true is) interface passed
-                    (ap inverse_kind shapes.kinds ∙ twice h.original.kind ∙ ap (λ (x : Tuple). x.kind) same)
-                    (inverse_shaped h.reply shapes.reply) in
-                    record {
-                      original = λ o. leaves;
-                      reply = λ o. leaves ∙ ap (λ (x : Tuple). Some (inverse x)) (same_tuple-true h.reply t o ∙ sym same);
-                    },
-              )
-          by_direction false is = (
-            rw is (touches_so place found stayed _ (given false is)),
-            λ interface passed. record {
-              original = λ o. absurd (both_ways (same_tuple h.original t) is o);
-              reply = λ o. left_so place found stayed _ (given false is) interface passed
-                  (sym shapes.kinds ∙ ap (λ (x : Tuple). x.kind) (same_tuple-true h.reply t o))
-                  (inverse_shaped h.original shapes.original);
-            },
+      goes_so (begins none new n free) = absurd (of_it none)
+      goes_so (is_invalid none new stayed) = absurd (of_it none)
+      goes_so (refreshes place found stayed) =
+          let so = found_by h (does_end h t flags) (same_tuple h.original t) place (sym given ∙ found) in
+          let out = leaves_as h t (outgoing (tracked_connection place)) (same_tuple h.original t) (before.mapped.shaped h among)
+          incoming refl so.3 in (
+            refreshed place found stayed ∙ sym so.2,
+            λ interface passed.
+                let leaves = left_as _ stayed interface passed ∙ leaves_between (outgoing (tracked_connection place)) out.0 out.1 in
+                record { original = λ o. leaves ∙ ap Some (out.2 o); reply = λ r. leaves ∙ ap Some (out.3 r) },
           )
 
     -- ---- a connection that is refreshed was live, and the packet has its tuple
@@ -249,15 +208,14 @@ module _ (known : Known) (setup : Setup) (history : List Entry) (r : Recorded) (
           t = t;
           comes = record { carries = arrived; tuple = p.read; tracked = p.untouched };
           h = f.0;
-          named = ap (λ (x : ConnId). x.0) f.4 ∙ same_touch place.id.0 c place.direction direction (sym change ∙ touches);
+          named = ap (λ (x : ConnId). x.0) f.4 ∙ cc (change, touches);
           live = f.1;
           incoming = f.2;
           unended = f.3;
           touched = change ∙ sym f.5;
         }
-    touches_live c direction touches (begins none new n free) =
-        absurd (subst IsTouch (sym touches ∙ begun_so none n.left n.is) tt)
-    touches_live c direction touches (is_invalid none new is) = absurd (subst IsTouch (sym touches ∙ unchanged is) tt)
+    touches_live c direction touches (begins none new n free) = absurd (cc (touches, begun_so none n.left n.is))
+    touches_live c direction touches (is_invalid none new is) = absurd (cc (touches, unchanged is))
 
     -- ---- hairpinning
 
@@ -272,20 +230,13 @@ module _ (known : Known) (setup : Setup) (history : List Entry) (r : Recorded) (
 
       inbound_is : inbound_of t.kind t.destination others ≡ Some m.internal
       inbound_is =
-          let r = inbound_found m others among in
-          let found : inbound_of t.kind t.destination others ≡ Some r.0 =
-          subst (λ (x : Endpoint). inbound_of t.kind x others ≡ Some r.0) external
-          (subst (λ (k : Kind). inbound_of k m.external others ≡ Some r.0) kind r.1) in
-          found ∙ ap Some ((ended known history held before.mapped b).one.one_internal (mapping_at t.kind r.0 t.destination) m
-          (known.inbound others t.kind r.0 t.destination found) among (sym kind) (sym external))
+          let found = (inbound_finds others (ended laws history held before.mapped b).one).all
+          (record { kind = m.kind; external = m.external }) m.internal among in
+          rw (kind, external) at found
 
       -- inside the hooks
       abbrev run_inside : NewConnection
       run_inside = to_internal (new_connection_of t) (Some m.internal)
-
-      turned : (f : Facts) (verdict : HookVerdict) → verdict ≡ Accepted
-          → with_destination_nat setup.plant others f (new_connection_of t) verdict ≡ run_inside
-      turned f verdict accepted = rw (accepted, ports, inbound_is) refl
 
       -- its source is mapped at the external address
       abbrev at_external : ExternalSource
@@ -296,17 +247,17 @@ module _ (known : Known) (setup : Setup) (history : List Entry) (r : Recorded) (
 
       external_is : (x : Option ExternalSource) → HasSource setup others input run_inside x p.end → x ≡ Some at_external
       external_is x (delivered none is) = cc (ap outcome_by (sym none) ∙ sym p.outcome ∙ passed)
-      external_is x (forwarded_on asked ran accepted same is) =
+      external_is x (forwarded_on asked q later among is) =
           let entered : is_same_interface a.interface (owner setup.plant t.destination.address) ≡ false = rw external at other in
-          sym (rw (accepted none_told, same, entered) at is)
+          let accepted = q.accepted (none_earlier asked.events later (rw among at none_told)) in
+          sym (rw (accepted, q.entered, entered) at is)
 
       turns_by : Does → IsHairpinned t own others e
-      turns_by (refreshes place found is) =
-          absurd (both_ways (is_creation e.tracked.change) (ap is_creation (refreshed place found is)) created)
-      turns_by (is_invalid none new is) =
-          absurd (both_ways (is_creation e.tracked.change) (ap is_creation (unchanged is)) created)
+      turns_by (refreshes place found is) = absurd (both_ways _ (ap is_creation (refreshed place found is)) created)
+      turns_by (is_invalid none new is) = absurd (both_ways _ (ap is_creation (unchanged is)) created)
       turns_by (begins none new n free) =
-          let is = turned n.asked.facts n.asked.verdict (n.accepted none_told) in
+          let is : turned_by setup others input (new_connection_of t) n.asked ≡ run_inside =
+          rw (n.accepted none_told, ports, inbound_is) refl in
           let source = subst (λ (d : NewConnection). HasSource setup others input d n.external p.end) is n.source in
           let mapped = some_of_map (with_source_mapping run_inside at_external)
           (source_of t.kind t.source t.destination.address None others) n.left
@@ -332,10 +283,10 @@ module _ (known : Known) (setup : Setup) (history : List Entry) (r : Recorded) (
           → with_source_nat others behind x ≡ Some n.left
           → (end : HookResult) × EndsSourceNat setup e end × (n.left.has_port_range ≡ names_ports end.verdict)
       who_allocates m from None source drafted =
-          absurd (none_not_some behind.source m (turned_so known setup.plant others n.asked.facts t n.asked.verdict).none
-          (ap (λ (d : NewConnection). d.source) (same_Some behind n.left drafted) ∙ from))
+          let none = (turned_so laws setup.plant others n.asked.facts t n.asked.verdict).none in
+          absurd (cc (none, same_Some behind n.left drafted, from))
       who_allocates m from (Some x) (delivered output none) drafted = absurd (none-some x (sym none))
-      who_allocates m from (Some x) (forwarded_on end asked on entered is) drafted =
+      who_allocates m from (Some x) (forwarded_on end asked later among is) drafted =
           let r = some_of_map (with_source_mapping behind x)
           (source_of behind.tuple.kind behind.tuple.source x.address (range_of x.ports) others) n.left drafted in (
             end,
@@ -343,27 +294,27 @@ module _ (known : Known) (setup : Setup) (history : List Entry) (r : Recorded) (
               facts = asked.facts;
               before = asked.before;
               ran = asked.ran;
-              later = asked.later;
-              among = p.events ∙ asked.among;
+              later = later;
+              among = p.events ∙ among;
             },
             sym (ap (λ (d : NewConnection). d.has_port_range) r.2) ∙ named_so setup.plant end.facts behind end.verdict x is,
           )
 
     allocated_among : Does → (m : Mapping) → source_begun e.tracked.change ≡ Some m → AllocatedAmong setup e others m
-    allocated_among (refreshes place found is) m from =
-        absurd (none_not_some (source_begun e.tracked.change) m (ap source_begun (refreshed place found is)) from)
-    allocated_among (is_invalid none new is) m from =
-        absurd (none_not_some (source_begun e.tracked.change) m (ap source_begun (unchanged is)) from)
+    allocated_among (refreshes place found is) m from = absurd (none_not_some _ m (ap source_begun (refreshed place found is)) from)
+    allocated_among (is_invalid none new is) m from = absurd (none_not_some _ m (ap source_begun (unchanged is)) from)
     allocated_among (begins none new n free) m from =
         let source : n.left.source ≡ Some m = sym (ap source_begun (begun_so none n.left n.is)) ∙ from in
-        let draft = its_draft known history (after_end b held) (ended known history held before.mapped b) setup input t new
+        let draft = its_draft laws history (after_end b held) (ended laws history held before.mapped b) setup input t new
         (tuple_shaped a.packet t p.read) p.end n in
         let port = port_of m.kind m.internal m.external.address others in
         let tells : e.port_choice ≡ port_choice_by n.left.has_port_range port =
         choice_is _ n.is ∙ ap (port_choice_in others n.left.has_port_range) source in
         let q = who_allocates n m source n.external n.source n.drafted in
         record {
-          reused = λ among. tells ∙ ap (port_choice_by n.left.has_port_range) (port_found m others among).1;
+          reused = λ among. tells ∙ ap (port_choice_by n.left.has_port_range)
+              ((port_finds others (ended laws history held before.mapped b).one).all
+              (record { kind = m.kind; internal = m.internal; address = m.external.address }) m.external.port among);
           allocated = λ absent. (
             q.0,
             q.1,
@@ -373,20 +324,15 @@ module _ (known : Known) (setup : Setup) (history : List Entry) (r : Recorded) (
         }
 
     allocated_only : Does → e.port_choice ≢ None → source_begun e.tracked.change ≢ None
-    allocated_only (refreshes place found is) told unbegun = told (choice_is _ is)
-    allocated_only (is_invalid none new is) told unbegun = told (choice_is _ is)
-    allocated_only (begins none new n free) told unbegun =
-        told (choice_is _ n.is ∙ ap (port_choice_in others n.left.has_port_range)
-        (sym (ap source_begun (begun_so none n.left n.is)) ∙ unbegun))
+    allocated_only h0 told unbegun = grind (arith, choice_is, port_choice_in, begun_so)
 
   -- ==== Its laws.
 
   touches_by : (c : ℕ) (direction : Direction) → e.tracked.change ≡ Touches c direction
       → EntryCase setup held now (carried setup r) e → TouchesLive setup history r e c
-  touches_by c direction touches (unseen_so is untold other) =
-      absurd (subst IsTouch (sym touches ∙ ap (λ (x : TrackedPacket). x.change) is) tt)
+  touches_by c direction touches (unseen_so is untold other) = absurd (cc (touches, ap (λ (x : TrackedPacket). x.change) is))
   touches_by c direction touches (dropped_so p t read is untold cause dropped) =
-      absurd (subst IsTouch (sym touches ∙ ap (λ (x : TrackedPacket). x.change) is) tt)
+      absurd (cc (touches, ap (λ (x : TrackedPacket). x.change) is))
   touches_by c direction touches (accepted_so a arrived t p) = touches_live a arrived t p c direction touches p.state
 
   allocated_by_case : EntryCase setup held now (carried setup r) e → e.port_choice ≢ None → source_begun e.tracked.change ≢ None
@@ -415,7 +361,7 @@ module _ (known : Known) (setup : Setup) (history : List Entry) (r : Recorded) (
         hairpins = λ a t comes ports m among kind external other begins untold interface passed.
             let p = accepted a t comes (passes_accepted e interface passed) in
             subst (λ (x : Mapping). IsHairpinned t x (beside held a.packet t) e)
-            (sym (parts_same m t.kind m.internal t.destination kind refl external))
+            (sym (its_parts m t.kind t.destination kind external))
             (turns_by a comes.carries t p interface passed begins ports m among kind external other untold p.state);
         allocates = record {
           only = allocated_by_case the_case;
@@ -464,16 +410,6 @@ their_names : (history : List TrackedPacket) (cs : List ℕ) → names_of (map (
 their_names history [] = refl
 their_names history (c ∷ cs) = ap (λ l. c ∷ l) (their_names history cs)
 
-has_filter : (p : ℕ → Bool) (cs : List ℕ) (c : ℕ) → Contains cs c → p c ≡ true → Contains (filter p cs) c
-has_filter p [] c among passes = among
-has_filter p (d ∷ cs) c among passes = elim (Contains-cases d cs c among) [
-  | inl e ↦ rw (ap p e ∙ passes) (subst (Contains (d ∷ filter p cs)) e (Contains-head d (filter p cs)))
-  | inr k ↦
-      let rest = has_filter p cs c k passes in
-      cond_both (p d) (d ∷ filter p cs) (filter p cs) (λ l. Contains l c)
-      (λ _. Contains-tail d (filter p cs) c rest) (λ _. rest)
-]
-
 -- a connection that wasn't ended is listed exactly while its last packet is less than its limit ago
 lives_always : (setup : Setup) (history : List Entry) (now : ℕ) → LivesOn setup history now
 lives_always setup history now c among unended =
@@ -481,19 +417,16 @@ lives_always setup history now c among unended =
     let alive : ℕ → Bool = λ k. is_alive (limits_of setup) k tracked now in
     let ended = is_ended c tracked in
     let live = is_live (limits_of setup) now (connection_in c tracked) in
-    let same = their_names tracked (filter alive (begun_in tracked)) in (
-      λ listed. ltb-true _ _ (and_parts (not ended) live
-          (All-contains (λ (k : ℕ). alive k ≡ true) (filter alive (begun_in tracked)) c (filter_passes alive (begun_in tracked))
-          (subst (λ (l : List ℕ). Contains l c) same listed))).1,
-      λ lt. subst (λ (l : List ℕ). Contains l c) (sym same) (has_filter alive (begun_in tracked) c among
-          (and_from (not ended) live (not_from_false ended unended) (lt-ltb _ _ lt))),
+    rw (their_names tracked (filter alive (begun_in tracked))) (
+      λ listed. ltb-true _ _ (and_parts (not ended) live (All-contains (λ (k : ℕ). alive k ≡ true) (filter alive (begun_in tracked)) c
+          (filter_passes alive (begun_in tracked)) listed)).1,
+      λ lt. has_filter alive (begun_in tracked) c among (and_from (not ended) live (not_from_false ended unended) (lt-ltb _ _ lt)),
     )
 
 -- ==== What is true of connections is true of them as they are listed.
 
 comes_to : (h : ConntrackEntry) (t : Tuple) → HasIncoming (connection_of h) t → is_incoming t h ≡ true
-comes_to h t (inl e) = or_left (same_tuple h.original t) (same_tuple h.reply t) (rw e (same_tuple-refl t))
-comes_to h t (inr e) = or_right (same_tuple h.original t) (same_tuple h.reply t) (rw e (same_tuple-refl t))
+comes_to h t h2 = grind (arith, or_left, same_tuple, same_tuple-refl, or_right)
 
 apart_listed : (held : List ConntrackEntry) → have_disjoint_tuples held ≡ true → AreApart (map connection_of held)
 apart_listed [] apart = tt
@@ -513,11 +446,11 @@ listed_mapping held c m among holds =
 
 -- ==== The laws, in each history.
 
-pub history_obeys : Known → (setup : Setup) (history : List Entry) → IsHistory setup history → HistoryLaws setup history
-history_obeys known setup history is = record {
+pub history_obeys : Laws → (setup : Setup) (history : List Entry) → IsHistory setup history → HistoryLaws setup history
+history_obeys laws setup history is = record {
   live = λ now le.
       let alive = alive_at setup history now in
-      let k = preserved known setup history is now le in
+      let k = preserved laws setup history is now le in
       record {
         listed = refl;
         apart = apart_listed alive k.apart;
@@ -526,11 +459,11 @@ history_obeys known setup history is = record {
         one_port = λ c d m n a b from other.
             k.mapped.one.one_port m n (listed_mapping alive c m a (inl from)) (listed_mapping alive d n b (inl other));
         class = λ c m live holds ports latest. k.mapped.class m ports latest;
-        chosen = λ c m live holds. (allocated known history alive k.mapped m (listed_mapping alive c m live holds)).1;
+        chosen = λ c m live holds. (k.mapped.allocated m (listed_mapping alive c m live holds)).1;
         given = λ h t flags. given_one t alive flags h k.apart;
         lives = lives_always setup history now;
       };
   next = λ r e.
-      entry_laws known setup history r e (preserved known setup history is (moment_after history r) (omega arith))
+      entry_laws laws setup history r e (preserved laws setup history is (moment_after history r) (omega arith))
       (lives_always setup history (moment_after history r));
 }
