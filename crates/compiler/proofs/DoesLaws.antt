@@ -1,8 +1,7 @@
 -- What the machine does from an offset on: the end of a chain takes no tick, and a statement one.
-use Rattle.compiler.proofs.Names.{◌+◌, ◌<◌, Bool, Continuation, Event, Facts, IsTerminal, List, None, Option, RunResult, Some, Stop, TableCode, []}
-use Rattle.compiler.proofs.Names.{action_effect, ap, apply_effect, arith, at_end, call, enter_chain, exec, if◌then◌else◌, invalid_code, length, nat_lt, over}
-use Rattle.compiler.proofs.Names.{refl, return_from, slice_get, statement_at, stop, suc, true, zero, ℕ, ◌∙◌, ◌∷◌, ◌≡◌, ◌≤◌}
-use Rattle.std.proofs.lemmas.Bool.Decides.{nat_tests}
+use Rattle.compiler.proofs.Names.{◌+◌, Continuation, Event, Facts, IsTerminal, List, None, RunResult, Some, Stop, TableCode, []}
+use Rattle.compiler.proofs.Names.{action_effect, apply_effect, arith, at_end, exec, over}
+use Rattle.compiler.proofs.Names.{refl, return_from, slice_get, statement_at, stop, suc, zero, ℕ, ◌∙◌, ◌∷◌, ◌≡◌, ◌≤◌}
 use Rattle.rule_code.specs.declared.code.Instruction.{Instruction}
 
 -- what follows: after the end of a chain execution returns
@@ -14,11 +13,6 @@ finish go stack (over verdict f es) ticks = stop (over verdict f es) ticks
 pub finish-last : (go : Continuation) (o : RunResult) (ticks : ℕ) → (finish go [] o ticks).after ≡ o
 finish-last go (at_end f es) ticks = refl
 finish-last go (over verdict f es) ticks = refl
-
--- a chain can be called where fewer than 16 calls are open
-pub calls : (go : Continuation) (place : Option ℕ) (back : ℕ) (stack : List ℕ) (f : Facts) (es : List Event)
-    (ticks : ℕ) → length stack < 16 → call go place back stack f es ticks ≡ enter_chain go place (back ∷ stack) f es ticks
-calls go place back stack f es ticks room = grind arith
 
 module _ (t : TableCode) where
   -- this has the result in at most so many statements, and more fuel changes nothing
@@ -42,10 +36,7 @@ module _ (t : TableCode) where
   does-now {doing} {stack} {o} most is = record {
     used = 0;
     few = omega arith;
-    same = λ extra before.
-        let fuel : 0 + extra ≡ extra = omega arith in
-        let ticks : before ≡ 0 + before = omega arith in
-        cc (is extra before);
+    same = λ extra before. grind (arith, is extra before);
   }
 
   -- a verdict in a called chain is one of the caller
@@ -61,10 +52,7 @@ module _ (t : TableCode) where
   does-then {doing} {stack} {g} {later} {o} first second back a b = record {
     used = a.used + b.used;
     few = omega (arith, a.few, b.few);
-    same = λ extra before.
-        let fuel : a.used + b.used + extra ≡ a.used + (b.used + extra) = omega arith in
-        let ticks : b.used + (a.used + before) ≡ a.used + b.used + before = omega arith in
-        cc (a.same (b.used + extra) before, b.same extra (a.used + before));
+    same = λ extra before. grind (arith, a.same (b.used + extra) before, b.same extra (a.used + before));
   }
 
   -- ---- steps

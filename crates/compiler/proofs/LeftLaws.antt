@@ -1,8 +1,8 @@
 -- What is left of a chain: the rules that are left out of it never match a packet that gets to them.
 use Rattle.compiler.proofs.Names.{AllZip, AreLeft, Bool, ChainTree, Facts, FailsAt, IsDropped, IsLeft, IsShadowed, LeadsTo, LeavesOut, LeavesOutOf, List}
-use Rattle.compiler.proofs.Names.{MatchTree, None, Option, PlantTree, Program, Some, Statement, TableTree, VerdictTree, [], always_ends, any_facts, ap, arith}
-use Rattle.compiler.proofs.Names.{behind, below_more, cases_lt, chains_of, ends_chain, false, false_from_ne_true, false≢true, get_or, goes_on, if◌then◌else◌}
-use Rattle.compiler.proofs.Names.{inl, inr, left_program, left_statements, length, lists, map, merged_selector, none-some, option_map, passes_if, refl}
+use Rattle.compiler.proofs.Names.{MatchTree, None, Option, PlantTree, Program, Some, Statement, TableTree, VerdictTree, [], always_ends, ap, arith}
+use Rattle.compiler.proofs.Names.{below_more, cases_lt, ends_chain, false, false_from_ne_true, false≢true, get_or, goes_on, if◌then◌else◌}
+use Rattle.compiler.proofs.Names.{inl, inr, left_statements, length, lists, map, merged_selector, none-some, option_map, passes_if, refl}
 use Rattle.compiler.proofs.Names.{rule_at, rules_in, same_Some, slice_get, subst, suc, sym, table_program, true, zero, ℕ, ⊎_elim, ◌*◌, ◌+◌, ◌<◌, ◌^◌, ◌∙◌, ◌∷◌}
 use Rattle.compiler.proofs.Names.{◌≡◌, ◌≤◌}
 use Rattle.nft_tree.specs.declared.selector.Selector.{Selector}
@@ -47,22 +47,9 @@ holds-as scope (tree.bits field bit_tests.Exactly words) s f is = as-listed f (b
 holds-as scope (tree.exact_flags fs) s f is = as-listed f selectors.TcpFlags s _ _ (λ n. refl) is
 holds-as scope m s f is = absurd (none-some s is)
 
--- a rule that may be merged: a match and a verdict
-record IsMatchAndVerdict (r : List Statement) (s : Selector) : Type 0 where
-  test : MatchTree
-  verdict : VerdictTree
-  is : r ≡ tree.matching test ∷ tree.verdict verdict ∷ []
-  ends : ends_chain verdict ≡ true
-  asks : asked_selector test ≡ Some s
-
-shape-by : (m : MatchTree) (v : VerdictTree) (s : Selector) (b : Bool) → ends_chain v ≡ b → (if b then asked_selector m else None) ≡ Some s
-    → IsMatchAndVerdict (tree.matching m ∷ tree.verdict v ∷ []) s
-shape-by m v s true ends is = record { test = m; verdict = v; is = refl; ends = ends; asks = is }
-shape-by m v s false ends is = absurd (none-some s is)
-
-shape : (r : List Statement) (s : Selector) → merged_selector r ≡ Some s → IsMatchAndVerdict r s
-shape (tree.matching m ∷ tree.verdict v ∷ []) s is = shape-by m v s (ends_chain v) refl is
-shape r s is = absurd (none-some s is)
+asked : (b : Bool) (o : Option Selector) (s : Selector) → (if b then o else None) ≡ Some s → (b ≡ true) × (o ≡ Some s)
+asked true o s is = (refl, is)
+asked false o s is = absurd (none-some s is)
 
 tests-false : (o : Option ℕ) (p : ℕ → Bool) → ((n : ℕ) → o ≡ Some n → p n ≡ true → ⊥) → tests o p ≡ false
 tests-false None p h = refl
@@ -72,16 +59,13 @@ module _ (plant : PlantTree) (number : ℕ) (t : TableTree) where
   abbrev own : Program Statement
   own = table_program plant number t
 
-  -- no packet gets past a verdict that ends the chain
-  no-way-past : (c n k : ℕ) (v : VerdictTree) (ss : List Statement) (f g : Facts) → ends_chain v ≡ true → LeadsTo own c n k (tree.verdict v ∷ ss) f g → ⊥
-  no-way-past c n k tree.continue ss f g is to = false≢true is
-  no-way-past c n k (tree.jump name) ss f g is to = false≢true is
-  no-way-past c n k v ss f g is to = to
-
+  -- no packet gets past a verdict that ends the chain, behind counters and logs
   none-past : (c n k : ℕ) (ss : List Statement) (f g : Facts) → always_ends ss ≡ true → LeadsTo own c n k ss f g → ⊥
   none-past c n k (tree.counter start ∷ ss) f g is to = none-past c n (k + 1) ss f g is to
   none-past c n k (tree.log text ∷ ss) f g is to = none-past c n (k + 1) ss f g is to
-  none-past c n k (tree.verdict v ∷ ss) f g is to = no-way-past c n k v ss f g is to
+  none-past c n k (tree.verdict tree.continue ∷ ss) f g is to = false≢true is
+  none-past c n k (tree.verdict (tree.jump name) ∷ ss) f g is to = false≢true is
+  none-past c n k (tree.verdict v ∷ ss) f g is to = to
   none-past c n k ss f g is to = false≢true is
 
   abbrev scope : Scope
@@ -89,24 +73,25 @@ module _ (plant : PlantTree) (number : ℕ) (t : TableTree) where
 
   by-match : (c n : ℕ) (v : VerdictTree) (f g : Facts) (b : Bool) → ends_chain v ≡ true
       → goes_on (passes_if b) (LeadsTo own c n 2 (tree.verdict v ∷ [])) f g → (g ≡ f) × (b ≡ false)
-  by-match c n v f g true ends to = absurd (no-way-past c n 2 v [] f g ends to)
+  by-match c n v f g true ends to = absurd (none-past c n 2 (tree.verdict v ∷ []) f g ends to)
   by-match c n v f g false ends to = (to, refl)
+
+  -- a rule that may be merged, a match and a verdict: it fails where it doesn't list the packet's value, and no other packet gets past it
+  merged-by : (c n : ℕ) (r : List Statement) (s : Selector) (f : Facts) → merged_selector r ≡ Some s
+      → ((g : Facts) → LeadsTo own c n 1 r f g → (g ≡ f) × (tests (value s f) (lists plant r) ≡ false))
+      × (tests (value s f) (lists plant r) ≡ false → FailsAt own c n 1 r f)
+  merged-by c n (tree.matching m ∷ tree.verdict v ∷ []) s f is =
+      let ends = asked (ends_chain v) (asked_selector m) s is in
+      let same = holds-as scope m s f ends.1 in (
+        λ g to. let way = by-match c n v f g (holds scope m f) ends.0 to in (way.0, sym same ∙ way.1),
+        λ none. ap passes_if (same ∙ none),
+      )
+  merged-by c n r s f is = absurd (none-some s is)
 
   -- the rules of a chain, the rule at an index
   module _ (rules : List (List Statement)) where
     abbrev at : ℕ → List Statement
     at i = rule_at plant rules i
-
-    -- packets that get past a rule that may be merged have no value that it lists
-    missed-by : (c n : ℕ) (r : List Statement) (s : Selector) (f g : Facts) (x : ℕ) → merged_selector r ≡ Some s
-        → LeadsTo own c n 1 r f g → (g ≡ f) × (value s f ≡ Some x → lists plant r x ≡ true → ⊥)
-    missed-by c n r s f g x is to =
-        let q = shape r s is in
-        let way = by-match c n q.verdict f g (holds scope q.test f) q.ends (subst (λ ss. LeadsTo own c n 1 ss f g) q.is to) in (
-          way.0,
-          λ has listed. false≢true (sym way.1 ∙ holds-as scope q.test s f q.asks
-              ∙ ap (λ o. tests o (asks_for plant q.test)) has ∙ ap (λ ss. lists plant ss x) (sym q.is) ∙ listed),
-        )
 
     -- a packet with these facts gets to the rule with an index: no earlier rule ended the chain for all, and it has
     -- no value that an earlier rule of its run lists
@@ -129,9 +114,9 @@ module _ (plant : PlantTree) (number : ℕ) (t : TableTree) where
 
     reaches-more : (k c n : ℕ) (f g : Facts) → Reaches k f → LeadsTo own c n 1 (at k) f g → Reaches (k + 1) g
     reaches-more k c n f g so to = reaches-next k f g so (λ ends. none-past c n 1 (at k) f g ends to) (λ s x merged has.
-        let past = missed-by c n (at k) s f g x merged to in
+        let past = (merged-by c n (at k) s f merged).0 g to in
         let had = ap (value s) (sym past.0) ∙ has in
-        (had, past.1 had))
+        (had, λ listed. false≢true (sym past.1 ∙ ap (λ o. tests o (lists plant (at k))) had ∙ listed)))
 
     -- an earlier rule of the run takes each value that a dropped rule lists
     untaken : (k : ℕ) (f : Facts) (d : IsShadowed plant rules k) → Reaches k f → (x : ℕ) → value d.selector f ≡ Some x
@@ -150,64 +135,44 @@ module _ (plant : PlantTree) (number : ℕ) (t : TableTree) where
     never-by : (k c n : ℕ) (f : Facts) → IsDropped plant rules k → Reaches k f → FailsAt own c n 1 (at k) f
     never-by k c n f (inl u) so = absurd (so.on u.by u.earlier u.ends)
     never-by k c n f (inr d) so =
-        let q = shape (at k) d.selector d.reads in
-        subst (λ ss. FailsAt own c n 1 ss f) (sym q.is) (ap passes_if (holds-as scope q.test d.selector f q.asks
-        ∙ tests-false (value d.selector f) (asks_for plant q.test) (λ x has asks.
-        untaken k f d so x has (ap (λ ss. lists plant ss x) q.is ∙ asks))))
+        (merged-by c n (at k) d.selector f d.reads).1 (tests-false (value d.selector f) (lists plant (at k)) (λ x has. untaken k f d so x has))
 
     -- ---- rule by rule
 
-    left-by : (k n c : ℕ) (r : List Statement) (rs : List (List Statement)) (l : Option (List Statement))
-        (ls : List (List Statement)) (Reach : Facts → Type 0) → r ≡ at k → IsLeft plant rules k l
-        → ((f : Facts) → Reach f → Reaches k f) → ((Next : Facts → Type 0) → ((f : Facts) → Next f → Reaches (k + 1) f)
-        → LeavesOut own Next c (n + 1) rs ls) → LeavesOut own Reach c n (r ∷ rs) (left_statements l ∷ ls)
-    left-by k n c r rs None ls Reach rule is so later = inr (
-      refl,
-      λ f here. subst (λ ss. FailsAt own c n 1 ss f) (sym rule) (never-by k c n f is (so f here)),
-      later Reach (λ f here. dropped-more k f is (so f here)),
-    )
-    left-by k n c r rs (Some kept) ls Reach rule is so later = inl (
-      is.0 ∙ sym rule,
-      later (behind own Reach c n r) (λ g way. reaches-more k c n way.0 g (so way.0 way.1) (subst (λ ss. LeadsTo own c n 1 ss way.0 g) rule way.2)),
-    )
+    left-by : (k n c : ℕ) (r : List Statement) (rs : List (List Statement)) (l : Option (List Statement)) (ls : List (List Statement)) (f : Facts)
+        → r ≡ at k → IsLeft plant rules k l → Reaches k f → ((g : Facts) → Reaches (k + 1) g → LeavesOut own g c (n + 1) rs ls)
+        → LeavesOut own f c n (r ∷ rs) (left_statements l ∷ ls)
+    left-by k n c r rs None ls f rule is so later =
+        inr (refl, subst (λ ss. FailsAt own c n 1 ss f) (sym rule) (never-by k c n f is so), later f (dropped-more k f is so))
+    left-by k n c r rs (Some kept) ls f rule is so later =
+        inl (is.0 ∙ sym rule, λ g way. later g (reaches-more k c n f g so (subst (λ ss. LeadsTo own c n 1 ss f g) rule way)))
 
-    leaves : (k n c : ℕ) (rs : List (List Statement)) (ls : List (Option (List Statement))) (Reach : Facts → Type 0)
+    leaves : (k n c : ℕ) (rs : List (List Statement)) (ls : List (Option (List Statement))) (f : Facts)
         → length ls ≡ length rs → ((i : ℕ) → get_or rs i [] ≡ at (k + i))
-        → ((i : ℕ) → i < length rs → IsLeft plant rules (k + i) (get_or ls i None)) → ((f : Facts) → Reach f → Reaches k f)
-        → LeavesOut own Reach c n rs (map left_statements ls)
-    leaves k n c [] [] Reach same rules_are are so = tt
-    leaves k n c (r ∷ rs) (l ∷ ls) Reach same rules_are are so =
+        → ((i : ℕ) → i < length rs → IsLeft plant rules (k + i) (get_or ls i None)) → Reaches k f → LeavesOut own f c n rs (map left_statements ls)
+    leaves k n c [] [] f same rules_are are so = tt
+    leaves k n c (r ∷ rs) (l ∷ ls) f same rules_are are so =
         let first : k + 0 ≡ k = omega arith in
         let one : (i : ℕ) → k + suc i ≡ k + 1 + i = λ i. omega arith in
-        let later : (i : ℕ) → get_or rs i [] ≡ at (k + 1 + i) = λ i. rules_are (suc i) ∙ ap at (one i) in
-        let are_later : (i : ℕ) → i < length rs → IsLeft plant rules (k + 1 + i) (get_or ls i None) =
-        λ i lt. subst (λ m. IsLeft plant rules m (get_or ls i None)) (one i) (are (suc i) (omega arith)) in
-        left-by k n c r rs l (map left_statements ls) Reach (rules_are 0 ∙ ap at first)
-        (subst (λ m. IsLeft plant rules m l) first (are 0 (omega arith))) so
-        (λ Next. leaves (k + 1) (n + 1) c rs ls Next (omega arith) later are_later)
-    leaves k n c rs ls Reach same rules_are are so = absurd (omega arith)
+        left-by k n c r rs l (map left_statements ls) f (rules_are 0 ∙ ap at first) (subst (λ m. IsLeft plant rules m l) first (are 0 (omega arith))) so
+        (λ g. leaves (k + 1) (n + 1) c rs ls g (omega arith) (λ i. rules_are (suc i) ∙ ap at (one i))
+        (λ i lt. subst (λ m. IsLeft plant rules m (get_or ls i None)) (one i) (are (suc i) (omega arith))))
+    leaves k n c rs ls f same rules_are are so = absurd (omega arith)
 
-  zero-more : (n : ℕ) → n ≡ 0 + n
-  zero-more n = omega arith
-
-  leaves-of : (c i : ℕ) (chains : List ChainTree) (left : List (List (Option (List Statement)))) (rules : List (List Statement))
+  -- the rules of chain c that are dropped are left out of the program
+  pub leaves-of : (c i : ℕ) (chains : List ChainTree) (left : List (List (Option (List Statement)))) (rules : List (List Statement))
       → AllZip (λ chain ls. AreLeft plant (rules_in chain) ls) chains left → option_map rules_in (slice_get chains i) ≡ Some rules
       → LeavesOutOf own c rules (option_map (map left_statements) (slice_get left i))
   leaves-of c i [] [] rules all is = absurd (none-some rules is)
   leaves-of c zero (chain ∷ chains) (ls ∷ left) rules all is =
       let kept = map left_statements ls in
-      let out : LeavesOut own any_facts c 1 (rules_in chain) kept =
-      leaves (rules_in chain) 0 1 c (rules_in chain) ls any_facts all.0.same_length (λ i. ap (λ m. get_or (rules_in chain) m []) (zero-more i))
-      (λ i lt. subst (λ m. IsLeft plant (rules_in chain) m (get_or ls i None)) (zero-more i) (all.0.each i lt)) (λ f here. record {
+      let zero-more : (n : ℕ) → n ≡ 0 + n = λ n. omega arith in
+      let out : (f : Facts) → LeavesOut own f c 1 (rules_in chain) kept = λ f.
+      leaves (rules_in chain) 0 1 c (rules_in chain) ls f all.0.same_length (λ i. ap (λ m. get_or (rules_in chain) m []) (zero-more i))
+      (λ i lt. subst (λ m. IsLeft plant (rules_in chain) m (get_or ls i None)) (zero-more i) (all.0.each i lt)) (record {
         on = λ i lt. absurd (omega arith);
         missed = λ s x has i lt. absurd (omega arith);
       }) in
-      (kept, refl, subst (λ rs. LeavesOut own any_facts c 1 rs kept) (same_Some (rules_in chain) rules is) out)
+      (kept, refl, λ f. subst (λ rs. LeavesOut own f c 1 rs kept) (same_Some (rules_in chain) rules is) (out f))
   leaves-of c (suc i) (chain ∷ chains) (ls ∷ left) rules all is = leaves-of c i chains left rules all.1 is
   leaves-of c i chains left rules all is = absurd all
-
-  -- the rules that are dropped are left out of the program
-  pub left-leaves : (left : List (List (Option (List Statement)))) → AllZip (λ chain ls. AreLeft plant (rules_in chain) ls) (chains_of t) left
-      → (c : ℕ) (rules : List (List Statement)) → own.rules_at c ≡ Some rules
-      → LeavesOutOf own c rules ((left_program plant number t left).rules_at c)
-  left-leaves left all c rules is = leaves-of c c (chains_of t) left rules all is

@@ -4,15 +4,15 @@ pub use Rattle.code_layout.proofs.AddLaws.{declared_kept, extends_code_itself, e
 pub use Rattle.code_layout.specs.Adding.{AddsChain, ExtendsCode, rule_out_of_range}
 pub use Rattle.code_layout.specs.CodeLayout.{IsCode, IsTableCode, RulesAt, StatementsAt, chain_steps, dropped_rules, left_program, left_statements, rules_in}
 pub use Rattle.code_layout.specs.DroppedRules.{AreLeft, IsDropped, IsLeft, IsShadowed, always_ends, ends_chain, lists, merged_selector, rule_at}
-pub use Rattle.compiler.specs.Compiled.{StartHead, base_chain_head, cost_in, start_cost, start_head, total_cost}
+pub use Rattle.compiler.specs.Compiled.{StartHead, base_chain_head, cost_in, start_head, total_cost}
 pub use Rattle.compiler.specs.declared.compiled_chain.CompiledChain.{CompiledChain}
-pub use Rattle.compiler.specs.steps.Bases.{AddsBases, HasCost, Ordered, base, runs_on_hook}
-pub use Rattle.compiler.specs.steps.Dropping.{FailsAt, LeadsTo, LeavesOut, LeavesOutOf, any_facts, behind, goes_on}
+pub use Rattle.compiler.specs.steps.Bases.{Ordered, Prices, base, costed, priced, runs_on_hook}
+pub use Rattle.compiler.specs.steps.Dropping.{FailsAt, LeadsTo, LeavesOut, LeavesOutOf, goes_on}
 pub use Rattle.filter_vm.specs.Machine.{Continuation, Stop, apply_effect, base_chain_result, call, enter_chain, exec, invalid_code, return_from, run_table}
 pub use Rattle.filter_vm.specs.Machine.{starts_of, stop}
 pub use Rattle.filter_vm.specs.declared.code.Code.{Code}
 pub use Rattle.filter_vm.specs.declared.code.Start.{Start}
-pub use Rattle.list_laws.specs.Elements.{Contains-cases, Contains-tail}
+pub use Rattle.list_laws.specs.Elements.{Contains-cases, Contains-map, Contains-tail, Contains-unmap}
 pub use Rattle.list_laws.specs.Lists.{Contains-head}
 pub use Rattle.list_laws.specs.Options.{some_of_map, some_unique}
 pub use Rattle.nft_tree.specs.TableItems.{chain_in, chains_of}
@@ -31,9 +31,9 @@ pub use Rattle.rule_meaning.specs.Runs.{table_program, translates, with_verdict}
 pub use Rattle.rule_meaning.specs.Statements.{StatementEffect, fail, give, passes_if}
 pub use Rattle.rule_meaning.specs.declared.event.Event.{Event}
 pub use Rattle.rule_meaning.specs.declared.facts.Facts.{Facts}
-pub use Rattle.rule_paths.proofs.ReadLaws.{cost-at, costs-long}
+pub use Rattle.rule_paths.proofs.ReadLaws.{costs-long}
 pub use Rattle.rule_paths.specs.Findings.{AreChainCosts}
-pub use Rattle.rule_paths.specs.Paths.{AreAllCosts, Caller, MAX_COST, a_chain, base_cost, ruleset_cost, table_cost}
+pub use Rattle.rule_paths.specs.Paths.{AreAllCosts, AreCosts, Caller, MAX_COST, a_chain, base_cost, ruleset_cost, table_cost}
 pub use Rattle.rule_types.specs.Types.{item_mismatches, rule_mismatches, table_mismatches}
 pub use Rattle.rule_values.specs.Faults.{chain_out_of_range, has_wrong_value, if_some, item_out_of_range, priority_out_of_range}
 pub use Rattle.std.proofs.Common.{◌&&◌, ◌*◌, ◌+◌, ◌++◌, ◌-◌, ◌<◌, Bool, Bor, Equal, Global, Greater, Less, List, None, Option, Some, Vec, [], ◌^◌, add-one, ap}
@@ -41,12 +41,12 @@ pub use Rattle.std.proofs.Common.{append_assoc, ap₂, arith, cond, drop, false,
 pub use Rattle.std.proofs.Common.{subst, suc, sum, sym, take, take_all, true, zero, ℕ, ℤ, ◌↔◌, ◌∙◌, ◌∷◌, ◌≡◌, ◌≤◌, ◌⊎◌, ⊎_elim}
 pub use Rattle.std.proofs.lemmas.Bool.{cases_lt, false_from_ne_true, false≢true, or_parts}
 pub use Rattle.std.proofs.lemmas.List.{append-nil, drop_all, drop_more, get_or-map, length-map, map-append, take_more}
-pub use Rattle.std.proofs.lemmas.List.Elements.{All-append, All-filter, All-head, All-nil, All-tail, filter_agree}
+pub use Rattle.std.proofs.lemmas.List.Elements.{All-filter, All-head, All-tail, Contains-get_or, filter_agree}
 pub use Rattle.std.proofs.lemmas.List.Sorted.{All-permutation, list_any-IsPermutation, sum_by-IsPermutation}
-pub use Rattle.std.proofs.lemmas.List.Sums.{sum-map, sum_by-append, sum_by-cons, sum_by_push}
+pub use Rattle.std.proofs.lemmas.List.Sums.{get_or-le-sum_by, sum-map, sum_by-append, sum_by-cons, sum_by_push}
 pub use Rattle.std.proofs.lemmas.Option.{MatchOption-at_none, MatchOption-at_some, get_or_from_slice_get, none-some, same_Some, slice_get-map, slice_get_read}
 pub use Rattle.std.proofs.lemmas.Option.{slice_get_within}
-pub use Rattle.std.specs.List.{AllByRecursion, AllZip, filter_map, list_any, zip}
+pub use Rattle.std.specs.List.{AllZip, filter_map, list_any, zip}
 pub use Rattle.std.specs.List.Sorted.{IsPermutation, IsSortedBy, IsStableBy, ties}
 pub use Rattle.std.specs.Option.{option_map}
 pub use Rattle.std.specs.Prelude.{All, Contains, filter, int_lt, min, nat_lt, slice_get, slice_index, sum_by}

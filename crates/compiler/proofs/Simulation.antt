@@ -2,12 +2,12 @@
 -- statements as the rules weigh.
 use Rattle.compiler.proofs.Names.{Contains, Contains-head, Contains-tail, Continuation, Event, Facts, FailsAt, IsCode, IsRanking, IsStatementOf, LeadsTo}
 use Rattle.compiler.proofs.Names.{LeavesOut, LeavesOutOf, List, None, Option, Program, Remainder, RulesAt, RunResult, Runs, Some, StatementEffect}
-use Rattle.compiler.proofs.Names.{StatementsAt, Stop, TableCode, [], accepts, action_effect, any_facts, ap, apply_effect, arith, at_rule, behind, chain_ends}
+use Rattle.compiler.proofs.Names.{StatementsAt, Stop, TableCode, [], accepts, ap, apply_effect, arith, at_rule, chain_ends}
 use Rattle.compiler.proofs.Names.{continues, drops, enter_chain, exec, fail, fails, give, goes, goes_on, in_rule, inl, inr, jumps, jumps_away, length}
 use Rattle.compiler.proofs.Names.{next_rule, notes, passes, refl, returns, rule_ends, rule_no, slice_get, statement_at, statement_position, subst, suc, sum_by}
 use Rattle.compiler.proofs.Names.{sum_by-cons, sym, translates, with_verdict, ℕ, ◌+◌, ◌∙◌, ◌∷◌, ◌≡◌, ◌≤◌}
 use Rattle.rule_meaning.specs.declared.event.RuleVerdict.TheVariants.{Jump, Goto}
-use Rattle.compiler.proofs.DoesLaws.{Does, does-as, does-now, does-over, does-then, does-end, exec-step, calls, finish}
+use Rattle.compiler.proofs.DoesLaws.{Does, does-as, does-now, does-over, does-then, does-end, exec-step, finish}
 
 module _ {S : Type 0} (p : Program S) (left_at : ℕ → Option (List (List S))) (t : TableCode) (weight : S → ℕ) (cost depth : ℕ → ℕ) where
   -- the program that is left
@@ -22,30 +22,23 @@ module _ {S : Type 0} (p : Program S) (left_at : ℕ → Option (List (List S)))
   abbrev pub rules_weigh : List (List S) → ℕ
   rules_weigh = sum_by (sum_by weight)
 
-  -- of these rules of a chain, which packets with such facts reach, the code of what is left begins at the offset
-  pub record Behind (Reach : Facts → Type 0) (c n : ℕ) (rs : List (List S)) (at_step : ℕ) (stack : List ℕ) : Type 0 where
+  -- a packet gets to these rules of a chain, and the code of what is left of them begins at the offset
+  pub record AtRules (c n : ℕ) (rs : List (List S)) (f : Facts) (at_step : ℕ) (stack : List ℕ) : Type 0 where
     pub left : List (List S)
-    pub out : LeavesOut p Reach c n rs left
+    pub out : LeavesOut p f c n rs left
     pub code : RulesAt left_program t at_step c n left
     pub inside : (r : List S) → Contains rs r → AllIn c r
     pub room : length stack + depth c ≤ 16
 
-  -- a packet gets to these rules
-  pub record AtRules (c n : ℕ) (rs : List (List S)) (f : Facts) (at_step : ℕ) (stack : List ℕ) : Type 1 where
-    pub Reach : Facts → Type 0
-    pub here : Reach f
-    pub rest : Behind Reach c n rs at_step stack
-
   -- it gets to these statements of a rule, which is left
-  pub record AtStatements (c n k : ℕ) (ss : List S) (rs : List (List S)) (f : Facts) (at_step : ℕ) (stack : List ℕ) : Type 1 where
-    pub Reach : Facts → Type 0
-    pub to : (g : Facts) → LeadsTo p c n k ss f g → Reach g
+  pub record AtStatements (c n k : ℕ) (ss : List S) (rs : List (List S)) (f : Facts) (at_step : ℕ) (stack : List ℕ) : Type 0 where
+    pub to : (g : Facts) → LeadsTo p c n k ss f g → AtRules c (n + 1) rs g (at_step + length ss) stack
     pub statements : StatementsAt left_program t at_step c n k ss
     pub own : AllIn c ss
-    pub rest : Behind Reach c (n + 1) rs (at_step + length ss) stack
+    pub room : length stack + depth c ≤ 16
 
   -- the code of the rest of a chain has the result of the rest, also where the rule is left out
-  abbrev pub Follows : ℕ → ℕ → Remainder S → Facts → List Event → RunResult → Type 1
+  abbrev pub Follows : ℕ → ℕ → Remainder S → Facts → List Event → RunResult → Type 0
   Follows c n (at_rule rs) f es o = (at_step : ℕ) (stack : List ℕ) → AtRules c n rs f at_step stack
       → Does t (rules_weigh rs) (λ go. go at_step stack f es) stack o
   Follows c n (in_rule k ss rs) f es o = ((at_step : ℕ) (stack : List ℕ) → AtStatements c n k ss rs f at_step stack
@@ -65,76 +58,74 @@ module _ {S : Type 0} (p : Program S) (left_at : ℕ → Option (List (List S)))
   first {c} {n} {s = s} {w = w} {stack = stack} {f = f} {es = es} {o = o} ss rs less at_step fits h effect_of d =
       let i = h.statements.0.0 in
       let is = h.statements.0.2 in
-      let its = is.effect f ∙ effect_of in
       record {
         used = suc d.used;
         few = omega (arith, d.few, sum_by-cons weight s ss);
-        same = λ extra before.
-            let ticks : d.used + (before + 1) ≡ suc d.used + before = omega arith in
-            let fuel : suc d.used + extra ≡ suc (d.used + extra) = omega arith in
-            let step = exec-step t (d.used + extra) at_step stack f es before i h.statements.0.1 in
-            let then = d.same extra (before + 1) in
-            cc (is.rule, its, is.skip);
+        same = λ extra before. grind (
+          arith,
+          exec-step t (d.used + extra) at_step stack f es before i h.statements.0.1,
+          d.same extra (before + 1),
+          is.rule,
+          is.skip,
+          is.effect f,
+          effect_of,
+        );
       }
 
-  -- where the effect of a statement leads: to the next statement, or to the next rule
-  next-statement : {c n k : ℕ} {s : S} {w : StatementEffect} {f : Facts} {at_step : ℕ} {stack : List ℕ} (ss : List S) (rs : List (List S)) (g : Facts)
-      → p.effect_of (statement_position p c n k) s f ≡ w → ((x : Facts) → LeadsTo p c n (k + 1) ss g x → goes_on w (LeadsTo p c n (k + 1) ss) f x)
-      → AtStatements c n k (s ∷ ss) rs f at_step stack → AtStatements c n (k + 1) ss rs g (at_step + 1) stack
-  next-statement {c} {n} {k} {s} {f = f} {at_step} {stack} ss rs g is on h =
-      let place : at_step + length (s ∷ ss) ≡ at_step + 1 + length ss = omega arith in
-      record {
-        Reach = h.Reach;
-        to = λ x way. h.to x (subst (λ w. goes_on w (LeadsTo p c n (k + 1) ss) f x) (sym is) (on x way));
-        statements = h.statements.1;
-        own = λ x i. h.own x (Contains-tail s ss x i);
-        rest = subst (λ a. Behind h.Reach c (n + 1) rs a stack) place h.rest;
-      }
-
+  -- where the effect of a statement leads: behind it to the next rule, or to the next statement
   next-rule : {c n k : ℕ} {s : S} {w : StatementEffect} {f : Facts} {at_step : ℕ} {stack : List ℕ} (ss : List S) (rs : List (List S)) (g : Facts)
       → p.effect_of (statement_position p c n k) s f ≡ w → goes_on w (LeadsTo p c n (k + 1) ss) f g
       → AtStatements c n k (s ∷ ss) rs f at_step stack → AtRules c (n + 1) rs g (at_step + 1 + length ss) stack
   next-rule {c} {n} {k} {s} {f = f} {at_step} {stack} ss rs g is on h =
       let place : at_step + length (s ∷ ss) ≡ at_step + 1 + length ss = omega arith in
-      let here = h.to g (subst (λ w. goes_on w (LeadsTo p c n (k + 1) ss) f g) (sym is) on) in
-      record { Reach = h.Reach; here = here; rest = subst (λ a. Behind h.Reach c (n + 1) rs a stack) place h.rest }
+      subst (λ a. AtRules c (n + 1) rs g a stack) place (h.to g (subst (λ w. goes_on w (LeadsTo p c n (k + 1) ss) f g) (sym is) on))
 
-  -- nothing is left out of a rule with a statement that doesn't fail
-  only-in : {c n k : ℕ} {s : S} {ss : List S} (rs : List (List S)) {f : Facts} {es : List Event} {o : RunResult} {w : StatementEffect}
-      → p.effect_of (statement_position p c n k) s f ≡ w → (w ≡ fail → ⊥)
-      → ((at_step : ℕ) (stack : List ℕ) → AtStatements c n k (s ∷ ss) rs f at_step stack
-      → Does t (sum_by weight (s ∷ ss) + rules_weigh rs) (λ go. go at_step stack f es) stack o) → Follows c n (in_rule k (s ∷ ss) rs) f es o
-  only-in rs is other does = (does, λ failing at_step stack h. absurd (other (sym is ∙ failing)))
+  next-statement : {c n k : ℕ} {s : S} {w : StatementEffect} {f : Facts} {at_step : ℕ} {stack : List ℕ} (ss : List S) (rs : List (List S)) (g : Facts)
+      → p.effect_of (statement_position p c n k) s f ≡ w → ((x : Facts) → LeadsTo p c n (k + 1) ss g x → goes_on w (LeadsTo p c n (k + 1) ss) f x)
+      → AtStatements c n k (s ∷ ss) rs f at_step stack → AtStatements c n (k + 1) ss rs g (at_step + 1) stack
+  next-statement {s = s} ss rs g is on h = record {
+    to = λ x way. next-rule ss rs x is (on x way) h;
+    statements = h.statements.1;
+    own = λ x i. h.own x (Contains-tail s ss x i);
+    room = h.room;
+  }
+
+  -- a statement that doesn't fail, so that its rule isn't left out
+  by-first : {c n k : ℕ} {s : S} {w : StatementEffect} {f : Facts} {es : List Event} {o : RunResult} (ss : List S) (rs : List (List S)) (less : ℕ)
+      → p.effect_of (statement_position p c n k) s f ≡ w → (w ≡ fail → ⊥) → ((at_step : ℕ) (stack : List ℕ)
+      → AtStatements c n k (s ∷ ss) rs f at_step stack → (suc less ≤ weight s + sum_by weight ss + rules_weigh rs)
+      × Does t less (Doing c n w at_step (length ss) stack f es) stack o) → Follows c n (in_rule k (s ∷ ss) rs) f es o
+  by-first ss rs less is other does = (
+    λ at_step stack h. let d = does at_step stack h in first ss rs less at_step d.0 h is d.1,
+    λ failing at_step stack h. absurd (other (sym is ∙ failing)),
+  )
 
   -- the end of a chain, of which nothing is left
-  no-rules : (c n at_step : ℕ) (Reach : Facts → Type 0) (left : List (List S)) → LeavesOut p Reach c n [] left
+  no-rules : (c n at_step : ℕ) (f : Facts) (left : List (List S)) → LeavesOut p f c n [] left
       → RulesAt left_program t at_step c n left → statement_at (slice_get t.steps.items at_step) ≡ None
-  no-rules c n at_step Reach [] out code = code
-  no-rules c n at_step Reach (r ∷ left) out code = absurd out
+  no-rules c n at_step f [] out code = code
+  no-rules c n at_step f (r ∷ left) out code = absurd out
 
   -- a rule that is left or left out
   by-rule : {c n at_step : ℕ} {stack : List ℕ} (r : List S) (rs : List (List S)) (f : Facts) {es : List Event} {o : RunResult}
-      → Follows c n (in_rule 1 r rs) f es o → (Reach : Facts → Type 0) (left : List (List S)) → Reach f → LeavesOut p Reach c n (r ∷ rs) left
-      → RulesAt left_program t at_step c n left → ((x : List S) → Contains (r ∷ rs) x → AllIn c x) → length stack + depth c ≤ 16
+      → Follows c n (in_rule 1 r rs) f es o → (left : List (List S)) → LeavesOut p f c n (r ∷ rs) left → RulesAt left_program t at_step c n left
+      → ((x : List S) → Contains (r ∷ rs) x → AllIn c x) → length stack + depth c ≤ 16
       → Does t (sum_by weight r + rules_weigh rs) (λ go. go at_step stack f es) stack o
-  by-rule r rs f follows Reach [] here out code inside room = absurd out
-  by-rule {c} {n} {at_step} {stack} r rs f follows Reach (l ∷ left) here (inl out) code inside room =
-      let later : (x : List S) → Contains rs x → AllIn c x = λ x i. inside x (Contains-tail r rs x i) in
+  by-rule r rs f follows [] out code inside room = absurd out
+  by-rule {c} {n} {at_step} {stack} r rs f follows (l ∷ left) (inl out) code inside room =
       let its = subst (λ ss. RulesAt left_program t (at_step + length ss) c (n + 1) left) out.0 code.1 in
       follows.0 at_step stack (record {
-        Reach = behind p Reach c n r;
-        to = λ g way. (f, here, way);
+        to = λ g way. record { left = left; out = out.1 g way; code = its; inside = λ x i. inside x (Contains-tail r rs x i); room = room };
         statements = subst (StatementsAt left_program t at_step c n 1) out.0 code.0;
         own = inside r (Contains-head r rs);
-        rest = record { left = left; out = out.1; code = its; inside = later; room = room };
+        room = room;
       })
-  by-rule {c} {n} {at_step} {stack} r rs f follows Reach (l ∷ left) here (inr out) code inside room =
-      let later : (x : List S) → Contains rs x → AllIn c x = λ x i. inside x (Contains-tail r rs x i) in
+  by-rule {c} {n} {at_step} {stack} r rs f follows (l ∷ left) (inr out) code inside room =
       let none : length l ≡ 0 = ap length out.0 in
       let place : at_step + length l ≡ at_step = omega arith in
       let its = subst (λ a. RulesAt left_program t a c (n + 1) left) place code.1 in
-      follows.1 (out.1 f here) at_step stack
-      (record { Reach = Reach; here = here; rest = record { left = left; out = out.2; code = its; inside = later; room = room } })
+      follows.1 out.1 at_step stack
+      (record { left = left; out = out.2; code = its; inside = λ x i. inside x (Contains-tail r rs x i); room = room })
 
   module _ (code : IsCode left_program t) (costs_rank_chains : IsRanking p weight cost depth)
       (leaves : (c : ℕ) (rules : List (List S)) → p.rules_at c ≡ Some rules → LeavesOutOf p c rules (left_at c)) where
@@ -143,8 +134,8 @@ module _ {S : Type 0} (p : Program S) (left_at : ℕ → Option (List (List S)))
         → p.effect_of (statement_position p c n k) s f ≡ w → (w ≡ fail → ⊥)
         → ((at_step : ℕ) (stack : List ℕ) (m ticks : ℕ) → Doing c n w at_step (length ss) stack f es (exec t m) ticks ≡ finish (exec t m) stack o ticks)
         → Follows c n (in_rule k (s ∷ ss) rs) f es o
-    last {s = s} ss rs is other same = only-in rs is other (λ at_step stack h.
-        first ss rs 0 at_step (omega (arith, costs_rank_chains.some s)) h is (does-now t 0 (same at_step stack)))
+    last {s = s} ss rs is other same =
+        by-first ss rs 0 is other (λ at_step stack h. (omega (arith, costs_rank_chains.some s), does-now t 0 (same at_step stack)))
 
     -- a chain that is entered, up to its end
     pub entered : {stack : List ℕ} {o : RunResult} (d : ℕ) (chain : List (List S)) (f : Facts) (es : List Event)
@@ -155,15 +146,11 @@ module _ {S : Type 0} (p : Program S) (left_at : ℕ → Option (List (List S)))
         let there = code.chains d rest.0 rest.1 in
         does-as t (rules_weigh chain) (rules_weigh chain) (omega arith) (λ go ticks. ap (λ o. enter_chain go o stack f es ticks) there.1)
         (follows there.0 stack (record {
-          Reach = any_facts;
-          here = tt;
-          rest = record {
-            left = rest.0;
-            out = rest.2;
-            code = there.2;
-            inside = λ r in_chain s in_rule. record { rules = chain; has = has; rule = r; in_chain = in_chain; in_rule = in_rule };
-            room = room;
-          };
+          left = rest.0;
+          out = rest.2 f;
+          code = there.2;
+          inside = λ r in_chain s in_rule. record { rules = chain; has = has; rule = r; in_chain = in_chain; in_rule = in_rule };
+          room = room;
         }))
 
     -- a jump, up to the end of its chain, which weighs less than the statement
@@ -174,12 +161,10 @@ module _ {S : Type 0} (p : Program S) (left_at : ℕ → Option (List (List S)))
         (Doing c n (give (Jump d)) at_step left stack f es) ((at_step + 1 + left) ∷ stack) o
     jumped {c} {n} {k} {d} {s} {stack} {f} es chain at_step left inside effect_of has room follows =
         let falls = costs_rank_chains.jumps c d s (statement_position p c n k) f inside effect_of in
-        let less = falls.0 in
         let deep = falls.1 in (
-          omega (arith, costs_rank_chains.sums d chain has),
+          omega (arith, falls.0, costs_rank_chains.sums d chain has),
           does-as t (rules_weigh chain) (rules_weigh chain) (omega arith)
-              (λ go ticks. calls go (slice_get t.chain_offsets.items d) (at_step + 1 + left) stack f
-              (with_verdict p es c n (Jump d)) ticks (omega arith)) (entered d chain f (with_verdict p es c n (Jump d)) has (omega arith) follows),
+              (λ go ticks. grind (arith, deep, room)) (entered d chain f (with_verdict p es c n (Jump d)) has (omega arith) follows),
         )
 
     -- what the rules behind a rule do, where its own statements weigh as well
@@ -191,52 +176,45 @@ module _ {S : Type 0} (p : Program S) (left_at : ℕ → Option (List (List S)))
 
     pub simulates : {c n : ℕ} {left : Remainder S} {f : Facts} {es : List Event} {o : RunResult} → Runs p c n left f es o → Follows c n left f es o
     simulates {c} {n} (chain_ends {f = f} {es = es}) = λ at_step stack h.
-        does-end t at_step stack f es (no-rules c n at_step h.Reach h.rest.left h.rest.out h.rest.code)
+        does-end t at_step stack f es (no-rules c n at_step f h.left h.out h.code)
     simulates (next_rule {r = r} {rs = rs} {f = f} run) = λ at_step stack h.
         does-as t (sum_by weight r + rules_weigh rs) (rules_weigh (r ∷ rs)) (omega (arith, sum_by-cons (sum_by weight) r rs)) (λ go ticks. refl)
-        (by-rule r rs f (simulates run) h.Reach h.rest.left h.here h.rest.out h.rest.code h.rest.inside h.rest.room)
+        (by-rule r rs f (simulates run) h.left h.out h.code h.inside h.room)
     simulates {c} {n} (rule_ends {rs = rs} {f = f} run) = (
       λ at_step stack h.
           let place : at_step + 0 ≡ at_step = omega arith in
-          skipped c (n + 1) [] rs (simulates run) at_step stack (record {
-            Reach = h.Reach;
-            here = h.to f refl;
-            rest = subst (λ a. Behind h.Reach c (n + 1) rs a stack) place h.rest;
-          }),
+          skipped c (n + 1) [] rs (simulates run) at_step stack (subst (λ a. AtRules c (n + 1) rs f a stack) place (h.to f refl)),
       λ failing. skipped c (n + 1) [] rs (simulates run),
     )
-    simulates (passes {s = s} {ss = ss} {rs = rs} {f = f} is run) = only-in rs is (λ e. cc) (λ at_step stack h.
-        first ss rs (sum_by weight ss + rules_weigh rs) at_step (omega (arith, costs_rank_chains.some s)) h is
-        ((simulates run).0 (at_step + 1) stack (next-statement ss rs f is (λ x way. way) h)))
-    simulates (notes {s = s} {ss = ss} {rs = rs} e g is run) = only-in rs is (λ e. cc) (λ at_step stack h.
-        first ss rs (sum_by weight ss + rules_weigh rs) at_step (omega (arith, costs_rank_chains.some s)) h is
-        ((simulates run).0 (at_step + 1) stack (next-statement ss rs g is (λ x way. way) h)))
+    simulates (passes {s = s} {ss = ss} {rs = rs} {f = f} is run) = by-first ss rs (sum_by weight ss + rules_weigh rs) is (λ e. cc) (λ at_step stack h.
+        (omega (arith, costs_rank_chains.some s), (simulates run).0 (at_step + 1) stack (next-statement ss rs f is (λ x way. way) h)))
+    simulates (notes {s = s} {ss = ss} {rs = rs} e g is run) = by-first ss rs (sum_by weight ss + rules_weigh rs) is (λ e. cc) (λ at_step stack h.
+        (omega (arith, costs_rank_chains.some s), (simulates run).0 (at_step + 1) stack (next-statement ss rs g is (λ x way. way) h)))
     simulates {c} {n} (fails {s = s} {ss = ss} {rs = rs} {f = f} is run) = (
       λ at_step stack h. first ss rs (rules_weigh rs) at_step (omega (arith, costs_rank_chains.some s)) h is
           (simulates run (at_step + 1 + length ss) stack (next-rule ss rs f is refl h)),
       λ failing. skipped c (n + 1) (s ∷ ss) rs (simulates run),
     )
-    simulates (continues {s = s} {ss = ss} {rs = rs} {f = f} is run) = only-in rs is (λ e. cc) (λ at_step stack h.
-        first ss rs (rules_weigh rs) at_step (omega (arith, costs_rank_chains.some s)) h is
-        (simulates run (at_step + 1 + length ss) stack (next-rule ss rs f is refl h)))
+    simulates (continues {s = s} {ss = ss} {rs = rs} {f = f} is run) = by-first ss rs (rules_weigh rs) is (λ e. cc) (λ at_step stack h.
+        (omega (arith, costs_rank_chains.some s), simulates run (at_step + 1 + length ss) stack (next-rule ss rs f is refl h)))
     simulates (accepts {ss = ss} {rs = rs} is) = last ss rs is (λ e. cc) (λ at_step stack m ticks. refl)
     simulates (drops {ss = ss} {rs = rs} is) = last ss rs is (λ e. cc) (λ at_step stack m ticks. refl)
     simulates (translates to {ss = ss} {rs = rs} is) = last ss rs is (λ e. cc) (λ at_step stack m ticks. refl)
     simulates (returns {ss = ss} {rs = rs} is) = last ss rs is (λ e. cc) (λ at_step stack m ticks. refl)
-    simulates (jumps d {s = s} {ss = ss} {rs = rs} g {es = es} later chain is has inner run) = only-in rs is (λ e. cc) (λ at_step stack h.
-        let call = jumped es chain at_step (length ss) (h.own s (Contains-head s ss)) is has h.rest.room (simulates inner) in
-        let less = call.0 in
-        first ss rs (rules_weigh chain + rules_weigh rs) at_step (omega arith) h is
-        (does-then t (rules_weigh chain) (rules_weigh rs) (at_step + 1 + length ss) call.1
-        (simulates run (at_step + 1 + length ss) stack (next-rule ss rs g is tt h))))
-    simulates (jumps_away d {s = s} {ss = ss} {rs = rs} {es = es} chain {o = o} is has inner away) = only-in rs is (λ e. cc) (λ at_step stack h.
-        let call = jumped es chain at_step (length ss) (h.own s (Contains-head s ss)) is has h.rest.room (simulates inner) in
-        let less = call.0 in
-        first ss rs (rules_weigh chain) at_step (omega arith) h is (does-over t (rules_weigh chain) o away call.1))
-    simulates {c} {n} (goes {k = k} d {s = s} {ss = ss} {rs = rs} {f = f} {es = es} chain is has inner) = only-in rs is (λ e. cc) (λ at_step stack h.
-        let falls = costs_rank_chains.gotos c d s (statement_position p c n k) f (h.own s (Contains-head s ss)) is in
-        let less = falls.0 in
-        let deep = falls.1 in
-        let room = h.rest.room in
-        first ss rs (rules_weigh chain) at_step (omega (arith, costs_rank_chains.sums d chain has)) h is
-        (entered d chain f (with_verdict p es c n (Goto d)) has (omega arith) (simulates inner)))
+    simulates (jumps d {s = s} {ss = ss} {rs = rs} g {es = es} later chain is has inner run) =
+        by-first ss rs (rules_weigh chain + rules_weigh rs) is (λ e. cc) (λ at_step stack h.
+        let call = jumped es chain at_step (length ss) (h.own s (Contains-head s ss)) is has h.room (simulates inner) in (
+          omega (arith, call.0),
+          does-then t (rules_weigh chain) (rules_weigh rs) (at_step + 1 + length ss) call.1
+              (simulates run (at_step + 1 + length ss) stack (next-rule ss rs g is tt h)),
+        ))
+    simulates (jumps_away d {s = s} {ss = ss} {rs = rs} {es = es} chain {o = o} is has inner away) =
+        by-first ss rs (rules_weigh chain) is (λ e. cc) (λ at_step stack h.
+        let call = jumped es chain at_step (length ss) (h.own s (Contains-head s ss)) is has h.room (simulates inner) in
+        (omega (arith, call.0), does-over t (rules_weigh chain) o away call.1))
+    simulates {c} {n} (goes {k = k} d {s = s} {ss = ss} {rs = rs} {f = f} {es = es} chain is has inner) =
+        by-first ss rs (rules_weigh chain) is (λ e. cc) (λ at_step stack h.
+        let falls = costs_rank_chains.gotos c d s (statement_position p c n k) f (h.own s (Contains-head s ss)) is in (
+          omega (arith, falls.0, costs_rank_chains.sums d chain has),
+          entered d chain f (with_verdict p es c n (Goto d)) has (omega (arith, falls.1, h.room)) (simulates inner),
+        ))

@@ -1,16 +1,45 @@
 -- Base chains in the order of the text, and what they cost.
 use Rattle.chain_graph.specs.Measures.{saturated}
-use Rattle.compiler.proofs.Names.{AddsBases, All, All-append, All-head, All-tail, AreAllCosts, AreChainCosts, AreRulesetCosts, Bool, Caller, ChainTree, Code}
-use Rattle.compiler.proofs.Names.{CompiledChain, Contains, Contains-cases, HasCost, HeadTree, Hook, List, MAX_COST, None, Option, Ordered, Some, Start}
-use Rattle.compiler.proofs.Names.{TableTree, Text, [], a_chain, add-one, ap, append_assoc, ap₂, arith, base, base_chain_head, base_chain_of, base_chains_from}
-use Rattle.compiler.proofs.Names.{base_chains_of_tables, base_cost, base_part, base_sum, chain_cost_by, chains_of, cond, cost-at, cost_in, costs-long, drop}
-use Rattle.compiler.proofs.Names.{drop_more, filter, get_or, get_or_from_slice_get, length, map, map-append, refl, ruleset_cost, ruleset_sum, runs_on_hook}
-use Rattle.compiler.proofs.Names.{same_hook, slice_get, slice_get_within, slice_index, start_cost, start_head, starts_of, subst, suc, sum, sum-map, sum_by}
-use Rattle.compiler.proofs.Names.{sum_by-IsPermutation, sum_by-append, sum_by-cons, sym, table_cost, total_cost, zip, ℕ, ⊎_elim, ◌++◌, ◌+◌, ◌<◌, ◌∙◌, ◌∷◌, ◌≡◌}
-use Rattle.compiler.proofs.Names.{◌≤◌}
+use Rattle.compiler.proofs.Names.{All, All-head, All-tail, AreAllCosts, AreChainCosts, AreCosts, AreRulesetCosts, BaseChain, Caller}
+use Rattle.compiler.proofs.Names.{ChainTree, Code, CompiledChain, Contains, Contains-cases, Contains-get_or, Contains-map, Contains-unmap}
+use Rattle.compiler.proofs.Names.{HeadTree, Hook, List, MAX_COST, None, Option, Ordered, Prices, Some, Start, TableTree, Text, [], a_chain}
+use Rattle.compiler.proofs.Names.{add-one, ap, append-nil, append_assoc, ap₂, arith, base, base_chain_head, base_chain_of, base_chains_from}
+use Rattle.compiler.proofs.Names.{base_chains_of_tables, base_cost, base_part, base_sum, chain_cost_by, chains_of, cond, cost_in, costed}
+use Rattle.compiler.proofs.Names.{costs-long, drop, drop_all, drop_more, filter, get_or, get_or_from_slice_get, length, map, map-append}
+use Rattle.compiler.proofs.Names.{priced, refl, ruleset_cost, ruleset_sum, runs_on_hook, same_hook, slice_get, slice_get_within, slice_index}
+use Rattle.compiler.proofs.Names.{start_head, starts_of, subst, suc, sum, sum-map, sum_by, sum_by-IsPermutation, sum_by-append}
+use Rattle.compiler.proofs.Names.{sum_by-cons, sym, table_cost, total_cost, zero, zip, ℕ, ⊎_elim, ◌++◌, ◌+◌, ◌<◌, ◌∙◌, ◌∷◌, ◌≡◌, ◌≤◌}
 use Rattle.rule_meaning.specs.declared.event.ChainNo.{ChainNo}
 use Rattle.rule_laws.specs.Ranking as ranking
 use Rattle.nft_tree.specs.declared.chain.Hook.TheVariants as hooks
+
+-- ---- the loops: which base chains with which costs are appended
+
+rest_from : {A : Type 0} (xs : List A) (i : ℕ) (x : A) → slice_get xs i ≡ Some x → drop i xs ≡ x ∷ drop (i + 1) xs
+rest_from xs i x is = drop_more xs i x (slice_get_within xs i x is) ∙ ap (λ y. y ∷ drop (i + 1) xs) (get_or_from_slice_get xs i x x is)
+
+-- the base chains of a list of chains or of tables, where the first has this index
+module _ {X : Type 0} (price : ChainNo → ℕ) (bases_from : ℕ → List X → List BaseChain) (i : ℕ) (xs : List X) (now : List CompiledChain)
+    (whole : List (BaseChain × ℕ)) (so : map costed now ++ map (priced price) (bases_from i (drop i xs)) ≡ whole) where
+  -- those of the next are appended
+  pub bases_more : (x : X) (part : List BaseChain) (new : List CompiledChain) → slice_get xs i ≡ Some x
+      → bases_from i (x ∷ drop (i + 1) xs) ≡ part ++ bases_from (suc i) (drop (i + 1) xs) → map costed new ≡ map costed now ++ map (priced price) part
+      → map costed new ++ map (priced price) (bases_from (i + 1) (drop (i + 1) xs)) ≡ whole
+  bases_more x part new at split more =
+      let rest = bases_from (suc i) (drop (i + 1) xs) in
+      cc (
+        more,
+        so,
+        add-one i,
+        rest_from xs i x at,
+        split,
+        map-append (priced price) part rest,
+        append_assoc (map costed now) (map (priced price) part) (map (priced price) rest),
+      )
+
+  -- none are left
+  pub bases_all : bases_from i [] ≡ [] → length xs ≤ i → map costed now ≡ whole
+  bases_all none past = cc (so, none, drop_all i xs past, append-nil (map costed now))
 
 -- ---- numbers that stop at 2^64 - 1 are the costs themselves where all together are few
 
@@ -52,146 +81,120 @@ ruleset_is cost (t ∷ ts) (row ∷ rows) long each all few =
     all x (suc i.0, omega arith, i.2)) (omega (arith, both)) in
     both ∙ ap₂ ◌+◌ here rest ∙ sym (sum_by-cons (λ u. table_cost (cost u) u) t ts)
 
--- ---- what base chains cost
+-- ---- prices
+
+in_row : (cost : Caller → ℕ) (cs : List ChainTree) (j : ℕ) → j < length (row_of cost cs)
+    → slice_index (row_of cost cs) j ≡ saturated (ranking.cost_of cost (slice_get cs j))
+in_row cost [] j lt = absurd (omega arith)
+in_row cost (c ∷ cs) zero lt = refl
+in_row cost (c ∷ cs) (suc j) lt = in_row cost cs j (omega arith)
+
+-- a number below the limit is the chain's cost itself
+pub cost-in : (t : TableTree) (row : List ℕ) → AreChainCosts t row → (cost : Caller → ℕ) → AreCosts t cost → (j : ℕ) → j < length row
+    → slice_index row j < MAX_COST → chain_cost_by t cost j ≡ slice_index row j
+cost-in t row is cost solves j lt small =
+    let same = is.are cost solves in
+    omega (arith, ap (λ xs. slice_index xs j) same, in_row cost (chains_of t) j (subst (λ xs. j < length xs) same lt))
+
+-- the costs of all chains are prices
+abbrev pub row_price : List (List ℕ) → ChainNo → ℕ
+row_price costs n = 1 + slice_index (get_or costs n.table []) n.chain
+
+pub rows-price : (tables : List TableTree) (costs : List (List ℕ)) → AreRulesetCosts tables costs → Prices tables (row_price costs)
+rows-price tables costs are i t row at is j lt small =
+    let cost = is.has_costs in
+    ap (λ xs. 1 + slice_index xs j) ((are.are i t at).are cost.0 cost.1 ∙ sym (is.are cost.0 cost.1))
+
+-- so is what a start costs
+pub starts-price : (tables : List TableTree) (cost : TableTree → Caller → ℕ) → AreAllCosts tables cost
+    → Prices tables (λ n. cost_in cost (slice_get tables n.table) n.chain)
+starts-price tables cost all i t row at is j lt small =
+    ap (λ o. cost_in cost o j) at ∙ ap (λ n. 1 + n) (cost-in t row is (cost t)
+    (all t (i, slice_get_within tables i t at, get_or_from_slice_get tables i t t at)) j lt small)
+
+module _ (price : ChainNo → ℕ) where
+  pub bases-are : (xs : List CompiledChain) (bs : List BaseChain) → map costed xs ≡ map (priced price) bs → map base xs ≡ bs
+  bases-are [] [] is = refl
+  bases-are (x ∷ xs) (b ∷ bs) is =
+      let first : costed x ≡ priced price b = cc in
+      let rest : map costed xs ≡ map (priced price) bs = cc in
+      ap₂ ◌∷◌ (ap (λ p. p.0) first) (bases-are xs bs rest)
+  bases-are xs bs is = absurd cc
+
+  abbrev pub IsPriced : CompiledChain → Type 0
+  IsPriced x = x.cost ≡ price x.number
+
+  pub all_priced : (xs : List CompiledChain) (bs : List BaseChain) → map costed xs ≡ map (priced price) bs → All IsPriced xs
+  all_priced xs bs is k d lt =
+      let x = get_or xs k d in
+      let found = Contains-unmap (priced price) bs (costed x)
+      (subst (λ ps. Contains ps (costed x)) is (Contains-map costed xs x (Contains-get_or xs k d lt))) in
+      sym (ap (λ p. p.1) found.2) ∙ ap (λ p. price p.0.number) found.2
+
+  pub costs-shown : (xs : List CompiledChain) → All IsPriced xs → map (λ x. x.cost) xs ≡ map (λ b. price b.number) (map base xs)
+  costs-shown [] all = refl
+  costs-shown (x ∷ xs) all = ap₂ ◌∷◌ (All-head IsPriced x xs all) (costs-shown xs (All-tail IsPriced x xs all))
+
+  -- a start that has the head of a base chain has its price
+  pub start-price : (bs : List BaseChain) (starts : List Start) (start : Start) → map start_head starts ≡ map base_chain_head bs
+      → map (λ s. s.cost) starts ≡ map (λ b. price b.number) bs → Contains starts start → start.cost ≡ price start.chain
+  start-price bs [] start heads costs here = let l = here.1 in absurd (omega arith)
+  start-price [] (s ∷ starts) start heads costs here = cc
+  start-price (b ∷ bs) (s ∷ starts) start heads costs here =
+      let same : start_head s ≡ base_chain_head b = cc in
+      let paid : s.cost ≡ price b.number = cc in
+      let rest : map start_head starts ≡ map base_chain_head bs = cc in
+      let rest_paid : map (λ s. s.cost) starts ≡ map (λ b. price b.number) bs = cc in
+      ⊎_elim (λ is. subst (λ x. x.cost ≡ price x.chain) is (paid ∙ ap (λ h. price h.chain) (sym same)))
+      (start-price bs starts start rest rest_paid) (Contains-cases s starts start here)
+
+  -- ---- what all base chains cost together
+
+  abbrev weight : BaseChain → ℕ
+  weight b = price b.number
+
+  one_sum : (table place cost : ℕ) (head : Option HeadTree) → price (record { table = table; chain = place }) ≡ 1 + cost
+      → sum_by weight (base_chain_of table place head) ≡ base_part head cost
+  one_sum table place cost None is = refl
+  one_sum table place cost (Some head) is = grind (arith, is)
+
+  sum_from : (table place : ℕ) (cs : List ChainTree) (row : List ℕ) → length row ≡ length cs
+      → ((j : ℕ) → price (record { table = table; chain = place + j }) ≡ 1 + slice_index row j)
+      → sum_by weight (base_chains_from table place cs) ≡ sum_by part (zip cs row)
+  sum_from table place [] row long is = refl
+  sum_from table place (c ∷ cs) [] long is = absurd (omega arith)
+  sum_from table place (c ∷ cs) (x ∷ row) long is =
+      omega (
+        arith,
+        sum_by-append weight (base_chain_of table place c.head) (base_chains_from table (suc place) cs),
+        one_sum table place x c.head (grind (arith, is 0)),
+        sum_from table (suc place) cs row (omega arith) (λ j. grind (arith, is (suc j))),
+        sum_by-cons part (c, x) (zip cs row),
+      )
+
+  pub sum_is : (table : ℕ) (ts : List TableTree) (rows : List (List ℕ)) → length rows ≡ length ts
+      → ((i : ℕ) (t : TableTree) → slice_get ts i ≡ Some t → AreChainCosts t (get_or rows i []))
+      → ((i j : ℕ) → price (record { table = table + i; chain = j }) ≡ 1 + slice_index (get_or rows i []) j)
+      → sum_by weight (base_chains_of_tables table ts) ≡ ruleset_sum ts rows
+  sum_is table [] rows long each is = refl
+  sum_is table (t ∷ ts) [] long each is = absurd (omega arith)
+  sum_is table (t ∷ ts) (row ∷ rows) long each is =
+      omega (
+        arith,
+        sum_by-append weight (base_chains_from table 0 (chains_of t)) (base_chains_of_tables (suc table) ts),
+        sum_from table 0 (chains_of t) row (costs-long t row (each 0 t refl)) (λ j. grind (arith, is 0 j)),
+        sum_is (suc table) ts rows (omega arith) (λ i x. each (suc i) x) (λ i j. grind (arith, is (suc i) j)),
+        sum_by-cons table_part (t, row) (zip ts rows),
+      )
 
 abbrev pub cost_of : CompiledChain → ℕ
 cost_of b = b.cost
-
-abbrev pub IsCosted : List TableTree → CompiledChain → Type 0
-IsCosted tables b = HasCost tables b.number b.cost
-
--- the base chain has this number, and costs 1 more than this cost, which is below the limit
-abbrev pub Costs : ChainNo → ℕ → ChainNo → ℕ → Type 0
-Costs number cost n c = (n ≡ number) × (c ≡ cost + 1) × (cost < MAX_COST)
-
--- what a chain adds
-added_cost : (table place cost : ℕ) (head : Option HeadTree) (number : ChainNo) (more : List CompiledChain)
-    → map base more ≡ base_chain_of table place head → All (λ (b : CompiledChain). Costs number cost b.number b.cost) more
-    → sum_by cost_of more ≡ base_part head cost
-added_cost table place cost None number [] are all = refl
-added_cost table place cost (Some head) number (b ∷ []) are all = grind (arith, All-head, sum_by-cons)
-added_cost table place cost head number more are all = cc
-
-rest_from : {A : Type 0} (xs : List A) (i : ℕ) (x : A) → slice_get xs i ≡ Some x → drop i xs ≡ x ∷ drop (i + 1) xs
-rest_from xs i x is = drop_more xs i x (slice_get_within xs i x is) ∙ ap (λ y. y ∷ drop (i + 1) xs) (get_or_from_slice_get xs i x x is)
-
--- ---- the base chains of a table
-
-module _ (table : ℕ) (t : TableTree) (costs : List ℕ) (old : List CompiledChain) where
-  -- loop invariant: the base chains among the first chains of the table are appended, each with its cost
-  pub record BasesSoFar (place : ℕ) (now : List CompiledChain) : Type 0 where
-    pub are : map base now ++ base_chains_from table place (drop place (chains_of t))
-        ≡ map base old ++ base_chains_from table 0 (chains_of t)
-    pub costed : (tables : List TableTree) → slice_get tables table ≡ Some t → All (IsCosted tables) old → All (IsCosted tables) now
-    pub sum : sum_by cost_of now + sum_by part (zip (drop place (chains_of t)) (drop place costs))
-        ≡ sum_by cost_of old + base_sum t costs
-
-  pub bases_more : (place : ℕ) (chain : ChainTree) (now new : List CompiledChain) → AreChainCosts t costs → slice_get (chains_of t) place ≡ Some chain
-      → AddsBases (base_chain_of table place chain.head) (Costs (record { table = table; chain = place }) (slice_index costs place)) now new
-      → BasesSoFar place now → BasesSoFar (place + 1) new
-  bases_more place chain now new are_costs is one so = record {
-    are = cc (
-      one.is,
-      one.are,
-      map-append base now one.more,
-      add-one place,
-      split,
-      so.are,
-      append_assoc (map base now) (base_chain_of table place chain.head) (base_chains_from table (place + 1) rest),
-    );
-    costed = λ tables at before. subst (All (IsCosted tables)) (sym one.is) (All-append (IsCosted tables) now one.more (so.costed tables at before)
-        (λ k d lt. has_cost tables at (get_or one.more k d) (one.costs k d lt)));
-    sum = omega (
-      arith,
-      so.sum,
-      ap (λ xs. sum_by cost_of xs) one.is,
-      sum_by-append cost_of now one.more,
-      added_cost table place cost chain.head number one.more one.are one.costs,
-      ap₂ (λ cs xs. sum_by part (zip cs xs)) split (drop_more costs place 0 row_within),
-      sum_by-cons part (chain, cost) (zip rest (drop (place + 1) costs)),
-    );
-  }
-    where
-      rest : List ChainTree
-      rest = drop (place + 1) (chains_of t)
-
-      cost : ℕ
-      cost = slice_index costs place
-
-      number : ChainNo
-      number = record { table = table; chain = place }
-
-      within : place < length (chains_of t)
-      within = slice_get_within (chains_of t) place chain is
-
-      row_within : place < length costs
-      row_within = omega (arith, within, costs-long t costs are_costs)
-
-      split : drop place (chains_of t) ≡ chain ∷ rest
-      split = rest_from (chains_of t) place chain is
-
-      has_cost : (tables : List TableTree) → slice_get tables table ≡ Some t → (b : CompiledChain)
-          → Costs number cost b.number b.cost → HasCost tables b.number b.cost
-      has_cost tables at b h = record {
-        table = t;
-        stands = ap (λ n. slice_get tables n.table) h.0 ∙ at;
-        is = λ by is_cost.
-            let shown = cost-at t costs are_costs by is_cost place chain within
-            (sym (get_or_from_slice_get (chains_of t) place chain chain is)) in
-            let its : chain_cost_by t by b.number.chain ≡ by (a_chain chain.name) =
-            ap (λ n. chain_cost_by t by n.chain) h.0 ∙ ap (ranking.cost_of by) is in
-            omega (arith, shown, its, h.1, h.2);
-      }
-
--- ---- the tables of a ruleset
-
-module _ (all : List TableTree) where
-  -- loop invariant: the base chains of the first tables are there, each with its cost
-  pub record TableBasesSoFar (place : ℕ) (now : List CompiledChain) : Type 0 where
-    pub are : map base now ++ base_chains_of_tables place (drop place all) ≡ base_chains_of_tables 0 all
-    pub costed : All (IsCosted all) now
-    pub sum : (costs : List (List ℕ)) → AreRulesetCosts all costs
-        → sum_by cost_of now + sum_by table_part (zip (drop place all) (drop place costs)) ≡ ruleset_sum all costs
-
-  pub table_bases_more : (place : ℕ) (t : TableTree) (row : List ℕ) (now new : List CompiledChain) → slice_get all place ≡ Some t
-      → ((costs : List (List ℕ)) → AreRulesetCosts all costs → row ≡ get_or costs place [])
-      → map base new ≡ map base now ++ base_chains_from place 0 (chains_of t) → (All (IsCosted all) now → All (IsCosted all) new)
-      → sum_by cost_of new ≡ sum_by cost_of now + base_sum t row → TableBasesSoFar place now → TableBasesSoFar (place + 1) new
-  table_bases_more place t row now new is rows more costed sum so = record {
-    are = cc (
-      more,
-      add-one place,
-      split,
-      so.are,
-      append_assoc (map base now) (base_chains_from place 0 (chains_of t)) (base_chains_of_tables (place + 1) rest),
-    );
-    costed = costed so.costed;
-    sum = λ costs are.
-        let within = slice_get_within all place t is in
-        let row_within : place < length costs = omega (arith, are.long) in
-        let its = drop_more costs place [] row_within ∙ ap (λ r. r ∷ drop (place + 1) costs) (sym (rows costs are)) in
-        omega (
-          arith,
-          so.sum costs are,
-          ap₂ (λ ts xs. sum_by table_part (zip ts xs)) split its,
-          sum_by-cons table_part (t, row) (zip rest (drop (place + 1) costs)),
-        );
-  }
-    where
-      rest : List TableTree
-      rest = drop (place + 1) all
-
-      split : drop place all ≡ t ∷ rest
-      split = rest_from all place t is
 
 -- ---- the starts of all hooks together cost what all base chains cost
 
 -- what the base chains of a hook cost
 abbrev on_hook : Hook → List CompiledChain → ℕ
 on_hook hook bases = sum_by cost_of (filter (runs_on_hook hook) bases)
-
-one_hook : (b : Bool) (x : CompiledChain) (xs : List CompiledChain) → sum_by cost_of (cond b (x ∷ xs) xs) ≡ cond b x.cost 0 + sum_by cost_of xs
-one_hook b x xs = grind (arith, sum_by-cons cost_of x xs)
 
 -- together over all hooks
 abbrev over_hooks : (Hook → ℕ) → ℕ
@@ -208,7 +211,7 @@ all_hooks : (bases : List CompiledChain) → over_hooks (λ h. on_hook h bases) 
 all_hooks [] = refl
 all_hooks (x ∷ xs) =
     let at : (h : Hook) → on_hook h (x ∷ xs) ≡ cond (same_hook x.head.now.hook h) x.cost 0 + on_hook h xs =
-    λ h. one_hook (same_hook x.head.now.hook h) x (filter (runs_on_hook h) xs) in
+    λ h. grind (arith, sum_by-cons cost_of x (filter (runs_on_hook h) xs)) in
     let only = only_one x.head.now.hook x.cost in
     let rest = all_hooks xs in
     let both = sum_by-cons cost_of x xs in
@@ -223,33 +226,10 @@ starts_total bases code ordered =
     let all = all_hooks bases in
     omega (arith, at hooks.Prerouting, at hooks.Input, at hooks.Forward, at hooks.Output, at hooks.Postrouting)
 
--- ---- starts that have the heads and costs of base chains: each is that of one of them
-
-module _ (tables : List TableTree) where
-  -- the start is that of the base chain, with its cost
-  pub record StartOf (start : Start) : Type 0 where
-    pub chain : CompiledChain
-    pub same_head : start_head start ≡ base_chain_head (base chain)
-    pub costs : start.cost ≡ chain.cost
-    pub has : IsCosted tables chain
-
-  pub start-of : (order : List CompiledChain) (starts : List Start) (start : Start) → map start_head starts ≡ map base_chain_head (map base order)
-      → map (λ s. s.cost) starts ≡ map (λ b. b.cost) order → All (IsCosted tables) order → Contains starts start → StartOf start
-  start-of order [] start heads costs all here = let l = here.1 in absurd (omega arith)
-  start-of [] (s ∷ starts) start heads costs all here = cc
-  start-of (b ∷ order) (s ∷ starts) start heads costs all here = ⊎_elim (λ is. record {
-    chain = b;
-    same_head = ap start_head (sym is) ∙ (let e : start_head s ≡ base_chain_head (base b) = cc in e);
-    costs = ap (λ (x : Start). x.cost) (sym is) ∙ (let e : s.cost ≡ b.cost = cc in e);
-    has = All-head (IsCosted tables) b order all;
-  }) (λ later. start-of order starts start (cc) (cc) (All-tail (IsCosted tables) b order all) later) (Contains-cases s starts start here)
-
-  pub costs-shown : (cost : TableTree → Caller → ℕ) → AreAllCosts tables cost → (bases : List CompiledChain)
-      → All (IsCosted tables) bases → map (λ b. b.cost) bases ≡ map (start_cost tables cost) (map base bases)
-  costs-shown cost all [] costed = refl
-  costs-shown cost all (b ∷ bases) costed =
-      let h = All-head (IsCosted tables) b bases costed in
-      let within = slice_get_within tables b.number.table h.table h.stands in
-      let here = get_or_from_slice_get tables b.number.table h.table h.table h.stands in
-      ap₂ ◌∷◌ (h.is (cost h.table) (all h.table (b.number.table, within, here)) ∙ sym (ap (λ t. cost_in cost t b.number.chain) h.stands))
-      (costs-shown cost all bases (All-tail (IsCosted tables) b bases costed))
+-- each hook is within the total
+pub hook_within : (code : Code) (hook : Hook) → sum_by (λ s. s.cost) (starts_of code hook) ≤ total_cost code
+hook_within code hooks.Prerouting = omega arith
+hook_within code hooks.Input = omega arith
+hook_within code hooks.Forward = omega arith
+hook_within code hooks.Output = omega arith
+hook_within code hooks.Postrouting = omega arith

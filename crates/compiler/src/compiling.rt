@@ -7,7 +7,7 @@ ghost use Rattle.rule_check.specs.WellFormed.{WellFormed};
 ghost use Rattle.filter_vm.specs.Machine.{starts_of};
 ghost use Rattle.compiler.specs.Compiled.{HasStarts, AgreesWithRules, total_cost};
 ghost use Rattle.code_layout.specs.CodeLayout.{AreTableCodes};
-ghost use Rattle.compiler.specs.steps.RulesetCode.{IsRulesetCode};
+ghost use Rattle.compiler.specs.steps.Bases.{IsRulesetCode};
 
 use crate::starts::{base_chains, starts_on_hook};
 use crate::tables::table_codes;

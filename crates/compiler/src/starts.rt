@@ -1,15 +1,14 @@
 //! The starts of a ruleset: its base chains, hook by hook, in the order in which they run.
-ghost use Rattle.std.specs.Prelude.{◌≡◌, ◌+◌, ◌++◌, ◌<◌, ℕ, false, List, filter, length, map, slice_get, slice_index, sum_by, Some, All, IfOk, OnOk};
+ghost use Rattle.std.specs.Prelude.{◌≡◌, ◌+◌, ◌++◌, ◌<◌, ℕ, false, filter, length, map, slice_get, slice_index, Some, IfOk, OnOk};
 ghost use Rattle.std.specs.List.{list_any};
-ghost use Rattle.nft_tree.specs.Tree.{ChainTree, HeadTree, TableTree, chain_tree};
+ghost use Rattle.nft_tree.specs.Tree.{ChainTree, HeadTree, chain_tree};
 ghost use Rattle.nft_tree.specs.TableItems.{chains_of};
 ghost use Rattle.rule_paths.specs.Paths.{MAX_COST};
-ghost use Rattle.rule_paths.specs.Findings.{AreChainCosts};
 ghost use Rattle.rule_values.specs.Faults.{chain_out_of_range, has_wrong_value, item_out_of_range};
-ghost use Rattle.rule_check.specs.Checked.{AreRulesetCosts, base_sum, ruleset_sum};
+ghost use Rattle.rule_meaning.specs.declared.event.ChainNo.{ChainNo};
 ghost use Rattle.rule_meaning.specs.Hooks.{base_chain_of, base_chains_from, base_chains_of, same_hook};
 ghost use Rattle.compiler.specs.Compiled.{start_head, base_chain_head};
-ghost use Rattle.compiler.specs.steps.Bases.{AddsBases, HasCost, Ordered, base, runs_on_hook};
+ghost use Rattle.compiler.specs.steps.Bases.{costed, priced, Ordered, Prices, PricesTable, base, runs_on_hook};
 
 use crate::compiled_chain::CompiledChain;
 use code_layout::to_u32;
@@ -29,10 +28,9 @@ fn add_base<'t>(
 ) -> Result<(), AllocError>
     requires bounds { chain_out_of_range (chain_tree chain.now) ≡ false }
     requires small { (head : HeadTree) → (chain_tree chain.now).head ≡ Some head → cost < MAX_COST }
-    ensures { OnOk result (AddsBases
-        (base_chain_of number.table number.chain (chain_tree chain.now).head)
-        (λ n c. (n ≡ number) × (c ≡ cost + 1) × (cost < MAX_COST))
-        bases.old.items bases.new.items) }
+    ensures { OnOk result ((price : ChainNo → ℕ) → (cost < MAX_COST → price number ≡ 1 + cost)
+        → map costed bases.new.items ≡ map costed bases.old.items ++ map (priced price)
+        (base_chain_of number.table number.chain (chain_tree chain.now).head)) }
 {
     if let Some(head) = &chain.head {
         bases.push(CompiledChain {
@@ -53,18 +51,12 @@ fn add_bases<'t>(
 ) -> Result<(), AllocError>
     requires bounds { list_any item_out_of_range names.now.items ≡ false }
     requires long { length costs.now ≡ length (chains_of names.now) }
-    requires costs { AreChainCosts names.now costs.now }
     requires small { (j : ℕ) (c : ChainTree) (head : HeadTree)
         → slice_get (chains_of names.now) j ≡ Some c
         → c.head ≡ Some head → slice_index costs.now j < MAX_COST }
-    ensures bases { OnOk result (map base bases.new.items
-        ≡ map base bases.old.items ++ base_chains_from table 0 (chains_of names.now)) }
-    ensures costs { OnOk result ((tables : List TableTree)
-        → slice_get tables table ≡ Some names.now
-        → All (λ b. HasCost tables b.number b.cost) bases.old.items
-        → All (λ b. HasCost tables b.number b.cost) bases.new.items) }
-    ensures sum { OnOk result (sum_by (λ b. b.cost) bases.new.items
-        ≡ sum_by (λ b. b.cost) bases.old.items + base_sum names.now costs.now) }
+    ensures { OnOk result ((price : ChainNo → ℕ) → PricesTable price table costs.now
+        → map costed bases.new.items ≡ map costed bases.old.items
+        ++ map (priced price) (base_chains_from table 0 (chains_of names.now))) }
 {
     for (place, chain) in names.chains().iter().enumerate() {
         let number = ChainNo {
@@ -84,12 +76,8 @@ pub(crate) fn base_chains<'t>(
 ) -> Result<Vec<CompiledChain<'t>>, AllocError>
     requires names { names.now ≡ checked.now.rules }
     requires bounds { list_any (has_wrong_value checked.now.plant) names.now ≡ false }
-    ensures bases { IfOk result (λ bases. map base bases.items ≡ base_chains_of checked.now.rules) }
-    ensures costs { IfOk result (λ bases.
-        All (λ b. HasCost checked.now.rules b.number b.cost) bases.items) }
-    ensures sum { IfOk result (λ bases. (costs : List (List ℕ))
-        → AreRulesetCosts checked.now.rules costs
-        → sum_by (λ b. b.cost) bases.items ≡ ruleset_sum checked.now.rules costs) }
+    ensures { IfOk result (λ bases. (price : ChainNo → ℕ) → Prices checked.now.rules price
+        → map costed bases.items ≡ map (priced price) (base_chains_of checked.now.rules)) }
 {
     let mut bases = Vec::new(alloc);
     for (table, names) in names.iter().enumerate() {

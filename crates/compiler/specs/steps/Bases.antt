@@ -1,13 +1,17 @@
--- Base chains with their costs, and the order in which they run.
-use Rattle.std.specs.Prelude.{◌≡◌, ℕ, ◌+◌, Bool, List, ◌++◌, map, filter, slice_get, Some, All}
+-- Base chains with their costs, the order in which they run, and the code of a ruleset.
+use Rattle.std.specs.Prelude.{◌≡◌, ℕ, ◌+◌, ◌<◌, Bool, List, length, map, filter, slice_get, slice_index, Some}
 use Rattle.std.specs.List.Sorted.{IsPermutation, IsSortedBy, IsStableBy}
 use Rattle.nft_tree.specs.declared.chain.Hook.{Hook}
 use Rattle.nft_tree.specs.Tree.{TableTree, head_tree}
-use Rattle.rule_paths.specs.Paths.{Caller, AreCosts}
-use Rattle.rule_laws.specs.Ranking.{chain_cost_by}
+use Rattle.rule_paths.specs.Paths.{MAX_COST}
+use Rattle.rule_paths.specs.Findings.{AreChainCosts}
 use Rattle.rule_meaning.specs.declared.event.ChainNo.{ChainNo}
-use Rattle.rule_meaning.specs.Hooks.{BaseChain, runs_before, is_on_hook}
+use Rattle.rule_check.specs.Checked.{CheckedTree}
+use Rattle.rule_meaning.specs.Hooks.{BaseChain, base_chains_of, runs_before, is_on_hook}
+use Rattle.filter_vm.specs.declared.code.Code.{Code}
 use Rattle.filter_vm.specs.declared.code.Start.{Start}
+use Rattle.filter_vm.specs.Machine.{starts_of}
+use Rattle.code_layout.specs.CodeLayout.{AreTableCodes}
 use Rattle.compiler.specs.declared.compiled_chain.CompiledChain.{CompiledChain}
 use Rattle.compiler.specs.Compiled.{start_head, base_chain_head}
 
@@ -17,18 +21,21 @@ base b = record { number = b.number; head = head_tree b.head.now }
 abbrev pub runs_on_hook : Hook → CompiledChain → Bool
 runs_on_hook hook b = is_on_hook hook (base b)
 
--- these base chains are appended, each with a cost that is right for its number
-pub record AddsBases (wanted : List BaseChain) (Costs : ChainNo → ℕ → Type 0) (old new : List CompiledChain) : Type 0 where
-  pub more : List CompiledChain
-  pub is : new ≡ old ++ more
-  pub are : map base more ≡ wanted
-  pub costs : All (λ b. Costs b.number b.cost) more
+-- it with its cost
+abbrev pub costed : CompiledChain → BaseChain × ℕ
+costed b = (base b, b.cost)
 
--- 1 more than the chain of this number costs, by any solution of its table's cost equations
-pub record HasCost (tables : List TableTree) (n : ChainNo) (cost : ℕ) : Type 0 where
-  pub table : TableTree
-  pub stands : slice_get tables n.table ≡ Some table
-  pub is : (by : Caller → ℕ) → AreCosts table by → cost ≡ 1 + chain_cost_by table by n.chain
+abbrev pub priced : (ChainNo → ℕ) → BaseChain → BaseChain × ℕ
+priced price b = (b, price b.number)
+
+-- of a table with these costs each chain has a price: 1 more than its cost, if that is below the limit
+abbrev pub PricesTable : (ChainNo → ℕ) → ℕ → List ℕ → Type 0
+PricesTable price table costs = (j : ℕ) → j < length costs → slice_index costs j < MAX_COST
+    → price (record { table = table; chain = j }) ≡ 1 + slice_index costs j
+
+-- of all tables
+abbrev pub Prices : List TableTree → (ChainNo → ℕ) → Type 0
+Prices tables price = (i : ℕ) (t : TableTree) (costs : List ℕ) → slice_get tables i ≡ Some t → AreChainCosts t costs → PricesTable price i costs
 
 -- the starts are the base chains of the hook, in order of priority and then of the text
 pub record Ordered (hook : Hook) (bases : List CompiledChain) (starts : List Start) : Type 0 where
@@ -38,3 +45,10 @@ pub record Ordered (hook : Hook) (bases : List CompiledChain) (starts : List Sta
   pub stable : IsStableBy (λ a b. runs_before (base a) (base b)) (filter (runs_on_hook hook) bases) order
   pub starts_are : map start_head starts ≡ map base_chain_head (map base order)
   pub costs_are : map (λ s. s.cost) starts ≡ map (λ b. b.cost) order
+
+-- the code of each table, and the starts of each hook
+pub record IsRulesetCode (checked : CheckedTree) (code : Code) : Type 0 where
+  pub tables : AreTableCodes checked.plant checked.rules code.tables.items
+  pub bases : List CompiledChain
+  pub are : (price : ChainNo → ℕ) → Prices checked.rules price → map costed bases ≡ map (priced price) (base_chains_of checked.rules)
+  pub ordered : (hook : Hook) → Ordered hook bases (starts_of code hook)

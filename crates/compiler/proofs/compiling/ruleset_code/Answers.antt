@@ -1,6 +1,6 @@
-use Rattle.std.proofs.Common.{arith}
-use Rattle.compiler.proofs.Names.{Global, List, MatchOption-at_none, MatchOption-at_some, TableTree, Vec, ap, false_from_ne_true, has_wrong_value, list_any}
-use Rattle.compiler.proofs.Names.{subst, table_mismatches, tables_of, ◌∙◌, ◌≡◌}
+use Rattle.std.proofs.Common.{arith, rules}
+use Rattle.compiler.proofs.Names.{Global, List, MatchOption-at_none, TableTree, Vec, false_from_ne_true, has_wrong_value, list_any}
+use Rattle.compiler.proofs.Names.{subst, table_mismatches, tables_of, ◌≡◌}
 use Rattle.rule_names.specs.Names.{DuplicateName}
 use Rattle.rule_check.specs.declared.fault.CheckFault.TheVariants as faults
 use Rattle.compiler.proofs.compiling.ruleset_code.Goals as goal
@@ -17,17 +17,18 @@ rules-named : (c : In-Some) → c.in-Some.names.items ≡ c.args.checked.now.rul
 rules-named c = grind arith
 
 pub table_codes-requires-clause-types : goal.table_codes-requires-clause-types
-table_codes-requires-clause-types c = ap (list_any table_mismatches)
-    (c.deref.ensures.value ∙ rules-named (goal.at.table_codes-requires-clause-types c).In-Some)
-    ∙ false_from_ne_true (list_any table_mismatches c.args.checked.now.rules) (c.requires faults.TypeMismatch)
+table_codes-requires-clause-types c = rw (c.deref.ensures.value, rules-named (goal.at.table_codes-requires-clause-types c).In-Some)
+    (false_from_ne_true (list_any table_mismatches c.args.checked.now.rules) (c.requires faults.TypeMismatch))
 
 pub table_codes-requires-clause-bounds : goal.table_codes-requires-clause-bounds
-table_codes-requires-clause-bounds c = ap (list_any (has_wrong_value c.plant.result.now))
-    (c.deref.ensures.value ∙ rules-named (goal.at.table_codes-requires-clause-bounds c).In-Some)
-    ∙ ap (λ plant. list_any (has_wrong_value plant) c.args.checked.now.rules) c.plant.ensures
-    ∙ false_from_ne_true (list_any (has_wrong_value c.args.checked.now.plant) c.args.checked.now.rules) (c.requires faults.WrongValue)
+table_codes-requires-clause-bounds c =
+    rw (c.deref.ensures.value, rules-named (goal.at.table_codes-requires-clause-bounds c).In-Some, c.plant.ensures)
+    (false_from_ne_true (list_any (has_wrong_value c.args.checked.now.plant) c.args.checked.now.rules) (c.requires faults.WrongValue))
 
 pub base_chains-requires-clause-bounds : goal.base_chains-requires-clause-bounds
-base_chains-requires-clause-bounds c = ap (list_any (has_wrong_value c.args.checked.now.plant))
-    (c.deref-2.ensures.value ∙ rules-named (goal.at.base_chains-requires-clause-bounds c).In-Some)
-    ∙ false_from_ne_true (list_any (has_wrong_value c.args.checked.now.plant) c.args.checked.now.rules) (c.requires faults.WrongValue)
+base_chains-requires-clause-bounds c =
+    rw (c.deref-2.ensures.value, rules-named (goal.at.base_chains-requires-clause-bounds c).In-Some)
+    (false_from_ne_true (list_any (has_wrong_value c.args.checked.now.plant) c.args.checked.now.rules) (c.requires faults.WrongValue))
+
+pub returns : goal.returns
+returns c = record { tables = search rules; bases = c.in_ok-bases.bases.items; are = c.in_ok-bases.ensures; ordered = search rules }

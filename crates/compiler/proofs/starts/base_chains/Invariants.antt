@@ -1,5 +1,10 @@
-use Rattle.compiler.proofs.StartLaws.{TableBasesSoFar}
+use Rattle.compiler.proofs.Names.{base_chains_of, base_chains_of_tables, costed, drop, map, priced, ℕ, ◌++◌, ◌≡◌}
+use Rattle.rule_meaning.specs.declared.event.ChainNo.{ChainNo}
+use Rattle.compiler.specs.steps.Bases.{Prices}
 use Rattle.compiler.proofs.starts.base_chains.Given as goal
 
+-- with the base chains of the tables that are left all are there
 abbrev pub invariant-loop-table : goal.invariant-loop-table
-invariant-loop-table l = TableBasesSoFar l.checked.rules l.table l.bases.items
+invariant-loop-table l = (price : ChainNo → ℕ) → Prices l.checked.rules price
+    → map costed l.bases.items ++ map (priced price) (base_chains_of_tables l.table (drop l.table l.checked.rules))
+    ≡ map (priced price) (base_chains_of l.checked.rules)

@@ -1,5 +1,5 @@
 use Rattle.compiler.proofs.Names.{◌++◌, Bor, Chain, Some, [], ap, arith, chain_tree, chains_of, declared_kept, if_some, item_mismatches, item_out_of_range}
-use Rattle.compiler.proofs.Names.{length, length-map, list_any, none-some, or_parts, priority_out_of_range, refl, rule_mismatches, rule_out_of_range, slice_get}
+use Rattle.compiler.proofs.Names.{length, length-map, list_any, or_parts, priority_out_of_range, rule_mismatches, rule_out_of_range, slice_get}
 use Rattle.compiler.proofs.Names.{◌∙◌, ◌∷◌, ◌≡◌, ◌≤◌}
 use Rattle.compiler.proofs.TableLaws.{chain_at, chain_free, chains_more, chains_all}
 use Rattle.compiler.proofs.tables.table_code.Goals as goal
