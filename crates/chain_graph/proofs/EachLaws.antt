@@ -1,5 +1,5 @@
 -- What holds of each element of a list and those before it, as one is added or taken.
-use Rattle.chain_graph.proofs.Names.{List, [], arith, cases_lt, inl, inr, length, length_push, refl, ℕ, ◌++◌, ◌<◌, ◌∷◌, ◌≡◌}
+use Rattle.chain_graph.proofs.Names.{List, [], arith, cases_lt, length_push, ℕ, ◌++◌, ◌∷◌}
 use Rattle.std.proofs.lemmas.List.{get_or_append_left, get_or_push, take-append-le, take_at}
 use Rattle.chain_graph.specs.steps.Search.{EachAfter}
 
