@@ -1,6 +1,5 @@
 mod Names
 mod OnePath
-mod Confirmations
 mod Processing
 mod Extending
 mod FoundInterfaces

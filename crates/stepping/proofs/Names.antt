@@ -1,12 +1,11 @@
 -- Names of other crates and of the definitions, for the proofs.
 pub use Rattle.box_file.specs.declared.limits.Limits.{Limits}
-pub use Rattle.conntrack.specs.ConntrackEntry.{IsNoneLater, SameExceptIds, belonging_without_id, belongs_in, first_state, has_distinct_ids, is_live, is_taken}
-pub use Rattle.conntrack.specs.ConntrackEntry.{live_at, max_connections, without_id}
-pub use Rattle.conntrack.specs.Histories.{belongs, is_creation, live_list}
+pub use Rattle.conntrack.specs.ConntrackEntry.{IsNoneLater, SameExceptIds, belonging_without_id, belongs_in, has_distinct_ids}
+pub use Rattle.conntrack.specs.ConntrackEntry.{live_at, without_id}
+pub use Rattle.conntrack.specs.Histories.{is_creation, live_list}
 pub use Rattle.conntrack.specs.Updates.{Arrival, Confirmation, Unconfirmed, after_end, after_packet, change_of_packet, entry_at}
 pub use Rattle.conntrack.specs.declared.belonging.Belonging.{Belonging}
-pub use Rattle.conntrack.specs.declared.belonging.Belonging.TheVariants.{Found, NotFound}
-pub use Rattle.conntrack.specs.declared.belonging.LookupState.{LookupState}
+pub use Rattle.conntrack.specs.declared.belonging.Belonging.TheVariants.{NotFound}
 pub use Rattle.conntrack.specs.declared.connection.ConnId.{ConnId}
 pub use Rattle.conntrack.specs.declared.connection.ConntrackEntry.{ConntrackEntry}
 pub use Rattle.conntrack.specs.declared.connection.Flags.{Flags}
@@ -15,7 +14,7 @@ pub use Rattle.history.specs.History.{Entry, live_in, moment_of, tracked_of}
 pub use Rattle.history.specs.Setup.{Setup, limits_of}
 pub use Rattle.history.specs.declared.outcome.Cause.{Cause}
 pub use Rattle.ip_headers.specs.Header.{transport_of}
-pub use Rattle.ip_headers.specs.Tuple.{inner_tuple_of, inverse, tuple_of}
+pub use Rattle.ip_headers.specs.Tuple.{inner_tuple_of, tuple_of}
 pub use Rattle.ip_headers.specs.declared.tuple.Mapping.{Mapping}
 pub use Rattle.ip_headers.specs.declared.tuple.Tuple.{Tuple}
 pub use Rattle.pcap_io.specs.Pcap.{Recorded}
@@ -24,12 +23,12 @@ pub use Rattle.rule_meaning.specs.declared.event.HookVerdict.TheVariants.{Accept
 pub use Rattle.rule_meaning.specs.declared.facts.CtFacts.{CtFacts}
 pub use Rattle.rule_meaning.specs.declared.facts.CtFacts.TheVariants.{Notrack}
 pub use Rattle.rule_meaning.specs.declared.facts.Facts.{Facts}
-pub use Rattle.std.proofs.Common.{◌+◌, ◌++◌, ◌-◌, ◌<◌, Bool, Err, List, None, Ok, Option, Result, Some, [], ap, arith, cond, drop, false, length, map, refl}
-pub use Rattle.std.proofs.Common.{subst, sym, take, true, vec_capacity, vec_len, ℕ, ◌∙◌, ◌∷◌, ◌≡◌, ◌≤◌}
+pub use Rattle.std.proofs.Common.{◌+◌, ◌++◌, ◌-◌, Bool, Err, List, None, Ok, Option, Result, Some, [], ap, arith, drop, false, length, map, refl}
+pub use Rattle.std.proofs.Common.{subst, sym, take, vec_capacity, vec_len, ℕ, ◌∙◌, ◌∷◌, ◌≡◌, ◌≤◌}
 pub use Rattle.std.proofs.lemmas.Grind.{common_steps}
 pub use Rattle.std.proofs.lemmas.List.{length-drop, take_at}
 pub use Rattle.std.proofs.lemmas.Result.{err_from_is_err_and}
-pub use Rattle.std.specs.Prelude.{IsTrue, find, if◌then◌else◌, max, nat_le, not}
+pub use Rattle.std.specs.Prelude.{IsTrue, find, max}
 pub use Rattle.stepping.specs.Carried.{ReceivedPacket, carried, interface_facts}
 pub use Rattle.stepping.specs.Confirmations.{confirmation_by, confirmation_of, confirmed, mark_in, refusal, reply_to, unless_refused}
 pub use Rattle.stepping.specs.Lookups.{belonging_by_tuple, belonging_of, ct_info_by_tuple, error_belonging, flags_in, looked_up_info, lookup_tuple_of}
@@ -39,14 +38,14 @@ pub use Rattle.stepping.specs.Next.{tracked_as, tuple_in, with_info}
 pub use Rattle.stepping.specs.Paths.{AfterRouting, Continue, DestinationNat, Drop, Hooks, InputOrForward, NatChains, PathState, RunsStage, SourceNat, Step}
 pub use Rattle.stepping.specs.Paths.{StepResult, after_chains, destination_nat_result, goes_on, on_arrival, routed, source_nat_result, stops, unless_dropped}
 pub use Rattle.stepping.specs.Paths.{◌⨾◌}
-pub use Rattle.stepping.specs.Representing.{EngineState, Represents, ShownEntry, newest_of, recorded_of, shown_entry}
+pub use Rattle.stepping.specs.Representing.{EngineState, ShownEntry, newest_of, recorded_of, shown_entry}
 pub use Rattle.stepping.specs.steps.Confirming.{CanConfirm, Confirms, begins, begun_in, belonging_in, confirmed_in}
 pub use Rattle.stepping.specs.steps.Interfaces.{interfaces_of, is_at}
-pub use Rattle.stepping.specs.steps.Processing.{Follows, HasProcessed, IsBeforeFirst, held_by, newest_in}
+pub use Rattle.stepping.specs.steps.Processing.{Extends, Follows, HasProcessed, IsBeforeFirst, held_by, newest_in}
 pub use Rattle.stepping.specs.steps.Steps.{Spends, TakesStep, path_state, setup_in, step_result}
-pub use Rattle.translation.specs.CtInfos.{ct_info_by, error_ct_info, facts_after_destination_nat, facts_after_source_nat, new_ct_info, untranslated}
+pub use Rattle.translation.specs.CtInfos.{ct_info_by, error_ct_info, facts_after_destination_nat, facts_after_source_nat, untranslated}
 pub use Rattle.translation.specs.Fitting.{Fits}
 pub use Rattle.translation.specs.LiveMappings.{mappings_in}
 pub use Rattle.translation.specs.declared.ct_info.CtInfo.{CtInfo}
-pub use Rattle.translation.specs.declared.ct_info.CtInfo.TheVariants.{Invalid, New, Tracked, Untracked}
+pub use Rattle.translation.specs.declared.ct_info.CtInfo.TheVariants.{New, Untracked}
 pub use Rattle.translation.specs.declared.ct_info.NewConnection.{NewConnection}

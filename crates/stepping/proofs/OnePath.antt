@@ -2,10 +2,10 @@
 use Rattle.std.proofs.Common.{arith}
 use Rattle.stepping.proofs.Names.{Accepted, Bool, Cause, ConntrackEntry, Continue, CtInfo, DestinationNat, Drop, Entry, EntryOf, Err, Event, Facts, Hooks}
 use Rattle.stepping.proofs.Names.{HooksAndConfirm, InputOrForward, List, Mapping, NatChains, New, Next, None, Ok, Option, Path, PathState, ReceivedPacket}
-use Rattle.stepping.proofs.Names.{Recorded, Result, RunsStage, Setup, Some, SourceNat, Step, StepResult, after_chains, ap, carried, confirmed}
+use Rattle.stepping.proofs.Names.{Recorded, Result, RunsStage, Setup, Some, SourceNat, Step, StepResult, after_chains, carried, confirmed}
 use Rattle.stepping.proofs.Names.{destination_nat_result, entry_of, entry_without_packet, goes_on, interface_facts, live_at_record, looked_up_info, mappings_in}
-use Rattle.stepping.proofs.Names.{moment_after, on_arrival, others_beside, refl, routed, source_nat_result, stops, subst, sym, unless_dropped, with_info, ℕ}
-use Rattle.stepping.proofs.Names.{◌∙◌, ◌≡◌, ◌⨾◌}
+use Rattle.stepping.proofs.Names.{moment_after, on_arrival, others_beside, refl, routed, source_nat_result, stops, unless_dropped, with_info, ℕ}
+use Rattle.stepping.proofs.Names.{◌≡◌, ◌⨾◌}
 use Rattle.rule_meaning.specs.declared.facts.Interface.{Interface}
 use Rattle.rule_meaning.specs.Hooks.{BaseChain, Chains, HookResult}
 use Rattle.hook_runs.specs.declared.stages.HookStage.{HookStage}
@@ -28,17 +28,6 @@ AtMostOne A X = (a b : A) → X a → X b → a ≡ b
 
 pub not_both : (cause : Cause) (t u : PathState) → Drop cause t ≡ Continue u → ⊥
 not_both cause t u e = cc
-
-same_state : (t u : PathState) → Continue t ≡ Continue u → t ≡ u
-same_state t u e = cc
-
-one_in_turn : (first second : Step) (s : PathState) → AtMostOne StepResult (first s)
-    → ((t : PathState) → AtMostOne StepResult (second t)) → AtMostOne StepResult ((first ⨾ second) s)
-one_in_turn first second s one two r r' (stops c t x) (stops c' t' x') = one (Drop c t) (Drop c' t') x x'
-one_in_turn first second s one two r r' (stops c t x) (goes_on u q y z) = cc (one (Drop c t) (Continue u) x y)
-one_in_turn first second s one two r r' (goes_on u q y z) (stops c t x) = cc (one (Drop c t) (Continue u) x y)
-one_in_turn first second s one two r r' (goes_on t q y z) (goes_on u q' y' z') =
-    two t q q' z (subst (λ (x : PathState). second x q') (sym (same_state t u (one (Continue t) (Continue u) y y'))) z')
 
 pub at_most_one : IsKept AtMostOne
 at_most_one = grind arith

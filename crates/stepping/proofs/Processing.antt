@@ -1,108 +1,112 @@
 -- A packet's path, by the answers of the calls, and the connections held after it.
-use Rattle.std.proofs.Common.{arith}
-use Rattle.stepping.proofs.Names.{Belonging, Bool, Cause, Confirmation, Confirms, ConnId, ConntrackEntry, Continue, CtFacts, CtInfo, Drop, Err, Follows, Found}
-use Rattle.stepping.proofs.Names.{List, LookupState, New, None, Notrack, Ok, Option, PathState, Result, Some, StepResult, Tuple, after_end, ap, arrival_of}
-use Rattle.stepping.proofs.Names.{begins, begun_in, belonging_by_tuple, belonging_in, belonging_of, confirmation_of, confirmed_in, ct_info_by, ct_info_by_tuple}
-use Rattle.stepping.proofs.Names.{error_belonging, error_ct_info, false, final_state, first_state, flags_in, held_by, inner_tuple_of, is_creation}
-use Rattle.stepping.proofs.Names.{looked_up_info, lookup_tuple_of, mark_in, new_ct_info, others_beside, others_in, refl, step_result, sym, tracked_as}
-use Rattle.stepping.proofs.Names.{transport_of, true, tuple_of, untranslated, ℕ, ◌∙◌, ◌≡◌}
-use Rattle.stepping.proofs.Confirmations.{Agrees, agrees, idle_error, idle_kept, idle_stays, is_idle, unconfirmed_agrees, unconfirmed_stays}
-use Rattle.conntrack.specs.declared.belonging.LookupState.TheVariants as states
+use Rattle.stepping.proofs.Names.{Arrival, Belonging, Bool, CanConfirm, Cause, Confirms, ConnId, ConntrackEntry, Continue, CtFacts, CtInfo, Drop, Err, Fits}
+use Rattle.stepping.proofs.Names.{Flags, Follows, List, Mapping, New, NewConnection, None, NotFound, Notrack, Ok, Option, PathState, Result, Some, StepResult}
+use Rattle.stepping.proofs.Names.{Tuple, Unconfirmed, after_end, after_packet, ap, arith, arrival_of, begins, begun_in, belonging_by_tuple, belonging_in}
+use Rattle.stepping.proofs.Names.{belonging_of, change_of_packet, confirmation_by, confirmation_of, confirmed_in, ct_info_by, ct_info_by_tuple}
+use Rattle.stepping.proofs.Names.{error_belonging, error_ct_info, false, final_state, flags_in, inner_tuple_of, is_creation, looked_up_info, lookup_tuple_of}
+use Rattle.stepping.proofs.Names.{mark_in, others_beside, others_in, refl, refusal, reply_to, step_result, sym, transport_of, tuple_of, unless_refused}
+use Rattle.stepping.proofs.Names.{untranslated, ℕ, ◌∙◌, ◌≡◌}
+use Rattle.connection_table.specs.Table.{IsConfirmable}
+
+-- ---- a packet whose connection can't begin
+
+pub confirms_refused : {now : ℕ} {flags : Flags} {b : Belonging} {mark : ℕ} {old : List ConntrackEntry} {d : NewConnection} {cause : Cause}
+    → refusal (reply_to d) old ≡ Some cause → Confirms now flags b (New d) mark old old (Err cause)
+confirms_refused is = record {
+  id = record { 0 = 0 };
+  step = λ s. sym (ap (λ (refused : Option Cause). unless_refused refused s) is);
+  held = refl;
+  begun = refl;
+}
+
+-- ---- NAT doesn't change a packet's connection, so that it can be confirmed whatever NAT did
+
+pub still_open : (t : Tuple) (b : Belonging) (held : List ConntrackEntry) (info : CtInfo) → IsConfirmable t b held
+    → untranslated info ≡ untranslated (ct_info_by t b) → CanConfirm b info held
+still_open t b held info can same = grind arith
+
+pub idle_open : (before info : CtInfo) (held : List ConntrackEntry) → confirmation_by before 0 ≡ Unconfirmed
+    → untranslated info ≡ untranslated before → CanConfirm NotFound info held
+idle_open before info held idle same = grind arith
+
+pub error_idle : (b : Belonging) → confirmation_by (error_ct_info b) 0 ≡ Unconfirmed
+error_idle b = grind arith
+
+pub error_fits : (b : Belonging) (mappings : List Mapping) → Fits (error_ct_info b) mappings
+error_fits b mappings = grind arith
+
+-- ---- the connections held after a confirmation, by what the packet belongs to
+
+-- a packet that refreshes and begins no connection, as an ICMP error
+idle_stays : (id : ConnId) (flags : Flags) (now : ℕ) (b : Belonging) (before : CtInfo) (r : StepResult) (held : List ConntrackEntry)
+    → confirmation_by before 0 ≡ Unconfirmed → untranslated (final_state r).info ≡ untranslated before
+    → (confirmed_in id flags now b (final_state r).info (confirmation_of r) held ≡ held)
+    × (begins (final_state r).info (confirmation_of r) ≡ false)
+idle_stays id flags now b before r held idle same = grind arith
+
+-- a confirmation beside the other connections is one among all that were held, and the entry says whether one began
+agreed : (id : ConnId) (a : Arrival) (old : List ConntrackEntry) (b : Belonging) (r : StepResult)
+    → untranslated (final_state r).info ≡ untranslated (ct_info_by a.tuple b)
+    → (confirmed_in id a.flags a.moment b (final_state r).info (confirmation_of r) (after_end b old)
+    ≡ after_packet b id a (confirmation_of r) old)
+    × (begins (final_state r).info (confirmation_of r) ≡ is_creation (change_of_packet b a (confirmation_of r)))
+agreed id a old b r same = grind arith
 
 module _ (p : List ℕ) (old : List ConntrackEntry) where
-  -- ---- the look-up, by the calls
-
-  -- its tuple was looked up
+  -- what the state of a packet that was looked up says: its tuple, what it belongs to, and the other connections
   abbrev WasLookedUp : CtInfo → Type 0
   WasLookedUp info = (lookup_tuple_of info p ≡ tuple_of p) × (belonging_in info old p ≡ belonging_of old p)
       × (others_beside info old p ≡ others_in old p)
 
   by_error : (b : Belonging) → WasLookedUp (error_ct_info b)
-  by_error (Found found) = (refl, refl, refl)
-  by_error b = (refl, refl, refl)
-
-  by_state : (state : LookupState) (t : Tuple) → WasLookedUp (new_ct_info state t)
-  by_state states.New t = (refl, refl, refl)
-  by_state state t = (refl, refl, refl)
+  by_error b = grind arith
 
   by_tuple : (t : Tuple) (b : Belonging) → WasLookedUp (ct_info_by t b)
-  by_tuple t (Found found) = (refl, refl, refl)
-  by_tuple t b = by_state (first_state t.kind) t
+  by_tuple t b = grind arith
 
-  by_key : (key : Option Tuple) → WasLookedUp (ct_info_by_tuple old p key)
-  by_key None = by_error (error_belonging old (inner_tuple_of p))
-  by_key (Some t) = by_tuple t (belonging_of old p)
-
-  looked_up : (info : CtInfo) (key : Option Tuple) → info ≡ ct_info_by_tuple old p key → WasLookedUp info
-  looked_up info key is = rw is (by_key key)
+  looked_up : (key : Option Tuple) → WasLookedUp (ct_info_by_tuple old p key)
+  looked_up None = by_error (error_belonging old (inner_tuple_of p))
+  looked_up (Some t) = by_tuple t (belonging_of old p)
 
   not_exempted : (ct : CtFacts) → (ct ≡ Notrack → ⊥) → looked_up_info ct old p ≡ ct_info_by_tuple old p (tuple_of p)
   not_exempted Notrack not = absurd (not refl)
   not_exempted ct not = refl
 
-  abbrev belonging_at : Option Tuple → Belonging
-  belonging_at key = belonging_by_tuple old (flags_in (transport_of p)) key
+  pub found : (ct : CtFacts) (info : CtInfo) (key : Option Tuple) → (ct ≡ Notrack → ⊥) → tuple_of p ≡ key
+      → info ≡ ct_info_by_tuple old p key → (info ≡ looked_up_info ct old p)
+      × (belonging_by_tuple old (flags_in (transport_of p)) key ≡ belonging_in info old p)
+      × (after_end (belonging_by_tuple old (flags_in (transport_of p)) key) old ≡ others_beside info old p)
+  found ct info key not own is =
+      let known : WasLookedUp info = rw is (looked_up key) in (
+        is ∙ ap (ct_info_by_tuple old p) (sym own) ∙ sym (not_exempted ct not),
+        ap (belonging_by_tuple old (flags_in (transport_of p))) (sym own) ∙ sym known.1,
+        ap (λ (key : Option Tuple). after_end (belonging_by_tuple old (flags_in (transport_of p)) key) old) (sym own) ∙ sym known.2,
+      )
 
-  module _ (ct : CtFacts) (not : ct ≡ Notrack → ⊥) (info : CtInfo) (key : Option Tuple) (own : tuple_of p ≡ key)
-      (is : info ≡ ct_info_by_tuple old p key) where
-    pub found_info : info ≡ looked_up_info ct old p
-    found_info = is ∙ ap (ct_info_by_tuple old p) (sym own) ∙ sym (not_exempted ct not)
-
-    pub found_belonging : belonging_by_tuple old (flags_in (transport_of p)) key ≡ belonging_in info old p
-    found_belonging = ap belonging_at (sym own) ∙ sym (looked_up info key is).1
-
-    pub found_others : after_end (belonging_by_tuple old (flags_in (transport_of p)) key) old ≡ others_beside info old p
-    found_others = ap (λ (key : Option Tuple). after_end (belonging_at key) old) (sym own) ∙ sym (looked_up info key is).2
-
-  -- ---- the connections held after it
-
-  tuple_kept : (info : CtInfo) → lookup_tuple_of (untranslated info) p ≡ lookup_tuple_of info p
-  tuple_kept (New d) = refl
-  tuple_kept info = refl
-
-  agreed : (now : ℕ) (id : ConnId) (t : Tuple) (r : StepResult)
-      → untranslated (final_state r).info ≡ untranslated (ct_info_by t (belonging_of old p))
-      → Agrees id (arrival_of now p t) old (belonging_of old p) (final_state r).info (confirmation_of r)
-  agreed now id t (Drop cause s) same = unconfirmed_agrees id (arrival_of now p t) old (belonging_of old p) s.info
-  agreed now id t (Continue s) same = agrees id (arrival_of now p t) old (mark_in s.facts.ct) (belonging_of old p) s.info same
+  tuple_kept : (info before : CtInfo) → untranslated info ≡ untranslated before → lookup_tuple_of info p ≡ lookup_tuple_of before p
+  tuple_kept info before same = grind arith
 
   module _ (now : ℕ) (id : ConnId) (r : StepResult) (begun : Bool) (new : List ConntrackEntry) (before : CtInfo)
       (same : untranslated (final_state r).info ≡ untranslated before)
       (held : new ≡ confirmed_in id (flags_in (transport_of p)) now (belonging_in before old p) (final_state r).info
       (confirmation_of r) (others_beside before old p))
       (begun_is : begun ≡ begins (final_state r).info (confirmation_of r)) where
-    abbrev info : CtInfo
-    info = (final_state r).info
-
-    abbrev confirmation : Confirmation
-    confirmation = confirmation_of r
-
-    follows_by : (key : Option Tuple) → lookup_tuple_of before p ≡ key → new ≡ held_by now id p key confirmation old
-        → begun ≡ is_creation (tracked_as now old p key confirmation).change → Follows now p r begun old new
-    follows_by key is after begins = grind (arith, tuple_kept)
-
-    -- the others stay, and no connection begins
-    follows_idle : is_idle before ≡ true → lookup_tuple_of before p ≡ None → others_beside before old p ≡ old
+    follows_idle : confirmation_by before 0 ≡ Unconfirmed → lookup_tuple_of before p ≡ None → others_beside before old p ≡ old
         → Follows now p r begun old new
-    follows_idle is none others =
-        let stays = idle_stays id (flags_in (transport_of p)) now (belonging_in before old p) info confirmation
-        (others_beside before old p) (idle_kept before info same is) in
-        follows_by None none (held ∙ stays.0 ∙ others) (begun_is ∙ stays.1)
+    follows_idle idle none others =
+        let stays = idle_stays id (flags_in (transport_of p)) now (belonging_in before old p) before r (others_beside before old p) idle same in
+        let key = tuple_kept (final_state r).info before same in
+        record { id = id; held = grind (arith, stays, key); begins = grind (arith, stays, key) }
 
     follows_key : (key : Option Tuple) → tuple_of p ≡ key → before ≡ ct_info_by_tuple old p key → Follows now p r begun old new
     follows_key None own is =
-        let known = looked_up before None is in
-        follows_idle (rw is (idle_error (error_belonging old (inner_tuple_of p)))) (known.0 ∙ own)
-        (known.2 ∙ ap (λ (key : Option Tuple). after_end (belonging_at key) old) own)
+        let known = looked_up None in
+        follows_idle (grind (arith, error_idle)) (grind (arith, known)) (grind (arith, known))
     follows_key (Some t) own is =
-        let known = looked_up before (Some t) is in
-        let agree = agreed now id t r (same ∙ ap untranslated is) in
-        follows_by (Some t) (known.0 ∙ own)
-        (held
-        ∙ ap (λ (b : Belonging). confirmed_in id (flags_in (transport_of p)) now b info confirmation
-        (others_beside before old p)) known.1
-        ∙ ap (confirmed_in id (flags_in (transport_of p)) now (belonging_of old p) info confirmation) known.2 ∙ agree.held)
-        (begun_is ∙ agree.begun)
+        let known = looked_up (Some t) in
+        let key = tuple_kept (final_state r).info before same in
+        let agree = agreed id (arrival_of now p t) old (belonging_of old p) r (same ∙ ap untranslated is) in
+        record { id = id; held = grind (arith, known, key, agree); begins = grind (arith, known, key, agree) }
 
     follows : (ct : CtFacts) → before ≡ looked_up_info ct old p → Follows now p r begun old new
     follows Notrack is = follows_idle (rw is refl) (rw is refl) (rw is refl)
@@ -118,9 +122,7 @@ module _ (p : List ℕ) (old : List ConntrackEntry) (now : ℕ) (ct : CtFacts) (
   pub dropped_follows : (cause : Cause) (s : PathState) → untranslated s.info ≡ untranslated before
       → new ≡ others_beside before old p → Follows now p (Drop cause s) false old new
   dropped_follows cause s same held =
-      let stays = unconfirmed_stays (record { 0 = 0 }) (flags_in (transport_of p)) now (belonging_in before old p) s.info
-      (others_beside before old p) in
-      follows p old now (record { 0 = 0 }) (Drop cause s) false new before same (held ∙ sym stays.0) (sym stays.1) ct refl
+      follows p old now (record { 0 = 0 }) (Drop cause s) false new before same (grind (arith, held)) (grind arith) ct refl
 
   pub confirmed_follows : (answer : Result Bool Cause) (s : PathState) → untranslated s.info ≡ untranslated before
       → Confirms now (flags_in (transport_of p)) (belonging_in before old p) s.info (mark_in s.facts.ct)

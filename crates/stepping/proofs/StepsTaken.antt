@@ -1,6 +1,6 @@
 -- Steps with NAT among some mappings, one after another.
-use Rattle.stepping.proofs.Names.{◌+◌, Cause, Err, EventsAndTicks, Fits, List, Mapping, Ok, Result, Spends, Step, TakesStep, ap, arith, goes_on, path_state}
-use Rattle.stepping.proofs.Names.{step_result, stops, subst, sym, untranslated, ℕ, ◌∙◌, ◌≡◌, ◌⨾◌}
+use Rattle.stepping.proofs.Names.{◌+◌, Cause, Err, EventsAndTicks, List, Mapping, Ok, Result, Spends, Step, TakesStep, arith, goes_on, path_state}
+use Rattle.stepping.proofs.Names.{step_result, stops, ℕ, ◌∙◌, ◌≡◌, ◌⨾◌}
 use Rattle.stepping.specs.declared.state.PacketState.{PacketState}
 
 -- ---- what is spent

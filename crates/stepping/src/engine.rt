@@ -9,12 +9,13 @@ ghost use Rattle.rule_paths.specs.Paths.{AreAllCosts, Caller, ruleset_cost};
 ghost use Rattle.stepping.specs.Next.{Next};
 ghost use Rattle.stepping.specs.Representing.{Represents, sent_packets, packet_of, sends_of, setup_of, recorded_of};
 
+use crate::laws::extends_history;
 use crate::packet_buffer::PacketBuffer;
 use crate::process::{RecordResult, output_interface, process_record};
 use crate::setup::Setup;
 use crate::state::PacketState;
 use connection_table::ConnectionTable;
-use conntrack::laws::{independent_of_ids, none_later, one_more_entry};
+use conntrack::laws::{independent_of_ids, none_later};
 use conntrack::{Connection, Tracker};
 use history::Outcome;
 use hook_runs::Events;
@@ -24,7 +25,6 @@ use rule_check::Checked;
 use std::alloc::{AllocError, Global};
 use std::hash::RandomState;
 use std::marker::Model;
-use translation::laws::independent_of_ids as mappings_aside;
 
 /// A box with its ruleset and its state after the records so far. `T` is the connection tracker.
 pub struct Engine<T: Tracker> {
@@ -163,10 +163,8 @@ impl<T: Tracker> Engine<T> {
             newest.begun ≡ false → IsTrue self.new.ready)) }
     {
         // The connections held are known but for their ids.
-        independent_of_ids();
-        one_more_entry();
+        extends_history();
         none_later();
-        mappings_aside();
         // All allocation first: nothing after it can fail.
         self.reserve()?;
         self.packet.clear();

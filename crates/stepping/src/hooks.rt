@@ -1,8 +1,10 @@
 //! The hooks after the look-up, with routing between them.
-ghost use Rattle.std.specs.Prelude.{◌≡◌};
+ghost use Rattle.std.specs.Prelude.{◌≡◌, List};
+ghost use Rattle.hook_runs.specs.Stages.{stage_cost};
+ghost use Rattle.ip_headers.specs.declared.tuple.Mapping.{Mapping};
 ghost use Rattle.filter_vm.specs.Machine.{EventsAndTicks};
-ghost use Rattle.stepping.specs.Paths.{AfterRouting, ForwardAndPostrouting, Hooks, Prerouting, Routing};
-ghost use Rattle.stepping.specs.steps.Steps.{HasRoom, TakesStep, after_routing_cost, hooks_cost, path_state, prerouting_cost, setup_in, step_result};
+ghost use Rattle.stepping.specs.Paths.{AfterRouting, ForwardAndPostrouting, Hooks, Prerouting, Routing, RunsStage};
+ghost use Rattle.stepping.specs.steps.Steps.{HasRoom, Spends, TakesStep, after_routing_cost, hooks_cost, path_state, prerouting_cost, setup_in, step_result};
 
 use crate::nat::{translate_destination, translate_source};
 use crate::setup::Setup;
@@ -31,6 +33,26 @@ pub fn run_hooks(
     after_routing(setup, mappings, state, events)
 }
 
+/// Runs the chains of a stage, a step that translates nothing.
+///
+/// # Errors
+/// `Rule`: a rule or a policy drops the packet.
+#[inline(always)]
+fn run_stage(
+    setup: &Setup,
+    stage: HookStage,
+    state: &mut PacketState,
+    events: &mut Events,
+) -> Result<(), Cause>
+    requires room { HasRoom events.old (stage_cost setup.now.hooks stage) }
+    ensures took { (mappings : List Mapping)
+        → TakesStep (λ held. RunsStage (setup_in setup.now.hooks) stage) mappings
+        (stage_cost setup.now.hooks stage) state.old events.old state.new events.new result }
+    ensures spent { Spends events.old events.new (stage_cost setup.now.hooks stage) }
+{
+    setup.run(stage, state, events)
+}
+
 /// The prerouting chains after the look-up, with destination NAT at its priority.
 #[inline(always)]
 fn prerouting(
@@ -43,9 +65,9 @@ fn prerouting(
     ensures took { TakesStep (Prerouting (setup_in setup.now.hooks)) mappings.now.held
         (prerouting_cost setup.now.hooks.costs) state.old events.old state.new events.new result }
 {
-    setup.run(HookStage::PreroutingBeforeNat, state, events)?;
+    run_stage(setup, HookStage::PreroutingBeforeNat, state, events)?;
     translate_destination(setup, mappings, state, events)?;
-    setup.run(HookStage::PreroutingAfterNat, state, events)
+    run_stage(setup, HookStage::PreroutingAfterNat, state, events)
 }
 
 /// The routing decision, by the destination after NAT: the output interface of a packet that is
@@ -108,8 +130,8 @@ fn forward_and_postrouting(
         (after_routing_cost setup.now.hooks.costs) state.old events.old state.new events.new
         result }
 {
-    setup.run(HookStage::Forward, state, events)?;
-    setup.run(HookStage::PostroutingBeforeNat, state, events)?;
+    run_stage(setup, HookStage::Forward, state, events)?;
+    run_stage(setup, HookStage::PostroutingBeforeNat, state, events)?;
     translate_source(setup, mappings, state, events)?;
-    setup.run(HookStage::PostroutingAfterNat, state, events)
+    run_stage(setup, HookStage::PostroutingAfterNat, state, events)
 }

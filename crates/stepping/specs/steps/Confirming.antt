@@ -1,14 +1,13 @@
 -- The confirmation in the code's terms: the connections held before and after.
-use Rattle.std.specs.Prelude.{◌≡◌, ℕ, Bool, true, false, IsTrue, List, [], ◌∷◌, ◌++◌}
+use Rattle.std.specs.Prelude.{◌≡◌, ℕ, Bool, true, false, IsTrue, List}
 use Rattle.std.specs.Prelude.{Result, Ok, Err}
 use Rattle.conntrack.specs.declared.connection.ConnId.{ConnId}
-use Rattle.conntrack.specs.declared.connection.Connection.{Connection}
 use Rattle.conntrack.specs.declared.connection.Flags.{Flags}
 use Rattle.conntrack.specs.declared.connection.ConntrackEntry.{ConntrackEntry}
 use Rattle.conntrack.specs.declared.belonging.Belonging.{Belonging}
 use Rattle.conntrack.specs.declared.belonging.Belonging.TheVariants.{NotFound, Found}
-use Rattle.conntrack.specs.ConntrackEntry.{begun_with, has_id, is_taken, touched_at}
-use Rattle.conntrack.specs.Updates.{Confirmation, Unconfirmed, Confirmed}
+use Rattle.conntrack.specs.ConntrackEntry.{has_id, is_taken, touched_at}
+use Rattle.conntrack.specs.Updates.{Confirmation, Unconfirmed, Confirmed, with_begun}
 use Rattle.history.specs.declared.outcome.Cause.{Cause}
 use Rattle.translation.specs.declared.ct_info.CtInfo.{CtInfo}
 use Rattle.translation.specs.declared.ct_info.CtInfo.TheVariants.{Tracked, New, Untracked}
@@ -44,16 +43,8 @@ abbrev pub confirmed_in : ConnId → Flags → ℕ → Belonging → CtInfo → 
     → List ConntrackEntry
 confirmed_in id flags now b (Tracked connection) (Confirmed mark reply source dest) held =
     touched_for b flags mark now held
-confirmed_in id flags now b (New new_connection) (Confirmed mark reply source dest) held =
-    let connection : Connection = record {
-      original = new_connection.original;
-      reply = reply;
-      mark = mark;
-      last = now;
-      source = source;
-      dest = dest;
-    } in
-    held ++ begun_with id connection flags ∷ []
+confirmed_in id flags now b (New new_connection) confirmation held =
+    with_begun id (record { tuple = new_connection.original; flags = flags; moment = now }) confirmation held
 confirmed_in id flags now b info confirmation held = held
 
 -- ---- the answer

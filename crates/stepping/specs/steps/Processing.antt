@@ -1,12 +1,12 @@
 -- The processing of a record in the code's terms: the connections held before and after.
-use Rattle.std.specs.Prelude.{◌≡◌, ℕ, ◌<◌, ◌≤◌, Bool, false, IsTrue, List, [], length, Option, Some, None}
+use Rattle.std.specs.Prelude.{◌≡◌, ℕ, ◌<◌, ◌≤◌, Bool, false, IsTrue, List, [], ◌∷◌, length, map, Option, Some, None}
 use Rattle.std.specs.Prelude.{Result, Ok, Err}
 use Rattle.ip_headers.specs.declared.tuple.Tuple.{Tuple}
 use Rattle.ip_headers.specs.Header.{total_len}
 use Rattle.conntrack.specs.declared.connection.ConnId.{ConnId}
 use Rattle.conntrack.specs.declared.connection.ConntrackEntry.{ConntrackEntry}
 use Rattle.connection_table.specs.Table.{Table}
-use Rattle.conntrack.specs.ConntrackEntry.{IsNoneLater}
+use Rattle.conntrack.specs.ConntrackEntry.{IsNoneLater, without_id}
 use Rattle.conntrack.specs.Histories.{is_creation}
 use Rattle.conntrack.specs.Updates.{Confirmation, after_packet}
 use Rattle.rule_meaning.specs.declared.event.Event.{Event}
@@ -14,6 +14,7 @@ use Rattle.filter_vm.specs.Machine.{EventsAndTicks}
 use Rattle.history.specs.declared.outcome.Cause.{Cause}
 use Rattle.history.specs.declared.outcome.Outcome.{Outcome}
 use Rattle.history.specs.declared.outcome.Outcome.TheVariants.{Passed, Dropped}
+use Rattle.history.specs.History.{Entry, live_in}
 use Rattle.history.specs.Setup.{Setup, limits_of}
 use Rattle.stepping.specs.declared.arrival.IncomingPacket.{IncomingPacket}
 use Rattle.stepping.specs.declared.process.RecordResult.{RecordResult}
@@ -21,7 +22,8 @@ use Rattle.stepping.specs.Carried.{ReceivedPacket, interface_facts}
 use Rattle.stepping.specs.Lookups.{belonging_of}
 use Rattle.stepping.specs.Paths.{StepResult, on_arrival}
 use Rattle.stepping.specs.Confirmations.{confirmation_of}
-use Rattle.stepping.specs.Next.{Path, arrival_of, final_state, outcome_of, sent_on, tracked_as, tuple_in}
+use Rattle.pcap_io.specs.Pcap.{Recorded}
+use Rattle.stepping.specs.Next.{Next, Path, arrival_of, final_state, outcome_of, sent_on, tracked_as, tuple_in}
 use Rattle.stepping.specs.Representing as represents
 
 -- before the first record: time 0, no packet, no connections
@@ -104,3 +106,11 @@ HasProcessed setup (Ok a) now old new ended events packet =
 HasProcessed setup (Err cause) now old new ended events packet = (new ≡ old)
     × (ended ≡ record { outcome = Dropped cause; length = 0; begun = false })
     × (events ≡ []) × (packet ≡ [])
+
+-- the record has an entry after a history, which is shown so, and these connections are the extended history's but for ids
+pub record Extends (setup : Setup) (history : List Entry) (r : Recorded) (new : List ConntrackEntry)
+    (newest : Option represents.ShownEntry) : Type 0 where
+  pub e : Entry
+  pub next : Next setup history r e
+  pub shown : newest ≡ Some (represents.shown_entry e)
+  pub held : map without_id new ≡ map without_id (live_in setup (e ∷ history))

@@ -1,6 +1,7 @@
-use Rattle.stepping.proofs.Names.{◌+◌, EngineState, EventsAndTicks, HasProcessed, Limits, Setup, ap, arith, carried, length, limits_of, live_at, recorded_of}
-use Rattle.stepping.proofs.Names.{refl, subst, ℕ, ◌∙◌, ◌≤◌}
-use Rattle.stepping.proofs.Extending.{AreAlike, IsTold, latest_is, next_represents, not_begun, none_later-aged, none_later-processed}
+use Rattle.stepping.proofs.Names.{EngineState, EventsAndTicks, HasProcessed, Limits, Setup, ShownEntry, ap, arith, carried, length, limits_of, live_at, live_in}
+use Rattle.stepping.proofs.Names.{map, max, moment_of, recorded_of, shown_entry, subst, sym, without_id, ℕ, ◌∙◌, ◌∷◌, ◌≤◌}
+use Rattle.std.proofs.lemmas.Option.{same_Some}
+use Rattle.stepping.proofs.Extending.{latest_is, none_later-aged, none_later-processed}
 use Rattle.stepping.proofs.engine.Engine.step.Goals as goal
 
 pub process_record-ended-requires-clause-later : goal.process_record-ended-requires-clause-later
@@ -26,45 +27,35 @@ invariant_of-self g c =
         ap (λ (t : EventsAndTicks). length t.events) c.clear-2.ensures,
       );
       later = none_later-processed c.none_later.ensures.packet _ _ now _ _ _ _ _ ended.ensures.processed aged;
-      room = λ ready. ended.ensures.room (not_begun ended.result.begun ready);
+      room = λ ready. ended.ensures.room (grind (arith, ready));
     }
 
 pub returns-clause-represents : goal.returns-clause-represents
 returns-clause-represents g c = λ history represents.
     let inside = c.self.inside in
-    let aside = c.independent_of_ids.ensures in
-    let more = c.one_more_entry.ensures in
-    let limits = limits_of c.args.self.now.setup in
-    let same = c.self.view_is ∙ c.in_ok-reserve.ensures.ok in
-    let setup = ap (λ (s : EngineState). s.setup) same in
-    let alike : AreAlike = record {
-      packet = aside.packet;
-      ended = aside.ended;
-      belonging = aside.belonging;
-      taken = aside.taken;
-      number = aside.number;
-      live = aside.live;
-      mappings = c.independent_of_ids-2.ensures;
-    } in
-    let told : IsTold limits = record {
-      packet = more.packet limits;
-      none = more.none limits;
-      later = more.later limits;
-      distinct = more.distinct limits;
-    } in
     let ended = c.process_record-ended in
     let now = c.max-now.result in
-    let moment = latest_is inside.ended inside.latest inside.events inside.packet inside.connections.held history
+    let old = c.args.self.now in
+    let r = recorded_of c.args.record.now in
+    let same = c.self.view_is ∙ c.in_ok-reserve.ensures.ok in
+    let setup = ap (λ (s : EngineState). s.setup) same in
+    let latest = latest_is inside.ended inside.latest inside.events inside.packet inside.connections.held history
     c.self.invariant.first (ap (λ (s : EngineState). s.newest) same ∙ represents.newest) in
-    next_represents alike c.args.self.now _ told history (recorded_of c.args.record.now) c.age_all.new.self.held
-    ended.result ended.new.events.events ended.new.packet setup inside.latest now moment c.max-now.ensures
-    (c.age_all.ensures.held ∙ ap (λ (l : Limits). live_at l now inside.connections.held)
-    (c.self.invariant.limited ∙ ap limits_of setup)
-    ∙ ap (live_at limits now) (ap (λ (s : EngineState). s.held) same))
-    c.age_all.ensures.distinct
-    (subst (λ (s : Setup). HasProcessed s (carried s (recorded_of c.args.record.now)) now c.age_all.new.self.held
-    ended.new.connections.held ended.result ended.new.events.events ended.new.packet) setup
-    ended.ensures.processed)
-    (ap (λ (n : ℕ). n + 1) (ap (λ (s : EngineState). s.records) same))
-    refl
-    represents
+    let rises : moment_of history ≤ now = omega (arith, c.max-now.ensures, latest) in
+    let aged = c.age_all.ensures.held ∙ ap (λ (l : Limits). live_at l now inside.connections.held)
+    (c.self.invariant.limited ∙ ap limits_of setup) ∙ ap (live_at (limits_of old.setup) now) (ap (λ (s : EngineState). s.held) same) in
+    let x = c.extends_history.ensures.extended old.setup history r now c.age_all.new.self.held ended.new.connections.held
+    ended.result ended.new.events ended.new.packet (c.max-now.ensures ∙ ap (λ (n : ℕ). max n r.moment) latest)
+    (ap (map without_id) aged ∙ c.extends_history.ensures.aged old.setup history old.held now represents.held rises)
+    c.age_all.ensures.distinct (subst (λ (s : Setup). HasProcessed s (carried s r) now c.age_all.new.self.held
+    ended.new.connections.held ended.result ended.new.events.events ended.new.packet) setup ended.ensures.processed) in
+    let counted = ap (λ (s : EngineState). s.records) same ∙ represents.records in (
+      x.e,
+      x.next,
+      record {
+        records = omega (arith, counted);
+        newest = x.shown;
+        held = x.held ∙ sym (ap (λ (s : Setup). map without_id (live_in s (x.e ∷ history))) setup);
+      },
+      ap (λ (shown : ShownEntry). shown.outcome) (same_Some _ (shown_entry x.e) x.shown),
+    )
