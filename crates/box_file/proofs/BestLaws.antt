@@ -1,14 +1,13 @@
 -- The first match in the sorted routes is the longest prefix match.
-use Rattle.box_file.proofs.Names.{Bool, GivesFirst, IsLongestFirst, IsSortedBy, IsStableBy, IsStrictWeakOrder, List, None, Option, RouteEntry, Some, []}
-use Rattle.box_file.proofs.Names.{and_from, and_parts, ap, arith, begin_of, best_interface, best_of, cases_Bool, cases_eq, cases_lt, cond, covers, end_of}
-use Rattle.box_file.proofs.Names.{eq-eqb, eqb-true, false, filter, filter_agree, find, find-append, find-filter, first_interface, first_value, get_or}
-use Rattle.box_file.proofs.Names.{get_or-map, greatest, if◌then◌else◌, in_range, inl, inr, le-leb, leb, leb-true, length, length-map, ltb, ltb-false, map}
-use Rattle.box_file.proofs.Names.{map_more, max, nat_tests, ne_eqb, option_map, option_or, refl, route_entry, suc, sym, take, ties, true, ℕ, ⊎_elim, ◌%◌, ◌&&◌}
-use Rattle.box_file.proofs.Names.{◌*◌, ◌++◌, ◌+◌, ◌-◌, ◌/◌, ◌<◌, ◌==◌, ◌^◌, ◌∙◌, ◌∷◌, ◌≡◌, ◌≤◌}
+use Rattle.box_file.proofs.Names.{Bool, IsLongestFirst, IsSortedBy, IsStableBy, IsStrictWeakOrder, List, None, Option, RouteEntry, Some, [], ap, arith}
+use Rattle.box_file.proofs.Names.{begin_of, best_interface, best_of, cases_eq, cases_lt, covers, drop, end_of, eq-eqb, false, filter, filter_agree, find}
+use Rattle.box_file.proofs.Names.{first_interface, first_value, get_or, get_or-map, greatest, if◌then◌else◌, in_range, length, length-map, ltb, ltb-false, map}
+use Rattle.box_file.proofs.Names.{nat_tests, ne_eqb, option_map, option_or, refl, route_entry, suc, sym, ties, true, ℕ, ◌%◌, ◌*◌, ◌++◌, ◌+◌, ◌-◌, ◌/◌}
+use Rattle.box_file.proofs.Names.{◌<◌, ◌==◌, ◌^◌, ◌∙◌, ◌∷◌, ◌≡◌, ◌≤◌}
+use Rattle.std.proofs.Common.{drop-cons, add-one}
 use Rattle.std.proofs.Math.Nat.{div-eq_of_lt-le, div-mul-le_self, lt-div-mul-add}
 use Rattle.std.proofs.Math.Pow.{pow_pos, pow_mono}
 use Rattle.std.proofs.lemmas.Nat.{div-add-mod'}
-use Rattle.list_laws.specs.Tests.{and-flip, same-tests}
 use Rattle.std.proofs.lemmas.List.Sorted.{sorted_far, IsStrictWeakOrder-flip, IsStrictWeakOrder-by_number}
 use Rattle.set_intervals.specs.declared.range.Range.{Range}
 use Rattle.box_file.specs.declared.routes.Route.{Route}
@@ -25,51 +24,43 @@ begin_is x p = let whole : x / 2 ^ (32 - p) * 2 ^ (32 - p) + x % 2 ^ (32 - p) �
 covered : (r : Range) (w : RouteEntry) (a : ℕ) → r.low ≡ begin_of w → r.high + 1 ≡ end_of w → in_range r a ≡ covers a w
 covered r w a low high =
     let n = 2 ^ (32 - w.prefix) in
-    let q = w.address / n in
     let some : 0 < n = pow_pos (32 - w.prefix) in
-    same-tests (in_range r a) (covers a w)
-    (λ e. let p = and_parts (leb r.low a) (leb a r.high) e in
-    let from : q * n ≤ a = rw low at (leb-true _ _ p.0) in
-    let upto = leb-true _ _ p.1 in
-    let below : a < (q + 1) * n = omega arith in
-    eq-eqb q (a / n) (sym (div-eq_of_lt-le n from below)))
-    (λ e. let same : q * n ≡ a / n * n = ap (λ m. m * n) (eqb-true _ _ e) in
     let from : a / n * n ≤ a = div-mul-le_self a n in
     let upto : a < a / n * n + n = lt-div-mul-add some in
-    and_from _ _ (le-leb r.low a (omega arith)) (le-leb a r.high (omega arith)))
+    grind (arith, nat_tests, div-eq_of_lt-le)
 
 -- ---- one more route
 
-first_value-push : (xs : List (Range × ℕ)) (r : Range) (v a : ℕ)
-    → first_value (xs ++ (r, v) ∷ []) a ≡ option_or (first_value xs a) (if in_range r a then Some v else None)
-first_value-push [] r v a = refl
-first_value-push (x ∷ xs) r v a =
-    elim (cases_Bool (in_range x.0 a)) [ inl e ↦ rw e refl | inr e ↦ rw e (first_value-push xs r v a) ]
+first_value-push : (xs : List (Range × ℕ)) (r : Range) (v a : ℕ) (o : Option ℕ)
+    → option_or (first_value (xs ++ (r, v) ∷ []) a) o ≡ option_or (first_value xs a) (if in_range r a then Some v else o)
+first_value-push [] r v a o = grind arith
+first_value-push (x ∷ xs) r v a o = grind (arith, first_value-push xs r v a o)
 
-interface_or : (o : Option RouteEntry) (b : Bool) (w : RouteEntry) → option_map (λ r. r.interface) (option_or o (if b then Some w else None))
-    ≡ option_or (option_map (λ r. r.interface) o) (if b then Some w.interface else None)
-interface_or None true w = refl
-interface_or None false w = refl
-interface_or (Some r) b w = refl
+first_interface_next : (w : RouteEntry) (ws : List RouteEntry) (a : ℕ) (b : Bool) → b ≡ covers a w
+    → (if b then Some w.interface else first_interface ws a) ≡ first_interface (w ∷ ws) a
+first_interface_next w ws a true e = rw (← e) refl
+first_interface_next w ws a false e = rw (← e) refl
 
-first_interface-push : (ws : List RouteEntry) (w : RouteEntry) (a : ℕ)
-    → first_interface (ws ++ w ∷ []) a ≡ option_or (first_interface ws a) (if covers a w then Some w.interface else None)
-first_interface-push ws w a = rw (find-append (covers a) ws (w ∷ [])) (interface_or (find (covers a) ws) (covers a w) w)
+-- the first route that covers the address is in the pairs, or else among the other routes
+abbrev pub SplitFirst : List (Range × ℕ) → List RouteEntry → List RouteEntry → Type 0
+SplitFirst pairs others routes = (a : ℕ) → option_or (first_value pairs a) (first_interface others a) ≡ first_interface routes a
 
-pub gives_more : (pairs : List (Range × ℕ)) (routes : List Route) (i : ℕ) (d : Route) (r : Range) → i < length routes
+pub split_more : (pairs : List (Range × ℕ)) (routes : List Route) (i : ℕ) (d : Route) (r : Range) → i < length routes
     → r.low ≡ begin_of (route_entry (get_or routes i d)) → r.high + 1 ≡ end_of (route_entry (get_or routes i d))
-    → GivesFirst pairs (map route_entry (take i routes))
-    → GivesFirst (pairs ++ (r, (get_or routes i d).interface) ∷ []) (map route_entry (take (i + 1) routes))
-gives_more pairs routes i d r lt low high gives a =
-    let w = route_entry (get_or routes i d) in
-    rw (first_value-push pairs r w.interface a, gives a, covered r w a low high, map_more route_entry routes i d lt)
-    (sym (first_interface-push (map route_entry (take i routes)) w a))
+    → SplitFirst pairs (map route_entry (drop i routes)) (map route_entry routes)
+    → SplitFirst (pairs ++ (r, (get_or routes i d).interface) ∷ []) (map route_entry (drop (i + 1) routes)) (map route_entry routes)
+split_more pairs routes i d r lt low high split a =
+    let w = get_or routes i d in
+    let here : (if in_range r a then Some w.interface else first_interface (map route_entry (drop (i + 1) routes)) a)
+    ≡ first_interface (map route_entry (drop i routes)) a =
+    rw (drop-cons routes i d lt, add-one) (first_interface_next (route_entry w) _ a _ (covered r (route_entry w) a low high)) in
+    first_value-push pairs r w.interface a _ ∙ ap (option_or (first_value pairs a)) here ∙ split a
 
 -- ---- the greatest prefix
 
 none_longer : (rs : List RouteEntry) (m : ℕ) → greatest rs < m → find (λ r. r.prefix == m) rs ≡ None
 none_longer [] m l = refl
-none_longer (r ∷ rs) m l = rw (ne_eqb r.prefix m (λ e. omega arith), none_longer rs m (omega arith)) refl
+none_longer (r ∷ rs) m l = grind (arith, nat_tests, none_longer rs m)
 
 -- only 0 can be the greatest prefix of no route
 absent : (rs : List RouteEntry) (m : ℕ) → greatest rs ≡ m → find (λ r. r.prefix == m) rs ≡ None → m ≡ 0
@@ -78,22 +69,16 @@ absent (r ∷ rs) m e none = grind (arith, cases_eq, r.prefix, eq-eqb, ne_eqb, (
 
 -- ---- lists with the same first route of each length
 
-find_agree : (p q : RouteEntry → Bool) → ((r : RouteEntry) → p r ≡ q r) → (rs : List RouteEntry) → find p rs ≡ find q rs
-find_agree p q same [] = refl
-find_agree p q same (r ∷ rs) = rw (same r, find_agree p q same rs) refl
-
 -- two filters in either order
 find_swap : (p q : RouteEntry → Bool) (rs : List RouteEntry) → find p (filter q rs) ≡ find q (filter p rs)
-find_swap p q rs = find-filter p q rs ∙ find_agree (λ r. q r && p r) (λ r. p r && q r) (λ r. and-flip (q r) (p r)) rs ∙ sym (find-filter q p rs)
+find_swap p q [] = refl
+find_swap p q (r ∷ rs) = grind (arith, find_swap p q rs)
 
 abbrev SameByLength : List RouteEntry → List RouteEntry → Type 0
 SameByLength xs ys = (n : ℕ) → find (λ (r : RouteEntry). r.prefix == n) xs ≡ find (λ (r : RouteEntry). r.prefix == n) ys
 
 no_longer : (xs ys : List RouteEntry) → SameByLength xs ys → greatest xs ≤ greatest ys
-no_longer xs ys same = ⊎_elim
-    (λ less. let zero = absent xs (greatest xs) refl (same (greatest xs) ∙ none_longer ys (greatest xs) less) in omega arith)
-    (λ more. more)
-    (cases_lt (greatest ys) (greatest xs))
+no_longer xs ys same = grind (arith, absent xs (greatest xs) refl, none_longer ys (greatest xs), same (greatest xs), cases_lt (greatest ys) (greatest xs))
 
 same_best : (xs ys : List RouteEntry) → SameByLength xs ys → best_of xs ≡ best_of ys
 same_best xs ys same =
@@ -111,18 +96,14 @@ IsFalling rs = (i j : ℕ) (d : RouteEntry) → i ≤ j → j < length rs → (g
 filtered : (p : RouteEntry → Bool) (m : ℕ) (rs : List RouteEntry)
     → ((j : ℕ) (d : RouteEntry) → j < length rs → (get_or rs j d).prefix ≤ m) → greatest (filter p rs) ≤ m
 filtered p m [] h = omega arith
-filtered p m (r ∷ rs) h =
-    let rest = filtered p m rs (λ j d lt. h (suc j) d (omega arith)) in
-    let first : r.prefix ≤ m = h 0 r (omega arith) in
-    elim (p r) as (λ b. greatest (cond b (r ∷ filter p rs) (filter p rs)) ≤ m) [ true ↦ omega arith | false ↦ rest ]
+filtered p m (r ∷ rs) h = grind (arith, h 0 r, filtered p m rs (λ j d lt. h (suc j) d (omega arith)))
 
 first_is_best : (p : RouteEntry → Bool) (rs : List RouteEntry) → IsFalling rs → find p rs ≡ best_of (filter p rs)
 first_is_best p [] falling = refl
 first_is_best p (r ∷ rs) falling =
     let most = filtered p r.prefix rs (λ j d lt. falling 0 (suc j) d (omega arith) (omega arith)) in
     let rest = first_is_best p rs (λ i j d le lt. falling (suc i) (suc j) d (omega arith) (omega arith)) in
-    let longest : (r.prefix == max r.prefix (greatest (filter p rs))) ≡ true = eq-eqb _ _ (omega arith) in
-    elim (cases_Bool (p r)) [ inl e ↦ rw (e, longest) refl | inr e ↦ rw e rest ]
+    grind (arith, nat_tests, most, rest)
 
 pub first_is_best_interface : (routes sorted : List RouteEntry) → IsLongestFirst routes sorted → (a : ℕ)
     → first_interface sorted a ≡ best_interface routes a
@@ -146,9 +127,7 @@ longer_ranks = IsStrictWeakOrder-flip (λ x y. ltb x.prefix y.prefix) (IsStrictW
 mapped_filter : (p : RouteEntry → Bool) (rs : List Route)
     → filter p (map route_entry rs) ≡ map route_entry (filter (λ r. p (route_entry r)) rs)
 mapped_filter p [] = refl
-mapped_filter p (r ∷ rs) =
-    let rest = mapped_filter p rs in
-    elim (cases_Bool (p (route_entry r))) [ inl e ↦ rw e (ap (λ l. route_entry r ∷ l) rest) | inr e ↦ rw e rest ]
+mapped_filter p (r ∷ rs) = grind (arith, mapped_filter p rs)
 
 tie_is : (n : ℕ) (r : Route) → (r.prefix == n) ≡ ties is_longer (record { address = 0; prefix = n; interface = 0 }) r
 tie_is n r = grind (arith, nat_tests)

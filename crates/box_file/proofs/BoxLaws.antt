@@ -20,14 +20,10 @@ one_plant text p q b c =
     b.meant ∙ ap (λ ls. plant_of ls p.idle) same ∙ ap (plant_of c.lines) idle ∙ sym c.meant
 
 pub box_or_fault : (text : List ℕ) (p : PlantTree) (fault : BoxFault) → IsBox text p → HasBoxFault text fault → ⊥
-box_or_fault text p fault b (inl f) = f.0 b.lines b.read
-box_or_fault text p fault b (inr f) = grind (arith, one_reading_of_box, b.lines, f.0, b.read, f.1, none-some, b.faultless, f.2)
+box_or_fault text p fault b f = grind (arith, one_reading_of_box text b.lines, b.read, none-some, b.faultless)
 
 pub one_fault : (text : List ℕ) (fault other : BoxFault) → HasBoxFault text fault → HasBoxFault text other → fault ≡ other
-one_fault text fault other (inl f) (inl g) = f.1 ∙ sym g.1
-one_fault text fault other (inl f) (inr g) = absurd (f.0 g.0 g.1)
-one_fault text fault other (inr f) (inl g) = absurd (g.0 f.0 f.1)
-one_fault text fault other (inr f) (inr g) = grind (arith, one_reading_of_box, f.0, f.1, same_Some, f.2)
+one_fault text fault other f g = grind (arith, one_reading_of_box, same_Some)
 
 -- the idle timeouts of a faultless text are in range
 pub idle_right : (text : List ℕ) (ls : List Line) → least_fault text ls ≡ None → list_any is_out_of_range (idles_in ls) ≡ false

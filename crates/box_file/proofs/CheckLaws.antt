@@ -1,10 +1,8 @@
 -- The checks on keys agree with the checks on lines.
-use Rattle.box_file.proofs.Names.{Bool, Bor, HashSet, List, [], any_of_map, any_pair, ap, cond, contains, get_or, get_or_default, interface_tree, is_named}
-use Rattle.box_file.proofs.Names.{length, list_any, map, nat_eq, not, pointwise, refl, take, true, two_indexes, two_names, two_values, ℕ, ◌&&◌, ◌+◌, ◌<◌, ◌==◌}
-use Rattle.box_file.proofs.Names.{◌∙◌, ◌∷◌, ◌≡◌}
+use Rattle.box_file.proofs.Names.{Bool, Bor, HashSet, List, [], any_of_map, any_pair, ap, contains, interface_tree, list_any, map, nat_eq, not, pointwise, refl}
+use Rattle.box_file.proofs.Names.{two_indexes, two_names, two_values, ℕ, ◌&&◌, ◌==◌, ◌∷◌, ◌≡◌}
 use Rattle.box_file.specs.declared.line.InterfaceLine.{InterfaceLine}
 use Rattle.box_file.proofs.NumberLaws.{same_text-pointwise}
-use Rattle.box_file.proofs.RepeatLaws.{seen_more}
 
 -- ---- repeats
 
@@ -30,15 +28,6 @@ pub indexes_differ : (l m : InterfaceLine) → two_values (λ (x y : Bor (List �
 indexes_differ l m = ap (λ v. v && not (l.index == m.index)) (same_text-pointwise l.name.now m.name.now)
 
 -- ---- unknown names
-
--- the names so far, with that of one more interface
-pub name_more : (n : List ℕ) (is : List InterfaceLine) (i : ℕ) (e : InterfaceLine) (old new : Bool) → i < length is
-    → old ≡ list_any (is_named n) (map interface_tree (take i is))
-    → new ≡ cond (pointwise nat_eq (get_or is i e).name.now n) true old
-    → new ≡ list_any (is_named n) (map interface_tree (take (i + 1) is))
-name_more n is i e old new lt was now =
-    seen_more interface_tree (record { within = lt; item = get_or_default is i e (get_or is i e) lt }) (is_named n) old new was
-    (now ∙ ap (λ v. cond v true old) (same_text-pointwise (get_or is i e).name.now n))
 
 abbrev pub has : {S : Type 0} → HashSet (Bor (List ℕ)) S → Bor (List ℕ) → Bool
 has known n = contains (λ x y. pointwise nat_eq x.now y.now) known n

@@ -1,7 +1,7 @@
 -- Lines in range set one value for each timeout.
-use Rattle.box_file.proofs.Names.{AreLimits, Bool, Bool-set, Idle, IdleKind, IfSome_at, IsTrue, List, None, Option, Some, ap, arith, false, find, idle_for}
-use Rattle.box_file.proofs.Names.{is_of_kind, is_out_of_range, limit_for, list_any, lt-ltb, ltb-false, max_idle_seconds, minimum_for, nat_lt, or_parts, refl}
-use Rattle.box_file.proofs.Names.{seconds_of, subst, sym, true, usual_limits, ℕ, ◌&&◌, ◌<◌, ◌^◌, ◌≡◌}
+use Rattle.box_file.proofs.Names.{AreLimits, Bool, Bool-set, Idle, IdleKind, IfSome_at, IsTrue, List, Some, ap, arith, false, find, idle_for}
+use Rattle.box_file.proofs.Names.{is_of_kind, is_out_of_range, limit_for, list_any, minimum_for, nat_lt, refl}
+use Rattle.box_file.proofs.Names.{nat_tests, seconds_of, subst, sym, true, usual_limits, ℕ, ◌&&◌, ◌<◌, ◌^◌, ◌≡◌}
 use Rattle.box_file.proofs.ListLaws.{each_fails, found_all}
 use Rattle.box_file.specs.declared.idle_line.IdleKind.TheVariants as kinds
 use Rattle.box_file.specs.declared.limits.Limits.{Limits}
@@ -34,11 +34,7 @@ same_limits l m same =
 -- ---- lines in range
 
 pub some_limit : (k : IdleKind) → (0 < minimum_for k) × (0 < limit_for usual_limits k)
-some_limit kinds.Udp = (omega arith, omega arith)
-some_limit kinds.Established = (omega arith, omega arith)
-some_limit kinds.Transitory = (omega arith, omega arith)
-some_limit kinds.Echo = (omega arith, omega arith)
-some_limit kinds.Other = (omega arith, omega arith)
+some_limit k = grind arith
 
 -- the line for a kind sets a second at least, and no more than a `u32` holds
 pub found : (k : IdleKind) (i : Idle) (is : List Idle) → list_any is_out_of_range is ≡ false
@@ -46,19 +42,10 @@ pub found : (k : IdleKind) (i : Idle) (is : List Idle) → list_any is_out_of_ra
 found k i is e there =
     let right = IfSome_at (find (is_of_kind k) is) (λ j. is_out_of_range j ≡ false) i (sym there)
     (found_all (λ j. is_out_of_range j ≡ false) (is_of_kind k) is (each_fails is_out_of_range is e)) in
-    let p = or_parts (nat_lt (seconds_of i) (minimum_for i.kind)) (nat_lt max_idle_seconds (seconds_of i)) right in
-    let some = (some_limit i.kind).0 in
-    let low = ltb-false _ _ p.0 in
-    let high = ltb-false _ _ p.1 in
-    (omega arith, omega arith)
-
-limit_at_least_one : (k : IdleKind) (is : List Idle) → list_any is_out_of_range is ≡ false → (o : Option Idle)
-    → o ≡ find (is_of_kind k) is → 0 < idle_for is k
-limit_at_least_one k is e None there = rw (← there) (some_limit k).1
-limit_at_least_one k is e (Some i) there = rw (← there) (found k i is e there).0
+    grind (arith, some_limit i.kind, right)
 
 limit_positive : (k : IdleKind) (is : List Idle) → list_any is_out_of_range is ≡ false → nat_lt 0 (idle_for is k) ≡ true
-limit_positive k is e = lt-ltb _ _ (limit_at_least_one k is e (find (is_of_kind k) is) refl)
+limit_positive k is e = grind (arith, nat_tests, found k, some_limit k)
 
 -- lines in range set all timeouts
 pub limits_of : (is : List Idle) → list_any is_out_of_range is ≡ false → Limits
@@ -69,8 +56,4 @@ limits_of is e =
 
 pub are_limits : (is : List Idle) (e : list_any is_out_of_range is ≡ false) → AreLimits is (limits_of is e)
 unfolding limits_of
-are_limits is e kinds.Udp = refl
-are_limits is e kinds.Established = refl
-are_limits is e kinds.Transitory = refl
-are_limits is e kinds.Echo = refl
-are_limits is e kinds.Other = refl
+are_limits is e k = grind arith

@@ -1,6 +1,6 @@
 -- The results of std's calls in terms of the parsers: texts, numbers.
-use Rattle.box_file.proofs.Names.{Err, IsAscii-from_digits, List, MatchResult, None, Ok, Result, Some, [], and_parts, ap, arith, cond-false, digits_value, eqb}
-use Rattle.box_file.proofs.Names.{false, false_from_ne_true, is_ascii_digit, is_numeral, length, list_all, lt-ltb, ltb-true, number_in, pointwise, refl, rules}
+use Rattle.box_file.proofs.Names.{nat_tests, Err, IsAscii-from_digits, List, MatchResult, Ok, Result, Some, [], and_parts, ap, arith, digits_value, eqb}
+use Rattle.box_file.proofs.Names.{false, is_ascii_digit, is_numeral, length, list_all, number_in, pointwise, refl, rules}
 use Rattle.box_file.proofs.Names.{same_text, subst, sym, true, ℕ, ◌&&◌, ◌<◌, ◌^◌, ◌∙◌, ◌∷◌, ◌≡◌}
 use Rattle.std.specs.Result.{result_ok, OkIff}
 use Rattle.std.specs.Str.{IsUtf8}
@@ -12,11 +12,6 @@ use Rattle.std.proofs.lemmas.Str.Parse.{IsNumeralModel, numerals_by_value}
 pub ok_holds : {S E : Type 0} (P : S → Type 0) (Q : E → Type 0) (r : Result S E) (x : S) → MatchResult r P Q → result_ok r ≡ Some x → P x
 ok_holds P Q (Ok y) x h e = let same : y ≡ x = cc in subst P same h
 ok_holds P Q (Err y) x h e = absurd cc
-
-pub err_holds : {S E U : Type 0} (P : S → Type 0) (Q : E → Type 0) (r : Result S E) → MatchResult r P Q
-    → result_ok r ≡ None → ((e : E) → Q e → U) → U
-err_holds P Q (Ok y) h e k = absurd cc
-err_holds P Q (Err y) h e k = k y h
 
 pub same_text-pointwise : (xs ys : List ℕ) → pointwise eqb xs ys ≡ same_text xs ys
 same_text-pointwise [] [] = refl
@@ -43,9 +38,6 @@ numeral_is_text ds e = IsUtf8-from_ascii ds (IsAscii-from_digits ds (digits.to d
 pub number_is : {E : Type 0} (ds : List ℕ) (r : Result ℕ E) → is_numeral ds ≡ true
     → OkIff r ((0 < length ds) × (digits_value 10 ds < 2 ^ 32)) (digits_value 10 ds) → result_ok r ≡ number_in ds
 unfolding number_in
-number_is ds (Ok x) e h = rw (e, lt-ltb (digits_value 10 ds) 4294967296 h.0.1, h.1) refl
-number_is ds (Err x) e h =
-    let plain = numeral_digits ds e in
-    sym (cond-false _ _ _ (false_from_ne_true _ (λ k. h (plain.1, ltb-true _ _ (and_parts (is_numeral ds) _ k).1))))
+number_is ds r e h = grind (arith, nat_tests, numeral_digits)
 
 pub ruleset text_tests = (same_text-pointwise)

@@ -1,20 +1,16 @@
 -- The invariant of a `Plant`: its interface indexes are valid, and its lookup table is right.
 use Rattle.std.proofs.Common.{arith}
 use Rattle.box_file.proofs.Names.{Bool, EachIndexed, EachRouteIndexed, IfSome, IfSome_at, Interface, IsIndex, KnowsNames, Line, List, NamedRoute, None, Option}
-use Rattle.box_file.proofs.Names.{RouteEntry, Some, [], best_interface, default_line, defaults_in, each_is_line, entering_of, false, filter_map}
-use Rattle.box_file.proofs.Names.{find, find-filter, idle_line, interface_line, interfaces_in, is_malformed, is_some, is_unknown}
-use Rattle.box_file.proofs.Names.{known_index, list_any, not-false, option_map, or_parts, refl, route_line, route_of_line, routes_in, sym, true, unwrap_or, ℕ}
-use Rattle.box_file.proofs.Names.{◌∷◌, ◌≡◌}
+use Rattle.box_file.proofs.Names.{RouteEntry, Some, [], best_interface, defaults_in, each_is_line, entering_of, false, filter_map, find, find-filter}
+use Rattle.box_file.proofs.Names.{interfaces_in, is_some, is_unknown, known_index, list_any, not-false, option_map, refl, route_of_line, routes_in, sym, true}
+use Rattle.box_file.proofs.Names.{unwrap_or, ℕ, ◌∷◌, ◌≡◌}
 use Rattle.box_file.proofs.ListLaws.{found_all, some-found}
 
 -- ---- interface indexes
 
 pub each_indexed : (ls : List Line) → each_is_line ls → EachIndexed (interfaces_in ls)
 each_indexed [] h = tt
-each_indexed (interface_line i ∷ ls) h = ((h.0.0, h.0.1), each_indexed ls h.1)
-each_indexed (route_line r ∷ ls) h = each_indexed ls h.1
-each_indexed (default_line n ∷ ls) h = each_indexed ls h.1
-each_indexed (idle_line i ∷ ls) h = each_indexed ls h.1
+each_indexed (l ∷ ls) h = grind (arith, each_indexed ls)
 
 known : (o : Option Interface) → IfSome o (λ i. IsIndex i.index) → is_some o ≡ true
     → IsIndex (unwrap_or (option_map (λ (i : Interface). i.index) o) 0)
@@ -29,24 +25,14 @@ route_indexes : (is : List Interface) → EachIndexed is → (ls : List Line) �
     → list_any (λ (r : NamedRoute). is_unknown is r.name) (routes_in ls) ≡ false
     → EachRouteIndexed (filter_map (route_of_line is) ls)
 route_indexes is h [] k e = tt
-route_indexes is h (interface_line i ∷ ls) k e = ((k.0.0, k.0.1), route_indexes is h ls k.1 e)
-route_indexes is h (route_line r ∷ ls) k e =
-    let p = or_parts (is_unknown is r.name) (list_any (λ (s : NamedRoute). is_unknown is s.name) (routes_in ls)) e in
-    (known_number r.name is h p.0, route_indexes is h ls k.1 p.1)
-route_indexes is h (default_line n ∷ ls) k e = route_indexes is h ls k.1 e
-route_indexes is h (idle_line i ∷ ls) k e = route_indexes is h ls k.1 e
+route_indexes is h (l ∷ ls) k e = grind (arith, known_number, route_indexes is h ls)
 
 pub each_route_indexed : (ls : List Line) → each_is_line ls → KnowsNames ls
     → EachRouteIndexed (filter_map (route_of_line (interfaces_in ls)) ls)
-each_route_indexed ls h k = route_indexes (interfaces_in ls) (each_indexed ls h) ls h (or_parts _ _ k.known).0
-
-entry_number : (is : List Interface) (ns : List (List ℕ)) → EachIndexed is → is_malformed ns ≡ false
-    → list_any (is_unknown is) ns ≡ false → IsIndex (entering_of is ns)
-entry_number is [] h one e = absurd cc
-entry_number is (n ∷ ns) h one e = known_number n is h (or_parts (is_unknown is n) (list_any (is_unknown is) ns) e).0
+each_route_indexed ls h k = grind (arith, route_indexes, each_indexed ls h, k.known)
 
 pub entry_is_index : (ls : List Line) → each_is_line ls → KnowsNames ls → IsIndex (entering_of (interfaces_in ls) (defaults_in ls))
-entry_is_index ls h k = entry_number (interfaces_in ls) (defaults_in ls) (each_indexed ls h) k.formed (or_parts _ _ k.known).1
+entry_is_index ls h k = grind (arith, known_number, each_indexed ls h, k.formed, k.known)
 
 -- ---- lookups
 

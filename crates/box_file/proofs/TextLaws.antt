@@ -31,7 +31,7 @@ abbrev pub before : List Line → Option (List Line) → Option (List Line)
 before front o = option_map (λ ls. front ++ ls) o
 
 -- the line of these words, if there are any, before the others
-abbrev one_more : Option (List ℕ × List (List ℕ)) → Option (List Line) → Option (List Line)
+abbrev pub one_more : Option (List ℕ × List (List ℕ)) → Option (List Line) → Option (List Line)
 one_more None rest = rest
 one_more (Some x) rest = line_of x.0 x.1 >>= λ l. rest >>= λ ls. Some (l ∷ ls)
 
@@ -41,35 +41,18 @@ unfolding all_in line_in
 next_words [] rest = refl
 next_words (w ∷ ws) rest = refl
 
-before_next : (front : List Line) (l : Line) (o : Option (List Line))
+pub before_next : (front : List Line) (l : Line) (o : Option (List Line))
     → before (front ++ l ∷ []) o ≡ before front (o >>= λ ls. Some (l ∷ ls))
 before_next front l None = refl
 before_next front l (Some ls) = ap Some (append_assoc front (l ∷ []) ls)
 
--- an iteration of the loop over the lines
-pub record Turn (front : List Line) (ts : List ℕ) (f : List ℕ × List ℕ) (total : Option (List Line)) : Type 0 where
-  pub cut : f ≡ first_line ts
-  pub some : 0 < length ts
-  pub so_far : before front (lines_in ts) ≡ total
+-- the text's lines, by its first line and the rest
+pub lines_step : (ts : List ℕ) (f : List ℕ × List ℕ) → f ≡ first_line ts → 0 < length ts
+    → lines_in ts ≡ one_more (uncons (words_of f.0)) (lines_in f.1)
+lines_step ts f cut some = rw (lines_next ts f cut some) (next_words (words_of f.0) (map words_of (lines_of f.1)))
 
-module _ {front : List Line} {ts : List ℕ} {f : List ℕ × List ℕ} {total : Option (List Line)} (t : Turn front ts f total) where
-  step : lines_in ts ≡ one_more (uncons (words_of f.0)) (lines_in f.1)
-  step = rw (lines_next ts f t.cut t.some) (next_words (words_of f.0) (map words_of (lines_of f.1)))
-
-  pub line_taken : (w : List ℕ) (ws : List (List ℕ)) (l : Line) → uncons (words_of f.0) ≡ Some (w, ws) → line_of w ws ≡ Some l
-      → before (front ++ l ∷ []) (lines_in f.1) ≡ total
-  line_taken w ws l here e = before_next front l (lines_in f.1) ∙ (rw (step, here, e) at t.so_far)
-
-  pub no_line : (w : List ℕ) (ws : List (List ℕ)) → uncons (words_of f.0) ≡ Some (w, ws) → line_of w ws ≡ None → None ≡ total
-  no_line w ws here e = rw (step, here, e) at t.so_far
-
-  pub blank_skipped : uncons (words_of f.0) ≡ None → before front (lines_in f.1) ≡ total
-  blank_skipped blank = rw (step, blank) at t.so_far
-
-  pub rest_shorter : length f.1 < length ts
-  rest_shorter =
-      let some = t.some in
-      rw (t.cut ∙ first_parts ts) (omega (arith, length-drop (suc (position_or_len is_newline ts)) ts))
+pub rest_shorter : (ts : List ℕ) (f : List ℕ × List ℕ) → f ≡ first_line ts → 0 < length ts → length f.1 < length ts
+rest_shorter ts f cut some = rw (cut ∙ first_parts ts) (omega (arith, length-drop (suc (position_or_len is_newline ts)) ts))
 
 pub no_more : (front : List Line) (ts : List ℕ) (total : Option (List Line)) (r : Bool) → r ≡ (length ts == 0) → r ≡ true
     → before front (lines_in ts) ≡ total → Some front ≡ total

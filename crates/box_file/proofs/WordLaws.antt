@@ -1,16 +1,14 @@
 -- The first word of a line, and the rest.
 use Rattle.box_file.proofs.Names.{Bool, List, None, Option, Some, [], ap, arith, before_comment, begins_word, cases_Bool, cond, cond_both, drop, ends_word}
-use Rattle.box_file.proofs.Names.{eqb-true, false, false_from_ne_true, false≢true, filter, inl, inr, is_blank, is_nonempty, length, ltb, ltb-false, ne_eqb}
-use Rattle.box_file.proofs.Names.{one-add, onto_first, or_parts, parts_of, position_or_len, refl, rest_from, sym, take, true, true_from_ne_false}
-use Rattle.box_file.proofs.Names.{uncons, unwrap_or, words_of, ℕ, ◌+◌, ◌-◌, ◌<◌, ◌==◌, ◌∙◌, ◌∷◌, ◌≡◌, ◌≤◌}
+use Rattle.box_file.proofs.Names.{false, false_from_ne_true, false≢true, filter, inl, inr, is_blank, is_nonempty, length, ltb, ltb-false, ne_eqb}
+use Rattle.box_file.proofs.Names.{one-add, onto_first, or_parts, parts_of, position_or_len, refl, rest_from, sym, take}
+use Rattle.box_file.proofs.Names.{nat_tests, uncons, unwrap_or, words_of, ℕ, ◌-◌, ◌<◌, ◌==◌, ◌∙◌, ◌∷◌, ◌≡◌, ◌≤◌}
 
 -- ---- indexes
 
 pub place_within : (p : ℕ → Bool) (ts : List ℕ) → position_or_len p ts ≤ length ts
 place_within p [] = omega arith
-place_within p (b ∷ bs) =
-    let next = place_within p bs in
-    elim (cases_Bool (p b)) [ inl e ↦ rw e (omega arith) | inr e ↦ rw e (omega arith) ]
+place_within p (b ∷ bs) = grind (arith, place_within p bs)
 
 -- the index that `position` gave, or the end
 pub place_or_end : (p : ℕ → Bool) (ts : List ℕ) (r : Option ℕ)
@@ -20,9 +18,6 @@ place_or_end p ts r e = grind (arith, position_or_len, place_within, cond_both, 
 
 first_fails : (p : ℕ → Bool) (b : ℕ) (bs : List ℕ) → 0 < position_or_len p (b ∷ bs) → p b ≡ false
 first_fails p b bs some = false_from_ne_true (p b) (λ e. let none : 0 < 0 = rw e at some in omega arith)
-
-first_passes : (p : ℕ → Bool) (b : ℕ) (bs : List ℕ) → position_or_len p (b ∷ bs) ≡ 0 → p b ≡ true
-first_passes p b bs none = true_from_ne_false (p b) (λ e. let some : 1 + position_or_len p bs ≡ 0 = rw e at none in omega arith)
 
 -- ---- blanks before a word
 
@@ -52,10 +47,7 @@ WordFront b ts = filter is_nonempty (onto_first b (parts_of is_blank (before_com
     ≡ (b ∷ take (position_or_len ends_word ts) ts) ∷ words_of (drop (position_or_len ends_word ts) ts)
 
 front_step : (b c : ℕ) (cs : List ℕ) (s v : Bool) → (c == 35) ≡ s → is_blank c ≡ v → WordFront c cs → WordFront b (c ∷ cs)
-front_step b c cs true v es ev h = let same : c ≡ 35 = eqb-true c 35 es in rw same refl
-front_step b c cs false true es ev h = rw (ev, es, ev) refl
-front_step b c cs false false es ev h =
-    rw (es, ev, one-add) (onto_words b c (parts_of is_blank (before_comment cs)) ∙ ap (onto_first b) h)
+front_step b c cs s v es ev h = grind (arith, nat_tests, onto_words, h)
 
 word_front : (b : ℕ) (ts : List ℕ) → WordFront b ts
 word_front b [] = refl

@@ -11,8 +11,7 @@ returns-in-Some-clause-value c =
 
 pub returns-in-Some-clause-positive : goal.returns-in-Some-clause-positive
 returns-in-Some-clause-positive c =
-    let range = found c.args.kind _ (map idle_tree c.args.lines.now) c.requires (rw c.in-Some.is at c.find_by_kind.ensures) in
-    rw (c.seconds.ensures.small range.1) range.0
+    grind (arith, found c.args.kind _ (map idle_tree c.args.lines.now) c.requires (rw c.in-Some.is at c.find_by_kind.ensures), c.seconds.ensures.small)
 
 pub returns-in-None-clause-value : goal.returns-in-None-clause-value
 returns-in-None-clause-value c = grind arith

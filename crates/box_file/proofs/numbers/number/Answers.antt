@@ -1,12 +1,11 @@
-use Rattle.box_file.proofs.Names.{sym, ◌∙◌}
+use Rattle.box_file.proofs.Names.{arith, sym, ◌∙◌}
 use Rattle.std.proofs.lemmas.Str.Parse.{parse_digits}
-use Rattle.box_file.proofs.NumberLaws.{digits, number_is, numeral_digits, numeral_is_text, ok_holds, err_holds}
+use Rattle.box_file.proofs.NumberLaws.{digits, number_is, numeral_digits, numeral_is_text, ok_holds}
 use Rattle.box_file.proofs.numbers.number.Goals as goal
 
 pub returns-in_err-ok : goal.returns-in_err-ok
 returns-in_err-ok c =
-    let text = numeral_is_text c.args.bytes.now (sym c.is_numeral.ensures ∙ c.if-not-is_numeral.false) in
-    absurd (err_holds _ _ c.from_utf8.result c.from_utf8.ensures.cases (sym c.ok.ensures.value ∙ c.in_err-ok.was) (λ e h. h.0 text))
+    grind (arith, numeral_is_text, c.from_utf8.ensures.cases, c.ok.ensures.value, c.in_err-ok.was, c.is_numeral.ensures, c.if-not-is_numeral.false)
 
 pub returns : goal.returns
 returns c =
