@@ -31,7 +31,7 @@ pub fn one_entry()
 }
 
 /// A record extends a history that holds these connections but for ids, and so do they after it.
-pub fn extends_history()
+pub(crate) fn extends_history()
     ensures aged { (setup : Setup) (history : List Entry) (held : List ConntrackEntry) (now : ℕ)
         → SameExceptIds held (live_in setup history) → moment_of history ≤ now
         → SameExceptIds (live_at (limits_of setup) now held)
