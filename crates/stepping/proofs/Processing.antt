@@ -1,5 +1,5 @@
 -- A packet's path, by the answers of the calls, and the connections held after it.
-use Rattle.stepping.proofs.Names.{Arrival, Belonging, Bool, CanConfirm, Cause, Confirms, ConnId, ConntrackEntry, Continue, CtFacts, CtInfo, Drop, Err, Fits}
+use Rattle.stepping.proofs.Names.{[], Arrival, Belonging, Bool, CanConfirm, Cause, Confirms, ConnId, ConntrackEntry, Continue, CtFacts, CtInfo, Drop, Err, Fits}
 use Rattle.stepping.proofs.Names.{Flags, Follows, List, Mapping, New, NewConnection, None, NotFound, Notrack, Ok, Option, PathState, Result, Some, StepResult}
 use Rattle.stepping.proofs.Names.{Tuple, Unconfirmed, after_end, after_packet, ap, arith, arrival_of, begins, begun_in, belonging_by_tuple, belonging_in}
 use Rattle.stepping.proofs.Names.{belonging_of, change_of_packet, confirmation_by, confirmation_of, confirmed_in, ct_info_by, ct_info_by_tuple}
@@ -29,11 +29,10 @@ pub idle_open : (before info : CtInfo) (held : List ConntrackEntry) → confirma
     → untranslated info ≡ untranslated before → CanConfirm NotFound info held
 idle_open before info held idle same = grind arith
 
-pub error_idle : (b : Belonging) → confirmation_by (error_ct_info b) 0 ≡ Unconfirmed
-error_idle b = grind arith
-
-pub error_fits : (b : Belonging) (mappings : List Mapping) → Fits (error_ct_info b) mappings
-error_fits b mappings = grind arith
+-- an ICMP error refreshes no connection, and needs no mapping
+pub error_kept : (b : Belonging) (mappings : List Mapping)
+    → (confirmation_by (error_ct_info b) 0 ≡ Unconfirmed) × Fits (error_ct_info b) mappings
+error_kept b mappings = grind arith
 
 -- ---- the connections held after a confirmation, by what the packet belongs to
 
@@ -101,7 +100,7 @@ module _ (p : List ℕ) (old : List ConntrackEntry) where
     follows_key : (key : Option Tuple) → tuple_of p ≡ key → before ≡ ct_info_by_tuple old p key → Follows now p r begun old new
     follows_key None own is =
         let known = looked_up None in
-        follows_idle (grind (arith, error_idle)) (grind (arith, known)) (grind (arith, known))
+        follows_idle (rw is (error_kept _ []).0) (grind (arith, known)) (grind (arith, known))
     follows_key (Some t) own is =
         let known = looked_up (Some t) in
         let key = tuple_kept (final_state r).info before same in

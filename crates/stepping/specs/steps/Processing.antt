@@ -75,14 +75,11 @@ held_by now id p None confirmation held = held
 held_by now id p (Some t) confirmation held =
     after_packet (belonging_of held p) id (arrival_of now p t) confirmation held
 
-abbrev pub held_after : ℕ → ConnId → List ℕ → StepResult → List ConntrackEntry → List ConntrackEntry
-held_after now id p r held = held_by now id p (tuple_in p r) (confirmation_of r) held
-
 -- the connections held follow the result of a packet's path
 pub record Follows (now : ℕ) (p : List ℕ) (r : StepResult) (begun : Bool) (old new : List ConntrackEntry)
     : Type 0 where
   pub id : ConnId
-  pub held : new ≡ held_after now id p r old
+  pub held : new ≡ held_by now id p (tuple_in p r) (confirmation_of r) old
   pub begins : begun ≡ is_creation (tracked_as now old p (tuple_in p r) (confirmation_of r)).change
 
 -- ---- the answers

@@ -1,6 +1,6 @@
-use Rattle.stepping.proofs.Names.{CtInfo, None, Some, Untracked, ap, arith, error_belonging, inner_tuple_of, path_state, refl, sym, untranslated, with_info}
+use Rattle.stepping.proofs.Names.{[], CtInfo, None, Some, Untracked, ap, arith, error_belonging, inner_tuple_of, path_state, refl, sym, untranslated, with_info}
 use Rattle.stepping.proofs.Names.{◌∙◌}
-use Rattle.stepping.proofs.Processing.{error_fits, error_idle, found, idle_open, still_open}
+use Rattle.stepping.proofs.Processing.{error_kept, found, idle_open, still_open}
 use Rattle.stepping.proofs.lookup.look_up.Goals as goal
 
 pub returns-in-Notrack : goal.returns-in-Notrack
@@ -32,8 +32,8 @@ returns-in_default-tuple g c =
       limits = refl;
       later = c.requires.later;
       room = c.requires.room;
-      confirmable = λ after same. idle_open _ after _ (error_idle b) (same ∙ ap untranslated is);
-      fits = rw is (error_fits b _);
+      confirmable = λ after same. idle_open _ after _ (error_kept b []).0 (same ∙ ap untranslated is);
+      fits = rw is (error_kept b _).1;
     }
 
 pub returns : goal.returns
