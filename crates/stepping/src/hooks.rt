@@ -1,10 +1,8 @@
 //! The hooks after the look-up, with routing between them.
-ghost use Rattle.std.specs.Prelude.{◌≡◌, List};
-ghost use Rattle.hook_runs.specs.Stages.{stage_cost};
-ghost use Rattle.ip_headers.specs.declared.tuple.Mapping.{Mapping};
+ghost use Rattle.std.specs.Prelude.{◌≡◌};
 ghost use Rattle.filter_vm.specs.Machine.{EventsAndTicks};
-ghost use Rattle.stepping.specs.Paths.{AfterRouting, ForwardAndPostrouting, Hooks, Prerouting, Routing, RunsStage};
-ghost use Rattle.stepping.specs.steps.Steps.{HasRoom, Spends, TakesStep, after_routing_cost, hooks_cost, path_state, prerouting_cost, setup_in, step_result};
+ghost use Rattle.stepping.specs.Paths.{ForwardAndPostrouting, Hooks, Prerouting, Routing};
+ghost use Rattle.stepping.specs.steps.Steps.{HasRoom, TakesStep, after_routing_cost, hooks_cost, path_state, prerouting_cost, setup_in, step_result};
 
 use crate::nat::{translate_destination, translate_source};
 use crate::setup::Setup;
@@ -30,27 +28,11 @@ pub fn run_hooks(
 {
     prerouting(setup, mappings, state, events)?;
     route(setup, state)?;
-    after_routing(setup, mappings, state, events)
-}
-
-/// Runs the chains of a stage, a step that translates nothing.
-///
-/// # Errors
-/// `Rule`: a rule or a policy drops the packet.
-#[inline(always)]
-fn run_stage(
-    setup: &Setup,
-    stage: HookStage,
-    state: &mut PacketState,
-    events: &mut Events,
-) -> Result<(), Cause>
-    requires room { HasRoom events.old (stage_cost setup.now.hooks stage) }
-    ensures took { (mappings : List Mapping)
-        → TakesStep (λ held. RunsStage (setup_in setup.now.hooks) stage) mappings
-        (stage_cost setup.now.hooks stage) state.old events.old state.new events.new result }
-    ensures spent { Spends events.old events.new (stage_cost setup.now.hooks stage) }
-{
-    setup.run(stage, state, events)
+    match state.facts.output {
+        // It is addressed to this box.
+        None => setup.run(HookStage::Input, state, events),
+        Some(_) => forward_and_postrouting(setup, mappings, state, events),
+    }
 }
 
 /// The prerouting chains after the look-up, with destination NAT at its priority.
@@ -65,9 +47,9 @@ fn prerouting(
     ensures took { TakesStep (Prerouting (setup_in setup.now.hooks)) mappings.now.held
         (prerouting_cost setup.now.hooks.costs) state.old events.old state.new events.new result }
 {
-    run_stage(setup, HookStage::PreroutingBeforeNat, state, events)?;
+    setup.run(HookStage::PreroutingBeforeNat, state, events)?;
     translate_destination(setup, mappings, state, events)?;
-    run_stage(setup, HookStage::PreroutingAfterNat, state, events)
+    setup.run(HookStage::PreroutingAfterNat, state, events)
 }
 
 /// The routing decision, by the destination after NAT: the output interface of a packet that is
@@ -98,25 +80,6 @@ fn route(setup: &Setup, state: &mut PacketState) -> Result<(), Cause>
     Ok(())
 }
 
-/// Input for a packet without an output interface, else forward and postrouting.
-#[inline(always)]
-fn after_routing(
-    setup: &Setup,
-    mappings: &Mappings,
-    state: &mut PacketState,
-    events: &mut Events,
-) -> Result<(), Cause>
-    requires room { HasRoom events.old (after_routing_cost setup.now.hooks.costs) }
-    ensures took { TakesStep (AfterRouting (setup_in setup.now.hooks)) mappings.now.held
-        (after_routing_cost setup.now.hooks.costs) state.old events.old state.new events.new
-        result }
-{
-    match state.facts.output {
-        None => setup.run(HookStage::Input, state, events),
-        Some(_) => forward_and_postrouting(setup, mappings, state, events),
-    }
-}
-
 /// Forward and then postrouting, with source NAT at its priority.
 #[inline(always)]
 fn forward_and_postrouting(
@@ -130,8 +93,8 @@ fn forward_and_postrouting(
         (after_routing_cost setup.now.hooks.costs) state.old events.old state.new events.new
         result }
 {
-    run_stage(setup, HookStage::Forward, state, events)?;
-    run_stage(setup, HookStage::PostroutingBeforeNat, state, events)?;
+    setup.run(HookStage::Forward, state, events)?;
+    setup.run(HookStage::PostroutingBeforeNat, state, events)?;
     translate_source(setup, mappings, state, events)?;
-    run_stage(setup, HookStage::PostroutingAfterNat, state, events)
+    setup.run(HookStage::PostroutingAfterNat, state, events)
 }

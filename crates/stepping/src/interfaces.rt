@@ -1,5 +1,5 @@
 //! The interfaces of a box, as rules read them.
-ghost use Rattle.std.specs.Prelude.{◌≡◌, find, IfOk, map};
+ghost use Rattle.std.specs.Prelude.{◌≡◌, find, IfOk};
 ghost use Rattle.std.specs.Option.{option_copied};
 ghost use Rattle.stepping.specs.Carried.{interface_facts};
 ghost use Rattle.stepping.specs.steps.Interfaces.{interfaces_of, is_at};
@@ -17,21 +17,10 @@ pub fn interfaces_of(alloc: Global, plant: &Plant) -> Result<Vec<Interface>, All
     ensures { IfOk result (λ found. found.items ≡ interfaces_of plant.now) }
 {
     let indexes = plant.indexes(alloc)?;
-    interfaces_at(alloc, plant, &indexes)
-}
-
-fn interfaces_at(
-    alloc: Global,
-    plant: &Plant,
-    indexes: &[u32],
-) -> Result<Vec<Interface>, AllocError>
-    ensures { IfOk result (λ found. found.items ≡ map (interface_facts plant.now) indexes.now) }
-{
-    let mut found = Vec::with_capacity(alloc, indexes.len())?;
-    for index in indexes {
-        found.push(interface_facts(plant, *index))?;
-    }
-    Ok(found)
+    indexes
+        .iter()
+        .map(|index| interface_facts(plant, *index))
+        .collect(alloc)
 }
 
 /// The first of these interfaces that has this index.

@@ -1,15 +1,16 @@
 //! The configuration of a box, compiled.
-ghost use Rattle.std.specs.Prelude.{◌≡◌, ◌≤◌, ℕ, [], IfOk, IfSome};
+ghost use Rattle.std.specs.Prelude.{◌≡◌, ◌≤◌, ℕ, [], IfOk, IfSome, List};
 ghost use Rattle.std.specs.Option.{option_copied, option_map};
 ghost use Rattle.nft_tree.specs.Tree.{TableTree};
 ghost use Rattle.rule_paths.specs.Paths.{AreAllCosts, Caller, ruleset_cost};
 ghost use Rattle.hook_runs.specs.Stages.{total_stage_cost, stage_cost};
+ghost use Rattle.ip_headers.specs.declared.tuple.Mapping.{Mapping};
 ghost use Rattle.stepping.specs.Carried.{input_interface, interface_facts};
 ghost use Rattle.box_file.specs.Box.{name_of};
 ghost use Rattle.stepping.specs.Representing.{setup_of};
 ghost use Rattle.stepping.specs.Paths.{RunsStage};
 ghost use Rattle.stepping.specs.steps.Interfaces.{interfaces_of};
-ghost use Rattle.stepping.specs.steps.Steps.{HasRoom, Spends, path_state, setup_in, step_result};
+ghost use Rattle.stepping.specs.steps.Steps.{HasRoom, Spends, TakesStep, setup_in};
 
 use crate::interfaces::{find_interface, interface_facts, interfaces_of};
 use crate::state::PacketState;
@@ -109,9 +110,10 @@ impl Setup {
         events: &mut Events,
     ) -> Result<(), Cause>
         requires room { HasRoom events.old (stage_cost self.now.hooks stage) }
-        ensures step { RunsStage (setup_in self.now.hooks) stage (path_state state.old events.old)
-            (step_result result (path_state state.new events.new)) }
-        ensures info { state.new.info ≡ state.old.info }
+        // It translates nothing, whichever mappings are held.
+        ensures took { (mappings : List Mapping)
+            → TakesStep (λ held. RunsStage (setup_in self.now.hooks) stage) mappings
+            (stage_cost self.now.hooks stage) state.old events.old state.new events.new result }
         ensures spent { Spends events.old events.new (stage_cost self.now.hooks stage) }
     {
         match self.hooks.run(stage, &mut state.facts, events) {

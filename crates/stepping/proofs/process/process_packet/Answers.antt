@@ -1,4 +1,4 @@
-use Rattle.stepping.proofs.Names.{Continue, CtInfo, Notrack, PathState, ap, err_from_is_err_and, flags_in, goes_on, looked_up_info, others_beside, path_state}
+use Rattle.stepping.proofs.Names.{Continue, CtInfo, Notrack, PathState, [], ap, err_from_is_err_and, flags_in, goes_on, looked_up_info, others_beside, path_state}
 use Rattle.stepping.proofs.Names.{refl, stops, untranslated, ◌∙◌, ◌≡◌}
 use Rattle.stepping.proofs.Processing.{confirmed_follows, dropped_follows}
 use Rattle.stepping.proofs.process.process_packet.Goals as goal
@@ -6,20 +6,20 @@ use Rattle.stepping.proofs.process.process_packet.Goals as goal
 pub returns-in_err-run-clause-path : goal.returns-in_err-run-clause-path
 returns-in_err-run-clause-path g c =
     let q = err_from_is_err_and c.from_residual.result c.from_residual.ensures.1 in
-    rw (q.1, q.2) (stops _ _ c.in_err-run.ensures.step)
+    rw (q.1, q.2) (stops _ _ ((c.in_err-run.ensures.took []).step [] (λ m. refl)))
 
 pub returns-in_err-run-clause-follows : goal.returns-in_err-run-clause-follows
 returns-in_err-run-clause-follows g c =
     let q = err_from_is_err_and c.from_residual.result c.from_residual.ensures.1 in
     rw (q.1, q.2) (dropped_follows _ _ _ Notrack _ _ _
-    (ap untranslated (c.in_err-run.ensures.info ∙ c.requires.not_looked_up)) refl)
+    ((c.in_err-run.ensures.took []).same ∙ ap untranslated c.requires.not_looked_up) refl)
 
 pub returns-in_err-run_hooks-clause-path : goal.returns-in_err-run_hooks-clause-path
 returns-in_err-run_hooks-clause-path g c =
     let q = err_from_is_err_and c.from_residual-in_err-run_hooks.result c.from_residual-in_err-run_hooks.ensures.1 in
     let look = c.look_up-belonging in
     let hooks = rw look.ensures.held at (c.in_err-run_hooks.ensures.took.step _ c.mappings.ensures) in
-    rw (q.1, q.2) (goes_on _ _ c.in_ok-run.ensures.step (goes_on (path_state look.new.state c.run.new.events) _
+    rw (q.1, q.2) (goes_on _ _ ((c.in_ok-run.ensures.took []).step [] (λ m. refl)) (goes_on (path_state look.new.state c.run.new.events) _
     (ap Continue (look.ensures.step c.run.new.events)) (stops _ _ hooks)))
 
 pub returns-in_err-run_hooks-clause-follows : goal.returns-in_err-run_hooks-clause-follows
@@ -36,7 +36,7 @@ returns-clause-path g c =
     let look = c.look_up-belonging in
     let hooks = rw look.ensures.held at (c.in_ok-run_hooks.ensures.took.step _ c.mappings.ensures) in
     let confirms = rw look.ensures.held at c.confirm.ensures.confirms in
-    goes_on _ _ c.in_ok-run.ensures.step (goes_on (path_state look.new.state c.run.new.events) _
+    goes_on _ _ ((c.in_ok-run.ensures.took []).step [] (λ m. refl)) (goes_on (path_state look.new.state c.run.new.events) _
     (ap Continue (look.ensures.step c.run.new.events)) (goes_on _ _ hooks (confirms.step _)))
 
 pub returns-clause-follows : goal.returns-clause-follows
