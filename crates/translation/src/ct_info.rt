@@ -109,6 +109,7 @@ impl CtInfo {
     }
 
     /// What rules read of the packet's connection.
+    #[inline(always)]
     pub fn ct(&self) -> CtFacts
         ensures { result ≡ ct_facts_of self.now }
     {
