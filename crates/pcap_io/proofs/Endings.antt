@@ -1,14 +1,18 @@
 -- How a stream ends at some bytes, unless a record begins there.
 use Rattle.std.proofs.Common.{◌≡◌, ◌≢◌, ℕ, ◌+◌, ◌<◌, ◌≤◌, Bool, false, List, [], ◌∷◌, length, ◌⊎◌, inl, inr}
-use Rattle.std.proofs.Common.{Option, Some, None, refl, ap, arith}
-use Rattle.std.specs.Prelude.{◌||◌, ◌==◌, is_some, nat_lt, not, if◌then◌else◌}
-use Rattle.std.proofs.lemmas.Bool.{cases_lt}
+use Rattle.std.proofs.Common.{◌++◌, ◌∙◌, Option, Some, None, Err, append-nil, length-append, refl, ap, arith, sym, true}
+use Rattle.std.specs.Prelude.{IsErrOf, ◌||◌, ◌==◌, is_some, nat_lt, not, if◌then◌else◌, cond}
+use Rattle.std.proofs.lemmas.Bool.{cases_lt, true≢false}
 use Rattle.std.proofs.lemmas.Bool.Decides.{nat_tests}
 use Rattle.pcap_io.specs.declared.fault.CaptureError.{CaptureError}
 use Rattle.pcap_io.specs.declared.format.Format.{Format}
 use Rattle.pcap_io.specs.Pcap.{Ending, Ends, Whole, Torn, Malformed, Over, IsGood, captured_length_in, fraction_in, per_second}
 use Rattle.pcap_io.specs.Pcap.{MOST_CAPTURED, MOST_RECORDS}
-use Rattle.pcap_io.specs.CaptureStates.{decides_next, IsPartialRecord}
+use Rattle.pcap_io.specs.declared.fault.CaptureError.TheVariants.{Refused}
+use Rattle.pcap_io.specs.declared.fault.CaptureFault.{CaptureFault}
+use Rattle.pcap_io.specs.declared.fault.CaptureFault.TheVariants as faults
+use Rattle.pcap_io.specs.CaptureStates.{CaptureState, NextAnswers, READ_AHEAD, decides_next, is_ready, IsPartialRecord}
+use Rattle.pcap_io.proofs.Steps.{number_in-append}
 
 -- by the bytes' number and the numbers of their header
 abbrev pub ending_by : (count size captured fraction most : ℕ) → Option Ending
@@ -21,6 +25,10 @@ ending_by count size captured fraction most =
 
 abbrev pub ending_at : Format → ℕ → List ℕ → Option Ending
 ending_at format count bytes = ending_by count (length bytes) (captured_length_in format bytes) (fraction_in format bytes) (per_second format.resolution)
+
+either : (b v : Bool) → cond b v v ≡ v
+either true v = refl
+either false v = refl
 
 some_bytes : (bytes : List ℕ) → bytes ≢ [] → 0 < length bytes
 some_bytes [] some = absurd (some refl)
@@ -87,7 +95,87 @@ part_of format count bytes most is = (
 )
 
 -- where it isn't ready there is no error and no end, and the bytes decide nothing
-pub not_ready : (fault : Option CaptureError) (ended settled : Bool) → (is_some fault || (ended || settled)) ≡ false
+not_ready : (fault : Option CaptureError) (ended settled : Bool) → (is_some fault || (ended || settled)) ≡ false
     → (fault ≡ None) × (ended ≡ false) × (settled ≡ false)
 not_ready None ended settled is = (refl, grind arith, grind arith)
 not_ready (Some x) ended settled is = cc
+
+-- there a part of a record is buffered, with room for more
+pub record Waits (s : CaptureState) : Type 0 where
+  pub none : s.fault ≡ None
+  pub going : s.ended ≡ false
+  pub part : IsPartialRecord s.format s.count s.held
+  pub room : length s.held < READ_AHEAD
+
+pub waits : {s t : CaptureState} {ready : Bool} → s ≡ t → s.count ≤ MOST_RECORDS → ready ≡ is_ready t → ready ≡ false
+    → Waits s
+waits {s} same few is not =
+    let (none, going, unsettled) = not_ready s.fault s.ended (decides_next s.format s.count s.held) (ap is_ready same ∙ sym is ∙ not) in
+    let (part, room) = part_of s.format s.count s.held few unsettled in
+    record { none = none; going = going; part = part; room = room }
+
+-- ---- bytes that begin with no whole record
+
+has_ended : (fault : Option CaptureError) (ended settled : Bool) → (is_some fault || (ended || settled)) ≡ true
+    → fault ≡ None → settled ≡ false → ended ≡ true
+has_ended None true settled ready none unsettled = refl
+has_ended None false settled ready none unsettled = absurd (true≢false (sym ready ∙ unsettled))
+has_ended (Some x) ended settled ready none unsettled = cc
+
+undecided : (count size captured fraction most : ℕ) → count < MOST_RECORDS
+    → (size < 16) ⊎ (((captured ≤ MOST_CAPTURED) × (fraction < most)) × (size < 16 + captured))
+    → (if count == MOST_RECORDS then nat_lt 0 size else (if nat_lt size 16 then false
+    else (nat_lt MOST_CAPTURED captured || not (nat_lt fraction most)) || not (nat_lt size (16 + captured)))) ≡ false
+undecided count size captured fraction most few (inl short) = grind (arith, nat_tests)
+undecided count size captured fraction most few (inr ((small, within), short)) = grind (arith, nat_tests)
+
+-- no bytes decide nothing
+pub nothing_left : (s : CaptureState) → s.fault ≡ None → is_ready s ≡ true → s.held ≡ [] → s.ended ≡ true
+nothing_left s none ready empty =
+    has_ended s.fault s.ended (decides_next s.format s.count s.held) ready none (rw empty (either (s.count == MOST_RECORDS) false))
+
+-- a malformed header is one whatever follows
+malformed_more : (format : Format) (count : ℕ) (xs ys : List ℕ) → count < MOST_RECORDS → 16 ≤ length xs
+    → (MOST_CAPTURED < captured_length_in format xs) ⊎ (per_second format.resolution ≤ fraction_in format xs)
+    → Ends format Malformed count (xs ++ ys)
+malformed_more format count xs ys few long over =
+    let captured = number_in-append format.endianness 8 4 16 xs ys (omega arith) long in
+    let fraction = number_in-append format.endianness 4 4 16 xs ys (omega arith) long in
+    (few, omega (arith, length-append xs ys), rw (captured, fraction) over)
+
+pub refuses : {T : Type 0} {a s : CaptureState} (new : CaptureState) (fault : CaptureFault) (more : List ℕ) → a ≡ s → s.fault ≡ None
+    → is_ready s ≡ true → (s.ended ≡ true → more ≡ []) → a.held ≢ [] → a.count < MOST_RECORDS
+    → (IsErrOf {T = T} (Err fault) faults.TornEnd → (length a.held < 16)
+    ⊎ (IsGood a.format a.held × (length a.held < 16 + captured_length_in a.format a.held)))
+    → (IsErrOf {T = T} (Err fault) faults.Malformed → (16 ≤ length a.held) × ((MOST_CAPTURED < captured_length_in a.format a.held)
+    ⊎ (per_second a.format.resolution ≤ fraction_in a.format a.held)))
+    → IsErrOf {T = T} (Err fault) faults.TornEnd ⊎ IsErrOf {T = T} (Err fault) faults.Malformed → new.held ≡ s.held
+    → NextAnswers (s.held ++ more) (Some (new.held ++ more)) s new (Err (Refused fault))
+refuses {a} new fault more view none ready end some few torn malformed (inl e) same =
+    let part = torn e in
+    let is : fault ≡ faults.TornEnd = cc in
+    let unsettled = undecided a.count (length a.held) _ _ _ few part in
+    let ended = has_ended a.fault a.ended (decides_next a.format a.count a.held) (ap is_ready view ∙ ready)
+    (ap (λ (s : CaptureState). s.fault) view ∙ none) unsettled in
+    let over : more ≡ [] = end (sym (ap (λ (s : CaptureState). s.ended) view) ∙ ended) in
+    rw (is, same, over, append-nil, ← view) ((some, few, part), refl)
+refuses {a} new fault more view none ready end some few torn malformed (inr e) same =
+    let (long, over) = malformed e in
+    let is : fault ≡ faults.Malformed = cc in
+    rw (is, same, ← view) (malformed_more a.format a.count a.held more few long over, refl)
+
+pub some_more : (xs ys : List ℕ) → xs ≢ [] → xs ++ ys ≢ []
+some_more [] ys some is = some refl
+some_more (x ∷ xs) ys some is = cc
+
+pub fewer : {n : ℕ} → n ≤ MOST_RECORDS → n ≢ MOST_RECORDS → n < MOST_RECORDS
+fewer few other = omega (arith, few, other)
+
+-- by the test of a slice of these bytes
+pub are_none : (xs : List ℕ) {ys : List ℕ} {b : Bool} → xs ≡ ys → b ≡ (length xs == 0) → b ≡ true → ys ≡ []
+are_none [] same is e = sym same
+are_none (x ∷ xs) same is e = grind (arith, nat_tests)
+
+pub are_some : (xs : List ℕ) {ys : List ℕ} {b : Bool} → xs ≡ ys → b ≡ (length xs == 0) → b ≡ false → ys ≢ []
+are_some [] same is e none = true≢false (sym is ∙ e)
+are_some (x ∷ xs) same is e none = cc

@@ -1,8 +1,9 @@
 -- One record from the buffer.
-use Rattle.std.proofs.Common.{◌≡◌, ℕ, ◌+◌, ◌*◌, ◌<◌, ◌≤◌, max, List, ◌++◌, length, take, drop, Option, Some, None}
+use Rattle.std.proofs.Common.{◌≡◌, ℕ, suc, zero, ◌+◌, ◌-◌, ◌*◌, ◌<◌, ◌≤◌, max, List, ◌++◌, length, take, drop, Option, Some, None}
 use Rattle.std.proofs.Common.{refl, sym, ap, ◌∙◌, arith, length-drop, length-append, append_assoc}
-use Rattle.std.proofs.Math.Seq.{drop-append_seam}
-use Rattle.std.proofs.lemmas.List.{length-take-le, take-append-drop, take-append-le, drop-take, drop-drop}
+use Rattle.std.proofs.Math.Seq.{drop-append_seam, take-length}
+use Rattle.std.proofs.lemmas.List.{get_or-drop, length-take-le, take-append-drop, take-append-le, drop-take, drop-drop}
+use Rattle.byteorder.specs.Endian.{little_from, big_from}
 use Rattle.byteorder.specs.Numbers.{little_from-take, big_from-take}
 use Rattle.pcap_io.specs.declared.fault.CaptureError.{CaptureError}
 use Rattle.pcap_io.specs.declared.format.Endianness.{Endianness}
@@ -20,6 +21,22 @@ pub number_in-take : (endianness : Endianness) (i n m : ℕ) (xs : List ℕ) →
     → number_in endianness i n (take m xs) ≡ number_in endianness i n xs
 number_in-take Little i n m xs h = little_from-take i n m xs h
 number_in-take Big i n m xs h = big_from-take i n m xs h
+
+little_from-drop : (n i j k : ℕ) (xs : List ℕ) → j ≡ k + i → little_from i n (drop k xs) ≡ little_from j n xs
+little_from-drop zero i j k xs is = refl
+little_from-drop (suc n) i j k xs is =
+    rw (get_or-drop k xs i 0, ← is, little_from-drop n (suc i) (suc j) k xs (omega arith)) refl
+
+big_from-drop : (n i j k : ℕ) (xs : List ℕ) → j ≡ k + i → big_from i n (drop k xs) ≡ big_from j n xs
+big_from-drop zero i j k xs is = refl
+big_from-drop (suc n) i j k xs is =
+    rw (get_or-drop k xs i 0, ← is, big_from-drop n (suc i) (suc j) k xs (omega arith)) refl
+
+-- the first number of the bytes from an offset on is the one there
+pub number_at : (endianness : Endianness) (at n : ℕ) (xs : List ℕ)
+    → number_in endianness 0 n (take (length xs - at) (drop at xs)) ≡ number_in endianness at n xs
+number_at Little at n xs = rw (← length-drop at xs, take-length (drop at xs)) (little_from-drop n 0 at at xs (omega arith))
+number_at Big at n xs = rw (← length-drop at xs, take-length (drop at xs)) (big_from-drop n 0 at at xs (omega arith))
 
 -- nor do the bytes behind change it
 pub number_in-append : (endianness : Endianness) (i n m : ℕ) (xs ys : List ℕ) → i + n ≤ m → m ≤ length xs

@@ -1,5 +1,7 @@
 //! The file header: byte order, timestamp resolution and link type.
-ghost use Rattle.std.specs.Prelude.{◌≡◌, ◌<◌, ◌≤◌, ◌+◌, ◌*◌, ◌^◌, Some, None, length, OnOk};
+ghost use Rattle.std.specs.Prelude.{◌≡◌, ◌<◌, ◌≤◌, ◌+◌, ◌*◌, ◌^◌, Some, None, length, IfErr, OnOk};
+ghost use Rattle.pcap_io.specs.declared.fault.CaptureError.{CaptureError};
+ghost use Rattle.pcap_io.specs.CaptureStates.{IsOfHeader};
 ghost use Rattle.pcap_io.specs.Pcap as pcap;
 
 use crate::fault::CaptureFault;
@@ -57,6 +59,7 @@ impl Format {
     pub fn read(bytes: &[u8]) -> Result<Format, CaptureFault>
         ensures format { result ≡ pcap.format_of bytes.now }
         ensures long { OnOk result (pcap.HEADER_BYTES ≤ length bytes.now) }
+        ensures kinds { IfErr result (λ fault. IsOfHeader (CaptureError.Refused fault)) }
     {
         if bytes.len() < HEADER_BYTES {
             return Err(CaptureFault::TornEnd);

@@ -1,42 +1,53 @@
-use Rattle.std.proofs.Common.{arith}
-use Rattle.std.proofs.lemmas.Bool.Decides.{nat_tests}
-use Rattle.std.proofs.Common.{◌≡◌, Some, ◌++◌}
+use Rattle.std.proofs.Common.{◌≡◌, ◌∙◌, Some, ◌++◌, ap, refl, sym}
 use Rattle.std.proofs.lemmas.Bool.{true≢false}
 use Rattle.pcap_io.specs.steps.CaptureInvariant.{capture_state_of}
 use Rattle.std.proofs.KnownBytes.{Consumes-trans, Keeps-refl, Keeps-trans}
 use Rattle.pcap_io.specs.CaptureStates.{ahead, is_ready}
-use Rattle.pcap_io.proofs.Endings.{part_of, not_ready}
+use Rattle.pcap_io.proofs.Endings.{waits}
 use Rattle.pcap_io.proofs.Steps.{no_last}
 use Rattle.pcap_io.proofs.Coming.{filled, ended_only_at_end, less_room, failed, known, behind, next_from}
 use Rattle.pcap_io.proofs.capture.Capture.next.Goals as goal
 
+pub fill-requires-clause-room : goal.fill-requires-clause-room
+fill-requires-clause-room g c =
+    (waits c.self-in-loop-self.view_is c.self-in-loop-self.invariant.few c.is_ready.ensures c.loop-self-test.true).room
+
 pub loop-self-smaller : goal.loop-self-smaller
-loop-self-smaller g c = grind (arith, not_ready, part_of, less_room)
+loop-self-smaller g c =
+    let w = waits c.self-in-loop-self.view_is c.self-in-loop-self.invariant.few c.is_ready.ensures c.loop-self-test.true in
+    rw (← c.self-in-loop-self.view_is) (less_room c.self-in-loop-self.inside.buffer c.fill.new.self _ _ w.going w.room c.in-Ok.ensures.ok)
 
 pub loop-self-preserved : goal.loop-self-preserved
-loop-self-preserved g c = grind (arith, not_ready, no_last, Keeps-trans, filled, true≢false, ended_only_at_end, Consumes-trans)
+loop-self-preserved g c =
+    let w = waits c.self-in-loop-self.view_is c.self-in-loop-self.invariant.few c.is_ready.ensures c.loop-self-test.true in
+    let old = c.self-in-loop-self.inside.buffer in
+    let new = c.fill.new.self in
+    let fills = c.in-Ok.ensures.ok in
+    let kept = rw (← c.self-in-loop-self.view_is) at c.loop-self.invariant in record {
+      format = kept.format;
+      count = kept.count;
+      latest = kept.latest;
+      fault = w.none;
+      last = rw (no_last _ _ _ _ kept.last) refl;
+      whole = Keeps-trans _ _ _ kept.whole (filled old new _ _ w.going fills);
+      unread = λ ready. absurd (true≢false (sym ready ∙ ap is_ready (sym (c.loop-self.invariant.unread ready).0) ∙ sym c.is_ready.ensures ∙ c.loop-self-test.true));
+      drained = λ _ ended. ended_only_at_end old new _ _ fills ended;
+      read = (kept.read.0 ++ fills.more, Consumes-trans _ _ _ _ _ kept.read.1 fills.consumed);
+      no_failure = c.in-Ok.ensures.no_failure ∙ kept.no_failure;
+    }
 
 pub returns-in_default-fill-clause-broken : goal.returns-in_default-fill-clause-broken
-returns-in_default-fill-clause-broken g c _ _ = grind (arith, not_ready, part_of, failed)
+returns-in_default-fill-clause-broken g c _ _ =
+    let w = waits c.self-in-loop-self.view_is c.self-in-loop-self.invariant.few c.is_ready.ensures c.loop-self-test.true in
+    let e = c.in_default-fill.ensures.err in (e.1, rw e.0 w.part)
 
 pub returns-in_default-fill-clause-next_answers : goal.returns-in_default-fill-clause-next_answers
 returns-in_default-fill-clause-next_answers g c none =
-    grind (
-      arith,
-      nat_tests,
-      c.self-in-loop-self.view_is,
-      not_ready,
-      c.is_ready.ensures,
-      c.loop-self-test.true,
-      part_of,
-      c.self-in-loop-self.invariant.few,
-      c.in_default-fill.ensures.err,
-      failed,
-      Keeps-trans,
-      c.loop-self.invariant.whole,
-      c.self.view_is,
-      known,
-    )
+    let w = waits c.self-in-loop-self.view_is c.self-in-loop-self.invariant.few c.is_ready.ensures c.loop-self-test.true in
+    let e = c.in_default-fill.ensures.err in
+    let whole = rw (← c.self-in-loop-self.view_is) at c.loop-self.invariant.whole in
+    rw (← c.self.view_is) (known _ _ _ (Keeps-trans _ _ _ whole (failed c.self-in-loop-self.inside.buffer c.fill.new.self _ _ w.going e.1 e.0 e.2))
+    (λ bytes is. record { lost_none = is; open_end = e.1; part = rw e.0 w.part }))
 
 pub returns-clause-next_answers : goal.returns-clause-next_answers
 returns-clause-next_answers g c none =
