@@ -34,7 +34,7 @@ some_bytes : (bytes : List ℕ) → bytes ≢ [] → 0 < length bytes
 some_bytes [] some = absurd (some refl)
 some_bytes (x ∷ xs) some = omega arith
 
-no_bytes : (bytes : List ℕ) → length bytes ≡ 0 → bytes ≡ []
+pub no_bytes : (bytes : List ℕ) → length bytes ≡ 0 → bytes ≡ []
 no_bytes [] is = refl
 no_bytes (x ∷ xs) is = absurd (omega (arith, is))
 
@@ -168,14 +168,7 @@ pub some_more : (xs ys : List ℕ) → xs ≢ [] → xs ++ ys ≢ []
 some_more [] ys some is = some refl
 some_more (x ∷ xs) ys some is = cc
 
-pub fewer : {n : ℕ} → n ≤ MOST_RECORDS → n ≢ MOST_RECORDS → n < MOST_RECORDS
-fewer few other = omega (arith, few, other)
-
 -- by the test of a slice of these bytes
-pub are_none : (xs : List ℕ) {ys : List ℕ} {b : Bool} → xs ≡ ys → b ≡ (length xs == 0) → b ≡ true → ys ≡ []
-are_none [] same is e = sym same
-are_none (x ∷ xs) same is e = grind (arith, nat_tests)
-
 pub are_some : (xs : List ℕ) {ys : List ℕ} {b : Bool} → xs ≡ ys → b ≡ (length xs == 0) → b ≡ false → ys ≢ []
 are_some [] same is e none = true≢false (sym is ∙ e)
 are_some (x ∷ xs) same is e none = cc

@@ -30,7 +30,8 @@ loop-self-preserved g c =
       fault = w.none;
       last = rw (no_last _ _ _ _ kept.last) refl;
       whole = Keeps-trans _ _ _ kept.whole (filled old new _ _ w.going fills);
-      unread = λ ready. absurd (true≢false (sym ready ∙ ap is_ready (sym (c.loop-self.invariant.unread ready).0) ∙ sym c.is_ready.ensures ∙ c.loop-self-test.true));
+      unread = λ ready. absurd (true≢false (sym ready ∙ ap is_ready (sym (c.loop-self.invariant.unread ready).0)
+          ∙ sym c.is_ready.ensures ∙ c.loop-self-test.true));
       drained = λ _ ended. ended_only_at_end old new _ _ fills ended;
       read = (kept.read.0 ++ fills.more, Consumes-trans _ _ _ _ _ kept.read.1 fills.consumed);
       no_failure = c.in-Ok.ensures.no_failure ∙ kept.no_failure;
