@@ -32,7 +32,7 @@ pub struct Leaving<'a> {
 }
 
 /// Why opening a sink failed.
-#[derive(Clone, Copy, Debug, PartialEq, Error)]
+#[derive(Clone, Copy, Debug, Error)]
 pub enum SinkError {
     /// A write failed.
     #[error("device")]
