@@ -57,13 +57,12 @@ fn one_or_prefix(tokens: &[Token], at: usize, first: Value) -> (ValueRange, usiz
         ≡ one_or_prefix (value_tree first) (remaining tokens.now at) }
     ensures within { (at ≤ result.1) × (at ≤ length tokens.now → result.1 ≤ length tokens.now) }
 {
-    match (first, number_after(tokens, at, Punctuator::Slash)) {
-        (Value::Address(address), Some((length, end))) => (
-            ValueRange::Prefix(address, length),
-            end,
-        ),
-        (value, _) => (ValueRange::One(value), at),
+    if let Value::Address(address) = &first
+        && let Some((length, end)) = number_after(tokens, at, Punctuator::Slash)
+    {
+        return (ValueRange::Prefix(*address, length), end);
     }
+    (ValueRange::One(first), at)
 }
 
 /// The range that starts with this value, and the position after it.

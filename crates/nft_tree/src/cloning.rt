@@ -6,7 +6,7 @@ ghost use Rattle.nft_tree.specs.Tree.{head_tree, item_tree, key_tree, map_lookup
 ghost use Rattle.nft_tree.specs.Tree.{match_tree, nat_tree, operand_tree, pair_tree, range_tree, rule_tree};
 ghost use Rattle.nft_tree.specs.Tree.{set_ref_tree, set_tree, set_type_tree, source_tree, statement, table_tree};
 ghost use Rattle.nft_tree.specs.Tree.{tables_of, value_tree, verdict_tree};
-ghost use Rattle.std.specs.Prelude.{◌≡◌, map, IfOk};
+ghost use Rattle.std.specs.Prelude.{◌≡◌, map, option_map, IfOk};
 
 use crate::chain::{Chain, Head, Rule};
 use crate::memory::Memory;
@@ -14,7 +14,7 @@ use crate::nat::{DestinationTarget, Nat, SourceTarget};
 use crate::ruleset::{Item, Ruleset, Table};
 use crate::set::{Data, Element, Key, MapDecl, Pair, SetDecl, SetType};
 use crate::statement::{Flag, MapLookup, MapRef, Masked, Match, Operand, SetRef, Stmt, Verdict};
-use crate::tree_nodes::{TreeNode, copies};
+use crate::tree_nodes::{TreeNode, copies, optional_copies};
 use crate::values::{Value, ValueRange};
 
 impl Ruleset {
@@ -96,16 +96,22 @@ impl Chain {
     pub fn try_clone(&self) -> Result<Chain, Memory>
         ensures { IfOk result (λ copy. chain_tree copy ≡ chain_tree self.now) }
     {
-        let head = match &self.head {
-            Some(head) => Some(head.try_clone()?),
-            None => None,
-        };
         Ok(Chain {
             name: self.name.clone()?,
             notes: copies(&self.notes)?,
-            head,
+            head: head_copy(&self.head)?,
             rules: copies(&self.rules)?,
         })
+    }
+}
+
+/// A copy of the head, if there is one.
+fn head_copy(head: &Option<Head>) -> Result<Option<Head>, Memory>
+    ensures { IfOk result (λ copy. option_map head_tree copy ≡ option_map head_tree head.now) }
+{
+    match head {
+        Some(head) => Ok(Some(head.try_clone()?)),
+        None => Ok(None),
     }
 }
 
@@ -351,10 +357,6 @@ impl SetDecl {
     pub fn try_clone(&self) -> Result<SetDecl, Memory>
         ensures { IfOk result (λ copy. set_tree copy ≡ set_tree self.now) }
     {
-        let elements = match &self.elements {
-            Some(elements) => Some(copies(elements)?),
-            None => None,
-        };
         Ok(SetDecl {
             name: self.name.clone()?,
             key: self.key.try_clone()?,
@@ -362,7 +364,7 @@ impl SetDecl {
             size: self.size,
             auto_merge: self.auto_merge,
             comment: self.comment.clone()?,
-            elements,
+            elements: optional_copies(&self.elements)?,
         })
     }
 }
@@ -376,10 +378,6 @@ impl MapDecl {
     pub fn try_clone(&self) -> Result<MapDecl, Memory>
         ensures { IfOk result (λ copy. map_tree copy ≡ map_tree self.now) }
     {
-        let elements = match &self.elements {
-            Some(elements) => Some(copies(elements)?),
-            None => None,
-        };
         Ok(MapDecl {
             name: self.name.clone()?,
             types: self.types,
@@ -387,7 +385,7 @@ impl MapDecl {
             size: self.size,
             auto_merge: self.auto_merge,
             comment: self.comment.clone()?,
-            elements,
+            elements: optional_copies(&self.elements)?,
         })
     }
 }

@@ -28,12 +28,20 @@ pub struct MapDecl {
 }
 
 /// The type of a set's key: data types, or those of selectors. More than one is a concatenation.
-#[derive(Drop)]
 pub enum SetType {
     /// `type TYPE . TYPE`
     Types(Vec<ValueType>),
     /// `typeof SELECTOR . SELECTOR`
     Selectors(Vec<Selector>),
+}
+
+impl Drop for SetType {
+    fn drop(self) {
+        match self {
+            SetType::Types(_) => {}
+            SetType::Selectors(_) => {}
+        }
+    }
 }
 
 /// The types of a map's key and data.

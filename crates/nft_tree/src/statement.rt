@@ -21,8 +21,9 @@ pub enum Stmt {
     Nat(Nat),
 }
 
-/// Written out, as for rules, items, elements and pairs: a crate that drops a list of them then
-/// proves a call and not each field's drop.
+/// Written out, as for rules, items, elements and pairs, values, ranges and the types of sets: a
+/// crate that drops a list of them, or one of them where it gives up, then proves a call and not
+/// each field's drop.
 impl Drop for Stmt {
     fn drop(self) {
         match self {

@@ -1,6 +1,6 @@
 //! Lists of tree nodes, and their copies.
 ghost use Rattle.nft_tree.specs.Tree.{Text};
-ghost use Rattle.std.specs.Prelude.{◌≡◌, map, IfOk};
+ghost use Rattle.std.specs.Prelude.{◌≡◌, map, option_map, IfOk};
 
 use crate::memory::Memory;
 
@@ -34,4 +34,15 @@ pub(crate) fn copies<T: TreeNode>(items: &Vec<T>) -> Result<Vec<T>, Memory>
         copies.push(item.try_copy()?)?;
     }
     Ok(copies)
+}
+
+/// A copy of the list, if there is one.
+pub(crate) fn optional_copies<T: TreeNode>(items: &Option<Vec<T>>) -> Result<Option<Vec<T>>, Memory>
+    ensures { IfOk result (λ copy. option_map (λ xs. map T.tree xs.items) copy
+        ≡ option_map (λ xs. map T.tree xs.items) items.now) }
+{
+    match items {
+        Some(items) => Ok(Some(copies(items)?)),
+        None => Ok(None),
+    }
 }
