@@ -6,7 +6,6 @@
 #![tactic(auto)]
 
 mod chain;
-mod cloning;
 mod compared_types;
 mod folds;
 mod memory;

@@ -1,48 +1,59 @@
-//! Lists of tree nodes, and their copies.
-ghost use Rattle.nft_tree.specs.Tree.{Text};
-ghost use Rattle.std.specs.Prelude.{◌≡◌, map, option_map, IfOk};
+//! The parts of a tree that stand in lists.
+ghost use Rattle.nft_tree.specs.Tree.{ElementTree, ItemTree, PairTree, RuleTree, Statement, TableTree, ValueTree};
+ghost use Rattle.nft_tree.specs.Tree.{element_tree, item_tree, pair_tree, rule_tree, statement, table_tree, value_tree};
 
-use crate::memory::Memory;
+use crate::chain::Rule;
+use crate::ruleset::{Item, Table};
+use crate::set::{Element, Pair};
+use crate::statement::Stmt;
+use crate::values::Value;
 
-/// An element of a list of the tree: it has a model, and can be copied.
+/// An element of a list of the tree.
 pub trait TreeNode: Drop {
     ghost Tree: { Type 0 };
 
     /// The model: what contracts compare.
     ghost tree: { Self → Tree };
-
-    fn try_copy(&self) -> Result<Self, Memory>
-        ensures { IfOk result (λ copy. tree copy ≡ tree self.now) };
 }
 
-impl TreeNode for Vec<u8> {
-    ghost Tree = { Text };
+impl TreeNode for Table {
+    ghost Tree = { TableTree };
 
-    ghost tree = { λ text. text.items };
-
-    fn try_copy(&self) -> Result<Vec<u8>, Memory> {
-        Ok(self.clone()?)
-    }
+    ghost tree = { table_tree };
 }
 
-/// A copy of the list, element by element.
-pub(crate) fn copies<T: TreeNode>(items: &Vec<T>) -> Result<Vec<T>, Memory>
-    ensures { IfOk result (λ copies. map T.tree copies.items ≡ map T.tree items.now.items) }
-{
-    let mut copies = Vec::with_capacity(*items.allocator(), items.len())?;
-    for item in items {
-        copies.push(item.try_copy()?)?;
-    }
-    Ok(copies)
+impl TreeNode for Item {
+    ghost Tree = { ItemTree };
+
+    ghost tree = { item_tree };
 }
 
-/// A copy of the list, if there is one.
-pub(crate) fn optional_copies<T: TreeNode>(items: &Option<Vec<T>>) -> Result<Option<Vec<T>>, Memory>
-    ensures { IfOk result (λ copy. option_map (λ xs. map T.tree xs.items) copy
-        ≡ option_map (λ xs. map T.tree xs.items) items.now) }
-{
-    match items {
-        Some(items) => Ok(Some(copies(items)?)),
-        None => Ok(None),
-    }
+impl TreeNode for Rule {
+    ghost Tree = { RuleTree };
+
+    ghost tree = { rule_tree };
+}
+
+impl TreeNode for Stmt {
+    ghost Tree = { Statement };
+
+    ghost tree = { statement };
+}
+
+impl TreeNode for Element {
+    ghost Tree = { ElementTree };
+
+    ghost tree = { element_tree };
+}
+
+impl TreeNode for Pair {
+    ghost Tree = { PairTree };
+
+    ghost tree = { pair_tree };
+}
+
+impl TreeNode for Value {
+    ghost Tree = { ValueTree };
+
+    ghost tree = { value_tree };
 }
