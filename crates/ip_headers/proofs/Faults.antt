@@ -9,7 +9,6 @@ use Rattle.ip_headers.specs.declared.view.HeaderFault.TheVariants.{Checksum, Fra
 use Rattle.ip_headers.specs.Sum.{ones_sum_of}
 use Rattle.ip_headers.specs.Transport.{transport_is_malformed}
 use Rattle.ip_headers.specs.Passing.{Passes, PassesHeader}
-use Rattle.ip_headers.specs.steps.Ports.{has_ports}
 use Rattle.ip_headers.specs.Header.{header, header_len, total_len, version, protocol, is_fragment, fault_of, packet_of, payload_of}
 
 -- ---- the tests by their results
@@ -19,12 +18,6 @@ first a b c d e f g h =
     if a then Some Short else (if b then Some Version else (if c then Some HeaderLength else (if d then Some Length
     else (if e then Some Truncated else (if f then Some Checksum
     else (if g then Some Fragment else (if h then Some Transport else None)))))))
-
-after_three : (a b c d e f g h : Bool) → a ≡ false → b ≡ false → c ≡ false
-    → first a b c d e f g h ≡ (if d then Some Length
-    else (if e then Some Truncated else (if f then Some Checksum
-    else (if g then Some Fragment else (if h then Some Transport else None)))))
-after_three a b c d e f g h is_a is_b is_c = rw (is_a, is_b, is_c) refl
 
 last_is : (a b c d e f g h : Bool) → first a b c d e f g h ≡ None → h ≡ false
 last_is a b c d e f g false none = refl
@@ -107,9 +100,3 @@ packet_passes p ok = grind (arith, ok.head, common_steps, ok.unbroken, header_le
 
 pub long_enough : (p : List ℕ) → fault_of p ≡ None → 20 ≤ length p
 long_enough p none = let ok = (passes p none).head in omega (arith, ok.long, ok.head, ok.whole)
-
-eight_of : (number : ℕ) (payload : List ℕ) → transport_is_malformed number payload ≡ false → has_ports number ≡ true → 8 ≤ length payload
-eight_of number payload right some = grind (arith, right, some)
-
-pub eight_bytes : (p : List ℕ) → Passes p → has_ports (protocol p) ≡ true → 8 ≤ length (payload_of p)
-eight_bytes p ok some = eight_of (protocol p) (payload_of p) ok.transport some

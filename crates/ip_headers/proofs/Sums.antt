@@ -1,17 +1,22 @@
 -- Sums of words, byte by byte and with end-around carries.
 use Rattle.std.proofs.Common.{◌≡◌, ℕ, zero, suc, ◌+◌, ◌*◌, ◌<◌, ◌≤◌, List, [], ◌∷◌, length, get_or, take, drop}
-use Rattle.std.proofs.Common.{drop-cons, add-one, Bool, true, false, refl, ap, ◌∙◌, arith, ◌++◌, map, Fits, w8, w32}
+use Rattle.std.proofs.Common.{drop-cons, add-one, Bool, true, false, refl, ap, sym, ◌∙◌, arith, ◌++◌, map, Fits, w8, w32}
 use mathlib.Core.Bool.{not}
 use Rattle.std.specs.Simd.Lanes.{sum_l, fold_l, zip2, Each1, Each2}
+use Rattle.std.proofs.lemmas.List.{take-append-drop}
 use Rattle.std.proofs.lemmas.Simd.{fold-sum}
 use Rattle.std.specs.Prelude.{All}
+use Rattle.byteorder.specs.Endian.{big_number}
 use Rattle.ip_headers.specs.Sum.{words_sum, folded, ones_sum_of, ones_add, sum_with_carries}
 
-pub add_folded : (a b : ℕ) → b < 65536 → ones_add (folded a) b ≡ folded (a + b)
-add_folded a b small = grind arith
+-- 2^16 is congruent to 1 modulo 65535
+high_word : (high more : ℕ) → folded (high * 65536 + more) ≡ folded (high + more)
+high_word high more = grind arith
 
-pub folded_again : (a b : ℕ) → folded (folded a + b) ≡ folded (a + b)
-folded_again a b = grind arith
+pub double_word : (xs : List ℕ) → length xs ≡ 4 → (more : ℕ) → folded (big_number 4 xs + more) ≡ folded (words_sum xs + more)
+double_word (a ∷ b ∷ c ∷ d ∷ []) e more =
+    ap folded (omega arith) ∙ high_word (a * 256 + b) (c * 256 + d + more) ∙ ap folded (omega arith)
+double_word xs e more = absurd (omega arith)
 
 -- whole words, and what follows them
 pub words_sum_append : (n : ℕ) (xs ys : List ℕ) → length xs ≡ n * 2 → words_sum (xs ++ ys) ≡ words_sum xs + words_sum ys
@@ -20,6 +25,17 @@ words_sum_append zero (x ∷ xs) ys e = absurd (omega arith)
 words_sum_append (suc n) [] ys e = absurd (omega arith)
 words_sum_append (suc n) (x ∷ []) ys e = absurd (omega arith)
 words_sum_append (suc n) (x ∷ y ∷ xs) ys e = omega (arith, words_sum_append n xs ys (omega arith))
+
+-- one step of a sum, over words with a value that is as good as their sum
+pub sum_step : (n sum less value : ℕ) (rest front back : List ℕ) → front ≡ take (n * 2) rest → back ≡ drop (n * 2) rest
+    → length front ≡ n * 2 → ((more : ℕ) → folded (less + more) ≡ folded (sum + more))
+    → ((more : ℕ) → folded (value + more) ≡ folded (words_sum front + more))
+    → folded (less + value + words_sum back) ≡ folded (sum + words_sum rest)
+sum_step n sum less value rest front back is_front is_back long reduced valued =
+    let whole : front ++ back ≡ rest = rw (is_front, is_back) (take-append-drop (n * 2) rest) in
+    let words : words_sum rest ≡ words_sum front + words_sum back = ap words_sum (sym whole) ∙ words_sum_append n front back long in
+    ap folded (omega arith) ∙ reduced (value + words_sum back) ∙ ap folded (omega arith) ∙ valued (sum + words_sum back)
+    ∙ ap folded (omega (arith, words))
 
 -- a high byte counts 256 times
 abbrev pub weights : ℕ → List ℕ

@@ -1,23 +1,16 @@
-use Rattle.std.proofs.Common.{◌≡◌, ◌∙◌, ◌+◌, ◌++◌, take, sym, arith, ap}
-use Rattle.std.proofs.lemmas.List.{take-append-drop}
+use Rattle.std.proofs.Common.{◌≡◌, ◌∙◌, ◌+◌, sym, arith, ap}
 use Rattle.ip_headers.specs.Sum.{words_sum, folded}
-use Rattle.ip_headers.proofs.Sums.{sum_with_carries_is, zero_bytes, words_sum_append}
+use Rattle.ip_headers.proofs.Sums.{sum_step, sum_with_carries_is, zero_bytes}
 use Rattle.ip_headers.proofs.sum.ones_sum.Goals as goal
 
 pub loop-block-preserved : goal.loop-block-preserved
 loop-block-preserved c =
     let cases = c.in-Some.ensures.cases in
-    let block = c.in-Some.block.now in
-    let others = c.in-Some.others.now in
-    let whole : block ++ others ≡ c.loop-block.rest.now = ap (λ xs. xs ++ others) cases.1
-    ∙ ap (λ xs. take 16 c.loop-block.rest.now ++ xs) cases.2 ∙ take-append-drop 16 c.loop-block.rest.now in
-    let words : words_sum c.loop-block.rest.now ≡ words_sum block + words_sum others =
-    ap words_sum (sym whole) ∙ words_sum_append 8 block others cases.3 in
-    let read : c.from.result ≡ words_sum block = c.from.ensures ∙ c.block_sum.ensures in
+    let read : c.from.result ≡ words_sum c.in-Some.block.now = c.from.ensures ∙ c.block_sum.ensures in
     record {
       small = omega (arith, c.reduced.ensures.small, c.from.type_inv, c.block_sum.type_inv, c.from.ensures);
-      same = ap folded (omega (arith, read)) ∙ c.reduced.ensures.same (words_sum block + words_sum others)
-          ∙ ap folded (omega (arith, words)) ∙ c.loop-block.invariant.same;
+      same = sum_step 8 c.loop-block.sum _ _ c.loop-block.rest.now _ _ cases.1 cases.2 cases.3 c.reduced.ensures.same
+          (λ more. ap (λ n. folded (n + more)) read) ∙ c.loop-block.invariant.same;
     }
 
 pub returns-clause-carries : goal.returns-clause-carries
