@@ -45,6 +45,15 @@ passes p none = record {
       (is_fragment p) (transport_is_malformed (protocol p) (payload_of p)) none;
 }
 
+pub short : (p : List ℕ) → length p < 20 → fault_of p ≡ Some Short
+short p few = rw (lt-ltb _ _ few) refl
+
+pub other : (p : List ℕ) → 20 ≤ length p → version p ≢ 4 → fault_of p ≡ Some Version
+other p long differs = rw (le-ltb _ _ long, ne_eqb _ _ differs) refl
+
+pub short_header : (p : List ℕ) → 20 ≤ length p → version p ≡ 4 → header_len p < 20 → fault_of p ≡ Some HeaderLength
+short_header p long four few = rw (le-ltb _ _ long, eq-eqb _ _ four, lt-ltb _ _ few) refl
+
 -- what passed the first three tests is decided by the others
 abbrev judged : List ℕ → Option HeaderFault
 judged p =

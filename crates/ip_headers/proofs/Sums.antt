@@ -1,7 +1,6 @@
 -- Sums of words, byte by byte and with end-around carries.
 use Rattle.std.proofs.Common.{◌≡◌, ℕ, zero, suc, ◌+◌, ◌*◌, ◌<◌, ◌≤◌, List, [], ◌∷◌, length, get_or, take, drop}
-use Rattle.std.proofs.Common.{drop-cons, add-one, Bool, true, false, refl, ap, sym, ◌∙◌, arith, ◌++◌, map, Fits, w8, w32}
-use mathlib.Core.Bool.{not}
+use Rattle.std.proofs.Common.{Bool, true, false, refl, ap, sym, ◌∙◌, arith, ◌++◌, map, Fits, w8, w32}
 use Rattle.std.specs.Simd.Lanes.{sum_l, fold_l, zip2, Each1, Each2}
 use Rattle.std.proofs.lemmas.List.{take-append-drop}
 use Rattle.std.proofs.lemmas.Simd.{fold-sum}
@@ -84,20 +83,6 @@ pub placed_is : (xs : List ℕ) → placed true xs ≡ words_sum xs
 placed_is [] = refl
 placed_is (x ∷ []) = omega arith
 placed_is (x ∷ y ∷ xs) = omega (arith, placed_is xs)
-
--- the weight of one byte
-abbrev pub at_place : Bool → ℕ → ℕ
-at_place true x = x * 256
-at_place false x = x
-
-placed_cons : (high : Bool) (x : ℕ) (xs : List ℕ) → placed high (x ∷ xs) ≡ at_place high x + placed (not high) xs
-placed_cons true x xs = refl
-placed_cons false x xs = refl
-
--- one byte fewer is left
-pub placed_step : (high : Bool) (xs : List ℕ) (i : ℕ) → i < length xs
-    → placed high (drop i xs) ≡ at_place high (get_or xs i 0) + placed (not high) (drop (i + 1) xs)
-placed_step high xs i lt = rw (drop-cons xs i 0 lt, add-one) (placed_cons high _ _)
 
 pub add_folded_right : (a b : ℕ) → a < 65536 → ones_add a (folded b) ≡ folded (a + b)
 add_folded_right a b small = grind arith

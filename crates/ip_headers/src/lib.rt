@@ -1,6 +1,7 @@
 //! IPv4 packets: views that read them in place, writable fields, tuples, and the Internet checksum.
 #![tactic(auto)]
 
+mod bytes;
 pub mod laws;
 mod parts;
 mod sum;

@@ -4,7 +4,7 @@ ghost use Rattle.ip_headers.specs.Transport.{destination_port_of, icmp_is_malfor
 ghost use Rattle.ip_headers.specs.Transport.{tcp_flags_of, tcp_is_malformed, transport_in, transport_is_malformed};
 ghost use Rattle.ip_headers.specs.Transport.{udp_is_malformed};
 
-use byteorder::{BigEndian, ByteOrder};
+use crate::bytes::u16_at;
 
 /// Protocol number of ICMP (IANA).
 pub(crate) const ICMP: u8 = 1;
@@ -113,7 +113,7 @@ fn udp_is_malformed(payload: &[u8]) -> bool
     if payload.len() < 8 {
         return true;
     }
-    let length = BigEndian::read_u16(&payload[4..]) as usize;
+    let length = u16_at(payload, 4) as usize;
     length < 8 || payload.len() < length
 }
 
@@ -124,13 +124,13 @@ pub(crate) fn read(protocol: u8, payload: &[u8]) -> Transport
 {
     match protocol {
         TCP => Transport::Tcp {
-            source: BigEndian::read_u16(payload),
-            destination: BigEndian::read_u16(&payload[2..]),
+            source: u16_at(payload, 0),
+            destination: u16_at(payload, 2),
             flags: payload[13],
         },
         UDP => Transport::Udp {
-            source: BigEndian::read_u16(payload),
-            destination: BigEndian::read_u16(&payload[2..]),
+            source: u16_at(payload, 0),
+            destination: u16_at(payload, 2),
         },
         ICMP => Transport::Icmp {
             icmp_type: payload[0],

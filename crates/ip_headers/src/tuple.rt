@@ -8,8 +8,8 @@ ghost use Rattle.ip_headers.specs.steps.Ports.{kind_and_ports, kind_with_ports, 
 ghost use Rattle.std.specs.Cmp.Rules.{hashing};
 ghost use Rattle.std.proofs.Common.{rules};
 
+use crate::bytes::{u16_at, u32_at};
 use crate::transport::{ICMP, TCP, UDP};
-use byteorder::{BigEndian, ByteOrder};
 use std::hash::{Hash, Hasher};
 
 /// An address and a port (RFC 4787, section 4.1). The port is 0 for kinds without ports.
@@ -144,11 +144,11 @@ pub(crate) fn tuple_in(datagram: &[u8], payload: &[u8]) -> Option<Tuple>
     Some(Tuple {
         kind,
         source: Endpoint {
-            address: BigEndian::read_u32(&datagram[12..]),
+            address: u32_at(datagram, 12),
             port: from,
         },
         destination: Endpoint {
-            address: BigEndian::read_u32(&datagram[16..]),
+            address: u32_at(datagram, 16),
             port: to,
         },
     })
@@ -160,16 +160,8 @@ fn kind_and_ports(protocol: u8, payload: &[u8]) -> Option<(Kind, u16, u16)>
     ensures { result ≡ kind_and_ports protocol payload.now }
 {
     match protocol {
-        TCP => Some((
-            Kind::Tcp,
-            BigEndian::read_u16(payload),
-            BigEndian::read_u16(&payload[2..]),
-        )),
-        UDP => Some((
-            Kind::Udp,
-            BigEndian::read_u16(payload),
-            BigEndian::read_u16(&payload[2..]),
-        )),
+        TCP => Some((Kind::Tcp, u16_at(payload, 0), u16_at(payload, 2))),
+        UDP => Some((Kind::Udp, u16_at(payload, 0), u16_at(payload, 2))),
         ICMP => query_kind_and_ports(payload),
         number => Some((Kind::Other(number), 0, 0)),
     }
@@ -180,7 +172,7 @@ fn query_kind_and_ports(message: &[u8]) -> Option<(Kind, u16, u16)>
     requires { 8 ≤ length message.now }
     ensures { result ≡ kind_with_ports (echo_kind (icmp_type message.now)) message.now }
 {
-    let identifier = BigEndian::read_u16(&message[4..]);
+    let identifier = u16_at(message, 4);
     match message[0] {
         0 => Some((Kind::EchoReply, 0, identifier)),
         8 => Some((Kind::EchoRequest, identifier, 0)),
@@ -201,7 +193,7 @@ pub(crate) fn inner_tuple(inner: &[u8]) -> Option<Tuple>
         return None;
     }
     // The fragment offset: all but the reserved bit, DF and MF.
-    if BigEndian::read_u16(&inner[6..]) % 8192 != 0 {
+    if u16_at(inner, 6) % 8192 != 0 {
         return None;
     }
     tuple_in(inner, &inner[header_len..])

@@ -4,10 +4,10 @@ ghost use Rattle.std.specs.Result.{result_err as err_of};
 ghost use Rattle.ip_headers.specs.Header.{fault_of, packet_of, payload_of, header_len, total_len, protocol, source, destination, transport_of, ttl};
 ghost use Rattle.ip_headers.specs.Tuple.{inner_tuple_of, is_error, tuple_of};
 
+use crate::bytes::{u16_at, u32_at};
 use crate::sum::header_sum;
 use crate::transport::{self, Transport};
 use crate::tuple::{self, Tuple};
-use byteorder::{BigEndian, ByteOrder};
 use thiserror::Error;
 
 /// Why a record has no valid packet: the first test that fails (RFC 791, section 3.1; for the last
@@ -78,7 +78,7 @@ impl<'a> View<'a> {
         if header_len < 20 {
             return Err(HeaderFault::HeaderLength);
         }
-        let total_len = BigEndian::read_u16(&bytes[2..]) as usize;
+        let total_len = u16_at(bytes, 2) as usize;
         if total_len < header_len {
             return Err(HeaderFault::Length);
         }
@@ -91,10 +91,10 @@ impl<'a> View<'a> {
             return Err(HeaderFault::Checksum);
         }
         // MF and the fragment offset: all but the reserved bit and DF.
-        if BigEndian::read_u16(&packet[6..]) % 16384 != 0 {
+        if u16_at(bytes, 6) % 16384 != 0 {
             return Err(HeaderFault::Fragment);
         }
-        if transport::is_malformed(packet[9], payload) {
+        if transport::is_malformed(bytes[9], payload) {
             return Err(HeaderFault::Transport);
         }
         Ok(View {
@@ -108,14 +108,14 @@ impl<'a> View<'a> {
     pub fn source(&self) -> u32
         ensures { result ≡ source self.now.packet.now }
     {
-        BigEndian::read_u32(&self.packet[12..])
+        u32_at(self.packet, 12)
     }
 
     /// The destination address in host byte order.
     pub fn destination(&self) -> u32
         ensures { result ≡ destination self.now.packet.now }
     {
-        BigEndian::read_u32(&self.packet[16..])
+        u32_at(self.packet, 16)
     }
 
     /// The time to live.
@@ -136,7 +136,7 @@ impl<'a> View<'a> {
     pub fn total_length(&self) -> u16
         ensures { result ≡ total_len self.now.packet.now }
     {
-        BigEndian::read_u16(&self.packet[2..])
+        u16_at(self.packet, 2)
     }
 
     /// The transport header.
