@@ -32,9 +32,6 @@ replayed-cons : (b : Belonging) (p : Arrival) (confirmation : Confirmation) (c :
     ≡ touched_by b p confirmation (replayed c begun entries)
 replayed-cons b p confirmation c begun entries = grind arith
 
-not-or : (a b : Bool) → not (a || b) ≡ (not b && not a)
-not-or a b = grind arith
-
 module _ (b : Belonging) (p : Arrival) (confirmation : Confirmation) (history : List TrackedPacket) where
   earlier : (c : ℕ) → nat_lt c (length history) ≡ true → (not (is_ended c (entry_of b p confirmation ∷ history))
       ≡ (not (is_ended c history) && not (is_that c (ended_by_packet b))))

@@ -4,7 +4,7 @@ use Rattle.conntrack.proofs.Names.{has_distinct_ids, has_id, has_ids_below, have
 use Rattle.conntrack.proofs.Names.{nat_tests, not-true, or_parts, refl, same_id, same_tuple, same_tuple-refl, same_tuple-true, touched, touched_at, true}
 use Rattle.conntrack.proofs.Names.{without, ℕ, ◌++◌, ◌+◌, ◌<◌, ◌∷◌, ◌≡◌}
 use Rattle.std.proofs.lemmas.List.Sums.{count_by-le-length, length-filter}
-use Rattle.conntrack.proofs.Lists.{filter_where_none, list_any-filter, none_passes}
+use Rattle.conntrack.proofs.Lists.{list_any-filter}
 use Rattle.list_laws.specs.Tests.{same-tests}
 
 -- a filter adds no id
@@ -117,19 +117,8 @@ pub length-without : (id : ConnId) (held : List ConntrackEntry) → has_id id he
 length-without id [] h = cc
 length-without id (x ∷ held) h = grind (arith, length-filter, count_by-le-length, (length-without id held))
 
-pub ruleset id_rules = (
-  distinct-filter,
-  apart-filter,
-  apart-touched_at,
-  apart-push,
-  below-filter,
-  distinct-touched_at,
-  below-touched_at,
-  has_id-below,
-  distinct-push,
-  below-push,
-  has_id-found,
-  filter_where_none,
-  none_passes,
-  length-without,
-)
+pub ruleset touch_rules = (apart-touched_at, distinct-touched_at, below-touched_at)
+
+pub ruleset begin_rules = (apart-push, distinct-push, below-push, has_id-below)
+
+pub ruleset end_rules = (apart-filter, distinct-filter, below-filter)

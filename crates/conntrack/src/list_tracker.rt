@@ -172,7 +172,6 @@ impl Tracker for ListTracker {
         look_in(&self.conns, self.limits, tuple, flags, now)
     }
 
-    #[tactic(auto, using(crate::proofs::Ids::id_rules))]
     fn touch(
         &mut self,
         id: ConnId,
@@ -196,7 +195,6 @@ impl Tracker for ListTracker {
         self.conns.reserve(1)
     }
 
-    #[tactic(auto, using(crate::proofs::Ids::id_rules))]
     fn begin(
         &mut self,
         connection: Connection,
@@ -218,7 +216,6 @@ impl Tracker for ListTracker {
         }
     }
 
-    #[tactic(auto, using(crate::proofs::Ids::id_rules))]
     fn end(&mut self, id: ConnId, steps: &mut Steps) -> Aged {
         steps.add(self.conns.len());
         match take_out(&mut self.conns, id) {
@@ -227,7 +224,6 @@ impl Tracker for ListTracker {
         }
     }
 
-    #[tactic(auto, using(crate::proofs::Ids::id_rules))]
     fn age(&mut self, now: Moment, steps: &mut Steps) -> Option<Aged> {
         steps.add(self.conns.len());
         let expired = find_expired(&self.conns, self.limits, now)?;
