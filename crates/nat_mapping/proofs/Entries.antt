@@ -5,9 +5,6 @@ use Rattle.nat_mapping.proofs.Names.{refl, replicate, same_mapping, same_source,
 use Rattle.nat_mapping.proofs.Names.{sum_by-replicate, true, ℕ, ◌&&◌, ◌*◌, ◌++◌, ◌+◌, ◌==◌, ◌∙◌, ◌∷◌, ◌≡◌}
 use Rattle.nat_mapping.proofs.Equal.{equivalence, source_test}
 
-regroup : (a b c d : Bool) → (a && (b && (c && d))) ≡ ((a && (b && c)) && d)
-regroup a b c d = grind (arith, nat_tests)
-
 pub same_by : (m : Mapping) (key : SourceKey) (h : MappedPort)
     → same_mapping m (from_internal key h.port) ≡ (same_source (source_key_of m) key && m.external.port == h.port)
 same_by m key h = grind arith

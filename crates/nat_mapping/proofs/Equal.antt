@@ -1,7 +1,7 @@
 -- Equal keys and mappings.
-use Rattle.nat_mapping.proofs.Names.{Bool, InboundKey, IsEquivalence, PoolKey, SourceKey, ap, arith, eq-eqb, eqb, eqb-true, false, false_from_ne_true}
-use Rattle.nat_mapping.proofs.Names.{nat_tests, refl, rules, same_endpoint, same_endpoint-refl, same_endpoint-true, same_inbound, same_kind, same_kind-refl}
-use Rattle.nat_mapping.proofs.Names.{same_kind-true, same_mapping, same_pool, same_source, subst, sym, true, ◌&&◌, ◌∙◌, ◌≡◌}
+use Rattle.nat_mapping.proofs.Names.{Bool, InboundKey, IsEquivalence, PoolKey, SourceKey, ap, arith, eqb, false, false_from_ne_true}
+use Rattle.nat_mapping.proofs.Names.{nat_tests, rules, same_endpoint, same_inbound, same_kind}
+use Rattle.nat_mapping.proofs.Names.{same_mapping, same_pool, same_source, subst, sym, true, ◌&&◌, ◌∙◌, ◌≡◌}
 
 -- a test passes where the two are equal, and only there
 pub record IsTest {K : Type 0} (e : K → K → Bool) : Type 0 where
@@ -16,20 +16,6 @@ apart_false e test x y apart = false_from_ne_true (e x y) (λ t. apart (test.exa
 
 pub equivalence : {K : Type 0} (e : K → K → Bool) → IsTest e → IsEquivalence e
 equivalence e test = grind arith
-
-pub kind_test : IsTest same_kind
-kind_test = record { same = same_kind-refl; exact = same_kind-true }
-
-pub endpoint_test : IsTest same_endpoint
-endpoint_test = record { same = same_endpoint-refl; exact = same_endpoint-true }
-
-number_test : IsTest eqb
-number_test = record { same = λ x. eq-eqb x x refl; exact = eqb-true }
-
--- a test of two parts of which a value consists
-pair_test : {A B K : Type 0} (p : A → A → Bool) (q : B → B → Bool) (f : K → A) (g : K → B) (make : A → B → K)
-    → ((x : K) → make (f x) (g x) ≡ x) → IsTest p → IsTest q → IsTest (λ x y. p (f x) (f y) && q (g x) (g y))
-pair_test p q f g make whole one other = grind arith
 
 -- ---- the tests that the keys' types derive
 

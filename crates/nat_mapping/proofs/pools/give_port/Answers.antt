@@ -1,6 +1,7 @@
-use Rattle.nat_mapping.proofs.Names.{IfSome, IfSome_at, IsInUse, ap, is_some, refl, same_pool, sym, ◌∙◌, ◌≡◌}
+use Rattle.nat_mapping.proofs.Names.{IfSome, IfSome_at, IsInUse, ap, false, get, if◌then◌else◌, is_some, is_taken_by, refl, same_pool, sym, ◌==◌, ◌∙◌}
+use Rattle.nat_mapping.proofs.Names.{◌≡◌}
 use Rattle.nat_mapping.proofs.Equal.{pool_test}
-use Rattle.nat_mapping.proofs.Sets.{sets_all}
+use Rattle.nat_mapping.proofs.Sets.{port_set, set_at, sets_all}
 use Rattle.nat_mapping.proofs.pools.give_port.Goals as goal
 
 pub returns-then-not-is_unused-clause-used : goal.returns-then-not-is_unused-clause-used
@@ -19,3 +20,17 @@ returns-clause-used c =
     sets_all same_pool pool_test _ _ _ _ c.remove.ensures.updates.0 (λ q o. IfSome o (IsInUse q))
     (sets_all same_pool pool_test _ _ _ _ ((c.get_mut.follows.holds c.give.new.self).3 (ap is_some (sym c.in-Some.ensures.value))).0
     (λ q o. ¬ (c.args.key ≡ q) → IfSome o (IsInUse q)) (λ q apart _. c.requires.used q) (λ apart. absurd (apart refl))) tt
+
+pub returns-then-not-is_unused-clause-given : goal.returns-then-not-is_unused-clause-given
+returns-then-not-is_unused-clause-given c =
+    port_set _ _ c.args.key c.args.port false _ ((c.get_mut.follows.holds c.give.new.self).3 (ap is_some (sym c.in-Some.ensures.value))).0
+    (λ p. c.give.ensures.taken p ∙ ap (λ o. if p == c.args.port then false else is_taken_by o p) c.in-Some.ensures.value)
+
+pub returns-clause-given : goal.returns-clause-given
+returns-clause-given c q p =
+    let mid = c.get_mut.follows.lender c.give.new.self in
+    let held = ((c.get_mut.follows.holds c.give.new.self).3 (ap is_some (sym c.in-Some.ensures.value))).0 in
+    sets_all same_pool pool_test _ _ _ _ c.remove.ensures.updates.0 (λ k o. is_taken_by o p ≡ is_taken_by (get same_pool mid k) p) (λ k apart. refl)
+    (sym (ap (λ o. is_taken_by o p) (set_at same_pool pool_test _ _ _ _ held) ∙ c.if-not-is_unused.ensures.unused p)) q
+    ∙ port_set _ _ c.args.key c.args.port false _ held
+    (λ p. c.give.ensures.taken p ∙ ap (λ o. if p == c.args.port then false else is_taken_by o p) c.in-Some.ensures.value) q p

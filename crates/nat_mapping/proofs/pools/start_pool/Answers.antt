@@ -1,6 +1,6 @@
-use Rattle.nat_mapping.proofs.Names.{IfSome, IsInUse, cond-true, eq-eqb, refl, same_pool, true, ◌==◌, ◌∙◌}
+use Rattle.nat_mapping.proofs.Names.{IfSome, IsInUse, ap, cond-true, eq-eqb, if◌then◌else◌, is_taken_by, refl, same_pool, sym, true, ◌==◌, ◌∙◌}
 use Rattle.nat_mapping.proofs.Equal.{pool_test}
-use Rattle.nat_mapping.proofs.Sets.{sets_all}
+use Rattle.nat_mapping.proofs.Sets.{port_set, sets_all}
 use Rattle.nat_mapping.proofs.pools.start_pool.Goals as goal
 
 pub returns-clause-used : goal.returns-clause-used
@@ -12,3 +12,8 @@ returns-clause-used c =
       bitmap = c.requires.bitmap;
       used = (port, c.take.ensures.taken port ∙ cond-true (port == port) true _ (eq-eqb port port refl));
     })
+
+pub returns-clause-taken : goal.returns-clause-taken
+returns-clause-taken c = port_set _ _ c.args.key c.args.port true _ c.in-Ok.ensures.updates.0 (λ p. c.take.ensures.taken p
+    ∙ ap (λ b. if p == c.args.port then true else b) (c.with_order-pool.ensures.taken p ∙ c.requires.spare.unused p
+    ∙ sym (ap (λ o. is_taken_by o p) c.requires.absent)))

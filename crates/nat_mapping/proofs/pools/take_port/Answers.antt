@@ -1,6 +1,6 @@
-use Rattle.nat_mapping.proofs.Names.{IfSome, IfSome_at, IsInUse, ap, cond-true, eq-eqb, is_some, refl, same_pool, sym, true, ◌==◌, ◌∙◌}
+use Rattle.nat_mapping.proofs.Names.{IfSome, IfSome_at, IsInUse, ap, cond-true, eq-eqb, if◌then◌else◌, is_some, is_taken_by, refl, same_pool, sym, true, ◌==◌, ◌∙◌}
 use Rattle.nat_mapping.proofs.Equal.{pool_test}
-use Rattle.nat_mapping.proofs.Sets.{sets_all}
+use Rattle.nat_mapping.proofs.Sets.{port_set, sets_all}
 use Rattle.nat_mapping.proofs.pools.take_port.Goals as goal
 
 pub returns-in-Some-clause-used : goal.returns-in-Some-clause-used
@@ -14,3 +14,8 @@ returns-in-Some-clause-used c =
       bitmap = in_use.bitmap;
       used = (port, c.take.ensures.taken port ∙ cond-true (port == port) true _ (eq-eqb port port refl));
     })
+
+pub returns-in-Some-clause-taken : goal.returns-in-Some-clause-taken
+returns-in-Some-clause-taken c =
+    port_set _ _ c.args.key c.args.port true _ ((c.get_mut.follows.holds c.take.new.self).3 (ap is_some (sym c.in-Some.ensures.value))).0
+    (λ p. c.take.ensures.taken p ∙ ap (λ o. if p == c.args.port then true else is_taken_by o p) c.in-Some.ensures.value)

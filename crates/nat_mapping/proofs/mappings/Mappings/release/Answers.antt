@@ -1,4 +1,4 @@
-use Rattle.nat_mapping.proofs.Names.{Contains, HoldsSame, IsSome, IsTable, MappedPort, None, Some, SourceKey, ap, arith, cond, get, held_by, nat_tests}
+use Rattle.nat_mapping.proofs.Names.{Contains, HoldsSame, IfSome, IfSome_at, IsSome, IsTable, MappedPort, None, Some, SourceKey, ap, arith, cond, get, held_by, nat_tests}
 use Rattle.nat_mapping.proofs.Names.{none-some, one_fewer, option_map, refl, same_Some, same_source, some_of_map, source_key_of, subst, sym, ◌<◌, ◌∙◌, ◌∷◌, ◌≡◌}
 use Rattle.nat_mapping.proofs.Names.{◌≤◌}
 use Rattle.nat_mapping.proofs.Equal.{source_test}
@@ -21,10 +21,15 @@ module _ (c : After-remove_holder-before) where
   sets = rw c.source_key.ensures at c.remove_holder-before.ensures.values
 
   table : IsTable c.remove_holder-before.new.sources
-  table = grind (arith, c.remove_holder-before.ensures.unique, sets_all, source_test, sets, c.self.invariant.table.live, fewer_live)
+  table = record {
+    unique = c.remove_holder-before.ensures.unique;
+    live = sets_all same_source source_test _ _ _ _ sets (λ q o. IfSome o (λ (h : MappedPort). 0 < h.holders))
+        (λ q apart. c.self.invariant.table.live q) (fewer_live c.remove_holder-before.result);
+  }
 
   held : HoldsSame (held_by c.self.inside.sources.entries) (c.args.m ∷ held_by c.remove_holder-before.new.sources.entries)
-  held q = grind (arith, held_more, has_fewer, sets, was, port, c.self.invariant.table.live, table, c.self.invariant.table)
+  held q = sym (held_more c.args.m _ _ (has_fewer c.args.m _ _ c.remove_holder-before.result sets was port
+      (IfSome_at _ (λ (h : MappedPort). 0 < h.holders) _ was (c.self.invariant.table.live (source_key_of c.args.m)))) table c.self.invariant.table q)
 
 pub remove_holder-before-requires : goal.remove_holder-before-requires
 remove_holder-before-requires c =
@@ -64,4 +69,5 @@ pub returns-clause-held : goal.returns-clause-held
 returns-clause-held c = rw (← c.self.view_is) (held (goal.at.returns-clause-held c).After-remove_holder-before)
 
 pub give-requires-clause-taken : goal.give-requires-clause-taken
-give-requires-clause-taken c bitmap = grind (arith, c.pool_key.ensures, port_taken, c.self.invariant, c.self.view_is, c.requires)
+give-requires-clause-taken c bitmap = rw c.pool_key.ensures
+    (port_taken _ _ _ c.self.invariant c.args.m (rw (← c.self.view_is) at c.requires) (rw c.pool_key.ensures at bitmap))
