@@ -1,8 +1,8 @@
 -- The list of mappings that entries represent.
 use Rattle.nat_mapping.proofs.Names.{Bool, IsDistinct, IsDistinct-tail, IsUnique, List, MappedPort, Mapping, None, Option, Some, SourceKey, Sources, [], ap}
-use Rattle.nat_mapping.proofs.Names.{arith, cond, from_internal, get, held_by, holders_at, holders_of, keys_of, lookup, lookup-none, nat_tests, none_past_head}
-use Rattle.nat_mapping.proofs.Names.{refl, replicate, same_mapping, same_source, source_key_of, sum_by, sum_by-append}
-use Rattle.nat_mapping.proofs.Names.{sum_by-replicate, true, ℕ, ◌&&◌, ◌*◌, ◌++◌, ◌+◌, ◌==◌, ◌∙◌, ◌∷◌, ◌≡◌}
+use Rattle.nat_mapping.proofs.Names.{arith, cond, from_internal, get, held_by, holders_at, holders_of, keys_of, lookup, lookup-none, nat_tests}
+use Rattle.nat_mapping.proofs.Names.{none_past_head, refl, replicate, same_mapping, same_source, source_key_of, sum_by, sum_by-append, sum_by-replicate, true}
+use Rattle.nat_mapping.proofs.Names.{ℕ, ◌&&◌, ◌*◌, ◌++◌, ◌+◌, ◌==◌, ◌∙◌, ◌∷◌, ◌≡◌}
 use Rattle.nat_mapping.proofs.Equal.{equivalence, source_test}
 
 pub same_by : (m : Mapping) (key : SourceKey) (h : MappedPort)

@@ -1,7 +1,6 @@
 -- Equal keys and mappings.
-use Rattle.nat_mapping.proofs.Names.{Bool, InboundKey, IsEquivalence, PoolKey, SourceKey, ap, arith, eqb, false, false_from_ne_true}
-use Rattle.nat_mapping.proofs.Names.{nat_tests, rules, same_endpoint, same_inbound, same_kind}
-use Rattle.nat_mapping.proofs.Names.{same_mapping, same_pool, same_source, subst, sym, true, ◌&&◌, ◌∙◌, ◌≡◌}
+use Rattle.nat_mapping.proofs.Names.{Bool, InboundKey, IsEquivalence, PoolKey, SourceKey, ap, arith, eqb, false, false_from_ne_true, nat_tests, rules}
+use Rattle.nat_mapping.proofs.Names.{same_endpoint, same_inbound, same_kind, same_mapping, same_pool, same_source, subst, sym, true, ◌&&◌, ◌∙◌, ◌≡◌}
 
 -- a test passes where the two are equal, and only there
 pub record IsTest {K : Type 0} (e : K → K → Bool) : Type 0 where

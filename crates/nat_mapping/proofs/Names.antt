@@ -8,7 +8,6 @@ pub use Rattle.ip_headers.specs.Same.{same_endpoint, same_kind}
 pub use Rattle.ip_headers.specs.declared.tuple.Endpoint.{Endpoint}
 pub use Rattle.ip_headers.specs.declared.tuple.Kind.{Kind}
 pub use Rattle.ip_headers.specs.declared.tuple.Mapping.{Mapping}
-pub use Rattle.ip_headers.specs.steps.Equal.{same_endpoint-refl, same_endpoint-true, same_kind-refl, same_kind-true}
 pub use Rattle.ip_headers.specs.steps.WordBytes.{first_word, words_after}
 pub use Rattle.list_laws.specs.Decisions.{Contains-cases, Contains-none, Contains-there}
 pub use Rattle.list_laws.specs.Lists.{Contains-head, any_of_map}
@@ -29,12 +28,11 @@ pub use Rattle.nat_mapping.specs.steps.Pooled.{IsPooled, taken_in}
 pub use Rattle.nat_mapping.specs.steps.Ports.{IsInUse, IsSpare, is_taken_by}
 pub use Rattle.port_pool.specs.Taken.{is_taken}
 pub use Rattle.port_pool.specs.declared.order.Order.{Order}
-pub use Rattle.port_pool.specs.declared.order.Order.TheVariants.{Zero}
 pub use Rattle.port_pool.specs.declared.pool.Pool.{Pool}
 pub use Rattle.port_pool.specs.declared.range.CandidateRange.{CandidateRange}
 pub use Rattle.std.proofs.Common.{Bool, Err, IfSome, IsSome, List, None, Option, Result, Some, [], ap, arith, cond, eqb, false, get_or, inl, inr, is_some}
-pub use Rattle.std.proofs.Common.{length, not, refl, rules, subst, sym, true, vec_len, ℕ, ◌*◌, ◌++◌, ◌+◌, ◌-◌, ◌<◌, ◌↔◌, ◌∙◌, ◌∷◌, ◌≡◌, ◌≢◌, ◌≤◌}
-pub use Rattle.std.proofs.lemmas.Bool.{both_ways, cond-false, cond-true, cond_both, eq-eqb, eqb-true, false_from_ne_true}
+pub use Rattle.std.proofs.Common.{length, not, refl, rules, subst, sym, true, vec_len, ℕ, ◌*◌, ◌++◌, ◌+◌, ◌-◌, ◌<◌, ◌↔◌, ◌∙◌, ◌∷◌, ◌≡◌, ◌≤◌}
+pub use Rattle.std.proofs.lemmas.Bool.{both_ways, cond-false, cond-true, cond_both, eq-eqb, false_from_ne_true}
 pub use Rattle.std.proofs.lemmas.Bool.Decides.{nat_tests, same_from_decides}
 pub use Rattle.std.proofs.lemmas.List.Folds.{sum_by-replicate}
 pub use Rattle.std.proofs.lemmas.List.Sums.{sum_by-append}

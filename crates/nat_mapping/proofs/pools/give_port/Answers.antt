@@ -1,5 +1,4 @@
-use Rattle.nat_mapping.proofs.Names.{IfSome, IfSome_at, IsInUse, ap, false, get, if◌then◌else◌, is_some, is_taken_by, refl, same_pool, sym, ◌==◌, ◌∙◌}
-use Rattle.nat_mapping.proofs.Names.{◌≡◌}
+use Rattle.nat_mapping.proofs.Names.{IfSome, IfSome_at, IsInUse, ap, false, get, if◌then◌else◌, is_some, is_taken_by, refl, same_pool, sym, ◌==◌, ◌∙◌, ◌≡◌}
 use Rattle.nat_mapping.proofs.Equal.{pool_test}
 use Rattle.nat_mapping.proofs.Sets.{port_set, set_at, sets_all}
 use Rattle.nat_mapping.proofs.pools.give_port.Goals as goal

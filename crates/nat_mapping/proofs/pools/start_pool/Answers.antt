@@ -5,12 +5,11 @@ use Rattle.nat_mapping.proofs.pools.start_pool.Goals as goal
 
 pub returns-clause-used : goal.returns-clause-used
 returns-clause-used c =
-    let port = c.args.port in
     sets_all same_pool pool_test _ _ _ _ c.in-Ok.ensures.updates.0 (λ q o. IfSome o (IsInUse q))
     (λ q apart. c.requires.used q) (record {
       order = c.take.ensures.order ∙ c.with_order-pool.ensures.order ∙ c.order.ensures;
       bitmap = c.requires.bitmap;
-      used = (port, c.take.ensures.taken port ∙ cond-true (port == port) true _ (eq-eqb port port refl));
+      used = (c.args.port, c.take.ensures.taken c.args.port ∙ cond-true (c.args.port == c.args.port) true _ (eq-eqb c.args.port c.args.port refl));
     })
 
 pub returns-clause-taken : goal.returns-clause-taken

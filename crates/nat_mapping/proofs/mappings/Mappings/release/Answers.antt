@@ -1,6 +1,6 @@
-use Rattle.nat_mapping.proofs.Names.{Contains, HoldsSame, IfSome, IfSome_at, IsSome, IsTable, MappedPort, None, Some, SourceKey, ap, arith, cond, get, held_by, nat_tests}
-use Rattle.nat_mapping.proofs.Names.{none-some, one_fewer, option_map, refl, same_Some, same_source, some_of_map, source_key_of, subst, sym, ◌<◌, ◌∙◌, ◌∷◌, ◌≡◌}
-use Rattle.nat_mapping.proofs.Names.{◌≤◌}
+use Rattle.nat_mapping.proofs.Names.{Contains, HoldsSame, IfSome, IfSome_at, IsSome, IsTable, MappedPort, None, Some, SourceKey, ap, arith, cond, get}
+use Rattle.nat_mapping.proofs.Names.{held_by, nat_tests, none-some, one_fewer, option_map, refl, same_Some, same_source, some_of_map, source_key_of, subst}
+use Rattle.nat_mapping.proofs.Names.{sym, ◌<◌, ◌∙◌, ◌∷◌, ◌≡◌, ◌≤◌}
 use Rattle.nat_mapping.proofs.Equal.{source_test}
 use Rattle.nat_mapping.proofs.Sets.{set_at, sets_all}
 use Rattle.nat_mapping.proofs.Represented.{ended, fewer_live, grown, has_fewer, held_more, port_at, port_taken, table_finds}
