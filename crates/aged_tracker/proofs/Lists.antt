@@ -1,11 +1,11 @@
 -- Circular lists of slots: their keys, links, changes and fronts.
 use Rattle.aged_tracker.proofs.Names.{AreOldest, AreOldestBut, ConntrackEntry, HasRings, IfNone, IfSome, Inserts, IsApart, IsIn, IsNode, IsOn, IsRing}
-use Rattle.aged_tracker.proofs.Names.{IsRing-kept, IsRing-push, IsRing-skip, IsRings, IsRising, IsSome, Joins, Link, List, Lists, Next, None, Option, Previous}
-use Rattle.aged_tracker.proofs.Names.{Relinks, Relists, SameBy, Slab, Slot, Some, Updates, [], ap, arith, cases_eq, cond-true, eqb, except_links, get, get_or}
-use Rattle.aged_tracker.proofs.Names.{get_or-set_other, get_or-set_same, held_at, held_of, inl, inr, is_first, is_some, length, link_at, link_by, nat_tests}
-use Rattle.aged_tracker.proofs.Names.{ne_eqb, neighbour, next_of, next_on, none-some, not_from_false, off, option_map, owner_by, owner_of, prev_end_on, prev_of}
-use Rattle.aged_tracker.proofs.Names.{prev_on, pushed, refl, rings_apart, same_Some, set, slice_get, some_of_map, subst, suc, sym, true, without}
-use Rattle.aged_tracker.proofs.Names.{without_absent, without_head, zero, ℕ, ◌++◌, ◌+◌, ◌-◌, ◌<◌, ◌∙◌, ◌∷◌, ◌≡◌, ◌≢◌, ◌≤◌, ◌⊎◌}
+use Rattle.aged_tracker.proofs.Names.{IsRing-kept, IsRing-push, IsRing-skip, IsRings, IsRising, IsSome, Joins, Link, List, Lists, Next, None, Option}
+use Rattle.aged_tracker.proofs.Names.{Previous, Relinks, Relists, SameBy, Slab, Slot, Some, Updates, [], ap, arith, cases_eq, cond-true, except_links, get}
+use Rattle.aged_tracker.proofs.Names.{get_or, get_or-set_other, get_or-set_same, held_at, held_of, inl, inr, is_first, is_some, length, link_at, link_by}
+use Rattle.aged_tracker.proofs.Names.{nat_tests, ne_eqb, neighbour, next_of, next_on, none-some, not_from_false, off, option_map, owner_by, owner_of}
+use Rattle.aged_tracker.proofs.Names.{prev_end_on, prev_of, prev_on, pushed, refl, rings_apart, same_Some, set, slice_get, some_of_map, subst, suc, sym, true}
+use Rattle.aged_tracker.proofs.Names.{without, without_absent, without_head, zero, ℕ, ◌++◌, ◌+◌, ◌-◌, ◌<◌, ◌∙◌, ◌∷◌, ◌≡◌, ◌≢◌, ◌≤◌, ◌⊎◌}
 use Rattle.futures.specs.Links as ring
 
 -- ---- lists of distinct keys
@@ -60,9 +60,6 @@ rising_as f g keys same rising i j d le less = grind (arith, IsIn-at)
 pub some_of : {X : Type 0} (o : Option X) → IsSome o → (x : X) × (o ≡ Some x)
 some_of o is = grind arith
 
-pub some_map : {X Y : Type 0} (f : X → Y) (o : Option X) → is_some (option_map f o) ≡ is_some o
-some_map f o = grind arith
-
 -- a function of slots that reads only what a write keeps
 pub kept_by : {X : Type 0} (f : Option Slot → X) (keep : Slot → Slot) → ((s : Slot) → f (Some s) ≡ f (Some (keep s)))
     → (old new : Option Slot) → option_map keep new ≡ option_map keep old → f new ≡ f old
@@ -83,9 +80,6 @@ links_as old new heads key slot updates p kept = grind arith
 
 pub aside_place : (old new : Slab Slot) → SameBy except_links old new → (p : ℕ) → IsNode old p → IsNode new p
 aside_place old new same p is above = kept_by is_some except_links (λ s. refl) (get old (p - 5)) (get new (p - 5)) (same (p - 5)) ∙ is above
-
-pub owned_some : (o : Option Slot) (list : ℕ) → owner_by o ≡ Some list → IsSome o
-owned_some o list is = grind arith
 
 -- a node of a circular list exists
 pub on_place : (slots : Slab Slot) (heads : List Link) (list : ℕ) (keys : List ℕ) (p : ℕ) → list < 5
@@ -217,9 +211,6 @@ module _ (next prev : ℕ → ℕ) (list : ℕ) where
   first_read [] (Some key) range chain some none = absurd (omega (arith, range, chain.0, some))
   first_read (first ∷ rest) None range chain some none = absurd (omega (arith, chain.0, none))
   first_read (first ∷ rest) (Some key) range chain some none = ap Some (omega (arith, chain.0, some))
-
-  pub first_tested : (keys : List ℕ) (key : ℕ) → list < 5 → ring.IsChain next prev 5 list keys list → eqb (next list) (5 + key) ≡ is_first key keys
-  first_tested keys key range chain = grind (arith, nat_tests)
 
   -- the key that the head leads back to is the last
   last_from : (key from first : ℕ) (rest : List ℕ) → ring.IsChain next prev 5 from (first ∷ rest) list

@@ -6,16 +6,15 @@ pub use Rattle.aged_tracker.specs.declared.slot.Neighbour.TheVariants.{Next, Pre
 pub use Rattle.aged_tracker.specs.declared.slot.Slot.{Slot}
 pub use Rattle.aged_tracker.specs.steps.Table.{AreOldest, AreOldestBut, HasRings, IsAllLive, IsIndexed, IsLiveQueue, IsNode, IsNumbered, IsRing, IsRings}
 pub use Rattle.aged_tracker.specs.steps.Table.{IsRising, IsTable, Lists, MAX_KEYS, Relinks, Relists, SameBy, Sets, belonging_of, connections_by, cons_held}
-pub use Rattle.aged_tracker.specs.steps.Table.{entry_at, entry_below, except_links, held_at, held_by, held_from, held_of, idle_at, is_first, key_in, last_at}
-pub use Rattle.aged_tracker.specs.steps.Table.{last_by, limit_at, link_at, link_by, neighbour, next_of, number, numbered_entry, off, owner_by, owner_of, picked}
-pub use Rattle.aged_tracker.specs.steps.Table.{prev_of, pushed, queue_by, queue_number, queue_of, serial_at, serial_by, slots_of, updated}
-pub use Rattle.box_file.specs.declared.idle_line.IdleKind.{IdleKind}
+pub use Rattle.aged_tracker.specs.steps.Table.{entry_at, entry_below, except_links, held_at, held_by, held_from, held_of, is_first, key_in, last_at, last_by}
+pub use Rattle.aged_tracker.specs.steps.Table.{limit_at, link_at, link_by, neighbour, next_of, number, numbered_entry, off, owner_by, owner_of, prev_of}
+pub use Rattle.aged_tracker.specs.steps.Table.{pushed, queue_by, queue_of, serial_at, serial_by, slots_of, updated}
 pub use Rattle.box_file.specs.declared.limits.Limits.{Limits}
 pub use Rattle.conntrack.proofs.Ids.{apart-filter, apart-push, apart-touched_at, distinct-filter, distinct-push, distinct-touched_at, found_by_id}
 pub use Rattle.conntrack.proofs.Ids.{length-without, without_new}
 pub use Rattle.conntrack.specs.ConntrackEntry.{IsNoneLater, aged_of, begun_with, belonging_by, belongs_in, connection_of, connection_ref, has_distinct_ids}
-pub use Rattle.conntrack.specs.ConntrackEntry.{has_id, have_disjoint_tuples, is_incoming, is_live, is_taken, limit_of, live_at, removed_entry, same_id, touched}
-pub use Rattle.conntrack.specs.ConntrackEntry.{touched_at}
+pub use Rattle.conntrack.specs.ConntrackEntry.{has_id, have_disjoint_tuples, is_incoming, is_live, is_taken, limit_of, live_at, removed_entry, same_id}
+pub use Rattle.conntrack.specs.ConntrackEntry.{touched, touched_at}
 pub use Rattle.conntrack.specs.declared.belonging.Belonging.{Belonging}
 pub use Rattle.conntrack.specs.declared.belonging.Belonging.TheVariants.{Found, NotFound}
 pub use Rattle.conntrack.specs.declared.connection.Aged.{Aged}

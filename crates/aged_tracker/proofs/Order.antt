@@ -1,15 +1,14 @@
 -- The entries in the order of their creation, and the queues, as a table changes.
 use Rattle.aged_tracker.proofs.Names.{AgedSlots, AllByRecursion, AreOldest, Bool, Connection, ConntrackEntry, Contains, Contains-entries, Contains-map}
-use Rattle.aged_tracker.proofs.Names.{Contains-permutation, Contains-unmap, ContainsKey-within, IdleKind, IfSome, IsAllLive, IsDistinct}
-use Rattle.aged_tracker.proofs.Names.{IsDistinct-IsPermutation, IsIn, IsIn-without, IsLiveQueue, IsNonDecreasingBy, IsNonDecreasingBy-filter}
-use Rattle.aged_tracker.proofs.Names.{IsNonDecreasingBy-push, IsNoneLater, IsNumbered, IsPermutation, IsPermutation-map, IsPermutation-sym, IsRising, IsSome}
-use Rattle.aged_tracker.proofs.Names.{IsTable, Limits, Link, List, Lists, MAX_KEYS, None, Option, Relists, SameBy, Sets, Slab, Slot, Some, Updates, []}
-use Rattle.aged_tracker.proofs.Names.{and_parts, ap, arith, cases_eq, common_steps, connection_of, connections_by, cons_held, entries, entries_from, entry_at}
-use Rattle.aged_tracker.proofs.Names.{entry_below, eq-eqb, eqb, eqb-true, except_links, false, filter, find, get, get_or, held_at, held_by, held_from, held_of}
-use Rattle.aged_tracker.proofs.Names.{idle_at, inl, inr, is_live, is_some, last_at, last_by, length, limit_at, limit_of, map, nat_tests, ne_eqb, none-some, not}
-use Rattle.aged_tracker.proofs.Names.{numbered_entry, off, option_cases, option_map, picked, pushed, queue_number, queue_of, refl, same_Some, serial_at}
-use Rattle.aged_tracker.proofs.Names.{serial_by, slice_get, slots_of, some_of_map, subst, suc, sym, true, true≢false, without, zero, ℕ, ◌&&◌, ◌++◌, ◌+◌, ◌-◌}
-use Rattle.aged_tracker.proofs.Names.{◌<◌, ◌∙◌, ◌∷◌, ◌≡◌, ◌≢◌, ◌≤◌, ◌⊎◌}
+use Rattle.aged_tracker.proofs.Names.{Contains-permutation, Contains-unmap, ContainsKey-within, IfSome, IsAllLive, IsDistinct, IsDistinct-IsPermutation, IsIn}
+use Rattle.aged_tracker.proofs.Names.{IsIn-without, IsLiveQueue, IsNonDecreasingBy, IsNonDecreasingBy-filter, IsNonDecreasingBy-push, IsNoneLater, IsNumbered}
+use Rattle.aged_tracker.proofs.Names.{IsPermutation, IsPermutation-map, IsPermutation-sym, IsRising, IsSome, IsTable, Limits, Link, List, Lists, MAX_KEYS}
+use Rattle.aged_tracker.proofs.Names.{None, Option, Relists, SameBy, Sets, Slab, Slot, Some, Updates, [], and_parts, ap, arith, cases_eq, common_steps}
+use Rattle.aged_tracker.proofs.Names.{connection_of, connections_by, cons_held, entries, entries_from, entry_at, entry_below, eq-eqb, eqb, eqb-true}
+use Rattle.aged_tracker.proofs.Names.{except_links, false, filter, find, get, get_or, held_at, held_by, held_from, held_of, inl, inr, is_live, is_some}
+use Rattle.aged_tracker.proofs.Names.{last_at, last_by, length, limit_at, limit_of, map, nat_tests, ne_eqb, none-some, not, numbered_entry, off, option_cases}
+use Rattle.aged_tracker.proofs.Names.{option_map, pushed, queue_of, refl, same_Some, serial_at, serial_by, slice_get, slots_of, some_of_map, subst, suc, sym}
+use Rattle.aged_tracker.proofs.Names.{true, true≢false, without, zero, ℕ, ◌&&◌, ◌++◌, ◌+◌, ◌-◌, ◌<◌, ◌∙◌, ◌∷◌, ◌≡◌, ◌≢◌, ◌≤◌}
 use Rattle.aged_tracker.proofs.Lists.{front_owned, kept_by, named_at, none_in, pushed_by, rising_as, rising_first, some_of}
 use Rattle.std.proofs.lemmas.Cmp.{nat_eq_equiv}
 use Rattle.std.proofs.lemmas.Map.Entries.{lookup_tail}
@@ -29,10 +28,6 @@ pub slot_by : (slots : Slab Slot) (key : ℕ) → IsSome (held_at slots key) →
 slot_by slots key is = grind (arith, common_steps)
 
 -- ---- the entry with a number
-
-picked_from : (b : Bool) (o rest : Option ConntrackEntry) (h : ConntrackEntry) → picked b o rest ≡ Some h
-    → ((b ≡ true) × (o ≡ Some h)) ⊎ (rest ≡ Some h)
-picked_from b o rest h is = grind arith
 
 module _ (s : ℕ → Option ConntrackEntry) (serial : ℕ → ℕ) (n : ℕ) where
   from_below : (most : ℕ) (h : ConntrackEntry) → entry_below s serial n most ≡ Some h → (k : ℕ) × ((s k ≡ Some h) × (serial k ≡ n))
@@ -334,9 +329,6 @@ listed_order slots qs next numbered moved sorted =
     ])
 
 -- ---- a queue's front is its oldest entry, so if the front is live all are
-
-known_queue : (k : IdleKind) → (queue_number k < 5) × (idle_at (queue_number k) ≡ k)
-known_queue k = grind arith
 
 pub queue_of-range : (h : ConntrackEntry) → queue_of h < 5
 queue_of-range h = grind arith

@@ -105,7 +105,8 @@ impl Tracker for AgedTracker {
 
     fn reserve_one(&mut self) -> Result<(), AllocError> {
         self.slots.reserve_one()?;
-        if spare_of(&self.keys) >= 2 {
+        let spare = self.keys.capacity() - self.keys.len();
+        if spare >= 2 {
             return Ok(());
         }
         self.keys.reserve(2)
@@ -166,13 +167,6 @@ fn insert_tuple(keys: &mut HashMap<Tuple, u32, WordState>, tuple: Tuple, key: u3
         Ok(_) => (),
         Err(_) => unreachable!(),
     }
-}
-
-/// How many more tuples fit in the index without growing.
-fn spare_of(keys: &HashMap<Tuple, u32, WordState>) -> usize
-    ensures { result ≡ spare keys.now }
-{
-    keys.capacity() - keys.len()
 }
 
 /// Removes a tuple from the index.

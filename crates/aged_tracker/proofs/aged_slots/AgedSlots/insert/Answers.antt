@@ -1,6 +1,5 @@
-use Rattle.aged_tracker.proofs.Names.{ConntrackEntry, IsNumbered, Relists, Sets, Some, add-one, ap, arith, begun_with, held_at}
-use Rattle.aged_tracker.proofs.Names.{held_of, inl, last_at, last_by, owner_by, owner_of, pushed, queue_by, queue_of, refl, slots_of, sym, ◌+◌}
-use Rattle.aged_tracker.proofs.Names.{◌∙◌, ◌≡◌}
+use Rattle.aged_tracker.proofs.Names.{ConntrackEntry, IsNumbered, Relists, Sets, Some, add-one, ap, arith, begun_with, held_at, held_of, inl, last_at}
+use Rattle.aged_tracker.proofs.Names.{last_by, owner_by, owner_of, pushed, queue_by, queue_of, refl, slots_of, sym, ◌+◌, ◌∙◌, ◌≡◌}
 use Rattle.aged_tracker.proofs.Lists.{oldest_as, oldest_pushed, relists_then, relists_written}
 use Rattle.aged_tracker.proofs.Order.{Writes, held_begun, least, numbered_after, rising_free, rising_pushed, sets, table_after, writes_between}
 use Rattle.aged_tracker.proofs.aged_slots.AgedSlots.insert.Goals.{After-fill-key, After-push_back}
