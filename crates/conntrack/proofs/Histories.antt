@@ -1,9 +1,9 @@
 -- The connections of a history that no record removed, and what one more record does to them.
-use Rattle.conntrack.proofs.Names.{Arrival, Belonging, Bool, Confirmation, Confirmed, ConnectionChange, ConntrackEntry, Creation, Ends, Found, Limits, List}
+use Rattle.conntrack.proofs.Names.{Arrival, Belonging, Confirmation, Confirmed, ConnectionChange, ConntrackEntry, Creation, Ends, Found, Limits, List}
 use Rattle.conntrack.proofs.Names.{NotFound, TrackedPacket, Unconfirmed, [], after_packet, append-nil, arith, begun_in, change_of_packet, cond, connection_in}
 use Rattle.conntrack.proofs.Names.{ended_by_packet, entry_of, eq-eqb, false, filter, filter-append, has_distinct_ids, has_id, is_ended, is_live, is_that}
 use Rattle.conntrack.proofs.Names.{is_touch_of, length, list_all, list_all-append, live_at, live_list, map, map-append, map-id, nat_lt, nat_tests, not}
-use Rattle.conntrack.proofs.Names.{number_if_begins, or-false, refl, replayed, same_id, touched, true, ℕ, ◌&&◌, ◌++◌, ◌||◌, ◌∷◌, ◌≡◌, ◌≤◌}
+use Rattle.conntrack.proofs.Names.{number_if_begins, or-false, refl, replayed, same_id, touched, true, ℕ, ◌&&◌, ◌++◌, ◌∷◌, ◌≡◌, ◌≤◌}
 use Rattle.conntrack.proofs.Lists.{filter-map, filter-true, map-filter-change, map-filter-later}
 use Rattle.conntrack.proofs.Ids.{distinct-filter, distinct-push}
 

@@ -172,6 +172,7 @@ impl Tracker for ListTracker {
         look_in(&self.conns, self.limits, tuple, flags, now)
     }
 
+    #[tactic(auto, using(crate::proofs::Ids::touch_rules))]
     fn touch(
         &mut self,
         id: ConnId,
