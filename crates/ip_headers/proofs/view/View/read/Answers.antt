@@ -20,6 +20,9 @@ header-front p n whole = grind (arith, common_steps)
 total_len-front : (p : List ℕ) (n : ℕ) → 20 ≤ n → total_len (take n p) ≡ total_len p
 total_len-front p n long = grind (arith, common_steps)
 
+header_len-front : (p : List ℕ) (n : ℕ) → 20 ≤ n → header_len (take n p) ≡ header_len p
+header_len-front p n long = grind (arith, common_steps)
+
 exact_by : (p : List ℕ) (n : ℕ) → n ≡ total_len p → 20 ≤ n → n ≤ length p → length (take n p) ≡ total_len (take n p)
 exact_by p n total long whole = grind (arith, common_steps, total_len-front p n long)
 
@@ -94,6 +97,10 @@ invariant_of-result-clause-whole c =
     let at = goal.at.invariant_of-result-clause-whole c in
     rw c.u16_at-total_len.ensures (fault_free (packet_of c.args.bytes.now) (packet_passes c.args.bytes.now
     (passed at.After-is_malformed (head at.After-u16_at) c.if-is_malformed.false)))
+
+pub invariant_of-result-clause-head : goal.invariant_of-result-clause-head
+invariant_of-result-clause-head c = c.split_at.ensures.front ∙ ap (λ k. take k (take c.u16_at-total_len.result c.args.bytes.now))
+    (sym (header_len-front c.args.bytes.now c.u16_at-total_len.result (omega arith)))
 
 pub invariant_of-result-clause-tail : goal.invariant_of-result-clause-tail
 invariant_of-result-clause-tail c = tail_by c.args.bytes.now c.split_at.result.1.now c.u16_at-total_len.result c.u16_at-total_len.ensures
