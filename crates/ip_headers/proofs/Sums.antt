@@ -1,7 +1,7 @@
 -- Sums of words, byte by byte and with end-around carries.
-use Rattle.std.proofs.Common.{◌≡◌, ℕ, zero, suc, ◌+◌, ◌*◌, ◌<◌, ◌≤◌, List, [], ◌∷◌, length, get_or, take, drop}
-use Rattle.std.proofs.Common.{Bool, true, false, refl, ap, sym, ◌∙◌, arith, ◌++◌, map, Fits, w8, w32}
-use Rattle.std.specs.Simd.Lanes.{sum_l, fold_l, zip2, Each1, Each2}
+use Rattle.std.proofs.Common.{◌≡◌, ℕ, zero, suc, ◌+◌, ◌*◌, ◌<◌, List, [], ◌∷◌, length, get_or, take, drop}
+use Rattle.std.proofs.Common.{Bool, true, false, refl, ap, sym, ◌∙◌, arith, ◌++◌, map}
+use Rattle.std.specs.Simd.Lanes.{sum_l, fold_l, zip2}
 use Rattle.std.proofs.lemmas.List.{take-append-drop}
 use Rattle.std.proofs.lemmas.Simd.{fold-sum}
 use Rattle.std.specs.Prelude.{All}
@@ -51,20 +51,6 @@ weighted (suc n) (x ∷ y ∷ xs) e = omega (arith, weighted n xs (omega arith))
 -- the lanes' sum is that of the words
 pub block_words : (n : ℕ) (xs : List ℕ) → length xs ≡ n * 2 → fold_l (λ s x. s + x) 0 (zip2 (λ a b. a * b) xs (weights n)) ≡ words_sum xs
 block_words n xs long = omega (arith, fold-sum 0 (zip2 (λ a b. a * b) xs (weights n)), weighted n xs long)
-
-pub words_small : (n : ℕ) (xs : List ℕ) → length xs ≡ n * 2 → Each1 (Fits w8) xs → words_sum xs ≤ n * 65535
-words_small zero [] e small = omega arith
-words_small zero (x ∷ xs) e small = absurd (omega arith)
-words_small (suc n) [] e small = absurd (omega arith)
-words_small (suc n) (x ∷ []) e small = absurd (omega arith)
-words_small (suc n) (x ∷ y ∷ xs) e small = omega (arith, small.0.fits, small.1.0.fits, words_small n xs (omega arith) small.1.1)
-
-pub products_fit : (n : ℕ) (xs : List ℕ) → length xs ≡ n * 2 → Each1 (Fits w8) xs → Each2 (λ a b. Fits w32 (a * b)) xs (weights n)
-products_fit zero [] e small = tt
-products_fit zero (x ∷ xs) e small = absurd (omega arith)
-products_fit (suc n) [] e small = absurd (omega arith)
-products_fit (suc n) (x ∷ []) e small = absurd (omega arith)
-products_fit (suc n) (x ∷ y ∷ xs) e small = grind (arith, small.0.fits, small.1.0.fits, small.1.1, (products_fit n xs))
 
 -- lanes that are loaded and widened have the bytes' numbers
 pub lanes_are : (n : ℕ) (xs : List ℕ) → length xs ≡ n → map (λ x. x) (take n xs) ≡ xs
