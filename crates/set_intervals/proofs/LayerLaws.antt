@@ -61,10 +61,6 @@ skip xs ys key none = first_value-append xs ys key ∙ ap (λ o. option_or o (fi
 
 -- ---- lists in order
 
-pub rising_less : {V : Type 0} (m n : ℕ) (xs : List (Range × V)) → m ≤ n → IsRising n xs → IsRising m xs
-rising_less m n [] le h = h
-rising_less m n (x ∷ xs) le h = (omega (arith, h.0), h.1)
-
 -- no value at a number below all ranges
 none_below : {V : Type 0} (n key : ℕ) (xs : List (Range × V)) → key < n → IsRising n xs → first_value xs key ≡ None
 none_below n key [] lt h = refl
@@ -181,6 +177,17 @@ passed {V} old new newer first others r part v low high rises adds appended key 
     ∙ over old new ((part, v) ∷ []) first others r v rises adds
     (λ k less. miss part v [] k (under part k (omega (arith, first.0.ordered))))
     (λ k beyond. pushed [] part r v k (grind (arith, nat_tests, low, high, beyond))) key
+
+-- no upper piece is left, and the rest of the range is the last
+pub follows_none : {V : Type 0} (done xs : List (Range × V)) → length xs < 1 → Follows done xs
+follows_none done [] none = tt
+follows_none done (x ∷ xs) none = absurd (omega arith)
+
+pub passed_all : {V : Type 0} (pieces new left all : List (Range × V)) (r : Range) (v : V) → length left < 1
+    → SameFirstValues new (pieces ++ (r, v) ∷ []) → SameFirstValues (pieces ++ (left ++ (r, v) ∷ [])) all
+    → SameFirstValues (new ++ left) all
+passed_all pieces new [] all r v none last so_far key = ap (λ l. first_value l key) (append-nil new) ∙ last key ∙ so_far key
+passed_all pieces new (x ∷ xs) all r v none last so_far key = absurd (omega arith)
 
 -- ---- overlaying two lists
 

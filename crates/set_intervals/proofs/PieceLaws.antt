@@ -1,5 +1,5 @@
 -- The invariant of a table's pieces.
-use Rattle.std.proofs.Common.{◌≡◌, ◌≢◌, ℕ, ◌+◌, ◌-◌, ◌<◌, ◌≤◌, List, [], ◌∷◌, ◌++◌, length, get_or, set, inl, inr, refl}
+use Rattle.std.proofs.Common.{◌≡◌, ◌≢◌, ℕ, zero, suc, ◌+◌, ◌-◌, ◌<◌, ◌≤◌, List, [], ◌∷◌, ◌++◌, length, get_or, set, inl, inr, refl}
 use Rattle.std.proofs.Common.{sym, ap, ◌∙◌, arith, length-append, Option, Some, None}
 use Rattle.std.specs.List.Sorted.{IsNonDecreasing, IsNonDecreasingBy}
 use Rattle.std.proofs.Math.Seq.{get_or-append_seam}
@@ -63,19 +63,36 @@ pub table_push : {V : Type 0} (xs : List (Range × V)) (n : ℕ) (q p : Range ×
 table_push {V} xs n q p table whole is apart =
     grind (arith, separate_push, table.separate, p.0.low, last_is, apart.0, merged_push, table.merged, p.1, apart.1)
 
-pub starts_push : {V : Type 0} (xs : List (Range × V)) (p : Range × V) → StartsBefore xs p.0.low → StartsBefore (xs ++ p ∷ []) p.0.low
-starts_push {V} xs p before i d lt = elim (cases_lt i (length xs)) [
-  | inl old ↦ rw (get_or_append_left xs (p ∷ []) d i old) (before i d old)
-  | inr past ↦
-      let e : i ≡ length xs = omega (arith, length-append xs (p ∷ [])) in
-      omega (arith, ap (λ (s : Range × V). s.0.low) (ap (λ n. get_or (xs ++ p ∷ []) n d) e ∙ get_or-append_seam xs p [] d))
-]
-
 -- ---- a wider piece
 
 pub starts_widen : {V : Type 0} (xs : List (Range × V)) (i : ℕ) (p q : Range × V) (n : ℕ) → i < length xs → p
     ≡ get_or xs i p → q.0.low ≡ p.0.low → StartsBefore xs n → StartsBefore (set xs i q) n
 starts_widen {V} xs i p q n lt is same before j d in_list = grind (arith, cases_eq, get_or, get_or-set_same, get_or-set_other, length-set)
+
+-- what a new element has in common with the old one is kept at each index
+kept_by : {X Y : Type 0} (f : X → Y) (xs : List X) (i k : ℕ) (p q d : X) → i < length xs → p ≡ get_or xs i p → f q ≡ f p
+    → f (get_or (set xs i q) k d) ≡ f (get_or xs k d)
+kept_by f (x ∷ xs) zero zero p q d lt is same = same ∙ ap f is
+kept_by f (x ∷ xs) zero (suc k) p q d lt is same = refl
+kept_by f (x ∷ xs) (suc i) zero p q d lt is same = refl
+kept_by f (x ∷ xs) (suc i) (suc k) p q d lt is same = kept_by f xs i k p q d (omega arith) is same
+kept_by f [] i k p q d lt is same = absurd (omega arith)
+
+-- the last piece
+pub table_widen : {V : Type 0} (xs : List (Range × V)) (i : ℕ) (p q : Range × V) → i + 1 ≡ length xs → p ≡ get_or xs i p
+    → q.0.low ≡ p.0.low → q.1 ≡ p.1 → IsTable xs → IsTable (set xs i q)
+table_widen {V} xs i p q last is low value table =
+    let len = length-set xs i q in
+    let lt : i < length xs = omega arith in
+    let lows = λ (k : ℕ) (d : Range × V). kept_by (λ (r : Range × V). r.0.low) xs i k p q d lt is low in
+    let values = λ (k : ℕ) (d : Range × V). kept_by (λ (r : Range × V). r.1) xs i k p q d lt is value in
+    let others = λ (j : ℕ) (d : Range × V) (e : j ≢ i). ap (λ (r : Range × V). r.0.high) (get_or-set_other xs i j q d e) in
+    record {
+      separate = λ j k d less inside.
+          omega (arith, table.separate j k d less (omega (arith, len, inside)), others j d (λ e. omega (arith, e, less, inside, len)), lows k d);
+      merged = λ j d next touch same. table.merged j d (omega (arith, len, next))
+          (omega (arith, touch, others j d (λ e. omega (arith, e, next, len)), lows (j + 1) d)) (sym (values j d) ∙ same ∙ values (j + 1) d);
+    }
 
 -- ---- the one value at a number
 

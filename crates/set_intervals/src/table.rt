@@ -45,7 +45,7 @@ impl<V: Copy + Eq> Intervals<V> {
         ensures agrees { IfOk result (λ table. HasClash pairs.now → ⊥) }
         ensures clash { IfErr result (λ e. e ≡ SetError.Clash → HasClash pairs.now) }
     {
-        let mut sorted = copied(alloc, pairs)?;
+        let mut sorted = Vec::from_slice(alloc, pairs)?;
         sorted.sort_unstable_by_key(|pair| pair.0.low());
         let mut pieces = Vec::new(alloc);
         for &(range, value) in &sorted {
@@ -74,11 +74,7 @@ impl<V: Copy + Eq> Intervals<V> {
         requires { IsTable pieces.items }
         ensures { IfOk result (λ table. table ≡ pieces.items) }
     {
-        let mut highs = Vec::with_capacity(alloc, pieces.len())?;
-        for (range, _) in &pieces {
-            highs.push(range.high())?;
-        }
-        let level = Level::build(alloc, &highs)?;
+        let level = level_of(alloc, &pieces)?;
         Ok(Intervals { pieces, level })
     }
 
@@ -109,6 +105,18 @@ impl<V: Copy + Eq> Intervals<V> {
     {
         self.pieces.len()
     }
+}
+
+/// The level over the highest numbers of these pieces.
+fn level_of<V>(alloc: Global, pieces: &[(Range, V)]) -> Result<Level, AllocError>
+    requires { IsTable pieces.now }
+    ensures { IfOk result (λ level. IsLevel level (highs pieces.now)) }
+{
+    let mut highs = Vec::with_capacity(alloc, pieces.len())?;
+    for (range, _) in pieces {
+        highs.push(range.high())?;
+    }
+    Level::build(alloc, &highs)
 }
 
 /// How a pair relates to a piece that starts no later.
@@ -163,12 +171,6 @@ fn add<V: Copy + Eq>(pieces: &mut Vec<(Range, V)>, range: Range, value: V) -> Re
         Overlap::Clashes => return Err(SetError::Clash),
     }
     Ok(())
-}
-
-fn copied<V: Copy>(alloc: Global, pairs: &[(Range, V)]) -> Result<Vec<(Range, V)>, AllocError>
-    ensures { IfOk result (λ copy. copy.items ≡ pairs.now) }
-{
-    pairs.iter().copied().collect(alloc)
 }
 
 /// The value of the piece that contains the number; the part that the level names is searched.

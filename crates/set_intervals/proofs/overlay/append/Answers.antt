@@ -1,8 +1,8 @@
-use Rattle.std.proofs.Common.{◌+◌, ◌-◌, ◌<◌, sym, ap, ◌∙◌, subst, arith}
+use Rattle.std.proofs.Common.{◌+◌, ◌-◌, ◌<◌, refl, sym, ap, ◌∙◌, subst, arith}
 use Rattle.std.proofs.lemmas.Bool.{iff_false}
 use Rattle.std.proofs.lemmas.List.Elements.{All-set}
 use Rattle.set_intervals.specs.steps.Pieces.{IsTable}
-use Rattle.set_intervals.proofs.PieceLaws.{last_is}
+use Rattle.set_intervals.proofs.PieceLaws.{last_is, table_widen}
 use Rattle.set_intervals.proofs.LayerLaws.{merged_last, table_past}
 use Rattle.set_intervals.proofs.overlay.append.Goals as goal
 use Rattle.set_intervals.proofs.overlay.append.Goals.{then-len-gt0+else-continues, else-len-gt0}
@@ -30,3 +30,8 @@ returns-then-continues-clause-ends g c =
     (c.merged.result, c.index-last.result.now.1)
     (omega (arith, c.merged.ensures.high, (c.continues.ensures.0 c.if-continues.true).0, c.args.range.ordered))
     (λ k d lt. omega (arith, c.requires.past k d lt, c.args.range.ordered))
+
+pub returns-then-continues-clause-table : goal.returns-then-continues-clause-table
+returns-then-continues-clause-table g c =
+    table_widen c.args.pieces.now.items (c.len-len.result - 1) c.index-last.result.now (c.merged.result, c.index-last.result.now.1)
+    (omega arith) c.index-last.ensures c.merged.ensures.low refl c.requires.table

@@ -1,5 +1,6 @@
-use Rattle.std.proofs.Common.{◌+◌, ◌++◌, ◌∙◌, ap, arith}
-use Rattle.std.proofs.lemmas.List.{get_or_default}
+use Rattle.std.proofs.Common.{◌+◌, ◌++◌, ◌∙◌, ap, arith, sym}
+use Rattle.std.proofs.lemmas.List.{append-nil, drop_all, get_or_default}
+use Rattle.set_intervals.specs.Pairs.{first_value}
 use Rattle.set_intervals.proofs.LayerLaws.{laid_more, table_follows, table_none}
 use Rattle.set_intervals.proofs.overlay.overlay.Goals as goal
 
@@ -23,4 +24,13 @@ loop-range-preserved g c =
     }
 
 pub append_under-requires-clause-past : goal.append_under-requires-clause-past
-append_under-requires-clause-past g c = grind arith
+append_under-requires-clause-past g c = λ k e lt.
+    omega (arith, c.loop-range.invariant.before c.loop-range-item.result c.loop-range-test.true k e lt, ap (λ p. p.0.low) c.loop-range-item.is)
+
+pub returns-clause-first_values : goal.returns-clause-first_values
+returns-clause-first_values g c = λ key.
+    let left = c.loop-range.left.now in
+    let done = ap (λ l. left ++ l) (drop_all c.loop-range.range-index c.args.lower.now c.loop-range-test.false) ∙ append-nil left in
+    c.in_ok-append_all.ensures.first_values key
+    ∙ ap (λ l. first_value (c.loop-range.pieces.items ++ l) key) (sym done)
+    ∙ c.loop-range.invariant.first_values key

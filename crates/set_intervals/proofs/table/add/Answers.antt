@@ -1,7 +1,7 @@
-use Rattle.std.proofs.Common.{◌≤◌, ◌<◌, ◌-◌, length, sym, ap, subst, arith}
+use Rattle.std.proofs.Common.{◌≤◌, ◌<◌, ◌-◌, length, refl, sym, ap, subst, arith}
 use Rattle.set_intervals.specs.steps.Pieces.{Adds, IsTable}
 use Rattle.set_intervals.proofs.PairLaws.{holds_read, adds_widen, adds_push, covers_split, covers_merge}
-use Rattle.set_intervals.proofs.PieceLaws.{table_push, starts_widen}
+use Rattle.set_intervals.proofs.PieceLaws.{table_push, table_widen, starts_widen}
 use Rattle.set_intervals.proofs.table.add.Goals as goal
 
 pub returns-in-Clashes-clause-clash : goal.returns-in-Clashes-clause-clash
@@ -31,6 +31,12 @@ returns-in_ok-push-in-Disjoint-clause-after g c = grind arith
 pub returns-in_ok-push-in-Disjoint-clause-adds : goal.returns-in_ok-push-in-Disjoint-clause-adds
 returns-in_ok-push-in-Disjoint-clause-adds g c =
     subst (λ l. Adds c.args.pieces.now.items c.args.range c.args.value l) (sym c.in_ok-push-in-Disjoint.ensures.items) (adds_push _ _ _)
+
+pub returns-in-Mergeable-clause-table : goal.returns-in-Mergeable-clause-table
+returns-in-Mergeable-clause-table g c =
+    let last = c.index-last.result.now in
+    table_widen c.args.pieces.now.items (c.len-len.result - 1) last (c.merged.result, last.1) (omega arith) c.index-last.ensures
+    c.merged.ensures.low refl c.requires.table
 
 pub returns-in-Mergeable-clause-after : goal.returns-in-Mergeable-clause-after
 returns-in-Mergeable-clause-after g c =

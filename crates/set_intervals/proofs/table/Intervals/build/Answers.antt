@@ -17,7 +17,7 @@ returns-in_err-add-clause-clash g c =
     let item = c.loop-range-item.result in
     let moved = subst (λ l. IsPermutation c.in_ok-sorted.sorted.items l) (sym c.deref-range-items.ensures.value) c.sort_unstable_by_key.ensures.permutation in
     rw (p.1, p.2) (λ clash. clash_of _ xs c.args.pairs.now i item.0 item.1 c.loop-range-test.true c.loop-range-item.is
-    c.loop-range.invariant.same (subst (λ l. IsPermutation l xs) c.in_ok-sorted.ensures moved)
+    c.loop-range.invariant.same (subst (λ l. IsPermutation l xs) c.in_ok-sorted.ensures.items moved)
     (c.in_err-add.ensures.clash clash))
 
 pub loop-range-preserved : goal.loop-range-preserved
@@ -44,7 +44,7 @@ returns-clause-same g c =
     let moved = subst (λ l. IsPermutation c.in_ok-sorted.sorted.items l) (sym c.deref-range-items.ensures.value) c.sort_unstable_by_key.ensures.permutation in
     subst (λ t. SameValues t pairs) (sym c.in_ok-of.ensures)
     (same_permutation _ xs pairs c.loop-range.range-index c.loop-range-test.false c.loop-range.invariant.same
-    (subst (λ l. IsPermutation l xs) c.in_ok-sorted.ensures moved))
+    (subst (λ l. IsPermutation l xs) c.in_ok-sorted.ensures.items moved))
 
 pub returns-clause-first_values : goal.returns-clause-first_values
 returns-clause-first_values g c = λ key.
