@@ -1,10 +1,11 @@
 -- The invariant of a table's pieces.
 use Rattle.std.proofs.Common.{◌≡◌, ◌≢◌, ℕ, zero, suc, ◌+◌, ◌-◌, ◌<◌, ◌≤◌, List, [], ◌∷◌, ◌++◌, length, get_or, set, inl, inr, refl}
-use Rattle.std.proofs.Common.{sym, ap, ◌∙◌, arith, length-append, Option, Some, None}
+use Rattle.std.proofs.Common.{take, sym, ap, ◌∙◌, arith, length-append, Option, Some, None}
 use Rattle.std.specs.List.Sorted.{IsNonDecreasing, IsNonDecreasingBy}
 use Rattle.std.proofs.Math.Seq.{get_or-append_seam}
 use Rattle.std.proofs.lemmas.List.{get_or_append_left, get_or_default, get_or-set_same, get_or-set_other, length-set, get_or-map, length-map}
 use Rattle.std.proofs.lemmas.Bool.{cases_lt, cases_eq}
+use Rattle.std.proofs.lemmas.Grind.{common_steps}
 use Rattle.set_intervals.specs.declared.range.Range.{Range}
 use Rattle.set_intervals.specs.declared.table.Overlap.TheVariants.{Disjoint}
 use Rattle.set_intervals.specs.Pairs.{HasValue, SameValues, HasClash}
@@ -22,6 +23,10 @@ highs_ascend (x ∷ xs) sep i j d le lt =
     let inside : j < length ys = omega (arith, lt, length-map ys (λ p. p.0.high)) in
     let read = λ (k : ℕ) (in_list : k < length ys). get_or-map (λ p. p.0.high) ys k x d in_list in
     omega (arith, highs_rise ys sep i j x le inside, read i (omega (arith, le, inside)), read j inside)
+
+pub highs_more : {V : Type 0} (xs : List (Range × V)) (i : ℕ) (p : Range × V) → i < length xs → p ≡ get_or xs i p
+    → highs (take i xs) ++ p.0.high ∷ [] ≡ highs (take (i + 1) xs)
+highs_more xs i p lt is = grind (arith, common_steps)
 
 -- ---- a new last piece
 

@@ -4,8 +4,12 @@ use Rattle.std.specs.List.Sorted.{IsNonDecreasing}
 use Rattle.std.proofs.lemmas.List.{take_all}
 use Rattle.search_levels.specs.Levels.{IsLevel}
 use Rattle.set_intervals.specs.steps.Pieces.{highs}
-use Rattle.set_intervals.proofs.PieceLaws.{highs_ascend}
+use Rattle.set_intervals.proofs.PieceLaws.{highs_ascend, highs_more}
 use Rattle.set_intervals.proofs.table.level_of.Goals as goal
+
+pub loop-range-preserved : goal.loop-range-preserved
+loop-range-preserved g c = rw (c.in_ok-push.ensures.items, c.loop-range.invariant, c.high.ensures)
+    (highs_more c.args.pieces.now c.loop-range.range-index c.loop-range-item.result c.loop-range-test.true c.loop-range-item.is)
 
 pub build-requires : goal.build-requires
 build-requires g c =
