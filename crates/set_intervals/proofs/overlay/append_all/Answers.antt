@@ -5,11 +5,6 @@ use Rattle.set_intervals.specs.steps.Layers.{Follows}
 use Rattle.set_intervals.proofs.LayerLaws.{follows, same_front}
 use Rattle.set_intervals.proofs.overlay.append_all.Goals as goal
 
-pub append-requires-clause-past : goal.append-requires-clause-past
-append-requires-clause-past g c =
-    let parts = head_and_rest c.loop-left.left.now c.first-item.result c.in-len1-up.len_at_least c.first-item.is in
-    (subst (Follows c.loop-left.pieces.items) parts c.loop-left.invariant.follows).0
-
 pub loop-left-preserved : goal.loop-left-preserved
 loop-left-preserved g c =
     let pieces = c.loop-left.pieces.items in
