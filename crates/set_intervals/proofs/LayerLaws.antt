@@ -179,6 +179,10 @@ passed {V} old new newer first others r part v low high rises adds appended key 
     (λ k beyond. pushed [] part r v k (grind (arith, nat_tests, low, high, beyond))) key
 
 -- no upper piece is left, and the rest of the range is the last
+pub follows_none : {V : Type 0} (done xs : List (Range × V)) → length xs < 1 → Follows done xs
+follows_none done [] none = tt
+follows_none done (x ∷ xs) none = absurd (omega arith)
+
 pub passed_all : {V : Type 0} (pieces new left all : List (Range × V)) (r : Range) (v : V) → length left < 1
     → SameFirstValues new (pieces ++ (r, v) ∷ []) → SameFirstValues (pieces ++ (left ++ (r, v) ∷ [])) all
     → SameFirstValues (new ++ left) all

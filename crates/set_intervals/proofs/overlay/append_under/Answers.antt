@@ -2,8 +2,22 @@ use Rattle.std.proofs.Common.{[], ◌∷◌, ◌+◌, ◌++◌, ◌-◌, ◌∙�
 use Rattle.list_laws.specs.Lists.{head_and_rest}
 use Rattle.set_intervals.specs.Pairs.{first_value}
 use Rattle.set_intervals.specs.steps.Layers.{Follows}
-use Rattle.set_intervals.proofs.LayerLaws.{covered, follows, passed, passed_all}
+use Rattle.set_intervals.proofs.LayerLaws.{covered, follows, follows_none, passed, passed_all}
 use Rattle.set_intervals.proofs.overlay.append_under.Goals as goal
+
+pub append_before-requires-clause-before : goal.append_before-requires-clause-before
+append_before-requires-clause-before g c =
+    let parts = head_and_rest c.loop-left.left.now c.first-item.result c.in-len1-up.len_at_least c.first-item.is in
+    (subst (Follows c.loop-left.pieces.items) parts c.loop-left.invariant.follows).0
+
+pub returns-in_default-after-clause-ends : goal.returns-in_default-after-clause-ends
+returns-in_default-after-clause-ends g c = λ i d lt. omega (arith, c.in_ok-append_before.ensures.ends i d lt, c.loop-left.invariant.end)
+
+pub returns-in_default-after-clause-follows : goal.returns-in_default-after-clause-follows
+returns-in_default-after-clause-follows g c =
+    let parts = head_and_rest c.loop-left.left.now c.first-item.result c.in-len1-up.len_at_least c.first-item.is in
+    subst (Follows c.append_before.new.pieces.items) (sym parts)
+    (c.in_ok-append_before.ensures.before, (subst (Follows c.loop-left.pieces.items) parts c.loop-left.invariant.follows).1)
 
 pub returns-in_default-after-clause-first_values : goal.returns-in_default-after-clause-first_values
 returns-in_default-after-clause-first_values g c = λ key.
@@ -41,6 +55,12 @@ loop-left-preserved g c =
           ∙ ap (λ l. first_value (pieces ++ (l ++ (c.loop-left.rest, c.args.value) ∷ [])) key) (sym parts)
           ∙ c.loop-left.invariant.first_values key;
     }
+
+pub returns-clause-ends : goal.returns-clause-ends
+returns-clause-ends g c = λ i d lt. omega (arith, c.in_ok-append-2.ensures.ends i d lt, c.loop-left.invariant.end)
+
+pub returns-clause-follows : goal.returns-clause-follows
+returns-clause-follows g c = follows_none c.append-2.new.pieces.items c.loop-left.left.now c.in_default.len_below
 
 pub returns-clause-first_values : goal.returns-clause-first_values
 returns-clause-first_values g c =
