@@ -1,7 +1,7 @@
 -- What is left of a chain: the rules that are left out of it never match a packet that gets to them.
 use Rattle.compiler.proofs.Names.{AllZip, AreLeft, Bool, ChainTree, Facts, FailsAt, IsDropped, IsLeft, IsShadowed, LeadsTo, LeavesOut, LeavesOutOf, List}
 use Rattle.compiler.proofs.Names.{MatchTree, None, Option, PlantTree, Program, Some, Statement, TableTree, VerdictTree, [], always_ends, ap, arith}
-use Rattle.compiler.proofs.Names.{below_more, cases_lt, ends_chain, false, false_from_ne_true, false≢true, get_or, goes_on, if◌then◌else◌}
+use Rattle.compiler.proofs.Names.{below_more, cases_lt, ends_chain, false, false_from_ne_true, false≢true, fun_ext, get_or, goes_on, if◌then◌else◌}
 use Rattle.compiler.proofs.Names.{inl, inr, left_statements, length, lists, map, merged_selector, none-some, option_map, passes_if, refl}
 use Rattle.compiler.proofs.Names.{rule_at, rules_in, same_Some, slice_get, subst, suc, sym, table_program, true, zero, ℕ, ⊎_elim, ◌*◌, ◌+◌, ◌<◌, ◌^◌, ◌∙◌, ◌∷◌}
 use Rattle.compiler.proofs.Names.{◌≡◌, ◌≤◌}
@@ -25,13 +25,6 @@ compares-as : (o : Option Span) (n : ℕ) → compares_with operators.Equal o n 
 compares-as None n = refl
 compares-as (Some span) n = refl
 
-tests-as : (o : Option ℕ) (p q : ℕ → Bool) → ((n : ℕ) → p n ≡ q n) → tests o p ≡ tests o q
-tests-as None p q same = refl
-tests-as (Some n) p q same = same n
-
-as-listed : (f : Facts) (x s : Selector) (p q : ℕ → Bool) → ((n : ℕ) → p n ≡ q n) → Some x ≡ Some s → tests (value x f) p ≡ tests (value s f) q
-as-listed f x s p q same is = tests-as (value x f) p q same ∙ ap (λ y. tests (value y f) q) (same_Some x s is)
-
 -- a concatenation of one value is that value
 joined-one : (o : Option ℕ) (width : ℕ) (p : ℕ → Bool) → tests (join 0 ((width, o) ∷ [])) p ≡ tests o p
 joined-one None width p = refl
@@ -40,11 +33,12 @@ joined-one (Some n) width p = let same : 0 * 2 ^ width + n ≡ n = omega arith i
 -- a match that lists values of a selector holds where the selector's value is one of them
 pub holds-as : (scope : Scope) (m : MatchTree) (s : Selector) (f : Facts) → asked_selector m ≡ Some s
     → holds scope m f ≡ tests (value s f) (asks_for scope.plant m)
-holds-as scope (tree.compare x operators.Equal r) s f is = as-listed f x s _ _ (compares-as (numbers_of scope.plant (selector_compared_type x) r)) is
-holds-as scope (tree.is_in (x ∷ []) (tree.elements es)) s f is = joined-one (value x f) (selector_width x) (set_has scope (x ∷ []) (tree.elements es))
-    ∙ as-listed f x s _ _ (λ n. refl) is
-holds-as scope (tree.bits field bit_tests.Exactly words) s f is = as-listed f (bit_selector field) s _ _ (λ n. refl) is
-holds-as scope (tree.exact_flags fs) s f is = as-listed f selectors.TcpFlags s _ _ (λ n. refl) is
+holds-as scope (tree.compare x operators.Equal r) s f is = rw (← (same_Some x s is))
+    (ap (tests (value x f)) (fun_ext (compares-as (numbers_of scope.plant (selector_compared_type x) r))))
+holds-as scope (tree.is_in (x ∷ []) (tree.elements es)) s f is =
+    rw (← (same_Some x s is)) (joined-one (value x f) (selector_width x) (set_has scope (x ∷ []) (tree.elements es)))
+holds-as scope (tree.bits field bit_tests.Exactly words) s f is = rw (← (same_Some (bit_selector field) s is))
+holds-as scope (tree.exact_flags fs) s f is = rw (← (same_Some selectors.TcpFlags s is))
 holds-as scope m s f is = absurd (none-some s is)
 
 asked : (b : Bool) (o : Option Selector) (s : Selector) → (if b then o else None) ≡ Some s → (b ≡ true) × (o ≡ Some s)
@@ -147,16 +141,14 @@ module _ (plant : PlantTree) (number : ℕ) (t : TableTree) where
     left-by k n c r rs (Some kept) ls f rule is so later =
         inl (is.0 ∙ sym rule, λ g way. later g (reaches-more k c n f g so (subst (λ ss. LeadsTo own c n 1 ss f g) rule way)))
 
-    leaves : (k n c : ℕ) (rs : List (List Statement)) (ls : List (Option (List Statement))) (f : Facts)
-        → length ls ≡ length rs → ((i : ℕ) → get_or rs i [] ≡ at (k + i))
-        → ((i : ℕ) → i < length rs → IsLeft plant rules (k + i) (get_or ls i None)) → Reaches k f → LeavesOut own f c n rs (map left_statements ls)
+    leaves : (k n c : ℕ) (rs : List (List Statement)) (ls : List (Option (List Statement))) (f : Facts) → length ls ≡ length rs
+        → ((i m : ℕ) → m ≡ k + i → get_or rs i [] ≡ at m) → ((i m : ℕ) → m ≡ k + i → i < length rs → IsLeft plant rules m (get_or ls i None))
+        → Reaches k f → LeavesOut own f c n rs (map left_statements ls)
     leaves k n c [] [] f same rules_are are so = tt
     leaves k n c (r ∷ rs) (l ∷ ls) f same rules_are are so =
-        let first : k + 0 ≡ k = omega arith in
-        let one : (i : ℕ) → k + suc i ≡ k + 1 + i = λ i. omega arith in
-        left-by k n c r rs l (map left_statements ls) f (rules_are 0 ∙ ap at first) (subst (λ m. IsLeft plant rules m l) first (are 0 (omega arith))) so
-        (λ g. leaves (k + 1) (n + 1) c rs ls g (omega arith) (λ i. rules_are (suc i) ∙ ap at (one i))
-        (λ i lt. subst (λ m. IsLeft plant rules m (get_or ls i None)) (one i) (are (suc i) (omega arith))))
+        left-by k n c r rs l (map left_statements ls) f (rules_are 0 k (omega arith)) (are 0 k (omega arith) (omega arith)) so
+        (λ g. leaves (k + 1) (n + 1) c rs ls g (omega arith) (λ i m is. rules_are (suc i) m (omega arith))
+        (λ i m is lt. are (suc i) m (omega arith) (omega arith)))
     leaves k n c rs ls f same rules_are are so = absurd (omega arith)
 
   -- the rules of chain c that are dropped are left out of the program
@@ -166,10 +158,10 @@ module _ (plant : PlantTree) (number : ℕ) (t : TableTree) where
   leaves-of c i [] [] rules all is = absurd (none-some rules is)
   leaves-of c zero (chain ∷ chains) (ls ∷ left) rules all is =
       let kept = map left_statements ls in
-      let zero-more : (n : ℕ) → n ≡ 0 + n = λ n. omega arith in
       let out : (f : Facts) → LeavesOut own f c 1 (rules_in chain) kept = λ f.
-      leaves (rules_in chain) 0 1 c (rules_in chain) ls f all.0.same_length (λ i. ap (λ m. get_or (rules_in chain) m []) (zero-more i))
-      (λ i lt. subst (λ m. IsLeft plant (rules_in chain) m (get_or ls i None)) (zero-more i) (all.0.each i lt)) (record {
+      leaves (rules_in chain) 0 1 c (rules_in chain) ls f all.0.same_length
+      (λ i m is. let same : i ≡ m = omega arith in ap (λ k. get_or (rules_in chain) k []) same)
+      (λ i m is lt. let same : i ≡ m = omega arith in subst (λ k. IsLeft plant (rules_in chain) k (get_or ls i None)) same (all.0.each i lt)) (record {
         on = λ i lt. absurd (omega arith);
         missed = λ s x has i lt. absurd (omega arith);
       }) in

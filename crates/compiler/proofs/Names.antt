@@ -4,9 +4,9 @@ pub use Rattle.code_layout.proofs.AddLaws.{declared_kept, extends_code_itself, e
 pub use Rattle.code_layout.specs.Adding.{AddsChain, ExtendsCode, rule_out_of_range}
 pub use Rattle.code_layout.specs.CodeLayout.{IsCode, IsTableCode, RulesAt, StatementsAt, chain_steps, dropped_rules, left_program, left_statements, rules_in}
 pub use Rattle.code_layout.specs.DroppedRules.{AreLeft, IsDropped, IsLeft, IsShadowed, always_ends, ends_chain, lists, merged_selector, rule_at}
-pub use Rattle.compiler.specs.Compiled.{StartHead, base_chain_head, cost_in, start_head, total_cost}
+pub use Rattle.compiler.specs.Compiled.{StartHead, base_chain_head, cost_in, start_cost, start_head, total_cost}
 pub use Rattle.compiler.specs.declared.compiled_chain.CompiledChain.{CompiledChain}
-pub use Rattle.compiler.specs.steps.Bases.{Ordered, Prices, base, costed, priced, runs_on_hook}
+pub use Rattle.compiler.specs.steps.Bases.{Ordered, Prices, base, costed, priced, runs_on_hook, start_of}
 pub use Rattle.compiler.specs.steps.Dropping.{FailsAt, LeadsTo, LeavesOut, LeavesOutOf, goes_on}
 pub use Rattle.filter_vm.specs.Machine.{Continuation, Stop, apply_effect, base_chain_result, call, enter_chain, exec, invalid_code, return_from, run_table}
 pub use Rattle.filter_vm.specs.Machine.{starts_of, stop}
@@ -23,8 +23,8 @@ pub use Rattle.rule_check.specs.Checked.{AreRulesetCosts, base_part, base_sum, r
 pub use Rattle.rule_code.specs.Actions.{action_effect, statement_at}
 pub use Rattle.rule_code.specs.declared.code.TableCode.{TableCode}
 pub use Rattle.rule_laws.specs.Ranking.{IsRanking, IsStatementOf, chain_cost_by, weight_by}
-pub use Rattle.rule_meaning.specs.Hooks.{BaseChain, HookResult, RunsBaseChain, base_chain_of, base_chains_from, base_chains_of, base_chains_of_tables}
-pub use Rattle.rule_meaning.specs.Hooks.{is_on_hook, policy_of, priority, runs_before, same_hook, with_policy}
+pub use Rattle.rule_meaning.specs.Hooks.{BaseChain, HookResult, InOrder, RunsBaseChain, base_chain_of, base_chains_from, base_chains_of}
+pub use Rattle.rule_meaning.specs.Hooks.{base_chains_of_tables, is_on_hook, policy_of, priority, runs_before, same_hook, with_policy}
 pub use Rattle.rule_meaning.specs.Runs.{IsTerminal, Program, Remainder, RunResult, Runs, accepts, at_end, at_rule, chain_ends, continues, drops, fails, goes}
 pub use Rattle.rule_meaning.specs.Runs.{in_rule, jumps, jumps_away, next_rule, notes, over, passes, returns, rule_ends, rule_no, statement_position}
 pub use Rattle.rule_meaning.specs.Runs.{table_program, translates, with_verdict}
@@ -40,13 +40,16 @@ pub use Rattle.std.proofs.Common.{◌&&◌, ◌*◌, ◌+◌, ◌++◌, ◌-◌,
 pub use Rattle.std.proofs.Common.{append_assoc, ap₂, arith, cond, drop, false, get_or, if◌then◌else◌, inl, inr, length, length-append, map, not, refl, rules}
 pub use Rattle.std.proofs.Common.{subst, suc, sum, sym, take, take_all, true, zero, ℕ, ℤ, ◌↔◌, ◌∙◌, ◌∷◌, ◌≡◌, ◌≤◌, ◌⊎◌, ⊎_elim}
 pub use Rattle.std.proofs.lemmas.Bool.{cases_lt, false_from_ne_true, false≢true, or_parts}
-pub use Rattle.std.proofs.lemmas.List.{append-nil, drop_all, drop_more, get_or-map, length-map, map-append, take_more}
-pub use Rattle.std.proofs.lemmas.List.Elements.{All-filter, All-head, All-tail, Contains-get_or, filter_agree}
+pub use Rattle.std.proofs.lemmas.List.{append-nil, drop_all, drop_more, get_or-map, length-map, map-append, map-id, take_more}
+pub use Rattle.std.proofs.lemmas.List.Elements.{All-contains, All-cons, All-filter, All-head, All-nil, All-tail}
+pub use Rattle.std.proofs.lemmas.List.Folds.{fold-map, list_any_at, Any-from_list_any}
 pub use Rattle.std.proofs.lemmas.List.Sorted.{All-permutation, list_any-IsPermutation, sum_by-IsPermutation}
 pub use Rattle.std.proofs.lemmas.List.Sums.{get_or-le-sum_by, sum-map, sum_by-append, sum_by-cons, sum_by_push}
 pub use Rattle.std.proofs.lemmas.Option.{MatchOption-at_none, MatchOption-at_some, get_or_from_slice_get, none-some, same_Some, slice_get-map, slice_get_read}
 pub use Rattle.std.proofs.lemmas.Option.{slice_get_within}
-pub use Rattle.std.specs.List.{AllZip, filter_map, list_any, zip}
+pub use Rattle.std.proofs.lemmas.Slice.Zip.{all_zipped_more, firsts-zip}
+pub use Rattle.std.proofs.Math.Path.{fun_ext}
+pub use Rattle.std.specs.List.{AllZip, filter_map, fold, list_any, zip}
 pub use Rattle.std.specs.List.Sorted.{IsPermutation, IsSortedBy, IsStableBy, ties}
 pub use Rattle.std.specs.Option.{option_map}
 pub use Rattle.std.specs.Prelude.{All, Contains, filter, int_lt, min, nat_lt, slice_get, slice_index, sum_by}

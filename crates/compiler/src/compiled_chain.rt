@@ -1,5 +1,6 @@
 //! Base chains, with their costs.
-ghost use Rattle.std.specs.Prelude.{◌≡◌, ◌<◌, false};
+ghost use Rattle.std.specs.Prelude.{◌≡◌, ◌<◌, ◌≤◌, false};
+ghost use Rattle.rule_paths.specs.Paths.{MAX_COST};
 ghost use Rattle.rule_values.specs.Faults.{priority_out_of_range};
 
 use filter_vm::Start;
@@ -14,17 +15,16 @@ pub(crate) struct CompiledChain<'t> {
     /// How many statements a packet starts here at most, plus 1 for the policy.
     pub(crate) cost: u32,
     ghost is_positive: { 0 < cost },
+    ghost in_limit: { cost ≤ MAX_COST },
     ghost in_range: { priority_out_of_range head.now.priority ≡ false },
 }
 
 impl CompiledChain<'_> {
-    ghost use Rattle.compiler.specs.Compiled.{start_head, base_chain_head};
-    ghost use Rattle.compiler.specs.steps.Bases.{base};
+    ghost use Rattle.compiler.specs.steps.Bases.{start_of};
 
     /// The entry point of the chain. Without a `policy` a base chain accepts (nft(8), "Chains").
     pub(crate) fn start(&self) -> Start
-        ensures start_head { start_head result ≡ base_chain_head (base self.now) }
-        ensures cost { result.cost ≡ self.now.cost }
+        ensures { result ≡ start_of self.now }
     {
         Start {
             chain: self.number,

@@ -1,5 +1,5 @@
 //! Compiles a ruleset.
-ghost use Rattle.std.specs.Prelude.{◌≡◌, ◌≤◌, ℕ, IfOk};
+ghost use Rattle.std.specs.Prelude.{◌≡◌, ◌≤◌, ℕ, IfOk, OnOk};
 ghost use Rattle.nft_tree.specs.declared.chain.Hook.{Hook};
 ghost use Rattle.nft_tree.specs.Tree.{TableTree};
 ghost use Rattle.rule_paths.specs.Paths.{AreAllCosts, Caller, ruleset_cost};
@@ -7,16 +7,50 @@ ghost use Rattle.rule_check.specs.WellFormed.{WellFormed};
 ghost use Rattle.filter_vm.specs.Machine.{starts_of};
 ghost use Rattle.compiler.specs.Compiled.{HasStarts, AgreesWithRules, total_cost};
 ghost use Rattle.code_layout.specs.CodeLayout.{AreTableCodes};
-ghost use Rattle.compiler.specs.steps.Bases.{IsRulesetCode};
+ghost use Rattle.compiler.specs.steps.Bases.{IsRulesetCode, Ordered};
 
+use crate::compiled_chain::CompiledChain;
 use crate::starts::{base_chains, starts_on_hook};
 use crate::tables::table_codes;
 use filter_vm::Code;
 use nft_tree::Hook;
 use rule_check::Checked;
 use rule_laws::{costs_rank_chains, hooks_terminate};
-use rule_names::names_of;
+use rule_names::{TableNames, names_of};
 use std::alloc::{AllocError, Global};
+
+/// Sets the starts of each hook.
+fn set_starts(alloc: Global, bases: &[CompiledChain], code: &mut Code) -> Result<(), AllocError>
+    ensures tables { code.new.tables ≡ code.old.tables }
+    ensures starts { OnOk result ((hook : Hook)
+        → Ordered hook bases.now (starts_of code.new hook)) }
+{
+    code.prerouting = starts_on_hook(alloc, Hook::Prerouting, bases)?;
+    code.input = starts_on_hook(alloc, Hook::Input, bases)?;
+    code.forward = starts_on_hook(alloc, Hook::Forward, bases)?;
+    code.output = starts_on_hook(alloc, Hook::Output, bases)?;
+    code.postrouting = starts_on_hook(alloc, Hook::Postrouting, bases)?;
+    Ok(())
+}
+
+/// The code of each table, and the starts of each hook.
+fn named_code(alloc: Global, checked: &Checked, names: &[TableNames]) -> Result<Code, AllocError>
+    requires fine { WellFormed checked.now.rules checked.now.plant }
+    requires names { names.now ≡ checked.now.rules }
+    ensures { IfOk result (λ code. IsRulesetCode checked.now code) }
+{
+    let bases = base_chains(alloc, checked, names)?;
+    let mut code = Code {
+        tables: table_codes(alloc, checked.plant(), names)?,
+        prerouting: Vec::new(alloc),
+        input: Vec::new(alloc),
+        forward: Vec::new(alloc),
+        output: Vec::new(alloc),
+        postrouting: Vec::new(alloc),
+    };
+    set_starts(alloc, &bases, &mut code)?;
+    Ok(code)
+}
 
 /// The code of each table, and the starts of each hook.
 fn ruleset_code(alloc: Global, checked: &Checked) -> Result<Code, AllocError>
@@ -27,16 +61,7 @@ fn ruleset_code(alloc: Global, checked: &Checked) -> Result<Code, AllocError>
         // A checked ruleset declares no name twice.
         unreachable!();
     };
-    let tables = table_codes(alloc, checked.plant(), &names)?;
-    let bases = base_chains(alloc, checked, &names)?;
-    Ok(Code {
-        tables,
-        prerouting: starts_on_hook(alloc, Hook::Prerouting, &bases)?,
-        input: starts_on_hook(alloc, Hook::Input, &bases)?,
-        forward: starts_on_hook(alloc, Hook::Forward, &bases)?,
-        output: starts_on_hook(alloc, Hook::Output, &bases)?,
-        postrouting: starts_on_hook(alloc, Hook::Postrouting, &bases)?,
-    })
+    named_code(alloc, checked, &names)
 }
 
 /// The code of a checked ruleset. Its starts are the base chains of each hook in the order in which

@@ -7,8 +7,7 @@ ghost use Rattle.rule_paths.specs.Paths.{MAX_COST};
 ghost use Rattle.rule_values.specs.Faults.{chain_out_of_range, has_wrong_value, item_out_of_range};
 ghost use Rattle.rule_meaning.specs.declared.event.ChainNo.{ChainNo};
 ghost use Rattle.rule_meaning.specs.Hooks.{base_chain_of, base_chains_from, base_chains_of, same_hook};
-ghost use Rattle.compiler.specs.Compiled.{start_head, base_chain_head};
-ghost use Rattle.compiler.specs.steps.Bases.{costed, priced, Ordered, Prices, PricesTable, base, runs_on_hook};
+ghost use Rattle.compiler.specs.steps.Bases.{costed, priced, Ordered, Prices, PricesTable, runs_on_hook, start_of};
 
 use crate::compiled_chain::CompiledChain;
 use code_layout::to_u32;
@@ -107,27 +106,18 @@ fn chains_on_hook<'t>(
 ) -> Result<Vec<CompiledChain<'t>>, AllocError>
     ensures { IfOk result (λ on_hook. on_hook.items ≡ filter (runs_on_hook hook) bases.now) }
 {
-    let mut on_hook = Vec::new(alloc);
-    for base in bases {
-        if is_same(base.head.hook, hook) {
-            on_hook.push(*base)?;
-        }
-    }
-    Ok(on_hook)
+    bases
+        .iter()
+        .copied()
+        .filter(|base| is_same(base.head.hook, hook))
+        .collect(alloc)
 }
 
 /// The starts of base chains, in their order.
 fn as_starts(alloc: Global, bases: &[CompiledChain]) -> Result<Vec<Start>, AllocError>
-    ensures starts { IfOk result (λ starts.
-        map start_head starts.items ≡ map base_chain_head (map base bases.now)) }
-    ensures costs { IfOk result (λ starts.
-        map (λ s. s.cost) starts.items ≡ map (λ b. b.cost) bases.now) }
+    ensures { IfOk result (λ starts. starts.items ≡ map start_of bases.now) }
 {
-    let mut starts = Vec::with_capacity(alloc, bases.len())?;
-    for base in bases {
-        starts.push(base.start())?;
-    }
-    Ok(starts)
+    bases.iter().map(|base| base.start()).collect(alloc)
 }
 
 /// The starts of a hook: by priority, and in text order where priorities are equal.

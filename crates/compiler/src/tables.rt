@@ -1,9 +1,10 @@
 //! The code of tables.
-ghost use Rattle.std.specs.Prelude.{◌≡◌, false, length, IfOk, OnOk};
+ghost use Rattle.std.specs.Prelude.{◌≡◌, [], false, IfOk, OnOk};
 ghost use Rattle.std.specs.List.{list_any};
 ghost use Rattle.nft_tree.specs.Tree.{chain_tree};
 ghost use Rattle.rule_types.specs.Types.{table_mismatches};
 ghost use Rattle.rule_values.specs.Faults.{has_wrong_value, item_out_of_range};
+ghost use Rattle.lowering.specs.Lowered.{HasDeclared};
 ghost use Rattle.code_layout.specs.CodeLayout.{AreTableCodes, IsTableCode};
 
 use box_file::Plant;
@@ -14,6 +15,33 @@ use rule_index::IndexedTable;
 use rule_meaning::ChainNo;
 use rule_names::TableNames;
 use std::alloc::{AllocError, Global};
+
+/// Adds the chains of a table to its code; `table` is its number.
+fn add_chains(
+    alloc: Global,
+    plant: &Plant,
+    names: &TableNames,
+    table: u32,
+    code: &mut TableCode,
+) -> Result<(), AllocError>
+    requires types { table_mismatches names.now ≡ false }
+    requires bounds { list_any item_out_of_range names.now.items ≡ false }
+    requires declared { HasDeclared plant.now names.now code.old.lookups }
+    requires no_steps { code.old.steps.items ≡ [] }
+    requires no_chains { code.old.chain_offsets.items ≡ [] }
+    requires none_dropped { code.old.dropped ≡ 0 }
+    ensures { OnOk result (IsTableCode plant.now table names.now code.new) }
+{
+    for (place, chain) in names.chains().iter().enumerate() {
+        let number = ChainNo {
+            table,
+            chain: to_u32(place)?,
+        };
+        code.chain_offsets.push(code.steps.list().len())?;
+        add_chain(alloc, plant, names, number, chain, code)?;
+    }
+    Ok(())
+}
 
 /// The code of one table; `table` is its number.
 fn table_code(
@@ -27,19 +55,12 @@ fn table_code(
     ensures { IfOk result (λ code. IsTableCode plant.now table names.now code) }
 {
     let mut code = TableCode {
+        lookups: declared(alloc, plant, names)?,
         steps: StepList::new(alloc),
         chain_offsets: Vec::new(alloc),
-        lookups: declared(alloc, plant, names)?,
         dropped: 0,
     };
-    for (place, chain) in names.chains().iter().enumerate() {
-        let number = ChainNo {
-            table,
-            chain: to_u32(place)?,
-        };
-        code.chain_offsets.push(code.steps.list().len())?;
-        add_chain(alloc, plant, names, number, chain, &mut code)?;
-    }
+    add_chains(alloc, plant, names, table, &mut code)?;
     Ok(code)
 }
 

@@ -1,22 +1,32 @@
 -- Base chains with their costs, the order in which they run, and the code of a ruleset.
-use Rattle.std.specs.Prelude.{◌≡◌, ℕ, ◌+◌, ◌<◌, Bool, List, length, map, filter, slice_get, slice_index, Some}
-use Rattle.std.specs.List.Sorted.{IsPermutation, IsSortedBy, IsStableBy}
+use Rattle.std.specs.Prelude.{◌≡◌, ℕ, ◌+◌, ◌<◌, not, Bool, List, length, map, filter, slice_get, slice_index, Some}
+use Rattle.std.specs.List.Sorted.{IsPermutation}
 use Rattle.nft_tree.specs.declared.chain.Hook.{Hook}
 use Rattle.nft_tree.specs.Tree.{TableTree, head_tree}
 use Rattle.rule_paths.specs.Paths.{MAX_COST}
 use Rattle.rule_paths.specs.Findings.{AreChainCosts}
 use Rattle.rule_meaning.specs.declared.event.ChainNo.{ChainNo}
 use Rattle.rule_check.specs.Checked.{CheckedTree}
-use Rattle.rule_meaning.specs.Hooks.{BaseChain, base_chains_of, runs_before, is_on_hook}
+use Rattle.rule_meaning.specs.Hooks.{BaseChain, base_chains_of, policy_of, priority, is_filter, is_on_hook, InOrder}
 use Rattle.filter_vm.specs.declared.code.Code.{Code}
 use Rattle.filter_vm.specs.declared.code.Start.{Start}
 use Rattle.filter_vm.specs.Machine.{starts_of}
 use Rattle.code_layout.specs.CodeLayout.{AreTableCodes}
 use Rattle.compiler.specs.declared.compiled_chain.CompiledChain.{CompiledChain}
-use Rattle.compiler.specs.Compiled.{start_head, base_chain_head}
 
 abbrev pub base : CompiledChain → BaseChain
 base b = record { number = b.number; head = head_tree b.head.now }
+
+-- its start: without a policy it accepts (nft(8), "Chains")
+abbrev pub start_of : CompiledChain → Start
+start_of b = record {
+  chain = b.number;
+  policy = policy_of (base b).head;
+  priority = priority (base b);
+  is_nat = not (is_filter (base b).head.kind);
+  cost = b.cost;
+  is_positive = b.is_positive;
+}
 
 abbrev pub runs_on_hook : Hook → CompiledChain → Bool
 runs_on_hook hook b = is_on_hook hook (base b)
@@ -41,10 +51,8 @@ Prices tables price = (i : ℕ) (t : TableTree) (costs : List ℕ) → slice_get
 pub record Ordered (hook : Hook) (bases : List CompiledChain) (starts : List Start) : Type 0 where
   pub order : List CompiledChain
   pub moved : IsPermutation (filter (runs_on_hook hook) bases) order
-  pub rising : IsSortedBy (λ a b. runs_before (base a) (base b)) order
-  pub stable : IsStableBy (λ a b. runs_before (base a) (base b)) (filter (runs_on_hook hook) bases) order
-  pub starts_are : map start_head starts ≡ map base_chain_head (map base order)
-  pub costs_are : map (λ s. s.cost) starts ≡ map (λ b. b.cost) order
+  pub in_order : InOrder (map base (filter (runs_on_hook hook) bases)) (map base order)
+  pub starts_are : starts ≡ map start_of order
 
 -- the code of each table, and the starts of each hook
 pub record IsRulesetCode (checked : CheckedTree) (code : Code) : Type 0 where

@@ -2,8 +2,8 @@ use Rattle.compiler.proofs.Names.{◌++◌, Bor, Chain, Some, [], ap, arith, cha
 use Rattle.compiler.proofs.Names.{length, length-map, list_any, or_parts, priority_out_of_range, rule_mismatches, rule_out_of_range, slice_get}
 use Rattle.compiler.proofs.Names.{◌∙◌, ◌∷◌, ◌≡◌, ◌≤◌}
 use Rattle.compiler.proofs.TableLaws.{chain_at, chain_free, chains_more, chains_all}
-use Rattle.compiler.proofs.tables.table_code.Goals as goal
-use Rattle.compiler.proofs.tables.table_code.Goals.{In_ok-to_u32}
+use Rattle.compiler.proofs.tables.add_chains.Goals as goal
+use Rattle.compiler.proofs.tables.add_chains.Goals.{In_ok-to_u32}
 
 at : (c : In_ok-to_u32) → slice_get (chains_of c.args.names.now) c.loop-place.place ≡ Some (chain_tree c.chain-item.result.now)
 at c = chain_at c.chains-chain-items.result.now c.args.names.now c.loop-place.place c.chain-item.result

@@ -1,6 +1,6 @@
 use Rattle.lowering.specs.Lowered.{HasDeclared}
 use Rattle.compiler.proofs.TableLaws.{ChainsSoFar}
-use Rattle.compiler.proofs.tables.table_code.Given as goal
+use Rattle.compiler.proofs.tables.add_chains.Given as goal
 
 abbrev pub invariant-loop-place : goal.invariant-loop-place
 invariant-loop-place l = record {
