@@ -1,19 +1,12 @@
 -- What is left of a chain: the rules that are left out of it never match a packet that gets to them.
-use Rattle.compiler.proofs.Names.{AllZip, AreLeft, Bool, ChainTree, Facts, FailsAt, IsDropped, IsLeft, IsShadowed, LeadsTo, LeavesOut, LeavesOutOf, List}
-use Rattle.compiler.proofs.Names.{MatchTree, None, Option, PlantTree, Program, Some, Statement, TableTree, VerdictTree, [], always_ends, ap, arith}
-use Rattle.compiler.proofs.Names.{below_more, cases_lt, ends_chain, false, false_from_ne_true, false≢true, fun_ext, get_or, goes_on, if◌then◌else◌}
-use Rattle.compiler.proofs.Names.{inl, inr, left_statements, length, lists, map, merged_selector, none-some, option_map, passes_if, refl}
-use Rattle.compiler.proofs.Names.{rule_at, rules_in, same_Some, slice_get, subst, suc, sym, table_program, true, zero, ℕ, ⊎_elim, ◌*◌, ◌+◌, ◌<◌, ◌^◌, ◌∙◌, ◌∷◌}
-use Rattle.compiler.proofs.Names.{◌≡◌, ◌≤◌}
-use Rattle.nft_tree.specs.declared.selector.Selector.{Selector}
-use Rattle.nft_tree.specs.ValueTypes.{selector_width}
-use Rattle.nft_tree.specs.ComparedTypes.{selector_compared_type}
-use Rattle.nft_values.specs.Values.{Span, numbers_of}
-use Rattle.rule_meaning.specs.Selectors.{value, join}
-use Rattle.rule_meaning.specs.Sets.{Scope, spans, set_has}
-use Rattle.rule_meaning.specs.Matches.{bit_selector, tests, compares_with, holds}
+use Rattle.compiler.proofs.Names.{AreLeft, Bool, Facts, FailsAt, IsDropped, IsLeft, IsShadowed, IsSomeAnd, LeadsTo, LeavesOut, LeavesOutOf, List, MatchTree}
+use Rattle.compiler.proofs.Names.{None, Option, PlantTree, Scope, Selector, Some, Span, Statement, TableTree, VerdictTree, [], always_ends, ap, arith}
+use Rattle.compiler.proofs.Names.{below_more, bit_selector, cases_lt, compares_with, ends_chain, false, false_from_ne_true, false≢true, fun_ext, get_or}
+use Rattle.compiler.proofs.Names.{goes_on, holds, if◌then◌else◌, inl, inr, join, left_statements, length, lists, map, merged-goes-on, merged_selector}
+use Rattle.compiler.proofs.Names.{none-some, numbers_of, option_map, passes_if, refl, rule_at, same_Some, selector_compared_type, selector_width, set_has}
+use Rattle.compiler.proofs.Names.{spans, subst, suc, sym, tests, true, value, ℕ, ⊎_elim, ◌*◌, ◌+◌, ◌<◌, ◌^◌, ◌∙◌, ◌∷◌, ◌≡◌, ◌≤◌}
 use Rattle.lowering.specs.Asked.{asked_selector, asks_for}
-use Rattle.code_layout.proofs.ShadowLaws.{merged-goes-on}
+use Rattle.rule_meaning.specs.Runs.{Program, table_program}
 use Rattle.nft_tree.specs.declared.selector.Selector.TheVariants as selectors
 use Rattle.nft_tree.specs.declared.statement.Operator.TheVariants as operators
 use Rattle.nft_tree.specs.declared.statement.BitTest.TheVariants as bit_tests
@@ -152,19 +145,14 @@ module _ (plant : PlantTree) (number : ℕ) (t : TableTree) where
     leaves k n c rs ls f same rules_are are so = absurd (omega arith)
 
   -- the rules of chain c that are dropped are left out of the program
-  pub leaves-of : (c i : ℕ) (chains : List ChainTree) (left : List (List (Option (List Statement)))) (rules : List (List Statement))
-      → AllZip (λ chain ls. AreLeft plant (rules_in chain) ls) chains left → option_map rules_in (slice_get chains i) ≡ Some rules
-      → LeavesOutOf own c rules (option_map (map left_statements) (slice_get left i))
-  leaves-of c i [] [] rules all is = absurd (none-some rules is)
-  leaves-of c zero (chain ∷ chains) (ls ∷ left) rules all is =
-      let kept = map left_statements ls in
-      let out : (f : Facts) → LeavesOut own f c 1 (rules_in chain) kept = λ f.
-      leaves (rules_in chain) 0 1 c (rules_in chain) ls f all.0.same_length
-      (λ i m is. let same : i ≡ m = omega arith in ap (λ k. get_or (rules_in chain) k []) same)
-      (λ i m is lt. let same : i ≡ m = omega arith in subst (λ k. IsLeft plant (rules_in chain) k (get_or ls i None)) same (all.0.each i lt)) (record {
-        on = λ i lt. absurd (omega arith);
-        missed = λ s x has i lt. absurd (omega arith);
-      }) in
-      (kept, refl, λ f. subst (λ rs. LeavesOut own f c 1 rs kept) (same_Some (rules_in chain) rules is) (out f))
-  leaves-of c (suc i) (chain ∷ chains) (ls ∷ left) rules all is = leaves-of c i chains left rules all.1 is
-  leaves-of c i chains left rules all is = absurd all
+  pub leaves-of : (c : ℕ) (rules : List (List Statement)) (left : Option (List (Option (List Statement)))) → IsSomeAnd left (AreLeft plant rules)
+      → LeavesOutOf own c rules (option_map (map left_statements) left)
+  leaves-of c rules None are = absurd are
+  leaves-of c rules (Some ls) are = (
+    map left_statements ls,
+    refl,
+    λ f. leaves rules 0 1 c rules ls f are.same_length
+        (λ i m is. let same : i ≡ m = omega arith in ap (λ k. get_or rules k []) same)
+        (λ i m is lt. let same : i ≡ m = omega arith in subst (λ k. IsLeft plant rules k (get_or ls i None)) same (are.each i lt))
+        (record { on = λ i lt. absurd (omega arith); missed = λ s x has i lt. absurd (omega arith) }),
+  )

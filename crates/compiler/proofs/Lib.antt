@@ -3,6 +3,4 @@ pub mod TableLaws
 pub mod LeftLaws
 pub mod StartLaws
 pub mod OrderLaws
-pub mod DoesLaws
 pub mod Simulation
-pub mod BaseLaws

@@ -1,14 +1,8 @@
 -- The starts of a hook are its base chains, in order of priority and of text.
-use Rattle.compiler.proofs.Names.{Any-from_list_any, BaseChain, Bool, Bor, CompiledChain, Equal, Greater, InOrder, IsPermutation, IsSortedBy, IsStableBy, Less}
-use Rattle.compiler.proofs.Names.{List, [], ap, ap₂, arith, base, cond, false, false≢true, filter, fun_ext, get_or-map, int_lt, length-map, list_any}
-use Rattle.compiler.proofs.Names.{list_any-IsPermutation, map, not, priority, refl, runs_before, subst, sym, ties, true, ℤ, ◌&&◌, ◌+◌, ◌∙◌, ◌∷◌, ◌≡◌}
-use Rattle.list_laws.specs.Tests.{less_by}
-use Rattle.nft_tree.specs.Priorities.{priority_number}
-use Rattle.std.proofs.lemmas.Cmp.{int_ranked}
-use Rattle.std.proofs.lemmas.Fn.{always_returns_same}
-use Rattle.std.specs.Fn.{Called, ComputesKey}
-use Rattle.std.specs.Ordering.{int_cmp, is_lt}
-use denote.Param.Members.{Mut}
+use Rattle.compiler.proofs.Names.{Any-from_list_any, BaseChain, Bool, Bor, Called, CompiledChain, ComputesKey, Equal, Greater, InOrder, IsPermutation}
+use Rattle.compiler.proofs.Names.{IsSortedBy, IsStableBy, Less, List, Mut, [], always_returns_same, ap, ap₂, arith, base, cond, false, false≢true, filter}
+use Rattle.compiler.proofs.Names.{fun_ext, get_or-map, int_cmp, int_lt, int_ranked, is_lt, length-map, less_by, list_any, list_any-IsPermutation, map, not}
+use Rattle.compiler.proofs.Names.{priority, priority_number, refl, runs_before, subst, sym, ties, true, ℤ, ◌&&◌, ◌+◌, ◌∙◌, ◌∷◌, ◌≡◌}
 
 -- ---- order
 

@@ -1,47 +1,20 @@
 -- Base chains in the order of the text, and what they cost.
-use Rattle.chain_graph.specs.Measures.{saturated}
-use Rattle.compiler.proofs.Names.{All, All-cons, All-head, All-nil, All-tail, AreAllCosts, AreChainCosts, AreCosts, AreRulesetCosts, BaseChain, Caller}
+use Rattle.compiler.proofs.Names.{All, All-cons, All-head, All-nil, All-tail, AreAllCosts, AreChainCosts, AreCosts, AreRulesetCosts, BaseChain, Caller, ChainNo}
 use Rattle.compiler.proofs.Names.{ChainTree, Code, CompiledChain, HeadTree, Hook, List, MAX_COST, None, Option, Ordered, Prices, Some, Start, TableTree, Text}
-use Rattle.compiler.proofs.Names.{[], a_chain, add-one, ap, append-nil, append_assoc, ap₂, arith, base, base_chain_head, base_chain_of, base_chains_from, base_chains_of}
-use Rattle.compiler.proofs.Names.{base_chains_of_tables, base_cost, base_part, base_sum, chain_cost_by, chains_of, cond, cost_in, costed, costs-long, drop}
-use Rattle.compiler.proofs.Names.{drop_all, drop_more, filter, firsts-zip, fold, fold-map, get_or, get_or_from_slice_get, length, map, map-append, map-id}
-use Rattle.compiler.proofs.Names.{none-some, priced, refl, ruleset_cost, ruleset_sum, runs_on_hook, same_hook, slice_get, slice_get_within, slice_index}
-use Rattle.compiler.proofs.Names.{start_cost, start_head, start_of, starts_of, subst, suc, sum_by, sum_by-IsPermutation, sum_by-append, sum_by-cons, sym, table_cost}
-use Rattle.compiler.proofs.Names.{total_cost, zero, zip, ℕ, ◌++◌, ◌+◌, ◌<◌, ◌∙◌, ◌∷◌, ◌≡◌, ◌≤◌}
-use Rattle.rule_meaning.specs.declared.event.ChainNo.{ChainNo}
+use Rattle.compiler.proofs.Names.{[], a_chain, ap, ap₂, arith, base, base_chain_of, base_chains_from, base_chains_of, base_chains_of_tables, base_cost}
+use Rattle.compiler.proofs.Names.{base_part, base_sum, chain_cost_by, chains_of, cond, cost_in, costed, costs-long, drop, drop_more, filter, firsts-zip, fold}
+use Rattle.compiler.proofs.Names.{fold-map, get_or, get_or_from_slice_get, map, map-id, none-some, priced, refl, ruleset_cost, ruleset_sum, runs_on_hook}
+use Rattle.compiler.proofs.Names.{same_hook, saturated, slice_get, slice_get_within, slice_index, start_cost, start_of, starts_of, subst, suc, sum_by}
+use Rattle.compiler.proofs.Names.{sum_by-IsPermutation, sum_by-append, sum_by-cons, sym, table_cost, total_cost, zero, zip, ℕ, ◌++◌, ◌+◌, ◌<◌, ◌∙◌, ◌∷◌, ◌≡◌}
 use Rattle.rule_laws.specs.Ranking as ranking
 use Rattle.nft_tree.specs.declared.chain.Hook.TheVariants as hooks
 
 abbrev pub cost_of : CompiledChain → ℕ
 cost_of x = x.cost
 
--- ---- the loops: which base chains with which costs are appended
-
-rest_from : {A : Type 0} (xs : List A) (i : ℕ) (x : A) → slice_get xs i ≡ Some x → drop i xs ≡ x ∷ drop (i + 1) xs
+-- what a loop over a list has yet to see
+pub rest_from : {A : Type 0} (xs : List A) (i : ℕ) (x : A) → slice_get xs i ≡ Some x → drop i xs ≡ x ∷ drop (i + 1) xs
 rest_from xs i x is = drop_more xs i x (slice_get_within xs i x is) ∙ ap (λ y. y ∷ drop (i + 1) xs) (get_or_from_slice_get xs i x x is)
-
--- the base chains of a list of chains or of tables, where the first has this index
-module _ {X : Type 0} (price : ChainNo → ℕ) (bases_from : ℕ → List X → List BaseChain) (i : ℕ) (xs : List X) (now : List CompiledChain)
-    (whole : List (BaseChain × ℕ)) (so : map costed now ++ map (priced price) (bases_from i (drop i xs)) ≡ whole) where
-  -- those of the next are appended
-  pub bases_more : (x : X) (part : List BaseChain) (new : List CompiledChain) → slice_get xs i ≡ Some x
-      → bases_from i (x ∷ drop (i + 1) xs) ≡ part ++ bases_from (suc i) (drop (i + 1) xs) → map costed new ≡ map costed now ++ map (priced price) part
-      → map costed new ++ map (priced price) (bases_from (i + 1) (drop (i + 1) xs)) ≡ whole
-  bases_more x part new at split more =
-      let rest = bases_from (suc i) (drop (i + 1) xs) in
-      cc (
-        more,
-        so,
-        add-one i,
-        rest_from xs i x at,
-        split,
-        map-append (priced price) part rest,
-        append_assoc (map costed now) (map (priced price) part) (map (priced price) rest),
-      )
-
-  -- none are left
-  pub bases_all : bases_from i [] ≡ [] → length xs ≤ i → map costed now ≡ whole
-  bases_all none past = cc (so, none, drop_all i xs past, append-nil (map costed now))
 
 -- ---- prices
 
@@ -100,10 +73,6 @@ module _ (price : ChainNo → ℕ) where
       → sum_by (λ b. price b.number) (base_chain_of table chain head) ≡ base_part head cost
   one_sum table chain cost None is = refl
   one_sum table chain cost (Some head) is = omega (arith, is)
-
-pub heads-shown : (xs : List CompiledChain) → map start_head (map start_of xs) ≡ map base_chain_head (map base xs)
-heads-shown [] = refl
-heads-shown (x ∷ xs) = ap (◌∷◌ (base_chain_head (base x))) (heads-shown xs)
 
 -- ---- what all base chains cost together
 

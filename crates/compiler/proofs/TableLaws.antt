@@ -1,13 +1,12 @@
 -- The chains of a table, one after another, and the tables of a ruleset.
-use Rattle.compiler.proofs.Names.{AddsChain, AllZip, AreLeft, Bool, Bor, Chain, ChainTree, ExtendsCode, Global, IsTableCode, ItemTree, List, Option, PlantTree}
-use Rattle.compiler.proofs.Names.{RulesAt, Some, Statement, StatementsAt, TableCode, TableTree, Vec, [], ap, arith, chain_in, chain_steps, chain_tree}
-use Rattle.compiler.proofs.Names.{chains_of, dropped_rules, extends_code_itself, extends_code_on, extends_itself, false, false_from_ne_true, false≢true}
-use Rattle.compiler.proofs.Names.{filter_map, get_or, get_or_from_slice_get, inl, inr, keeps_push, left_program, left_statements, length, length-append}
-use Rattle.compiler.proofs.Names.{list_any, map, min, none-some, option_map, or_parts, refl, rules_in, same_Some, slice_get, slice_get-map, slice_get-push}
-use Rattle.compiler.proofs.Names.{slice_get_read, slice_get_within, some_of_map, subst, suc, sum_by, sum_by_push, sym, table_program, take, take_all}
-use Rattle.compiler.proofs.Names.{take_more, zero, ℕ, ⊎_elim, ◌++◌, ◌+◌, ◌-◌, ◌<◌, ◌^◌, ◌∙◌, ◌∷◌, ◌≡◌, ◌≤◌, ◌⊎◌}
-use Rattle.std.proofs.lemmas.List.Folds.{list_any_at}
-use Rattle.std.proofs.lemmas.Slice.Zip.{all_zipped_more}
+use Rattle.compiler.proofs.Names.{AddsChain, AllZip, AreLeft, AreTableCodes, Bool, Bor, Chain, ChainTree, ExtendsCode, Global, IsTableCode, ItemTree, List}
+use Rattle.compiler.proofs.Names.{Option, PlantTree, RulesAt, Some, Statement, StatementsAt, TableCode, TableTree, Vec, [], all_zipped_more, ap, arith}
+use Rattle.compiler.proofs.Names.{chain_in, chain_steps, chain_tree, chains_of, dropped_rules, extends_code_itself, extends_code_on, extends_itself, false}
+use Rattle.compiler.proofs.Names.{false_from_ne_true, false≢true, filter_map, get_or, get_or_from_slice_get, inl, inr, keeps_push, left_program}
+use Rattle.compiler.proofs.Names.{left_statements, length, length-append, list_any, list_any_at, map, min, none-some, option_map, or_parts, refl, rules_in}
+use Rattle.compiler.proofs.Names.{same_Some, slice_get, slice_get-map, slice_get-push, slice_get_read, slice_get_within, some_of_map, subst, suc, sum_by}
+use Rattle.compiler.proofs.Names.{sum_by_push, sym, take, take_all, take_more, zero, ℕ, ⊎_elim, ◌++◌, ◌+◌, ◌-◌, ◌<◌, ◌^◌, ◌∙◌, ◌∷◌, ◌≡◌, ◌≤◌, ◌⊎◌}
+use Rattle.rule_meaning.specs.Runs.{table_program}
 use Rattle.nft_tree.specs.Tree as tree
 
 -- ---- an element of a list
@@ -59,11 +58,8 @@ module _ (plant : PlantTree) (number : ℕ) (t : TableTree) where
       → AddsChain plant number t place chain (record now { chain_offsets = offsets }) new → ChainsSoFar place now → ChainsSoFar (place + 1) new
   chains_more place chain offsets now new is pushed added so = record {
     left = so.left ++ added.left ∷ [];
-    are_left = subst (λ chains. AllZip (λ c rules. AreLeft plant (rules_in c) rules) chains (so.left ++ added.left ∷ []))
-        (sym (take_more (chains_of t) place chain (slice_get_within (chains_of t) place chain is)
-        ∙ ap (λ c. take place (chains_of t) ++ c ∷ []) (get_or_from_slice_get (chains_of t) place chain chain is)))
-        (all_zipped_more (λ c rules. AreLeft plant (rules_in c) rules) (take place (chains_of t)) so.left chain added.left
-        so.are_left added.are_left);
+    are_left = rw (take_more (chains_of t) place chain within, get_or_from_slice_get (chains_of t) place chain chain is)
+        (all_zipped_more (λ c rules. AreLeft plant (rules_in c) rules) (take place (chains_of t)) so.left chain added.left so.are_left added.are_left);
     count = length-append so.left (added.left ∷ []) ∙ ap (λ n. n + 1) so.count;
     offsets = ap (λ ps. length ps.items) added.adds.same_places ∙ ap length pushed
         ∙ length-append now.chain_offsets.items (length now.steps.items ∷ []) ∙ ap (λ n. n + 1) so.offsets;
@@ -75,14 +71,16 @@ module _ (plant : PlantTree) (number : ℕ) (t : TableTree) where
     dropped = omega (arith, added.dropped, so.dropped, sum_by_push dropped_rules so.left added.left);
   }
     where
+      within : place < length (chains_of t)
+      within = slice_get_within (chains_of t) place chain is
+
       with_offset : TableCode
       with_offset = record now { chain_offsets = offsets }
 
       grown : ExtendsCode now new
       grown = extends_code_on now with_offset new (record {
         steps = λ i x h. h;
-        chain_offsets = λ i x h. subst (λ ps. slice_get ps i ≡ Some x) (sym pushed)
-            (keeps_push now.chain_offsets.items (length now.steps.items) i x h);
+        chain_offsets = λ i x h. rw pushed (keeps_push now.chain_offsets.items (length now.steps.items) i x h);
         lookups = extends_itself now.lookups;
       }) added.adds.extends_code
 
@@ -90,8 +88,7 @@ module _ (plant : PlantTree) (number : ℕ) (t : TableTree) where
       here = (
         length now.steps.items,
         added.adds.extends_code.chain_offsets place (length now.steps.items)
-            (subst (λ k. slice_get offsets.items k ≡ Some (length now.steps.items)) so.offsets
-            (ap (λ ps. slice_get ps (length now.chain_offsets.items)) pushed ∙ slice_get-push now.chain_offsets.items (length now.steps.items))),
+            (rw (pushed, ← so.offsets) (slice_get-push now.chain_offsets.items (length now.steps.items))),
         added.adds.holds,
       )
 
@@ -114,8 +111,7 @@ module _ (plant : PlantTree) (number : ℕ) (t : TableTree) where
   pub chains_all : (place : ℕ) (now : TableCode) → length (chains_of t) ≤ place → ChainsSoFar place now → IsTableCode plant number t now
   chains_all place now past so = record {
     left = so.left;
-    are_left = subst (λ chains. AllZip (λ chain rules. AreLeft plant (rules_in chain) rules) chains so.left)
-        (take_all place (chains_of t) past) so.are_left;
+    are_left = rw (take_all place (chains_of t) past) at so.are_left;
     laid_out = record {
       chains = λ c rules has.
           let found = some_of_map (map left_statements) (slice_get so.left c) rules has in
@@ -132,6 +128,15 @@ module _ (plant : PlantTree) (number : ℕ) (t : TableTree) where
 
 -- ---- the tables of a ruleset
 
--- there is code for the table
-abbrev pub HasCode : PlantTree → List TableCode → ℕ → TableTree → Type 0
-HasCode plant codes i t = (code : TableCode) × (slice_get codes i ≡ Some code) × IsTableCode plant i t code
+-- one more
+pub codes_more : (plant : PlantTree) (ts : List TableTree) (codes : List TableCode) (t : TableTree) (code : TableCode) → AreTableCodes plant ts codes
+    → IsTableCode plant (length codes) t code → AreTableCodes plant (ts ++ t ∷ []) (codes ++ code ∷ [])
+codes_more plant ts codes t code so is = record {
+  each = λ i u has. ⊎_elim (λ early. let old = so.each i u early in (old.0, keeps_push codes code i old.0 old.1, old.2))
+      (λ last. let place : length codes ≡ i = so.same_length ∙ last.0 in (
+        code,
+        subst (λ k. slice_get (codes ++ code ∷ []) k ≡ Some code) place (slice_get-push codes code),
+        subst (λ v. IsTableCode plant i v code) last.1 (subst (λ k. IsTableCode plant k t code) place is),
+      )) (push-cases ts t i u has);
+  same_length = length-append codes (code ∷ []) ∙ ap (λ n. n + 1) so.same_length ∙ sym (length-append ts (t ∷ []));
+}

@@ -1,11 +1,10 @@
-use Rattle.compiler.proofs.Names.{All, All-contains, All-filter, All-permutation, Code, Contains, Contains-unmap, Hook, InOrder, Prices, [], ap, arith, base}
-use Rattle.compiler.proofs.Names.{base_chain_head, base_chains_of, chain_cost_by, filter, get_or, is_on_hook, map, runs_on_hook, slice_get, slice_index}
+use Rattle.compiler.proofs.Names.{All, All-contains, All-filter, All-permutation, ChainNo, Code, Contains, Contains-unmap, Hook, InOrder, Prices, [], ap, arith}
+use Rattle.compiler.proofs.Names.{base, base_chain_head, base_chains_of, chain_cost_by, filter, get_or, is_on_hook, map, map-map, runs_on_hook, slice_index}
 use Rattle.compiler.proofs.Names.{start_head, start_of, subst, sum_by, sym, total_cost, weight_by, ℕ, ◌∙◌, ◌≡◌}
-use Rattle.rule_meaning.specs.declared.event.ChainNo.{ChainNo}
-use Rattle.compiler.proofs.StartLaws.{IsPriced, all_priced, cost-in, costs-shown, heads-shown, row_price, rows-price, start_price, starts-price, starts_total, sum-priced}
-use Rattle.compiler.proofs.StartLaws.{sum_by_costs, sum_by_rows}
 use Rattle.compiler.proofs.OrderLaws.{filter_shown}
-use Rattle.compiler.proofs.BaseLaws.{agrees, runs-there}
+use Rattle.compiler.proofs.Simulation.{agrees, runs-there}
+use Rattle.compiler.proofs.StartLaws.{IsPriced, all_priced, cost-in, costs-shown, row_price, rows-price, start_price, starts-price, starts_total, sum-priced}
+use Rattle.compiler.proofs.StartLaws.{sum_by_costs, sum_by_rows}
 use Rattle.compiler.proofs.compiling.compile.Goals as goal
 
 pub returns : goal.returns
@@ -31,7 +30,7 @@ returns c =
             order = map base o.order;
             in_order = subst (λ bs. InOrder bs (map base o.order)) (filter_shown base (is_on_hook hook) made.bases
                 ∙ ap (filter (is_on_hook hook)) (its (row_price costs) prices).0) o.in_order;
-            are = ap (map start_head) o.starts_are ∙ heads-shown o.order;
+            are = ap (map start_head) o.starts_are ∙ map-map start_head start_of o.order ∙ sym (map-map base_chain_head base o.order);
             costs = λ cost all. ap (map (λ s. s.cost)) o.starts_are ∙ costs-shown (start_price checked.rules cost) o.order
                 (paid hook (start_price checked.rules cost) (starts-price checked.rules cost all));
           };

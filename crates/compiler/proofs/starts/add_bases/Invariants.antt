@@ -1,6 +1,4 @@
-use Rattle.compiler.proofs.Names.{base_chains_from, chains_of, costed, drop, map, priced, ℕ, ◌++◌, ◌≡◌}
-use Rattle.rule_meaning.specs.declared.event.ChainNo.{ChainNo}
-use Rattle.compiler.specs.steps.Bases.{PricesTable}
+use Rattle.compiler.proofs.Names.{ChainNo, PricesTable, base_chains_from, chains_of, costed, drop, map, priced, ℕ, ◌++◌, ◌≡◌}
 use Rattle.compiler.proofs.starts.add_bases.Given as goal
 
 -- with the base chains of the chains that are left those of the table are appended

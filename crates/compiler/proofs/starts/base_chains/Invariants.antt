@@ -1,6 +1,4 @@
-use Rattle.compiler.proofs.Names.{base_chains_of, base_chains_of_tables, costed, drop, map, priced, ℕ, ◌++◌, ◌≡◌}
-use Rattle.rule_meaning.specs.declared.event.ChainNo.{ChainNo}
-use Rattle.compiler.specs.steps.Bases.{Prices}
+use Rattle.compiler.proofs.Names.{ChainNo, Prices, base_chains_of, base_chains_of_tables, costed, drop, map, priced, ℕ, ◌++◌, ◌≡◌}
 use Rattle.compiler.proofs.starts.base_chains.Given as goal
 
 -- with the base chains of the tables that are left all are there

@@ -1,9 +1,8 @@
-use Rattle.compiler.proofs.Names.{◌++◌, Bor, Chain, Some, [], ap, arith, chain_tree, chains_of, declared_kept, if_some, item_mismatches, item_out_of_range}
-use Rattle.compiler.proofs.Names.{length, length-map, list_any, or_parts, priority_out_of_range, rule_mismatches, rule_out_of_range, slice_get}
-use Rattle.compiler.proofs.Names.{◌∙◌, ◌∷◌, ◌≡◌, ◌≤◌}
-use Rattle.compiler.proofs.TableLaws.{chain_at, chain_free, chains_more, chains_all}
-use Rattle.compiler.proofs.tables.add_chains.Goals as goal
+use Rattle.compiler.proofs.Names.{Bor, Chain, Some, [], ap, arith, chain_tree, chains_of, declared_kept, item_mismatches, item_out_of_range, length, length-map}
+use Rattle.compiler.proofs.Names.{list_any, or_parts, rule_mismatches, rule_out_of_range, slice_get, ◌++◌, ◌∙◌, ◌∷◌, ◌≡◌, ◌≤◌}
+use Rattle.compiler.proofs.TableLaws.{chain_at, chain_free, chains_all, chains_more}
 use Rattle.compiler.proofs.tables.add_chains.Goals.{In_ok-to_u32}
+use Rattle.compiler.proofs.tables.add_chains.Goals as goal
 
 at : (c : In_ok-to_u32) → slice_get (chains_of c.args.names.now) c.loop-place.place ≡ Some (chain_tree c.chain-item.result.now)
 at c = chain_at c.chains-chain-items.result.now c.args.names.now c.loop-place.place c.chain-item.result
@@ -20,8 +19,7 @@ add_chain-requires-clause-types c =
 
 pub add_chain-requires-clause-bounds : goal.add_chain-requires-clause-bounds
 add_chain-requires-clause-bounds c = chain_free item_out_of_range (λ x. list_any rule_out_of_range x.rules)
-    (λ x h. (or_parts (if_some (λ head. priority_out_of_range head.priority) x.head) (list_any rule_out_of_range x.rules) h).1)
-    c.args.names.now.items c.loop-place.place (chain_tree c.chain-item.result.now) c.requires.bounds
+    (λ x h. (or_parts _ _ h).1) c.args.names.now.items c.loop-place.place (chain_tree c.chain-item.result.now) c.requires.bounds
     (at (goal.at.add_chain-requires-clause-bounds c).In_ok-to_u32)
 
 pub loop-place-preserved : goal.loop-place-preserved
