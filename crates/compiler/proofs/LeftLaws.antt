@@ -126,22 +126,19 @@ module _ (plant : PlantTree) (number : ℕ) (t : TableTree) where
 
     -- ---- rule by rule
 
-    left-by : (k n c : ℕ) (r : List Statement) (rs : List (List Statement)) (l : Option (List Statement)) (ls : List (List Statement)) (f : Facts)
-        → r ≡ at k → IsLeft plant rules k l → Reaches k f → ((g : Facts) → Reaches (k + 1) g → LeavesOut own g c (n + 1) rs ls)
-        → LeavesOut own f c n (r ∷ rs) (left_statements l ∷ ls)
-    left-by k n c r rs None ls f rule is so later =
-        inr (refl, subst (λ ss. FailsAt own c n 1 ss f) (sym rule) (never-by k c n f is so), later f (dropped-more k f is so))
-    left-by k n c r rs (Some kept) ls f rule is so later =
-        inl (is.0 ∙ sym rule, λ g way. later g (reaches-more k c n f g so (subst (λ ss. LeadsTo own c n 1 ss f g) rule way)))
-
     leaves : (k n c : ℕ) (rs : List (List Statement)) (ls : List (Option (List Statement))) (f : Facts) → length ls ≡ length rs
         → ((i m : ℕ) → m ≡ k + i → get_or rs i [] ≡ at m) → ((i m : ℕ) → m ≡ k + i → i < length rs → IsLeft plant rules m (get_or ls i None))
         → Reaches k f → LeavesOut own f c n rs (map left_statements ls)
     leaves k n c [] [] f same rules_are are so = tt
     leaves k n c (r ∷ rs) (l ∷ ls) f same rules_are are so =
-        left-by k n c r rs l (map left_statements ls) f (rules_are 0 k (omega arith)) (are 0 k (omega arith) (omega arith)) so
-        (λ g. leaves (k + 1) (n + 1) c rs ls g (omega arith) (λ i m is. rules_are (suc i) m (omega arith))
-        (λ i m is lt. are (suc i) m (omega arith) (omega arith)))
+        by (rules_are 0 k (omega arith)) l (are 0 k (omega arith) (omega arith)) (λ g. leaves (k + 1) (n + 1) c rs ls g (omega arith)
+        (λ i m is. rules_are (suc i) m (omega arith)) (λ i m is lt. are (suc i) m (omega arith) (omega arith)))
+      where
+        by : r ≡ at k → (l : Option (List Statement)) → IsLeft plant rules k l
+            → ((g : Facts) → Reaches (k + 1) g → LeavesOut own g c (n + 1) rs (map left_statements ls))
+            → LeavesOut own f c n (r ∷ rs) (left_statements l ∷ map left_statements ls)
+        by rule None is later = inr (refl, rw rule (never-by k c n f is so), later f (dropped-more k f is so))
+        by rule (Some kept) is later = inl (is.0 ∙ sym rule, λ g way. later g (reaches-more k c n f g so (rw rule at way)))
     leaves k n c rs ls f same rules_are are so = absurd (omega arith)
 
   -- the rules of chain c that are dropped are left out of the program

@@ -54,7 +54,6 @@ pub use Rattle.std.proofs.Common.{take_all, true, zero, ℕ, ℤ, ⊎_elim, ◌&
 pub use Rattle.std.proofs.Math.Path.{fun_ext}
 pub use Rattle.std.proofs.lemmas.Bool.{cases_lt, false_from_ne_true, false≢true, or_parts}
 pub use Rattle.std.proofs.lemmas.Cmp.{int_ranked}
-pub use Rattle.std.proofs.lemmas.Fn.{always_returns_same}
 pub use Rattle.std.proofs.lemmas.List.{append-nil, drop_all, drop_more, get_or-map, length-map, length-take-le, map-append, map-id, take_more}
 pub use Rattle.std.proofs.lemmas.List.Elements.{All-cons, All-contains, All-filter, All-head, All-nil, All-tail}
 pub use Rattle.std.proofs.lemmas.List.Folds.{Any-from_list_any, fold-map, list_any_at}
@@ -64,11 +63,9 @@ pub use Rattle.std.proofs.lemmas.Option.{MatchOption-at_none, MatchOption-at_som
 pub use Rattle.std.proofs.lemmas.Option.{slice_get_within}
 pub use Rattle.std.proofs.lemmas.Simd.{map-map}
 pub use Rattle.std.proofs.lemmas.Slice.Zip.{AllZip-left, all_zipped_more, firsts-zip}
-pub use Rattle.std.specs.Fn.{Called, ComputesKey}
 pub use Rattle.std.specs.List.{AllZip, filter_map, fold, list_any, zip}
 pub use Rattle.std.specs.List.Sorted.{IsPermutation, IsSortedBy, IsStableBy, ties}
 pub use Rattle.std.specs.Option.{IsSomeAnd, option_map}
 pub use Rattle.std.specs.Ordering.{int_cmp, is_lt}
 pub use Rattle.std.specs.Prelude.{All, Contains, filter, int_lt, min, slice_get, slice_index, sum_by}
 pub use borrow.Author.Count.{below_more}
-pub use denote.Param.Members.{Mut}

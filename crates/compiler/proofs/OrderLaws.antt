@@ -1,8 +1,8 @@
 -- The starts of a hook are its base chains, in order of priority and of text.
-use Rattle.compiler.proofs.Names.{Any-from_list_any, BaseChain, Bool, Bor, Called, CompiledChain, ComputesKey, Equal, Greater, InOrder, IsPermutation}
-use Rattle.compiler.proofs.Names.{IsSortedBy, IsStableBy, Less, List, Mut, [], always_returns_same, ap, ap₂, arith, base, cond, false, false≢true, filter}
-use Rattle.compiler.proofs.Names.{fun_ext, get_or-map, int_cmp, int_lt, int_ranked, is_lt, length-map, less_by, list_any, list_any-IsPermutation, map, not}
-use Rattle.compiler.proofs.Names.{priority, priority_number, refl, runs_before, subst, sym, ties, true, ℤ, ◌&&◌, ◌+◌, ◌∙◌, ◌∷◌, ◌≡◌}
+use Rattle.compiler.proofs.Names.{Any-from_list_any, BaseChain, Bool, CompiledChain, Equal, Greater, InOrder, IsPermutation, IsSortedBy, IsStableBy, Less, List}
+use Rattle.compiler.proofs.Names.{[], ap, ap₂, arith, base, cond, false, false≢true, filter, fun_ext, get_or-map, int_cmp, int_lt, int_ranked, is_lt}
+use Rattle.compiler.proofs.Names.{length-map, less_by, list_any, list_any-IsPermutation, map, not, priority, priority_number, refl, runs_before, subst, sym}
+use Rattle.compiler.proofs.Names.{ties, true, ℤ, ◌&&◌, ◌+◌, ◌∙◌, ◌∷◌, ◌≡◌}
 
 -- ---- order
 
@@ -18,11 +18,6 @@ by_priority x y = runs_before (base x) (base y)
 
 same_order : by_key ≡ by_priority
 same_order = fun_ext (λ x. fun_ext (λ y. less_by (int_lt (key x) (key y)) (int_lt (key y) (key x))))
-
--- a call of the key's closure gives the priority
-pub keys_always : {F : Type 0} (g : Mut F (Bor CompiledChain × Unit {0}) ℤ) (f : F)
-    → ((a : Bor CompiledChain × Unit {0}) (r : ℤ) (f' : F) → Called g f a r f' → (r ≡ key a.0.now) × (f' ≡ f)) → ComputesKey g key f
-keys_always g f h = always_returns_same g (λ a r. r ≡ key a.0.now) f h
 
 -- ---- a list and what it shows
 

@@ -149,9 +149,8 @@ module _ {S : Type 0} (p : Program S) (left_at : ℕ → Option (List (List S)))
   next-rule : {c n k : ℕ} {s : S} {w : StatementEffect} {f : Facts} {at_step : ℕ} {stack : List ℕ} (ss : List S) (rs : List (List S)) (g : Facts)
       → p.effect_of (statement_position p c n k) s f ≡ w → goes_on w (LeadsTo p c n (k + 1) ss) f g
       → AtStatements c n k (s ∷ ss) rs f at_step stack → AtRules c (n + 1) rs g (at_step + 1 + length ss) stack
-  next-rule {c} {n} {k} {s} {f = f} {at_step} {stack} ss rs g is on h =
-      let place : at_step + length (s ∷ ss) ≡ at_step + 1 + length ss = omega arith in
-      subst (λ a. AtRules c (n + 1) rs g a stack) place (h.to g (subst (λ w. goes_on w (LeadsTo p c n (k + 1) ss) f g) (sym is) on))
+  next-rule {s = s} {at_step = at_step} ss rs g is on h =
+      let place : at_step + length (s ∷ ss) ≡ at_step + 1 + length ss = omega arith in rw (← place) (h.to g (rw is on))
 
   next-statement : {c n k : ℕ} {s : S} {w : StatementEffect} {f : Facts} {at_step : ℕ} {stack : List ℕ} (ss : List S) (rs : List (List S)) (g : Facts)
       → p.effect_of (statement_position p c n k) s f ≡ w → ((x : Facts) → LeadsTo p c n (k + 1) ss g x → goes_on w (LeadsTo p c n (k + 1) ss) f x)

@@ -143,19 +143,14 @@ on_hook hook xs = sum_by cost_of (filter (runs_on_hook hook) xs)
 abbrev over_hooks : (Hook → ℕ) → ℕ
 over_hooks f = f hooks.Prerouting + f hooks.Input + f hooks.Forward + f hooks.Output + f hooks.Postrouting
 
-on_its_own : (hook : Hook) (n : ℕ) → over_hooks (λ h. cond (same_hook hook h) n 0) ≡ n
-on_its_own hooks.Prerouting n = omega arith
-on_its_own _ n = omega arith
-
 all_hooks : (xs : List CompiledChain) → over_hooks (λ h. on_hook h xs) ≡ sum_by cost_of xs
 all_hooks [] = refl
-all_hooks (x ∷ xs) =
-    let at : (h : Hook) → on_hook h (x ∷ xs) ≡ cond (same_hook x.head.now.hook h) x.cost 0 + on_hook h xs =
-    λ h. grind (arith, sum_by-cons cost_of x (filter (runs_on_hook h) xs)) in
-    let own = on_its_own x.head.now.hook x.cost in
-    let rest = all_hooks xs in
-    let both = sum_by-cons cost_of x xs in
-    omega (arith, at hooks.Prerouting, at hooks.Input, at hooks.Forward, at hooks.Output, at hooks.Postrouting)
+all_hooks (x ∷ xs) = by x.head.now.hook (all_hooks xs)
+  where
+    by : (h : Hook) → over_hooks (λ k. on_hook k xs) ≡ sum_by cost_of xs
+        → over_hooks (λ k. sum_by cost_of (cond (same_hook h k) (x ∷ filter (runs_on_hook k) xs) (filter (runs_on_hook k) xs))) ≡ sum_by cost_of (x ∷ xs)
+    by hooks.Prerouting is = omega (arith, sum_by-cons cost_of x)
+    by _ is = omega (arith, sum_by-cons cost_of x)
 
 pub starts_total : (bases : List CompiledChain) (code : Code) → ((hook : Hook) → Ordered hook bases (starts_of code hook))
     → total_cost code ≡ sum_by cost_of bases

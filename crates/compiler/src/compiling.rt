@@ -10,8 +10,8 @@ ghost use Rattle.code_layout.specs.CodeLayout.{AreTableCodes};
 ghost use Rattle.compiler.specs.steps.Bases.{IsRulesetCode, Ordered};
 
 use crate::compiled_chain::CompiledChain;
-use crate::starts::{base_chains, starts_on_hook};
-use crate::tables::table_codes;
+use crate::starts::{add_base_chains, starts_on_hook};
+use crate::tables::add_tables;
 use filter_vm::Code;
 use nft_tree::Hook;
 use rule_check::Checked;
@@ -39,15 +39,17 @@ fn named_code(alloc: Global, checked: &Checked, names: &[TableNames]) -> Result<
     requires names { names.now ≡ checked.now.rules }
     ensures { IfOk result (λ code. IsRulesetCode checked.now code) }
 {
-    let bases = base_chains(alloc, checked, names)?;
     let mut code = Code {
-        tables: table_codes(alloc, checked.plant(), names)?,
+        tables: Vec::new(alloc),
         prerouting: Vec::new(alloc),
         input: Vec::new(alloc),
         forward: Vec::new(alloc),
         output: Vec::new(alloc),
         postrouting: Vec::new(alloc),
     };
+    add_tables(alloc, checked.plant(), names, &mut code.tables)?;
+    let mut bases = Vec::new(alloc);
+    add_base_chains(checked, names, &mut bases)?;
     set_starts(alloc, &bases, &mut code)?;
     Ok(code)
 }

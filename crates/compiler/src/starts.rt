@@ -1,5 +1,5 @@
 //! The starts of a ruleset: its base chains, hook by hook, in the order in which they run.
-ghost use Rattle.std.specs.Prelude.{◌≡◌, ◌+◌, ◌++◌, ◌<◌, ℕ, false, filter, length, map, slice_get, slice_index, Some, IfOk, OnOk};
+ghost use Rattle.std.specs.Prelude.{◌≡◌, ◌+◌, ◌++◌, ◌<◌, ℕ, [], false, filter, length, map, slice_get, slice_index, Some, IfOk, OnOk};
 ghost use Rattle.std.specs.List.{list_any};
 ghost use Rattle.nft_tree.specs.Tree.{ChainTree, HeadTree, chain_tree};
 ghost use Rattle.nft_tree.specs.TableItems.{chains_of};
@@ -67,22 +67,22 @@ fn add_bases<'t>(
     Ok(())
 }
 
-/// All base chains of a checked ruleset, in text order.
-pub(crate) fn base_chains<'t>(
-    alloc: Global,
+/// Adds all base chains of a checked ruleset, in text order.
+pub(crate) fn add_base_chains<'t>(
     checked: &Checked,
     names: &[TableNames<'t>],
-) -> Result<Vec<CompiledChain<'t>>, AllocError>
+    bases: &mut Vec<CompiledChain<'t>>,
+) -> Result<(), AllocError>
     requires names { names.now ≡ checked.now.rules }
     requires bounds { list_any (has_wrong_value checked.now.plant) names.now ≡ false }
-    ensures { IfOk result (λ bases. (price : ChainNo → ℕ) → Prices checked.now.rules price
-        → map costed bases.items ≡ map (priced price) (base_chains_of checked.now.rules)) }
+    requires none { bases.old.items ≡ [] }
+    ensures { OnOk result ((price : ChainNo → ℕ) → Prices checked.now.rules price
+        → map costed bases.new.items ≡ map (priced price) (base_chains_of checked.now.rules)) }
 {
-    let mut bases = Vec::new(alloc);
     for (table, names) in names.iter().enumerate() {
-        add_bases(to_u32(table)?, names, checked.costs(table), &mut bases)?;
+        add_bases(to_u32(table)?, names, checked.costs(table), bases)?;
     }
-    Ok(bases)
+    Ok(())
 }
 
 fn is_same(hook: Hook, other: Hook) -> bool

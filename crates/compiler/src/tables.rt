@@ -64,20 +64,21 @@ fn table_code(
     Ok(code)
 }
 
-/// The code of each table, in text order.
-pub(crate) fn table_codes(
+/// Adds the code of each table, in text order.
+pub(crate) fn add_tables(
     alloc: Global,
     plant: &Plant,
     names: &[TableNames],
-) -> Result<Vec<IndexedTable>, AllocError>
+    codes: &mut Vec<IndexedTable>,
+) -> Result<(), AllocError>
     requires types { list_any table_mismatches names.now ≡ false }
     requires bounds { list_any (has_wrong_value plant.now) names.now ≡ false }
-    ensures { IfOk result (λ codes. AreTableCodes plant.now names.now codes.items) }
+    requires none { codes.old.items ≡ [] }
+    ensures { OnOk result (AreTableCodes plant.now names.now codes.new.items) }
 {
-    let mut codes = Vec::new(alloc);
     for (number, table) in names.iter().enumerate() {
         let code = table_code(alloc, plant, table, to_u32(number)?)?;
         codes.push(IndexedTable::new(alloc, code)?)?;
     }
-    Ok(codes)
+    Ok(())
 }

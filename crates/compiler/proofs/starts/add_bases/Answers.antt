@@ -1,5 +1,5 @@
 use Rattle.compiler.proofs.Names.{Bor, Chain, Some, add-one, ap, append-nil, append_assoc, arith, chain_out_of_range, chain_tree, chains_of, drop_all}
-use Rattle.compiler.proofs.Names.{item_out_of_range, length, length-map, map-append, slice_get, slice_get_within, ◌≡◌}
+use Rattle.compiler.proofs.Names.{item_out_of_range, length, length-map, map-append, refl, slice_get, slice_get_within, ◌≡◌}
 use Rattle.compiler.proofs.StartLaws.{rest_from}
 use Rattle.compiler.proofs.TableLaws.{chain_at, chain_free}
 use Rattle.compiler.proofs.starts.add_bases.Goals.{In_ok-to_u32}
@@ -8,6 +8,9 @@ use Rattle.compiler.proofs.starts.add_bases.Goals as goal
 at : (c : In_ok-to_u32) → slice_get (chains_of c.args.names.now) c.loop-place.place ≡ Some (chain_tree c.chain-item.result.now)
 at c = chain_at c.chains-chain-items.result.now c.args.names.now c.loop-place.place c.chain-item.result
     c.chains-chain-items.ensures.all c.loop-place-test.true c.chain-item.is
+
+pub loop-place-init : goal.loop-place-init
+loop-place-init c = λ price prices. refl
 
 pub add_base-requires-clause-bounds : goal.add_base-requires-clause-bounds
 add_base-requires-clause-bounds c = chain_free item_out_of_range chain_out_of_range (λ x h. h) c.args.names.now.items c.loop-place.place

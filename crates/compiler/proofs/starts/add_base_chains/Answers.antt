@@ -1,13 +1,19 @@
-use Rattle.compiler.proofs.Names.{Some, add-one, ap, append-nil, append_assoc, arith, costs-long, drop_all, length, map-append, slice_get, slice_get_read, ◌≡◌}
+use Rattle.compiler.proofs.Names.{Some, add-one, ap, append-nil, append_assoc, arith, costs-long, drop_all, has_wrong_value, length, map-append, or_parts, refl}
+use Rattle.compiler.proofs.Names.{slice_get, slice_get_read, ◌≡◌}
 use Rattle.compiler.proofs.StartLaws.{rest_from}
-use Rattle.compiler.proofs.starts.base_chains.Goals.{In_ok-to_u32}
-use Rattle.compiler.proofs.starts.base_chains.Goals as goal
+use Rattle.compiler.proofs.TableLaws.{none_at}
+use Rattle.compiler.proofs.starts.add_base_chains.Goals.{In_ok-to_u32}
+use Rattle.compiler.proofs.starts.add_base_chains.Goals as goal
 
 at : (c : In_ok-to_u32) → slice_get c.args.checked.now.rules c.loop-table.table ≡ Some c.index-names-table.result
 at c = grind (arith, slice_get, c.loop-table.table, c.requires.names, slice_get_read, c.args.names.now, c.loop-table-test.true, c.index-names-table.is)
 
 pub loop-table-init : goal.loop-table-init
-loop-table-init c = grind arith
+loop-table-init c = λ price prices. rw c.requires.none refl
+
+pub add_bases-requires-clause-bounds : goal.add_bases-requires-clause-bounds
+add_bases-requires-clause-bounds c = (or_parts _ _ (none_at (has_wrong_value c.args.checked.now.plant) c.args.names.now
+    c.loop-table.table c.index-names-table.result c.loop-table-test.true c.index-names-table.is c.requires.bounds)).1
 
 pub add_bases-requires-clause-long : goal.add_bases-requires-clause-long
 add_bases-requires-clause-long c = costs-long c.index-names-table.result c.costs.result.now

@@ -1,6 +1,6 @@
 use Rattle.compiler.proofs.Names.{arith, has_wrong_value, length, length-take-le, or_parts, sym, table_mismatches, take_all, take_more, ◌≡◌}
 use Rattle.compiler.proofs.TableLaws.{codes_more, none_at}
-use Rattle.compiler.proofs.tables.table_codes.Goals as goal
+use Rattle.compiler.proofs.tables.add_tables.Goals as goal
 
 pub table_code-requires-clause-types : goal.table_code-requires-clause-types
 table_code-requires-clause-types c = none_at table_mismatches c.args.names.now c.loop-number.number

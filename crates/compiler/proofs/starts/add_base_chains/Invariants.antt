@@ -1,5 +1,5 @@
 use Rattle.compiler.proofs.Names.{ChainNo, Prices, base_chains_of, base_chains_of_tables, costed, drop, map, priced, ℕ, ◌++◌, ◌≡◌}
-use Rattle.compiler.proofs.starts.base_chains.Given as goal
+use Rattle.compiler.proofs.starts.add_base_chains.Given as goal
 
 -- with the base chains of the tables that are left all are there
 abbrev pub invariant-loop-table : goal.invariant-loop-table
