@@ -1,11 +1,10 @@
 -- What is left of a chain: the rules that are left out of it never match a packet that gets to them.
-use Rattle.compiler.proofs.Names.{AreLeft, Bool, Facts, FailsAt, IsDropped, IsLeft, IsShadowed, IsSomeAnd, LeadsTo, LeavesOut, LeavesOutOf, List, MatchTree}
-use Rattle.compiler.proofs.Names.{None, Option, PlantTree, Scope, Selector, Some, Span, Statement, TableTree, VerdictTree, [], always_ends, ap, arith}
-use Rattle.compiler.proofs.Names.{below_more, bit_selector, cases_lt, compares_with, ends_chain, false, false_from_ne_true, false≢true, fun_ext, get_or}
-use Rattle.compiler.proofs.Names.{goes_on, holds, if◌then◌else◌, inl, inr, join, left_statements, length, lists, map, merged-goes-on, merged_selector}
-use Rattle.compiler.proofs.Names.{none-some, numbers_of, option_map, passes_if, refl, rule_at, same_Some, selector_compared_type, selector_width, set_has}
-use Rattle.compiler.proofs.Names.{spans, subst, suc, sym, tests, true, value, ℕ, ⊎_elim, ◌*◌, ◌+◌, ◌<◌, ◌^◌, ◌∙◌, ◌∷◌, ◌≡◌, ◌≤◌}
-use Rattle.lowering.specs.Asked.{asked_selector, asks_for}
+use Rattle.compiler.proofs.Names.{AreLeft, Bool, Facts, IsDropped, IsLeft, IsShadowed, IsSomeAnd, List, MatchTree, None, Option, PlantTree, Scope, Selector}
+use Rattle.compiler.proofs.Names.{Some, Span, Statement, TableTree, VerdictTree, [], always_ends, ap, arith, asked_selector, asks_for, below_more, bit_selector}
+use Rattle.compiler.proofs.Names.{cases_lt, compares_with, ends_chain, false, false_from_ne_true, false≢true, fun_ext, get_or, holds, if◌then◌else◌, inl, inr}
+use Rattle.compiler.proofs.Names.{join, left_statements, length, lists, map, merged-goes-on, merged_selector, none-some, option_map, passes_if, refl, rule_at}
+use Rattle.compiler.proofs.Names.{same_Some, spans, subst, suc, sym, tests, true, value, ℕ, ⊎_elim, ◌*◌, ◌+◌, ◌<◌, ◌^◌, ◌∙◌, ◌∷◌, ◌≡◌, ◌≤◌}
+use Rattle.compiler.specs.steps.Dropping.{FailsAt, LeadsTo, LeavesOut, LeavesOutOf, goes_on}
 use Rattle.rule_meaning.specs.Runs.{Program, table_program}
 use Rattle.nft_tree.specs.declared.selector.Selector.TheVariants as selectors
 use Rattle.nft_tree.specs.declared.statement.Operator.TheVariants as operators
@@ -27,9 +26,9 @@ joined-one (Some n) width p = let same : 0 * 2 ^ width + n ≡ n = omega arith i
 pub holds-as : (scope : Scope) (m : MatchTree) (s : Selector) (f : Facts) → asked_selector m ≡ Some s
     → holds scope m f ≡ tests (value s f) (asks_for scope.plant m)
 holds-as scope (tree.compare x operators.Equal r) s f is = rw (← (same_Some x s is))
-    (ap (tests (value x f)) (fun_ext (compares-as (numbers_of scope.plant (selector_compared_type x) r))))
+    (ap (tests (value x f)) (fun_ext (compares-as _)))
 holds-as scope (tree.is_in (x ∷ []) (tree.elements es)) s f is =
-    rw (← (same_Some x s is)) (joined-one (value x f) (selector_width x) (set_has scope (x ∷ []) (tree.elements es)))
+    rw (← (same_Some x s is)) (joined-one (value x f) _ _)
 holds-as scope (tree.bits field bit_tests.Exactly words) s f is = rw (← (same_Some (bit_selector field) s is))
 holds-as scope (tree.exact_flags fs) s f is = rw (← (same_Some selectors.TcpFlags s is))
 holds-as scope m s f is = absurd (none-some s is)

@@ -10,7 +10,6 @@ pub use Rattle.code_layout.specs.DroppedRules.{AreLeft, IsDropped, IsLeft, IsSha
 pub use Rattle.compiler.specs.Compiled.{StartHead, base_chain_head, cost_in, start_cost, start_head, total_cost}
 pub use Rattle.compiler.specs.declared.compiled_chain.CompiledChain.{CompiledChain}
 pub use Rattle.compiler.specs.steps.Bases.{Ordered, Prices, PricesTable, base, costed, priced, runs_on_hook, start_of}
-pub use Rattle.compiler.specs.steps.Dropping.{FailsAt, LeadsTo, LeavesOut, LeavesOutOf, goes_on}
 pub use Rattle.filter_vm.specs.Machine.{Continuation, Stop, apply_effect, base_chain_result, enter_chain, exec, return_from, run_table, starts_of, stop}
 pub use Rattle.filter_vm.specs.declared.code.Code.{Code}
 pub use Rattle.filter_vm.specs.declared.code.Start.{Start}
@@ -18,15 +17,14 @@ pub use Rattle.list_laws.specs.Elements.{Contains-tail, Contains-unmap}
 pub use Rattle.list_laws.specs.Lists.{Contains-head}
 pub use Rattle.list_laws.specs.Options.{some_of_map}
 pub use Rattle.list_laws.specs.Tests.{less_by}
-pub use Rattle.nft_tree.specs.ComparedTypes.{selector_compared_type}
+pub use Rattle.lowering.specs.Asked.{asked_selector, asks_for}
 pub use Rattle.nft_tree.specs.Priorities.{priority_number}
 pub use Rattle.nft_tree.specs.TableItems.{chain_in, chains_of}
 pub use Rattle.nft_tree.specs.Tree.{ChainTree, HeadTree, ItemTree, MatchTree, Statement, TableTree, Text, VerdictTree, chain_tree, tables_of}
-pub use Rattle.nft_tree.specs.ValueTypes.{selector_width}
 pub use Rattle.nft_tree.specs.declared.chain.Chain.{Chain}
 pub use Rattle.nft_tree.specs.declared.chain.Hook.{Hook}
 pub use Rattle.nft_tree.specs.declared.selector.Selector.{Selector}
-pub use Rattle.nft_values.specs.Values.{Span, numbers_of}
+pub use Rattle.nft_values.specs.Values.{Span}
 pub use Rattle.rule_check.specs.Checked.{AreRulesetCosts, base_part, base_sum, ruleset_sum}
 pub use Rattle.rule_code.specs.Actions.{action_effect, statement_at}
 pub use Rattle.rule_code.specs.declared.code.Instruction.{Instruction}
@@ -36,7 +34,7 @@ pub use Rattle.rule_meaning.specs.Hooks.{BaseChain, HookResult, InOrder, RunsBas
 pub use Rattle.rule_meaning.specs.Hooks.{is_on_hook, policy_of, priority, runs_before, same_hook, with_policy}
 pub use Rattle.rule_meaning.specs.Matches.{bit_selector, compares_with, holds, tests}
 pub use Rattle.rule_meaning.specs.Selectors.{join, value}
-pub use Rattle.rule_meaning.specs.Sets.{Scope, set_has, spans}
+pub use Rattle.rule_meaning.specs.Sets.{Scope, spans}
 pub use Rattle.rule_meaning.specs.Statements.{StatementEffect, fail, give, passes_if}
 pub use Rattle.rule_meaning.specs.declared.event.ChainNo.{ChainNo}
 pub use Rattle.rule_meaning.specs.declared.event.Event.{Event}

@@ -1,12 +1,12 @@
 -- The machine simulates the rules, by code without the rules that never match: it has their result, in at most as many
 -- statements as the rules weigh.
-use Rattle.compiler.proofs.Names.{AllZip-left, AreLeft, BaseChain, Code, Contains, Contains-head, Contains-tail, Continuation, Event, Facts, FailsAt, Goto}
-use Rattle.compiler.proofs.Names.{HookResult, Instruction, IsCode, IsRanking, IsSomeAnd, IsStatementOf, IsTableCode, Jump, LeadsTo, LeavesOut, LeavesOutOf}
-use Rattle.compiler.proofs.Names.{List, MatchOption-at_some, None, Option, PlantTree, RulesAt, RunsBaseChain, Some, Start, StartHead, Statement}
-use Rattle.compiler.proofs.Names.{StatementEffect, StatementsAt, Stop, TableCode, TableTree, [], action_effect, add-zero, ap, apply_effect, arith}
-use Rattle.compiler.proofs.Names.{base_chain_head, base_chain_result, chains_of, enter_chain, exec, fail, give, goes_on, inl, inr, left_program, length}
-use Rattle.compiler.proofs.Names.{policy_of, refl, return_from, rules_in, run_table, slice_get, some_of_map, start_head, statement_at, stop, subst, suc, sum_by}
-use Rattle.compiler.proofs.Names.{sum_by-cons, sym, with_policy, zero, ℕ, ◌+◌, ◌-◌, ◌↔◌, ◌∙◌, ◌∷◌, ◌≡◌, ◌≤◌}
+use Rattle.compiler.proofs.Names.{AllZip-left, AreLeft, BaseChain, Code, Contains, Contains-head, Contains-tail, Continuation, Event, Facts, Goto, HookResult}
+use Rattle.compiler.proofs.Names.{Instruction, IsCode, IsRanking, IsSomeAnd, IsStatementOf, IsTableCode, Jump, List, MatchOption-at_some, None, Option}
+use Rattle.compiler.proofs.Names.{PlantTree, RulesAt, RunsBaseChain, Some, Start, StartHead, Statement, StatementEffect, StatementsAt, Stop, TableCode}
+use Rattle.compiler.proofs.Names.{TableTree, [], action_effect, add-zero, ap, apply_effect, arith, base_chain_head, base_chain_result, chains_of, enter_chain}
+use Rattle.compiler.proofs.Names.{exec, fail, give, inl, inr, left_program, length, policy_of, refl, return_from, rules_in, run_table, slice_get, some_of_map}
+use Rattle.compiler.proofs.Names.{start_head, statement_at, stop, subst, suc, sum_by, sum_by-cons, sym, with_policy, zero, ℕ, ◌+◌, ◌-◌, ◌↔◌, ◌∙◌, ◌∷◌, ◌≡◌, ◌≤◌}
+use Rattle.compiler.specs.steps.Dropping.{FailsAt, LeadsTo, LeavesOut, LeavesOutOf, goes_on}
 use Rattle.rule_meaning.specs.Runs.{IsTerminal, Program, Remainder, RunResult, Runs, accepts, at_end, at_rule, chain_ends, continues, drops, fails, goes}
 use Rattle.rule_meaning.specs.Runs.{in_rule, jumps, jumps_away, next_rule, notes, over, passes, returns, rule_ends, rule_no, statement_position, table_program}
 use Rattle.rule_meaning.specs.Runs.{translates, with_verdict}
@@ -136,13 +136,9 @@ module _ {S : Type 0} (p : Program S) (left_at : ℕ → Option (List (List S)))
         let one : fuel ≡ suc m = omega arith in
         let x = d.goes m (before + 1) (omega arith) in
         let done : apply_effect t.chain_offsets.items i.rule (action_effect t.lookups i.action f) at_step i.skip (exec t m) stack f es (before + 1)
-        ≡ Doing c n w at_step (length ss) stack f es (exec t m) (before + 1) = rw (is.rule, is.skip, is.effect f, effect_of) in (
-          x.0,
-          x.1,
-          omega (arith, x.2),
-          ap (λ k. exec t k at_step stack f es before) one
-              ∙ exec-step t m at_step stack f es before i h.statements.0.1 ∙ done ∙ x.3,
-        );
+        ≡ Doing c n w at_step (length ss) stack f es (exec t m) (before + 1) = rw (is.rule, is.skip, is.effect f, effect_of) in
+        let begun = ap (λ k. exec t k at_step stack f es before) one ∙ exec-step t m at_step stack f es before i h.statements.0.1 in
+        (x.0, x.1, omega (arith, x.2), begun ∙ done ∙ x.3);
   }
 
   -- where the effect of a statement leads: behind it to the next rule, or to the next statement
@@ -214,8 +210,7 @@ module _ {S : Type 0} (p : Program S) (left_at : ℕ → Option (List (List S)))
     entered {stack} d chain f es has room follows =
         let rest = leaves d chain has in
         let there = code.chains d rest.0 rest.1 in
-        does-as t (rules_weigh chain) (rules_weigh chain) (omega arith) (λ go ticks. ap (λ o. enter_chain go o stack f es ticks) there.1)
-        (follows there.0 stack (record {
+        rw there.1 (follows there.0 stack (record {
           left = rest.0;
           out = rest.2 f;
           code = there.2;

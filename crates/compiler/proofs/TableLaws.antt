@@ -98,10 +98,8 @@ module _ (plant : PlantTree) (number : ℕ) (t : TableTree) where
         → StatementsAt (left_program plant number t left) code at_step c n k ss
     statements-as at_step c n k [] here = tt
     statements-as at_step c n k (s ∷ ss) here =
-        let is = here.0.2 in (
-          (here.0.0, here.0.1, record { rule = is.rule; skip = is.skip; effect = is.effect }),
-          statements-as (at_step + 1) c n (k + 1) ss here.1,
-        )
+        let is = here.0.2 in
+        ((here.0.0, here.0.1, record { rule = is.rule; skip = is.skip; effect = is.effect }), statements-as (at_step + 1) c n (k + 1) ss here.1)
 
     rules-as : (at_step c n : ℕ) (rs : List (List Statement)) → RulesAt (table_program plant number t) code at_step c n rs
         → RulesAt (left_program plant number t left) code at_step c n rs
@@ -115,12 +113,9 @@ module _ (plant : PlantTree) (number : ℕ) (t : TableTree) where
     laid_out = record {
       chains = λ c rules has.
           let found = some_of_map (map left_statements) (slice_get so.left c) rules has in
-          let holds = so.placed c found.0 found.1 in (
-            holds.0,
-            holds.1,
-            subst (λ rs. RulesAt (left_program plant number t so.left) now holds.0 c 1 rs) found.2
-                (rules-as so.left now holds.0 c 1 (map left_statements found.0) (holds.2 now (extends_code_itself now))),
-          );
+          let holds = so.placed c found.0 found.1 in
+          let laid = rules-as so.left now holds.0 c 1 (map left_statements found.0) (holds.2 now (extends_code_itself now)) in
+          (holds.0, holds.1, rw found.2 at laid);
     };
     steps = so.steps;
     dropped = so.dropped;
