@@ -1,11 +1,18 @@
 -- What is left of a chain: the rules that are left out of it never match a packet that gets to them.
-use Rattle.compiler.proofs.Names.{AreLeft, Bool, Facts, IsDropped, IsLeft, IsShadowed, IsSomeAnd, List, MatchTree, None, Option, PlantTree, Scope, Selector}
-use Rattle.compiler.proofs.Names.{Some, Span, Statement, TableTree, VerdictTree, [], always_ends, ap, arith, asked_selector, asks_for, below_more, bit_selector}
-use Rattle.compiler.proofs.Names.{cases_lt, compares_with, ends_chain, false, false_from_ne_true, false≢true, fun_ext, get_or, holds, if◌then◌else◌, inl, inr}
-use Rattle.compiler.proofs.Names.{join, left_statements, length, lists, map, merged-goes-on, merged_selector, none-some, option_map, passes_if, refl, rule_at}
-use Rattle.compiler.proofs.Names.{same_Some, spans, subst, suc, sym, tests, true, value, ℕ, ⊎_elim, ◌*◌, ◌+◌, ◌<◌, ◌^◌, ◌∙◌, ◌∷◌, ◌≡◌, ◌≤◌}
-use Rattle.compiler.specs.steps.Dropping.{FailsAt, LeadsTo, LeavesOut, LeavesOutOf, goes_on}
+use Rattle.compiler.proofs.Names.{AreLeft, Bool, Facts, FailsAt, IsDropped, IsLeft, IsShadowed, IsSomeAnd, LeadsTo, LeavesOut, LeavesOutOf, List, MatchTree}
+use Rattle.compiler.proofs.Names.{None, Option, PlantTree, Some, Statement, TableTree, VerdictTree, [], always_ends, ap, arith, cases_lt, ends_chain, false}
+use Rattle.compiler.proofs.Names.{false_from_ne_true, false≢true, fun_ext, get_or, goes_on, if◌then◌else◌, inl, inr, left_statements, length, lists, map}
+use Rattle.compiler.proofs.Names.{merged_selector, none-some, option_map, passes_if, refl, rule_at, same_Some, subst, suc, sym, true, ℕ, ⊎_elim, ◌*◌, ◌+◌, ◌<◌}
+use Rattle.compiler.proofs.Names.{◌^◌, ◌∙◌, ◌∷◌, ◌≡◌, ◌≤◌}
+use Rattle.code_layout.proofs.ShadowLaws.{merged-goes-on}
+use Rattle.lowering.specs.Asked.{asked_selector, asks_for}
+use Rattle.nft_tree.specs.declared.selector.Selector.{Selector}
+use Rattle.nft_values.specs.Values.{Span}
+use Rattle.rule_meaning.specs.Matches.{bit_selector, compares_with, holds, tests}
 use Rattle.rule_meaning.specs.Runs.{Program, table_program}
+use Rattle.rule_meaning.specs.Selectors.{join, value}
+use Rattle.rule_meaning.specs.Sets.{Scope, spans}
+use borrow.Author.Count.{below_more}
 use Rattle.nft_tree.specs.declared.selector.Selector.TheVariants as selectors
 use Rattle.nft_tree.specs.declared.statement.Operator.TheVariants as operators
 use Rattle.nft_tree.specs.declared.statement.BitTest.TheVariants as bit_tests

@@ -1,8 +1,11 @@
 -- The starts of a hook are its base chains, in order of priority and of text.
 use Rattle.compiler.proofs.Names.{Any-from_list_any, BaseChain, Bool, CompiledChain, Equal, Greater, InOrder, IsPermutation, IsSortedBy, IsStableBy, Less, List}
-use Rattle.compiler.proofs.Names.{[], ap, ap₂, arith, base, cond, false, false≢true, filter, fun_ext, get_or-map, int_cmp, int_lt, int_ranked, is_lt}
-use Rattle.compiler.proofs.Names.{length-map, less_by, list_any, list_any-IsPermutation, map, not, priority, priority_number, refl, runs_before, subst, sym}
-use Rattle.compiler.proofs.Names.{ties, true, ℤ, ◌&&◌, ◌+◌, ◌∙◌, ◌∷◌, ◌≡◌}
+use Rattle.compiler.proofs.Names.{[], ap, ap₂, arith, base, cond, false, false≢true, filter, fun_ext, get_or-map, int_lt, length-map, list_any}
+use Rattle.compiler.proofs.Names.{list_any-IsPermutation, map, not, priority, refl, runs_before, subst, sym, ties, true, ℤ, ◌&&◌, ◌+◌, ◌∙◌, ◌∷◌, ◌≡◌}
+use Rattle.list_laws.specs.Tests.{less_by}
+use Rattle.nft_tree.specs.Priorities.{priority_number}
+use Rattle.std.proofs.lemmas.Cmp.{int_ranked}
+use Rattle.std.specs.Ordering.{int_cmp, is_lt}
 
 -- ---- order
 

@@ -1,15 +1,19 @@
 -- The machine simulates the rules, by code without the rules that never match: it has their result, in at most as many
 -- statements as the rules weigh.
-use Rattle.compiler.proofs.Names.{AllZip-left, AreLeft, BaseChain, Code, Contains, Contains-head, Contains-tail, Continuation, Event, Facts, Goto, HookResult}
-use Rattle.compiler.proofs.Names.{Instruction, IsCode, IsRanking, IsSomeAnd, IsStatementOf, IsTableCode, Jump, List, MatchOption-at_some, None, Option}
-use Rattle.compiler.proofs.Names.{PlantTree, RulesAt, RunsBaseChain, Some, Start, StartHead, Statement, StatementEffect, StatementsAt, Stop, TableCode}
-use Rattle.compiler.proofs.Names.{TableTree, [], action_effect, add-zero, ap, apply_effect, arith, base_chain_head, base_chain_result, chains_of, enter_chain}
-use Rattle.compiler.proofs.Names.{exec, fail, give, inl, inr, left_program, length, policy_of, refl, return_from, rules_in, run_table, slice_get, some_of_map}
-use Rattle.compiler.proofs.Names.{start_head, statement_at, stop, subst, suc, sum_by, sum_by-cons, sym, with_policy, zero, ℕ, ◌+◌, ◌-◌, ◌↔◌, ◌∙◌, ◌∷◌, ◌≡◌, ◌≤◌}
-use Rattle.compiler.specs.steps.Dropping.{FailsAt, LeadsTo, LeavesOut, LeavesOutOf, goes_on}
+use Rattle.compiler.proofs.Names.{AllZip-left, AreLeft, BaseChain, Code, Contains, Contains-tail, Continuation, Facts, FailsAt, HookResult, IsCode, IsRanking}
+use Rattle.compiler.proofs.Names.{IsSomeAnd, IsStatementOf, IsTableCode, LeadsTo, LeavesOut, LeavesOutOf, List, MatchOption-at_some, None, Option, PlantTree}
+use Rattle.compiler.proofs.Names.{RulesAt, RunsBaseChain, Some, Start, StartHead, Statement, StatementEffect, StatementsAt, Stop, TableCode, TableTree, []}
+use Rattle.compiler.proofs.Names.{add-zero, ap, apply_effect, arith, base_chain_head, base_chain_result, chains_of, enter_chain, exec, fail, give, goes_on, inl}
+use Rattle.compiler.proofs.Names.{inr, left_program, length, policy_of, refl, return_from, rules_in, run_table, slice_get, some_of_map, start_head, stop, subst}
+use Rattle.compiler.proofs.Names.{suc, sum_by, sum_by-cons, sym, with_policy, zero, ℕ, ◌+◌, ◌-◌, ◌↔◌, ◌∙◌, ◌∷◌, ◌≡◌, ◌≤◌}
+use Rattle.list_laws.specs.Lists.{Contains-head}
+use Rattle.rule_code.specs.Actions.{action_effect, statement_at}
+use Rattle.rule_code.specs.declared.code.Instruction.{Instruction}
 use Rattle.rule_meaning.specs.Runs.{IsTerminal, Program, Remainder, RunResult, Runs, accepts, at_end, at_rule, chain_ends, continues, drops, fails, goes}
 use Rattle.rule_meaning.specs.Runs.{in_rule, jumps, jumps_away, next_rule, notes, over, passes, returns, rule_ends, rule_no, statement_position, table_program}
 use Rattle.rule_meaning.specs.Runs.{translates, with_verdict}
+use Rattle.rule_meaning.specs.declared.event.Event.{Event}
+use Rattle.rule_meaning.specs.declared.event.RuleVerdict.TheVariants.{Goto, Jump}
 use Rattle.compiler.proofs.LeftLaws.{leaves-of}
 
 -- ---- what the machine does from an offset on: the end of a chain takes no tick, and a statement one

@@ -1,11 +1,14 @@
 -- Base chains in the order of the text, and what they cost.
-use Rattle.compiler.proofs.Names.{All, All-cons, All-head, All-nil, All-tail, AreAllCosts, AreChainCosts, AreCosts, AreRulesetCosts, BaseChain, Caller, ChainNo}
-use Rattle.compiler.proofs.Names.{ChainTree, Code, CompiledChain, HeadTree, Hook, List, MAX_COST, None, Option, Ordered, Prices, Some, Start, TableTree, Text}
-use Rattle.compiler.proofs.Names.{[], a_chain, ap, ap₂, arith, base, base_chain_of, base_chains_from, base_chains_of, base_chains_of_tables, base_cost}
-use Rattle.compiler.proofs.Names.{base_part, base_sum, chain_cost_by, chains_of, cond, cost_in, costed, costs-long, drop, drop_more, filter, firsts-zip, fold}
-use Rattle.compiler.proofs.Names.{fold-map, get_or, get_or_from_slice_get, map, map-id, none-some, priced, refl, ruleset_cost, ruleset_sum, runs_on_hook}
-use Rattle.compiler.proofs.Names.{same_hook, saturated, slice_get, slice_get_within, slice_index, start_cost, start_of, starts_of, subst, suc, sum_by}
-use Rattle.compiler.proofs.Names.{sum_by-IsPermutation, sum_by-append, sum_by-cons, sym, table_cost, total_cost, zero, zip, ℕ, ◌++◌, ◌+◌, ◌<◌, ◌∙◌, ◌∷◌, ◌≡◌}
+use Rattle.compiler.proofs.Names.{All, All-cons, All-head, All-nil, All-tail, BaseChain, ChainNo, ChainTree, Code, CompiledChain, HeadTree, Hook, List, None}
+use Rattle.compiler.proofs.Names.{Option, Ordered, Prices, Some, Start, TableTree, Text, [], ap, ap₂, arith, base, base_chain_of, base_chains_from}
+use Rattle.compiler.proofs.Names.{base_chains_of, base_chains_of_tables, chain_cost_by, chains_of, cond, cost_in, costed, costs-long, drop, drop_more, filter}
+use Rattle.compiler.proofs.Names.{firsts-zip, fold, fold-map, get_or, get_or_from_slice_get, map, map-id, none-some, priced, refl, runs_on_hook, same_hook}
+use Rattle.compiler.proofs.Names.{slice_get, slice_get_within, slice_index, start_cost, start_of, starts_of, subst, suc, sum_by, sum_by-IsPermutation}
+use Rattle.compiler.proofs.Names.{sum_by-append, sum_by-cons, sym, total_cost, zero, zip, ℕ, ◌++◌, ◌+◌, ◌<◌, ◌∙◌, ◌∷◌, ◌≡◌}
+use Rattle.chain_graph.specs.Measures.{saturated}
+use Rattle.rule_check.specs.Checked.{AreRulesetCosts, base_part, base_sum, ruleset_sum}
+use Rattle.rule_paths.specs.Findings.{AreChainCosts}
+use Rattle.rule_paths.specs.Paths.{AreAllCosts, AreCosts, Caller, MAX_COST, a_chain, base_cost, ruleset_cost, table_cost}
 use Rattle.rule_laws.specs.Ranking as ranking
 use Rattle.nft_tree.specs.declared.chain.Hook.TheVariants as hooks
 

@@ -3,7 +3,7 @@ use Rattle.compiler.proofs.Names.{AddsChain, AllZip, AreLeft, AreTableCodes, Boo
 use Rattle.compiler.proofs.Names.{Option, PlantTree, RulesAt, Some, Statement, StatementsAt, TableCode, TableTree, Vec, [], all_zipped_more, ap, arith}
 use Rattle.compiler.proofs.Names.{chain_in, chain_steps, chain_tree, chains_of, dropped_rules, extends_code_itself, extends_code_on, extends_itself, false}
 use Rattle.compiler.proofs.Names.{false_from_ne_true, false≢true, filter_map, get_or, get_or_from_slice_get, inl, inr, keeps_push, left_program}
-use Rattle.compiler.proofs.Names.{left_statements, length, length-append, list_any, list_any_at, map, min, none-some, option_map, or_parts, refl, rules_in}
+use Rattle.compiler.proofs.Names.{left_statements, length, length-append, list_any, list_any_at, map, min, none-some, or_parts, refl, rules_in}
 use Rattle.compiler.proofs.Names.{same_Some, slice_get, slice_get-map, slice_get-push, slice_get_read, slice_get_within, some_of_map, subst, suc, sum_by}
 use Rattle.compiler.proofs.Names.{sum_by_push, sym, take, take_all, take_more, zero, ℕ, ⊎_elim, ◌++◌, ◌+◌, ◌-◌, ◌<◌, ◌^◌, ◌∙◌, ◌∷◌, ◌≡◌, ◌≤◌, ◌⊎◌}
 use Rattle.rule_meaning.specs.Runs.{table_program}
@@ -13,8 +13,11 @@ use Rattle.nft_tree.specs.Tree as tree
 
 pub chain_at : (chains : List (Bor Chain)) (t : TableTree) (i : ℕ) (x : Bor Chain) → map (λ b. chain_tree b.now) chains ≡ chains_of t
     → i < length chains → x ≡ get_or chains i x → slice_get (chains_of t) i ≡ Some (chain_tree x.now)
-chain_at chains t i x all lt is = ap (λ cs. slice_get cs i) (sym all) ∙ slice_get-map (λ b. chain_tree b.now) chains i
-    ∙ ap (option_map (λ b. chain_tree b.now)) (slice_get_read chains (length chains) i x refl lt is)
+chain_at chains t i x all lt is = rw (
+  ← all,
+  slice_get-map (λ (b : Bor Chain). chain_tree b.now) chains i,
+  slice_get_read chains (length chains) i x refl lt is,
+) refl
 
 -- what is so of no element isn't so of one
 pub none_at : {A : Type 0} (p : A → Bool) (xs : List A) (i : ℕ) (x : A) → i < length xs → x ≡ get_or xs i x → list_any p xs ≡ false → p x ≡ false

@@ -33,7 +33,7 @@ fn set_starts(alloc: Global, bases: &[CompiledChain], code: &mut Code) -> Result
     Ok(())
 }
 
-/// The code of each table, and the starts of each hook.
+/// The code of a ruleset with these names.
 fn named_code(alloc: Global, checked: &Checked, names: &[TableNames]) -> Result<Code, AllocError>
     requires fine { WellFormed checked.now.rules checked.now.plant }
     requires names { names.now ≡ checked.now.rules }

@@ -1,6 +1,7 @@
 use Rattle.compiler.proofs.Names.{All, All-contains, All-filter, All-permutation, ChainNo, Code, Contains, Contains-unmap, Hook, InOrder, Prices, [], ap, arith}
-use Rattle.compiler.proofs.Names.{base, base_chain_head, base_chains_of, chain_cost_by, filter, get_or, is_on_hook, map, map-map, runs_on_hook, slice_index}
-use Rattle.compiler.proofs.Names.{start_head, start_of, subst, sum_by, sym, total_cost, weight_by, ℕ, ◌∙◌, ◌≡◌}
+use Rattle.compiler.proofs.Names.{base, base_chain_head, base_chains_of, chain_cost_by, filter, get_or, is_on_hook, map, runs_on_hook, slice_index, start_head}
+use Rattle.compiler.proofs.Names.{start_of, subst, sum_by, sym, total_cost, weight_by, ℕ, ◌∙◌, ◌≡◌}
+use Rattle.std.proofs.lemmas.Simd.{map-map}
 use Rattle.compiler.proofs.OrderLaws.{filter_shown}
 use Rattle.compiler.proofs.Simulation.{agrees, runs-there}
 use Rattle.compiler.proofs.StartLaws.{IsPriced, all_priced, cost-in, costs-shown, row_price, rows-price, start_price, starts-price, starts_total, sum-priced}

@@ -1,4 +1,5 @@
-use Rattle.compiler.proofs.Names.{DuplicateName, Global, List, MatchOption-at_none, TableTree, Vec, subst, tables_of, ◌≡◌}
+use Rattle.compiler.proofs.Names.{Global, List, MatchOption-at_none, TableTree, Vec, subst, tables_of, ◌≡◌}
+use Rattle.rule_names.specs.Names.{DuplicateName}
 use Rattle.rule_check.specs.declared.fault.CheckFault.TheVariants as faults
 use Rattle.compiler.proofs.compiling.ruleset_code.Goals as goal
 
