@@ -14,7 +14,7 @@ ghost use Rattle.lowering.specs.steps.Actions.{HasNumbers, HasSet, HasVerdicts, 
 use crate::keys::selector_kinds;
 use crate::tables::{number_table, set_table, verdict_table};
 use box_file::Plant;
-use nft_tree::{Element, MapRef, Pair, Selector, SetRef, ValueType};
+use nft_tree::{Element, MapLookup, MapRef, Pair, Selector, SetRef, ValueType};
 use rule_code::Lookups;
 use rule_names::TableNames;
 use set_intervals::Intervals;
@@ -147,26 +147,27 @@ pub(crate) fn number_map_index(
     alloc: Global,
     plant: &Plant,
     names: &TableNames,
-    selector: Selector,
     given: ValueType,
-    map: &MapRef,
+    look: &MapLookup,
     lookups: &mut Lookups,
 ) -> Result<usize, AllocError>
     requires read { IsNumberType given }
     requires declared { HasDeclared plant.now names.now lookups.old }
-    requires types { map_ref_mismatches names.now selector (Some (Named given))
-        (map_ref_tree map.now) ≡ false }
+    requires types { map_ref_mismatches names.now look.now.selector (Some (Named given))
+        (map_ref_tree look.now.map) ≡ false }
     ensures extends { OnOk result (Extends lookups.old lookups.new) }
     ensures gives { IfOk result (HasNumbers lookups.new
-        (map_gives (data_number plant.now (Named given)) (scope_of plant.now names.now) selector
-        (map_ref_tree map.now))) }
+        (map_gives (data_number plant.now (Named given)) (scope_of plant.now names.now)
+        look.now.selector (map_ref_tree look.now.map))) }
 {
-    match map {
+    match &look.map {
         MapRef::Named(name) => match names.map_index(name) {
             Some(place) => Ok(place),
             // An undeclared map has no element.
-            None => add_numbers(alloc, plant, selector, given, &[], lookups),
+            None => add_numbers(alloc, plant, look.selector, given, &[], lookups),
         },
-        MapRef::Anonymous(pairs) => add_numbers(alloc, plant, selector, given, pairs, lookups),
+        MapRef::Anonymous(pairs) => {
+            add_numbers(alloc, plant, look.selector, given, pairs, lookups)
+        }
     }
 }

@@ -1,28 +1,21 @@
 //! Lowers NAT statements.
 ghost use Rattle.std.specs.Prelude.{◌≡◌, ◌<◌, false, not, true, IfOk, OnOk};
 ghost use Rattle.std.specs.Option.{option_map};
-ghost use Rattle.nft_tree.specs.Tree.{map_lookup_tree, nat_tree};
+ghost use Rattle.nft_tree.specs.Tree.{nat_tree};
 ghost use Rattle.nft_tree.specs.Tree as tree;
 ghost use Rattle.rule_types.specs.Types.{statement_mismatches};
 ghost use Rattle.rule_values.specs.Faults.{are_ports, if_some, is_port, nat_out_of_range};
 ghost use Rattle.rule_meaning.specs.Statements.{give, ports_of, nat_action_of, with_value};
 ghost use Rattle.lowering.specs.Lowered.{Extends, HasDeclared};
-ghost use Rattle.lowering.specs.steps.Actions.{HasEffect, nat_by_map, scope_of};
+ghost use Rattle.lowering.specs.steps.Actions.{HasEffect, scope_of};
 
 use crate::lookup_tables::number_map_index;
 use box_file::Plant;
-use nft_tree::{DestinationTarget, MapLookup, Nat, PortRange, SourceTarget, ValueType};
+use nft_tree::{DestinationTarget, Nat, PortRange, SourceTarget, ValueType};
 use rule_code::{Action, Lookups};
 use rule_meaning::{NatAction, PortInterval, RuleVerdict};
 use rule_names::TableNames;
 use std::alloc::{AllocError, Global};
-
-/// The side of a packet's tuple that a NAT statement translates.
-#[derive(Clone, Copy)]
-pub(crate) enum Side {
-    Source,
-    Destination,
-}
 
 /// A port, which is checked to be below 2^16.
 fn port(number: u64) -> u16
@@ -78,39 +71,7 @@ fn translate(action: NatAction) -> Action
     Action::GiveVerdict(RuleVerdict::Translate(action))
 }
 
-/// `snat` or `dnat` to the address that a map gives. The table of an anonymous map is added.
-fn lower_nat_by_map(
-    alloc: Global,
-    plant: &Plant,
-    names: &TableNames,
-    side: Side,
-    look: &MapLookup,
-    lookups: &mut Lookups,
-) -> Result<Action, AllocError>
-    requires declared { HasDeclared plant.now names.now lookups.old }
-    requires types { statement_mismatches names.now
-        (tree.nat (nat_by_map side (map_lookup_tree look.now))) ≡ false }
-    ensures extends { OnOk result (Extends lookups.old lookups.new) }
-    ensures effect { IfOk result (HasEffect lookups.new
-        (λ f. with_value (λ t. give (RuleVerdict.Translate t)) (nat_action_of
-        (scope_of plant.now names.now) (nat_by_map side (map_lookup_tree look.now)) f))) }
-{
-    let number = number_map_index(
-        alloc,
-        plant,
-        names,
-        look.selector,
-        ValueType::Address,
-        &look.map,
-        lookups,
-    )?;
-    match side {
-        Side::Source => Ok(Action::TranslateSource(look.selector, number)),
-        Side::Destination => Ok(Action::TranslateDestination(look.selector, number)),
-    }
-}
-
-/// The action of a NAT statement.
+/// The action of a NAT statement. The table of an anonymous map is added.
 pub(crate) fn lower_nat(
     alloc: Global,
     plant: &Plant,
@@ -127,22 +88,14 @@ pub(crate) fn lower_nat(
         (nat_action_of (scope_of plant.now names.now) (nat_tree nat.now) f))) }
 {
     match nat {
-        Nat::Source(SourceTarget::MapLookup(look)) => lower_nat_by_map(
-            alloc,
-            plant,
-            names,
-            Side::Source,
-            look,
-            lookups,
-        ),
-        Nat::Destination(DestinationTarget::MapLookup(look)) => lower_nat_by_map(
-            alloc,
-            plant,
-            names,
-            Side::Destination,
-            look,
-            lookups,
-        ),
+        Nat::Source(SourceTarget::MapLookup(look)) => {
+            let index = number_map_index(alloc, plant, names, ValueType::Address, look, lookups)?;
+            Ok(Action::TranslateSource(look.selector, index))
+        }
+        Nat::Destination(DestinationTarget::MapLookup(look)) => {
+            let index = number_map_index(alloc, plant, names, ValueType::Address, look, lookups)?;
+            Ok(Action::TranslateDestination(look.selector, index))
+        }
         Nat::Source(SourceTarget::Address(address, ports)) => Ok(translate(NatAction::Source(
             *address,
             some_ports(*ports),

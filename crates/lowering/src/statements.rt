@@ -42,15 +42,7 @@ fn lower_operand(
         Operand::Number(number) => Ok(Source::Number(*number as u32)),
         Operand::Mark(read) => Ok(Source::Mark(*read)),
         Operand::MapLookup(look) => {
-            let number = number_map_index(
-                alloc,
-                plant,
-                names,
-                look.selector,
-                ValueType::Mark,
-                &look.map,
-                lookups,
-            )?;
+            let number = number_map_index(alloc, plant, names, ValueType::Mark, look, lookups)?;
             Ok(Source::MapLookup(look.selector, number))
         }
     }
