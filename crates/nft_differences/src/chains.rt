@@ -1,7 +1,6 @@
 //! What nft(8) refuses of the heads of base chains, and what Linux does otherwise by them.
 use crate::findings::Findings;
-use crate::outline::{Outline, Range};
-use crate::sets::part_at;
+use crate::outline::{Outline, PartKind, Range};
 use crate::tokens::Tokens;
 use crate::warning::Warning;
 use nft_tree::{Chain, ChainKind, Head, Hook, Policy, Priority, PriorityName, Ruleset, Table};
@@ -21,14 +20,17 @@ struct BaseChain {
     kind: ChainKind,
     hook: Hook,
     priority: i128,
+    /// The token of its priority.
+    place: usize,
 }
 
 impl BaseChain {
-    fn of(head: &Head) -> BaseChain {
+    fn of(head: &Head, place: usize) -> BaseChain {
         BaseChain {
             kind: head.kind,
             hook: head.hook,
             priority: head.priority.number(),
+            place,
         }
     }
 
@@ -56,6 +58,24 @@ impl BaseChain {
             && !self.is_on_output()
     }
 
+    fn shares_place_with(self, others: &[BaseChain]) -> bool {
+        for other in others {
+            if self.shares_place(*other) {
+                return true;
+            }
+        }
+        false
+    }
+
+    fn shares_hook_with_nat(self, others: &[BaseChain]) -> bool {
+        for other in others {
+            if other.is_nat() && self.shares_hook(*other) {
+                return true;
+            }
+        }
+        false
+    }
+
     /// Whether its priority is just that at which addresses are translated.
     fn is_at_step(self) -> bool {
         match self.hook {
@@ -68,8 +88,9 @@ impl BaseChain {
 
 /// Whether a base chain runs before connections are looked up.
 pub(crate) fn is_early(head: &Head) -> bool {
-    let chain = BaseChain::of(head);
-    chain.is_filter() && matches!(chain.hook, Hook::Prerouting) && chain.priority <= LOOKUP
+    matches!(head.kind, ChainKind::Filter)
+        && matches!(head.hook, Hook::Prerouting)
+        && head.priority.number() <= LOOKUP
 }
 
 /// Adds the warnings about the heads of base chains.
@@ -77,14 +98,26 @@ pub(crate) fn judge_chains(
     alloc: Global,
     ruleset: &Ruleset,
     tokens: &Tokens<'_>,
-    outline: &Outline,
     findings: &mut Findings<'_>,
 ) -> Result<(), AllocError> {
-    let mut chains: Vec<BaseChain> = Vec::new(alloc);
+    let mut chains = Vec::new(alloc);
+    judge_tables(ruleset, tokens, &mut chains, findings)?;
+    judge_order(&chains, tokens, findings);
+    Ok(())
+}
+
+/// Adds the warnings about the heads of all base chains, and lists these chains.
+fn judge_tables(
+    ruleset: &Ruleset,
+    tokens: &Tokens<'_>,
+    chains: &mut Vec<BaseChain>,
+    findings: &mut Findings<'_>,
+) -> Result<(), AllocError> {
+    let mut outline = Outline::START;
     for table in &ruleset.tables {
-        judge_heads(table, tokens, outline, &mut chains, findings)?;
+        judge_heads(table, tokens, &mut outline, chains, findings)?;
     }
-    judge_order(&chains, tokens, outline, findings)
+    Ok(())
 }
 
 /// Adds the warnings about the heads of a table's base chains, and appends these chains to those of
@@ -92,46 +125,42 @@ pub(crate) fn judge_chains(
 fn judge_heads(
     table: &Table,
     tokens: &Tokens<'_>,
-    outline: &Outline,
+    outline: &mut Outline,
     chains: &mut Vec<BaseChain>,
     findings: &mut Findings<'_>,
 ) -> Result<(), AllocError> {
     for item in &table.items {
-        let Some(chain) = item.chain() else {
-            continue;
-        };
-        if let Some(head) = &chain.head {
-            let part = part_at(&outline.heads, chains.len());
-            judge_head(chain, head, tokens, part, findings)?;
-            chains.push(BaseChain::of(head))?;
+        if let Some(chain) = item.chain() {
+            if let Some(head) = &chain.head {
+                let part = outline.next_or_empty(tokens, PartKind::Head);
+                chains.push(judge_head(chain, head, tokens, part, findings))?;
+            }
         }
     }
     Ok(())
 }
 
-/// Adds the warnings about one head.
+/// Adds the warnings about one head, and returns its chain.
 fn judge_head(
     chain: &Chain,
     head: &Head,
     tokens: &Tokens<'_>,
     part: Range,
     findings: &mut Findings<'_>,
-) -> Result<(), AllocError> {
-    let base = BaseChain::of(head);
-    let place = part
-        .find(tokens, part.start, b"priority")
-        .unwrap_or(part.start);
+) -> BaseChain {
+    let place = part.place_of(tokens, part.start, b"priority");
+    let base = BaseChain::of(head, place);
     if is_misplaced_name(head) {
-        findings.add(tokens, place, Warning::PriorityName)?;
+        findings.add(tokens, place, Warning::PriorityName);
     }
     if is_early(head) && base.priority == LOOKUP {
-        findings.add(tokens, place, Warning::EarlyPriority)?;
+        findings.add(tokens, place, Warning::EarlyPriority);
     }
     let does_something = !chain.rules.is_empty() || matches!(head.policy, Some(Policy::Drop));
     if base.is_on_output() && does_something {
-        findings.add(tokens, part.start, Warning::OutputChain)?;
+        findings.add(tokens, part.start, Warning::OutputChain);
     }
-    Ok(())
+    base
 }
 
 /// Whether the name of a priority isn't one of its hook.
@@ -148,28 +177,13 @@ fn is_misplaced_name(head: &Head) -> bool {
 }
 
 /// Adds the warnings about chains that have one place together.
-fn judge_order(
-    chains: &[BaseChain],
-    tokens: &Tokens<'_>,
-    outline: &Outline,
-    findings: &mut Findings<'_>,
-) -> Result<(), AllocError> {
+fn judge_order(chains: &[BaseChain], tokens: &Tokens<'_>, findings: &mut Findings<'_>) {
     for (number, chain) in chains.iter().enumerate() {
-        let part = part_at(&outline.heads, number);
-        let place = part
-            .find(tokens, part.start, b"priority")
-            .unwrap_or(part.start);
-        let mut earlier = chains.iter().take(number);
-        if earlier.any(|other| chain.shares_place(*other)) {
-            findings.add(tokens, place, Warning::SamePriority)?;
+        if chain.shares_place_with(chains.get(..number).unwrap_or(&[])) {
+            findings.add(tokens, chain.place, Warning::SamePriority);
         }
-        let mut others = chains.iter();
-        if chain.is_filter()
-            && chain.is_at_step()
-            && others.any(|other| other.is_nat() && chain.shares_hook(*other))
-        {
-            findings.add(tokens, place, Warning::NatPriority)?;
+        if chain.is_filter() && chain.is_at_step() && chain.shares_hook_with_nat(chains) {
+            findings.add(tokens, chain.place, Warning::NatPriority);
         }
     }
-    Ok(())
 }

@@ -1,7 +1,6 @@
 //! The warnings of a text, in its order.
 use crate::chains::judge_chains;
 use crate::layout::judge_layout;
-use crate::outline::Outline;
 use crate::rules::judge_rules;
 use crate::sets::judge_sets;
 use crate::tokens::Tokens;
@@ -25,33 +24,28 @@ struct Finding {
 #[derive(Drop)]
 pub(crate) struct Findings<'a> {
     text: &'a [u8],
+    /// With room for the most from the start.
     found: Vec<Finding>,
 }
 
 impl<'a> Findings<'a> {
-    fn new(alloc: Global, text: &'a [u8]) -> Findings<'a> {
-        Findings {
+    fn new(alloc: Global, text: &'a [u8]) -> Result<Findings<'a>, AllocError> {
+        Ok(Findings {
             text,
-            found: Vec::new(alloc),
-        }
+            found: Vec::with_capacity(alloc, MOST)?,
+        })
     }
 
     /// Adds a warning at a token.
-    pub(crate) fn add(
-        &mut self,
-        tokens: &Tokens<'_>,
-        index: usize,
-        warning: Warning,
-    ) -> Result<(), AllocError> {
-        self.add_at(tokens.offset(index), warning)
+    pub(crate) fn add(&mut self, tokens: &Tokens<'_>, index: usize, warning: Warning) {
+        self.add_at(tokens.offset(index), warning);
     }
 
     /// Adds a warning at an offset.
-    pub(crate) fn add_at(&mut self, offset: usize, warning: Warning) -> Result<(), AllocError> {
-        if self.found.len() < MOST {
-            self.found.push(Finding { offset, warning })?;
+    pub(crate) fn add_at(&mut self, offset: usize, warning: Warning) {
+        if self.found.len() < self.found.capacity() {
+            self.found.push_reserved(Finding { offset, warning });
         }
-        Ok(())
     }
 
     /// Adds all warnings.
@@ -66,35 +60,28 @@ impl<'a> Findings<'a> {
         ruleset: &Ruleset,
         tokens: &Tokens<'_>,
     ) -> Result<(), AllocError> {
-        let outline = Outline::read(alloc, tokens)?;
-        self.judge_parts(alloc, ruleset, tokens, &outline)
-    }
-
-    fn judge_parts(
-        &mut self,
-        alloc: Global,
-        ruleset: &Ruleset,
-        tokens: &Tokens<'_>,
-        outline: &Outline,
-    ) -> Result<(), AllocError> {
-        judge_layout(tokens, outline, self)?;
-        judge_sets(alloc, ruleset, tokens, outline, self)?;
-        judge_chains(alloc, ruleset, tokens, outline, self)?;
-        judge_rules(alloc, ruleset, tokens, outline, self)
+        judge_layout(tokens, self);
+        judge_sets(alloc, ruleset, tokens, self)?;
+        judge_chains(alloc, ruleset, tokens, self)?;
+        judge_rules(alloc, ruleset, tokens, self)
     }
 
     /// One line for each warning, in the order of the text.
     fn lines(&mut self, alloc: Global, path: &str) -> Result<String, AllocError> {
-        self.found.sort_by_key(|finding| finding.offset)?;
         let mut lines = String::new(alloc);
-        for finding in &self.found {
-            if finding.offset > self.text.len() {
-                continue;
-            }
-            let place = position_at(self.text, finding.offset);
-            put_line(&mut lines, path, place, finding.warning)?;
-        }
+        self.write_to(&mut lines, path)?;
         Ok(lines)
+    }
+
+    fn write_to(&mut self, lines: &mut String, path: &str) -> Result<(), AllocError> {
+        self.found.sort_by_key(|finding| finding.offset)?;
+        for finding in &self.found {
+            if finding.offset <= self.text.len() {
+                let place = position_at(self.text, finding.offset);
+                put_line(lines, path, place, finding.warning)?;
+            }
+        }
+        Ok(())
     }
 }
 
@@ -125,7 +112,7 @@ pub fn warnings(alloc: Global, path: &str, text: &[u8]) -> Result<String, AllocE
 
 /// The lines of a ruleset's warnings.
 fn told(alloc: Global, path: &str, text: &[u8], ruleset: &Ruleset) -> Result<String, AllocError> {
-    let mut findings = Findings::new(alloc, text);
+    let mut findings = Findings::new(alloc, text)?;
     findings.judge(alloc, ruleset)?;
     findings.lines(alloc, path)
 }

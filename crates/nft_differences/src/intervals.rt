@@ -23,19 +23,18 @@ pub(crate) struct Coverage {
 
 /// The number of a literal. None for the name of an interface where its index is meant.
 fn number_of(value: &Value, value_type: ComparedType) -> Option<u128> {
-    match (value, value_type) {
-        (Value::Number(number), _) => Some(u128::from(*number)),
-        (Value::Address(address), _) => Some(u128::from(*address)),
-        (Value::Word(word), ComparedType::Named(named)) => number_of_word(word, named),
-        (Value::String(text), ComparedType::Named(named)) => number_of_word(text, named),
-        _ => None,
+    match value {
+        Value::Number(number) => Some(u128::from(*number)),
+        Value::Address(address) => Some(u128::from(*address)),
+        Value::Word(word) | Value::String(word) => number_of_word(word, value_type),
     }
 }
 
-fn number_of_word(word: &[u8], value_type: ValueType) -> Option<u128> {
+fn number_of_word(word: &[u8], value_type: ComparedType) -> Option<u128> {
     match value_type {
-        ValueType::InterfaceName => Some(name_number(word, 0)),
-        _ => Some(u128::from(value_type.number_of(word)?)),
+        ComparedType::Named(ValueType::InterfaceName) => Some(name_number(word, 0)),
+        ComparedType::Named(named) => Some(u128::from(named.number_of(word)?)),
+        ComparedType::Unnamed(_) => None,
     }
 }
 
@@ -99,6 +98,18 @@ pub(crate) fn interval_of(
 ) -> Option<Interval> {
     let (low, high) = ends_of(range, value_type)?;
     Some(Interval { low, high, element })
+}
+
+/// The interval of a key; none of a concatenation.
+pub(crate) fn interval_of_key(
+    key: &Key,
+    value_type: ComparedType,
+    element: usize,
+) -> Option<Interval> {
+    match key {
+        Key::Single(range) => interval_of(range, value_type, element),
+        Key::Joined(_) => None,
+    }
 }
 
 /// Whether nft takes the key for an interval.

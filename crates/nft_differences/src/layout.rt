@@ -1,10 +1,9 @@
 //! What nft(8) refuses of a text's layout: ends, newlines, blanks, names and comments.
 use crate::findings::Findings;
 use crate::names::is_reserved;
-use crate::outline::{Declaration, Nesting, Outline};
+use crate::outline::{Declaration, Nesting, Outline, PartKind};
 use crate::tokens::{TokenKind, Tokens, byte_at, continues_word};
 use crate::warning::Warning;
-use std::alloc::AllocError;
 
 /// The most bytes of a comment, and of a name.
 const MOST_OF_COMMENT: usize = 128;
@@ -26,63 +25,56 @@ static BEFORE_NEWLINE: [&[u8]; 2] = [b"{", b","];
 static BEHIND_NEWLINE: [&[u8]; 2] = [b"}", b","];
 
 /// Adds the warnings about the layout.
-pub(crate) fn judge_layout(
-    tokens: &Tokens<'_>,
-    outline: &Outline,
-    findings: &mut Findings<'_>,
-) -> Result<(), AllocError> {
+pub(crate) fn judge_layout(tokens: &Tokens<'_>, findings: &mut Findings<'_>) {
     if let Some(offset) = carriage_return(tokens.text) {
-        findings.add_at(offset, Warning::CarriageReturn)?;
+        findings.add_at(offset, Warning::CarriageReturn);
     }
-    judge_second_comments(tokens, outline, findings)?;
-    judge_names(tokens, outline, findings)?;
-    judge_tokens(tokens, findings)
+    judge_second_comments(tokens, findings);
+    judge_names(tokens, findings);
+    judge_tokens(tokens, findings);
 }
 
 /// Adds the warnings about comments of what has one already.
-fn judge_second_comments(
-    tokens: &Tokens<'_>,
-    outline: &Outline,
-    findings: &mut Findings<'_>,
-) -> Result<(), AllocError> {
-    for index in &outline.second_comments {
-        findings.add(tokens, *index, Warning::SecondComment)?;
+fn judge_second_comments(tokens: &Tokens<'_>, findings: &mut Findings<'_>) {
+    let mut outline = Outline::START;
+    for _ in 0..tokens.len() {
+        let Some(comment) = outline.next(tokens, PartKind::SecondComment) else {
+            break;
+        };
+        findings.add(tokens, comment.start, Warning::SecondComment);
     }
-    Ok(())
 }
 
 /// Adds the warnings about names.
-fn judge_names(
-    tokens: &Tokens<'_>,
-    outline: &Outline,
-    findings: &mut Findings<'_>,
-) -> Result<(), AllocError> {
-    for index in &outline.names {
-        judge_name(tokens, *index, findings)?;
+fn judge_names(tokens: &Tokens<'_>, findings: &mut Findings<'_>) {
+    let mut outline = Outline::START;
+    for _ in 0..tokens.len() {
+        let Some(name) = outline.next(tokens, PartKind::Name) else {
+            break;
+        };
+        judge_name(tokens, name.start, findings);
     }
-    Ok(())
 }
 
 /// Adds the warnings about single tokens, and about newlines and ends where they stand.
-fn judge_tokens(tokens: &Tokens<'_>, findings: &mut Findings<'_>) -> Result<(), AllocError> {
+fn judge_tokens(tokens: &Tokens<'_>, findings: &mut Findings<'_>) {
     let mut nesting = Nesting::OUTSIDE;
     let mut declaration = 0;
     for index in 0..tokens.len() {
-        judge_token(tokens, index, findings)?;
+        judge_token(tokens, index, findings);
         if nesting.depth == 1 && begins_declaration(tokens, index) {
             declaration = index;
         }
         match tokens.bytes(index) {
             b"{" => nesting = opened(tokens, nesting, declaration),
             b"}" => {
-                judge_closing(tokens, index, nesting, findings)?;
+                judge_closing(tokens, index, nesting, findings);
                 nesting.depth = nesting.depth.saturating_sub(1);
             }
-            b"\n" => judge_newline(tokens, index, nesting, findings)?,
+            b"\n" => judge_newline(tokens, index, nesting, findings),
             _ => {}
         }
     }
-    Ok(())
 }
 
 /// Whether a token begins a declaration, and isn't its name.
@@ -95,7 +87,7 @@ fn opened(tokens: &Tokens<'_>, nesting: Nesting, declaration: usize) -> Nesting 
     Nesting {
         depth: nesting.depth.saturating_add(1),
         declaration: if nesting.depth == 1 {
-            declaration_at(tokens, declaration)
+            Declaration::at(tokens, declaration)
         } else {
             nesting.declaration
         },
@@ -105,14 +97,6 @@ fn opened(tokens: &Tokens<'_>, nesting: Nesting, declaration: usize) -> Nesting 
 /// Whether a token is the name of a declaration.
 fn is_name(tokens: &Tokens<'_>, index: usize) -> bool {
     tokens.is(index.saturating_add(1), b"{")
-}
-
-fn declaration_at(tokens: &Tokens<'_>, index: usize) -> Declaration {
-    if tokens.is(index, b"chain") {
-        Declaration::Chain
-    } else {
-        Declaration::SetOrMap
-    }
 }
 
 /// The first carriage return outside strings and comments.
@@ -134,39 +118,28 @@ fn carriage_return(text: &[u8]) -> Option<usize> {
     None
 }
 
-fn judge_name(
-    tokens: &Tokens<'_>,
-    index: usize,
-    findings: &mut Findings<'_>,
-) -> Result<(), AllocError> {
+fn judge_name(tokens: &Tokens<'_>, index: usize, findings: &mut Findings<'_>) {
     let name = tokens.bytes(index);
     if is_reserved(name) {
-        findings.add(tokens, index, Warning::ReservedName)?;
+        findings.add(tokens, index, Warning::ReservedName);
     }
     if name.len() > MOST_OF_NAME {
-        findings.add(tokens, index, Warning::LongName)?;
+        findings.add(tokens, index, Warning::LongName);
     }
-    Ok(())
 }
 
 /// Adds what is wrong with a closing brace.
-fn judge_closing(
-    tokens: &Tokens<'_>,
-    index: usize,
-    nesting: Nesting,
-    findings: &mut Findings<'_>,
-) -> Result<(), AllocError> {
+fn judge_closing(tokens: &Tokens<'_>, index: usize, nesting: Nesting, findings: &mut Findings<'_>) {
     if nesting.depth == 0 || nesting.depth > 2 {
-        return Ok(());
+        return;
     }
     if !is_ended(tokens, index.saturating_sub(1), nesting) {
-        findings.add(tokens, index, Warning::MissingEnd)?;
+        findings.add(tokens, index, Warning::MissingEnd);
     }
     let next = index.saturating_add(1);
     if !tokens.is_newline(next) && !tokens.is(next, b";") {
-        findings.add(tokens, next, Warning::MissingEnd)?;
+        findings.add(tokens, next, Warning::MissingEnd);
     }
-    Ok(())
 }
 
 /// Whether what stands before a closing brace is ended; `last` is the token before the brace.
@@ -182,20 +155,14 @@ fn is_ended(tokens: &Tokens<'_>, last: usize, nesting: Nesting) -> bool {
 }
 
 /// Adds what is wrong with a newline in the braces of a list.
-fn judge_newline(
-    tokens: &Tokens<'_>,
-    index: usize,
-    nesting: Nesting,
-    findings: &mut Findings<'_>,
-) -> Result<(), AllocError> {
+fn judge_newline(tokens: &Tokens<'_>, index: usize, nesting: Nesting, findings: &mut Findings<'_>) {
     let before = index.saturating_sub(1);
     if nesting.depth < 3 || tokens.is(before, b"\n") {
-        return Ok(());
+        return;
     }
     if !is_allowed_between(tokens, before, index.saturating_add(1)) {
-        findings.add(tokens, index, Warning::NewlineInList)?;
+        findings.add(tokens, index, Warning::NewlineInList);
     }
-    Ok(())
 }
 
 /// Whether a newline in a list may stand between two tokens.
@@ -207,21 +174,12 @@ fn is_allowed_between(tokens: &Tokens<'_>, before: usize, next: usize) -> bool {
 }
 
 /// Adds what is wrong with a token beside the next one.
-fn judge_token(
-    tokens: &Tokens<'_>,
-    index: usize,
-    findings: &mut Findings<'_>,
-) -> Result<(), AllocError> {
+fn judge_token(tokens: &Tokens<'_>, index: usize, findings: &mut Findings<'_>) {
     let next = index.saturating_add(1);
     if let Some(warning) = tightness(tokens, index, next) {
-        return findings.add(tokens, index, warning);
-    }
-    if !matches!(tokens.kind(next), TokenKind::String) {
-        return Ok(());
-    }
-    match string_behind(tokens, index, tokens.bytes(next)) {
-        Some(warning) => findings.add(tokens, next, warning),
-        None => Ok(()),
+        findings.add(tokens, index, warning);
+    } else if let Some(warning) = string_behind(tokens, index, next) {
+        findings.add(tokens, next, warning);
     }
 }
 
@@ -246,7 +204,11 @@ fn tightness(tokens: &Tokens<'_>, index: usize, next: usize) -> Option<Warning> 
 }
 
 /// What is wrong with a string behind a token.
-fn string_behind(tokens: &Tokens<'_>, index: usize, string: &[u8]) -> Option<Warning> {
+fn string_behind(tokens: &Tokens<'_>, index: usize, next: usize) -> Option<Warning> {
+    if !matches!(tokens.kind(next), TokenKind::String) {
+        return None;
+    }
+    let string = tokens.bytes(next);
     if tokens.is(index, b"comment") && is_long(string) {
         return Some(Warning::LongComment);
     }

@@ -1,6 +1,5 @@
 //! The parts of a ruleset's text, in the order of its tree.
 use crate::tokens::{TokenKind, Tokens};
-use std::alloc::{AllocError, Global};
 
 /// A part of a text by its tokens, `end` exclusive.
 #[derive(Clone, Copy)]
@@ -9,19 +8,24 @@ pub(crate) struct Range {
     pub end: usize,
 }
 
-/// The parts of a text by kind, each kind in the order of the text.
-#[derive(Drop)]
-pub(crate) struct Outline {
-    /// The names of tables, chains, sets and maps.
-    pub names: Vec<usize>,
-    pub chains: Vec<Range>,
-    /// The heads of base chains: `type .. priority ..`.
-    pub heads: Vec<Range>,
-    pub rules: Vec<Range>,
-    /// Sets and maps.
-    pub sets: Vec<Range>,
-    /// The comments of tables and chains that come after another one of theirs.
-    pub second_comments: Vec<usize>,
+/// What a part of a text is.
+#[derive(Clone, Copy)]
+pub(crate) enum PartKind {
+    /// The name of a table, a chain, a set or a map.
+    Name,
+    /// The head of a base chain: `type .. priority ..`.
+    Head,
+    Rule,
+    /// A set or a map.
+    Set,
+    /// The comment of a table or a chain that comes after another one of its.
+    SecondComment,
+}
+
+#[derive(Clone, Copy)]
+struct Part {
+    kind: PartKind,
+    range: Range,
 }
 
 /// What a declaration in a table is.
@@ -29,6 +33,17 @@ pub(crate) struct Outline {
 pub(crate) enum Declaration {
     Chain,
     SetOrMap,
+}
+
+impl Declaration {
+    /// The declaration that begins with a token.
+    pub(crate) fn at(tokens: &Tokens<'_>, index: usize) -> Declaration {
+        if tokens.is(index, b"chain") {
+            Declaration::Chain
+        } else {
+            Declaration::SetOrMap
+        }
+    }
 }
 
 /// How deep a token is nested.
@@ -51,12 +66,14 @@ impl Nesting {
     }
 }
 
-/// Where the parts that are open begin.
+/// The parts of a text, read up to a token.
 #[derive(Clone, Copy)]
-struct Open {
+pub(crate) struct Outline {
+    at: usize,
     nesting: Nesting,
-    /// The declaration or, in a chain, the statement.
+    /// Where the declaration begins that is open.
     declaration: Option<usize>,
+    /// Where, in a chain, the statement begins that is open.
     statement: Option<usize>,
     /// Whether the table and the chain have a comment.
     table_comment: bool,
@@ -64,145 +81,136 @@ struct Open {
 }
 
 impl Outline {
-    pub(crate) fn read(alloc: Global, tokens: &Tokens<'_>) -> Result<Outline, AllocError> {
-        let mut outline = Outline {
-            names: Vec::new(alloc),
-            chains: Vec::new(alloc),
-            heads: Vec::new(alloc),
-            rules: Vec::new(alloc),
-            sets: Vec::new(alloc),
-            second_comments: Vec::new(alloc),
-        };
-        let mut open = Open {
-            nesting: Nesting::OUTSIDE,
-            declaration: None,
-            statement: None,
-            table_comment: false,
-            chain_comment: false,
-        };
-        for index in 0..tokens.len() {
-            outline.take(tokens, index, &mut open)?;
+    pub(crate) const START: Outline = Outline {
+        at: 0,
+        nesting: Nesting::OUTSIDE,
+        declaration: None,
+        statement: None,
+        table_comment: false,
+        chain_comment: false,
+    };
+
+    /// The next part of a kind.
+    pub(crate) fn next(&mut self, tokens: &Tokens<'_>, kind: PartKind) -> Option<Range> {
+        for index in self.at..tokens.len() {
+            let Some(part) = self.take(tokens, index) else {
+                continue;
+            };
+            if part.kind as u8 == kind as u8 {
+                self.at = index.saturating_add(1);
+                return Some(part.range);
+            }
         }
-        Ok(outline)
+        self.at = tokens.len();
+        None
     }
 
-    /// Takes the next token.
-    fn take(
-        &mut self,
-        tokens: &Tokens<'_>,
-        index: usize,
-        open: &mut Open,
-    ) -> Result<(), AllocError> {
+    /// The next part of a kind; an empty one where there is none.
+    pub(crate) fn next_or_empty(&mut self, tokens: &Tokens<'_>, kind: PartKind) -> Range {
+        self.next(tokens, kind)
+            .unwrap_or(Range { start: 0, end: 0 })
+    }
+
+    /// Takes the next token, and returns the part that ends with it.
+    fn take(&mut self, tokens: &Tokens<'_>, index: usize) -> Option<Part> {
         match tokens.bytes(index) {
-            b"{" => self.take_opening(tokens, index, open),
-            b"}" => self.take_closing(tokens, index, open),
-            b"\n" | b";" => {
-                if open.nesting.ends_statement() {
-                    self.end_statement(tokens, index, open)?;
-                } else if open.nesting.depth == 1 {
-                    open.declaration = None;
-                }
-                Ok(())
-            }
-            _ => self.take_word(tokens, index, open),
+            b"{" => self.take_opening(tokens, index),
+            b"}" => self.take_closing(tokens, index),
+            b"\n" | b";" => self.take_end(tokens, index),
+            _ => self.take_word(tokens, index),
         }
     }
 
-    fn take_opening(
-        &mut self,
-        tokens: &Tokens<'_>,
-        index: usize,
-        open: &mut Open,
-    ) -> Result<(), AllocError> {
-        if open.nesting.depth < 2 {
-            self.names.push(index.saturating_sub(1))?;
+    fn take_opening(&mut self, tokens: &Tokens<'_>, index: usize) -> Option<Part> {
+        let depth = self.nesting.depth;
+        self.nesting.depth = depth.saturating_add(1);
+        if depth == 0 {
+            self.table_comment = false;
+            self.declaration = None;
         }
-        if open.nesting.depth == 0 {
-            open.table_comment = false;
-            open.declaration = None;
+        if depth == 1 {
+            self.chain_comment = false;
+            let first = self.declaration.unwrap_or(index);
+            self.nesting.declaration = Declaration::at(tokens, first);
         }
-        if open.nesting.depth == 1 {
-            let first = open.declaration.unwrap_or(index);
-            open.chain_comment = false;
-            open.nesting.declaration = if tokens.is(first, b"chain") {
-                Declaration::Chain
-            } else {
-                Declaration::SetOrMap
-            };
+        if depth < 2 {
+            Some(one(PartKind::Name, index.saturating_sub(1)))
+        } else {
+            None
         }
-        open.nesting.depth = open.nesting.depth.saturating_add(1);
-        Ok(())
     }
 
-    fn take_closing(
-        &mut self,
-        tokens: &Tokens<'_>,
-        index: usize,
-        open: &mut Open,
-    ) -> Result<(), AllocError> {
-        if open.nesting.ends_statement() {
-            self.end_statement(tokens, index, open)?;
+    fn take_closing(&mut self, tokens: &Tokens<'_>, index: usize) -> Option<Part> {
+        let depth = self.nesting.depth;
+        self.nesting.depth = depth.saturating_sub(1);
+        if depth != 2 {
+            return None;
         }
-        if open.nesting.depth == 2 {
-            let part = Range {
-                start: open.declaration.unwrap_or(index),
-                end: index,
-            };
-            match open.nesting.declaration {
-                Declaration::Chain => self.chains.push(part)?,
-                Declaration::SetOrMap => self.sets.push(part)?,
-            }
-            open.declaration = None;
+        let range = Range {
+            start: self.declaration.take().unwrap_or(index),
+            end: index,
+        };
+        match self.nesting.declaration {
+            Declaration::Chain => self.end_statement(tokens, index),
+            Declaration::SetOrMap => Some(Part {
+                kind: PartKind::Set,
+                range,
+            }),
         }
-        open.nesting.depth = open.nesting.depth.saturating_sub(1);
-        Ok(())
     }
 
-    fn take_word(
-        &mut self,
-        tokens: &Tokens<'_>,
-        index: usize,
-        open: &mut Open,
-    ) -> Result<(), AllocError> {
-        if open.nesting.depth == 1 && open.declaration.is_none() {
-            open.declaration = Some(index);
-            if tokens.is(index, b"comment") {
-                if open.table_comment {
-                    self.second_comments.push(index)?;
-                }
-                open.table_comment = true;
-            }
+    fn take_end(&mut self, tokens: &Tokens<'_>, index: usize) -> Option<Part> {
+        if self.nesting.ends_statement() {
+            return self.end_statement(tokens, index);
         }
-        if open.nesting.ends_statement() && open.statement.is_none() {
-            open.statement = Some(index);
-            if tokens.is(index, b"comment") {
-                if open.chain_comment {
-                    self.second_comments.push(index)?;
-                }
-                open.chain_comment = true;
-            }
+        if self.nesting.depth == 1 {
+            self.declaration = None;
         }
-        Ok(())
+        None
+    }
+
+    fn take_word(&mut self, tokens: &Tokens<'_>, index: usize) -> Option<Part> {
+        let mut has_comment = false;
+        if self.nesting.depth == 1 && self.declaration.is_none() {
+            self.declaration = Some(index);
+            has_comment = self.table_comment;
+            self.table_comment = has_comment || tokens.is(index, b"comment");
+        }
+        if self.nesting.ends_statement() && self.statement.is_none() {
+            self.statement = Some(index);
+            has_comment = self.chain_comment;
+            self.chain_comment = has_comment || tokens.is(index, b"comment");
+        }
+        if has_comment && tokens.is(index, b"comment") {
+            Some(one(PartKind::SecondComment, index))
+        } else {
+            None
+        }
     }
 
     /// Ends a rule or a part of a chain's head.
-    fn end_statement(
-        &mut self,
-        tokens: &Tokens<'_>,
-        end: usize,
-        open: &mut Open,
-    ) -> Result<(), AllocError> {
-        let Some(start) = open.statement.take() else {
-            return Ok(());
-        };
-        let part = Range { start, end };
-        match tokens.bytes(start) {
-            b"type" => self.heads.push(part)?,
-            b"policy" | b"comment" => {}
-            _ => self.rules.push(part)?,
+    fn end_statement(&mut self, tokens: &Tokens<'_>, end: usize) -> Option<Part> {
+        let start = self.statement.take()?;
+        if tokens.is(start, b"policy") || tokens.is(start, b"comment") {
+            return None;
         }
-        Ok(())
+        let kind = if tokens.is(start, b"type") {
+            PartKind::Head
+        } else {
+            PartKind::Rule
+        };
+        let range = Range { start, end };
+        Some(Part { kind, range })
     }
+}
+
+/// A part of one token.
+fn one(kind: PartKind, index: usize) -> Part {
+    let range = Range {
+        start: index,
+        end: index.saturating_add(1),
+    };
+    Part { kind, range }
 }
 
 impl Range {
@@ -214,6 +222,12 @@ impl Range {
             }
         }
         None
+    }
+
+    /// The first token from an index on that is this word, outside strings; the one of the index
+    /// where there is none.
+    pub(crate) fn place_of(self, tokens: &Tokens<'_>, from: usize, word: &[u8]) -> usize {
+        self.find(tokens, from, word).unwrap_or(from)
     }
 
     /// The first two tokens of a part from an index on that are these words.

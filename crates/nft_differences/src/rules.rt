@@ -2,19 +2,20 @@
 use crate::chains::is_early;
 use crate::findings::Findings;
 use crate::names::is_reserved_interface;
-use crate::outline::{Outline, Range};
+use crate::outline::{Outline, PartKind, Range};
 use crate::protocols::Protocols;
-use crate::sets::{List, is_interface, is_long_wildcard, part_at};
+use crate::sets::{List, is_interface, is_long_wildcard};
 use crate::tokens::Tokens;
 use crate::warning::Warning;
 use nft_tree::{
-    BitField, BitTest, Chain, DestinationTarget, Element, Key, MapLookup, MapRef, Match, Nat,
-    Operand, Operator, Rule, Ruleset, Selector, SetRef, SourceTarget, Stmt, Table, Value,
+    BitField, BitTest, Chain, DestinationTarget, Element, Family, Key, MapLookup, MapRef, Match,
+    Nat, Operand, Operator, Rule, Ruleset, Selector, SetRef, SourceTarget, Stmt, Table, Value,
     ValueRange,
 };
 use std::alloc::{AllocError, Global};
 
 /// A rule that is read from left to right, beside its tokens.
+#[derive(Clone, Copy)]
 struct Walk<'a, 't> {
     alloc: Global,
     tokens: &'a Tokens<'t>,
@@ -25,76 +26,57 @@ struct Walk<'a, 't> {
     is_early: bool,
 }
 
-impl Drop for Walk<'_, '_> {
-    fn drop(self) {
-        let Walk {
-            alloc: _,
-            tokens: _,
-            part: _,
-            at: _,
-            protocols: _,
-            is_early: _,
-        } = self;
-    }
-}
-
 /// Adds the warnings about rules.
 pub(crate) fn judge_rules(
     alloc: Global,
     ruleset: &Ruleset,
     tokens: &Tokens<'_>,
-    outline: &Outline,
     findings: &mut Findings<'_>,
 ) -> Result<(), AllocError> {
-    let mut number = 0;
+    let mut outline = Outline::START;
     for table in &ruleset.tables {
-        number = judge_table(alloc, table, tokens, outline, number, findings)?;
+        judge_table(alloc, table, tokens, &mut outline, findings)?;
     }
     Ok(())
 }
 
-/// Adds the warnings about a table's rules, of which the first has this number in the text; returns
-/// the number after the last.
+/// Adds the warnings about a table's rules, which are the next ones of the outline.
 fn judge_table(
     alloc: Global,
     table: &Table,
     tokens: &Tokens<'_>,
-    outline: &Outline,
-    first: usize,
+    outline: &mut Outline,
     findings: &mut Findings<'_>,
-) -> Result<usize, AllocError> {
-    let mut number = first;
+) -> Result<(), AllocError> {
     for item in &table.items {
         if let Some(chain) = item.chain() {
-            judge_chain(alloc, table, chain, tokens, outline, number, findings)?;
-            number = number.saturating_add(chain.rules.len());
+            judge_chain(alloc, table.family, chain, tokens, outline, findings)?;
         }
     }
-    Ok(number)
+    Ok(())
 }
 
-/// Adds the warnings about a chain's rules, of which the first has this number in the text.
+/// Adds the warnings about the rules of a chain in a table of a family.
 fn judge_chain(
     alloc: Global,
-    table: &Table,
+    family: Family,
     chain: &Chain,
     tokens: &Tokens<'_>,
-    outline: &Outline,
-    number: usize,
+    outline: &mut Outline,
     findings: &mut Findings<'_>,
 ) -> Result<(), AllocError> {
     let is_early = match &chain.head {
         Some(head) => is_early(head),
         None => false,
     };
-    for (place, rule) in chain.rules.iter().enumerate() {
-        let part = part_at(&outline.rules, number.saturating_add(place));
+    for rule in &chain.rules {
+        let part = outline.next_or_empty(tokens, PartKind::Rule);
         let mut walk = Walk {
             alloc,
             tokens,
             part,
             at: part.start,
-            protocols: Protocols::new(table.family),
+            protocols: Protocols::new(family),
             is_early,
         };
         walk.judge(rule, findings)?;
@@ -116,9 +98,12 @@ impl Walk<'_, '_> {
         findings: &mut Findings<'_>,
     ) -> Result<(), AllocError> {
         match statement {
-            Stmt::Match(test) => self.judge_match(test, findings),
+            Stmt::Match(test) => {
+                self.judge_match(test, findings);
+                Ok(())
+            }
             Stmt::VerdictMap(selector, map) => {
-                self.read(*selector, findings)?;
+                self.read(*selector, findings);
                 self.judge_map(*selector, map, findings)
             }
             Stmt::SetMark(_, Operand::MapLookup(lookup)) => self.judge_lookup(lookup, findings),
@@ -128,23 +113,19 @@ impl Walk<'_, '_> {
     }
 
     /// Reads a selector, and returns its first token.
-    fn read(
-        &mut self,
-        selector: Selector,
-        findings: &mut Findings<'_>,
-    ) -> Result<usize, AllocError> {
+    fn read(&mut self, selector: Selector, findings: &mut Findings<'_>) -> usize {
         let (first, second) = words_of(selector);
         let found = self.part.find_pair(self.tokens, self.at, first, second);
         let place = found.unwrap_or(self.at);
         let words = if second.is_empty() { 1 } else { 2 };
         self.at = place.saturating_add(words);
         if let Some(warning) = self.protocols.read(selector) {
-            findings.add(self.tokens, place, warning)?;
+            findings.add(self.tokens, place, warning);
         }
         if self.is_early && reads_connection(selector) {
-            findings.add(self.tokens, place, Warning::StateInEarlyChain)?;
+            findings.add(self.tokens, place, Warning::StateInEarlyChain);
         }
-        Ok(place)
+        place
     }
 
     fn judge_lookup(
@@ -152,7 +133,7 @@ impl Walk<'_, '_> {
         lookup: &MapLookup,
         findings: &mut Findings<'_>,
     ) -> Result<(), AllocError> {
-        self.read(lookup.selector, findings)?;
+        self.read(lookup.selector, findings);
         self.judge_map(lookup.selector, &lookup.map, findings)
     }
 
@@ -164,35 +145,34 @@ impl Walk<'_, '_> {
         findings: &mut Findings<'_>,
     ) -> Result<(), AllocError> {
         if matches!(selector, Selector::CtStatus) {
-            findings.add(self.tokens, self.at, Warning::WholeStatus)?;
+            findings.add(self.tokens, self.at, Warning::WholeStatus);
         }
         match map {
             MapRef::Named(_) => Ok(()),
             MapRef::Anonymous(pairs) => {
-                let list = List::read(self.alloc, self.tokens, self.part, self.at)?;
+                let list = List::new(self.tokens, self.part, self.at);
                 list.judge_anonymous_map(self.alloc, pairs, selector.kind(), findings)
             }
         }
     }
 
-    fn judge_match(&mut self, test: &Match, findings: &mut Findings<'_>) -> Result<(), AllocError> {
+    fn judge_match(&mut self, test: &Match, findings: &mut Findings<'_>) {
         match test {
             Match::Compare(selector, operator, range) => {
-                self.read(*selector, findings)?;
-                self.judge_range(*selector, *operator, range, findings)
+                self.read(*selector, findings);
+                self.judge_range(*selector, *operator, range, findings);
             }
             Match::In(selectors, set) => self.judge_set(selectors, set, true, findings),
             Match::NotIn(selectors, set) => self.judge_set(selectors, set, false, findings),
             Match::Bits(field, bits, words) => {
-                self.judge_bits(*field, *bits, words.len(), findings)
+                self.judge_bits(*field, *bits, words.len(), findings);
             }
             Match::AnyFlag(_) | Match::ExactFlags(_) => {
-                self.read(Selector::TcpFlags, findings)?;
-                Ok(())
+                self.read(Selector::TcpFlags, findings);
             }
             Match::MaskedFlags(_) | Match::MaskedFlagsUnequal(_) => {
-                self.read(Selector::TcpFlags, findings)?;
-                self.judge_mask(findings)
+                self.read(Selector::TcpFlags, findings);
+                self.judge_mask(findings);
             }
         }
     }
@@ -203,25 +183,28 @@ impl Walk<'_, '_> {
         operator: Operator,
         range: &ValueRange,
         findings: &mut Findings<'_>,
-    ) -> Result<(), AllocError> {
+    ) {
         let ValueRange::One(value) = range else {
-            return Ok(());
+            return;
         };
-        if is_long_wildcard(value) {
-            let end = self.part.end.saturating_sub(1);
-            let found = self.tokens.find_string(self.at, end);
-            findings.add(self.tokens, found, Warning::LongWildcard)?;
-        }
-        if let (Value::Word(word), true) = (value, is_interface(selector.kind())) {
-            if is_reserved_interface(word) {
-                let found = self.part.find(self.tokens, self.at, word);
-                findings.add(self.tokens, found.unwrap_or(self.at), Warning::ReservedName)?;
-            }
-        }
+        self.judge_value(selector, value, findings);
         if matches!(operator, Operator::Equal) {
             self.protocols.learn(selector, value);
         }
-        Ok(())
+    }
+
+    fn judge_value(&self, selector: Selector, value: &Value, findings: &mut Findings<'_>) {
+        if is_long_wildcard(value) {
+            let end = self.part.end.saturating_sub(1);
+            let found = self.tokens.find_string(self.at, end);
+            findings.add(self.tokens, found, Warning::LongWildcard);
+        }
+        if let Value::Word(word) = value {
+            if is_interface(selector.kind()) && is_reserved_interface(word) {
+                let found = self.part.place_of(self.tokens, self.at, word);
+                findings.add(self.tokens, found, Warning::ReservedName);
+            }
+        }
     }
 
     /// Judges selectors that are in a set, or aren't.
@@ -231,34 +214,44 @@ impl Walk<'_, '_> {
         set: &SetRef,
         is_in: bool,
         findings: &mut Findings<'_>,
-    ) -> Result<(), AllocError> {
+    ) {
         let mut place = self.at;
         for selector in selectors {
-            place = self.read(*selector, findings)?;
+            place = self.read(*selector, findings);
         }
-        let [selector] = selectors else {
-            return Ok(());
-        };
+        if let [selector] = selectors {
+            let elements = match set {
+                SetRef::Anonymous(elements) => elements.as_slice(),
+                SetRef::Named(_) => &[],
+            };
+            self.judge_elements(*selector, elements, place, findings);
+            if is_in {
+                self.learn(*selector, elements);
+            }
+        }
+    }
+
+    /// Judges the elements of a set of a selector, which was read at a token.
+    fn judge_elements(
+        &self,
+        selector: Selector,
+        elements: &[Element],
+        place: usize,
+        findings: &mut Findings<'_>,
+    ) {
         let has_operator = self.tokens.is(self.at, b"=") || self.tokens.is(self.at, b"!");
-        let elements = match set {
-            SetRef::Anonymous(elements) => elements.as_slice(),
-            SetRef::Named(_) => &[],
-        };
         let is_single = elements.len() == 1 && !has_operator;
         match selector {
             Selector::CtStatus if !is_single => {
-                findings.add(self.tokens, place, Warning::WholeStatus)?;
+                findings.add(self.tokens, place, Warning::WholeStatus);
             }
             Selector::CtStatus | Selector::TcpFlags if is_single => {
-                findings.add(self.tokens, place, Warning::SingleBit)?;
+                findings.add(self.tokens, place, Warning::SingleBit);
             }
             _ => {}
         }
-        if is_in {
-            self.learn(*selector, elements);
-        }
-        let list = List::read(self.alloc, self.tokens, self.part, self.at)?;
-        list.judge_elements(elements, selector.kind(), findings)
+        let list = List::new(self.tokens, self.part, self.at);
+        list.judge_elements(elements, selector.kind(), findings);
     }
 
     fn learn(&mut self, selector: Selector, elements: &[Element]) {
@@ -275,27 +268,28 @@ impl Walk<'_, '_> {
         test: BitTest,
         words: usize,
         findings: &mut Findings<'_>,
-    ) -> Result<(), AllocError> {
+    ) {
         let selector = match field {
             BitField::State => Selector::CtState,
             BitField::Status => Selector::CtStatus,
         };
-        let place = self.read(selector, findings)?;
+        let place = self.read(selector, findings);
         match (field, test) {
             (BitField::State, BitTest::None) if words > 1 => {
-                findings.add(self.tokens, place, Warning::StateNotSeveral)
+                findings.add(self.tokens, place, Warning::StateNotSeveral);
             }
             (BitField::Status, BitTest::None | BitTest::Exactly) => {
-                findings.add(self.tokens, place, Warning::WholeStatus)
+                findings.add(self.tokens, place, Warning::WholeStatus);
             }
-            _ => Ok(()),
+            _ => {}
         }
     }
 
     /// Judges how a mask of TCP flags is written.
-    fn judge_mask(&mut self, findings: &mut Findings<'_>) -> Result<(), AllocError> {
+    fn judge_mask(&self, findings: &mut Findings<'_>) {
         if self.tokens.is(self.at, b"&") {
-            return self.judge_group(findings);
+            self.judge_group(findings);
+            return;
         }
         let slash = self
             .part
@@ -303,7 +297,7 @@ impl Walk<'_, '_> {
             .unwrap_or(self.part.end);
         let mask = slash.saturating_add(1);
         if self.tokens.is(mask.saturating_add(1), b",") {
-            return Ok(());
+            return;
         }
         let is_alone = !self.tokens.is(mask.saturating_add(1), b"|");
         let warning = if is_alone && is_prefix_length(self.tokens.bytes(mask)) {
@@ -311,11 +305,11 @@ impl Walk<'_, '_> {
         } else {
             Warning::MaskOfOne
         };
-        findings.add(self.tokens, slash, warning)
+        findings.add(self.tokens, slash, warning);
     }
 
     /// Judges `& MASK == FLAGS`.
-    fn judge_group(&mut self, findings: &mut Findings<'_>) -> Result<(), AllocError> {
+    fn judge_group(&self, findings: &mut Findings<'_>) {
         let mut is_open = false;
         let mut is_mask = true;
         for index in self.at..self.part.end {
@@ -324,37 +318,35 @@ impl Walk<'_, '_> {
                 b")" => is_open = false,
                 b"=" | b"!" => is_mask = false,
                 b"," if is_open || is_mask => {
-                    return findings.add(self.tokens, index, Warning::CommaInMask);
+                    findings.add(self.tokens, index, Warning::CommaInMask);
+                    break;
                 }
                 b"|" if is_mask && !is_open => {
-                    return findings.add(self.tokens, self.at, Warning::OpenMask);
+                    findings.add(self.tokens, self.at, Warning::OpenMask);
+                    break;
                 }
                 b"{" => break,
                 _ => {}
             }
         }
-        Ok(())
     }
 
     fn judge_nat(&mut self, nat: &Nat, findings: &mut Findings<'_>) -> Result<(), AllocError> {
         let word = word_of(nat);
-        let place = self
-            .part
-            .find(self.tokens, self.at, word)
-            .unwrap_or(self.at);
+        let place = self.part.place_of(self.tokens, self.at, word);
         let next = place.saturating_add(1);
         self.at = next;
         if matches!(nat, Nat::Source(_) | Nat::Destination(_)) {
             let named = self.tokens.is(next, b"ip");
             if let Some(warning) = self.protocols.judge_nat(named) {
-                findings.add(self.tokens, place, warning)?;
+                findings.add(self.tokens, place, warning);
             }
             if named {
                 self.at = next.saturating_add(1);
             }
         }
         if has_ports(nat) && !self.protocols.has_transport() {
-            findings.add(self.tokens, place, Warning::PortsWithoutProtocol)?;
+            findings.add(self.tokens, place, Warning::PortsWithoutProtocol);
         }
         match nat {
             Nat::Source(SourceTarget::MapLookup(lookup))

@@ -1,8 +1,11 @@
 //! What nft(8) refuses of sets and maps.
 use crate::findings::Findings;
-use crate::intervals::{Coverage, cover, interval_of, is_interval, is_interval_key, wildcard_stem};
+use crate::intervals::{
+    Coverage, Interval, cover, interval_of, interval_of_key, is_interval, is_interval_key,
+    wildcard_stem,
+};
 use crate::names::is_reserved_element;
-use crate::outline::{Outline, Range};
+use crate::outline::{Outline, PartKind, Range};
 use crate::tokens::Tokens;
 use crate::warning::Warning;
 use nft_tree::{
@@ -14,80 +17,62 @@ use std::alloc::{AllocError, Global};
 /// The most bytes before the `*` of an interface's name.
 const MOST_OF_STEM: usize = 14;
 
-/// Where the elements of a list begin.
+/// The elements of a list, read up to a token.
+#[derive(Clone, Copy)]
 pub(crate) struct List<'a, 't> {
     tokens: &'a Tokens<'t>,
     part: Range,
-    starts: Vec<usize>,
-}
-
-impl Drop for List<'_, '_> {
-    fn drop(self) {
-        let List {
-            tokens: _,
-            part: _,
-            starts: _,
-        } = self;
-    }
+    at: usize,
 }
 
 impl<'a, 't> List<'a, 't> {
     /// The list in the first braces of a part from a token on.
-    pub(crate) fn read(
-        alloc: Global,
-        tokens: &'a Tokens<'t>,
-        part: Range,
-        from: usize,
-    ) -> Result<List<'a, 't>, AllocError> {
-        let mut starts = Vec::new(alloc);
-        let begin = part.find(tokens, from, b"{").unwrap_or(part.end);
+    pub(crate) fn new(tokens: &'a Tokens<'t>, part: Range, from: usize) -> List<'a, 't> {
+        List {
+            tokens,
+            part,
+            at: part.find(tokens, from, b"{").unwrap_or(part.end),
+        }
+    }
+
+    /// The first token of the next element; that of the part where there is none.
+    fn next(&mut self) -> usize {
         let mut is_next = false;
-        for index in begin..part.end {
-            match tokens.bytes(index) {
+        for index in self.at..self.part.end {
+            match self.tokens.bytes(index) {
                 b"{" | b"," => is_next = true,
                 b"}" => break,
                 b"\n" => {}
                 _ if is_next => {
-                    starts.push(index)?;
-                    is_next = false;
+                    self.at = index.saturating_add(1);
+                    return index;
                 }
                 _ => {}
             }
         }
-        Ok(List {
-            tokens,
-            part,
-            starts,
-        })
+        self.at = self.part.end;
+        self.part.start
     }
 
-    /// The first token of an element.
-    fn start(&self, element: usize) -> usize {
-        match self.starts.get(element) {
-            Some(start) => *start,
-            None => self.part.start,
+    /// The first token of the element of this number.
+    fn start(mut self, element: usize) -> usize {
+        for _ in 0..element {
+            self.next();
         }
+        self.next()
     }
 
-    /// Adds what nft refuses of a literal of an element.
-    fn judge_value(
-        &self,
-        value: &Value,
-        element: usize,
-        findings: &mut Findings<'_>,
-    ) -> Result<(), AllocError> {
-        let start = self.start(element);
+    /// Adds what nft refuses of a literal of an element, which begins at a token.
+    fn judge_value(self, value: &Value, start: usize, findings: &mut Findings<'_>) {
         if is_long_wildcard(value) {
-            findings.add(self.tokens, start, Warning::LongWildcard)?;
+            findings.add(self.tokens, start, Warning::LongWildcard);
         }
-        let Value::Word(word) = value else {
-            return Ok(());
-        };
-        if is_reserved_element(word) {
-            let place = self.part.find(self.tokens, start, word).unwrap_or(start);
-            findings.add(self.tokens, place, Warning::ReservedName)?;
+        if let Value::Word(word) = value {
+            if is_reserved_element(word) {
+                let place = self.part.place_of(self.tokens, start, word);
+                findings.add(self.tokens, place, Warning::ReservedName);
+            }
         }
-        Ok(())
     }
 }
 
@@ -112,45 +97,37 @@ pub(crate) fn judge_sets(
     alloc: Global,
     ruleset: &Ruleset,
     tokens: &Tokens<'_>,
-    outline: &Outline,
     findings: &mut Findings<'_>,
 ) -> Result<(), AllocError> {
-    let mut number = 0;
+    let mut outline = Outline::START;
     for table in &ruleset.tables {
-        number = judge_table(alloc, table, tokens, outline, number, findings)?;
+        judge_table(alloc, table, tokens, &mut outline, findings)?;
     }
     Ok(())
 }
 
-/// Adds the warnings about a table's sets and maps, of which the first has this number in the text;
-/// returns the number after the last.
+/// Adds the warnings about a table's sets and maps, which are the next ones of the outline.
 fn judge_table(
     alloc: Global,
     table: &Table,
     tokens: &Tokens<'_>,
-    outline: &Outline,
-    first: usize,
+    outline: &mut Outline,
     findings: &mut Findings<'_>,
-) -> Result<usize, AllocError> {
-    let mut number = first;
+) -> Result<(), AllocError> {
     for item in &table.items {
-        let part = part_at(&outline.sets, number);
         match item {
-            Item::Set(set) => judge_set(alloc, set, tokens, part, findings)?,
-            Item::Map(map) => judge_map(alloc, map, tokens, part, findings)?,
-            Item::Comment(_) | Item::Chain(_) => continue,
+            Item::Set(set) => {
+                let part = outline.next_or_empty(tokens, PartKind::Set);
+                judge_set(alloc, set, tokens, part, findings)?;
+            }
+            Item::Map(map) => {
+                let part = outline.next_or_empty(tokens, PartKind::Set);
+                judge_map(alloc, map, tokens, part, findings)?;
+            }
+            Item::Comment(_) | Item::Chain(_) => {}
         }
-        number = number.saturating_add(1);
     }
-    Ok(number)
-}
-
-/// The part of this number; an empty one where there is none.
-pub(crate) fn part_at(parts: &[Range], number: usize) -> Range {
-    match parts.get(number) {
-        Some(part) => *part,
-        None => Range { start: 0, end: 0 },
-    }
+    Ok(())
 }
 
 fn has_flag(flags: &Option<Vec<SetFlag>>, wanted: SetFlag) -> bool {
@@ -173,16 +150,13 @@ fn judge_set(
     findings: &mut Findings<'_>,
 ) -> Result<(), AllocError> {
     if set.auto_merge && !has_flag(&set.flags, SetFlag::Interval) {
-        let place = part
-            .find(tokens, part.start, b"auto-merge")
-            .unwrap_or(part.start);
-        findings.add(tokens, place, Warning::AutoMergeWithoutInterval)?;
+        let place = part.place_of(tokens, part.start, b"auto-merge");
+        findings.add(tokens, place, Warning::AutoMergeWithoutInterval);
     }
-    let Some(elements) = &set.elements else {
-        return Ok(());
-    };
-    let list = List::read(alloc, tokens, part, elements_at(tokens, part))?;
-    list.judge_set(alloc, set, elements, findings)
+    match &set.elements {
+        Some(elements) => listed(tokens, part).judge_set(alloc, set, elements, findings),
+        None => Ok(()),
+    }
 }
 
 fn judge_map(
@@ -193,22 +167,19 @@ fn judge_map(
     findings: &mut Findings<'_>,
 ) -> Result<(), AllocError> {
     if map.auto_merge {
-        let place = part
-            .find(tokens, part.start, b"auto-merge")
-            .unwrap_or(part.start);
-        findings.add(tokens, place, Warning::AutoMergeOfMap)?;
+        let place = part.place_of(tokens, part.start, b"auto-merge");
+        findings.add(tokens, place, Warning::AutoMergeOfMap);
     }
-    let Some(pairs) = &map.elements else {
-        return Ok(());
-    };
-    let list = List::read(alloc, tokens, part, elements_at(tokens, part))?;
-    list.judge_map(alloc, map, pairs, findings)
+    match &map.elements {
+        Some(pairs) => listed(tokens, part).judge_map(alloc, map, pairs, findings),
+        None => Ok(()),
+    }
 }
 
-/// The token `elements` of a set or a map.
-fn elements_at(tokens: &Tokens<'_>, part: Range) -> usize {
-    part.find_pair(tokens, part.start, b"elements", b"=")
-        .unwrap_or(part.start)
+/// The elements of a set or a map.
+fn listed<'a, 't>(tokens: &'a Tokens<'t>, part: Range) -> List<'a, 't> {
+    let word = part.find_pair(tokens, part.start, b"elements", b"=");
+    List::new(tokens, part, word.unwrap_or(part.start))
 }
 
 /// The first element of a set that nft takes for an interval.
@@ -238,16 +209,26 @@ fn elements_coverage(
     value_type: ComparedType,
 ) -> Result<Option<Coverage>, AllocError> {
     let mut intervals = Vec::new(alloc);
-    for (number, element) in elements.iter().enumerate() {
-        let Key::Single(range) = &element.key else {
-            return Ok(Some(distinct(elements.len())));
-        };
-        let Some(interval) = interval_of(range, value_type, number) else {
-            return Ok(None);
-        };
-        intervals.push(interval)?;
+    match add_elements(&mut intervals, elements, value_type)? {
+        None => Ok(Some(cover(&mut intervals)?)),
+        Some(Key::Joined(_)) => Ok(Some(distinct(elements.len()))),
+        Some(Key::Single(_)) => Ok(None),
     }
-    Ok(Some(cover(&mut intervals)?))
+}
+
+/// Adds the intervals of elements up to the first that has none, and returns the key of that.
+fn add_elements<'a>(
+    intervals: &mut Vec<Interval>,
+    elements: &'a [Element],
+    value_type: ComparedType,
+) -> Result<Option<&'a Key>, AllocError> {
+    for (number, element) in elements.iter().enumerate() {
+        match interval_of_key(&element.key, value_type, number) {
+            Some(interval) => intervals.push(interval)?,
+            None => return Ok(Some(&element.key)),
+        }
+    }
+    Ok(None)
 }
 
 /// How the keys of a map cover numbers; none where that isn't known.
@@ -257,13 +238,25 @@ fn pairs_coverage(
     key: ComparedType,
 ) -> Result<Option<Coverage>, AllocError> {
     let mut intervals = Vec::new(alloc);
-    for (number, pair) in pairs.iter().enumerate() {
-        let Some(interval) = interval_of(&pair.key, key, number) else {
-            return Ok(None);
-        };
-        intervals.push(interval)?;
+    if add_pairs(&mut intervals, pairs, key)? {
+        return Ok(Some(cover(&mut intervals)?));
     }
-    Ok(Some(cover(&mut intervals)?))
+    Ok(None)
+}
+
+/// Adds the intervals of the keys of a map, and returns whether each has one.
+fn add_pairs(
+    intervals: &mut Vec<Interval>,
+    pairs: &[Pair],
+    key: ComparedType,
+) -> Result<bool, AllocError> {
+    for (number, pair) in pairs.iter().enumerate() {
+        match interval_of(&pair.key, key, number) {
+            Some(interval) => intervals.push(interval)?,
+            None => return Ok(false),
+        }
+    }
+    Ok(true)
 }
 
 /// The coverage of so many concatenations.
@@ -278,7 +271,7 @@ fn distinct(count: usize) -> Coverage {
 impl List<'_, '_> {
     /// Adds what nft refuses of the elements of a declared set.
     fn judge_set(
-        &self,
+        self,
         alloc: Global,
         set: &SetDecl,
         elements: &[Element],
@@ -286,28 +279,30 @@ impl List<'_, '_> {
     ) -> Result<(), AllocError> {
         let has_interval = has_flag(&set.flags, SetFlag::Interval);
         if !has_interval {
-            self.judge_without_interval(first_interval(elements), findings)?;
+            self.judge_without_interval(first_interval(elements), findings);
         }
         let value_type = set.key.kind(0).unwrap_or(ComparedType::Unnamed(0));
-        self.judge_elements(elements, value_type, findings)?;
+        self.judge_elements(elements, value_type, findings);
         let Some(covered) = elements_coverage(alloc, elements, value_type)? else {
             return Ok(());
         };
         if has_interval && !set.auto_merge {
-            self.judge_overlap(covered, findings)?;
+            self.judge_overlap(covered, findings);
         }
         let count = if set.auto_merge {
             covered.joined
         } else {
             covered.count
         };
-        let is_constant = has_flag(&set.flags, SetFlag::Constant);
-        self.judge_size(set.size, is_constant, count, findings)
+        if !has_flag(&set.flags, SetFlag::Constant) {
+            self.judge_size(set.size, count, findings);
+        }
+        Ok(())
     }
 
     /// Adds what nft refuses of the elements of a declared map.
     fn judge_map(
-        &self,
+        self,
         alloc: Global,
         map: &MapDecl,
         pairs: &[Pair],
@@ -315,108 +310,86 @@ impl List<'_, '_> {
     ) -> Result<(), AllocError> {
         let has_interval = has_flag(&map.flags, SetFlag::Interval);
         if !has_interval {
-            self.judge_without_interval(first_interval_of_map(pairs), findings)?;
+            self.judge_without_interval(first_interval_of_map(pairs), findings);
         }
         let key = map.types.key();
-        self.judge_keys(pairs, key, findings)?;
+        self.judge_keys(pairs, key, findings);
         let Some(covered) = pairs_coverage(alloc, pairs, key)? else {
             return Ok(());
         };
         if has_interval {
-            self.judge_overlap(covered, findings)?;
+            self.judge_overlap(covered, findings);
         }
-        let is_constant = has_flag(&map.flags, SetFlag::Constant);
-        self.judge_size(map.size, is_constant, covered.count, findings)
+        if !has_flag(&map.flags, SetFlag::Constant) {
+            self.judge_size(map.size, covered.count, findings);
+        }
+        Ok(())
     }
 
-    fn judge_size(
-        &self,
-        size: Option<u64>,
-        is_constant: bool,
-        count: usize,
-        findings: &mut Findings<'_>,
-    ) -> Result<(), AllocError> {
-        let Some(size) = size else {
-            return Ok(());
-        };
-        if size == 0 || is_constant || count as u64 <= size {
-            return Ok(());
-        }
-        let start = self.part.start;
-        let place = self.part.find(self.tokens, start, b"size").unwrap_or(start);
-        findings.add(self.tokens, place, Warning::TooManyElements)
-    }
-
-    fn judge_without_interval(
-        &self,
-        element: Option<usize>,
-        findings: &mut Findings<'_>,
-    ) -> Result<(), AllocError> {
-        match element {
-            Some(element) => findings.add(self.tokens, self.start(element), Warning::NoInterval),
-            None => Ok(()),
+    fn judge_size(self, size: Option<u64>, count: usize, findings: &mut Findings<'_>) {
+        if let Some(size) = size {
+            if size != 0 && size < count as u64 {
+                let place = self.part.place_of(self.tokens, self.part.start, b"size");
+                findings.add(self.tokens, place, Warning::TooManyElements);
+            }
         }
     }
 
-    fn judge_overlap(
-        &self,
-        covered: Coverage,
-        findings: &mut Findings<'_>,
-    ) -> Result<(), AllocError> {
-        match covered.overlapping {
-            Some(element) => findings.add(self.tokens, self.start(element), Warning::Overlap),
-            None => Ok(()),
+    fn judge_without_interval(self, element: Option<usize>, findings: &mut Findings<'_>) {
+        if let Some(element) = element {
+            findings.add(self.tokens, self.start(element), Warning::NoInterval);
+        }
+    }
+
+    fn judge_overlap(self, covered: Coverage, findings: &mut Findings<'_>) {
+        if let Some(element) = covered.overlapping {
+            findings.add(self.tokens, self.start(element), Warning::Overlap);
         }
     }
 
     /// Adds what nft refuses of the literals of a set.
     pub(crate) fn judge_elements(
-        &self,
+        mut self,
         elements: &[Element],
         value_type: ComparedType,
         findings: &mut Findings<'_>,
-    ) -> Result<(), AllocError> {
+    ) {
         if !is_interface(value_type) {
-            return Ok(());
+            return;
         }
-        for (number, element) in elements.iter().enumerate() {
+        for element in elements {
+            let start = self.next();
             if let Key::Single(ValueRange::One(value)) = &element.key {
-                self.judge_value(value, number, findings)?;
+                self.judge_value(value, start, findings);
             }
         }
-        Ok(())
     }
 
     /// Adds what nft refuses of the keys of a map.
-    fn judge_keys(
-        &self,
-        pairs: &[Pair],
-        key: ComparedType,
-        findings: &mut Findings<'_>,
-    ) -> Result<(), AllocError> {
+    fn judge_keys(mut self, pairs: &[Pair], key: ComparedType, findings: &mut Findings<'_>) {
         if !is_interface(key) {
-            return Ok(());
+            return;
         }
-        for (number, pair) in pairs.iter().enumerate() {
+        for pair in pairs {
+            let start = self.next();
             if let ValueRange::One(value) = &pair.key {
-                self.judge_value(value, number, findings)?;
+                self.judge_value(value, start, findings);
             }
         }
-        Ok(())
     }
 
     /// Adds what nft refuses of an anonymous map.
     pub(crate) fn judge_anonymous_map(
-        &self,
+        self,
         alloc: Global,
         pairs: &[Pair],
         key: ComparedType,
         findings: &mut Findings<'_>,
     ) -> Result<(), AllocError> {
-        self.judge_keys(pairs, key, findings)?;
-        match pairs_coverage(alloc, pairs, key)? {
-            Some(covered) => self.judge_overlap(covered, findings),
-            None => Ok(()),
+        self.judge_keys(pairs, key, findings);
+        if let Some(covered) = pairs_coverage(alloc, pairs, key)? {
+            self.judge_overlap(covered, findings);
         }
+        Ok(())
     }
 }

@@ -31,24 +31,28 @@ pub(crate) struct Tokens<'a> {
 impl<'a> Tokens<'a> {
     /// The tokens of a text. A line that has only a comment has no newline.
     pub(crate) fn read(alloc: Global, text: &'a [u8]) -> Result<Tokens<'a>, AllocError> {
-        let mut all = Vec::new(alloc);
+        let mut tokens = Tokens {
+            text,
+            all: Vec::new(alloc),
+        };
+        tokens.read_all()?;
+        Ok(tokens)
+    }
+
+    fn read_all(&mut self) -> Result<(), AllocError> {
         let mut at = 0usize;
-        for _ in 0..text.len() {
-            let Some(token) = token_at(text, at) else {
+        for _ in 0..self.text.len() {
+            let Some(token) = token_at(self.text, at) else {
                 break;
             };
-            let is_mark = matches!(token.kind, TokenKind::Mark);
-            let is_comment = is_mark && byte_at(text, token.start) == b'#';
-            if is_comment && begins_line(text, token.start) {
-                at = token.end.saturating_add(1);
-                continue;
-            }
-            if !is_comment {
-                all.push(token)?;
-            }
             at = token.end;
+            if !is_comment(self.text, token) {
+                self.all.push(token)?;
+            } else if begins_line(self.text, token.start) {
+                at = token.end.saturating_add(1);
+            }
         }
-        Ok(Tokens { text, all })
+        Ok(())
     }
 
     pub(crate) fn len(&self) -> usize {
@@ -124,6 +128,10 @@ pub(crate) fn byte_at(text: &[u8], offset: usize) -> u8 {
         Some(byte) => *byte,
         None => b'\n',
     }
+}
+
+fn is_comment(text: &[u8], token: Token) -> bool {
+    matches!(token.kind, TokenKind::Mark) && byte_at(text, token.start) == b'#'
 }
 
 /// Whether there are only blanks between the line's beginning and an offset.
