@@ -14,11 +14,19 @@ use Rattle.nft_tree.specs.Tree.{ItemTree, chain_tree, map_tree, set_tree}
 use Rattle.rule_names.specs.declared.table.Named.{Named}
 use Rattle.rule_names.specs.declared.table.NamedItems.{NamedItems}
 use Rattle.rule_names.specs.Names.{set_or_map_name}
+use Rattle.rule_names.specs.steps.Index.{IsAddedToBoth}
 use Rattle.rule_names.specs.steps.Table.{AreNamed, HasDuplicateIn, Represents, RepresentsOrHasDuplicate}
 use Rattle.rule_names.proofs.Items.{maps-repeat, sets-repeat}
 use Rattle.rule_names.proofs.Lists.{map-around}
 use Rattle.rule_names.proofs.Duplicates.{repeats-on}
 use Rattle.nft_tree.specs.Tree as tree
+
+-- a new name among the shared ones
+pub added-to-both : {X : Type 0} (shared more own own_more : List Text) (all all_more : List X) (name : Text) (x : X) (fresh : Bool)
+    → IsAdded shared name more true → (all_more ≡ all ++ x ∷ []) × IsAdded own name own_more fresh
+    → IsAddedToBoth shared all own name x more all_more own_more fresh
+added-to-both shared more own own_more all all_more name x true first rest = (first, rest.0, rest.1)
+added-to-both shared more own own_more all all_more name x false first rest = inr rest.1
 
 -- a list with a duplicate has one when it is longer
 pub repeats-in-on : (items more : List ItemTree) → HasDuplicateIn items → HasDuplicateIn (items ++ more)
@@ -61,45 +69,41 @@ module _ (items : List ItemTree) (old : NamedItems) (held : Represents items old
   shared-more : (shared name : Text) → shared ≡ name → old.sets_and_maps ++ shared ∷ [] ≡ filter_map set_or_map_name items ++ name ∷ []
   shared-more shared name is = ap₂ (λ ns n. ns ++ n ∷ []) held.both is
 
-  pub shared-duplicate : (shared name : Text) → shared ≡ name → HasDuplicate (old.sets_and_maps ++ shared ∷ [])
-      → HasDuplicate (filter_map set_or_map_name items ++ name ∷ [])
-  shared-duplicate shared name is duplicate = subst HasDuplicate (shared-more shared name is) duplicate
-
-  pub set-added : (s : Bor SetDecl) (shared own : Text) → shared ≡ s.now.name.items → own ≡ s.now.name.items
-      → (both : List Text) → IsAdded old.sets_and_maps shared both true → (new : Named SetDecl) (fresh : Bool)
-      → (new.all.items ≡ old.sets.all.items ++ s ∷ []) × IsAdded old.sets.names own new.names fresh
-      → RepresentsOrHasDuplicate (items ++ tree.set (set_tree s.now) ∷ [])
-      (record old { sets = new; sets_and_maps = both }) fresh
-  set-added s shared own is is_own both new_both new true added =
-      let more = new_both.0 ∙ shared-more shared s.now.name.items is in
+  pub set-added : (s : Bor SetDecl) (name : Text) → name ≡ s.now.name.items → (both : List Text) (new : Named SetDecl) (fresh : Bool)
+      → IsAddedToBoth old.sets_and_maps old.sets.all.items old.sets.names name s both new.all.items new.names fresh
+      → RepresentsOrHasDuplicate (items ++ tree.set (set_tree s.now) ∷ []) (record old { sets = new; sets_and_maps = both }) fresh
+  set-added s name is both new true added =
+      let more = added.0.0 ∙ shared-more name s.now.name.items is in
       simp (filter_map-append, append-nil) (record {
-        sets = named-more set_tree (λ s. s.name) _ _ _ held.sets s own is_own new.all.items new.names added.0 added.1;
+        sets = named-more set_tree (λ s. s.name) _ _ _ held.sets s name is new.all.items new.names added.1 added.2;
         chains = held.chains;
         maps = held.maps;
         both = more;
-        both_apart = subst (λ ns. HasDuplicate ns → ⊥) more new_both.1;
+        both_apart = subst (λ ns. HasDuplicate ns → ⊥) more added.0.1;
       })
-  set-added s shared own is is_own both new_both new false added =
+  set-added s name is both new false (inl shared) =
+      inr (simp filter_map-append (subst HasDuplicate (shared-more name s.now.name.items is) shared))
+  set-added s name is both new false (inr own) =
       inr (sets-repeat (items ++ tree.set (set_tree s.now) ∷ [])
-      (simp filter_map-append (named-duplicate set_tree (λ s. s.name) _ _ _ held.sets s own is_own added.1)))
+      (simp filter_map-append (named-duplicate set_tree (λ s. s.name) _ _ _ held.sets s name is own)))
 
-  pub map-added : (m : Bor MapDecl) (shared own : Text) → shared ≡ m.now.name.items → own ≡ m.now.name.items
-      → (both : List Text) → IsAdded old.sets_and_maps shared both true → (new : Named MapDecl) (fresh : Bool)
-      → (new.all.items ≡ old.maps.all.items ++ m ∷ []) × IsAdded old.maps.names own new.names fresh
-      → RepresentsOrHasDuplicate (items ++ tree.map_item (map_tree m.now) ∷ [])
-      (record old { maps = new; sets_and_maps = both }) fresh
-  map-added m shared own is is_own both new_both new true added =
-      let more = new_both.0 ∙ shared-more shared m.now.name.items is in
+  pub map-added : (m : Bor MapDecl) (name : Text) → name ≡ m.now.name.items → (both : List Text) (new : Named MapDecl) (fresh : Bool)
+      → IsAddedToBoth old.sets_and_maps old.maps.all.items old.maps.names name m both new.all.items new.names fresh
+      → RepresentsOrHasDuplicate (items ++ tree.map_item (map_tree m.now) ∷ []) (record old { maps = new; sets_and_maps = both }) fresh
+  map-added m name is both new true added =
+      let more = added.0.0 ∙ shared-more name m.now.name.items is in
       simp (filter_map-append, append-nil) (record {
-        maps = named-more map_tree (λ m. m.name) _ _ _ held.maps m own is_own new.all.items new.names added.0 added.1;
+        maps = named-more map_tree (λ m. m.name) _ _ _ held.maps m name is new.all.items new.names added.1 added.2;
         chains = held.chains;
         sets = held.sets;
         both = more;
-        both_apart = subst (λ ns. HasDuplicate ns → ⊥) more new_both.1;
+        both_apart = subst (λ ns. HasDuplicate ns → ⊥) more added.0.1;
       })
-  map-added m shared own is is_own both new_both new false added =
+  map-added m name is both new false (inl shared) =
+      inr (simp filter_map-append (subst HasDuplicate (shared-more name m.now.name.items is) shared))
+  map-added m name is both new false (inr own) =
       inr (maps-repeat (items ++ tree.map_item (map_tree m.now) ∷ [])
-      (simp filter_map-append (named-duplicate map_tree (λ m. m.name) _ _ _ held.maps m own is_own added.1)))
+      (simp filter_map-append (named-duplicate map_tree (λ m. m.name) _ _ _ held.maps m name is own)))
 
 -- items in text order
 module _ (items : List Item) (i : ℕ) (x : Item) (inside : i < length items) (is : x ≡ get_or items i x) (n : NamedItems) (fresh : Bool) where

@@ -1,6 +1,5 @@
 -- A duplicate set or a duplicate map is a duplicate among sets and maps.
-use Rattle.std.proofs.Common.{arith}
-use Rattle.rule_names.proofs.Names.{Contains, HasDuplicate, List, Text, [], map, ⊎_elim, ◌∷◌}
+use Rattle.rule_names.proofs.Names.{Contains, HasDuplicate, List, Text, [], map, subst, ⊎_elim, ◌∷◌}
 use Rattle.std.specs.List.{filter_map}
 use Rattle.nft_tree.specs.Tree.{ItemTree}
 use Rattle.nft_tree.specs.TableItems.{map_in, set_in}
@@ -22,11 +21,12 @@ of_both items = filter_map set_or_map_name items
 
 pub among-same : (n : Text) (small large : List Text) (name : Text)
     → (Contains small name → Contains large name) → Contains (n ∷ small) name → Contains (n ∷ large) name
-among-same n small large name more a = grind (arith, ⊎_elim, Contains-head, Contains-tail, Contains-cases)
+among-same n small large name more a =
+    ⊎_elim (λ e. subst (Contains (n ∷ large)) e (Contains-head n large)) (λ rest. Contains-tail n large name (more rest)) (Contains-cases n small name a)
 
 pub repeats-same : (n : Text) (small large : List Text) → (Contains small n → Contains large n)
     → (HasDuplicate small → HasDuplicate large) → HasDuplicate (n ∷ small) → HasDuplicate (n ∷ large)
-repeats-same n small large among more r = grind (arith, ⊎_elim, repeats-here, repeats-more, repeats-split)
+repeats-same n small large among more r = ⊎_elim (λ a. repeats-here n large (among a)) (λ rest. repeats-more n large (more rest)) (repeats-split n small r)
 
 pub sets-among : (items : List ItemTree) (name : Text) → Contains (of_sets items) name → Contains (of_both items) name
 sets-among [] name a = a

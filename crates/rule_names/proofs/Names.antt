@@ -4,7 +4,7 @@ pub use Rattle.nft_tree.specs.Tree.{TableTree, Text, item_tree, table_tree}
 pub use Rattle.rule_names.specs.Names.{HasDuplicate, table_names}
 pub use Rattle.rule_names.specs.steps.Index.{IsAdded}
 pub use Rattle.rule_names.specs.steps.Table.{HasUniqueNames}
-pub use Rattle.rule_names.specs.steps.TargetTests.{passes}
+pub use Rattle.rule_names.specs.steps.NameFaults.{passes}
 pub use Rattle.std.proofs.Common.{Bool, List, None, Option, Some, [], ap, ap₂, arith, cond, false, get_or, inr, length, map, refl, rules, subst, sym, take}
 pub use Rattle.std.proofs.Common.{tests, true, ℕ, ⊎_elim, ◌++◌, ◌+◌, ◌<◌, ◌||◌, ◌∙◌, ◌∷◌, ◌≡◌}
 pub use Rattle.std.proofs.lemmas.Iterator.{YieldsList-from_slice}

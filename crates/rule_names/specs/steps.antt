@@ -1,4 +1,4 @@
 -- Definitions for private contracts; no public contract cites them.
 pub mod Index
 pub mod Table
-pub mod TargetTests
+pub mod NameFaults

@@ -6,8 +6,8 @@ ghost use Rattle.nft_tree.specs.TableItems.{chains_of, maps_of, sets_of};
 ghost use Rattle.rule_names.specs.Names.{DuplicateName, HasDuplicate, chain_named, chain_names, is_base_chain};
 ghost use Rattle.rule_names.specs.Names.{is_set_or_map, map_named, map_names, index_in, set_named, set_names};
 ghost use Rattle.rule_names.specs.Names.{table_names};
-ghost use Rattle.rule_names.specs.steps.Index.{IsAdded, at_index};
-ghost use Rattle.rule_names.specs.steps.Table.{Represents, RepresentsOrHasDuplicate, HasUniqueNames, HasDuplicateIn};
+ghost use Rattle.rule_names.specs.steps.Index.{IsAdded, IsAddedToBoth, at_index};
+ghost use Rattle.rule_names.specs.steps.Table.{AreNamesOrDuplicate, Represents, RepresentsOrHasDuplicate, HasUniqueNames, HasDuplicateIn};
 
 use crate::index::NameIndex;
 use nft_tree::{Chain, Family, Item, MapDecl, Ruleset, SetDecl, Table};
@@ -39,6 +39,22 @@ impl<'t, T> Named<'t, T> {
     {
         self.all.push(item)?;
         self.names.add(name)
+    }
+
+    /// The same, with the name also added to those that items of several kinds share.
+    fn add_shared(
+        &mut self,
+        shared: &mut NameIndex<'t>,
+        name: &'t [u8],
+        item: &'t T,
+    ) -> Result<bool, AllocError>
+        ensures { IfOk result (IsAddedToBoth shared.old self.old.all.items self.old.names name.now
+            item.entry shared.new self.new.all.items self.new.names) }
+    {
+        if !shared.add(name)? {
+            return Ok(false);
+        }
+        self.add(name, item)
     }
 
     /// The item with that name.
@@ -90,19 +106,26 @@ impl<'t> NamedItems<'t> {
         match item {
             Item::Comment(_) => Ok(true),
             Item::Chain(chain) => self.chains.add(&chain.name, chain),
-            Item::Set(set) => {
-                if !self.sets_and_maps.add(&set.name)? {
-                    return Ok(false);
-                }
-                self.sets.add(&set.name, set)
-            }
-            Item::Map(map) => {
-                if !self.sets_and_maps.add(&map.name)? {
-                    return Ok(false);
-                }
-                self.maps.add(&map.name, map)
+            Item::Set(set) => self
+                .sets
+                .add_shared(&mut self.sets_and_maps, &set.name, set),
+            Item::Map(map) => self
+                .maps
+                .add_shared(&mut self.sets_and_maps, &map.name, map),
+        }
+    }
+
+    /// Adds the items to none; false if a name is taken.
+    fn add_all(&mut self, items: &'t [Item]) -> Result<bool, AllocError>
+        requires { Represents [] self.old }
+        ensures { IfOk result (RepresentsOrHasDuplicate (map item_tree items.now) self.new) }
+    {
+        for item in items {
+            if !self.add(item)? {
+                return Ok(false);
             }
         }
+        Ok(true)
     }
 }
 
@@ -132,10 +155,8 @@ impl<'t> TableNames<'t> {
         ensures apart { IfOk result (λ o. IfSome o HasUniqueNames) }
     {
         let mut items = NamedItems::new(alloc);
-        for item in &table.items {
-            if !items.add(item)? {
-                return Ok(None);
-            }
+        if !items.add_all(&table.items)? {
+            return Ok(None);
         }
         Ok(Some(TableNames { table, items }))
     }
@@ -254,6 +275,24 @@ fn has_duplicate_table(alloc: Global, tables: &[Table], family: Family) -> Resul
     Ok(false)
 }
 
+/// Indexes each table; false if a name is declared twice within one.
+fn add_each<'t>(
+    alloc: Global,
+    names: &mut Vec<TableNames<'t>>,
+    tables: &'t [Table],
+) -> Result<bool, AllocError>
+    requires { names.old.items ≡ [] }
+    ensures { IfOk result (AreNamesOrDuplicate (map table_tree tables.now) names.new.items) }
+{
+    for table in tables {
+        let Some(of_table) = TableNames::new(alloc, table)? else {
+            return Ok(false);
+        };
+        names.push(of_table)?;
+    }
+    Ok(true)
+}
+
 /// Indexes each table; `None` if a name is declared twice within one.
 fn names_in_each<'t>(
     alloc: Global,
@@ -264,11 +303,8 @@ fn names_in_each<'t>(
     ensures apart { IfOk result (λ o. IfSome o (λ _. All HasUniqueNames (map table_tree tables.now))) }
 {
     let mut names = Vec::with_capacity(alloc, tables.len())?;
-    for table in tables {
-        let Some(of_table) = TableNames::new(alloc, table)? else {
-            return Ok(None);
-        };
-        names.push(of_table)?;
+    if !add_each(alloc, &mut names, tables)? {
+        return Ok(None);
     }
     Ok(Some(names))
 }
@@ -278,7 +314,7 @@ fn names_in_each<'t>(
 ///
 /// # Errors
 ///
-/// If an allocation fails.
+/// If an allocation has_fault.
 pub fn names_of<'t>(
     alloc: Global,
     tree: &'t Ruleset,

@@ -1,21 +1,20 @@
 //! The targets of jumps and gotos.
-ghost use Rattle.std.specs.Prelude.{◌≡◌, flat_map, map};
+ghost use Rattle.std.specs.Prelude.{◌≡◌, map};
 ghost use Rattle.std.specs.List.{list_any};
-ghost use Rattle.nft_tree.specs.Tree.{item_tree, map_ref_tree, pair_tree, rule_tree, statement, verdict_tree};
-ghost use Rattle.rule_names.specs.Names.{data_target, item_targets, jumps_to_unknown_chain, jumps_to_base_chain};
-ghost use Rattle.rule_names.specs.Names.{map_ref_targets, one_or_none, pair_targets, rule_targets, statement_targets};
-ghost use Rattle.rule_names.specs.Names.{target_of, targets_of};
-ghost use Rattle.rule_names.specs.steps.TargetTests.{passes};
+ghost use Rattle.nft_tree.specs.Tree.{map_ref_tree, pair_tree, statement, verdict_tree};
+ghost use Rattle.rule_names.specs.Names.{data_target, map_ref_targets, one_or_none, pair_targets, statement_targets};
+ghost use Rattle.rule_names.specs.Names.{target_of};
+ghost use Rattle.rule_names.specs.steps.NameFaults.{passes};
 
 use crate::table::TableNames;
 use nft_tree::{
-    Data, DestinationTarget, Item, MapDecl, MapLookup, MapRef, Nat, Operand, Pair, Rule,
-    SourceTarget, Stmt, Verdict,
+    Data, DestinationTarget, MapLookup, MapRef, Nat, Operand, Pair, SourceTarget, Stmt, Verdict,
+    any,
 };
 
 /// A test of the target of a jump or goto.
 #[derive(Clone, Copy)]
-enum TargetTest {
+pub(crate) enum TargetTest {
     /// It is no chain of the table.
     IsNoChain,
     /// It is a base chain.
@@ -52,11 +51,12 @@ impl TargetTest {
         }
     }
 
-    fn of_pairs(self, names: &TableNames, pairs: &[Pair]) -> bool
+    /// Tests the data of a map.
+    pub(crate) fn of_pairs(self, names: &TableNames, pairs: &[Pair]) -> bool
         ensures { result ≡ list_any (passes self names.now)
             (pair_targets (map pair_tree pairs.now)) }
     {
-        pairs.iter().any(|pair| self.of_pair(names, pair))
+        any(pairs, |pair| self.of_pair(names, pair))
     }
 
     /// Tests the data of an anonymous map.
@@ -70,7 +70,7 @@ impl TargetTest {
         }
     }
 
-    fn of_statement(self, names: &TableNames, stmt: &Stmt) -> bool
+    pub(crate) fn of_statement(self, names: &TableNames, stmt: &Stmt) -> bool
         ensures { result ≡ list_any (passes self names.now)
             (statement_targets (statement stmt.now)) }
     {
@@ -85,63 +85,4 @@ impl TargetTest {
             _ => false,
         }
     }
-
-    fn of_rule(self, names: &TableNames, rule: &Rule) -> bool
-        ensures { result ≡ list_any (passes self names.now) (rule_targets (rule_tree rule.now)) }
-    {
-        rule.statements
-            .iter()
-            .any(|stmt| self.of_statement(names, stmt))
-    }
-
-    fn of_rules(self, names: &TableNames, rules: &[Rule]) -> bool
-        ensures { result ≡ list_any (passes self names.now)
-            (flat_map rule_targets (map rule_tree rules.now)) }
-    {
-        rules.iter().any(|rule| self.of_rule(names, rule))
-    }
-
-    /// Tests the rules of a chain, or the data of a map, also if no rule uses the map.
-    fn of_item(self, names: &TableNames, item: &Item) -> bool
-        ensures { result ≡ list_any (passes self names.now) (item_targets (item_tree item.now)) }
-    {
-        match item {
-            Item::Chain(chain) => self.of_rules(names, &chain.rules),
-            Item::Map(
-                MapDecl {
-                    elements: Some(pairs),
-                    ..
-                },
-            ) => self.of_pairs(names, pairs),
-            _ => false,
-        }
-    }
-
-    fn of_table(self, names: &TableNames) -> bool
-        ensures { result ≡ list_any (passes self names.now) (targets_of names.now) }
-    {
-        names
-            .table()
-            .items
-            .iter()
-            .any(|item| self.of_item(names, item))
-    }
-}
-
-/// Whether a rule or a map element jumps or goes to a name that is no chain of its table (N02).
-pub fn jumps_to_unknown_chain(names: &[TableNames]) -> bool
-    ensures { result ≡ list_any jumps_to_unknown_chain names.now }
-{
-    names
-        .iter()
-        .any(|table| TargetTest::IsNoChain.of_table(table))
-}
-
-/// Whether a rule or a map element jumps or goes to a base chain (N07).
-pub fn jumps_to_base_chain(names: &[TableNames]) -> bool
-    ensures { result ≡ list_any jumps_to_base_chain names.now }
-{
-    names
-        .iter()
-        .any(|table| TargetTest::IsBaseChain.of_table(table))
 }

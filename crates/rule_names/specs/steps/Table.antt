@@ -1,10 +1,10 @@
 -- The contents of the index of a table.
-use Rattle.std.specs.Prelude.{◌≡◌, ◌⊎◌, Bool, true, false, List, map}
+use Rattle.std.specs.Prelude.{◌≡◌, ◌⊎◌, All, Bool, true, false, List, map}
 use Rattle.std.specs.Borrow.{Bor}
 use Rattle.std.specs.List.{filter_map}
 use Rattle.nft_tree.specs.Tree.{Text, ChainTree, SetTree, MapTree, ItemTree, TableTree, chain_tree, set_tree, map_tree}
 use Rattle.nft_tree.specs.TableItems.{chain_in, set_in, map_in}
-use Rattle.rule_names.specs.Names.{HasDuplicate, chain_names, set_and_map_names, set_or_map_name}
+use Rattle.rule_names.specs.Names.{DuplicateName, HasDuplicate, chain_names, set_and_map_names, set_or_map_name}
 use Rattle.rule_names.specs.declared.table.NamedItems.{NamedItems}
 
 -- the table has no duplicate names
@@ -41,3 +41,8 @@ HasDuplicateIn items =
 abbrev pub RepresentsOrHasDuplicate : List ItemTree → NamedItems → Bool → Type 0
 RepresentsOrHasDuplicate items n true = Represents items n
 RepresentsOrHasDuplicate items n false = HasDuplicateIn items
+
+-- these are the tables, each without duplicate names; or they have a duplicate name
+abbrev pub AreNamesOrDuplicate : List TableTree → List TableTree → Bool → Type 0
+AreNamesOrDuplicate tables names true = (names ≡ tables) × All HasUniqueNames tables
+AreNamesOrDuplicate tables names false = DuplicateName tables

@@ -1,22 +1,21 @@
-use Rattle.rule_names.proofs.Names.{arith}
+use Rattle.rule_names.proofs.Names.{HasDuplicate, IsAdded, [], ap, ap₂, arith, map, refl, subst, sym, table_names, table_tree, ◌++◌, ◌∙◌, ◌∷◌}
+use Rattle.std.proofs.lemmas.List.{take_all}
+use Rattle.rule_names.proofs.Duplicates.{repeats-none}
 use Rattle.rule_names.proofs.Tables.{names-duplicate, names-more, names-same, same-family}
 use Rattle.rule_names.proofs.table.has_duplicate_table.Goals as goal
 
+pub loop-table-init : goal.loop-table-init
+loop-table-init c = (c.new-names.ensures, λ r. repeats-none (subst HasDuplicate c.new-names.ensures r))
+
 pub returns-then-not-branch : goal.returns-then-not-branch
 returns-then-not-branch c =
-    grind (
-      arith,
-      same-family,
-      c.eq.ensures,
-      c.if-eq.true,
-      c.loop-table.invariant.0,
-      c.deref.ensures.value,
-      names-more,
-      c.loop-table.table-index,
-      c.table-item.is,
-      names-duplicate,
-      c.if-not-branch.true,
-      c.in_ok-add.ensures,
+    let same = sym (same-family c.table-item.result.family c.args.family) ∙ sym c.eq.ensures ∙ c.if-eq.true in
+    let more = ap₂ (λ ns n. ns ++ n ∷ []) c.loop-table.invariant.0 c.deref.ensures.value
+    ∙ sym (names-more c.args.family c.args.tables.now c.loop-table.table-index c.table-item.result c.loop-table-test.true c.table-item.is same) in
+    let added = subst (IsAdded _ _ _) c.if-not-branch.true c.in_ok-add.ensures in (
+      λ _. names-duplicate c.args.family c.args.tables.now c.loop-table.table-index c.table-item.result c.loop-table-test.true
+          c.table-item.is (subst HasDuplicate more added),
+      λ _. refl,
     )
 
 pub loop-table-preserved : goal.loop-table-preserved
@@ -33,3 +32,9 @@ loop-table-preserved c =
       names-same,
       c.loop-table.invariant.1,
     )
+
+pub returns : goal.returns
+returns c =
+    let all = c.loop-table.invariant.0
+    ∙ ap (λ ts. table_names c.args.family (map table_tree ts)) (take_all c.loop-table.table-index c.args.tables.now c.loop-table-test.false) in
+    (λ h. cc, λ r. absurd (c.loop-table.invariant.1 (subst HasDuplicate (sym all) r)))

@@ -1,5 +1,5 @@
 use Rattle.rule_names.proofs.Names.{All, HasUniqueNames, map, table_tree, take, ◌≡◌}
-use Rattle.rule_names.proofs.table.names_in_each.Given as goal
+use Rattle.rule_names.proofs.table.add_each.Given as goal
 
 -- the tables so far
 abbrev pub invariant-loop-table : goal.invariant-loop-table
