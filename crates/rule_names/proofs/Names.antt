@@ -6,9 +6,7 @@ pub use Rattle.rule_names.specs.steps.Index.{IsAdded}
 pub use Rattle.rule_names.specs.steps.Table.{HasUniqueNames}
 pub use Rattle.rule_names.specs.steps.NameFaults.{passes}
 pub use Rattle.std.proofs.Common.{Bool, List, None, Option, Some, [], ap, ap₂, arith, cond, false, get_or, inr, length, map, refl, rules, subst, sym, take}
-pub use Rattle.std.proofs.Common.{tests, true, ℕ, ⊎_elim, ◌++◌, ◌+◌, ◌<◌, ◌||◌, ◌∙◌, ◌∷◌, ◌≡◌}
-pub use Rattle.std.proofs.lemmas.Iterator.{YieldsList-from_slice}
-pub use Rattle.std.proofs.lemmas.Iterator.Search.{any_from_yields_List}
+pub use Rattle.std.proofs.Common.{true, ℕ, ⊎_elim, ◌++◌, ◌+◌, ◌<◌, ◌||◌, ◌∙◌, ◌∷◌, ◌≡◌}
 pub use Rattle.std.proofs.lemmas.List.{map-append}
 pub use Rattle.std.specs.Borrow.{Bor}
 pub use Rattle.std.specs.List.{list_any}
