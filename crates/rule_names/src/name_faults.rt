@@ -110,7 +110,12 @@ fn table_has_fault(names: &TableNames, fault: NameFault) -> bool
 fn some_table_has_fault(names: &[TableNames], fault: NameFault) -> bool
     ensures { result ≡ list_any (table_has_fault fault) names.now }
 {
-    names.iter().any(|table| table_has_fault(table, fault))
+    for table in names {
+        if table_has_fault(table, fault) {
+            return true;
+        }
+    }
+    false
 }
 
 /// Whether a rule or a map element jumps or goes to a name that is no chain of its table (N02).

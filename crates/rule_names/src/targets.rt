@@ -9,7 +9,6 @@ ghost use Rattle.rule_names.specs.steps.NameFaults.{passes};
 use crate::table::TableNames;
 use nft_tree::{
     Data, DestinationTarget, MapLookup, MapRef, Nat, Operand, Pair, SourceTarget, Stmt, Verdict,
-    any,
 };
 
 /// A test of the target of a jump or goto.
@@ -56,7 +55,12 @@ impl TargetTest {
         ensures { result ≡ list_any (passes self names.now)
             (pair_targets (map pair_tree pairs.now)) }
     {
-        any(pairs, |pair| self.of_pair(names, pair))
+        for pair in pairs {
+            if self.of_pair(names, pair) {
+                return true;
+            }
+        }
+        false
     }
 
     /// Tests the data of an anonymous map.
