@@ -1,9 +1,9 @@
 //! Overlapping map elements with different data.
-ghost use Rattle.std.specs.Prelude.{◌≡◌, flat_map, map, Bool, List, IfOk, OnOk};
+ghost use Rattle.std.specs.Prelude.{◌≡◌, flat_map, map, List, IfOk, OnOk};
 ghost use Rattle.std.specs.List.{list_any};
-ghost use Rattle.nft_tree.specs.Tree.{item_tree, pair_tree, rule_tree, statement, table_tree};
-ghost use Rattle.rule_values.specs.TypedValues.{TypedMap, item_maps, rule_maps, statement_maps};
-ghost use Rattle.rule_values.specs.Faults.{entry_of, has_contradiction, map_contradicts};
+ghost use Rattle.nft_tree.specs.Tree.{ItemTree, RuleTree, Statement, TableTree, item_tree, pair_tree, rule_tree, statement, table_tree};
+ghost use Rattle.rule_values.specs.TypedValues.{TypedMap, item_maps, maps_in, rule_maps, statement_maps};
+ghost use Rattle.rule_values.specs.Faults.{entry_of, map_contradicts};
 ghost use Rattle.rule_values.specs.steps.Views.{elements_tree};
 ghost use Rattle.rule_values.specs.steps.MapEntries.{RepresentsOptionalEntry, KeepsIndices, RepresentsEntries, entries_of};
 
@@ -11,76 +11,94 @@ use crate::comparable_data::{ComparableData, comparable_form_of};
 use crate::elements::{Elements, declared_elements, statement_elements};
 use box_file::Plant;
 use indexmap::IndexSet;
-use nft_tree::{Item, Pair, Rule, Stmt, Table, TreeNode};
+use nft_tree::{Item, Pair, Rule, Stmt, Table};
 use nft_values::numbers_of;
 use set_intervals::{Intervals, Range, SetError};
 use std::alloc::{AllocError, Global};
 
-/// Whether some map of the items contradicts itself; `test` says it of the maps of one item.
-pub(crate) fn any_contradicts<T: TreeNode, F: Fn(&T) -> Result<bool, AllocError>>(
-    items: &[T],
-    test: F,
+/// A part of a ruleset that has maps.
+pub(crate) trait HasMaps: Drop {
+    ghost Tree: { Type 0 };
+
+    /// The model: what contracts speak of.
+    ghost tree: { Self → Tree };
+
+    ghost maps_of: { Tree → List TypedMap };
+
+    /// Whether one of its maps has overlapping elements with different data.
+    fn contradicts(&self, alloc: Global, plant: &Plant) -> Result<bool, AllocError>
+        ensures { IfOk result (λ b. b ≡ list_any (map_contradicts plant.now)
+            (maps_of (tree self.now))) };
+}
+
+pub(crate) fn any_contradicts<T: HasMaps>(
+    alloc: Global,
+    plant: &Plant,
+    parts: &[T],
 ) -> Result<bool, AllocError>
-    requires { F.IsAlwaysCallable test }
-    ensures { (contradicts : TypedMap → Bool) (maps : T.Tree → List TypedMap)
-        → ((x : _) (r : _) → F.post test x r
-        → IfOk r (λ b. b ≡ list_any contradicts (maps (T.tree x.now))))
-        → IfOk result (λ b. b ≡ list_any contradicts (flat_map maps (map T.tree items.now))) }
+    ensures { IfOk result (λ b. b ≡ list_any (map_contradicts plant.now)
+        (flat_map T.maps_of (map T.tree parts.now))) }
 {
-    for item in items {
-        if test(item)? {
+    for part in parts {
+        if part.contradicts(alloc, plant)? {
             return Ok(true);
         }
     }
     Ok(false)
 }
 
-/// Whether some map of the table has overlapping elements with different data.
-pub(crate) fn table_contradicts(
-    alloc: Global,
-    plant: &Plant,
-    table: &Table,
-) -> Result<bool, AllocError>
-    ensures { IfOk result (λ b. b ≡ has_contradiction plant.now (table_tree table.now)) }
-{
-    any_contradicts(&table.items, |item| item_contradicts(alloc, plant, item))
-}
+impl HasMaps for Table {
+    ghost Tree = { TableTree };
 
-fn item_contradicts(alloc: Global, plant: &Plant, item: &Item) -> Result<bool, AllocError>
-    ensures { IfOk result (λ b. b ≡ list_any (map_contradicts plant.now)
-        (item_maps (item_tree item.now))) }
-{
-    match item {
-        Item::Chain(chain) => rules_contradict(alloc, plant, &chain.rules),
-        Item::Map(map) => map_contradicts(alloc, plant, &declared_elements(map)),
-        Item::Comment(_) | Item::Set(_) => Ok(false),
+    ghost tree = { table_tree };
+
+    ghost maps_of = { maps_in };
+
+    fn contradicts(&self, alloc: Global, plant: &Plant) -> Result<bool, AllocError> {
+        any_contradicts(alloc, plant, &self.items)
     }
 }
 
-fn rules_contradict(alloc: Global, plant: &Plant, rules: &[Rule]) -> Result<bool, AllocError>
-    ensures { IfOk result (λ b. b ≡ list_any (map_contradicts plant.now)
-        (flat_map rule_maps (map rule_tree rules.now))) }
-{
-    any_contradicts(rules, |rule| rule_contradicts(alloc, plant, rule))
+impl HasMaps for Item {
+    ghost Tree = { ItemTree };
+
+    ghost tree = { item_tree };
+
+    ghost maps_of = { item_maps };
+
+    fn contradicts(&self, alloc: Global, plant: &Plant) -> Result<bool, AllocError> {
+        match self {
+            Item::Chain(chain) => any_contradicts(alloc, plant, &chain.rules),
+            Item::Map(map) => map_contradicts(alloc, plant, &declared_elements(map)),
+            Item::Comment(_) | Item::Set(_) => Ok(false),
+        }
+    }
 }
 
-fn rule_contradicts(alloc: Global, plant: &Plant, rule: &Rule) -> Result<bool, AllocError>
-    ensures { IfOk result (λ b. b ≡ list_any (map_contradicts plant.now)
-        (rule_maps (rule_tree rule.now))) }
-{
-    any_contradicts(
-        &rule.statements,
-        |stmt| statement_contradicts(alloc, plant, stmt),
-    )
+impl HasMaps for Rule {
+    ghost Tree = { RuleTree };
+
+    ghost tree = { rule_tree };
+
+    ghost maps_of = { rule_maps };
+
+    fn contradicts(&self, alloc: Global, plant: &Plant) -> Result<bool, AllocError> {
+        any_contradicts(alloc, plant, &self.statements)
+    }
 }
 
-fn statement_contradicts(alloc: Global, plant: &Plant, stmt: &Stmt) -> Result<bool, AllocError>
-    ensures { IfOk result (λ b. b ≡ list_any (map_contradicts plant.now)
-        (statement_maps (statement stmt.now))) }
-{
-    match statement_elements(stmt) {
-        None => Ok(false),
-        Some(elements) => map_contradicts(alloc, plant, &elements),
+impl HasMaps for Stmt {
+    ghost Tree = { Statement };
+
+    ghost tree = { statement };
+
+    ghost maps_of = { statement_maps };
+
+    fn contradicts(&self, alloc: Global, plant: &Plant) -> Result<bool, AllocError> {
+        match statement_elements(self) {
+            None => Ok(false),
+            Some(elements) => map_contradicts(alloc, plant, &elements),
+        }
     }
 }
 

@@ -17,7 +17,7 @@ mod values;
 
 use bounds::item_out_of_range;
 use box_file::Plant;
-use contradictions::{any_contradicts, table_contradicts};
+use contradictions::any_contradicts;
 use nft_tree::{Ruleset, Table, any};
 use std::alloc::{AllocError, Global};
 use value_check::ValueCheck;
@@ -55,5 +55,5 @@ pub fn names_unknown_interface(plant: &Plant, tree: &Ruleset) -> bool
 pub fn has_contradiction(alloc: Global, plant: &Plant, tree: &Ruleset) -> Result<bool, AllocError>
     ensures { IfOk result (λ b. b ≡ list_any (has_contradiction plant.now) (tables_of tree.now)) }
 {
-    any_contradicts(&tree.tables, |table| table_contradicts(alloc, plant, table))
+    any_contradicts(alloc, plant, &tree.tables)
 }

@@ -1,8 +1,8 @@
 //! Applies a check to all values of a ruleset.
-ghost use Rattle.std.specs.Prelude.{◌≡◌, flat_map, map, Bool, List};
+ghost use Rattle.std.specs.Prelude.{◌≡◌, flat_map, map, List};
 ghost use Rattle.std.specs.List.{list_any};
-ghost use Rattle.nft_tree.specs.Tree.{data_tree, element_tree, item_tree, key_tree, match_tree, pair_tree, rule_tree};
-ghost use Rattle.nft_tree.specs.Tree.{set_ref_tree, statement, table_tree, value_tree};
+ghost use Rattle.nft_tree.specs.Tree.{ItemTree, RuleTree, Statement, data_tree, element_tree, item_tree, key_tree, match_tree};
+ghost use Rattle.nft_tree.specs.Tree.{pair_tree, rule_tree, set_ref_tree, statement, table_tree, value_tree};
 ghost use Rattle.rule_values.specs.TypedValues.{TypedRange, data_ranges, element_ranges, item_ranges, joined_ranges, key_ranges};
 ghost use Rattle.rule_values.specs.TypedValues.{map_ranges, match_ranges, ranges_in, rule_ranges, set_ref_ranges};
 ghost use Rattle.rule_values.specs.TypedValues.{statement_ranges};
@@ -14,72 +14,95 @@ use crate::keys::KeyTypes;
 use crate::value_check::ValueCheck;
 use box_file::Plant;
 use nft_tree::{
-    ComparedType, Data, Element, Item, Key, Match, Pair, Rule, Selector, SetRef, Stmt, Table,
-    TreeNode, Value, any,
+    ComparedType, Data, Element, Item, Key, Match, Pair, Rule, Selector, SetRef, Stmt, Table, Value,
 };
 
-/// Whether some value of the items fails a check; `test` says it of the values of one item.
-fn any_fails<T: TreeNode, F: Fn(&T) -> bool>(items: &[T], test: F) -> bool
-    requires { F.IsAlwaysCallable test }
-    ensures { (fails : TypedRange → Bool) (ranges : T.Tree → List TypedRange)
-        → ((x : _) (b : Bool) → F.post test x b → b ≡ list_any fails (ranges (T.tree x.now)))
-        → result ≡ list_any fails (flat_map ranges (map T.tree items.now)) }
+/// A part of a table that has values.
+trait HasRanges: Drop {
+    ghost Tree: { Type 0 };
+
+    /// The model: what contracts speak of.
+    ghost tree: { Self → Tree };
+
+    ghost ranges_of: { Tree → List TypedRange };
+
+    /// Whether one of its values fails the check.
+    fn some_fails(&self, value_check: ValueCheck, plant: &Plant) -> bool
+        ensures { result ≡ list_any (fails value_check plant.now)
+            (ranges_of (tree self.now)) };
+}
+
+fn parts_fail<T: HasRanges>(value_check: ValueCheck, plant: &Plant, parts: &[T]) -> bool
+    ensures { result ≡ list_any (fails value_check plant.now)
+        (flat_map T.ranges_of (map T.tree parts.now)) }
 {
-    any(items, test)
+    for part in parts {
+        if part.some_fails(value_check, plant) {
+            return true;
+        }
+    }
+    false
 }
 
 /// Whether some value of the table fails the check.
 pub(crate) fn table_fails(value_check: ValueCheck, plant: &Plant, table: &Table) -> bool
     ensures { result ≡ list_any (fails value_check plant.now) (ranges_in (table_tree table.now)) }
 {
-    any_fails(&table.items, |item| item_fails(value_check, plant, item))
+    parts_fail(value_check, plant, &table.items)
 }
 
-fn item_fails(value_check: ValueCheck, plant: &Plant, item: &Item) -> bool
-    ensures { result ≡ list_any (fails value_check plant.now) (item_ranges (item_tree item.now)) }
-{
-    match item {
-        Item::Comment(_) => false,
-        Item::Chain(chain) => rules_fail(value_check, plant, &chain.rules),
-        Item::Set(set) => match &set.elements {
+impl HasRanges for Item {
+    ghost Tree = { ItemTree };
+
+    ghost tree = { item_tree };
+
+    ghost ranges_of = { item_ranges };
+
+    fn some_fails(&self, value_check: ValueCheck, plant: &Plant) -> bool {
+        match self {
+            Item::Comment(_) => false,
+            Item::Chain(chain) => parts_fail(value_check, plant, &chain.rules),
+            Item::Set(set) => match &set.elements {
+                None => false,
+                Some(elements) => elements_fail(
+                    value_check,
+                    plant,
+                    &KeyTypes::Declared(&set.key),
+                    elements.as_slice(),
+                ),
+            },
+            Item::Map(map) => map_fails(value_check, plant, &declared_elements(map)),
+        }
+    }
+}
+
+impl HasRanges for Rule {
+    ghost Tree = { RuleTree };
+
+    ghost tree = { rule_tree };
+
+    ghost ranges_of = { rule_ranges };
+
+    fn some_fails(&self, value_check: ValueCheck, plant: &Plant) -> bool {
+        parts_fail(value_check, plant, &self.statements)
+    }
+}
+
+impl HasRanges for Stmt {
+    ghost Tree = { Statement };
+
+    ghost tree = { statement };
+
+    ghost ranges_of = { statement_ranges };
+
+    fn some_fails(&self, value_check: ValueCheck, plant: &Plant) -> bool {
+        if let Stmt::Match(test) = self {
+            return match_fails(value_check, plant, test);
+        }
+        match statement_elements(self) {
             None => false,
-            Some(elements) => elements_fail(
-                value_check,
-                plant,
-                &KeyTypes::Declared(&set.key),
-                elements.as_slice(),
-            ),
-        },
-        Item::Map(map) => map_fails(value_check, plant, &declared_elements(map)),
-    }
-}
-
-fn rules_fail(value_check: ValueCheck, plant: &Plant, rules: &[Rule]) -> bool
-    ensures { result ≡ list_any (fails value_check plant.now)
-        (flat_map rule_ranges (map rule_tree rules.now)) }
-{
-    any_fails(rules, |rule| rule_fails(value_check, plant, rule))
-}
-
-fn rule_fails(value_check: ValueCheck, plant: &Plant, rule: &Rule) -> bool
-    ensures { result ≡ list_any (fails value_check plant.now) (rule_ranges (rule_tree rule.now)) }
-{
-    any_fails(
-        &rule.statements,
-        |stmt| statement_fails(value_check, plant, stmt),
-    )
-}
-
-fn statement_fails(value_check: ValueCheck, plant: &Plant, stmt: &Stmt) -> bool
-    ensures { result ≡ list_any (fails value_check plant.now)
-        (statement_ranges (statement stmt.now)) }
-{
-    if let Stmt::Match(test) = stmt {
-        return match_fails(value_check, plant, test);
-    }
-    match statement_elements(stmt) {
-        None => false,
-        Some(elements) => map_fails(value_check, plant, &elements),
+            Some(elements) => map_fails(value_check, plant, &elements),
+        }
     }
 }
 
@@ -124,10 +147,12 @@ fn elements_fail(
     ensures { result ≡ list_any (fails value_check plant.now)
         (element_ranges (key_types_of kinds.now) (map element_tree elements.now)) }
 {
-    any_fails(
-        elements,
-        |element| key_fails(value_check, plant, kinds, &element.key),
-    )
+    for element in elements {
+        if key_fails(value_check, plant, kinds, &element.key) {
+            return true;
+        }
+    }
+    false
 }
 
 fn key_fails(value_check: ValueCheck, plant: &Plant, kinds: &KeyTypes, key: &Key) -> bool
@@ -164,10 +189,12 @@ fn map_fails(value_check: ValueCheck, plant: &Plant, elements: &Elements) -> boo
     ensures { result ≡ list_any (fails value_check plant.now)
         (map_ranges (elements_tree elements.now)) }
 {
-    any_fails(
-        elements.pairs,
-        |pair| pair_fails(value_check, plant, elements, pair),
-    )
+    for pair in elements.pairs {
+        if pair_fails(value_check, plant, elements, pair) {
+            return true;
+        }
+    }
+    false
 }
 
 fn pair_fails(value_check: ValueCheck, plant: &Plant, elements: &Elements, pair: &Pair) -> bool

@@ -1,4 +1,4 @@
-use Rattle.std.proofs.Common.{rules, sym, ap, map, ◌∙◌}
+use Rattle.std.proofs.Common.{sym, ap, map, ◌∙◌}
 use Rattle.std.specs.List.{list_any}
 use Rattle.nft_tree.specs.Tree.{table_tree}
 use Rattle.rule_values.specs.TypedValues.{maps_in}
@@ -10,4 +10,4 @@ pub returns : goal.returns
 returns c = told c.any_contradicts.result
     (sym (any_flat (map_contradicts c.args.plant.now) maps_in (map table_tree c.deref.result.now))
     ∙ ap (λ ts. list_any (has_contradiction c.args.plant.now) (map table_tree ts)) c.deref.ensures.value)
-    (c.any_contradicts.ensures (map_contradicts c.args.plant.now) maps_in (search rules))
+    c.any_contradicts.ensures

@@ -1,11 +1,8 @@
-use Rattle.std.proofs.Common.{◌≡◌, Bool, false, List, take}
-use Rattle.std.specs.Prelude.{IfOk}
+use Rattle.std.proofs.Common.{◌≡◌, false, take}
 use Rattle.std.specs.List.{list_any}
-use Rattle.rule_values.specs.TypedValues.{TypedMap}
+use Rattle.rule_values.specs.Faults.{map_contradicts}
 use Rattle.rule_values.proofs.contradictions.any_contradicts.Given as goal
 
--- no map of the items before this one contradicts itself
-abbrev pub invariant-loop-item : goal.invariant-loop-item
-invariant-loop-item g l = (contradicts : TypedMap → Bool) (maps : g.T.TreeNode.Tree → List TypedMap)
-    → ((x : _) (r : _) → goal.F-post g l.fn.test x r → IfOk r (λ b. b ≡ list_any contradicts (maps (g.T.TreeNode.tree x.now))))
-    → list_any (λ x. list_any contradicts (maps (g.T.TreeNode.tree x))) (take l.item-index l.items) ≡ false
+-- no map of the parts so far contradicts itself
+abbrev pub invariant-loop-part : goal.invariant-loop-part
+invariant-loop-part g l = list_any (λ x. list_any (map_contradicts l.plant) (g.T.HasMaps.maps_of (g.T.HasMaps.tree x))) (take l.part-index l.parts) ≡ false

@@ -1,13 +1,13 @@
-use Rattle.std.proofs.Common.{rules, ap, map}
+use Rattle.std.proofs.Common.{ap, map}
 use Rattle.std.specs.Prelude.{flat_map}
 use Rattle.std.specs.List.{list_any}
 use Rattle.nft_tree.specs.Tree.{statement}
 use Rattle.rule_values.specs.TypedValues.{statement_maps}
 use Rattle.rule_values.specs.Faults.{map_contradicts}
 use Rattle.rule_values.proofs.Tests.{told}
-use Rattle.rule_values.proofs.contradictions.rule_contradicts.Goals as goal
+use Rattle.rule_values.proofs.contradictions.RuleHasMaps.contradicts.Goals as goal
 
 pub returns : goal.returns
 returns c = told c.any_contradicts.result
     (ap (λ xs. list_any (map_contradicts c.args.plant.now) (flat_map statement_maps (map statement xs))) c.deref.ensures.value)
-    (c.any_contradicts.ensures (map_contradicts c.args.plant.now) statement_maps (search rules))
+    c.any_contradicts.ensures
