@@ -1,5 +1,5 @@
 //! Overlapping map elements with different data.
-ghost use Rattle.std.specs.Prelude.{◌≡◌, flat_map, map, List, IfOk, OnOk};
+ghost use Rattle.std.specs.Prelude.{◌≡◌, [], flat_map, map, List, IfOk, OnOk};
 ghost use Rattle.std.specs.List.{list_any};
 ghost use Rattle.nft_tree.specs.Tree.{ItemTree, RuleTree, Statement, TableTree, item_tree, pair_tree, rule_tree, statement, table_tree};
 ghost use Rattle.rule_values.specs.TypedValues.{TypedMap, item_maps, maps_in, rule_maps, statement_maps};
@@ -125,12 +125,26 @@ fn gather(
 {
     let mut names = IndexSet::new(alloc);
     let mut pairs = Vec::new(alloc);
+    add_entries(&mut names, &mut pairs, plant, elements)?;
+    Ok(pairs)
+}
+
+fn add_entries<'t>(
+    names: &mut IndexSet<&'t [u8]>,
+    pairs: &mut Vec<(Range, ComparableData)>,
+    plant: &Plant,
+    elements: &Elements<'t>,
+) -> Result<(), AllocError>
+    requires { pairs.old.items ≡ [] }
+    ensures { OnOk result (RepresentsEntries pairs.new.items
+        (entries_of plant.now (elements_tree elements.now))) }
+{
     for pair in elements.pairs {
-        if let Some(entry) = entry(&mut names, plant, elements, pair)? {
+        if let Some(entry) = entry(names, plant, elements, pair)? {
             pairs.push(entry)?;
         }
     }
-    Ok(pairs)
+    Ok(())
 }
 
 /// The range of an element's key, and its data; `None` if one of them denotes no number.

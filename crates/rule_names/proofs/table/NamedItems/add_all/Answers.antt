@@ -15,4 +15,6 @@ loop-item-preserved c =
     c.if-not-branch.false (c.in_ok-add.ensures (map item_tree (take c.loop-item.item-index c.args.items.now)) c.loop-item.invariant)
 
 pub returns : goal.returns
-returns c = subst (λ xs. Represents (map item_tree xs) c.loop-item.self) (take_all c.loop-item.item-index c.args.items.now c.loop-item-test.false) c.loop-item.invariant
+returns c =
+    subst (λ xs. Represents (map item_tree xs) c.loop-item.self) (take_all c.loop-item.item-index c.args.items.now c.loop-item-test.false)
+    c.loop-item.invariant

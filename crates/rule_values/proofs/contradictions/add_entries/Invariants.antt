@@ -4,7 +4,7 @@ use Rattle.nft_tree.specs.Tree.{pair_tree}
 use Rattle.rule_values.specs.Faults.{entry_of}
 use Rattle.rule_values.specs.steps.Views.{elements_tree}
 use Rattle.rule_values.specs.steps.MapEntries.{RepresentEach}
-use Rattle.rule_values.proofs.contradictions.gather.Given as goal
+use Rattle.rule_values.proofs.contradictions.add_entries.Given as goal
 
 -- the pairs are those of the elements so far
 abbrev pub invariant-loop-pair : goal.invariant-loop-pair

@@ -5,8 +5,8 @@ use Rattle.nft_tree.specs.Tree.{pair_tree}
 use Rattle.rule_values.specs.Faults.{entry_of}
 use Rattle.rule_values.specs.steps.Views.{elements_tree}
 use Rattle.rule_values.proofs.Entries.{gathered, gathered-all}
-use Rattle.rule_values.proofs.contradictions.gather.Goals as goal
-use Rattle.rule_values.proofs.contradictions.gather.Goals.{in-Some+in_ok-push, in_default}
+use Rattle.rule_values.proofs.contradictions.add_entries.Goals as goal
+use Rattle.rule_values.proofs.contradictions.add_entries.Goals.{in-Some+in_ok-push, in_default}
 
 pub loop-pair-preserved : goal.loop-pair-preserved
 loop-pair-preserved c =
