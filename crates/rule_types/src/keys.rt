@@ -9,7 +9,7 @@ ghost use Rattle.rule_types.specs.Types.{is_too_wide, lookup_mismatches, named_s
 ghost use Rattle.rule_types.specs.steps.Keys.{part_is, shape_mismatches, shape_of};
 
 use crate::compared_types::{compared_type_width, range_mismatches, same_compared_type};
-use nft_tree::{ComparedType, Element, Key, Selector, SetDecl, SetRef, SetType, ValueType, any};
+use nft_tree::{ComparedType, Element, Key, Selector, SetDecl, SetRef, SetType, ValueType};
 use rule_names::TableNames;
 
 /// The greatest width of a concatenation, in bits.
@@ -60,7 +60,12 @@ fn some_key_mismatches(shape: KeyShape, elements: &[Element]) -> bool
     ensures { result ≡ list_any (λ e. shape_mismatches shape e.key)
         (map element_tree elements.now) }
 {
-    any(elements, |element| key_mismatches(shape, &element.key))
+    for element in elements {
+        if key_mismatches(shape, &element.key) {
+            return true;
+        }
+    }
+    false
 }
 
 /// Whether the selectors' types have more than 128 bits together.

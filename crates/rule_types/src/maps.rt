@@ -7,7 +7,7 @@ ghost use Rattle.rule_names.specs.Names.{map_named, set_named};
 ghost use Rattle.rule_types.specs.Types.{data_mismatches, map_mismatches, map_ref_mismatches, named_map_mismatches, pair_mismatches, same_data};
 
 use crate::compared_types::{range_mismatches, same_compared_type};
-use nft_tree::{ComparedType, Data, MapDecl, MapRef, Pair, Selector, any};
+use nft_tree::{ComparedType, Data, MapDecl, MapRef, Pair, Selector};
 use rule_names::TableNames;
 
 /// Whether it is a verdict where a value is wanted, or the reverse. `wanted` is the type of the
@@ -30,7 +30,12 @@ fn pair_mismatches(key: ComparedType, wanted: Option<ComparedType>, pair: &Pair)
 fn some_pair_mismatches(key: ComparedType, wanted: Option<ComparedType>, pairs: &[Pair]) -> bool
     ensures { result ≡ list_any (pair_mismatches key wanted) (map pair_tree pairs.now) }
 {
-    any(pairs, |pair| pair_mismatches(key, wanted, pair))
+    for pair in pairs {
+        if pair_mismatches(key, wanted, pair) {
+            return true;
+        }
+    }
+    false
 }
 
 /// Whether an element of a declared map doesn't match the map's types.
