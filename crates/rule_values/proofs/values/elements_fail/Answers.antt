@@ -8,15 +8,10 @@ use Rattle.rule_values.proofs.values.elements_fail.Goals as goal
 pub loop-element-preserved : goal.loop-element-preserved
 loop-element-preserved c =
     none_here (fails c.args.value_check c.args.plant.now) (λ e. key_ranges (key_types_of c.args.kinds.now) e.key) element_tree
-    c.args.elements.now c.loop-element.element-index c.loop-element.invariant c.element-item.result c.loop-element-test.true c.element-item.is
-    c.if-key_fails.ensures
+    _ _ c.loop-element.invariant c.element-item.result c.loop-element-test.true c.element-item.is c.if-key_fails.ensures
 
 pub returns-then-key_fails : goal.returns-then-key_fails
-returns-then-key_fails c =
-    some_here (fails c.args.value_check c.args.plant.now) (λ e. key_ranges (key_types_of c.args.kinds.now) e.key) element_tree
-    c.args.elements.now c.loop-element.element-index c.element-item.result c.loop-element-test.true c.element-item.is c.if-key_fails.ensures
+returns-then-key_fails c = some_here _ _ _ _ _ c.element-item.result c.loop-element-test.true c.element-item.is c.if-key_fails.ensures
 
 pub returns : goal.returns
-returns c =
-    none_at_all (fails c.args.value_check c.args.plant.now) (λ e. key_ranges (key_types_of c.args.kinds.now) e.key) element_tree
-    c.args.elements.now c.loop-element.element-index c.loop-element.invariant c.loop-element-test.false
+returns c = none_at_all _ _ _ _ _ c.loop-element.invariant c.loop-element-test.false
