@@ -8,7 +8,7 @@ use rule_code::{Action, Instruction, Lookups, Operand, Step, StepList, TableCode
 use rule_index::IndexedTable;
 use rule_meaning::{ChainNo, RuleVerdict, StatementPosition};
 use set_intervals::{Intervals, Range};
-use std::alloc::{AllocError, Global};
+use std::process::Abort;
 
 const CHAINS: u32 = 4;
 
@@ -77,21 +77,37 @@ fn random_compare(random: &mut RandomNumbers, selector: Selector, operator: Oper
     Action::Compare(selector, operator, range)
 }
 
+/// A match of the selectors in a set.
+pub fn in_set<R: Abort + AllocGlobal>(rt: &R, selectors: &[Selector], set: u32) -> Action {
+    Action::InSet(
+        selectors.to_vec(rt.alloc()).expect(rt, "memory"),
+        set as usize,
+    )
+}
+
+/// A match of the selectors outside a set.
+fn not_in_set<R: Abort + AllocGlobal>(rt: &R, selectors: &[Selector], set: u32) -> Action {
+    Action::NotInSet(
+        selectors.to_vec(rt.alloc()).expect(rt, "memory"),
+        set as usize,
+    )
+}
+
 /// A match on more than 32 bits: an interface's name, or a concatenation in a set that no other rule
 /// asks for.
-fn random_wide_match(
-    alloc: Global,
+fn random_wide_match<R: Abort + AllocGlobal>(
+    rt: &R,
     random: &mut RandomNumbers,
     selector: Selector,
     set: u32,
-) -> Result<Action, AllocError> {
-    Ok(match random.below(10) {
+) -> Action {
+    match random.below(10) {
         0..=3 => random_compare(random, Selector::InputName, Operator::Equal),
         4 => random_compare(random, Selector::OutputName, Operator::Equal),
-        5 => Action::InSet(vec![in alloc; Selector::InputName]?, set as usize),
-        6..=8 => Action::InSet(vec![in alloc; selector, Selector::MetaMark]?, set as usize),
-        _ => Action::NotInSet(vec![in alloc; selector, Selector::MetaMark]?, set as usize),
-    })
+        5 => in_set(rt, &[Selector::InputName], set),
+        6..=8 => in_set(rt, &[selector, Selector::MetaMark], set),
+        _ => not_in_set(rt, &[selector, Selector::MetaMark], set),
+    }
 }
 
 /// `selector & mask == number`, by one of few masks, the last of which has more than 32 bits.
@@ -108,27 +124,24 @@ fn random_bits(random: &mut RandomNumbers, selector: Selector) -> Action {
 
 /// The first match of a rule: mostly one of its own values, with overlapping ranges, and else one
 /// that other rules share.
-fn random_match(
-    alloc: Global,
+fn random_match<R: Abort + AllocGlobal>(
+    rt: &R,
     random: &mut RandomNumbers,
     selector: Selector,
-) -> Result<Action, AllocError> {
-    Ok(match random.below(100) {
+) -> Action {
+    match random.below(100) {
         0..=54 => random_compare(random, selector, Operator::Equal),
         55..=62 => {
             let operator = random_operator(random);
             random_compare(random, selector, operator)
         }
-        63..=84 => Action::InSet(vec![in alloc; selector]?, random.below(SETS + 1) as usize),
-        85..=90 => Action::InSet(
-            vec![in alloc; selector, Selector::MetaMark]?,
-            random.below(SETS) as usize,
-        ),
-        91..=92 => Action::NotInSet(vec![in alloc; selector]?, random.below(SETS) as usize),
+        63..=84 => in_set(rt, &[selector], random.below(SETS + 1)),
+        85..=90 => in_set(rt, &[selector, Selector::MetaMark], random.below(SETS)),
+        91..=92 => not_in_set(rt, &[selector], random.below(SETS)),
         93..=94 => random_compare(random, selector, Operator::Unequal),
         95..=97 => random_bits(random, selector),
         _ => Action::BitsUnequal(selector, 3, u128::from(random.below(4))),
-    })
+    }
 }
 
 /// A verdict: one that ends the chain, or a jump or goto to a later chain.
@@ -168,59 +181,63 @@ fn random_mark(random: &mut RandomNumbers) -> Action {
     }
 }
 
-/// The statements after a rule's first match: counters, logs, marks, matches, and a verdict or
-/// none.
-fn random_rest(
-    alloc: Global,
-    random: &mut RandomNumbers,
-    rule: RuleNo,
-    is_plain: bool,
-) -> Result<Vec<Action>, AllocError> {
-    let mut actions = Vec::new(alloc);
-    if is_plain {
-        actions.push(Action::GiveVerdict(random_terminal_verdict(random, rule.chain)))?;
-        return Ok(actions);
-    }
-    for statement in 2..5 {
-        let position = StatementPosition { rule, statement };
-        match random.below(9) {
-            0 => actions.push(Action::Count(position))?,
-            1 => actions.push(Action::Log(position))?,
-            2 | 3 => actions.push(random_mark(random))?,
-            4 => {
-                let selector = random_selector(random);
-                actions.push(Action::Compare(selector, Operator::AtLeast, random.range()))?;
-            }
-            5 => {
-                actions.push(Action::GiveVerdict(random_rule_verdict(random, rule.chain)))?;
-                return Ok(actions);
-            }
-            _ => {}
+/// A statement after a rule's first match: a counter, a log, a mark, a match or a verdict, or none.
+fn random_statement(random: &mut RandomNumbers, position: StatementPosition) -> Option<Action> {
+    match random.below(9) {
+        0 => Some(Action::Count(position)),
+        1 => Some(Action::Log(position)),
+        2 | 3 => Some(random_mark(random)),
+        4 => {
+            let selector = random_selector(random);
+            Some(Action::Compare(selector, Operator::AtLeast, random.range()))
         }
+        5 => Some(Action::GiveVerdict(random_rule_verdict(random, position.rule.chain))),
+        _ => None,
     }
-    Ok(actions)
 }
 
-fn add_rule(
-    alloc: Global,
+/// The statements after a rule's first match, up to a verdict.
+fn random_rest<R: Abort + AllocGlobal>(
+    rt: &R,
+    random: &mut RandomNumbers,
+    rule: RuleNo,
+) -> Vec<Action> {
+    let mut actions = Vec::new(rt.alloc());
+    for statement in 2..5 {
+        if let Some(action) = random_statement(random, StatementPosition { rule, statement }) {
+            let is_last = matches!(action, Action::GiveVerdict(_));
+            actions.push(action).expect(rt, "memory");
+            if is_last {
+                break;
+            }
+        }
+    }
+    actions
+}
+
+/// Adds a statement of a rule; `skip` are left of the rule.
+fn add_statement<R: Abort>(rt: &R, rule: RuleNo, skip: u32, action: Action, steps: &mut StepList) {
+    let instruction = Instruction { rule, skip, action };
+    steps
+        .push(Step::Statement(instruction))
+        .expect(rt, "memory");
+}
+
+/// Adds a rule of this match and any statements.
+fn add_rule<R: Abort + AllocGlobal>(
+    rt: &R,
     random: &mut RandomNumbers,
     rule: RuleNo,
     first: Action,
-    is_plain: bool,
     steps: &mut StepList,
-) -> Result<(), AllocError> {
-    let rest = random_rest(alloc, random, rule, is_plain)?;
+) {
+    let rest = random_rest(rt, random, rule);
     let mut skip = u32::try_from(rest.len()).unwrap_or(u32::MAX);
-    steps.push(Step::Statement(Instruction {
-        rule,
-        skip,
-        action: first,
-    }))?;
+    add_statement(rt, rule, skip, first, steps);
     for action in rest {
         skip = skip.saturating_sub(1);
-        steps.push(Step::Statement(Instruction { rule, skip, action }))?;
+        add_statement(rt, rule, skip, action, steps);
     }
-    Ok(())
 }
 
 /// Consecutive rules of a chain.
@@ -234,20 +251,17 @@ struct Part {
 }
 
 /// The selectors of a part: one alone, or up to eight in any order.
-fn random_selectors(
-    alloc: Global,
-    random: &mut RandomNumbers,
-) -> Result<Vec<Selector>, AllocError> {
+fn random_selectors<R: Abort + AllocGlobal>(rt: &R, random: &mut RandomNumbers) -> Vec<Selector> {
     let many = if random.chance(30) {
         1
     } else {
         2 + random.below(7)
     };
-    let mut selectors = Vec::new(alloc);
+    let mut selectors = Vec::new(rt.alloc());
     for _ in 0..many {
-        selectors.push(random_selector(random))?;
+        selectors.push(random_selector(random)).expect(rt, "memory");
     }
-    Ok(selectors)
+    selectors
 }
 
 /// One of the selectors, and sometimes another.
@@ -261,95 +275,158 @@ fn one_of(random: &mut RandomNumbers, selectors: &[Selector]) -> Selector {
     }
 }
 
-/// Adds the rules of a part.
-fn add_rules(
-    alloc: Global,
-    random: &mut RandomNumbers,
-    part: Part,
-    steps: &mut StepList,
-) -> Result<(), AllocError>
-    requires { part.first < 1000 }
-{
-    let selectors = random_selectors(alloc, random)?;
-    // The percentage of rules of one match and a verdict, which are merged where they are
-    // consecutive.
+/// How the rules of a part are drawn.
+#[derive(Clone, Copy)]
+struct Shares {
+    /// The percentage of rules of one match and a verdict, which are merged where they are
+    /// consecutive.
+    plain: u32,
+    /// The percentage of rules that match on bits under a mask.
+    masked: u32,
+}
+
+fn random_shares(random: &mut RandomNumbers) -> Shares {
     let plain = match random.below(3) {
         0 => 0,
         1 => 60,
         _ => 99,
     };
-    // The percentage of rules that match on bits under a mask.
     let masked = if random.chance(15) { 90 } else { 0 };
-    for number in 0..random.below(MOST_RULES) {
-        let is_plain = random.chance(plain);
-        let selector = one_of(random, &selectors);
-        let rule = RuleNo {
-            table: 0,
-            chain: part.chain,
-            rule: part.first + number,
-        };
-        let first = if part.is_wide && random.chance(98) {
-            random_wide_match(alloc, random, selector, SETS + number)?
-        } else if random.chance(masked) {
-            random_bits(random, selector)
-        } else {
-            random_match(alloc, random, selector)?
-        };
-        add_rule(alloc, random, rule, first, is_plain, steps)?;
+    Shares { plain, masked }
+}
+
+/// The first match of a rule; `number` counts the rules of its part.
+fn random_first<R: Abort + AllocGlobal>(
+    rt: &R,
+    random: &mut RandomNumbers,
+    is_wide: bool,
+    masked: u32,
+    selector: Selector,
+    number: u32,
+) -> Action
+    requires { number < 1000 }
+{
+    if is_wide && random.chance(98) {
+        random_wide_match(rt, random, selector, SETS + number)
+    } else if random.chance(masked) {
+        random_bits(random, selector)
+    } else {
+        random_match(rt, random, selector)
     }
-    Ok(())
+}
+
+/// Adds a rule that begins with one of the selectors; `number` counts the rules of its part.
+fn add_random_rule<R: Abort + AllocGlobal>(
+    rt: &R,
+    random: &mut RandomNumbers,
+    part: Part,
+    shares: Shares,
+    selectors: &[Selector],
+    number: u32,
+    steps: &mut StepList,
+)
+    requires part { part.first < 1000 }
+    requires number { number < 1000 }
+{
+    let is_plain = random.chance(shares.plain);
+    let selector = one_of(random, selectors);
+    let rule = RuleNo {
+        table: 0,
+        chain: part.chain,
+        rule: part.first + number,
+    };
+    let first = random_first(rt, random, part.is_wide, shares.masked, selector, number);
+    if is_plain {
+        add_statement(rt, rule, 1, first, steps);
+        let verdict = random_terminal_verdict(random, rule.chain);
+        add_statement(rt, rule, 0, Action::GiveVerdict(verdict), steps);
+    } else {
+        add_rule(rt, random, rule, first, steps);
+    }
+}
+
+/// Adds the rules of a part.
+fn add_rules<R: Abort + AllocGlobal>(
+    rt: &R,
+    random: &mut RandomNumbers,
+    part: Part,
+    steps: &mut StepList,
+)
+    requires { part.first < 1000 }
+{
+    let selectors = random_selectors(rt, random);
+    let shares = random_shares(random);
+    for number in 0..random.below(MOST_RULES) {
+        add_random_rule(rt, random, part, shares, &selectors, number, steps);
+    }
 }
 
 /// A set, which may be empty; some of its numbers are those of two values of 32 bits.
-fn random_set(alloc: Global, random: &mut RandomNumbers) -> Result<Intervals<()>, AllocError> {
-    let mut pairs = Vec::new(alloc);
+fn random_set<R: Abort + AllocGlobal>(rt: &R, random: &mut RandomNumbers) -> Intervals<()> {
+    let mut pairs = Vec::new(rt.alloc());
     for _ in 0..random.below(5) {
-        pairs.push((random.range(), ()))?;
+        pairs.push((random.range(), ())).expect(rt, "memory");
         let joined = (u128::from(random.number()) << 32) + u128::from(random.number());
         if let Some(range) = Range::new(joined, joined) {
-            pairs.push((range, ()))?;
+            pairs.push((range, ())).expect(rt, "memory");
         }
     }
-    Intervals::first_wins(alloc, &pairs)
+    Intervals::first_wins(rt.alloc(), &pairs).expect(rt, "memory")
 }
 
-fn random_lookups(alloc: Global, random: &mut RandomNumbers) -> Result<Lookups, AllocError> {
-    let mut sets = Vec::new(alloc);
+fn random_lookups<R: Abort + AllocGlobal>(rt: &R, random: &mut RandomNumbers) -> Lookups {
+    let mut sets = Vec::new(rt.alloc());
     for _ in 0..SETS + MOST_RULES {
-        sets.push(random_set(alloc, random)?)?;
+        sets.push(random_set(rt, random)).expect(rt, "memory");
     }
-    Ok(Lookups {
+    lookups_of(rt, sets)
+}
+
+/// Lookups in these sets alone.
+pub fn lookups_of<R: AllocGlobal>(rt: &R, sets: Vec<Intervals<()>>) -> Lookups {
+    Lookups {
         sets,
-        verdicts: Vec::new(alloc),
-        numbers: Vec::new(alloc),
-    })
+        verdicts: Vec::new(rt.alloc()),
+        numbers: Vec::new(rt.alloc()),
+    }
+}
+
+/// Adds a chain of three parts.
+fn add_chain<R: Abort + AllocGlobal>(
+    rt: &R,
+    random: &mut RandomNumbers,
+    chain: u32,
+    is_wide: bool,
+    steps: &mut StepList,
+) {
+    for number in 0..3 {
+        let part = Part {
+            chain,
+            first: number * 100,
+            is_wide: number == 0 && is_wide,
+        };
+        add_rules(rt, random, part, steps);
+    }
+    steps.push(Step::EndOfChain).expect(rt, "memory");
 }
 
 /// A table whose chains jump to later ones only. In most the first rules match on more than 32
 /// bits.
-fn random_table(alloc: Global, random: &mut RandomNumbers) -> Result<TableCode, AllocError> {
-    let lookups = random_lookups(alloc, random)?;
-    let mut steps = StepList::new(alloc);
-    let mut chain_offsets = Vec::new(alloc);
+fn random_table<R: Abort + AllocGlobal>(rt: &R, random: &mut RandomNumbers) -> TableCode {
+    let lookups = random_lookups(rt, random);
+    let mut steps = StepList::new(rt.alloc());
+    let mut chain_offsets = Vec::new(rt.alloc());
     let is_wide = random.chance(60);
     for chain in 0..CHAINS {
-        chain_offsets.push(steps.list().len())?;
-        for number in 0..3 {
-            let part = Part {
-                chain,
-                first: number * 100,
-                is_wide: chain == 0 && number == 0 && is_wide,
-            };
-            add_rules(alloc, random, part, &mut steps)?;
-        }
-        steps.push(Step::EndOfChain)?;
+        chain_offsets.push(steps.list().len()).expect(rt, "memory");
+        add_chain(rt, random, chain, chain == 0 && is_wide, &mut steps);
     }
-    Ok(TableCode {
+    TableCode {
         steps,
         chain_offsets,
         lookups,
         dropped: 0,
-    })
+    }
 }
 
 /// A base chain, whose cost may be less than its rules need.
@@ -371,14 +448,22 @@ pub fn random_start(random: &mut RandomNumbers) -> Start
 }
 
 /// The code of a ruleset of one table.
-pub fn random_code(alloc: Global, random: &mut RandomNumbers) -> Result<Code, AllocError> {
-    let table = IndexedTable::new(alloc, random_table(alloc, random)?)?;
-    Ok(Code {
-        tables: vec![in alloc; table]?,
-        prerouting: Vec::new(alloc),
-        input: Vec::new(alloc),
-        forward: Vec::new(alloc),
-        output: Vec::new(alloc),
-        postrouting: Vec::new(alloc),
-    })
+pub fn random_code<R: Abort + AllocGlobal>(rt: &R, random: &mut RandomNumbers) -> Code {
+    let table = random_table(rt, random);
+    code_of(rt, table)
+}
+
+/// The code of a table alone, with indexes.
+pub fn code_of<R: Abort + AllocGlobal>(rt: &R, table: TableCode) -> Code {
+    let table = IndexedTable::new(rt.alloc(), table).expect(rt, "memory");
+    let mut tables = Vec::new(rt.alloc());
+    tables.push(table).expect(rt, "memory");
+    Code {
+        tables,
+        prerouting: Vec::new(rt.alloc()),
+        input: Vec::new(rt.alloc()),
+        forward: Vec::new(rt.alloc()),
+        output: Vec::new(rt.alloc()),
+        postrouting: Vec::new(rt.alloc()),
+    }
 }

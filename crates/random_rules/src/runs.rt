@@ -7,13 +7,11 @@ use crate::rules::{random_code, random_start};
 use filter_vm::{Code, Events, Start, run};
 use nft_tree::{Policy, RuleNo};
 use rule_meaning::{ChainNo, ChainResult, CtFacts, Event, Facts, HookVerdict, StatementPosition};
-use std::alloc::{AllocError, Global};
 use std::process::Abort;
-use std::test::Fail;
 
 const RULESETS: u64 = 300;
 
-const PACKETS: usize = 8;
+const PACKETS: u32 = 8;
 
 /// The fewest rulesets that have an index.
 const FEWEST_INDEXED: u64 = 200;
@@ -71,13 +69,22 @@ fn connection_mark(facts: &Facts) -> Option<u32> {
     }
 }
 
-/// The result of a packet.
-#[derive(Drop)]
+/// The result of a packet, beside its events.
+#[derive(Clone, Copy)]
 struct RunResult {
     end: ChainResult,
-    events: Vec<Event>,
     /// How many statements were started.
     ticks: u64,
+}
+
+fn are_same_events(some: &[Event], others: &[Event]) -> bool {
+    for index in 0..some.len() {
+        match others.get(index) {
+            Some(other) if is_same_event(some[index], *other) => {}
+            _ => return false,
+        }
+    }
+    some.len() == others.len()
 }
 
 fn is_same_result(one: &RunResult, other: &RunResult) -> bool {
@@ -85,98 +92,87 @@ fn is_same_result(one: &RunResult, other: &RunResult) -> bool {
         && one.end.facts.mark == other.end.facts.mark
         && connection_mark(&one.end.facts) == connection_mark(&other.end.facts)
         && one.ticks == other.ticks
-        && one.events.len() == other.events.len()
-        && one
-            .events
-            .iter()
-            .zip(other.events.iter())
-            .all(|(one, other)| is_same_event(*one, *other))
 }
 
-fn run_one(
-    alloc: Global,
-    code: &Code,
-    start: Start,
-    facts: &Facts,
-    events: &mut Events,
-) -> Result<RunResult, AllocError>
+fn run_one(code: &Code, start: Start, facts: &Facts, events: &mut Events) -> RunResult
     requires { start.cost ≤ 65536 }
 {
     events.clear();
     let before = events.ticks();
     let end = run(code, start, facts, events);
-    Ok(RunResult {
+    RunResult {
         end,
-        events: Vec::from_slice(alloc, events.list())?,
         ticks: events.ticks().saturating_sub(before),
-    })
+    }
 }
 
-/// The results of these packets, one by one.
-fn run_all(
-    alloc: Global,
-    code: &Code,
+/// Whether the packet has the same result with the code's indexes and without.
+fn is_same(
+    indexed: &Code,
+    linear: &Code,
     start: Start,
-    packets: &[Facts],
+    facts: &Facts,
     events: &mut Events,
-) -> Result<Vec<RunResult>, AllocError>
+    others: &mut Events,
+) -> bool
     requires { start.cost ≤ 65536 }
 {
-    let mut results = Vec::new(alloc);
-    for facts in packets {
-        results.push(run_one(alloc, code, start, facts, events)?)?;
-    }
-    Ok(results)
+    let one = run_one(indexed, start, facts, events);
+    let other = run_one(linear, start, facts, others);
+    is_same_result(&one, &other) && are_same_events(events.list(), others.list())
 }
 
-fn random_packets(alloc: Global, random: &mut RandomNumbers) -> Result<Vec<Facts>, AllocError> {
-    let mut packets = Vec::new(alloc);
+/// Fails with the ruleset's seed if it isn't right.
+fn check<R: Abort>(rt: &R, seed: u64, is_right: bool) {
+    assert!(rt; is_right, "ruleset {seed}");
+}
+
+/// Random packets have the same results with the code's indexes and without.
+fn agree<R: Abort + AllocGlobal>(
+    rt: &R,
+    indexed: &Code,
+    linear: &Code,
+    start: Start,
+    random: &mut RandomNumbers,
+    seed: u64,
+)
+    requires { start.cost ≤ 65536 }
+{
+    let mut events = Events::new(rt.alloc()).expect(rt, "memory");
+    let mut others = Events::new(rt.alloc()).expect(rt, "memory");
     for _ in 0..PACKETS {
-        packets.push(random_facts(random))?;
+        let facts = random_facts(random);
+        let is_same = is_same(indexed, linear, start, &facts, &mut events, &mut others);
+        check(rt, seed, is_same);
     }
-    Ok(packets)
 }
 
-/// Whether the results are the same, packet by packet.
-fn are_same(indexed: &[RunResult], linear: &[RunResult]) -> bool {
-    indexed.len() == linear.len()
-        && indexed
-            .iter()
-            .zip(linear.iter())
-            .all(|(one, other)| is_same_result(one, other))
-}
-
-/// Whether packets have the same results with indexes and without; none is left for the second run.
-fn agrees(
-    alloc: Global,
-    code: &mut Code,
-    start: Start,
-    packets: &[Facts],
-    events: &mut Events,
-) -> Result<bool, AllocError>
-    requires { start.cost ≤ 65536 }
-{
-    let indexed = run_all(alloc, code, start, packets, events)?;
-    for table in &mut code.tables {
+/// The code of the ruleset of this seed, without indexes.
+fn linear_code<R: Abort + AllocGlobal>(rt: &R, seed: u64) -> Code {
+    let mut code = random_code(rt, &mut RandomNumbers::new(seed));
+    if let Some(table) = code.tables.first_mut() {
         table.drop_indexes();
     }
-    let linear = run_all(alloc, code, start, packets, events)?;
-    Ok(code.size().tables == 0 && are_same(&indexed, &linear))
+    check(rt, seed, code.size().tables == 0);
+    code
+}
+
+/// The ruleset of this seed gives packets the same results with its indexes and without; whether it
+/// has any.
+fn is_indexed<R: Abort + AllocGlobal>(rt: &R, seed: u64) -> bool {
+    let mut random = RandomNumbers::new(seed);
+    let indexed = random_code(rt, &mut random);
+    let start = random_start(&mut random);
+    let linear = linear_code(rt, seed);
+    agree(rt, &indexed, &linear, start, &mut random, seed);
+    indexed.size().tables > 0
 }
 
 #[test]
-fn indexed_rules_run_as_linear_rules(rt: HostRuntime) -> Result<(), Fail> {
-    let mut events = Events::new(rt.alloc())?;
+fn indexed_rules_run_as_linear_rules(rt: HostRuntime) {
     let mut indexed: u64 = 0;
     for seed in 0..RULESETS {
-        let mut random = RandomNumbers::new(seed);
-        let mut code = random_code(rt.alloc(), &mut random)?;
-        let start = random_start(&mut random);
-        let packets = random_packets(rt.alloc(), &mut random)?;
-        indexed = indexed.saturating_add(u64::from(code.size().tables > 0));
-        let is_same = agrees(rt.alloc(), &mut code, start, &packets, &mut events)?;
-        assert!(&rt; is_same, "ruleset {seed}");
+        indexed = indexed.saturating_add(u64::from(is_indexed(&rt, seed)));
     }
     assert!(&rt; indexed >= FEWEST_INDEXED, "only {indexed} have indexes");
-    Ok(())
 }

@@ -1,16 +1,14 @@
 //! How many indexes code has, and how many rules are merged.
+use crate::rules::{code_of, in_set, lookups_of};
 use filter_vm::{Code, Events, Start, run};
 use ip_headers::Transport;
 use nft_tree::{MarkField, Operator, Policy, RuleNo, Selector};
-use rule_code::{Action, Instruction, Lookups, Operand, Step, StepList, TableCode};
-use rule_index::IndexedTable;
+use rule_code::{Action, Instruction, Operand, Step, StepList, TableCode};
 use rule_meaning::{
     ChainNo, CtFacts, Event, Facts, HookVerdict, Interface, Packet, RuleVerdict, StatementPosition,
 };
 use set_intervals::{Intervals, Range};
-use std::alloc::{AllocError, Global};
 use std::process::Abort;
-use std::test::Fail;
 
 /// A statement of a rule.
 #[derive(Clone, Copy)]
@@ -117,8 +115,8 @@ fn compare(selector: Selector, operator: Operator, low: u32, span: u32) -> Actio
     }
 }
 
-fn action(alloc: Global, statement: Statement, number: u32) -> Result<Action, AllocError> {
-    Ok(match statement {
+fn action<R: Abort + AllocGlobal>(rt: &R, statement: Statement, number: u32) -> Action {
+    match statement {
         Statement::Source(operator, low, span) => {
             compare(Selector::IpSource, operator, low, span)
         }
@@ -126,7 +124,7 @@ fn action(alloc: Global, statement: Statement, number: u32) -> Result<Action, Al
             let low = u32::from_be_bytes([10, octet, 0, 0]);
             compare(Selector::IpSource, Operator::Equal, low, 0xffff)
         }
-        Statement::NoSource => Action::InSet(vec![in alloc; Selector::IpSource]?, 0),
+        Statement::NoSource => in_set(rt, &[Selector::IpSource], 0),
         Statement::Marked => compare(Selector::MetaMark, Operator::Equal, 1, 0),
         Statement::Mark => Action::SetMark(MarkField::Meta, Operand::Number(1)),
         Statement::Counter => Action::Count(StatementPosition {
@@ -134,67 +132,71 @@ fn action(alloc: Global, statement: Statement, number: u32) -> Result<Action, Al
             statement: 1,
         }),
         Statement::GiveVerdict(rule_verdict) => Action::GiveVerdict(rule_verdict),
-    })
+    }
+}
+
+/// Adds a statement of a rule; `skip` are left of the rule.
+fn add_step<R: Abort>(rt: &R, number: u32, skip: u32, action: Action, steps: &mut StepList) {
+    let instruction = Instruction {
+        rule: rule(number),
+        skip,
+        action,
+    };
+    steps
+        .push(Step::Statement(instruction))
+        .expect(rt, "memory");
 }
 
 /// Adds the steps of a rule.
-fn add_rule(
-    alloc: Global,
+fn add_rule<R: Abort + AllocGlobal>(
+    rt: &R,
     statements: &[Statement],
     number: u32,
     steps: &mut StepList,
-) -> Result<(), AllocError> {
+) {
     let mut skip = u32::try_from(statements.len()).unwrap_or(u32::MAX);
     for &statement in statements {
         skip = skip.saturating_sub(1);
-        let action = action(alloc, statement, number)?;
-        steps.push(Step::Statement(Instruction {
-            rule: rule(number),
-            skip,
-            action,
-        }))?;
+        add_step(rt, number, skip, action(rt, statement, number), steps);
     }
-    Ok(())
 }
 
-/// The steps of a chain with these rules.
-fn steps(alloc: Global, rules: &[&[Statement]]) -> Result<StepList, AllocError> {
-    let mut steps = StepList::new(alloc);
+/// The code of a chain with these rules; set 0 is empty.
+fn code_of_rules<R: Abort + AllocGlobal>(rt: &R, rules: &[&[Statement]]) -> Code {
+    let mut steps = StepList::new(rt.alloc());
     let mut number: u32 = 0;
     for statements in rules {
-        add_rule(alloc, statements, number, &mut steps)?;
+        add_rule(rt, statements, number, &mut steps);
         number = number.saturating_add(1);
     }
-    steps.push(Step::EndOfChain)?;
-    Ok(steps)
+    steps.push(Step::EndOfChain).expect(rt, "memory");
+    code_of_steps(rt, steps)
 }
 
-/// The chain, alone in its table.
-fn table(alloc: Global, rules: &[&[Statement]]) -> Result<IndexedTable, AllocError> {
-    let lookups = Lookups {
-        sets: vec![in alloc; Intervals::first_wins(alloc, &[])?]?,
-        verdicts: Vec::new(alloc),
-        numbers: Vec::new(alloc),
-    };
-    let code = TableCode {
-        steps: steps(alloc, rules)?,
-        chain_offsets: vec![in alloc; 0]?,
-        lookups,
+/// The code of these steps as a chain alone in its table; set 0 is empty.
+fn code_of_steps<R: Abort + AllocGlobal>(rt: &R, steps: StepList) -> Code {
+    let mut sets = Vec::new(rt.alloc());
+    add_set(rt, &[], &mut sets);
+    code_with(rt, steps, sets)
+}
+
+/// Adds a set of these ranges.
+fn add_set<R: Abort + AllocGlobal>(rt: &R, ranges: &[(Range, ())], sets: &mut Vec<Intervals<()>>) {
+    let set = Intervals::first_wins(rt.alloc(), ranges).expect(rt, "memory");
+    sets.push(set).expect(rt, "memory");
+}
+
+/// The code of these steps as a chain alone in its table, with these sets.
+fn code_with<R: Abort + AllocGlobal>(rt: &R, steps: StepList, sets: Vec<Intervals<()>>) -> Code {
+    let mut chain_offsets = Vec::new(rt.alloc());
+    chain_offsets.push(0).expect(rt, "memory");
+    let table = TableCode {
+        steps,
+        chain_offsets,
+        lookups: lookups_of(rt, sets),
         dropped: 0,
     };
-    IndexedTable::new(alloc, code)
-}
-
-/// The code of a table alone.
-fn code_of(alloc: Global, table: IndexedTable) -> Result<Code, AllocError> {
-    Ok(Code {
-        tables: vec![in alloc; table]?,
-        prerouting: Vec::new(alloc),
-        input: Vec::new(alloc),
-        forward: Vec::new(alloc),
-        output: Vec::new(alloc),
-        postrouting: Vec::new(alloc),
-    })
+    code_of(rt, table)
 }
 
 fn from(source: u32) -> Facts {
@@ -219,11 +221,7 @@ fn from(source: u32) -> Facts {
 }
 
 /// The number of the rule whose verdict a packet from the address has, and whether it is dropped.
-fn first_verdict(
-    alloc: Global,
-    code: &Code,
-    source: u32,
-) -> Result<(Option<u32>, bool), AllocError> {
+fn first_verdict<R: Abort + AllocGlobal>(rt: &R, code: &Code, source: u32) -> (Option<u32>, bool) {
     let start = Start {
         chain: ChainNo { table: 0, chain: 0 },
         policy: Policy::Accept,
@@ -231,43 +229,54 @@ fn first_verdict(
         is_nat: false,
         cost: 1000,
     };
-    let mut events = Events::new(alloc)?;
+    let mut events = Events::new(rt.alloc()).expect(rt, "memory");
     let end = run(code, start, &from(source), &mut events);
     let verdict_rule = match events.list().first() {
         Some(Event::TookVerdict(rule, _)) => Some(rule.rule),
         _ => None,
     };
-    Ok((verdict_rule, matches!(end.verdict, HookVerdict::Dropped)))
+    (verdict_rule, matches!(end.verdict, HookVerdict::Dropped))
 }
 
 /// Whether the packets have the verdicts of the row.
-fn has_verdicts(
-    alloc: Global,
-    code: &Code,
-    packets: &[ExpectedVerdict],
-) -> Result<bool, AllocError> {
+fn has_verdicts<R: Abort + AllocGlobal>(rt: &R, code: &Code, packets: &[ExpectedVerdict]) -> bool {
     for &(source, rule, is_dropped) in packets {
-        let (verdict_rule, dropped) = first_verdict(alloc, code, source)?;
+        let (verdict_rule, dropped) = first_verdict(rt, code, source);
         if verdict_rule != rule || dropped != is_dropped {
-            return Ok(false);
+            return false;
         }
     }
-    Ok(true)
+    true
+}
+
+/// Fails with the row's number if it isn't right.
+fn check_row<R: Abort>(rt: &R, row: usize, is_right: bool) {
+    assert!(rt; is_right, "row {row}");
+}
+
+/// Fails with the row's number if its packets aren't right.
+fn check_packets<R: Abort>(rt: &R, row: usize, are_right: bool) {
+    assert!(rt; are_right, "packets of row {row}");
+}
+
+/// Whether the code has these steps, indexes and merged rules.
+fn has_size(code: &Code, wanted: [usize; 3]) -> bool {
+    let size = code.size();
+    [size.steps, size.tables, size.merged] == wanted
+}
+
+/// The code of a row has its size, and gives its packets their verdicts.
+fn is_right<R: Abort + AllocGlobal>(rt: &R, number: usize, row: &Row) {
+    let code = code_of_rules(rt, row.0);
+    check_row(rt, number, has_size(&code, row.1));
+    check_packets(rt, number, has_verdicts(rt, &code, row.2));
 }
 
 #[test]
-fn rules_are_merged(rt: HostRuntime) -> Result<(), Fail> {
-    for (number, (rules, wanted, packets)) in ROWS.iter().enumerate() {
-        let code = code_of(rt.alloc(), table(rt.alloc(), rules)?)?;
-        let size = code.size();
-        let counted = [size.steps, size.tables, size.merged];
-        assert!(&rt; counted == *wanted, "row {number}");
-        assert!(&rt;
-            has_verdicts(rt.alloc(), &code, packets)?,
-            "packets of row {number}"
-        );
+fn rules_are_merged(rt: HostRuntime) {
+    for number in 0..ROWS.len() {
+        is_right(&rt, number, &ROWS[number]);
     }
-    Ok(())
 }
 
 /// Eight selectors, in each of whose values some rules match.
@@ -286,78 +295,54 @@ static EIGHT: [Selector; 8] = [
 const RULES: u32 = 64;
 
 /// A rule of a match and a verdict.
-fn add_match(action: Action, number: u32, steps: &mut StepList) -> Result<(), AllocError> {
-    steps.push(Step::Statement(Instruction {
-        rule: rule(number),
-        skip: 1,
-        action,
-    }))?;
-    steps.push(Step::Statement(Instruction {
-        rule: rule(number),
-        skip: 0,
-        action: Action::GiveVerdict(RuleVerdict::Drop),
-    }))
+fn add_match<R: Abort>(rt: &R, action: Action, number: u32, steps: &mut StepList) {
+    add_step(rt, number, 1, action, steps);
+    add_step(rt, number, 0, Action::GiveVerdict(RuleVerdict::Drop), steps);
 }
 
 /// A chain of rules in turn of eight selectors and of the set 0.
-fn many_selectors(alloc: Global) -> Result<IndexedTable, AllocError> {
-    let mut steps = StepList::new(alloc);
+fn many_selectors<R: Abort + AllocGlobal>(rt: &R) -> StepList {
+    let mut steps = StepList::new(rt.alloc());
     for number in 0..RULES {
         let selector = EIGHT[(number % 8) as usize];
         add_match(
+            rt,
             compare(selector, Operator::Equal, number, 0),
             number,
             &mut steps,
-        )?;
-        let set = Action::InSet(vec![in alloc; Selector::InputName]?, 0);
-        add_match(set, number, &mut steps)?;
+        );
+        add_match(
+            rt,
+            in_set(rt, &[Selector::InputName], 0),
+            number,
+            &mut steps,
+        );
     }
-    indexed(alloc, steps)
+    steps
 }
 
 /// A chain of 40 rules `tcp flags & 0x3f == N drop`.
-fn masked_flags(alloc: Global) -> Result<IndexedTable, AllocError> {
-    let mut steps = StepList::new(alloc);
+fn masked_flags<R: Abort + AllocGlobal>(rt: &R) -> StepList {
+    let mut steps = StepList::new(rt.alloc());
     for number in 0..40 {
         let flags = Action::BitsEqual(Selector::TcpFlags, 0x3f, u128::from(number));
-        add_match(flags, number, &mut steps)?;
+        add_match(rt, flags, number, &mut steps);
     }
-    indexed(alloc, steps)
-}
-
-/// The steps of a chain, alone in its table, with indexes.
-fn indexed(alloc: Global, steps: StepList) -> Result<IndexedTable, AllocError> {
-    IndexedTable::new(
-        alloc,
-        TableCode {
-            steps,
-            chain_offsets: vec![in alloc; 0]?,
-            lookups: Lookups {
-                sets: vec![in alloc; Intervals::first_wins(alloc, &[])?]?,
-                verdicts: Vec::new(alloc),
-                numbers: Vec::new(alloc),
-            },
-            dropped: 0,
-        },
-    )
+    steps
 }
 
 /// One index for each selector, and one for the set that the other rules share.
 #[test]
-fn a_run_has_an_index_for_each_selector(rt: HostRuntime) -> Result<(), Fail> {
-    let alloc = rt.alloc();
-    let code = code_of(alloc, many_selectors(alloc)?)?;
+fn a_run_has_an_index_for_each_selector(rt: HostRuntime) {
+    let code = code_of_steps(&rt, many_selectors(&rt));
     assert!(&rt; code.size().tables == 9, "indexes");
-    Ok(())
 }
 
 /// One index for all rules that ask for bits under one mask.
 #[test]
-fn masked_flags_are_indexed(rt: HostRuntime) -> Result<(), Fail> {
-    let alloc = rt.alloc();
-    let code = code_of(alloc, masked_flags(alloc)?)?;
+fn masked_flags_are_indexed(rt: HostRuntime) {
+    let code = code_of_steps(&rt, masked_flags(&rt));
     assert!(&rt; code.size().tables == 1, "indexes");
-    Ok(())
 }
 
 fn one_number(number: u128) -> Range {
@@ -367,44 +352,34 @@ fn one_number(number: u128) -> Range {
     }
 }
 
-/// A chain of rules in turn of an interface's name and of a concatenation, each with a value of its
-/// own.
-fn wide_rules(alloc: Global) -> Result<IndexedTable, AllocError> {
-    let mut steps = StepList::new(alloc);
-    let mut sets = Vec::new(alloc);
+/// Rules in turn of an interface's name and of a concatenation, each with a value of its own.
+fn wide_rules<R: Abort + AllocGlobal>(rt: &R) -> StepList {
+    let mut steps = StepList::new(rt.alloc());
     for number in 0..RULES {
         let name = one_number(u128::from(number + 1) << 100);
         let named = Action::Compare(Selector::InputName, Operator::Equal, name);
-        add_match(named, 2 * number, &mut steps)?;
-        // The source address `number` and the mark 0.
-        let pairs = [(one_number(u128::from(number) << 32), ())];
-        sets.push(Intervals::first_wins(alloc, &pairs)?)?;
-        let selectors = vec![in alloc; Selector::IpSource, Selector::MetaMark]?;
-        let joined = Action::InSet(selectors, number as usize);
-        add_match(joined, 2 * number + 1, &mut steps)?;
+        add_match(rt, named, 2 * number, &mut steps);
+        let joined = in_set(rt, &[Selector::IpSource, Selector::MetaMark], number);
+        add_match(rt, joined, 2 * number + 1, &mut steps);
     }
-    IndexedTable::new(
-        alloc,
-        TableCode {
-            steps,
-            chain_offsets: vec![in alloc; 0]?,
-            lookups: Lookups {
-                sets,
-                verdicts: Vec::new(alloc),
-                numbers: Vec::new(alloc),
-            },
-            dropped: 0,
-        },
-    )
+    steps
+}
+
+/// The sets of the concatenations: the source address `number` and the mark 0.
+fn wide_sets<R: Abort + AllocGlobal>(rt: &R) -> Vec<Intervals<()>> {
+    let mut sets = Vec::new(rt.alloc());
+    for number in 0..RULES {
+        let ranges = [(one_number(u128::from(number) << 32), ())];
+        add_set(rt, &ranges, &mut sets);
+    }
+    sets
 }
 
 /// One index for all names, and one for all concatenations of two selectors.
 #[test]
-fn names_and_concatenations_are_indexed(rt: HostRuntime) -> Result<(), Fail> {
-    let alloc = rt.alloc();
-    let code = code_of(alloc, wide_rules(alloc)?)?;
+fn names_and_concatenations_are_indexed(rt: HostRuntime) {
+    let code = code_with(&rt, wide_rules(&rt), wide_sets(&rt));
     assert!(&rt; code.size().tables == 2, "indexes");
     let verdicts = [(5, Some(11), true), (RULES, None, false)];
-    assert!(&rt; has_verdicts(alloc, &code, &verdicts)?, "packets");
-    Ok(())
+    assert!(&rt; has_verdicts(&rt, &code, &verdicts), "packets");
 }
