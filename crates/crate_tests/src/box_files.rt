@@ -1,7 +1,7 @@
 //! What is found in box files. Refused box files are tested with the built program.
 use crate::support::check_row;
 use box_file::Plant;
-use std::alloc::{AllocError, Global};
+use std::alloc::Global;
 use std::process::Abort;
 
 /// Two interfaces and a default route.
@@ -50,11 +50,9 @@ fn limits_of(plant: &Plant) -> [u32; 5] {
 }
 
 /// Whether a box that has these lines too has these limits.
-fn has_limits(alloc: Global, lines: &[u8], wanted: [u32; 5]) -> bool {
-    let Ok(text) = [TWO, lines].concat(alloc) else {
-        return false;
-    };
-    match Plant::read(alloc, &text) {
+fn has_limits<R: Abort + AllocGlobal>(rt: &R, lines: &[u8], wanted: [u32; 5]) -> bool {
+    let text = [TWO, lines].concat(rt.alloc()).expect(rt, "memory");
+    match Plant::read(rt.alloc(), &text) {
         Ok(plant) => limits_of(&plant) == wanted,
         Err(_) => false,
     }
@@ -63,20 +61,22 @@ fn has_limits(alloc: Global, lines: &[u8], wanted: [u32; 5]) -> bool {
 /// Each kind has the limit of its line, or else the default.
 #[test]
 fn idle_limits_are_read(rt: HostRuntime) {
-    for (row, (lines, wanted)) in IDLE_LIMITS.iter().enumerate() {
-        check_row(&rt, row, has_limits(rt.alloc(), lines, *wanted));
+    for row in 0..IDLE_LIMITS.len() {
+        let (lines, wanted) = IDLE_LIMITS[row];
+        check_row(&rt, row, has_limits(&rt, lines, wanted));
     }
 }
 
 /// A box with the greatest number of routes, to different addresses.
-fn many_routes(alloc: Global) -> Result<String, AllocError> {
-    let mut text = String::from_str(alloc, "interface 1 e1 192.168.1.1/24\ndefault e1\n")?;
+fn many_routes<R: Abort + AllocGlobal>(rt: &R) -> String {
+    let beginning = "interface 1 e1 192.168.1.1/24\ndefault e1\n";
+    let mut text = String::from_str(rt.alloc(), beginning).expect(rt, "memory");
     for index in 0..1024u32 {
         let third = index / 256;
         let fourth = index % 256;
-        writeln!(text, "route 10.0.{third}.{fourth}/32 e1")?;
+        writeln!(text, "route 10.0.{third}.{fourth}/32 e1").expect(rt, "memory");
     }
-    Ok(text)
+    text
 }
 
 /// An address, the output interface of its route, and the interface that has the address.
@@ -125,8 +125,8 @@ fn is_known(plant: &Plant, expected: &Reachability) -> bool {
 
 /// Checks all rows on the box.
 fn knows<R: Abort>(rt: &R, plant: &Plant, rows: &[Reachability]) {
-    for (row, expected) in rows.iter().enumerate() {
-        check_row(rt, row, is_known(plant, expected));
+    for row in 0..rows.len() {
+        check_row(rt, row, is_known(plant, &rows[row]));
     }
 }
 
@@ -141,7 +141,7 @@ fn finds<R: Abort + AllocGlobal>(rt: &R, text: &[u8], rows: &[Reachability]) {
 fn routes_and_owners_are_found(rt: HostRuntime) {
     finds(&rt, TWO, &REACHED_BY_TWO);
     finds(&rt, SEVERAL, &REACHED_BY_SEVERAL);
-    let many = many_routes(rt.alloc()).expect(&rt, "a text");
+    let many = many_routes(&rt);
     finds(&rt, many.as_bytes(), &REACHED_BY_MANY);
 }
 
@@ -180,7 +180,7 @@ fn names(alloc: Global, row: &Named<'_>) -> bool {
 
 #[test]
 fn interfaces_are_found_by_their_names(rt: HostRuntime) {
-    for (row, named) in NAMES.iter().enumerate() {
-        check_row(&rt, row, names(rt.alloc(), named));
+    for row in 0..NAMES.len() {
+        check_row(&rt, row, names(rt.alloc(), &NAMES[row]));
     }
 }

@@ -2,10 +2,10 @@
 ghost use Rattle.std.specs.Prelude.{◌≤◌, length};
 
 use crate::support::{bytes, check_row, repeated};
-use hex::FromHexError;
 use pcap_io::{Calls, Capture, CaptureError, CaptureFault, Counted, Failing, Leaving, Sink, Slow};
 use std::alloc::Global;
 use std::io::{Read, Write};
+use std::process::Abort;
 
 /// Magic a1b2c3d4 (microseconds), version 2.4, LINKTYPE_RAW.
 const HEADER: &str = "d4c3b2a1020004000000000000000000ffff000065000000";
@@ -32,28 +32,33 @@ fn count_until_fault<I: Read>(
     Ok(9)
 }
 
-/// The same; `None` if a fault isn't reported again, or leaves a record.
-fn count_repeatedly<I: Read>(
+/// Whether a fault is reported again, and leaves no record.
+fn is_repeated<I: Read>(
     capture: &mut Capture,
     reader: &mut Counted<I>,
-) -> Option<Result<u64, CaptureError>> {
-    let answer = count_until_fault(capture, reader);
-    if let Err(error) = answer {
-        if capture.next(reader) != Err(error) || capture.record().is_some() {
-            return None;
+    answer: Result<u64, CaptureError>,
+) -> bool {
+    match answer {
+        Ok(_) => true,
+        Err(fault) => {
+            matches!(capture.next(reader), Err(again) if again == fault)
+                && capture.record().is_none()
         }
     }
-    Some(answer)
 }
 
-/// The same after opening the capture.
-fn count_records<I: Read>(
+/// Whether that is the answer after opening the capture, and a fault is reported again.
+fn answers<I: Read>(
     alloc: Global,
     reader: &mut Counted<I>,
-) -> Option<Result<u64, CaptureError>> {
+    wanted: Result<u64, CaptureError>,
+) -> bool {
     match Capture::open(alloc, reader) {
-        Ok(mut capture) => count_repeatedly(&mut capture, reader),
-        Err(error) => Some(Err(error)),
+        Ok(mut capture) => {
+            count_until_fault(&mut capture, reader) == wanted
+                && is_repeated(&mut capture, reader, wanted)
+        }
+        Err(fault) => wanted == Err(fault),
     }
 }
 
@@ -117,67 +122,63 @@ static ROWS: [Row; 23] = [
 
 /// Puts these bytes in the place of those at an offset.
 fn put(capture: &mut [u8], offset: usize, replacement: &[u8]) {
-    for (old, new) in capture.iter_mut().skip(offset).zip(replacement) {
-        *old = *new;
-    }
-}
-
-/// The capture with the row's change.
-fn changed(alloc: Global, row: &Row) -> Result<Vec<u8>, FromHexError> {
-    let mut capture = bytes(alloc, &[HEADER, AT_1_5, PLAIN, EARLIER])?;
-    put(&mut capture, row.0, row.1);
-    capture.resize(row.2, b'x')?;
-    Ok(capture)
-}
-
-/// Whether the changed capture has as many records as the row says, or its fault.
-fn is_counted(alloc: Global, row: &Row) -> bool {
-    match changed(alloc, row) {
-        Ok(capture) => {
-            count_records(alloc, &mut Counted::new(capture.as_slice())) == Some(row.3)
+    for index in 0..replacement.len() {
+        if let Some(old) = capture.get_mut(offset.saturating_add(index)) {
+            *old = replacement[index];
         }
-        Err(_) => false,
     }
+}
+
+/// Whether the capture with the row's change has as many records as the row says, or its fault.
+fn is_counted<R: Abort + AllocGlobal>(rt: &R, row: &Row) -> bool {
+    let mut capture = bytes(rt, &[HEADER, AT_1_5, PLAIN, EARLIER]);
+    put(&mut capture, row.0, row.1);
+    capture.resize(row.2, b'x').expect(rt, "memory");
+    answers(rt.alloc(), &mut Counted::new(capture.as_slice()), row.3)
 }
 
 #[test]
 fn records_are_counted_or_refused(rt: HostRuntime) {
-    for (number, row) in ROWS.iter().enumerate() {
-        check_row(&rt, number, is_counted(rt.alloc(), row));
+    for row in 0..ROWS.len() {
+        check_row(&rt, row, is_counted(&rt, &ROWS[row]));
     }
 }
 
-/// The answer if this read of 9 bytes fails, and the number of calls.
-fn read_slowly(
+/// Whether that is the answer over reads of 9 bytes of which one fails, and the number of calls.
+fn answers_slowly(
     alloc: Global,
     capture: &[u8],
     fails: usize,
-) -> (Option<Result<u64, CaptureError>>, u64) {
+    wanted: Result<u64, CaptureError>,
+    calls: u64,
+) -> bool {
     let slow = Slow::new(capture, 9);
     let mut reader = Counted::new(Calls::new(Failing::new(slow, fails)));
-    let answer = count_records(alloc, &mut reader);
-    (answer, reader.into_inner().calls())
+    answers(alloc, &mut reader, wanted) && reader.into_inner().calls() == calls
 }
 
 /// Whether the answer is that of the read of this number, which fails. 112 bytes take 13 reads, and
 /// one more sees the end.
-fn is_reported(alloc: Global, fails: u8) -> bool {
-    let wanted = if fails < 14 {
-        (Some(Err(CaptureError::Device)), u64::from(fails) + 1)
+fn is_reported(alloc: Global, capture: &[u8], fails: u8) -> bool {
+    let number = usize::from(fails);
+    if fails < 14 {
+        let calls = u64::from(fails) + 1;
+        answers_slowly(alloc, capture, number, Err(CaptureError::Device), calls)
     } else {
-        (Some(Ok(2)), 14)
-    };
-    match bytes(alloc, &[HEADER, AT_1_5, PLAIN, AT_1_5, PLAIN]) {
-        Ok(capture) => read_slowly(alloc, &capture, usize::from(fails)) == wanted,
-        Err(_) => false,
+        answers_slowly(alloc, capture, number, Ok(2), 14)
     }
 }
 
 /// If a read fails, that is the answer, and the answer from then on; nothing is read again.
 #[test]
 fn a_failed_read_is_reported_again(rt: HostRuntime) {
+    let capture = bytes(&rt, &[HEADER, AT_1_5, PLAIN, AT_1_5, PLAIN]);
     for fails in 0..15u8 {
-        check_row(&rt, usize::from(fails), is_reported(rt.alloc(), fails));
+        check_row(
+            &rt,
+            usize::from(fails),
+            is_reported(rt.alloc(), &capture, fails),
+        );
     }
 }
 
@@ -215,33 +216,31 @@ fn fills(sink: &mut Sink, writer: &mut Counted<Failing<Vec<u8>>>, packet: &[u8])
 }
 
 /// Whether the write for the packet without room fails, once, and all others are written after it.
-fn keeps_packets(writer: &mut Counted<Failing<Vec<u8>>>, packet: &[u8], alloc: Global) -> bool
+fn keeps_packets<R: Abort + AllocGlobal>(
+    rt: &R,
+    writer: &mut Counted<Failing<Vec<u8>>>,
+    packet: &[u8],
+) -> bool
     requires { length packet.now ≤ 65535 }
 {
-    match Sink::open(alloc, writer) {
-        Ok(mut sink) => {
-            fills(&mut sink, writer, packet)
-                && writer.failures() == 1
-                && sink.finish(writer).is_ok()
-        }
-        Err(_) => false,
-    }
+    let mut sink = Sink::open(rt.alloc(), writer).expect(rt, "a write");
+    fills(&mut sink, writer, packet) && writer.failures() == 1 && sink.finish(writer).is_ok()
 }
 
 /// Whether that is so, and these bytes are written.
-fn survives(alloc: Global, packet: &[u8], wanted: &[u8]) -> bool
+fn survives<R: Abort + AllocGlobal>(rt: &R, packet: &[u8], wanted: &[u8]) -> bool
     requires { length packet.now ≤ 65535 }
 {
-    let mut writer = Counted::new(Failing::new(Vec::new(alloc), 1));
-    let is_kept = keeps_packets(&mut writer, packet, alloc);
+    let mut writer = Counted::new(Failing::new(Vec::new(rt.alloc()), 1));
+    let is_kept = keeps_packets(rt, &mut writer, packet);
     is_kept && writer.into_inner().into_inner().as_slice() == wanted
 }
 
 /// A failed flush of the buffer loses no packet.
 #[test]
 fn buffered_packets_survive_a_failed_put(rt: HostRuntime) {
-    let wanted = repeated(rt.alloc(), &OUT_HEADER, &RECORD, WAITING, b"").expect(&rt, "memory");
-    check_row(&rt, 0, survives(rt.alloc(), &RECORD[36..], &wanted));
+    let wanted = repeated(&rt, &OUT_HEADER, &RECORD, WAITING, b"");
+    check_row(&rt, 0, survives(&rt, &RECORD[36..], &wanted));
 }
 
 /// Whether the call of this number fails alone, of six writes and flushes in turn.

@@ -3,7 +3,7 @@ use crate::support::{check_row, code_of, repeated};
 use filter_vm::Code;
 use nft_tree::{Hook, Operator, Selector};
 use rule_code::{Action, Step};
-use std::alloc::Global;
+use std::process::Abort;
 
 /// Two interfaces and a default route.
 const BOX: &[u8] = b"interface 2 lan 192.168.1.1/24
@@ -21,15 +21,13 @@ struct CodeFacts {
 }
 
 /// What is asked of the ruleset's code on this box; `None` if it is refused.
-fn facts_of(alloc: Global, rules: &[u8]) -> Option<CodeFacts> {
-    match code_of(alloc, rules, BOX) {
-        Some(code) => Some(CodeFacts {
-            forward_cost: forward_cost(&code),
-            element: only_element(&code),
-            names: names_compared(&code),
-        }),
-        None => None,
-    }
+fn facts_of<R: Abort + AllocGlobal>(rt: &R, rules: &[u8]) -> Option<CodeFacts> {
+    let code = code_of(rt, rules, BOX)?;
+    Some(CodeFacts {
+        forward_cost: forward_cost(&code),
+        element: only_element(&code),
+        names: names_compared(&code),
+    })
 }
 
 /// The cost of the base chain on forward, if there is one of them.
@@ -69,19 +67,17 @@ fn names_compared(code: &Code) -> Option<(u128, u128)> {
 }
 
 /// The cost of a base chain of one rule with this many statements; `None` if it is refused.
-fn cost_of(alloc: Global, statements: usize) -> Option<u32> {
+fn cost_of<R: Abort + AllocGlobal>(rt: &R, statements: usize) -> Option<u32> {
     let head = b"table ip t { chain fwd { type filter hook forward priority 0; ";
-    match repeated(alloc, head, b"counter ", statements, b"} }") {
-        Ok(rules) => facts_of(alloc, &rules)?.forward_cost,
-        Err(_) => None,
-    }
+    let rules = repeated(rt, head, b"counter ", statements, b"} }");
+    facts_of(rt, &rules)?.forward_cost
 }
 
 /// As many statements as a ruleset may have, and one more.
 #[test]
 fn a_chain_costs_one_more_than_its_statements(rt: HostRuntime) {
-    check_row(&rt, 0, cost_of(rt.alloc(), 65_535) == Some(65_536));
-    check_row(&rt, 1, cost_of(rt.alloc(), 65_536).is_none());
+    check_row(&rt, 0, cost_of(&rt, 65_535) == Some(65_536));
+    check_row(&rt, 1, cost_of(&rt, 65_536).is_none());
 }
 
 /// A concatenation's number has its parts' bits, the first part highest: here an address and a port.
@@ -89,7 +85,7 @@ fn a_chain_costs_one_more_than_its_statements(rt: HostRuntime) {
 fn an_element_of_two_parts_is_one_number(rt: HostRuntime) {
     let rules = b"table ip t { chain fwd { type filter hook forward priority 0;
 ip daddr . udp dport { 198.51.100.7 . 53 } accept } }";
-    let facts = facts_of(rt.alloc(), rules).expect(&rt, "code");
+    let facts = facts_of(&rt, rules).expect(&rt, "code");
     check_row(&rt, 0, facts.element == Some(0xc633_6407_0035));
 }
 
@@ -120,8 +116,9 @@ static NAMES: [(&[u8], (u128, u128)); 3] = [
 
 #[test]
 fn interface_names_are_numbers(rt: HostRuntime) {
-    for (row, &(rules, numbers)) in NAMES.iter().enumerate() {
-        let facts = facts_of(rt.alloc(), rules).expect(&rt, "code");
+    for row in 0..NAMES.len() {
+        let (rules, numbers) = NAMES[row];
+        let facts = facts_of(&rt, rules).expect(&rt, "code");
         check_row(&rt, row, facts.names == Some(numbers));
     }
 }

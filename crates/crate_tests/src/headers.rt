@@ -2,9 +2,8 @@
 ghost use Rattle.std.specs.Prelude.{◌<◌};
 
 use crate::support::{PACKET, bytes, check_length, check_row};
-use hex::FromHexError;
 use ip_headers::{Endpoint, HeaderFault, Kind, Transport, Tuple, View, ones_sum};
-use std::alloc::{AllocError, Global};
+use std::process::Abort;
 
 /// The first is the example of RFC 1071, section 3.
 static SUMS: [(&[u8], u16); 5] = [
@@ -17,7 +16,8 @@ static SUMS: [(&[u8], u16); 5] = [
 
 #[test]
 fn sums(rt: HostRuntime) {
-    for (row, &(words, sum)) in SUMS.iter().enumerate() {
+    for row in 0..SUMS.len() {
+        let (words, sum) = SUMS[row];
         check_row(&rt, row, ones_sum(words) == sum);
     }
 }
@@ -25,9 +25,9 @@ fn sums(rt: HostRuntime) {
 /// The sum by the C code of RFC 1071, section 4.1.
 fn plain_sum(bytes: &[u8]) -> u16 {
     let mut sum = 0u32;
-    for (index, byte) in bytes.iter().enumerate() {
+    for index in 0..bytes.len() {
         let weight = if index % 2 == 0 { 256 } else { 1 };
-        sum = sum.wrapping_add(u32::from(*byte) * weight);
+        sum = sum.wrapping_add(u32::from(bytes[index]) * weight);
     }
     let folded = (sum & 0xffff).wrapping_add(sum >> 16);
     (folded & 0xffff).wrapping_add(folded >> 16) as u16
@@ -83,9 +83,9 @@ fn reads_in_place(rt: HostRuntime) {
 }
 
 /// The first fault of a packet in hexadecimal digits.
-fn first_fault(alloc: Global, packet: &str) -> Result<Option<HeaderFault>, FromHexError> {
-    let packet = hex::decode(alloc, packet)?;
-    Ok(View::read(&packet).err())
+fn first_fault<R: Abort + AllocGlobal>(rt: &R, packet: &str) -> Option<HeaderFault> {
+    let packet = bytes(rt, &[packet]);
+    View::read(&packet).err()
 }
 
 /// Truncated packets with their first faults. Then GRE packets without a payload, each header test
@@ -191,8 +191,9 @@ static FAULTS: [(&str, Option<HeaderFault>); 27] = [
 
 #[test]
 fn first_faults(rt: HostRuntime) {
-    for (row, (packet, fault)) in FAULTS.iter().enumerate() {
-        check_row(&rt, row, first_fault(rt.alloc(), *packet) == Ok(*fault));
+    for row in 0..FAULTS.len() {
+        let (packet, fault) = FAULTS[row];
+        check_row(&rt, row, first_fault(&rt, packet) == fault);
     }
 }
 
@@ -208,19 +209,16 @@ static WORDS: [(HeaderFault, &str); 8] = [
 ];
 
 /// Whether the fault is displayed as this word.
-fn is_displayed_as(alloc: Global, fault: HeaderFault, word: &str) -> Result<bool, AllocError> {
-    let text = format!(in alloc; "{fault}")?;
-    Ok(text.as_str() == word)
+fn is_displayed_as<R: Abort + AllocGlobal>(rt: &R, fault: HeaderFault, word: &str) -> bool {
+    let text = format!(in rt.alloc(); "{fault}").expect(rt, "memory");
+    text.as_str() == word
 }
 
 #[test]
 fn faults_are_displayed(rt: HostRuntime) {
-    for (row, (fault, word)) in WORDS.iter().enumerate() {
-        check_row(
-            &rt,
-            row,
-            is_displayed_as(rt.alloc(), *fault, word) == Ok(true),
-        );
+    for row in 0..WORDS.len() {
+        let (fault, word) = WORDS[row];
+        check_row(&rt, row, is_displayed_as(&rt, fault, word));
     }
 }
 
@@ -238,23 +236,19 @@ fn header(protocol: u8, length: u8) -> [u8; 20] {
 }
 
 /// Fills the payload with zeros, and puts nine bytes of padding after it.
-fn pad(payload: &mut Vec<u8>, length: usize) -> Result<(), AllocError>
+fn pad<R: Abort>(rt: &R, payload: &mut Vec<u8>, length: usize)
     requires { length < 1000 }
 {
-    payload.resize(length, 0)?;
-    payload.resize(length + 9, 0xff)
+    payload.resize(length, 0).expect(rt, "memory");
+    payload.resize(length + 9, 0xff).expect(rt, "memory");
 }
 
 /// A packet whose payload has this beginning and then zeros; after its end there is padding.
-fn packet(
-    alloc: Global,
-    protocol: u8,
-    beginning: &[&str],
-    length: u8,
-) -> Result<Vec<u8>, FromHexError> {
-    let mut payload = bytes(alloc, beginning)?;
-    pad(&mut payload, usize::from(length))?;
-    Ok([&header(protocol, length), payload.as_slice()].concat(alloc)?)
+fn packet<R: Abort + AllocGlobal>(rt: &R, protocol: u8, beginning: &[&str], length: u8) -> Vec<u8> {
+    let mut payload = bytes(rt, beginning);
+    pad(rt, &mut payload, usize::from(length));
+    let whole = [&header(protocol, length), payload.as_slice()].concat(rt.alloc());
+    whole.expect(rt, "memory")
 }
 
 /// A tuple's kind and its two ports.
@@ -358,45 +352,28 @@ static PAYLOADS: [Payload; 11] = [
     },
 ];
 
-/// A packet's protocol, its transport header, and the kind and ports of its tuple.
-type Found = (u8, Transport, Option<(Kind, u16, u16)>);
-
-/// What is read of a packet, or its fault.
-fn found(packet: &[u8]) -> Result<Found, HeaderFault> {
-    let view = View::read(packet)?;
-    Ok((
-        view.protocol(),
-        view.transport(),
-        kind_and_ports(view.tuple()),
-    ))
+/// Whether the view has this protocol, transport header, kind and ports.
+fn has(view: &View, payload: &Payload) -> bool {
+    view.protocol() == payload.protocol
+        && view.transport() == payload.transport
+        && kind_and_ports(view.tuple()) == payload.kind_and_ports
 }
 
-/// The expected answer.
-fn wanted(payload: &Payload, length: u8) -> Result<Found, HeaderFault> {
-    match payload.least {
-        Some(least) if least <= length => Ok((
-            payload.protocol,
-            payload.transport,
-            payload.kind_and_ports,
-        )),
-        _ => Err(HeaderFault::Transport),
-    }
-}
-
-/// Each payload at each length: valid, or with a fault.
-/// Whether a packet with a payload of this length is read as expected.
-fn fits(alloc: Global, payload: &Payload, length: u8) -> bool {
-    match packet(alloc, payload.protocol, &[payload.beginning], length) {
-        Ok(packet) => found(&packet) == wanted(payload, length),
-        Err(_) => false,
+/// Whether a packet with a payload of this length is read as expected: valid, or with a fault.
+fn fits<R: Abort + AllocGlobal>(rt: &R, payload: &Payload, length: u8) -> bool {
+    let packet = packet(rt, payload.protocol, &[payload.beginning], length);
+    let is_valid = matches!(payload.least, Some(least) if least <= length);
+    match View::read(&packet) {
+        Ok(view) => is_valid && has(&view, payload),
+        Err(fault) => !is_valid && fault == HeaderFault::Transport,
     }
 }
 
 #[test]
 fn payloads_fit_their_protocol(rt: HostRuntime) {
-    for (row, payload) in PAYLOADS.iter().enumerate() {
+    for row in 0..PAYLOADS.len() {
         for length in 0..64u8 {
-            check_length(&rt, row, length, fits(rt.alloc(), payload, length));
+            check_length(&rt, row, length, fits(&rt, &PAYLOADS[row], length));
         }
     }
 }
@@ -458,19 +435,8 @@ static MESSAGES: [Message; 15] = [
     ("03", ["44", "0000", "11", "00351388"], None),
 ];
 
-/// Whether the message's embedded datagram is of this kind with these ports, or there is none; and
-/// whether it is an error, if it has to be one.
-fn reads_inner_tuple(
-    packet: &[u8],
-    is_error: bool,
-    wanted: Option<(Kind, u16, u16)>,
-) -> Result<bool, HeaderFault> {
-    let view = View::read(packet)?;
-    Ok(kind_and_ports(view.inner_tuple()) == wanted && (view.is_error() || !is_error))
-}
-
 /// The message with this many bytes of the datagram, whose total length, TTL and checksum are wrong.
-fn message(alloc: Global, row: &Message, length: u8) -> Result<Vec<u8>, FromHexError> {
+fn message<R: Abort + AllocGlobal>(rt: &R, row: &Message, length: u8) -> Vec<u8> {
     let [first, flags, protocol, rest] = row.1;
     let payload = [
         row.0,
@@ -483,7 +449,7 @@ fn message(alloc: Global, row: &Message, length: u8) -> Result<Vec<u8>, FromHexE
         "0000c6336407c0a8010a",
         rest,
     ];
-    packet(alloc, 1, &payload, 8u8.saturating_add(length))
+    packet(rt, 1, &payload, 8u8.saturating_add(length))
 }
 
 /// The kind and ports of a datagram of which this many bytes are embedded, if they are enough.
@@ -494,11 +460,14 @@ fn wanted_of(row: &Message, length: u8) -> Option<(Kind, u16, u16)> {
     }
 }
 
-/// Whether this many bytes of the datagram are read as expected.
-fn reads_inner_tuple_at(alloc: Global, row: &Message, length: u8) -> bool {
-    match message(alloc, row, length) {
-        Ok(packet) => {
-            reads_inner_tuple(&packet, row.2.is_some(), wanted_of(row, length)) == Ok(true)
+/// Whether of this many bytes of the datagram the kind and ports are read as expected, and the
+/// message is an error if it has to be one.
+fn reads_inner_tuple<R: Abort + AllocGlobal>(rt: &R, row: &Message, length: u8) -> bool {
+    let message = message(rt, row, length);
+    match View::read(&message) {
+        Ok(view) => {
+            kind_and_ports(view.inner_tuple()) == wanted_of(row, length)
+                && (view.is_error() || row.2.is_none())
         }
         Err(_) => false,
     }
@@ -506,13 +475,13 @@ fn reads_inner_tuple_at(alloc: Global, row: &Message, length: u8) -> bool {
 
 #[test]
 fn icmp_errors_have_inner_tuples(rt: HostRuntime) {
-    for (number, row) in MESSAGES.iter().enumerate() {
+    for row in 0..MESSAGES.len() {
         for length in 0..40u8 {
             check_length(
                 &rt,
-                number,
+                row,
                 length,
-                reads_inner_tuple_at(rt.alloc(), row, length),
+                reads_inner_tuple(&rt, &MESSAGES[row], length),
             );
         }
     }

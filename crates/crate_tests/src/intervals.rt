@@ -1,7 +1,8 @@
 //! Interval tables: built, counted and searched.
 use crate::support::check_row;
 use set_intervals::{Intervals, Range, SetError};
-use std::alloc::{AllocError, Global};
+use std::alloc::Global;
+use std::process::Abort;
 
 const MOST: u128 = u128::MAX;
 
@@ -14,14 +15,14 @@ struct Row {
 }
 
 /// The ranges with their values.
-fn pairs(alloc: Global, ranges: &[(u128, u128, u32)]) -> Result<Vec<(Range, u32)>, AllocError> {
-    let mut pairs = Vec::new(alloc);
+fn pairs<R: Abort + AllocGlobal>(rt: &R, ranges: &[(u128, u128, u32)]) -> Vec<(Range, u32)> {
+    let mut pairs = Vec::new(rt.alloc());
     for &(low, high, value) in ranges {
         if let Some(range) = Range::new(low, high) {
-            pairs.push((range, value))?;
+            pairs.push((range, value)).expect(rt, "memory");
         }
     }
-    Ok(pairs)
+    pairs
 }
 
 /// Whether the table has this number of runs, and these values.
@@ -109,17 +110,15 @@ fn is_first(alloc: Global, pairs: &[(Range, u32)], row: &Row) -> bool {
 }
 
 /// Whether both have.
-fn are_both(alloc: Global, row: &Row) -> bool {
-    match pairs(alloc, row.ranges) {
-        Ok(pairs) => is_built(alloc, &pairs, row) && is_first(alloc, &pairs, row),
-        Err(_) => false,
-    }
+fn are_both(alloc: Global, pairs: &[(Range, u32)], row: &Row) -> bool {
+    is_built(alloc, pairs, row) && is_first(alloc, pairs, row)
 }
 
 #[test]
 fn tables_have_what_their_ranges_say(rt: HostRuntime) {
-    for (number, row) in ROWS.iter().enumerate() {
-        check_row(&rt, number, are_both(rt.alloc(), row));
+    for row in 0..ROWS.len() {
+        let pairs = pairs(&rt, ROWS[row].ranges);
+        check_row(&rt, row, are_both(rt.alloc(), &pairs, &ROWS[row]));
     }
 }
 
@@ -148,21 +147,21 @@ fn is_clash(alloc: Global, pairs: &[(Range, u32)]) -> bool {
 
 #[test]
 fn the_first_range_with_a_number_wins(rt: HostRuntime) {
-    let pairs = pairs(rt.alloc(), LAYERS.ranges).expect(&rt, "ranges");
+    let pairs = pairs(&rt, LAYERS.ranges);
     check_row(&rt, 0, is_first(rt.alloc(), &pairs, &LAYERS));
     check_row(&rt, 1, is_clash(rt.alloc(), &pairs));
 }
 
 /// 60,000 ranges sixteen apart, unsorted.
-fn many_pairs(alloc: Global) -> Result<Vec<(Range, u32)>, AllocError> {
-    let mut pairs = Vec::new(alloc);
+fn many_pairs<R: Abort + AllocGlobal>(rt: &R) -> Vec<(Range, u32)> {
+    let mut pairs = Vec::new(rt.alloc());
     for number in 0..60_000u32 {
         let low = u128::from(number.wrapping_mul(7919) % 60_000) * 16;
         if let Some(range) = Range::new(low, low + 3) {
-            pairs.push((range, number % 7))?;
+            pairs.push((range, number % 7)).expect(rt, "memory");
         }
     }
-    Ok(pairs)
+    pairs
 }
 
 /// What both tables have of them. The range from 16 on is that of number 37,679.
@@ -174,7 +173,7 @@ static MANY: Row = Row {
 
 #[test]
 fn many_ranges_make_a_table(rt: HostRuntime) {
-    let pairs = many_pairs(rt.alloc()).expect(&rt, "ranges");
+    let pairs = many_pairs(&rt);
     check_row(&rt, 0, is_built(rt.alloc(), &pairs, &MANY));
     check_row(&rt, 1, is_first(rt.alloc(), &pairs, &MANY));
 }

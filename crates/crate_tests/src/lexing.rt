@@ -2,6 +2,7 @@
 use crate::support::{check_row, repeated};
 use nft_lexer::{LexError, LexFault, Punctuator, Token, TokenKind, lex};
 use std::alloc::Global;
+use std::process::Abort;
 
 /// The kind of a token, with its value.
 #[derive(Clone, Copy)]
@@ -93,9 +94,10 @@ fn is_expected(token: &Token, wanted: &ExpectedToken) -> bool {
 
 /// Whether these are exactly the expected tokens.
 fn are_expected(tokens: &[Token], wanted: &[ExpectedToken]) -> bool {
-    for (token, expected) in tokens.iter().zip(wanted) {
-        if !is_expected(token, expected) {
-            return false;
+    for index in 0..tokens.len() {
+        match wanted.get(index) {
+            Some(expected) if is_expected(&tokens[index], expected) => {}
+            _ => return false,
         }
     }
     tokens.len() == wanted.len()
@@ -111,7 +113,8 @@ fn lexes_to(alloc: Global, text: &[u8], wanted: &[ExpectedToken]) -> bool {
 
 #[test]
 fn texts_are_lexed(rt: HostRuntime) {
-    for (row, (text, wanted)) in LEXED.iter().enumerate() {
+    for row in 0..LEXED.len() {
+        let (text, wanted) = LEXED[row];
         check_row(&rt, row, lexes_to(rt.alloc(), text, wanted));
     }
 }
@@ -158,17 +161,18 @@ fn is_punctuator(alloc: Global, text: &[u8], mark: Punctuator) -> bool {
 
 #[test]
 fn punctuators_are_told_apart(rt: HostRuntime) {
-    for (row, &(text, mark)) in PUNCTUATORS.iter().enumerate() {
+    for row in 0..PUNCTUATORS.len() {
+        let (text, mark) = PUNCTUATORS[row];
         check_row(&rt, row, is_punctuator(rt.alloc(), text, mark));
     }
 }
 
-/// The number of the text's tokens, or its fault; `None` if there was no memory.
-fn count(alloc: Global, text: &[u8]) -> Option<Result<usize, LexFault>> {
+/// Whether the text has as many tokens, or this fault.
+fn counts(alloc: Global, text: &[u8], wanted: Result<usize, LexFault>) -> bool {
     match lex(alloc, text) {
-        Ok(tokens) => Some(Ok(tokens.len())),
-        Err(LexError::Refused(fault)) => Some(Err(fault)),
-        Err(LexError::Memory) => None,
+        Ok(tokens) => wanted == Ok(tokens.len()),
+        Err(LexError::Refused(fault)) => wanted == Err(fault),
+        Err(LexError::Memory) => false,
     }
 }
 
@@ -202,8 +206,9 @@ static FAULTS: [(&[u8], Result<usize, LexFault>); 13] = [
 
 #[test]
 fn first_faults_are_reported(rt: HostRuntime) {
-    for (row, (text, wanted)) in FAULTS.iter().enumerate() {
-        check_row(&rt, row, count(rt.alloc(), text) == Some(*wanted));
+    for row in 0..FAULTS.len() {
+        let (text, wanted) = FAULTS[row];
+        check_row(&rt, row, counts(rt.alloc(), text, wanted));
     }
 }
 
@@ -231,17 +236,15 @@ static LONG: [Long; 4] = [
 ];
 
 /// Whether the text has as many tokens as the row says, or its fault.
-fn is_counted(alloc: Global, row: &Long) -> bool {
+fn is_counted<R: Abort + AllocGlobal>(rt: &R, row: &Long) -> bool {
     let (beginning, piece, times, end, wanted) = *row;
-    match repeated(alloc, beginning, piece, times, end) {
-        Ok(text) => count(alloc, &text) == Some(wanted),
-        Err(_) => false,
-    }
+    let text = repeated(rt, beginning, piece, times, end);
+    counts(rt.alloc(), &text, wanted)
 }
 
 #[test]
 fn long_texts_are_lexed(rt: HostRuntime) {
-    for (number, row) in LONG.iter().enumerate() {
-        check_row(&rt, number, is_counted(rt.alloc(), row));
+    for row in 0..LONG.len() {
+        check_row(&rt, row, is_counted(&rt, &LONG[row]));
     }
 }

@@ -173,8 +173,8 @@ fn answers_all<R: Abort>(rt: &R, mut table: Mappings, calls: &[Call])
     requires short { length calls.now < 1000 }
     requires few { (m : Mapped) → holders_of m table.held ≤ 0 }
 {
-    for (number, call) in calls.iter().enumerate() {
-        check_row(rt, number, answers(&mut table, call, number));
+    for number in 0..calls.len() {
+        check_row(rt, number, answers(&mut table, &calls[number], number));
     }
 }
 

@@ -7,7 +7,7 @@ use filter_vm::{Code, Events, Start, run};
 use ip_headers::Transport;
 use nft_tree::Hook;
 use rule_meaning::{CtFacts, Event, Facts, HookVerdict, Interface, Packet};
-use std::alloc::Global;
+use std::process::Abort;
 
 /// An interface, and a route to all.
 const BOX: &[u8] = b"interface 2 lan 192.168.1.1/24
@@ -144,21 +144,29 @@ fn takes_verdict(code: &Code, start: Start, wanted: &ExpectedVerdict, events: &m
 }
 
 /// Whether a packet has the verdict.
-fn has_verdict(alloc: Global, code: &Code, start: Start, wanted: &ExpectedVerdict) -> bool
+fn has_verdict<R: Abort + AllocGlobal>(
+    rt: &R,
+    code: &Code,
+    start: Start,
+    wanted: &ExpectedVerdict,
+) -> bool
     requires { start.cost ≤ 1000 }
 {
-    match Events::new(alloc) {
-        Ok(mut events) => takes_verdict(code, start, wanted, &mut events),
-        Err(_) => false,
-    }
+    let mut events = Events::new(rt.alloc()).expect(rt, "memory");
+    takes_verdict(code, start, wanted, &mut events)
 }
 
 /// Whether a packet from each address has the verdict.
-fn has_verdicts(alloc: Global, code: &Code, start: Start, wanted: &[ExpectedVerdict]) -> bool
+fn has_verdicts<R: Abort + AllocGlobal>(
+    rt: &R,
+    code: &Code,
+    start: Start,
+    wanted: &[ExpectedVerdict],
+) -> bool
     requires { start.cost ≤ 1000 }
 {
     for verdict in wanted {
-        if !has_verdict(alloc, code, start, verdict) {
+        if !has_verdict(rt, code, start, verdict) {
             return false;
         }
     }
@@ -172,17 +180,17 @@ fn has_size(code: &Code, wanted: [usize; 3]) -> bool {
 }
 
 /// Whether the code and the packets' verdicts are as the row says.
-fn is_right(alloc: Global, code: &Code, row: &Row) -> bool {
+fn is_right<R: Abort + AllocGlobal>(rt: &R, code: &Code, row: &Row) -> bool {
     match forward(code) {
-        Some(start) => has_size(code, row.1) && has_verdicts(alloc, code, start, row.2),
+        Some(start) => has_size(code, row.1) && has_verdicts(rt, code, start, row.2),
         None => false,
     }
 }
 
 /// Whether the ruleset's code is.
-fn is_compiled(alloc: Global, row: &Row) -> bool {
-    match code_of(alloc, row.0, BOX) {
-        Some(code) => is_right(alloc, &code, row),
+fn is_compiled<R: Abort + AllocGlobal>(rt: &R, row: &Row) -> bool {
+    match code_of(rt, row.0, BOX) {
+        Some(code) => is_right(rt, &code, row),
         None => false,
     }
 }
@@ -191,7 +199,7 @@ fn is_compiled(alloc: Global, row: &Row) -> bool {
 /// `golden_runs`.
 #[test]
 fn rules_are_merged_and_dropped(rt: HostRuntime) {
-    for (number, row) in ROWS.iter().enumerate() {
-        check_row(&rt, number, is_compiled(rt.alloc(), row));
+    for row in 0..ROWS.len() {
+        check_row(&rt, row, is_compiled(&rt, &ROWS[row]));
     }
 }

@@ -84,8 +84,8 @@ fn answers(pool: &mut Pool, call: &Call) -> bool {
 
 /// Makes the calls one after another.
 fn answers_all<R: Abort>(rt: &R, pool: &mut Pool, calls: &[Call]) {
-    for (row, call) in calls.iter().enumerate() {
-        check_row(rt, row, answers(pool, call));
+    for row in 0..calls.len() {
+        check_row(rt, row, answers(pool, &calls[row]));
     }
 }
 

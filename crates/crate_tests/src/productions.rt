@@ -3,20 +3,14 @@ use crate::support::check_row;
 use nft_lexer::{Token, lex};
 use nft_rules::{anysel, elems, pairs, rule};
 use nft_tree::Selector;
-use std::alloc::Global;
 use std::process::Abort;
 
 /// The position after a rule, the number of its statements, and whether it has a comment.
 type RuleAt = Option<(usize, usize, bool)>;
 
-fn rule_at(alloc: Global, tokens: &[Token], at: usize) -> Option<RuleAt> {
-    match rule(alloc, tokens, at) {
-        Ok(Some((rule, end))) => {
-            Some(Some((end, rule.statements.len(), rule.comment.is_some())))
-        }
-        Ok(None) => Some(None),
-        Err(_) => None,
-    }
+fn rule_at<R: Abort + AllocGlobal>(rt: &R, tokens: &[Token], at: usize) -> RuleAt {
+    let (found, end) = rule(rt.alloc(), tokens, at).expect(rt, "memory")?;
+    Some((end, found.statements.len(), found.comment.is_some()))
 }
 
 static RULES: [(usize, RuleAt); 4] = [(1, None), (2, Some((11, 3, true))), (12, None), (40, None)];
@@ -24,7 +18,7 @@ static RULES: [(usize, RuleAt); 4] = [(1, None), (2, Some((11, 3, true))), (12, 
 /// Checks all rows on the tokens.
 fn reads_rules<R: Abort + AllocGlobal>(rt: &R, tokens: &[Token]) {
     for &(at, wanted) in &RULES {
-        check_row(rt, at, rule_at(rt.alloc(), tokens, at) == Some(wanted));
+        check_row(rt, at, rule_at(rt, tokens, at) == wanted);
     }
 }
 
@@ -38,20 +32,14 @@ fn a_rule_is_read_up_to_its_end(rt: HostRuntime) {
 /// The position of a list's closing brace, and the list's length.
 type ListAt = Option<(usize, usize)>;
 
-fn list_at(alloc: Global, tokens: &[Token], at: usize) -> Option<ListAt> {
-    match elems(alloc, tokens, at) {
-        Ok(Some((found, brace))) => Some(Some((brace, found.len()))),
-        Ok(None) => Some(None),
-        Err(_) => None,
-    }
+fn list_at<R: Abort + AllocGlobal>(rt: &R, tokens: &[Token], at: usize) -> ListAt {
+    let (found, brace) = elems(rt.alloc(), tokens, at).expect(rt, "memory")?;
+    Some((brace, found.len()))
 }
 
-fn pairs_at(alloc: Global, tokens: &[Token], at: usize) -> Option<ListAt> {
-    match pairs(alloc, tokens, at) {
-        Ok(Some((found, brace))) => Some(Some((brace, found.len()))),
-        Ok(None) => Some(None),
-        Err(_) => None,
-    }
+fn pairs_at<R: Abort + AllocGlobal>(rt: &R, tokens: &[Token], at: usize) -> ListAt {
+    let (found, brace) = pairs(rt.alloc(), tokens, at).expect(rt, "memory")?;
+    Some((brace, found.len()))
 }
 
 /// The number of tokens, a position, and the expected answer.
@@ -64,9 +52,10 @@ static LISTS: [(usize, usize, ListAt); 4] = [
 
 /// Checks all rows on the tokens.
 fn reads_lists<R: Abort + AllocGlobal>(rt: &R, tokens: &[Token]) {
-    for (row, &(count, at, wanted)) in LISTS.iter().enumerate() {
+    for row in 0..LISTS.len() {
+        let (count, at, wanted) = LISTS[row];
         let there = tokens.get(..count).unwrap_or(&[]);
-        check_row(rt, row, list_at(rt.alloc(), there, at) == Some(wanted));
+        check_row(rt, row, list_at(rt, there, at) == wanted);
     }
 }
 
@@ -83,7 +72,7 @@ static PAIRS: [(usize, ListAt); 3] = [(0, Some((9, 2))), (6, Some((9, 1))), (8, 
 /// Checks all rows on the tokens.
 fn reads_pairs<R: Abort + AllocGlobal>(rt: &R, tokens: &[Token]) {
     for &(at, wanted) in &PAIRS {
-        check_row(rt, at, pairs_at(rt.alloc(), tokens, at) == Some(wanted));
+        check_row(rt, at, pairs_at(rt, tokens, at) == wanted);
     }
 }
 

@@ -35,9 +35,10 @@ static FAULTS: [(&[u8], LexFault); 4] = [
 
 #[test]
 fn faults_have_lines(rt: HostRuntime) {
-    for (row, (text, wanted)) in FAULTS.iter().enumerate() {
+    for row in 0..FAULTS.len() {
+        let (text, wanted) = FAULTS[row];
         let answer = fault(rt.alloc(), text);
-        check_row(&rt, row, answer == Some(TextFault::Lexical(*wanted)));
+        check_row(&rt, row, answer == Some(TextFault::Lexical(wanted)));
     }
 }
 
@@ -114,8 +115,9 @@ fn is_read(alloc: Global, text: &[u8], shape: &Shape<'_>) -> bool {
 /// Listings and other forms.
 #[test]
 fn texts_are_read(rt: HostRuntime) {
-    for (row, (text, shape)) in SHAPES.iter().enumerate() {
-        check_row(&rt, row, is_read(rt.alloc(), text, shape));
+    for row in 0..SHAPES.len() {
+        let (text, shape) = SHAPES[row];
+        check_row(&rt, row, is_read(rt.alloc(), text, &shape));
     }
 }
 
@@ -123,7 +125,6 @@ fn texts_are_read(rt: HostRuntime) {
 #[test]
 fn a_long_text_is_read(rt: HostRuntime) {
     let rule = b"ip saddr 10.0.0.0/8 tcp dport { 22, 80-443 } counter accept\n";
-    let long = repeated(rt.alloc(), b"table t { chain a {\n", rule, 5_000, b"} }");
-    let text = long.expect(&rt, "a text");
+    let text = repeated(&rt, b"table t { chain a {\n", rule, 5_000, b"} }");
     check_row(&rt, 0, is_read(rt.alloc(), &text, &LONG));
 }

@@ -1,7 +1,6 @@
 //! Rule tables: the next rule of a key, and the first one.
 use crate::support::check_row;
 use seek_table::{FirstTable, KeyRange, SeekTable};
-use std::alloc::{AllocError, Global};
 use std::process::Abort;
 
 const MOST: u32 = u32::MAX;
@@ -58,43 +57,44 @@ static FIRST_NESTED: [First; 4] = [
     (32_768, None),
 ];
 
-fn pairs_of(alloc: Global, rules: &[(u32, u32)]) -> Result<Vec<(KeyRange, u32)>, AllocError> {
-    let mut pairs = Vec::new(alloc);
+fn pairs_of<R: Abort + AllocGlobal>(rt: &R, rules: &[(u32, u32)]) -> Vec<(KeyRange, u32)> {
+    let mut pairs = Vec::new(rt.alloc());
     let mut number: u32 = 0;
     for &(low, high) in rules {
-        pairs.push((KeyRange { low, high }, number))?;
+        pairs
+            .push((KeyRange { low, high }, number))
+            .expect(rt, "memory");
         number = number.saturating_add(1);
     }
-    Ok(pairs)
+    pairs
 }
 
 /// The table of the rules, if it has at most this many entries.
-fn table_of(alloc: Global, most: usize) -> Result<Option<SeekTable>, AllocError> {
-    SeekTable::build(alloc, &pairs_of(alloc, &RULES)?, most)
+fn table_of<R: Abort + AllocGlobal>(rt: &R, most: usize) -> Option<SeekTable> {
+    let pairs = pairs_of(rt, &RULES);
+    SeekTable::build(rt.alloc(), &pairs, most).expect(rt, "memory")
 }
 
 /// Checks all rows on the table.
 fn finds_next<R: Abort>(rt: &R, table: &SeekTable) {
-    for (row, &(key, from, wanted)) in NEXT.iter().enumerate() {
+    for row in 0..NEXT.len() {
+        let (key, from, wanted) = NEXT[row];
         check_row(rt, row, table.next(key, from) == wanted);
     }
 }
 
-/// Whether the table would have more than two entries.
-fn is_too_large(alloc: Global) -> bool {
-    matches!(table_of(alloc, 2), Ok(None))
-}
-
+/// The table has more than two entries.
 #[test]
 fn the_next_rule_is_found(rt: HostRuntime) {
-    check_row(&rt, NEXT.len(), is_too_large(rt.alloc()));
-    let table = table_of(rt.alloc(), 64).unwrap_or(None);
-    finds_next(&rt, &table.expect(&rt, "a table"));
+    check_row(&rt, NEXT.len(), table_of(&rt, 2).is_none());
+    let table = table_of(&rt, 64).expect(&rt, "a table");
+    finds_next(&rt, &table);
 }
 
 /// Checks all rows on the table.
 fn finds_first<R: Abort>(rt: &R, table: &FirstTable, rows: &[First]) {
-    for (row, &(key, wanted)) in rows.iter().enumerate() {
+    for row in 0..rows.len() {
+        let (key, wanted) = rows[row];
         check_row(rt, row, table.first(key) == wanted);
     }
 }
@@ -105,40 +105,36 @@ fn finds<R: Abort + AllocGlobal>(rt: &R, pairs: &[(KeyRange, u32)], rows: &[Firs
     finds_first(rt, &table, rows);
 }
 
-/// The rules that are the first of some key.
-fn first_rules(alloc: Global, pairs: &[(KeyRange, u32)]) -> Result<Vec<u32>, AllocError> {
-    FirstTable::build(alloc, pairs)?.rules(alloc)
-}
-
 /// Whether these are the rules that are the first of some key.
-fn are_first(alloc: Global, pairs: &[(KeyRange, u32)], wanted: &[u32]) -> bool {
-    match first_rules(alloc, pairs) {
-        Ok(rules) => rules.as_slice() == wanted,
-        Err(_) => false,
-    }
+fn are_first<R: Abort + AllocGlobal>(rt: &R, pairs: &[(KeyRange, u32)], wanted: &[u32]) -> bool {
+    let table = FirstTable::build(rt.alloc(), pairs).expect(rt, "a table");
+    let rules = table.rules(rt.alloc()).expect(rt, "memory");
+    rules.as_slice() == wanted
 }
 
 #[test]
 fn the_first_rule_is_found(rt: HostRuntime) {
     finds(&rt, &[], &FIRST_OF_NONE);
-    let mut pairs = pairs_of(rt.alloc(), &APART).expect(&rt, "memory");
+    let mut pairs = pairs_of(&rt, &APART);
     pairs.reverse();
     finds(&rt, &pairs, &FIRST_APART);
-    check_row(&rt, 0, are_first(rt.alloc(), &pairs, &[1, 2, 5]));
+    check_row(&rt, 0, are_first(&rt, &pairs, &[1, 2, 5]));
 }
 
-fn nested_pairs(alloc: Global) -> Result<Vec<(KeyRange, u32)>, AllocError> {
-    let mut pairs = Vec::new(alloc);
+fn nested_pairs<R: Abort + AllocGlobal>(rt: &R) -> Vec<(KeyRange, u32)> {
+    let mut pairs = Vec::new(rt.alloc());
     for number in 0..NESTED {
         let low = NESTED - number;
         let high = NESTED + number;
-        pairs.push((KeyRange { low, high }, number))?;
+        pairs
+            .push((KeyRange { low, high }, number))
+            .expect(rt, "memory");
     }
-    Ok(pairs)
+    pairs
 }
 
 #[test]
 fn nested_rules_are_found_by_the_least(rt: HostRuntime) {
-    let pairs = nested_pairs(rt.alloc()).expect(&rt, "memory");
+    let pairs = nested_pairs(&rt);
     finds(&rt, &pairs, &FIRST_NESTED);
 }

@@ -2,10 +2,8 @@
 use box_file::Plant;
 use compiler::compile;
 use filter_vm::Code;
-use hex::FromHexError;
 use nft_parser::parse;
 use rule_check::{Checked, check};
-use std::alloc::{AllocError, Global};
 use std::process::Abort;
 
 /// UDP from 192.168.1.10:5000 to 198.51.100.7:53, TTL 64.
@@ -15,20 +13,23 @@ pub static PACKET: [u8; 28] = [
 ];
 
 /// The bytes of the concatenated hexadecimal strings.
-pub fn bytes(alloc: Global, parts: &[&str]) -> Result<Vec<u8>, FromHexError> {
-    hex::decode(alloc, parts.concat(alloc)?)
+pub fn bytes<R: Abort + AllocGlobal>(rt: &R, parts: &[&str]) -> Vec<u8> {
+    let digits = parts.concat(rt.alloc()).expect(rt, "memory");
+    hex::decode(rt.alloc(), digits).expect(rt, "hexadecimal digits")
 }
 
 /// A beginning, a piece repeated, and an end.
-pub fn repeated(
-    alloc: Global,
+pub fn repeated<R: Abort + AllocGlobal>(
+    rt: &R,
     beginning: &[u8],
     piece: &[u8],
     count: usize,
     end: &[u8],
-) -> Result<Vec<u8>, AllocError> {
-    let pieces = piece.repeat(alloc, count)?;
-    [beginning, &pieces, end].concat(alloc)
+) -> Vec<u8> {
+    let pieces = piece.repeat(rt.alloc(), count).expect(rt, "memory");
+    [beginning, &pieces, end]
+        .concat(rt.alloc())
+        .expect(rt, "memory")
 }
 
 /// Fails with the row's number and a length if it isn't right.
@@ -36,18 +37,16 @@ pub fn check_length<R: Abort>(rt: &R, row: usize, length: u8, is_right: bool) {
     assert!(rt; is_right, "row {row} of {length} bytes");
 }
 
-/// The code of a ruleset on a box; `None` if one of the two is refused.
-pub fn code_of(alloc: Global, rules: &[u8], plant: &[u8]) -> Option<Code> {
-    match checked(alloc, rules, plant) {
-        Some(checked) => compile(alloc, &checked).ok(),
-        None => None,
-    }
+/// The code of a ruleset on a box; `None` if the ruleset is refused.
+pub fn code_of<R: Abort + AllocGlobal>(rt: &R, rules: &[u8], plant: &[u8]) -> Option<Code> {
+    let checked = checked(rt, rules, plant)?;
+    compile(rt.alloc(), &checked).ok()
 }
 
-fn checked(alloc: Global, rules: &[u8], plant: &[u8]) -> Option<Checked> {
-    let plant = Plant::read(alloc, plant).ok()?;
-    match parse(alloc, rules) {
-        Ok(tree) => check(alloc, tree, plant).ok(),
+fn checked<R: Abort + AllocGlobal>(rt: &R, rules: &[u8], plant: &[u8]) -> Option<Checked> {
+    let plant = Plant::read(rt.alloc(), plant).expect(rt, "a box");
+    match parse(rt.alloc(), rules) {
+        Ok(tree) => check(rt.alloc(), tree, plant).ok(),
         Err(_) => None,
     }
 }
