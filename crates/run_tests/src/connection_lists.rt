@@ -192,9 +192,10 @@ pub fn masqueraded(connection: Masqueraded, mark: u32) -> Connection {
 
 /// Whether exactly these are listed, in this order and with this mark.
 fn are_listed(all: &[Connection], expected: &[Masqueraded], mark: u32) -> bool {
-    for (connection, expected_one) in all.iter().zip(expected) {
-        if *connection != masqueraded(*expected_one, mark) {
-            return false;
+    for index in 0..all.len() {
+        match expected.get(index) {
+            Some(wanted) if all[index] == masqueraded(*wanted, mark) => {}
+            _ => return false,
         }
     }
     all.len() == expected.len()

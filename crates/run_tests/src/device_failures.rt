@@ -232,6 +232,16 @@ fn is_beginning(given: &RunResult, whole: &RunResult, device: usize) -> bool {
         && (may_have || !has_totals)
 }
 
+/// Fails with the number of the call if it isn't right.
+fn check_call<R: Abort>(rt: &R, device: usize, count: usize, is_right: bool) {
+    assert!(rt; is_right, "call {count} of {device}");
+}
+
+/// Fails with the number of the last call if the calls up to it aren't right.
+fn check_calls<R: Abort>(rt: &R, device: usize, count: usize, are_right: bool) {
+    assert!(rt; are_right, "calls up to {count} of {device}");
+}
+
 /// Exactly the call of this number failed, and it was the device's last.
 fn is_stopped<R: Abort + AllocGlobal>(
     rt: &R,
@@ -244,16 +254,51 @@ fn is_stopped<R: Abort + AllocGlobal>(
     let mut failures = [0; 3];
     failures[device] = 1;
     shows(rt, given.status, "nftrun: device");
-    assert!(rt; given.failures == failures, "call {count} of {device}");
-    let calls = usize::try_from(given.calls[device]);
-    assert!(rt;
-        calls == Ok(count.saturating_add(1)),
-        "calls up to {count} of {device}"
-    );
-    assert!(rt;
-        is_beginning(given, whole, device),
-        "call {count} of {device}"
-    );
+    check_call(rt, device, count, given.failures == failures);
+    let calls = count.saturating_add(1) as u64;
+    check_calls(rt, device, count, given.calls[device] == calls);
+    check_call(rt, device, count, is_beginning(given, whole, device));
+}
+
+/// Nothing failed, and the outputs are those of the whole run.
+fn is_whole(given: &RunResult, whole: &RunResult) -> bool {
+    given.sent == whole.sent && given.report == whole.report
+}
+
+/// The outputs are those of the records read whole before a read that fails.
+fn is_cut<R: Abort>(rt: &R, given: &RunResult, cut: &RunResult, count: usize) {
+    check_packets(rt, count, given.sent == cut.sent);
+    check_lines(rt, count, given.report.as_slice() == lines_of(&cut.report));
+}
+
+/// Fails with the number of reads if the packets aren't right.
+fn check_packets<R: Abort>(rt: &R, count: usize, are_right: bool) {
+    assert!(rt; are_right, "packets after {count} reads");
+}
+
+/// Fails with the number of reads if the report's lines aren't right.
+fn check_lines<R: Abort>(rt: &R, count: usize, are_right: bool) {
+    assert!(rt; are_right, "lines after {count} reads");
+}
+
+/// This call fails in this way, and stops the run; `None` if there is no such call.
+fn stopped_at<R: Abort + AllocGlobal>(
+    rt: &R,
+    row: &Row,
+    capture: &[u8],
+    whole: &RunResult,
+    device: usize,
+    fault: Fault,
+    count: usize,
+) -> Option<RunResult> {
+    let device_settings = device_settings(device, fault, count);
+    let given = run_of(rt.alloc(), row, capture, device_settings);
+    if given.failures == [0; 3] {
+        assert!(rt; is_whole(&given, whole));
+        return None;
+    }
+    is_stopped(rt, &given, whole, device, count);
+    Some(given)
 }
 
 /// This read fails, in each way; all records read whole before it were processed. Whether there is
@@ -269,18 +314,9 @@ fn read_stops<R: Abort + AllocGlobal>(
     let cut = run_of(rt.alloc(), row, &capture[..length], no_failures(most(0)));
     let mut is_made = true;
     for fault in &READ_FAULTS {
-        let given = run_of(rt.alloc(), row, capture, device_settings(0, *fault, count));
-        if given.failures == [0; 3] {
-            is_made = false;
-            assert!(rt; given.sent == whole.sent && given.report == whole.report);
-        } else {
-            is_stopped(rt, &given, whole, 0, count);
-            assert!(rt; given.sent == cut.sent, "packets after {count} reads");
-            let lines = lines_of(&cut.report);
-            assert!(rt;
-                given.report.as_slice() == lines,
-                "lines after {count} reads"
-            );
+        match stopped_at(rt, row, capture, whole, 0, *fault, count) {
+            Some(given) => is_cut(rt, &given, &cut, count),
+            None => is_made = false,
         }
     }
     is_made
@@ -297,18 +333,7 @@ fn write_stops<R: Abort + AllocGlobal>(
 ) -> bool {
     let mut is_made = true;
     for fault in &WRITE_FAULTS {
-        let given = run_of(
-            rt.alloc(),
-            row,
-            capture,
-            device_settings(device, *fault, count),
-        );
-        if given.failures == [0; 3] {
-            is_made = false;
-            assert!(rt; given.sent == whole.sent && given.report == whole.report);
-        } else {
-            is_stopped(rt, &given, whole, device, count);
-        }
+        is_made &= stopped_at(rt, row, capture, whole, device, *fault, count).is_some();
     }
     is_made
 }
@@ -325,8 +350,13 @@ fn whole_run<R: Abort + AllocGlobal>(
     assert!(rt; whole.sent == bytes(rt.alloc(), row.sent).expect(rt, "packets"));
     // One more read sees the end.
     let reads = capture.len().div_ceil(most(device)).saturating_add(1);
-    assert!(rt; usize::try_from(whole.calls[0]) == Ok(reads));
+    assert!(rt; whole.calls[0] == reads as u64);
     whole
+}
+
+/// Fails with the device if its calls aren't right.
+fn check_calls_of<R: Abort>(rt: &R, device: usize, are_right: bool) {
+    assert!(rt; are_right, "calls of {device}");
 }
 
 /// Each call of the device fails in turn, until a run makes no more calls.
@@ -340,8 +370,7 @@ fn stops<R: Abort + AllocGlobal>(rt: &R, row: &Row, device: usize) {
             _ => write_stops(rt, row, &capture, &whole, device, count),
         };
         if !is_made {
-            let calls = usize::try_from(whole.calls[device]);
-            assert!(rt; calls == Ok(count), "calls of {device}");
+            check_calls_of(rt, device, whole.calls[device] == count as u64);
             return;
         }
     }

@@ -65,12 +65,24 @@ fn connection_of(number: usize, moment: u64) -> Connection {
 
 /// Whether these are the connections of the first numbers, in their order.
 fn are_first(all: &[Connection]) -> bool {
-    for (number, found) in all.iter().enumerate() {
-        if *found != connection_of(number, 0) {
+    for number in 0..all.len() {
+        if all[number] != connection_of(number, 0) {
             return false;
         }
     }
     true
+}
+
+/// All connections are listed.
+fn lists_all<R: Abort + AllocGlobal>(rt: &R, engine: &Engine<AgedTracker>) {
+    let all = engine.connections(rt.alloc()).expect(rt, "memory");
+    assert!(rt; all.len() == CONNECTIONS && are_first(&all));
+}
+
+/// Only the connection of a packet at the limit is listed.
+fn lists_the_last<R: Abort + AllocGlobal>(rt: &R, engine: &Engine<AgedTracker>) {
+    let all = engine.connections(rt.alloc()).expect(rt, "memory");
+    assert!(rt; all.len() == 1 && all[0] == connection_of(0, AT_THE_LIMIT));
 }
 
 /// A hundred thousand connections with fifty thousand mappings are listed; when all have expired, a
@@ -82,9 +94,7 @@ fn many_connections_are_listed(rt: HostRuntime) {
         let (port, to) = ports_of(number);
         send(&rt, &mut engine, 0, port, to);
     }
-    let all = engine.connections(rt.alloc()).expect(&rt, "memory");
-    assert!(&rt; all.len() == CONNECTIONS && are_first(&all));
+    lists_all(&rt, &engine);
     send(&rt, &mut engine, AT_THE_LIMIT, FIRST_PORT, 53);
-    let all = engine.connections(rt.alloc()).expect(&rt, "memory");
-    assert!(&rt; all.len() == 1 && all[0] == connection_of(0, AT_THE_LIMIT));
+    lists_the_last(&rt, &engine);
 }

@@ -166,13 +166,23 @@ impl Recorder {
         }
     }
 
-    fn outcome(&mut self, parts: &[&[u8]]) -> Result<bool, RunFault> {
+    /// Notes a call whose failure is a fault of the run.
+    fn note_run(&mut self, parts: &[&[u8]]) -> Result<(), RunFault> {
         match self.note(parts) {
-            Ok(()) => self.row.outcome,
+            Ok(()) => Ok(()),
             Err(error) if error.kind() == io::ErrorKind::OutOfMemory => Err(RunFault::Memory),
             Err(_) => Err(RunFault::Device),
         }
     }
+}
+
+/// The words, owned.
+fn strings(alloc: Global, words: &[&str]) -> Result<Vec<String>, AllocError> {
+    let mut strings = Vec::new(alloc);
+    for word in words {
+        strings.push(String::from_str(alloc, *word)?)?;
+    }
+    Ok(strings)
 }
 
 impl Host for Recorder {
@@ -184,11 +194,7 @@ impl Host for Recorder {
 
     fn words(&mut self) -> io::Result<Vec<String>> {
         self.note(&[b"words"])?;
-        let mut words = Vec::new(self.alloc);
-        for word in self.row.words {
-            words.push(String::from_str(self.alloc, *word)?)?;
-        }
-        Ok(words)
+        Ok(strings(self.alloc, self.row.words)?)
     }
 
     // It can't fail, so it isn't among the calls that are counted.
@@ -245,15 +251,13 @@ impl Host for Recorder {
     ) -> Result<bool, RunFault> {
         let to: &[u8] = if report.is_some() { b" to a file" } else { b"" };
         let end: &[u8] = if trace { b" traced" } else { b"" };
-        self.outcome(&[b"run ", rules, b" ", plant, to, end])
+        self.note_run(&[b"run ", rules, b" ", plant, to, end])?;
+        self.row.outcome
     }
 
     fn judge(&mut self, rules: &[u8], plant: &[u8]) -> Result<Counts, RunFault> {
-        match self.note(&[b"judge ", rules, b" ", plant]) {
-            Ok(()) => self.row.judged,
-            Err(error) if error.kind() == io::ErrorKind::OutOfMemory => Err(RunFault::Memory),
-            Err(_) => Err(RunFault::Device),
-        }
+        self.note_run(&[b"judge ", rules, b" ", plant])?;
+        self.row.judged
     }
 
     fn print_accepted(&mut self, counts: Counts) -> io::Result<()> {
@@ -308,13 +312,18 @@ impl Host for Recorder {
 /// Whether these are the calls that the program must make.
 fn are_wanted(calls: &[u8], row: &Row) -> bool {
     let mut rest = calls;
-    for call in row.calls.iter().take(row.count) {
+    for call in row.calls.get(..row.count).unwrap_or(row.calls) {
         match rest.strip_prefix(call.as_bytes()) {
             Some(after) => rest = after,
             None => return false,
         }
     }
     rest == row.last.as_bytes()
+}
+
+/// The exit status is wanted.
+fn check_code<R: Abort>(rt: &R, code: u8, wanted: u8) {
+    assert_eq!(rt; code, wanted);
 }
 
 /// Runs the program on the row's host, and checks its calls and its exit status.
@@ -325,7 +334,7 @@ fn ends<R: Abort + AllocGlobal>(rt: &R, row: Row) {
         calls: Vec::new(rt.alloc()),
         count: 0,
     };
-    assert_eq!(rt; perform(rt.alloc(), &mut host), row.code);
+    check_code(rt, perform(rt.alloc(), &mut host), row.code);
     assert!(rt; are_wanted(&host.calls, &row));
 }
 
@@ -979,10 +988,15 @@ static STATUSES: [(Status, &str, u8); 28] = [
     (Status::Torn, "nftrun: capture torn", 7),
 ];
 
+/// Fails with the line if it isn't right.
+fn check_line<R: Abort>(rt: &R, line: &str, is_right: bool) {
+    assert!(rt; is_right, "{line}");
+}
+
 #[test]
 fn each_status_has_its_line_and_its_code(rt: HostRuntime) {
     for (status, line, code) in &STATUSES {
         shows(&rt, *status, line);
-        assert!(&rt; status.code() == *code, "{line}");
+        check_line(&rt, line, status.code() == *code);
     }
 }

@@ -226,9 +226,31 @@ fn device<T>(
     }))
 }
 
-/// The bytes of a writer.
-fn held(writer: Calls<Faulty<Slow<Vec<u8>>>>) -> Vec<u8> {
-    writer.into_inner().inner.into_inner()
+/// The failed calls of a writer, all of them, and its bytes.
+fn ended(writer: Counted<Calls<Faulty<Slow<Vec<u8>>>>>) -> (u64, u64, Vec<u8>) {
+    let failures = writer.failures();
+    let writer = writer.into_inner();
+    let calls = writer.calls();
+    (failures, calls, writer.into_inner().inner.into_inner())
+}
+
+/// The status of a run of these rules on this box.
+fn status_of<R: Read, W: Write>(
+    alloc: Global,
+    rules: &[u8],
+    plant: &[u8],
+    reader: &mut Counted<R>,
+    sent: &mut Counted<W>,
+    report: &mut Counted<W>,
+    trace: bool,
+) -> Status {
+    let Ok(hasher) = hasher() else {
+        return Status::of(Err(&RunFault::Device));
+    };
+    match run(alloc, hasher, rules, plant, reader, sent, report, trace) {
+        Ok(summary) => Status::of(Ok(summary.torn)),
+        Err(fault) => Status::of(Err(&fault)),
+    }
 }
 
 /// Runs these rules on this box over this capture.
@@ -244,33 +266,24 @@ pub fn run_over(
     let mut reader = device(capture, device_settings, reads);
     let mut sent = device(Vec::new(alloc), device_settings, sends);
     let mut report = device(Vec::new(alloc), device_settings, reports);
-    let answer = match hasher() {
-        Ok(hasher) => run(
-            alloc,
-            hasher,
-            rules,
-            plant,
-            &mut reader,
-            &mut sent,
-            &mut report,
-            trace,
-        ),
-        Err(_) => Err(RunFault::Device),
-    };
-    let status = match answer {
-        Ok(summary) => Status::of(Ok(summary.torn)),
-        Err(fault) => Status::of(Err(&fault)),
-    };
-    let failures = [reader.failures(), sent.failures(), report.failures()];
-    let reader = reader.into_inner();
-    let sent = sent.into_inner();
-    let report = report.into_inner();
-    let calls = [reader.calls(), sent.calls(), report.calls()];
+    let status = status_of(
+        alloc,
+        rules,
+        plant,
+        &mut reader,
+        &mut sent,
+        &mut report,
+        trace,
+    );
+    let failed_reads = reader.failures();
+    let reads = reader.into_inner().calls();
+    let (failed_sends, sends, sent) = ended(sent);
+    let (failed_reports, reports, report) = ended(report);
     RunResult {
         status,
-        sent: held(sent),
-        report: held(report),
-        failures,
-        calls,
+        sent,
+        report,
+        failures: [failed_reads, failed_sends, failed_reports],
+        calls: [reads, sends, reports],
     }
 }
