@@ -82,8 +82,8 @@ const REPORT_CALLS: &[&str] = &[
 #[derive(Clone, Copy)]
 struct Row {
     words: &'static [&'static str],
-    /// The calls of a run.
-    calls: &'static [&'static str],
+    /// Whether the run has its report in a file.
+    reports: bool,
     /// The call that fails, counted from 0, and the kind of its error.
     failing: Option<(usize, io::ErrorKind)>,
     /// A second path to the file at `file`.
@@ -107,7 +107,7 @@ struct Row {
 /// A run that succeeds.
 const DONE: Row = Row {
     words: RUN,
-    calls: CALLS,
+    reports: false,
     failing: None,
     same: "",
     file: "out",
@@ -127,7 +127,7 @@ const DONE: Row = Row {
 /// A run that succeeds, with its report in a file.
 const REPORTED: Row = Row {
     words: REPORT,
-    calls: REPORT_CALLS,
+    reports: true,
     file: "file",
     count: 18,
     last: "run rules box to a file\n",
@@ -163,6 +163,13 @@ impl Recorder {
         match self.row.failing {
             Some((call, kind)) if call == at => Err(io::Error::from(kind)),
             _ => Ok(()),
+        }
+    }
+
+    /// Notes a call that can't fail.
+    fn note_text(&mut self, text: Result<String, AllocError>) {
+        if let Ok(line) = text {
+            let _ = self.note(&[line.as_str().as_bytes()]);
         }
     }
 
@@ -269,9 +276,7 @@ impl Host for Recorder {
     }
 
     fn print_status(&mut self, status: Status) {
-        if let Ok(line) = format!(in self.alloc; "tell {status}") {
-            let _ = self.note(&[line.as_str().as_bytes()]);
-        }
+        self.note_text(format!(in self.alloc; "tell {status}"));
     }
 
     fn explain_status(&mut self, status: Status, task: &Task<'_>) {
@@ -280,9 +285,7 @@ impl Host for Recorder {
             Task::Check(_) => "check",
             Task::Explain(_) => "explain",
         };
-        if let Ok(line) = format!(in self.alloc; "clarify {name} {status}") {
-            let _ = self.note(&[line.as_str().as_bytes()]);
-        }
+        self.note_text(format!(in self.alloc; "clarify {name} {status}"));
     }
 
     fn remark_on_capture(&mut self, paths: &ReplayPaths<'_>) {
@@ -309,10 +312,16 @@ impl Host for Recorder {
     }
 }
 
+/// The calls of a run.
+fn calls_of(row: &Row) -> &'static [&'static str] {
+    if row.reports { REPORT_CALLS } else { CALLS }
+}
+
 /// Whether these are the calls that the program must make.
 fn are_wanted(calls: &[u8], row: &Row) -> bool {
     let mut rest = calls;
-    for call in row.calls.get(..row.count).unwrap_or(row.calls) {
+    let wanted = calls_of(row);
+    for call in wanted.get(..row.count).unwrap_or(wanted) {
         match rest.strip_prefix(call.as_bytes()) {
             Some(after) => rest = after,
             None => return false,

@@ -2,7 +2,7 @@
 //! runs this test over and over, and refuses each request of its steps in turn.
 ghost use Rattle.std.specs.Prelude.{◌<◌};
 
-use crate::device_failures::{ROWS, Row};
+use crate::device_failures::{Row, rows};
 use crate::support::{BOX, bytes, no_failures, run_over, started};
 use aged_tracker::AgedTracker;
 use conntrack::Connection;
@@ -230,7 +230,7 @@ fn replays<R: Abort + AllocGlobal + Files>(rt: &R, row: &Row) {
 
 #[test]
 fn a_refused_record_is_retried(rt: HostRuntime) {
-    for row in &ROWS {
+    for row in rows() {
         replays(&rt, row);
     }
 }
