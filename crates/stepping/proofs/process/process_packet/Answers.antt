@@ -1,5 +1,5 @@
-use Rattle.stepping.proofs.Names.{Continue, CtInfo, Notrack, PathState, [], ap, err_from_is_err_and, flags_in, goes_on, looked_up_info, others_beside, path_state}
-use Rattle.stepping.proofs.Names.{refl, stops, untranslated, ◌∙◌, ◌≡◌}
+use Rattle.stepping.proofs.Names.{Continue, CtInfo, Notrack, PathState, [], ap, err_from_is_err_and, flags_in, goes_on, looked_up_info, others_beside}
+use Rattle.stepping.proofs.Names.{path_state, refl, stops, untranslated, ◌∙◌, ◌≡◌}
 use Rattle.stepping.proofs.Processing.{confirmed_follows, dropped_follows}
 use Rattle.stepping.proofs.process.process_packet.Goals as goal
 
