@@ -82,7 +82,12 @@ fn match_out_of_range(test: &Match) -> bool
 fn flags_out_of_range(flags: &[Flag]) -> bool
     ensures { result ≡ list_any flag_out_of_range (map flag_tree flags.now) }
 {
-    any(flags, flag_out_of_range)
+    for flag in flags {
+        if flag_out_of_range(flag) {
+            return true;
+        }
+    }
+    false
 }
 
 /// Whether the flag is a number wider than 8 bits.
