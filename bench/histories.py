@@ -1,5 +1,5 @@
 #!/usr/bin/env python3
-"""Writes long random histories with the outputs that a run must give: rows of crates/golden_runs/data.
+"""Writes long random histories with the outputs that a run must give: rows of examples/rows.
 
 bench/histories.py            writes the rows
 bench/histories.py --check    tells where they differ, and writes nothing
@@ -13,7 +13,7 @@ Nothing here reads what the program writes.
 import os
 import sys
 
-DATA = os.path.join(os.path.dirname(os.path.dirname(os.path.abspath(__file__))), "crates", "golden_runs", "data")
+DATA = os.path.join(os.path.dirname(os.path.dirname(os.path.abspath(__file__))), "examples", "rows")
 RECORDS = 2000
 SECOND = 1_000_000_000
 FIN, SYN, RST, ACK = 1, 2, 4, 16
@@ -536,7 +536,7 @@ def main(words):
     if words == ["--check"]:
         with open(path, encoding="utf-8") as it:
             if it.read() != rows():
-                print("crates/golden_runs/data/histories.rows differs from what bench/histories.py writes")
+                print("examples/rows/histories.rows differs from what bench/histories.py writes")
                 return 1
         return 0
     with open(path, "w", encoding="utf-8") as it:

@@ -6,6 +6,10 @@
    digit where that is one of the three that a process begins with, 'a' where it is the first file that was
    opened, 'b' where it is the second .., else '-'; of a request for memory the letter of the file that was opened
    last, '-' where none was. A refused call sets errno to REFUSE_ERRNO; where that is 0 a write takes no byte.
+   Where REFUSE_ONLY is set, only calls of that byte are counted.
+
+   SHORT_READ is the most bytes that a read of the third file gives, and SHORT_WRITE the most that a write takes
+   (scripts/test-rows).
 
    The toolchain's compiler has no header files, so what is used is declared here, for Linux on x86-64. */
 typedef unsigned long size_t;
@@ -25,11 +29,21 @@ extern long syscall(long, ...);
 
 static const char *call = "";
 static int at, count, all, number;
+static char only;
+static size_t most_read = -1, most_written = -1;
 /* By descriptor, the letter of the file. */
 static char letters[64] = "012";
 static char next = 'a';
 
+static void set_most(const char *name, size_t *most) {
+    const char *word = getenv(name);
+    if (word)
+        *most = atoi(word);
+}
+
 __attribute__((constructor)) static void begin(void) {
+    set_most("SHORT_READ", &most_read);
+    set_most("SHORT_WRITE", &most_written);
     const char *word = getenv("REFUSE_CALL");
     if (!word)
         return;
@@ -39,11 +53,13 @@ __attribute__((constructor)) static void begin(void) {
     number = word ? atoi(word) : NO_MEMORY;
     word = getenv("REFUSE_AT");
     at = word ? atoi(word) : 1;
+    word = getenv("REFUSE_ONLY");
+    only = word ? word[0] : 0;
 }
 
 /* Whether this call is refused, which `byte` is told of. */
 static int refuses(const char *name, char byte) {
-    if (strcmp(name, call))
+    if (strcmp(name, call) || (only && only != byte))
         return 0;
     count += 1;
     if (all ? count < at : count != at)
@@ -88,12 +104,17 @@ int posix_memalign(void **made, size_t align, size_t size) {
 }
 
 ssize_t read(int descriptor, void *bytes, size_t length) {
-    return refuses("read", letter(descriptor)) ? -1 : syscall(SYS_READ, descriptor, bytes, length);
+    char byte = letter(descriptor);
+    if (byte == 'c' && length > most_read)
+        length = most_read;
+    return refuses("read", byte) ? -1 : syscall(SYS_READ, descriptor, bytes, length);
 }
 
 ssize_t write(int descriptor, const void *bytes, size_t length) {
     if (refuses("write", letter(descriptor)))
         return number ? -1 : 0;
+    if (length > most_written)
+        length = most_written;
     return syscall(SYS_WRITE, descriptor, bytes, length);
 }
 
