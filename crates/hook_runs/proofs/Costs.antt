@@ -31,42 +31,25 @@ both_types = sum_by-filter_both is_nat_start is_filter (λ s. refl) cost
 
 pub costs_little : (checked : CheckedTree) (code : Code) (p : StagedChains) → AreStagedChains code p
     → total_stage_cost (costed_tree checked code p) ≤ total_cost code
-costs_little checked code p are =
-    let prerouting_raw = ap cost_of (are stages.PreroutingRaw) in
-    let prerouting_before_nat = ap cost_of (are stages.PreroutingBeforeNat) in
-    let prerouting_nat = ap cost_of (are stages.PreroutingNat) in
-    let prerouting_after_nat = ap cost_of (are stages.PreroutingAfterNat) in
-    let input = ap cost_of (are stages.Input) in
-    let forward = ap cost_of (are stages.Forward) in
-    let postrouting_before_nat = ap cost_of (are stages.PostroutingBeforeNat) in
-    let postrouting_nat = ap cost_of (are stages.PostroutingNat) in
-    let postrouting_after_nat = ap cost_of (are stages.PostroutingAfterNat) in
-    let a = both_sides (negsuc 198) (filter_starts code.prerouting.items) in
-    let b = both_sides DSTNAT (after_conntrack code) in
-    let c = both_sides SRCNAT (filter_starts code.postrouting.items) in
-    let d = both_types code.prerouting.items in
-    let e = both_types code.input.items in
-    let f = both_types code.forward.items in
-    let g = both_types code.postrouting.items in
-    omega (
-      arith,
-      prerouting_raw,
-      prerouting_before_nat,
-      prerouting_nat,
-      prerouting_after_nat,
-      input,
-      forward,
-      postrouting_before_nat,
-      postrouting_nat,
-      postrouting_after_nat,
-      a,
-      b,
-      c,
-      d,
-      e,
-      f,
-      g,
-    )
+costs_little checked code p are = omega (
+  arith,
+  ap cost_of (are stages.PreroutingRaw),
+  ap cost_of (are stages.PreroutingBeforeNat),
+  ap cost_of (are stages.PreroutingNat),
+  ap cost_of (are stages.PreroutingAfterNat),
+  ap cost_of (are stages.Input),
+  ap cost_of (are stages.Forward),
+  ap cost_of (are stages.PostroutingBeforeNat),
+  ap cost_of (are stages.PostroutingNat),
+  ap cost_of (are stages.PostroutingAfterNat),
+  both_sides (negsuc 198) (filter_starts code.prerouting.items),
+  both_sides DSTNAT (after_conntrack code),
+  both_sides SRCNAT (filter_starts code.postrouting.items),
+  both_types code.prerouting.items,
+  both_types code.input.items,
+  both_types code.forward.items,
+  both_types code.postrouting.items,
+)
 
 -- ---- one stage
 

@@ -1,3 +1,4 @@
 mod Orders
+mod Sorted
 mod Starts
 mod Costs

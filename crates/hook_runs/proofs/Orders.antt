@@ -41,8 +41,6 @@ module _ {X : Type 0} where
             ∙ All-contains (λ y. q y ≡ true) (filter q xs) x (filter_passes q xs) left))
       ]
 
--- ---- priorities are integers
-
 -- ---- order
 
 -- some base chains of a text, in the order that all of them have

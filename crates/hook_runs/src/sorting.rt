@@ -1,8 +1,9 @@
 //! Sorts base chains into stages.
-ghost use Rattle.std.specs.Prelude.{◌≡◌, IfOk};
-ghost use Rattle.hook_runs.specs.steps.Starts.{AreStagedChains, after, before, filter_starts, nat_starts};
+ghost use Rattle.std.specs.Prelude.{◌≡◌, ◌++◌, [], OnOk, IfOk, filter};
+ghost use Rattle.hook_runs.specs.declared.stages.HookStage.{HookStage};
+ghost use Rattle.hook_runs.specs.steps.Starts.{AreStagedChains, is_in_stage, staged_starts};
 
-use crate::stages::StagedChains;
+use crate::stages::{HookStage, StagedChains};
 use filter_vm::{Code, Start};
 use std::alloc::{AllocError, Global};
 
@@ -16,77 +17,87 @@ const DESTINATION: i32 = -100;
 /// The priority of source NAT (nft(8), `srcnat`). Filter chains of this priority run after it.
 const SOURCE: i32 = 100;
 
-/// Base chains split by a priority, each half in its order.
-#[derive(Drop)]
-struct Sides {
-    before: Vec<Start>,
-    /// Those of the priority itself, and of higher ones.
-    after: Vec<Start>,
-}
-
 /// The base chains of each stage.
 pub(crate) fn staged_chains(alloc: Global, code: &Code) -> Result<StagedChains, AllocError>
     ensures { IfOk result (λ stages. AreStagedChains code.now stages) }
 {
-    let prerouting = split(
-        alloc,
-        &filter_starts(alloc, &code.prerouting)?,
-        AFTER_CONNTRACK,
-    )?;
-    let destination = split(alloc, &prerouting.after, DESTINATION)?;
-    let source = split(alloc, &filter_starts(alloc, &code.postrouting)?, SOURCE)?;
-    Ok(StagedChains {
-        prerouting_raw: prerouting.before,
-        prerouting_before_nat: destination.before,
-        prerouting_nat: nat_starts(alloc, &code.prerouting)?,
-        prerouting_after_nat: destination.after,
-        input: filter_starts(alloc, &code.input)?,
-        forward: filter_starts(alloc, &code.forward)?,
-        postrouting_before_nat: source.before,
-        postrouting_nat: nat_starts(alloc, &code.postrouting)?,
-        postrouting_after_nat: source.after,
-    })
+    let mut stages = StagedChains::empty(alloc);
+    stages.sort(code)?;
+    Ok(stages)
 }
 
-/// The starts of type filter, in their order.
-fn filter_starts(alloc: Global, starts: &[Start]) -> Result<Vec<Start>, AllocError>
-    ensures { IfOk result (λ kept. kept.items ≡ filter_starts starts.now) }
-{
-    let mut filter_starts = Vec::new(alloc);
-    for start in starts {
-        if !start.is_nat {
-            filter_starts.push(*start)?;
-        }
+impl StagedChains {
+    /// Sorts the base chains of all hooks into stages that have none.
+    fn sort(&mut self, code: &Code) -> Result<(), AllocError>
+        requires empty { (stage : HookStage) → staged_starts self.old stage ≡ [] }
+        ensures { OnOk result (AreStagedChains code.now self.new) }
+    {
+        keep(
+            &mut self.prerouting_raw,
+            HookStage::PreroutingRaw,
+            &code.prerouting,
+        )?;
+        keep(
+            &mut self.prerouting_before_nat,
+            HookStage::PreroutingBeforeNat,
+            &code.prerouting,
+        )?;
+        keep(
+            &mut self.prerouting_nat,
+            HookStage::PreroutingNat,
+            &code.prerouting,
+        )?;
+        keep(
+            &mut self.prerouting_after_nat,
+            HookStage::PreroutingAfterNat,
+            &code.prerouting,
+        )?;
+        keep(&mut self.input, HookStage::Input, &code.input)?;
+        keep(&mut self.forward, HookStage::Forward, &code.forward)?;
+        keep(
+            &mut self.postrouting_before_nat,
+            HookStage::PostroutingBeforeNat,
+            &code.postrouting,
+        )?;
+        keep(
+            &mut self.postrouting_nat,
+            HookStage::PostroutingNat,
+            &code.postrouting,
+        )?;
+        keep(
+            &mut self.postrouting_after_nat,
+            HookStage::PostroutingAfterNat,
+            &code.postrouting,
+        )
     }
-    Ok(filter_starts)
 }
 
-/// The starts of type nat, in their order.
-fn nat_starts(alloc: Global, starts: &[Start]) -> Result<Vec<Start>, AllocError>
-    ensures { IfOk result (λ kept. kept.items ≡ nat_starts starts.now) }
+/// Adds those of a hook's base chains that run in a stage, in their order.
+fn keep(kept: &mut Vec<Start>, stage: HookStage, starts: &[Start]) -> Result<(), AllocError>
+    ensures { OnOk result (kept.new.items ≡ kept.old.items ++ filter (is_in_stage stage) starts.now) }
 {
-    let mut nat_starts = Vec::new(alloc);
     for start in starts {
-        if start.is_nat {
-            nat_starts.push(*start)?;
+        if is_in_stage(stage, start) {
+            kept.push(*start)?;
         }
     }
-    Ok(nat_starts)
+    Ok(())
 }
 
-/// The starts below a priority, and the others.
-fn split(alloc: Global, starts: &[Start], priority: i32) -> Result<Sides, AllocError>
-    ensures before { IfOk result (λ sides. sides.before.items ≡ before priority starts.now) }
-    ensures after { IfOk result (λ sides. sides.after.items ≡ after priority starts.now) }
+/// Whether a base chain of the stage's hook runs in the stage.
+fn is_in_stage(stage: HookStage, start: &Start) -> bool
+    ensures { result ≡ is_in_stage stage start.now }
 {
-    let mut before = Vec::new(alloc);
-    let mut after = Vec::new(alloc);
-    for start in starts {
-        if start.priority < priority {
-            before.push(*start)?;
-        } else {
-            after.push(*start)?;
+    match stage {
+        HookStage::PreroutingNat | HookStage::PostroutingNat => start.is_nat,
+        _ if start.is_nat => false,
+        HookStage::PreroutingRaw => start.priority < AFTER_CONNTRACK,
+        HookStage::PreroutingBeforeNat => {
+            AFTER_CONNTRACK <= start.priority && start.priority < DESTINATION
         }
+        HookStage::PreroutingAfterNat => DESTINATION <= start.priority,
+        HookStage::Input | HookStage::Forward => true,
+        HookStage::PostroutingBeforeNat => start.priority < SOURCE,
+        HookStage::PostroutingAfterNat => SOURCE <= start.priority,
     }
-    Ok(Sides { before, after })
 }

@@ -1,8 +1,10 @@
 //! The stages of hooks.
-ghost use Rattle.std.specs.Prelude.{◌≡◌};
+ghost use Rattle.std.specs.Prelude.{◌≡◌, []};
+ghost use Rattle.hook_runs.specs.declared.stages.HookStage.{HookStage as TheStage};
 ghost use Rattle.hook_runs.specs.steps.Starts.{staged_starts};
 
 use filter_vm::Start;
+use std::alloc::Global;
 
 /// Base chains of a hook that run one after another, without a conntrack lookup or a translation
 /// between them. Chains of type nat run where the packet is translated, whatever their own
@@ -45,6 +47,23 @@ pub(crate) struct StagedChains {
 }
 
 impl StagedChains {
+    /// No chains in any stage.
+    pub(crate) fn empty(alloc: Global) -> Self
+        ensures { (stage : TheStage) → staged_starts result stage ≡ [] }
+    {
+        StagedChains {
+            prerouting_raw: Vec::new(alloc),
+            prerouting_before_nat: Vec::new(alloc),
+            prerouting_nat: Vec::new(alloc),
+            prerouting_after_nat: Vec::new(alloc),
+            input: Vec::new(alloc),
+            forward: Vec::new(alloc),
+            postrouting_before_nat: Vec::new(alloc),
+            postrouting_nat: Vec::new(alloc),
+            postrouting_after_nat: Vec::new(alloc),
+        }
+    }
+
     /// The base chains of a stage.
     #[inline(always)]
     pub(crate) fn starts(&self, stage: HookStage) -> &[Start]

@@ -1,6 +1,6 @@
 -- Base chains as starts of code: which run in which stage, their results one after another, and their
 -- costs.
-use Rattle.std.specs.Prelude.{◌≡◌, ℕ, ◌≤◌, ℤ, int_lt, negsuc, not, Bool, cond, List, [], ◌∷◌, filter, sum_by}
+use Rattle.std.specs.Prelude.{◌≡◌, ℕ, ◌≤◌, ℤ, int_lt, negsuc, not, ◌&&◌, Bool, cond, List, [], ◌∷◌, filter, sum_by}
 use Rattle.rule_check.specs.Checked.{CheckedTree}
 use Rattle.rule_meaning.specs.declared.facts.Facts.{Facts}
 use Rattle.rule_meaning.specs.declared.event.Event.{Event}
@@ -42,6 +42,22 @@ is_nat_start s = s.is_nat
 
 abbrev pub starts_before : ℤ → Start → Bool
 starts_before priority s = int_lt s.priority priority
+
+-- the filters that run after the conntrack lookup
+abbrev pub is_late : Start → Bool
+is_late s = is_filter s && not (starts_before (negsuc 198) s)
+
+-- whether a start of the stage's hook runs in the stage
+abbrev pub is_in_stage : HookStage → Start → Bool
+is_in_stage stages.PreroutingRaw s = is_filter s && starts_before (negsuc 198) s
+is_in_stage stages.PreroutingBeforeNat s = is_late s && starts_before DSTNAT s
+is_in_stage stages.PreroutingNat s = is_nat_start s
+is_in_stage stages.PreroutingAfterNat s = is_late s && not (starts_before DSTNAT s)
+is_in_stage stages.Input s = is_filter s
+is_in_stage stages.Forward s = is_filter s
+is_in_stage stages.PostroutingBeforeNat s = is_filter s && starts_before SRCNAT s
+is_in_stage stages.PostroutingNat s = is_nat_start s
+is_in_stage stages.PostroutingAfterNat s = is_filter s && not (starts_before SRCNAT s)
 
 abbrev pub filter_starts : List Start → List Start
 filter_starts = filter is_filter

@@ -1,4 +1,4 @@
-use Rattle.std.proofs.Common.{List, ◌-◌, arith, sym, ap, ◌∙◌, subst}
+use Rattle.std.proofs.Common.{List, arith, sym, ap, ◌∙◌, subst}
 use Rattle.rule_meaning.specs.Hooks.{Chains}
 use Rattle.filter_vm.specs.declared.code.Start.{Start}
 use Rattle.hook_runs.specs.Stages.{chains_in_stage}
