@@ -1,5 +1,6 @@
 //! The warnings of a text, in its order.
 use crate::chains::judge_chains;
+use crate::intervals::{Coverage, Interval, cover};
 use crate::layout::judge_layout;
 use crate::rules::judge_rules;
 use crate::sets::judge_sets;
@@ -26,6 +27,8 @@ pub(crate) struct Findings<'a> {
     text: &'a [u8],
     /// With room for the most from the start.
     found: Vec<Finding>,
+    /// Those of the list that is judged, with room for the elements of any.
+    intervals: Vec<Interval>,
 }
 
 impl<'a> Findings<'a> {
@@ -33,6 +36,7 @@ impl<'a> Findings<'a> {
         Ok(Findings {
             text,
             found: Vec::with_capacity(alloc, MOST)?,
+            intervals: Vec::new(alloc),
         })
     }
 
@@ -48,9 +52,28 @@ impl<'a> Findings<'a> {
         }
     }
 
+    /// Forgets the intervals of the list before.
+    pub(crate) fn begin_list(&mut self) {
+        self.intervals.clear();
+    }
+
+    /// Adds the interval of an element.
+    pub(crate) fn add_interval(&mut self, interval: Interval) {
+        if self.intervals.len() < self.intervals.capacity() {
+            self.intervals.push_reserved(interval);
+        }
+    }
+
+    /// How the intervals of the list cover numbers together.
+    pub(crate) fn coverage(&mut self) -> Coverage {
+        cover(&mut self.intervals)
+    }
+
     /// Adds all warnings.
     fn judge(&mut self, alloc: Global, ruleset: &Ruleset) -> Result<(), AllocError> {
         let tokens = Tokens::read(alloc, self.text)?;
+        // An element has a token at least, and a comma or a brace before it.
+        self.intervals.reserve(tokens.len() / 2)?;
         self.judge_tokens(alloc, ruleset, &tokens)
     }
 
@@ -61,9 +84,10 @@ impl<'a> Findings<'a> {
         tokens: &Tokens<'_>,
     ) -> Result<(), AllocError> {
         judge_layout(tokens, self);
-        judge_sets(alloc, ruleset, tokens, self)?;
+        judge_sets(ruleset, tokens, self);
         judge_chains(alloc, ruleset, tokens, self)?;
-        judge_rules(alloc, ruleset, tokens, self)
+        judge_rules(ruleset, tokens, self);
+        Ok(())
     }
 
     /// One line for each warning, in the order of the text.

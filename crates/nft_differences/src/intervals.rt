@@ -1,6 +1,5 @@
 //! The numbers that the elements of a set or a map cover.
 use nft_tree::{ComparedType, Key, Value, ValueRange, ValueType};
-use std::alloc::{AllocError, Global};
 
 /// The numbers that an element covers, both ends included, and its place among the elements.
 #[derive(Clone, Copy)]
@@ -41,9 +40,8 @@ fn number_of_word(word: &[u8], value_type: ComparedType) -> Option<u128> {
 /// A name of at most 16 bytes as a number, with its missing bytes filled.
 fn name_number(name: &[u8], filler: u8) -> u128 {
     let mut bytes = [filler; 16];
-    for (byte, named) in bytes.iter_mut().zip(name.iter()) {
-        *byte = *named;
-    }
+    let length = name.len().min(bytes.len());
+    bytes[..length].copy_from_slice(&name[..length]);
     u128::from_be_bytes(bytes)
 }
 
@@ -100,18 +98,6 @@ pub(crate) fn interval_of(
     Some(Interval { low, high, element })
 }
 
-/// The interval of a key; none of a concatenation.
-pub(crate) fn interval_of_key(
-    key: &Key,
-    value_type: ComparedType,
-    element: usize,
-) -> Option<Interval> {
-    match key {
-        Key::Single(range) => interval_of(range, value_type, element),
-        Key::Joined(_) => None,
-    }
-}
-
 /// Whether nft takes the key for an interval.
 pub(crate) fn is_interval(range: &ValueRange) -> bool {
     match range {
@@ -124,13 +110,22 @@ pub(crate) fn is_interval(range: &ValueRange) -> bool {
 pub(crate) fn is_interval_key(key: &Key) -> bool {
     match key {
         Key::Single(range) => is_interval(range),
-        Key::Joined(values) => values.iter().any(|value| wildcard_stem(value).is_some()),
+        Key::Joined(values) => has_wildcard(values),
     }
 }
 
+fn has_wildcard(values: &[Value]) -> bool {
+    for value in values {
+        if wildcard_stem(value).is_some() {
+            return true;
+        }
+    }
+    false
+}
+
 /// How intervals cover numbers together.
-pub(crate) fn cover(intervals: &mut Vec<Interval>) -> Result<Coverage, AllocError> {
-    intervals.sort_by_key(|interval| (interval.low, interval.high))?;
+pub(crate) fn cover(intervals: &mut [Interval]) -> Coverage {
+    intervals.sort_unstable_by_key(|interval| (interval.low, interval.high, interval.element));
     let mut covered = Coverage {
         count: 0,
         joined: 0,
@@ -160,5 +155,5 @@ pub(crate) fn cover(intervals: &mut Vec<Interval>) -> Result<Coverage, AllocErro
         };
         last = Some(further);
     }
-    Ok(covered)
+    covered
 }

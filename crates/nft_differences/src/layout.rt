@@ -237,7 +237,12 @@ fn is_class(tokens: &Tokens<'_>, colon: usize) -> bool {
 }
 
 fn is_decimal(bytes: &[u8]) -> bool {
-    !bytes.is_empty() && bytes.iter().all(|byte| byte.is_ascii_digit())
+    for byte in bytes {
+        if !byte.is_ascii_digit() {
+            return false;
+        }
+    }
+    !bytes.is_empty()
 }
 
 /// Whether nft takes a letter behind a number for a unit of time.

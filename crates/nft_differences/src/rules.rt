@@ -12,12 +12,10 @@ use nft_tree::{
     Nat, Operand, Operator, Rule, Ruleset, Selector, SetRef, SourceTarget, Stmt, Table, Value,
     ValueRange,
 };
-use std::alloc::{AllocError, Global};
 
 /// A rule that is read from left to right, beside its tokens.
 #[derive(Clone, Copy)]
 struct Walk<'a, 't> {
-    alloc: Global,
     tokens: &'a Tokens<'t>,
     part: Range,
     /// The token up to which it is read.
@@ -27,44 +25,35 @@ struct Walk<'a, 't> {
 }
 
 /// Adds the warnings about rules.
-pub(crate) fn judge_rules(
-    alloc: Global,
-    ruleset: &Ruleset,
-    tokens: &Tokens<'_>,
-    findings: &mut Findings<'_>,
-) -> Result<(), AllocError> {
+pub(crate) fn judge_rules(ruleset: &Ruleset, tokens: &Tokens<'_>, findings: &mut Findings<'_>) {
     let mut outline = Outline::START;
     for table in &ruleset.tables {
-        judge_table(alloc, table, tokens, &mut outline, findings)?;
+        judge_table(table, tokens, &mut outline, findings);
     }
-    Ok(())
 }
 
 /// Adds the warnings about a table's rules, which are the next ones of the outline.
 fn judge_table(
-    alloc: Global,
     table: &Table,
     tokens: &Tokens<'_>,
     outline: &mut Outline,
     findings: &mut Findings<'_>,
-) -> Result<(), AllocError> {
+) {
     for item in &table.items {
         if let Some(chain) = item.chain() {
-            judge_chain(alloc, table.family, chain, tokens, outline, findings)?;
+            judge_chain(table.family, chain, tokens, outline, findings);
         }
     }
-    Ok(())
 }
 
 /// Adds the warnings about the rules of a chain in a table of a family.
 fn judge_chain(
-    alloc: Global,
     family: Family,
     chain: &Chain,
     tokens: &Tokens<'_>,
     outline: &mut Outline,
     findings: &mut Findings<'_>,
-) -> Result<(), AllocError> {
+) {
     let is_early = match &chain.head {
         Some(head) => is_early(head),
         None => false,
@@ -72,43 +61,33 @@ fn judge_chain(
     for rule in &chain.rules {
         let part = outline.next_or_empty(tokens, PartKind::Rule);
         let mut walk = Walk {
-            alloc,
             tokens,
             part,
             at: part.start,
             protocols: Protocols::new(family),
             is_early,
         };
-        walk.judge(rule, findings)?;
+        walk.judge(rule, findings);
     }
-    Ok(())
 }
 
 impl Walk<'_, '_> {
-    fn judge(&mut self, rule: &Rule, findings: &mut Findings<'_>) -> Result<(), AllocError> {
+    fn judge(&mut self, rule: &Rule, findings: &mut Findings<'_>) {
         for statement in &rule.statements {
-            self.judge_statement(statement, findings)?;
+            self.judge_statement(statement, findings);
         }
-        Ok(())
     }
 
-    fn judge_statement(
-        &mut self,
-        statement: &Stmt,
-        findings: &mut Findings<'_>,
-    ) -> Result<(), AllocError> {
+    fn judge_statement(&mut self, statement: &Stmt, findings: &mut Findings<'_>) {
         match statement {
-            Stmt::Match(test) => {
-                self.judge_match(test, findings);
-                Ok(())
-            }
+            Stmt::Match(test) => self.judge_match(test, findings),
             Stmt::VerdictMap(selector, map) => {
                 self.read(*selector, findings);
-                self.judge_map(*selector, map, findings)
+                self.judge_map(*selector, map, findings);
             }
             Stmt::SetMark(_, Operand::MapLookup(lookup)) => self.judge_lookup(lookup, findings),
             Stmt::Nat(nat) => self.judge_nat(nat, findings),
-            _ => Ok(()),
+            _ => {}
         }
     }
 
@@ -128,31 +107,19 @@ impl Walk<'_, '_> {
         place
     }
 
-    fn judge_lookup(
-        &mut self,
-        lookup: &MapLookup,
-        findings: &mut Findings<'_>,
-    ) -> Result<(), AllocError> {
+    fn judge_lookup(&mut self, lookup: &MapLookup, findings: &mut Findings<'_>) {
         self.read(lookup.selector, findings);
-        self.judge_map(lookup.selector, &lookup.map, findings)
+        self.judge_map(lookup.selector, &lookup.map, findings);
     }
 
     /// Judges the map of a selector that was read.
-    fn judge_map(
-        &mut self,
-        selector: Selector,
-        map: &MapRef,
-        findings: &mut Findings<'_>,
-    ) -> Result<(), AllocError> {
+    fn judge_map(&self, selector: Selector, map: &MapRef, findings: &mut Findings<'_>) {
         if matches!(selector, Selector::CtStatus) {
             findings.add(self.tokens, self.at, Warning::WholeStatus);
         }
-        match map {
-            MapRef::Named(_) => Ok(()),
-            MapRef::Anonymous(pairs) => {
-                let list = List::new(self.tokens, self.part, self.at);
-                list.judge_anonymous_map(self.alloc, pairs, selector.kind(), findings)
-            }
+        if let MapRef::Anonymous(pairs) = map {
+            let list = List::new(self.tokens, self.part, self.at);
+            list.judge_anonymous_map(pairs, selector.kind(), findings);
         }
     }
 
@@ -331,7 +298,7 @@ impl Walk<'_, '_> {
         }
     }
 
-    fn judge_nat(&mut self, nat: &Nat, findings: &mut Findings<'_>) -> Result<(), AllocError> {
+    fn judge_nat(&mut self, nat: &Nat, findings: &mut Findings<'_>) {
         let word = word_of(nat);
         let place = self.part.place_of(self.tokens, self.at, word);
         let next = place.saturating_add(1);
@@ -351,9 +318,9 @@ impl Walk<'_, '_> {
         match nat {
             Nat::Source(SourceTarget::MapLookup(lookup))
             | Nat::Destination(DestinationTarget::MapLookup(lookup)) => {
-                self.judge_lookup(lookup, findings)
+                self.judge_lookup(lookup, findings);
             }
-            _ => Ok(()),
+            _ => {}
         }
     }
 }

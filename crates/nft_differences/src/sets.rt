@@ -1,9 +1,6 @@
 //! What nft(8) refuses of sets and maps.
 use crate::findings::Findings;
-use crate::intervals::{
-    Coverage, Interval, cover, interval_of, interval_of_key, is_interval, is_interval_key,
-    wildcard_stem,
-};
+use crate::intervals::{Coverage, interval_of, is_interval, is_interval_key, wildcard_stem};
 use crate::names::is_reserved_element;
 use crate::outline::{Outline, PartKind, Range};
 use crate::tokens::Tokens;
@@ -12,7 +9,6 @@ use nft_tree::{
     ComparedType, Element, Item, Key, MapDecl, Pair, Ruleset, SetDecl, SetFlag, Table, Value,
     ValueRange, ValueType,
 };
-use std::alloc::{AllocError, Global};
 
 /// The most bytes before the `*` of an interface's name.
 const MOST_OF_STEM: usize = 14;
@@ -92,42 +88,77 @@ pub(crate) fn is_interface(value_type: ComparedType) -> bool {
     )
 }
 
+/// An element of a set or a map.
+pub(crate) trait Listed: Drop {
+    /// Its key; none of a concatenation.
+    fn range(&self) -> Option<&ValueRange>;
+
+    /// Whether nft takes its key for an interval.
+    fn is_interval(&self) -> bool;
+}
+
+impl Listed for Element {
+    fn range(&self) -> Option<&ValueRange> {
+        match &self.key {
+            Key::Single(range) => Some(range),
+            Key::Joined(_) => None,
+        }
+    }
+
+    fn is_interval(&self) -> bool {
+        is_interval_key(&self.key)
+    }
+}
+
+impl Listed for Pair {
+    fn range(&self) -> Option<&ValueRange> {
+        Some(&self.key)
+    }
+
+    fn is_interval(&self) -> bool {
+        is_interval(&self.key)
+    }
+}
+
+/// What a declaration says of its elements.
+#[derive(Clone, Copy)]
+struct Declared {
+    key: ComparedType,
+    size: Option<u64>,
+    is_interval: bool,
+    is_constant: bool,
+    /// Whether elements that overlap or touch are joined.
+    is_merged: bool,
+}
+
 /// Adds the warnings about sets and maps.
-pub(crate) fn judge_sets(
-    alloc: Global,
-    ruleset: &Ruleset,
-    tokens: &Tokens<'_>,
-    findings: &mut Findings<'_>,
-) -> Result<(), AllocError> {
+pub(crate) fn judge_sets(ruleset: &Ruleset, tokens: &Tokens<'_>, findings: &mut Findings<'_>) {
     let mut outline = Outline::START;
     for table in &ruleset.tables {
-        judge_table(alloc, table, tokens, &mut outline, findings)?;
+        judge_table(table, tokens, &mut outline, findings);
     }
-    Ok(())
 }
 
 /// Adds the warnings about a table's sets and maps, which are the next ones of the outline.
 fn judge_table(
-    alloc: Global,
     table: &Table,
     tokens: &Tokens<'_>,
     outline: &mut Outline,
     findings: &mut Findings<'_>,
-) -> Result<(), AllocError> {
+) {
     for item in &table.items {
         match item {
             Item::Set(set) => {
                 let part = outline.next_or_empty(tokens, PartKind::Set);
-                judge_set(alloc, set, tokens, part, findings)?;
+                judge_set(set, tokens, part, findings);
             }
             Item::Map(map) => {
                 let part = outline.next_or_empty(tokens, PartKind::Set);
-                judge_map(alloc, map, tokens, part, findings)?;
+                judge_map(map, tokens, part, findings);
             }
             Item::Comment(_) | Item::Chain(_) => {}
         }
     }
-    Ok(())
 }
 
 fn has_flag(flags: &Option<Vec<SetFlag>>, wanted: SetFlag) -> bool {
@@ -142,121 +173,71 @@ fn has_flag(flags: &Option<Vec<SetFlag>>, wanted: SetFlag) -> bool {
     false
 }
 
-fn judge_set(
-    alloc: Global,
-    set: &SetDecl,
-    tokens: &Tokens<'_>,
-    part: Range,
-    findings: &mut Findings<'_>,
-) -> Result<(), AllocError> {
-    if set.auto_merge && !has_flag(&set.flags, SetFlag::Interval) {
+fn judge_set(set: &SetDecl, tokens: &Tokens<'_>, part: Range, findings: &mut Findings<'_>) {
+    let is_interval = has_flag(&set.flags, SetFlag::Interval);
+    if set.auto_merge && !is_interval {
         let place = part.place_of(tokens, part.start, b"auto-merge");
         findings.add(tokens, place, Warning::AutoMergeWithoutInterval);
     }
-    match &set.elements {
-        Some(elements) => listed(tokens, part).judge_set(alloc, set, elements, findings),
-        None => Ok(()),
+    let declared = Declared {
+        key: set.key.kind(0).unwrap_or(ComparedType::Unnamed(0)),
+        size: set.size,
+        is_interval,
+        is_constant: has_flag(&set.flags, SetFlag::Constant),
+        is_merged: set.auto_merge,
+    };
+    if let Some(elements) = &set.elements {
+        elements_in(tokens, part).judge(declared, elements, findings);
     }
 }
 
-fn judge_map(
-    alloc: Global,
-    map: &MapDecl,
-    tokens: &Tokens<'_>,
-    part: Range,
-    findings: &mut Findings<'_>,
-) -> Result<(), AllocError> {
+fn judge_map(map: &MapDecl, tokens: &Tokens<'_>, part: Range, findings: &mut Findings<'_>) {
     if map.auto_merge {
         let place = part.place_of(tokens, part.start, b"auto-merge");
         findings.add(tokens, place, Warning::AutoMergeOfMap);
     }
-    match &map.elements {
-        Some(pairs) => listed(tokens, part).judge_map(alloc, map, pairs, findings),
-        None => Ok(()),
+    let declared = Declared {
+        key: map.types.key(),
+        size: map.size,
+        is_interval: has_flag(&map.flags, SetFlag::Interval),
+        is_constant: has_flag(&map.flags, SetFlag::Constant),
+        is_merged: false,
+    };
+    if let Some(pairs) = &map.elements {
+        elements_in(tokens, part).judge(declared, pairs, findings);
     }
 }
 
 /// The elements of a set or a map.
-fn listed<'a, 't>(tokens: &'a Tokens<'t>, part: Range) -> List<'a, 't> {
+fn elements_in<'a, 't>(tokens: &'a Tokens<'t>, part: Range) -> List<'a, 't> {
     let word = part.find_pair(tokens, part.start, b"elements", b"=");
     List::new(tokens, part, word.unwrap_or(part.start))
 }
 
-/// The first element of a set that nft takes for an interval.
-fn first_interval(elements: &[Element]) -> Option<usize> {
+/// The first element that nft takes for an interval.
+fn first_interval<E: Listed>(elements: &[E]) -> Option<usize> {
     for (number, element) in elements.iter().enumerate() {
-        if is_interval_key(&element.key) {
+        if element.is_interval() {
             return Some(number);
         }
     }
     None
 }
 
-/// The first element of a map whose key nft takes for an interval.
-fn first_interval_of_map(pairs: &[Pair]) -> Option<usize> {
-    for (number, pair) in pairs.iter().enumerate() {
-        if is_interval(&pair.key) {
-            return Some(number);
-        }
-    }
-    None
-}
-
-/// How the elements of a set cover numbers; none where that isn't known, as of concatenations.
-fn elements_coverage(
-    alloc: Global,
-    elements: &[Element],
+/// How elements cover numbers; none where that isn't known.
+fn coverage<E: Listed>(
+    elements: &[E],
     value_type: ComparedType,
-) -> Result<Option<Coverage>, AllocError> {
-    let mut intervals = Vec::new(alloc);
-    match add_elements(&mut intervals, elements, value_type)? {
-        None => Ok(Some(cover(&mut intervals)?)),
-        Some(Key::Joined(_)) => Ok(Some(distinct(elements.len()))),
-        Some(Key::Single(_)) => Ok(None),
-    }
-}
-
-/// Adds the intervals of elements up to the first that has none, and returns the key of that.
-fn add_elements<'a>(
-    intervals: &mut Vec<Interval>,
-    elements: &'a [Element],
-    value_type: ComparedType,
-) -> Result<Option<&'a Key>, AllocError> {
+    findings: &mut Findings<'_>,
+) -> Option<Coverage> {
+    findings.begin_list();
     for (number, element) in elements.iter().enumerate() {
-        match interval_of_key(&element.key, value_type, number) {
-            Some(interval) => intervals.push(interval)?,
-            None => return Ok(Some(&element.key)),
-        }
+        let Some(range) = element.range() else {
+            return Some(distinct(elements.len()));
+        };
+        findings.add_interval(interval_of(range, value_type, number)?);
     }
-    Ok(None)
-}
-
-/// How the keys of a map cover numbers; none where that isn't known.
-fn pairs_coverage(
-    alloc: Global,
-    pairs: &[Pair],
-    key: ComparedType,
-) -> Result<Option<Coverage>, AllocError> {
-    let mut intervals = Vec::new(alloc);
-    if add_pairs(&mut intervals, pairs, key)? {
-        return Ok(Some(cover(&mut intervals)?));
-    }
-    Ok(None)
-}
-
-/// Adds the intervals of the keys of a map, and returns whether each has one.
-fn add_pairs(
-    intervals: &mut Vec<Interval>,
-    pairs: &[Pair],
-    key: ComparedType,
-) -> Result<bool, AllocError> {
-    for (number, pair) in pairs.iter().enumerate() {
-        match interval_of(&pair.key, key, number) {
-            Some(interval) => intervals.push(interval)?,
-            None => return Ok(false),
-        }
-    }
-    Ok(true)
+    Some(findings.coverage())
 }
 
 /// The coverage of so many concatenations.
@@ -269,61 +250,26 @@ fn distinct(count: usize) -> Coverage {
 }
 
 impl List<'_, '_> {
-    /// Adds what nft refuses of the elements of a declared set.
-    fn judge_set(
-        self,
-        alloc: Global,
-        set: &SetDecl,
-        elements: &[Element],
-        findings: &mut Findings<'_>,
-    ) -> Result<(), AllocError> {
-        let has_interval = has_flag(&set.flags, SetFlag::Interval);
-        if !has_interval {
+    /// Adds what nft refuses of the elements of a declared set or map.
+    fn judge<E: Listed>(self, declared: Declared, elements: &[E], findings: &mut Findings<'_>) {
+        if !declared.is_interval {
             self.judge_without_interval(first_interval(elements), findings);
         }
-        let value_type = set.key.kind(0).unwrap_or(ComparedType::Unnamed(0));
-        self.judge_elements(elements, value_type, findings);
-        let Some(covered) = elements_coverage(alloc, elements, value_type)? else {
-            return Ok(());
+        self.judge_elements(elements, declared.key, findings);
+        let Some(covered) = coverage(elements, declared.key, findings) else {
+            return;
         };
-        if has_interval && !set.auto_merge {
+        if declared.is_interval && !declared.is_merged {
             self.judge_overlap(covered, findings);
         }
-        let count = if set.auto_merge {
+        let count = if declared.is_merged {
             covered.joined
         } else {
             covered.count
         };
-        if !has_flag(&set.flags, SetFlag::Constant) {
-            self.judge_size(set.size, count, findings);
+        if !declared.is_constant {
+            self.judge_size(declared.size, count, findings);
         }
-        Ok(())
-    }
-
-    /// Adds what nft refuses of the elements of a declared map.
-    fn judge_map(
-        self,
-        alloc: Global,
-        map: &MapDecl,
-        pairs: &[Pair],
-        findings: &mut Findings<'_>,
-    ) -> Result<(), AllocError> {
-        let has_interval = has_flag(&map.flags, SetFlag::Interval);
-        if !has_interval {
-            self.judge_without_interval(first_interval_of_map(pairs), findings);
-        }
-        let key = map.types.key();
-        self.judge_keys(pairs, key, findings);
-        let Some(covered) = pairs_coverage(alloc, pairs, key)? else {
-            return Ok(());
-        };
-        if has_interval {
-            self.judge_overlap(covered, findings);
-        }
-        if !has_flag(&map.flags, SetFlag::Constant) {
-            self.judge_size(map.size, covered.count, findings);
-        }
-        Ok(())
     }
 
     fn judge_size(self, size: Option<u64>, count: usize, findings: &mut Findings<'_>) {
@@ -347,10 +293,10 @@ impl List<'_, '_> {
         }
     }
 
-    /// Adds what nft refuses of the literals of a set.
-    pub(crate) fn judge_elements(
+    /// Adds what nft refuses of the literals of elements.
+    pub(crate) fn judge_elements<E: Listed>(
         mut self,
-        elements: &[Element],
+        elements: &[E],
         value_type: ComparedType,
         findings: &mut Findings<'_>,
     ) {
@@ -359,20 +305,7 @@ impl List<'_, '_> {
         }
         for element in elements {
             let start = self.next();
-            if let Key::Single(ValueRange::One(value)) = &element.key {
-                self.judge_value(value, start, findings);
-            }
-        }
-    }
-
-    /// Adds what nft refuses of the keys of a map.
-    fn judge_keys(mut self, pairs: &[Pair], key: ComparedType, findings: &mut Findings<'_>) {
-        if !is_interface(key) {
-            return;
-        }
-        for pair in pairs {
-            let start = self.next();
-            if let ValueRange::One(value) = &pair.key {
+            if let Some(ValueRange::One(value)) = element.range() {
                 self.judge_value(value, start, findings);
             }
         }
@@ -381,15 +314,13 @@ impl List<'_, '_> {
     /// Adds what nft refuses of an anonymous map.
     pub(crate) fn judge_anonymous_map(
         self,
-        alloc: Global,
         pairs: &[Pair],
         key: ComparedType,
         findings: &mut Findings<'_>,
-    ) -> Result<(), AllocError> {
-        self.judge_keys(pairs, key, findings);
-        if let Some(covered) = pairs_coverage(alloc, pairs, key)? {
+    ) {
+        self.judge_elements(pairs, key, findings);
+        if let Some(covered) = coverage(pairs, key, findings) {
             self.judge_overlap(covered, findings);
         }
-        Ok(())
     }
 }

@@ -148,7 +148,7 @@ fn begins_line(text: &[u8], offset: usize) -> bool {
 
 /// The token at an offset or behind the blanks there. A comment is a mark up to its line's end.
 fn token_at(text: &[u8], from: usize) -> Option<Token> {
-    let start = end_of(text, from, is_blank);
+    let start = end_of(text, from, Run::Blanks);
     match *text.get(start)? {
         b'\n' => Some(Token {
             kind: TokenKind::Newline,
@@ -162,7 +162,7 @@ fn token_at(text: &[u8], from: usize) -> Option<Token> {
 
 /// The token behind a backslash and its newline.
 fn token_behind(text: &[u8], offset: usize) -> Option<Token> {
-    let start = end_of(text, offset, is_skipped);
+    let start = end_of(text, offset, Run::Skipped);
     Some(token_of(text, start, *text.get(start)?))
 }
 
@@ -170,18 +170,13 @@ fn token_behind(text: &[u8], offset: usize) -> Option<Token> {
 fn token_of(text: &[u8], start: usize, first: u8) -> Token {
     let next = start.saturating_add(1);
     let (kind, end) = match first {
-        b'#' => (TokenKind::Mark, end_of(text, next, |byte| byte != b'\n')),
+        b'#' => (TokenKind::Mark, end_of(text, next, Run::Comment)),
         b'"' => (TokenKind::String, end_of_string(text, next)),
         b'0'..=b'9' => (TokenKind::Number, end_of_number(text, start)),
-        b'a'..=b'z' | b'A'..=b'Z' | b'_' => (TokenKind::Word, end_of(text, next, continues_word)),
+        b'a'..=b'z' | b'A'..=b'Z' | b'_' => (TokenKind::Word, end_of(text, next, Run::Word)),
         _ => (TokenKind::Mark, next),
     };
     Token { kind, start, end }
-}
-
-/// Whether a byte is skipped behind a backslash.
-fn is_skipped(byte: u8) -> bool {
-    is_blank(byte) || matches!(byte, b'\n' | b'\\')
 }
 
 fn is_blank(byte: u8) -> bool {
@@ -193,13 +188,38 @@ pub(crate) fn continues_word(byte: u8) -> bool {
     byte.is_ascii_alphanumeric() || matches!(byte, b'_' | b'-' | b'.' | b'/')
 }
 
-/// The first offset from this one on at which a byte doesn't pass.
-fn end_of<F: Fn(u8) -> bool>(text: &[u8], from: usize, passes: F) -> usize
-    requires { F.IsAlwaysCallable passes }
-{
+/// What a run of bytes consists of.
+#[derive(Clone, Copy)]
+enum Run {
+    Blanks,
+    /// What is skipped behind a backslash.
+    Skipped,
+    Comment,
+    String,
+    Word,
+    Digits,
+    HexDigits,
+}
+
+impl Run {
+    fn continues(self, byte: u8) -> bool {
+        match self {
+            Run::Blanks => is_blank(byte),
+            Run::Skipped => is_blank(byte) || byte == b'\n' || byte == b'\\',
+            Run::Comment => byte != b'\n',
+            Run::String => byte != b'"' && byte != b'\n',
+            Run::Word => continues_word(byte),
+            Run::Digits => byte.is_ascii_digit(),
+            Run::HexDigits => byte.is_ascii_hexdigit(),
+        }
+    }
+}
+
+/// The end of the run that begins at an offset.
+fn end_of(text: &[u8], from: usize, run: Run) -> usize {
     let mut at = from;
     for byte in part_of(text, from, text.len()) {
-        if !passes(*byte) {
+        if !run.continues(*byte) {
             break;
         }
         at = at.saturating_add(1);
@@ -208,7 +228,7 @@ fn end_of<F: Fn(u8) -> bool>(text: &[u8], from: usize, passes: F) -> usize
 }
 
 fn end_of_string(text: &[u8], from: usize) -> usize {
-    let end = end_of(text, from, |byte| byte != b'"' && byte != b'\n');
+    let end = end_of(text, from, Run::String);
     if byte_at(text, end) == b'"' {
         end.saturating_add(1)
     } else {
@@ -220,24 +240,16 @@ fn end_of_string(text: &[u8], from: usize) -> usize {
 fn end_of_number(text: &[u8], start: usize) -> usize {
     let second = start.saturating_add(1);
     if byte_at(text, start) == b'0' && byte_at(text, second) == b'x' {
-        return end_of(
-            text,
-            second.saturating_add(1),
-            |byte| byte.is_ascii_hexdigit(),
-        );
+        return end_of(text, second.saturating_add(1), Run::HexDigits);
     }
-    let first = end_of(text, start, is_digit);
+    let first = end_of(text, start, Run::Digits);
     let mut end = first;
     for _ in 0..3 {
         let group = end.saturating_add(1);
-        if byte_at(text, end) != b'.' || !is_digit(byte_at(text, group)) {
+        if byte_at(text, end) != b'.' || !byte_at(text, group).is_ascii_digit() {
             return first;
         }
-        end = end_of(text, group, is_digit);
+        end = end_of(text, group, Run::Digits);
     }
     end
-}
-
-fn is_digit(byte: u8) -> bool {
-    byte.is_ascii_digit()
 }
