@@ -1,6 +1,6 @@
 -- Lemmas on lists: searches in filtered lists.
 use Rattle.conntrack.proofs.Names.{Bool, List, None, Some, [], ap, arith, false, filter, find, find-filter, list_all, list_any, map, not, refl, true, ◌&&◌}
-use Rattle.conntrack.proofs.Names.{◌||◌, ◌∷◌, ◌≡◌}
+use Rattle.conntrack.proofs.Names.{is_some, ◌||◌, ◌∷◌, ◌≡◌}
 
 pub ruleset find_filter_rules = (find-filter)
 
@@ -26,6 +26,11 @@ list_any_found p q (y ∷ xs) x h = grind (arith, list_any_found p q xs x)
 pub none_passes : {X : Type 0} (p : X → Bool) (xs : List X) → find p xs ≡ None → list_any p xs ≡ false
 none_passes p [] h = refl
 none_passes p (x ∷ xs) h = grind (arith, none_passes p xs)
+
+-- one is found where one passes
+pub is_some-find : {X : Type 0} (p : X → Bool) (xs : List X) → is_some (find p xs) ≡ list_any p xs
+is_some-find p [] = refl
+is_some-find p (x ∷ xs) = grind (arith, is_some-find p xs)
 
 -- a filter and a map that change along
 pub map-filter-change : {A B : Type 0} (f g : A → B) (p q : A → Bool) (r : B → Bool) (u : B → B) (t : A → Bool)

@@ -37,4 +37,4 @@ pub use Rattle.std.proofs.lemmas.List.Elements.{filter-append}
 pub use Rattle.std.proofs.lemmas.List.Folds.{list_all-append, list_any-append}
 pub use Rattle.std.specs.List.{find, list_all, list_any}
 pub use Rattle.std.specs.Option.{option_map}
-pub use Rattle.std.specs.Prelude.{filter, if◌then◌else◌, nat_lt}
+pub use Rattle.std.specs.Prelude.{filter, if◌then◌else◌, is_some, nat_lt}

@@ -3,7 +3,7 @@ ghost use Rattle.std.specs.Prelude.{◌≡◌, ◌+◌, ◌<◌, ◌≤◌, ◌^
 ghost use Rattle.std.specs.Prelude.{IsTrue, IfOk, OnOk, OnErr, IfSome, IfNone, ◌-◌, nat_lt, vec_len, vec_capacity};
 ghost use Rattle.std.specs.Prelude.{filter, if◌then◌else◌, length};
 ghost use Rattle.std.specs.List.{find, list_any};
-ghost use Rattle.conntrack.specs.steps.Entries.{has_ids_below, has_tuple};
+ghost use Rattle.conntrack.specs.steps.Entries.{has_ids_below, has_tuple, is_sought};
 ghost use Rattle.conntrack.specs.ConntrackEntry.{have_disjoint_tuples, belongs_in, has_distinct_ids, has_id};
 ghost use Rattle.conntrack.specs.ConntrackEntry.{is_live, is_taken, live_at};
 ghost use Rattle.conntrack.specs.ConntrackEntry.{same_id, touched, touched_at, without};
@@ -39,20 +39,39 @@ fn has_tuple(held: &ConntrackEntry, direction: Direction, tuple: Tuple) -> bool
     }
 }
 
-/// The first live entry with this tuple in a direction.
-fn find_live(
-    conns: &[ConntrackEntry],
-    limits: Limits,
-    direction: Direction,
-    tuple: Tuple,
-    now: Moment,
-) -> Option<ConntrackEntry>
-    ensures { result ≡ find (λ h. is_live limits now h && has_tuple tuple direction h) conns.now }
+/// What an entry is sought by.
+#[derive(Clone, Copy)]
+enum Sought {
+    /// The tuple of its incoming packets in a direction, while it is live.
+    Live(Direction, Tuple, Limits, Moment),
+    /// That it has expired.
+    Expired(Limits, Moment),
+    Id(ConnId),
+    /// An incoming tuple.
+    Incoming(Tuple),
+}
+
+impl Sought {
+    /// Whether it is such an entry.
+    fn is_met_by(self, held: &ConntrackEntry) -> bool
+        ensures { result ≡ is_sought self held.now }
+    {
+        match self {
+            Sought::Live(direction, tuple, limits, now) => {
+                held.is_live(limits, now) && has_tuple(held, direction, tuple)
+            }
+            Sought::Expired(limits, now) => !held.is_live(limits, now),
+            Sought::Id(id) => held.id == id,
+            Sought::Incoming(tuple) => held.original == tuple || held.reply == tuple,
+        }
+    }
+}
+
+/// The first such entry.
+fn find(conns: &[ConntrackEntry], sought: Sought) -> Option<ConntrackEntry>
+    ensures { result ≡ find (is_sought sought) conns.now }
 {
-    conns
-        .iter()
-        .find(|held| held.is_live(limits, now) && has_tuple(held, direction, tuple))
-        .copied()
+    conns.iter().find(|held| sought.is_met_by(held)).copied()
 }
 
 /// Looks up a packet among the live entries.
@@ -66,7 +85,7 @@ fn look_in(
 ) -> Belonging
     ensures { result ≡ belongs_in (live_at limits now conns.now) tuple flags }
 {
-    match find_live(conns, limits, Direction::Original, tuple, now) {
+    match find(conns, Sought::Live(Direction::Original, tuple, limits, now)) {
         Some(held) => {
             if flags.is_lone_syn() && held.is_closing() {
                 Belonging::Ends(held.id)
@@ -74,7 +93,7 @@ fn look_in(
                 Belonging::Found(ConnectionRef::of(&held, Direction::Original))
             }
         }
-        None => match find_live(conns, limits, Direction::Reply, tuple, now) {
+        None => match find(conns, Sought::Live(Direction::Reply, tuple, limits, now)) {
             Some(held) => Belonging::Found(ConnectionRef::of(&held, Direction::Reply)),
             None => Belonging::NotFound,
         },
@@ -85,9 +104,7 @@ fn look_in(
 fn is_taken(conns: &[ConntrackEntry], tuple: Tuple) -> bool
     ensures { result ≡ is_taken tuple conns.now }
 {
-    conns.iter().any(|held| {
-        has_tuple(held, Direction::Original, tuple) || has_tuple(held, Direction::Reply, tuple)
-    })
+    find(conns, Sought::Incoming(tuple)).is_some()
 }
 
 /// Updates the entry for one more packet, if it has this id.
@@ -132,19 +149,9 @@ fn take_out(conns: &mut Vec<ConntrackEntry>, id: ConnId) -> Option<ConntrackEntr
     ensures capacity { vec_capacity conns.new ≡ vec_capacity conns.old }
     ensures len { vec_len conns.new ≤ vec_len conns.old }
 {
-    let found = conns.iter().find(|held| held.id == id).copied();
+    let found = find(conns, Sought::Id(id));
     conns.retain(|held| held.id != id);
     found
-}
-
-/// The first expired entry.
-fn find_expired(conns: &[ConntrackEntry], limits: Limits, now: Moment) -> Option<ConntrackEntry>
-    ensures { result ≡ find (λ h. not (is_live limits now h)) conns.now }
-{
-    conns
-        .iter()
-        .find(|held| !held.is_live(limits, now))
-        .copied()
 }
 
 impl Tracker for ListTracker {
@@ -227,7 +234,7 @@ impl Tracker for ListTracker {
 
     fn age(&mut self, now: Moment, steps: &mut Steps) -> Option<Aged> {
         steps.add(self.conns.len());
-        let expired = find_expired(&self.conns, self.limits, now)?;
+        let expired = find(&self.conns, Sought::Expired(self.limits, now))?;
         take_out(&mut self.conns, expired.id);
         Some(expired.aged())
     }

@@ -8,7 +8,7 @@ pub returns-clause-some : goal.returns-clause-some
 returns-clause-some c =
     let distinct = c.args.self.now.distinct in
     let was = c.in_ok-expired.was in
-    grind (arith, c.deref.ensures.value, c.find_expired.ensures, was, c.aged.ensures, c.take_out.ensures.items, found_by_id, filter-without_first, distinct)
+    grind (arith, c.deref.ensures.value, c.find.ensures, was, c.aged.ensures, c.take_out.ensures.items, found_by_id, filter-without_first, distinct)
 
 pub invariant_of-self : goal.invariant_of-self
 invariant_of-self c = grind (arith, end_rules)

@@ -1,5 +1,5 @@
 use Rattle.conntrack.proofs.Names.{YieldsList-from_slice, find_from_yields_List, rules, tests, ◌∙◌}
-use Rattle.conntrack.proofs.list_tracker.find_live.Goals as goal
+use Rattle.conntrack.proofs.list_tracker.find.Goals as goal
 
 pub returns : goal.returns
 returns c = c.copied.ensures ∙ find_from_yields_List _ _ _ c.find.result c.find.ensures.ran
