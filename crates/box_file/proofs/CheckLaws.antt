@@ -1,5 +1,5 @@
 -- The checks on keys agree with the checks on lines.
-use Rattle.box_file.proofs.Names.{Bool, Bor, HashSet, List, [], any_of_map, any_pair, ap, contains, interface_tree, list_any, map, nat_eq, not, pointwise, refl}
+use Rattle.box_file.proofs.Names.{Bool, Bor, List, [], any_of_map, any_pair, ap, interface_tree, list_any, map, nat_eq, not, pointwise, refl}
 use Rattle.box_file.proofs.Names.{two_indexes, two_names, two_values, ℕ, ◌&&◌, ◌==◌, ◌∷◌, ◌≡◌}
 use Rattle.box_file.specs.declared.line.InterfaceLine.{InterfaceLine}
 use Rattle.box_file.proofs.NumberLaws.{same_text-pointwise}
@@ -26,8 +26,3 @@ names_differ l m = ap (λ v. (l.index == m.index) && not v) (same_text-pointwise
 pub indexes_differ : (l m : InterfaceLine) → two_values (λ (x y : Bor (List ℕ)). pointwise nat_eq x.now y.now) nat_eq (l.name, l.index) (m.name, m.index)
     ≡ two_indexes (interface_tree l) (interface_tree m)
 indexes_differ l m = ap (λ v. v && not (l.index == m.index)) (same_text-pointwise l.name.now m.name.now)
-
--- ---- unknown names
-
-abbrev pub has : {S : Type 0} → HashSet (Bor (List ℕ)) S → Bor (List ℕ) → Bool
-has known n = contains (λ x y. pointwise nat_eq x.now y.now) known n

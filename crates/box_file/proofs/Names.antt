@@ -2,7 +2,7 @@
 pub use Rattle.box_file.specs.Box.{AreLimits, HasBoxFault, Idle, Interface, IsBox, IsIndex, IsLine, IsName, Line, NamedRoute, PlantTree, Reads, RouteEntry}
 pub use Rattle.box_file.specs.Box.{any_pair, best_interface, best_of, covers, default_line, defaults_in, each_is_line, entering_of, greatest, has_address}
 pub use Rattle.box_file.specs.Box.{has_index, idle_for, idle_line, idles_in, index_of, interface_line, interfaces_in, is_named, is_of_kind, is_out_of_range}
-pub use Rattle.box_file.specs.Box.{is_unknown, known_index, least_fault, plant_of, route_line, route_of_line, routes_in, same_text, seconds_of, two_indexes}
+pub use Rattle.box_file.specs.Box.{is_malformed, is_unknown, known_index, least_fault, plant_of, route_line, route_of_line, routes_in, same_text, seconds_of, two_indexes}
 pub use Rattle.box_file.specs.Box.{two_names, words_in}
 pub use Rattle.box_file.specs.Idle.{limit_for, minimum_for, usual_limits, word_of}
 pub use Rattle.box_file.specs.Text.{before_comment, dotted, dotted_prefix, is_blank, is_newline, is_nonempty, is_numeral, lines_of, onto_first, parts_of}
@@ -14,7 +14,7 @@ pub use Rattle.box_file.specs.steps.Reading.{begins_word, cut, ends_word, first_
 pub use Rattle.box_file.specs.steps.Reading.{lines_in, route_tree, uncons}
 unfoldable pub use Rattle.box_file.specs.steps.Reading.{address_in, all_in, default_words, idle_words, interface_words, line_in, name_in, number_in, octet_in}
 unfoldable pub use Rattle.box_file.specs.steps.Reading.{prefixed_in, route_words}
-pub use Rattle.box_file.specs.steps.Tests.{AreLinesByKind, Computes, two_values}
+pub use Rattle.box_file.specs.steps.Tests.{AreLinesByKind, lacks, two_values}
 pub use Rattle.list_laws.specs.Lists.{any_of_map, find-filter, rest_from}
 pub use Rattle.list_laws.specs.Options.{IfSome_at, ◌>>=◌}
 pub use Rattle.set_intervals.specs.Pairs.{first_value, in_range}

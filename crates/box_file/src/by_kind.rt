@@ -10,13 +10,24 @@ use crate::line::{InterfaceLine, Line, RouteLine};
 use std::alloc::{AllocError, Global};
 
 /// The lines of a text by kind, in text order.
-#[derive(Drop)]
 pub struct LinesByKind<'t> {
     pub interfaces: Vec<InterfaceLine<'t>>,
     pub routes: Vec<RouteLine<'t>>,
     /// The names of the default lines.
     pub defaults: Vec<&'t [u8]>,
     pub idles: Vec<IdleLine<'t>>,
+}
+
+// Written out, so that dropping one is a call.
+impl Drop for LinesByKind<'_> {
+    fn drop(self) {
+        let LinesByKind {
+            interfaces: _,
+            routes: _,
+            defaults: _,
+            idles: _,
+        } = self;
+    }
 }
 
 impl<'t> LinesByKind<'t> {

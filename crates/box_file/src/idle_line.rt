@@ -39,7 +39,29 @@ pub enum IdleKind {
 
 impl IdleKind {
     ghost use Rattle.std.specs.Prelude.{◌≡◌};
-    ghost use Rattle.box_file.specs.Idle.{minimum_for};
+    ghost use Rattle.box_file.specs.Idle.{minimum_for, word_of};
+
+    /// All kinds.
+    pub const ALL: [IdleKind; 5] = [
+        IdleKind::Udp,
+        IdleKind::Established,
+        IdleKind::Transitory,
+        IdleKind::Echo,
+        IdleKind::Other,
+    ];
+
+    /// The keyword that a box file has for it.
+    pub fn keyword(self) -> &'static [u8]
+        ensures { result.now ≡ word_of self }
+    {
+        match self {
+            IdleKind::Udp => b"udp",
+            IdleKind::Established => b"established",
+            IdleKind::Transitory => b"transitory",
+            IdleKind::Echo => b"ask",
+            IdleKind::Other => b"other",
+        }
+    }
 
     /// The smallest timeout that a box file may set for it, in seconds.
     pub fn minimum(self) -> u32

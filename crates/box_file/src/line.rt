@@ -6,7 +6,7 @@ ghost use Rattle.box_file.specs.steps.Reading.{has_none, interface_words, route_
 
 use crate::idle_line::{IdleKind, IdleLine};
 use crate::numbers::{is_network, is_numeral, name, number, prefixed};
-use crate::words::{first_line, word};
+use crate::words::{first_line, same_text, word};
 use std::alloc::{AllocError, Global};
 
 /// `interface 2 lan 192.168.1.1/24`. Its name borrows the text.
@@ -51,9 +51,13 @@ fn interface(rest: &[u8]) -> Option<Line<'_>>
     let (index, rest) = word(rest)?;
     let (own_name, rest) = word(rest)?;
     let (prefix_word, rest) = word(rest)?;
-    let index = number(index)?;
-    let name = name(own_name)?;
-    let (address, prefix) = prefixed(prefix_word)?;
+    let (Some(index), Some(name), Some((address, prefix))) = (
+        number(index),
+        name(own_name),
+        prefixed(prefix_word),
+    ) else {
+        return None;
+    };
     if is_end(rest) && 0 < index && index < 2_147_483_648 && 0 < prefix {
         Some(Line::Interface(InterfaceLine {
             index,
@@ -104,19 +108,12 @@ fn default(rest: &[u8]) -> Option<Line<'_>>
 fn idle_kind(word: &[u8]) -> Option<IdleKind>
     ensures { result ≡ kind_in word.now }
 {
-    if word == b"udp".as_slice() {
-        Some(IdleKind::Udp)
-    } else if word == b"established".as_slice() {
-        Some(IdleKind::Established)
-    } else if word == b"transitory".as_slice() {
-        Some(IdleKind::Transitory)
-    } else if word == b"ask".as_slice() {
-        Some(IdleKind::Echo)
-    } else if word == b"other".as_slice() {
-        Some(IdleKind::Other)
-    } else {
-        None
+    for kind in &IdleKind::ALL {
+        if same_text(word, kind.keyword()) {
+            return Some(*kind);
+        }
     }
+    None
 }
 
 /// Parses what follows `idle`.

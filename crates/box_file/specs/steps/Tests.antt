@@ -9,14 +9,14 @@ use Rattle.box_file.specs.Box.{has_unknown, is_too_large, is_out_of_range}
 use Rattle.box_file.specs.declared.fault.BoxFault.{BoxFault}
 use Rattle.box_file.specs.declared.fault.BoxFault.TheVariants as faults
 
--- the relation gives this function's values
-abbrev pub Computes : {X Y : Type 0} → (X → Y → Type 0) → (X → Y) → Type 0
-Computes {X} {Y} gives f = (x : X) (y : Y) → gives x y → y ≡ f x
-
 -- the set has the names of the interfaces
 abbrev pub Knows : {S : Type 0} → HashSet (Bor (List ℕ)) S → List Interface → Type 0
 Knows known interfaces = (n : Bor (List ℕ))
     → contains (λ x y. pointwise nat_eq x.now y.now) known n ≡ list_any (is_named n.now) interfaces
+
+-- the name isn't in the set
+abbrev pub lacks : {S : Type 0} → HashSet (Bor (List ℕ)) S → Bor (List ℕ) → Bool
+lacks known n = not (contains (λ x y. pointwise nat_eq x.now y.now) known n)
 
 -- one key with two values
 abbrev pub two_values : {K V : Type 0} → (K → K → Bool) → (V → V → Bool) → K × V → K × V → Bool

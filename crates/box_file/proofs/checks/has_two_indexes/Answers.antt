@@ -1,8 +1,7 @@
-use Rattle.box_file.proofs.Names.{IfOk-weaker, interface_tree, rules, ◌∙◌}
+use Rattle.box_file.proofs.Names.{IfOk-weaker, interface_tree, ◌∙◌}
 use Rattle.box_file.proofs.CheckLaws.{pair-keys, indexes_differ}
 use Rattle.box_file.proofs.checks.has_two_indexes.Goals as goal
 
 pub returns : goal.returns
 returns c =
-    IfOk-weaker c.has_conflict.result _ _ (λ r is. is ∙ pair-keys (λ l. (l.name, l.index)) interface_tree _ _ indexes_differ c.args.interfaces.now)
-    (c.has_conflict.ensures (λ l. (l.name, l.index)) (λ l r q. search rules))
+    IfOk-weaker c.has_conflict.result _ _ (λ r is. is ∙ pair-keys (λ l. (l.name, l.index)) interface_tree _ _ indexes_differ c.args.interfaces.now) c.has_conflict.ensures
