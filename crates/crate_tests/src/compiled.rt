@@ -80,45 +80,59 @@ fn a_chain_costs_one_more_than_its_statements(rt: HostRuntime) {
     check_row(&rt, 1, cost_of(&rt, 65_536).is_none());
 }
 
-/// A concatenation's number has its parts' bits, the first part highest: here an address and a port.
-#[test]
-fn an_element_of_two_parts_is_one_number(rt: HostRuntime) {
-    let rules = b"table ip t { chain fwd { type filter hook forward priority 0;
-ip daddr . udp dport { 198.51.100.7 . 53 } accept } }";
-    let facts = facts_of(&rt, rules).expect(&rt, "code");
-    check_row(&rt, 0, facts.element == Some(0xc633_6407_0035));
-}
-
-/// A name, and the numbers that it stands for: its bytes, filled up to 16.
-static NAMES: [(&[u8], (u128, u128)); 3] = [
+/// A ruleset, the number of its only element, and those that a match compares names with. A
+/// concatenation's number has its parts' bits, the first part highest: here an address and a port. A
+/// name stands for its bytes, filled up to 16.
+static NUMBERS: [(&[u8], Option<u128>, Option<(u128, u128)>); 4] = [
+    (
+        b"table ip t { chain fwd { type filter hook forward priority 0;
+ip daddr . udp dport { 198.51.100.7 . 53 } accept } }",
+        Some(0xc633_6407_0035),
+        None,
+    ),
     (
         b"table ip t { chain fwd { type filter hook forward priority 0; iifname \"la*\" accept } }",
-        (
+        None,
+        Some((
             0x6c61_0000_0000_0000_0000_0000_0000_0000,
             0x6c61_ffff_ffff_ffff_ffff_ffff_ffff_ffff,
-        ),
+        )),
     ),
     (
         b"table ip t { chain fwd { type filter hook forward priority 0; iifname \"la\" accept } }",
-        (
+        None,
+        Some((
             0x6c61_0000_0000_0000_0000_0000_0000_0000,
             0x6c61_0000_0000_0000_0000_0000_0000_0000,
-        ),
+        )),
     ),
     (
         b"table ip t { chain fwd { type filter hook forward priority 0; iifname \"lan\" accept } }",
-        (
+        None,
+        Some((
             0x6c61_6e00_0000_0000_0000_0000_0000_0000,
             0x6c61_6e00_0000_0000_0000_0000_0000_0000,
-        ),
+        )),
     ),
 ];
 
+/// Whether the ruleset's code has these numbers.
+fn has_numbers<R: Abort + AllocGlobal>(
+    rt: &R,
+    rules: &[u8],
+    element: Option<u128>,
+    names: Option<(u128, u128)>,
+) -> bool {
+    match facts_of(rt, rules) {
+        Some(facts) => facts.element == element && facts.names == names,
+        None => false,
+    }
+}
+
 #[test]
-fn interface_names_are_numbers(rt: HostRuntime) {
-    for row in 0..NAMES.len() {
-        let (rules, numbers) = NAMES[row];
-        let facts = facts_of(&rt, rules).expect(&rt, "code");
-        check_row(&rt, row, facts.names == Some(numbers));
+fn elements_and_names_are_numbers(rt: HostRuntime) {
+    for row in 0..NUMBERS.len() {
+        let (rules, element, names) = NUMBERS[row];
+        check_row(&rt, row, has_numbers(&rt, rules, element, names));
     }
 }

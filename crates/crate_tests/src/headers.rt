@@ -88,105 +88,76 @@ fn first_fault<R: Abort + AllocGlobal>(rt: &R, packet: &str) -> Option<HeaderFau
     View::read(&packet).err()
 }
 
+const SHORT: Option<HeaderFault> = Some(HeaderFault::Short);
+
+const TRUNCATED: Option<HeaderFault> = Some(HeaderFault::Truncated);
+
+const FRAGMENT: Option<HeaderFault> = Some(HeaderFault::Fragment);
+
+const CHECKSUM: Option<HeaderFault> = Some(HeaderFault::Checksum);
+
+const VERSION: Option<HeaderFault> = Some(HeaderFault::Version);
+
+const HEADER_LENGTH: Option<HeaderFault> = Some(HeaderFault::HeaderLength);
+
+const LENGTH: Option<HeaderFault> = Some(HeaderFault::Length);
+
+const TRANSPORT: Option<HeaderFault> = Some(HeaderFault::Transport);
+
 /// Truncated packets with their first faults. Then GRE packets without a payload, each header test
 /// at its limit and one past it: 20 bytes and 19; versions 3 and 5; IHL 4; a total length of 19,
 /// and of 23 and 24 with options; a total length of one more than there is, and that byte; a
 /// checksum of one more and one less; DF, the reserved bit, MF, the offsets 1 and 8,191. All else
 /// is valid.
 static FAULTS: [(&str, Option<HeaderFault>); 27] = [
-    (
-        "4500001c0001000040118ee3c0a8010ac63364",
-        Some(HeaderFault::Short),
-    ),
+    ("4500001c0001000040118ee3c0a8010ac63364", SHORT),
     (
         "4500001c0001000040118ee3c0a8010ac633640713880035000800",
-        Some(HeaderFault::Truncated),
+        TRUNCATED,
     ),
     (
         "4500001c0001200040116ee3c0a8010ac63364071388003500080000",
-        Some(HeaderFault::Fragment),
+        FRAGMENT,
     ),
     (
         "4500001c0001000140118ee2c0a8010ac63364071388003500080000",
-        Some(HeaderFault::Fragment),
+        FRAGMENT,
     ),
     (
         "4500001c0001000140118ee3c0a8010ac63364071388003500080000",
-        Some(HeaderFault::Checksum),
+        CHECKSUM,
     ),
     (
         "6500001c0001000040118ee3c0a8010ac63364071388003500080000",
-        Some(HeaderFault::Version),
+        VERSION,
     ),
     (
         "4400001c0001000040118ee3c0a8010ac63364071388003500080000",
-        Some(HeaderFault::HeaderLength),
+        HEADER_LENGTH,
     ),
-    (
-        "4f0000140001000040110000c0a8010ac6336407",
-        Some(HeaderFault::Length),
-    ),
+    ("4f0000140001000040110000c0a8010ac6336407", LENGTH),
     (
         "4500001c0001000040118ee3c0a8010ac63364071388003500070000",
-        Some(HeaderFault::Transport),
+        TRANSPORT,
     ),
     ("4500001400010000402f8ecdc0a8010ac6336407", None),
-    (
-        "4500001400010000402f8ecdc0a8010ac63364",
-        Some(HeaderFault::Short),
-    ),
-    (
-        "3500001400010000402f9ecdc0a8010ac6336407",
-        Some(HeaderFault::Version),
-    ),
-    (
-        "5500001400010000402f7ecdc0a8010ac6336407",
-        Some(HeaderFault::Version),
-    ),
-    (
-        "4400001400010000402f8fcdc0a8010ac6336407",
-        Some(HeaderFault::HeaderLength),
-    ),
-    (
-        "4500001300010000402f8ecec0a8010ac6336407",
-        Some(HeaderFault::Length),
-    ),
-    (
-        "4600001700010000402f8bc9c0a8010ac633640701010100",
-        Some(HeaderFault::Length),
-    ),
+    ("4500001400010000402f8ecdc0a8010ac63364", SHORT),
+    ("3500001400010000402f9ecdc0a8010ac6336407", VERSION),
+    ("5500001400010000402f7ecdc0a8010ac6336407", VERSION),
+    ("4400001400010000402f8fcdc0a8010ac6336407", HEADER_LENGTH),
+    ("4500001300010000402f8ecec0a8010ac6336407", LENGTH),
+    ("4600001700010000402f8bc9c0a8010ac633640701010100", LENGTH),
     ("4600001800010000402f8bc8c0a8010ac633640701010100", None),
-    (
-        "4500001500010000402f8eccc0a8010ac6336407",
-        Some(HeaderFault::Truncated),
-    ),
+    ("4500001500010000402f8eccc0a8010ac6336407", TRUNCATED),
     ("4500001500010000402f8eccc0a8010ac633640700", None),
-    (
-        "4500ffff00010000402f8ee1c0a8010ac633640700",
-        Some(HeaderFault::Truncated),
-    ),
-    (
-        "4500001400010000402f8ecec0a8010ac6336407",
-        Some(HeaderFault::Checksum),
-    ),
-    (
-        "4500001400010000402f8eccc0a8010ac6336407",
-        Some(HeaderFault::Checksum),
-    ),
+    ("4500ffff00010000402f8ee1c0a8010ac633640700", TRUNCATED),
+    ("4500001400010000402f8ecec0a8010ac6336407", CHECKSUM),
+    ("4500001400010000402f8eccc0a8010ac6336407", CHECKSUM),
     ("4500001400014000402f4ecdc0a8010ac6336407", None),
     ("4500001400018000402f0ecdc0a8010ac6336407", None),
-    (
-        "4500001400012000402f6ecdc0a8010ac6336407",
-        Some(HeaderFault::Fragment),
-    ),
-    (
-        "4500001400010001402f8eccc0a8010ac6336407",
-        Some(HeaderFault::Fragment),
-    ),
-    (
-        "4500001400011fff402f6ecec0a8010ac6336407",
-        Some(HeaderFault::Fragment),
-    ),
+    ("4500001400012000402f6ecdc0a8010ac6336407", FRAGMENT),
+    ("4500001400010001402f8eccc0a8010ac6336407", FRAGMENT),
+    ("4500001400011fff402f6ecec0a8010ac6336407", FRAGMENT),
 ];
 
 #[test]
@@ -378,68 +349,49 @@ fn payloads_fit_their_protocol(rt: HostRuntime) {
     }
 }
 
+/// The least length at which an embedded datagram is read, and its kind and ports.
+type Inner = Option<(u8, Kind, u16, u16)>;
+
 /// An ICMP type; of the embedded datagram version and IHL, flags and offset, protocol, and the
-/// bytes after the addresses; the least length at which it is read, and its kind and ports.
-type Message = (
-    &'static str,
-    [&'static str; 4],
-    Option<(u8, Kind, u16, u16)>,
-);
+/// bytes after the addresses; how it is read.
+type Message = ([&'static str; 5], Inner);
+
+const UDP: Inner = Some((28, Kind::Udp, 53, 5000));
+
+const TCP: Inner = Some((32, Kind::Tcp, 80, 5000));
+
+const ECHO_REQUEST: Inner = Some((28, Kind::EchoRequest, 0x1234, 0));
+
+const ECHO_REPLY: Inner = Some((28, Kind::EchoReply, 0, 0x1234));
+
+const GRE: Inner = Some((28, Kind::Other(47), 0, 0));
 
 /// A header without options and one of 24 bytes; MF, DF and the reserved bit; an echo request, its
 /// reply, GRE. `None`: messages that are no errors, an embedded timestamp and an embedded error,
 /// offsets of 1 and of 1fff, version 6, a header of 16 bytes.
 static MESSAGES: [Message; 15] = [
-    (
-        "03",
-        ["45", "0000", "11", "00351388"],
-        Some((28, Kind::Udp, 53, 5000)),
-    ),
-    (
-        "04",
-        ["46", "0000", "06", "0101010100501388"],
-        Some((32, Kind::Tcp, 80, 5000)),
-    ),
-    (
-        "05",
-        ["45", "2000", "11", "00351388"],
-        Some((28, Kind::Udp, 53, 5000)),
-    ),
-    (
-        "0b",
-        ["45", "c000", "11", "00351388"],
-        Some((28, Kind::Udp, 53, 5000)),
-    ),
-    (
-        "0c",
-        ["45", "0000", "01", "080900001234"],
-        Some((28, Kind::EchoRequest, 0x1234, 0)),
-    ),
-    (
-        "03",
-        ["45", "0000", "01", "000900001234"],
-        Some((28, Kind::EchoReply, 0, 0x1234)),
-    ),
-    (
-        "03",
-        ["45", "0000", "2f", "00000800"],
-        Some((28, Kind::Other(47), 0, 0)),
-    ),
-    ("0d", ["45", "0000", "11", "00351388"], None),
-    ("08", ["45", "0000", "11", "00351388"], None),
-    ("03", ["45", "0000", "01", "0d0000001234"], None),
-    ("03", ["45", "0000", "01", "030000001234"], None),
-    ("03", ["45", "0001", "11", "00351388"], None),
-    ("03", ["45", "1fff", "11", "00351388"], None),
-    ("03", ["65", "0000", "11", "00351388"], None),
-    ("03", ["44", "0000", "11", "00351388"], None),
+    (["03", "45", "0000", "11", "00351388"], UDP),
+    (["04", "46", "0000", "06", "0101010100501388"], TCP),
+    (["05", "45", "2000", "11", "00351388"], UDP),
+    (["0b", "45", "c000", "11", "00351388"], UDP),
+    (["0c", "45", "0000", "01", "080900001234"], ECHO_REQUEST),
+    (["03", "45", "0000", "01", "000900001234"], ECHO_REPLY),
+    (["03", "45", "0000", "2f", "00000800"], GRE),
+    (["0d", "45", "0000", "11", "00351388"], None),
+    (["08", "45", "0000", "11", "00351388"], None),
+    (["03", "45", "0000", "01", "0d0000001234"], None),
+    (["03", "45", "0000", "01", "030000001234"], None),
+    (["03", "45", "0001", "11", "00351388"], None),
+    (["03", "45", "1fff", "11", "00351388"], None),
+    (["03", "65", "0000", "11", "00351388"], None),
+    (["03", "44", "0000", "11", "00351388"], None),
 ];
 
 /// The message with this many bytes of the datagram, whose total length, TTL and checksum are wrong.
 fn message<R: Abort + AllocGlobal>(rt: &R, row: &Message, length: u8) -> Vec<u8> {
-    let [first, flags, protocol, rest] = row.1;
+    let [icmp_type, first, flags, protocol, rest] = row.0;
     let payload = [
-        row.0,
+        icmp_type,
         "00000000000000",
         first,
         "00ffff0001",
@@ -454,7 +406,7 @@ fn message<R: Abort + AllocGlobal>(rt: &R, row: &Message, length: u8) -> Vec<u8>
 
 /// The kind and ports of a datagram of which this many bytes are embedded, if they are enough.
 fn wanted_of(row: &Message, length: u8) -> Option<(Kind, u16, u16)> {
-    match row.2 {
+    match row.1 {
         Some((least, kind, from, to)) if least <= length => Some((kind, from, to)),
         _ => None,
     }
@@ -467,7 +419,7 @@ fn reads_inner_tuple<R: Abort + AllocGlobal>(rt: &R, row: &Message, length: u8) 
     match View::read(&message) {
         Ok(view) => {
             kind_and_ports(view.inner_tuple()) == wanted_of(row, length)
-                && (view.is_error() || row.2.is_none())
+                && (view.is_error() || row.1.is_none())
         }
         Err(_) => false,
     }

@@ -4,65 +4,54 @@ use nft_lexer::{LexError, LexFault, Punctuator, Token, TokenKind, lex};
 use std::alloc::Global;
 use std::process::Abort;
 
-/// The kind of a token, with its value.
-#[derive(Clone, Copy)]
-enum ExpectedKind {
-    NewLine,
-    Punctuator,
-    Word,
-    Number(u64),
-    Address(u32),
-    String(&'static [u8]),
-}
-
 /// A token's text and kind.
-type ExpectedToken = (&'static [u8], ExpectedKind);
+type ExpectedToken = (&'static [u8], TokenKind);
 
 /// Tokens of all kinds.
 const MANY: &[ExpectedToken] = &[
-    (b"tcp", ExpectedKind::Word),
-    (b"dport", ExpectedKind::Word),
-    (b"!=", ExpectedKind::Punctuator),
-    (b"22", ExpectedKind::Number(22)),
-    (b"\n", ExpectedKind::NewLine),
-    (b"0x1fF", ExpectedKind::Number(511)),
-    (b"\"a b\"", ExpectedKind::String(b"a b")),
-    (b"1.2.3.4", ExpectedKind::Address(0x0102_0304)),
-    (b".", ExpectedKind::Punctuator),
-    (b"80", ExpectedKind::Number(80)),
-    (b"80", ExpectedKind::Number(80)),
-    (b"accept", ExpectedKind::Word),
-    (b"<=", ExpectedKind::Punctuator),
-    (b"=", ExpectedKind::Punctuator),
-    (b"<=", ExpectedKind::Punctuator),
-    (b"0", ExpectedKind::Number(0)),
-    (b"x", ExpectedKind::Word),
+    (b"tcp", TokenKind::Word),
+    (b"dport", TokenKind::Word),
+    (b"!=", TokenKind::Punctuator(Punctuator::NotEqualTo)),
+    (b"22", TokenKind::Number(22)),
+    (b"\n", TokenKind::NewLine),
+    (b"0x1fF", TokenKind::Number(511)),
+    (b"\"a b\"", TokenKind::String),
+    (b"1.2.3.4", TokenKind::Address(0x0102_0304)),
+    (b".", TokenKind::Punctuator(Punctuator::Dot)),
+    (b"80", TokenKind::Number(80)),
+    (b"80", TokenKind::Number(80)),
+    (b"accept", TokenKind::Word),
+    (b"<=", TokenKind::Punctuator(Punctuator::AtMost)),
+    (b"=", TokenKind::Punctuator(Punctuator::Equals)),
+    (b"<=", TokenKind::Punctuator(Punctuator::AtMost)),
+    (b"0", TokenKind::Number(0)),
+    (b"x", TokenKind::Word),
 ];
 
 /// Texts that are nearly one token.
 const NEARLY: &[ExpectedToken] = &[
-    (b"0", ExpectedKind::Number(0)),
-    (b"X1", ExpectedKind::Word),
-    (b"1", ExpectedKind::Number(1)),
-    (b".", ExpectedKind::Punctuator),
-    (b"2", ExpectedKind::Number(2)),
-    (b".", ExpectedKind::Punctuator),
-    (b"3", ExpectedKind::Number(3)),
-    (b"a-b./c", ExpectedKind::Word),
-    (b"\"#;{\xff\"", ExpectedKind::String(b"#;{\xff")),
+    (b"0", TokenKind::Number(0)),
+    (b"X1", TokenKind::Word),
+    (b"1", TokenKind::Number(1)),
+    (b".", TokenKind::Punctuator(Punctuator::Dot)),
+    (b"2", TokenKind::Number(2)),
+    (b".", TokenKind::Punctuator(Punctuator::Dot)),
+    (b"3", TokenKind::Number(3)),
+    (b"a-b./c", TokenKind::Word),
+    (b"\"#;{\xff\"", TokenKind::String),
 ];
 
 /// The largest numbers.
 const LARGEST: &[ExpectedToken] = &[
     (
         b"18446744073709551615",
-        ExpectedKind::Number(18_446_744_073_709_551_615),
+        TokenKind::Number(18_446_744_073_709_551_615),
     ),
     (
         b"0x00ffffffffffffffff",
-        ExpectedKind::Number(18_446_744_073_709_551_615),
+        TokenKind::Number(18_446_744_073_709_551_615),
     ),
-    (b"255.255.255.255", ExpectedKind::Address(0xffff_ffff)),
+    (b"255.255.255.255", TokenKind::Address(0xffff_ffff)),
 ];
 
 static LEXED: [(&[u8], &[ExpectedToken]); 4] = [
@@ -78,16 +67,18 @@ static LEXED: [(&[u8], &[ExpectedToken]); 4] = [
     (b"# x", &[]),
 ];
 
-/// Whether the token has this text and kind.
+/// Whether the token has this text and kind; the bytes of a string are those between its quotes.
 fn is_expected(token: &Token, wanted: &ExpectedToken) -> bool {
-    token.text == wanted.0
-        && match (token.kind, wanted.1) {
-            (TokenKind::NewLine, ExpectedKind::NewLine)
-            | (TokenKind::Punctuator(_), ExpectedKind::Punctuator)
-            | (TokenKind::Word, ExpectedKind::Word) => true,
-            (TokenKind::Number(number), ExpectedKind::Number(wanted)) => number == wanted,
-            (TokenKind::Address(address), ExpectedKind::Address(wanted)) => address == wanted,
-            (TokenKind::String, ExpectedKind::String(wanted)) => token.between_quotes() == wanted,
+    let (text, kind) = *wanted;
+    token.text == text
+        && match (token.kind, kind) {
+            (TokenKind::NewLine, TokenKind::NewLine) | (TokenKind::Word, TokenKind::Word) => true,
+            (TokenKind::Punctuator(mark), TokenKind::Punctuator(wanted)) => mark == wanted,
+            (TokenKind::Number(number), TokenKind::Number(wanted)) => number == wanted,
+            (TokenKind::Address(address), TokenKind::Address(wanted)) => address == wanted,
+            (TokenKind::String, TokenKind::String) => {
+                text.get(1..text.len().saturating_sub(1)) == Some(token.between_quotes())
+            }
             _ => false,
         }
 }
@@ -143,27 +134,12 @@ static PUNCTUATORS: [(&[u8], Punctuator); 21] = [
     (b">", Punctuator::Above),
 ];
 
-/// Whether the only token is this punctuator.
-fn is_only(tokens: &[Token], mark: Punctuator) -> bool {
-    match tokens {
-        [token] => matches!(token.kind, TokenKind::Punctuator(found) if found == mark),
-        _ => false,
-    }
-}
-
-/// Whether the text is this punctuator alone.
-fn is_punctuator(alloc: Global, text: &[u8], mark: Punctuator) -> bool {
-    match lex(alloc, text) {
-        Ok(tokens) => is_only(&tokens, mark),
-        Err(_) => false,
-    }
-}
-
 #[test]
 fn punctuators_are_told_apart(rt: HostRuntime) {
     for row in 0..PUNCTUATORS.len() {
         let (text, mark) = PUNCTUATORS[row];
-        check_row(&rt, row, is_punctuator(rt.alloc(), text, mark));
+        let wanted = [(text, TokenKind::Punctuator(mark))];
+        check_row(&rt, row, lexes_to(rt.alloc(), text, &wanted));
     }
 }
 
@@ -176,7 +152,8 @@ fn counts(alloc: Global, text: &[u8], wanted: Result<usize, LexFault>) -> bool {
     }
 }
 
-static FAULTS: [(&[u8], Result<usize, LexFault>); 13] = [
+static FAULTS: [(&[u8], Result<usize, LexFault>); 14] = [
+    (b"{ 22,\n10.0.0.0/8 comment \"ten\", }", Ok(11)),
     (b"accept\n$ 007", Err(LexFault::Byte { line: 2 })),
     (b"!", Err(LexFault::Byte { line: 1 })),
     (b"a \\\nb \\", Err(LexFault::Byte { line: 2 })),

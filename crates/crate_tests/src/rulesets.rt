@@ -6,42 +6,6 @@ use nft_parser::{ParseError, TextFault, parse};
 use nft_tree::{Family, Ruleset};
 use std::alloc::Global;
 
-/// The fault of the text; `None` if it has none, or there was no memory.
-fn fault(alloc: Global, text: &[u8]) -> Option<TextFault> {
-    match parse(alloc, text) {
-        Err(ParseError::Refused(fault)) => Some(fault),
-        _ => None,
-    }
-}
-
-static FAULTS: [(&[u8], LexFault); 4] = [
-    (
-        b"table ip t { chain a {\nip saddr 1.2.3.256 drop } }",
-        LexFault::Number { line: 2 },
-    ),
-    (
-        b"table ip t { chain a {\nmeta mark 007 drop } }",
-        LexFault::Number { line: 2 },
-    ),
-    (
-        b"table ip t { chain a { accept $ } }",
-        LexFault::Byte { line: 1 },
-    ),
-    (
-        b"table ip t { comment \"x",
-        LexFault::OpenString { line: 1 },
-    ),
-];
-
-#[test]
-fn faults_have_lines(rt: HostRuntime) {
-    for row in 0..FAULTS.len() {
-        let (text, wanted) = FAULTS[row];
-        let answer = fault(rt.alloc(), text);
-        check_row(&rt, row, answer == Some(TextFault::Lexical(wanted)));
-    }
-}
-
 const LISTING: &[u8] = b"table inet filter {
 \tset lan4 {
 \t\ttype ipv4_addr
@@ -74,16 +38,32 @@ chain web {
 /// A table's family and name, the number of its items, and the number of rules in its first chain.
 type Shape<'a> = (Family, &'a [u8], usize, usize);
 
-/// A table's name may be a family's.
-static SHAPES: [(&[u8], Shape<'static>); 8] = [
-    (b"table t { }", (Family::Ip, b"t", 0, 0)),
-    (b"table ip { }", (Family::Ip, b"ip", 0, 0)),
-    (b"table ip6 { }", (Family::Ip, b"ip6", 0, 0)),
-    (b"table inet { }", (Family::Ip, b"inet", 0, 0)),
-    (b"table inet inet { }", (Family::Inet, b"inet", 0, 0)),
-    (b"table ip ip { }", (Family::Ip, b"ip", 0, 0)),
-    (LISTING, (Family::Inet, b"filter", 2, 4)),
-    (OTHER_FORMS, (Family::Ip, b"nat", 3, 2)),
+/// A table's name may be a family's; listings and other forms; lexical faults.
+static TEXTS: [(&[u8], Result<Shape<'static>, LexFault>); 12] = [
+    (b"table t { }", Ok((Family::Ip, b"t", 0, 0))),
+    (b"table ip { }", Ok((Family::Ip, b"ip", 0, 0))),
+    (b"table ip6 { }", Ok((Family::Ip, b"ip6", 0, 0))),
+    (b"table inet { }", Ok((Family::Ip, b"inet", 0, 0))),
+    (b"table inet inet { }", Ok((Family::Inet, b"inet", 0, 0))),
+    (b"table ip ip { }", Ok((Family::Ip, b"ip", 0, 0))),
+    (LISTING, Ok((Family::Inet, b"filter", 2, 4))),
+    (OTHER_FORMS, Ok((Family::Ip, b"nat", 3, 2))),
+    (
+        b"table ip t { chain a {\nip saddr 1.2.3.256 drop } }",
+        Err(LexFault::Number { line: 2 }),
+    ),
+    (
+        b"table ip t { chain a {\nmeta mark 007 drop } }",
+        Err(LexFault::Number { line: 2 }),
+    ),
+    (
+        b"table ip t { chain a { accept $ } }",
+        Err(LexFault::Byte { line: 1 }),
+    ),
+    (
+        b"table ip t { comment \"x",
+        Err(LexFault::OpenString { line: 1 }),
+    ),
 ];
 
 static LONG: Shape<'static> = (Family::Ip, b"t", 1, 5_000);
@@ -104,20 +84,20 @@ fn has(ruleset: &Ruleset, shape: &Shape<'_>) -> bool {
         && count == rules
 }
 
-/// Whether the text is parsed as a ruleset of this shape.
-fn is_read(alloc: Global, text: &[u8], shape: &Shape<'_>) -> bool {
-    match parse(alloc, text) {
-        Ok(ruleset) => has(&ruleset, shape),
-        Err(_) => false,
+/// Whether the text is parsed as a ruleset of this shape, or has this fault.
+fn is_parsed(alloc: Global, text: &[u8], wanted: &Result<Shape<'_>, LexFault>) -> bool {
+    match (parse(alloc, text), wanted) {
+        (Ok(ruleset), Ok(shape)) => has(&ruleset, shape),
+        (Err(ParseError::Refused(TextFault::Lexical(found))), Err(fault)) => found == *fault,
+        _ => false,
     }
 }
 
-/// Listings and other forms.
 #[test]
-fn texts_are_read(rt: HostRuntime) {
-    for row in 0..SHAPES.len() {
-        let (text, shape) = SHAPES[row];
-        check_row(&rt, row, is_read(rt.alloc(), text, &shape));
+fn texts_are_read_or_refused(rt: HostRuntime) {
+    for row in 0..TEXTS.len() {
+        let (text, wanted) = TEXTS[row];
+        check_row(&rt, row, is_parsed(rt.alloc(), text, &wanted));
     }
 }
 
@@ -126,5 +106,5 @@ fn texts_are_read(rt: HostRuntime) {
 fn a_long_text_is_read(rt: HostRuntime) {
     let rule = b"ip saddr 10.0.0.0/8 tcp dport { 22, 80-443 } counter accept\n";
     let text = repeated(&rt, b"table t { chain a {\n", rule, 5_000, b"} }");
-    check_row(&rt, 0, is_read(rt.alloc(), &text, &LONG));
+    check_row(&rt, 0, is_parsed(rt.alloc(), &text, &Ok(LONG)));
 }

@@ -1,6 +1,7 @@
 //! Rule tables: the next rule of a key, and the first one.
 use crate::support::check_row;
 use seek_table::{FirstTable, KeyRange, SeekTable};
+use std::alloc::Global;
 use std::process::Abort;
 
 const MOST: u32 = u32::MAX;
@@ -57,22 +58,20 @@ static FIRST_NESTED: [First; 4] = [
     (32_768, None),
 ];
 
+/// Adds a rule of these keys.
+fn push<R: Abort>(rt: &R, pairs: &mut Vec<(KeyRange, u32)>, low: u32, high: u32, rule: u32) {
+    let pair = (KeyRange { low, high }, rule);
+    pairs.push(pair).expect(rt, "memory");
+}
+
 fn pairs_of<R: Abort + AllocGlobal>(rt: &R, rules: &[(u32, u32)]) -> Vec<(KeyRange, u32)> {
     let mut pairs = Vec::new(rt.alloc());
     let mut number: u32 = 0;
     for &(low, high) in rules {
-        pairs
-            .push((KeyRange { low, high }, number))
-            .expect(rt, "memory");
+        push(rt, &mut pairs, low, high, number);
         number = number.saturating_add(1);
     }
     pairs
-}
-
-/// The table of the rules, if it has at most this many entries.
-fn table_of<R: Abort + AllocGlobal>(rt: &R, most: usize) -> Option<SeekTable> {
-    let pairs = pairs_of(rt, &RULES);
-    SeekTable::build(rt.alloc(), &pairs, most).expect(rt, "memory")
 }
 
 /// Checks all rows on the table.
@@ -83,12 +82,23 @@ fn finds_next<R: Abort>(rt: &R, table: &SeekTable) {
     }
 }
 
+/// Checks all rows on the table of the pairs, if it has at most this many entries. Whether it has.
+fn is_built<R: Abort + AllocGlobal>(rt: &R, pairs: &[(KeyRange, u32)], most: usize) -> bool {
+    match SeekTable::build(rt.alloc(), pairs, most).expect(rt, "memory") {
+        Some(table) => {
+            finds_next(rt, &table);
+            true
+        }
+        None => false,
+    }
+}
+
 /// The table has more than two entries.
 #[test]
 fn the_next_rule_is_found(rt: HostRuntime) {
-    check_row(&rt, NEXT.len(), table_of(&rt, 2).is_none());
-    let table = table_of(&rt, 64).expect(&rt, "a table");
-    finds_next(&rt, &table);
+    let pairs = pairs_of(&rt, &RULES);
+    check_row(&rt, 2, !is_built(&rt, &pairs, 2));
+    check_row(&rt, 64, is_built(&rt, &pairs, 64));
 }
 
 /// Checks all rows on the table.
@@ -99,42 +109,35 @@ fn finds_first<R: Abort>(rt: &R, table: &FirstTable, rows: &[First]) {
     }
 }
 
-/// Checks all rows on the table of the pairs.
-fn finds<R: Abort + AllocGlobal>(rt: &R, pairs: &[(KeyRange, u32)], rows: &[First]) {
-    let table = FirstTable::build(rt.alloc(), pairs).expect(rt, "a table");
-    finds_first(rt, &table, rows);
+/// Whether these are the rules that are the first of some key.
+fn are_first(alloc: Global, table: &FirstTable, wanted: &[u32]) -> bool {
+    match table.rules(alloc) {
+        Ok(rules) => rules.as_slice() == wanted,
+        Err(_) => false,
+    }
 }
 
-/// Whether these are the rules that are the first of some key.
-fn are_first<R: Abort + AllocGlobal>(rt: &R, pairs: &[(KeyRange, u32)], wanted: &[u32]) -> bool {
+/// Checks all rows on the table of the pairs, and which rules are the first of some key.
+fn finds<R: Abort + AllocGlobal>(rt: &R, pairs: &[(KeyRange, u32)], rows: &[First], rules: &[u32]) {
     let table = FirstTable::build(rt.alloc(), pairs).expect(rt, "a table");
-    let rules = table.rules(rt.alloc()).expect(rt, "memory");
-    rules.as_slice() == wanted
+    finds_first(rt, &table, rows);
+    check_row(rt, rows.len(), are_first(rt.alloc(), &table, rules));
 }
 
 #[test]
 fn the_first_rule_is_found(rt: HostRuntime) {
-    finds(&rt, &[], &FIRST_OF_NONE);
+    finds(&rt, &[], &FIRST_OF_NONE, &[]);
     let mut pairs = pairs_of(&rt, &APART);
     pairs.reverse();
-    finds(&rt, &pairs, &FIRST_APART);
-    check_row(&rt, 0, are_first(&rt, &pairs, &[1, 2, 5]));
-}
-
-fn nested_pairs<R: Abort + AllocGlobal>(rt: &R) -> Vec<(KeyRange, u32)> {
-    let mut pairs = Vec::new(rt.alloc());
-    for number in 0..NESTED {
-        let low = NESTED - number;
-        let high = NESTED + number;
-        pairs
-            .push((KeyRange { low, high }, number))
-            .expect(rt, "memory");
-    }
-    pairs
+    finds(&rt, &pairs, &FIRST_APART, &[1, 2, 5]);
 }
 
 #[test]
 fn nested_rules_are_found_by_the_least(rt: HostRuntime) {
-    let pairs = nested_pairs(&rt);
-    finds(&rt, &pairs, &FIRST_NESTED);
+    let mut pairs = Vec::new(rt.alloc());
+    for number in 0..NESTED {
+        push(&rt, &mut pairs, NESTED - number, NESTED + number, number);
+    }
+    let table = FirstTable::build(rt.alloc(), &pairs).expect(&rt, "a table");
+    finds_first(&rt, &table, &FIRST_NESTED);
 }
