@@ -42,8 +42,7 @@ fn takes_calls<R: Abort + AllocGlobal>(rt: &R, rules: &[u8], sends: u64, reports
     let capture = packets(rt.alloc()).expect(rt, "a capture");
     let device_settings = no_failures(usize::MAX);
     let given = run_over(rt.alloc(), rules, BOX, &capture, false, device_settings);
-    shows(rt, given.status, "nftrun: done");
-    assert!(rt; given.failures == [0, 0, 0]);
+    assert!(rt; shows(rt.alloc(), given.status, "done") && given.failures == [0, 0, 0]);
     assert!(rt; given.calls[1] == sends && given.calls[2] == reports);
 }
 

@@ -1,6 +1,6 @@
 //! The connections that an engine lists, with the plain list tracker and with the aged one.
 use crate::device_failures::ROUTER;
-use crate::support::{bytes, started, take};
+use crate::support::{bytes, check_row, started, take};
 use aged_tracker::AgedTracker;
 use conntrack::{Connection, ListTracker, Tracker};
 use ip_headers::{Endpoint, Kind, Mapping, Tuple};
@@ -203,9 +203,10 @@ fn are_listed(all: &[Connection], expected: &[Masqueraded], mark: u32) -> bool {
 
 /// A router with these rules lists the connections of each row.
 fn lists<R: Abort + AllocGlobal, T: Tracker>(rt: &R, rules: &[u8], mark: u32) {
-    for (records, expected) in &LISTED {
+    for row in 0..LISTED.len() {
+        let (records, expected) = LISTED[row];
         let all = listed_after::<_, T>(rt, rules, records);
-        assert!(rt; are_listed(&all, expected, mark));
+        check_row(rt, row, are_listed(&all, expected, mark));
     }
 }
 

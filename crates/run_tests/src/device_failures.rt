@@ -14,6 +14,7 @@ use std::str;
 /// A run: rules, trace, capture, status line, and the capture written.
 #[derive(Clone, Copy)]
 pub struct Row {
+    pub name: &'static str,
     pub rules: &'static [u8],
     pub trace: bool,
     pub capture: &'static [&'static str],
@@ -58,22 +59,21 @@ const ANSWER: &str = "4500001c0000000040111495c6336407cb0071010035138800080000";
 
 const ANSWER_OUT: &str = "4500001c000000003f118fe4c6336407c0a8010a0035138800080000";
 
-/// A packet without rules, and through the router; a reply just before its connection expires, and
-/// just then; one host's port to two hosts, and another host's; an ICMP error about a forwarded
-/// packet; a torn end; lines written during the run.
 static ROWS: [Row; 8] = [
     Row {
+        name: "a packet without rules",
         rules: b"",
         trace: false,
         capture: &[HEADER, AT_1_5, PLAIN],
-        line: "nftrun: done",
+        line: "done",
         sent: &[OUT_HEADER, OUT_AT_1_5, PLAIN_OUT],
     },
     Row {
+        name: "a packet through the router",
         rules: ROUTER,
         trace: true,
         capture: &[HEADER, AT_1_5, PLAIN],
-        line: "nftrun: done",
+        line: "done",
         sent: &[
             OUT_HEADER,
             OUT_AT_1_5,
@@ -81,6 +81,7 @@ static ROWS: [Row; 8] = [
         ],
     },
     Row {
+        name: "a reply just before its connection expires",
         rules: ROUTER,
         trace: false,
         capture: &[
@@ -90,7 +91,7 @@ static ROWS: [Row; 8] = [
             "2b01000018c69a3b30000000300000000800000000000003000100060000000000000000",
             ANSWER,
         ],
-        line: "nftrun: done",
+        line: "done",
         sent: &[
             OUT_HEADER,
             OUT_AT_0,
@@ -100,6 +101,7 @@ static ROWS: [Row; 8] = [
         ],
     },
     Row {
+        name: "a reply just when its connection expires",
         rules: ROUTER,
         trace: true,
         capture: &[
@@ -109,10 +111,11 @@ static ROWS: [Row; 8] = [
             "2c0100000000000030000000300000000800000000000003000100060000000000000000",
             ANSWER,
         ],
-        line: "nftrun: done",
+        line: "done",
         sent: &[OUT_HEADER, OUT_AT_0, QUESTION_OUT],
     },
     Row {
+        name: "one port to two hosts, and that of another host",
         rules: ROUTER,
         trace: false,
         capture: &[
@@ -124,7 +127,7 @@ static ROWS: [Row; 8] = [
             AT_0,
             "4500001c0000000040118ee3c0a8010bc63364071388003500080000",
         ],
-        line: "nftrun: done",
+        line: "done",
         sent: &[
             OUT_HEADER,
             OUT_AT_0,
@@ -136,6 +139,7 @@ static ROWS: [Row; 8] = [
         ],
     },
     Row {
+        name: "an ICMP error about a forwarded packet",
         rules: ROUTER,
         trace: false,
         capture: &[
@@ -146,7 +150,7 @@ static ROWS: [Row; 8] = [
             "45000038000200004001148dc6336401cb0071010301538900000000",
             "4500001c000100003f111594cb007101c633640713880035000895b0",
         ],
-        line: "nftrun: done",
+        line: "done",
         sent: &[
             OUT_HEADER,
             OUT_AT_0,
@@ -157,10 +161,11 @@ static ROWS: [Row; 8] = [
         ],
     },
     Row {
+        name: "a torn end",
         rules: ROUTER,
         trace: false,
         capture: &[HEADER, AT_1_5, PLAIN, AT_1_5, "4500001c0001"],
-        line: "nftrun: capture torn",
+        line: "capture torn",
         sent: &[
             OUT_HEADER,
             OUT_AT_1_5,
@@ -168,10 +173,11 @@ static ROWS: [Row; 8] = [
         ],
     },
     Row {
+        name: "lines written during the run",
         rules: LOGS,
         trace: true,
         capture: &[HEADER, AT_1_5, PLAIN, AT_1_5, PLAIN],
-        line: "nftrun: done",
+        line: "done",
         sent: &[OUT_HEADER, OUT_AT_1_5, PLAIN_OUT, OUT_AT_1_5, PLAIN_OUT],
     },
 ];
@@ -237,57 +243,53 @@ fn is_beginning(given: &RunResult, whole: &RunResult, device: usize) -> bool {
         && (may_have || !has_totals)
 }
 
-/// Fails with the number of the call if it isn't right.
-fn check_call<R: Abort>(rt: &R, device: usize, count: usize, is_right: bool) {
-    assert!(rt; is_right, "call {count} of {device}");
+/// Fails with the row, the device and the number of its call if it isn't right.
+fn check_call<R: Abort>(rt: &R, row: &Row, device: usize, count: usize, is_right: bool) {
+    let name = row.name;
+    assert!(rt; is_right, "{name}: call {count} of {device}");
 }
 
-/// Fails with the number of the last call if the calls up to it aren't right.
-fn check_calls<R: Abort>(rt: &R, device: usize, count: usize, are_right: bool) {
-    assert!(rt; are_right, "calls up to {count} of {device}");
+/// Whether exactly the call of this number failed, and it was the device's last.
+fn has_failed(given: &RunResult, device: usize, count: usize) -> bool {
+    let mut failures = [0; 3];
+    if device < 3 {
+        failures[device] = 1;
+    }
+    let calls = count.saturating_add(1) as u64;
+    given.failures == failures && given.calls.get(device).copied() == Some(calls)
 }
 
-/// Exactly the call of this number failed, and it was the device's last.
-fn is_stopped<R: Abort + AllocGlobal>(
-    rt: &R,
+/// Whether the outputs are those of the records read whole before a read that fails.
+fn is_cut(alloc: Global, row: &Row, capture: &[u8], given: &RunResult, count: usize) -> bool {
+    let length = count.saturating_mul(most(0)).min(capture.len());
+    let cut = run_of(alloc, row, &capture[..length], no_failures(most(0)));
+    given.sent == cut.sent && given.report.as_slice() == lines_of(&cut.report)
+}
+
+/// Whether the call of this number stopped the run; all records read whole before a read that fails
+/// were processed.
+fn is_stopped(
+    alloc: Global,
+    row: &Row,
+    capture: &[u8],
     given: &RunResult,
     whole: &RunResult,
     device: usize,
     count: usize,
-) {
-    assert!(rt; device < 3);
-    let mut failures = [0; 3];
-    failures[device] = 1;
-    shows(rt, given.status, "nftrun: device");
-    check_call(rt, device, count, given.failures == failures);
-    let calls = count.saturating_add(1) as u64;
-    check_calls(rt, device, count, given.calls[device] == calls);
-    check_call(rt, device, count, is_beginning(given, whole, device));
+) -> bool {
+    shows(alloc, given.status, "device")
+        && has_failed(given, device, count)
+        && is_beginning(given, whole, device)
+        && (device != 0 || is_cut(alloc, row, capture, given, count))
 }
 
-/// Nothing failed, and the outputs are those of the whole run.
+/// Whether the outputs are those of the whole run.
 fn is_whole(given: &RunResult, whole: &RunResult) -> bool {
     given.sent == whole.sent && given.report == whole.report
 }
 
-/// The outputs are those of the records read whole before a read that fails.
-fn is_cut<R: Abort>(rt: &R, given: &RunResult, cut: &RunResult, count: usize) {
-    check_packets(rt, count, given.sent == cut.sent);
-    check_lines(rt, count, given.report.as_slice() == lines_of(&cut.report));
-}
-
-/// Fails with the number of reads if the packets aren't right.
-fn check_packets<R: Abort>(rt: &R, count: usize, are_right: bool) {
-    assert!(rt; are_right, "packets after {count} reads");
-}
-
-/// Fails with the number of reads if the report's lines aren't right.
-fn check_lines<R: Abort>(rt: &R, count: usize, are_right: bool) {
-    assert!(rt; are_right, "lines after {count} reads");
-}
-
-/// This call fails in this way, and stops the run; `None` if there is no such call.
-fn stopped_at<R: Abort + AllocGlobal>(
+/// This call fails in this way, and stops the run. Whether there is such a call.
+fn stops_at<R: Abort + AllocGlobal>(
     rt: &R,
     row: &Row,
     capture: &[u8],
@@ -295,40 +297,21 @@ fn stopped_at<R: Abort + AllocGlobal>(
     device: usize,
     fault: Fault,
     count: usize,
-) -> Option<RunResult> {
-    let device_settings = device_settings(device, fault, count);
-    let given = run_of(rt.alloc(), row, capture, device_settings);
-    if given.failures == [0; 3] {
-        assert!(rt; is_whole(&given, whole));
-        return None;
-    }
-    is_stopped(rt, &given, whole, device, count);
-    Some(given)
-}
-
-/// This read fails, in each way; all records read whole before it were processed. Whether there is
-/// such a read.
-fn read_stops<R: Abort + AllocGlobal>(
-    rt: &R,
-    row: &Row,
-    capture: &[u8],
-    whole: &RunResult,
-    count: usize,
 ) -> bool {
-    let length = count.saturating_mul(most(0)).min(capture.len());
-    let cut = run_of(rt.alloc(), row, &capture[..length], no_failures(most(0)));
-    let mut is_made = true;
-    for fault in &READ_FAULTS {
-        match stopped_at(rt, row, capture, whole, 0, *fault, count) {
-            Some(given) => is_cut(rt, &given, &cut, count),
-            None => is_made = false,
-        }
-    }
+    let alloc = rt.alloc();
+    let given = run_of(alloc, row, capture, device_settings(device, fault, count));
+    let is_made = given.failures != [0; 3];
+    let is_right = if is_made {
+        is_stopped(alloc, row, capture, &given, whole, device, count)
+    } else {
+        is_whole(&given, whole)
+    };
+    check_call(rt, row, device, count, is_right);
     is_made
 }
 
-/// This call of a writer fails, in each way. Whether there is such a call.
-fn write_stops<R: Abort + AllocGlobal>(
+/// This call fails, in each way, and stops the run. Whether there is such a call.
+fn each_way_stops<R: Abort + AllocGlobal>(
     rt: &R,
     row: &Row,
     capture: &[u8],
@@ -336,55 +319,61 @@ fn write_stops<R: Abort + AllocGlobal>(
     device: usize,
     count: usize,
 ) -> bool {
+    let faults: &[Fault] = if device == 0 {
+        &READ_FAULTS
+    } else {
+        &WRITE_FAULTS
+    };
     let mut is_made = true;
-    for fault in &WRITE_FAULTS {
-        is_made &= stopped_at(rt, row, capture, whole, device, *fault, count).is_some();
+    for fault in faults {
+        is_made &= stops_at(rt, row, capture, whole, device, *fault, count);
     }
     is_made
 }
 
-/// The result of the row if no call fails.
-fn whole_run<R: Abort + AllocGlobal>(
-    rt: &R,
-    row: &Row,
-    capture: &[u8],
-    device: usize,
-) -> RunResult {
-    let whole = run_of(rt.alloc(), row, capture, no_failures(most(device)));
-    shows(rt, whole.status, row.line);
-    assert!(rt; whole.sent == bytes(rt.alloc(), row.sent).expect(rt, "packets"));
+/// Whether a run of which no call failed has the row's line and packets, and read the capture and
+/// its end.
+fn is_right(alloc: Global, row: &Row, capture: &[u8], whole: &RunResult, device: usize) -> bool {
     // One more read sees the end.
     let reads = capture.len().div_ceil(most(device)).saturating_add(1);
-    assert!(rt; whole.calls[0] == reads as u64);
-    whole
+    let is_sent = match bytes(alloc, row.sent) {
+        Ok(sent) => whole.sent == sent,
+        Err(_) => false,
+    };
+    is_sent && shows(alloc, whole.status, row.line) && whole.calls[0] == reads as u64
 }
 
-/// Fails with the device if its calls aren't right.
-fn check_calls_of<R: Abort>(rt: &R, device: usize, are_right: bool) {
-    assert!(rt; are_right, "calls of {device}");
-}
-
-/// Fails since each run made one more call of the device.
-fn fails_to_end<R: Abort>(rt: &R, device: usize) {
-    panic!(rt; "no run makes so few calls of {device}");
+/// How many calls of the device there are, each of which stops the run if it fails; `None` if there
+/// are 200 or more.
+fn calls_that_stop<R: Abort + AllocGlobal>(
+    rt: &R,
+    row: &Row,
+    capture: &[u8],
+    whole: &RunResult,
+    device: usize,
+) -> Option<u64> {
+    for count in 0..200usize {
+        if !each_way_stops(rt, row, capture, whole, device, count) {
+            return Some(count as u64);
+        }
+    }
+    None
 }
 
 /// Each call of the device fails in turn, until a run makes no more calls.
 fn stops<R: Abort + AllocGlobal>(rt: &R, row: &Row, device: usize) {
-    assert!(rt; device < 3);
     let capture = bytes(rt.alloc(), row.capture).expect(rt, "a capture");
-    let whole = whole_run(rt, row, &capture, device);
-    for count in 0..200usize {
-        let is_made = match device {
-            0 => read_stops(rt, row, &capture, &whole, count),
-            _ => write_stops(rt, row, &capture, &whole, device, count),
-        };
-        if !is_made {
-            check_calls_of(rt, device, whole.calls[device] == count as u64);
-            return;
-        }
-    }
-    fails_to_end(rt, device);
+    let whole = run_of(rt.alloc(), row, &capture, no_failures(most(device)));
+    check_call(
+        rt,
+        row,
+        device,
+        0,
+        is_right(rt.alloc(), row, &capture, &whole, device),
+    );
+    let calls = calls_that_stop(rt, row, &capture, &whole, device);
+    let is_all = calls.is_some() && calls == whole.calls.get(device).copied();
+    check_call(rt, row, device, 200, is_all);
 }
 
 /// Each call of the device fails in turn, in each row.

@@ -1,5 +1,5 @@
 //! The program on a host that records its calls; its arguments; and each line that it can print.
-use crate::support::{hasher, shows};
+use crate::support::{check_row, hasher, shows};
 use box_file::BoxFault;
 use clap::Error;
 use clap::error::ErrorKind;
@@ -16,31 +16,13 @@ use std::hash::RandomState;
 use std::io;
 use std::process::Abort;
 
-const SAME_FILE: &str = "nftrun: usage: OUT is the same file as RULES, BOX, IN or standard output";
+const RUN: &str = "run rules box in out";
 
-const PRINTED_SAME_FILE: &str =
-    "tell nftrun: usage: OUT is the same file as RULES, BOX, IN or standard output\n";
+const REPORT: &str = "run --report file rules box in out";
 
-const SAME_REPORT: &str = "nftrun: usage: FILE is the same file as RULES, BOX, IN or OUT";
+const CHECK: &str = "check rules box";
 
-const PRINTED_SAME_REPORT: &str =
-    "tell nftrun: usage: FILE is the same file as RULES, BOX, IN or OUT\n";
-
-const NO_CODE: &str =
-    "nftrun: usage: CODE is one of E01 to E06, B1 to B5, N01 to N15, P1 to P5 and P7";
-
-const PRINTED_NO_CODE: &str =
-    "tell nftrun: usage: CODE is one of E01 to E06, B1 to B5, N01 to N15, P1 to P5 and P7\n";
-
-const RUN: &[&str] = &["nftrun", "run", "rules", "box", "in", "out"];
-
-const REPORT: &[&str] = &[
-    "nftrun", "run", "--report", "file", "rules", "box", "in", "out",
-];
-
-const CHECK: &[&str] = &["nftrun", "check", "rules", "box"];
-
-/// The calls of a run that succeeds.
+/// The calls of a run that succeeds. Those of a check begin with the same three.
 const CALLS: &[&str] = &[
     "words\n",
     "read rules\n",
@@ -76,41 +58,43 @@ const REPORT_CALLS: &[&str] = &[
     "identify file\n",
     "identify out\n",
     "create file\n",
+    "run rules box to a file\n",
 ];
 
-/// The answers of a host, and what the program must do then.
+/// What a host does otherwise than where a run succeeds or a check accepts its ruleset.
 #[derive(Clone, Copy)]
-struct Row {
-    words: &'static [&'static str],
-    /// Whether the run has its report in a file.
-    reports: bool,
-    /// The call that fails, counted from 0, and the kind of its error.
+enum Event {
+    /// The call of this number, counted from 0, fails.
+    Fails(usize, io::ErrorKind),
+    /// Two paths lead to one file.
+    Same(&'static str, &'static str),
+    /// Each file is a device.
+    Devices,
+    /// The capture of the run is torn, or the run has a fault.
+    Ends(Result<bool, RunFault>),
+    /// The ruleset is refused.
+    Refuses,
+    /// Standard error is a terminal.
+    Terminal,
+}
+
+/// The answers of a host.
+#[derive(Clone, Copy)]
+struct Answers {
+    arguments: &'static str,
     failing: Option<(usize, io::ErrorKind)>,
-    /// A second path to the file at `file`.
-    same: &'static str,
-    /// The path of a file.
-    file: &'static str,
-    /// Whether that is a regular file.
+    same: (&'static str, &'static str),
     is_regular: bool,
     outcome: Result<bool, RunFault>,
     judged: Result<Counts, RunFault>,
-    /// Whether standard error is a terminal.
-    terminal: bool,
-    /// The number of the first calls that the program makes.
-    count: usize,
-    /// The calls after those.
-    last: &'static str,
-    /// The exit status.
-    code: u8,
+    is_terminal: bool,
 }
 
-/// A run that succeeds.
-const DONE: Row = Row {
-    words: RUN,
-    reports: false,
+/// The answers of a host on which a run succeeds and a check accepts its ruleset.
+const SUCCESS: Answers = Answers {
+    arguments: RUN,
     failing: None,
-    same: "",
-    file: "out",
+    same: ("", ""),
     is_regular: true,
     outcome: Ok(false),
     judged: Ok(Counts {
@@ -118,36 +102,35 @@ const DONE: Row = Row {
         chains: 2,
         rules: 3,
     }),
-    terminal: false,
-    count: 12,
-    last: "",
-    code: 0,
+    is_terminal: false,
 };
 
-/// A run that succeeds, with its report in a file.
-const REPORTED: Row = Row {
-    words: REPORT,
-    reports: true,
-    file: "file",
-    count: 18,
-    last: "run rules box to a file\n",
-    ..DONE
-};
+/// The answers of a host with these arguments on which all this happens.
+fn answers_of(arguments: &'static str, events: &[Event]) -> Answers {
+    let mut answers = Answers {
+        arguments,
+        ..SUCCESS
+    };
+    for event in events {
+        match *event {
+            Event::Fails(call, kind) => answers.failing = Some((call, kind)),
+            Event::Same(one, other) => answers.same = (one, other),
+            Event::Devices => answers.is_regular = false,
+            Event::Ends(outcome) => answers.outcome = outcome,
+            Event::Refuses => answers.judged = Err(RunFault::Rules(TOO_COSTLY)),
+            Event::Terminal => answers.is_terminal = true,
+        }
+    }
+    answers
+}
 
-/// A check that accepts its ruleset. Its first calls are those of a run.
-const CHECKED: Row = Row {
-    words: CHECK,
-    count: 3,
-    last: "judge rules box\nannounce 1 2 3\n",
-    ..DONE
-};
+const TOO_COSTLY: RulesFault = RulesFault::Check(CheckFault::TooCostly);
 
-/// A host that answers as its row says, and records its calls, one a line. A file's content is its
-/// path.
+/// A host that gives its answers, and records its calls, one a line. A file's content is its path.
 #[derive(Drop)]
 struct Recorder {
     alloc: Global,
-    row: Row,
+    answers: Answers,
     calls: Vec<u8>,
     count: usize,
 }
@@ -160,7 +143,7 @@ impl Recorder {
         self.calls.push(b'\n')?;
         let at = self.count;
         self.count = self.count.saturating_add(1);
-        match self.row.failing {
+        match self.answers.failing {
             Some((call, kind)) if call == at => Err(io::Error::from(kind)),
             _ => Ok(()),
         }
@@ -183,11 +166,12 @@ impl Recorder {
     }
 }
 
-/// The words, owned.
-fn strings(alloc: Global, words: &[&str]) -> Result<Vec<String>, AllocError> {
+/// The words of a command line with these arguments.
+fn words_of(alloc: Global, arguments: &str) -> Result<Vec<String>, AllocError> {
     let mut strings = Vec::new(alloc);
-    for word in words {
-        strings.push(String::from_str(alloc, *word)?)?;
+    strings.push(String::from_str(alloc, "nftrun")?)?;
+    for word in arguments.split_whitespace() {
+        strings.push(String::from_str(alloc, word)?)?;
     }
     Ok(strings)
 }
@@ -201,12 +185,12 @@ impl Host for Recorder {
 
     fn words(&mut self) -> io::Result<Vec<String>> {
         self.note(&[b"words"])?;
-        Ok(strings(self.alloc, self.row.words)?)
+        Ok(words_of(self.alloc, self.answers.arguments)?)
     }
 
     // It can't fail, so it isn't among the calls that are counted.
     fn errors_to_terminal(&mut self) -> bool {
-        self.row.terminal
+        self.answers.is_terminal
     }
 
     fn read(&mut self, path: &str) -> io::Result<Vec<u8>> {
@@ -220,8 +204,8 @@ impl Host for Recorder {
 
     fn identify(&mut self, path: &str) -> io::Result<FileIdentity> {
         self.note(&[b"identify ", path.as_bytes()])?;
-        let is_same = path == self.row.file || path == self.row.same;
-        let inode = if is_same {
+        let (one, other) = self.answers.same;
+        let inode = if path == one || path == other {
             2
         } else if path == "out" {
             3
@@ -231,7 +215,7 @@ impl Host for Recorder {
             5
         };
         Ok(FileIdentity {
-            is_regular: self.row.is_regular,
+            is_regular: self.answers.is_regular,
             device: 1,
             inode,
         })
@@ -259,12 +243,12 @@ impl Host for Recorder {
         let to: &[u8] = if report.is_some() { b" to a file" } else { b"" };
         let end: &[u8] = if trace { b" traced" } else { b"" };
         self.note_run(&[b"run ", rules, b" ", plant, to, end])?;
-        self.row.outcome
+        self.answers.outcome
     }
 
     fn judge(&mut self, rules: &[u8], plant: &[u8]) -> Result<Counts, RunFault> {
         self.note_run(&[b"judge ", rules, b" ", plant])?;
-        self.row.judged
+        self.answers.judged
     }
 
     fn print_accepted(&mut self, counts: Counts) -> io::Result<()> {
@@ -312,380 +296,266 @@ impl Host for Recorder {
     }
 }
 
-/// The calls of a run.
-fn calls_of(row: &Row) -> &'static [&'static str] {
-    if row.reports { REPORT_CALLS } else { CALLS }
-}
-
-/// Whether these are the calls that the program must make.
-fn are_wanted(calls: &[u8], row: &Row) -> bool {
+/// Whether these are the calls: the first ones, and behind them the last ones.
+fn are_wanted(calls: &[u8], first: &[&str], last: &str) -> bool {
     let mut rest = calls;
-    let wanted = calls_of(row);
-    for call in wanted.get(..row.count).unwrap_or(wanted) {
+    for call in first {
         match rest.strip_prefix(call.as_bytes()) {
             Some(after) => rest = after,
             None => return false,
         }
     }
-    rest == row.last.as_bytes()
+    rest == last.as_bytes()
 }
 
-/// The exit status is wanted.
-fn check_code<R: Abort>(rt: &R, code: u8, wanted: u8) {
-    assert_eq!(rt; code, wanted);
-}
-
-/// Runs the program on the row's host, and checks its calls and its exit status.
-fn ends<R: Abort + AllocGlobal>(rt: &R, row: Row) {
+/// Whether the program makes these calls on a host with these answers, and ends with this status.
+fn ends(alloc: Global, answers: Answers, first: &[&str], last: &str, code: u8) -> bool {
     let mut host = Recorder {
-        alloc: rt.alloc(),
-        row,
-        calls: Vec::new(rt.alloc()),
+        alloc,
+        answers,
+        calls: Vec::new(alloc),
         count: 0,
     };
-    check_code(rt, perform(rt.alloc(), &mut host), row.code);
-    assert!(rt; are_wanted(&host.calls, &row));
+    perform(alloc, &mut host) == code && are_wanted(&host.calls, first, last)
 }
 
-/// A run; one with a trace; one with a torn end; runs that would overwrite a file that they read,
-/// or the report; one whose files are devices; one whose OUT doesn't exist, and one whose standard
-/// output doesn't; an argument that isn't UTF-8; a fault of a run; a line that can't be printed,
-/// which changes nothing; arguments that are no task, and help. A check; one that refuses; a box
-/// that can't be read; a line that can't be printed. An explanation, with and without a fault; a
-/// path `--explain`; the explanation of a code. On a terminal a run and a check that refuses, with
-/// `--no-explain` and without; `--nft`, which a check that refuses and a run have no use for.
+/// The program's arguments, what happens on its host, how many of the calls of a run it makes, its
+/// calls after those, and its exit status.
+type Row = (&'static str, &'static [Event], usize, &'static str, u8);
+
+const SAME_FILE: &str =
+    "tell nftrun: usage: OUT is the same file as RULES, BOX, IN or standard output\n";
+
+const SAME_REPORT: &str = "tell nftrun: usage: FILE is the same file as RULES, BOX, IN or OUT\n";
+
+const NO_CODE: &str =
+    "tell nftrun: usage: CODE is one of E01 to E06, B1 to B5, N01 to N15, P1 to P5 and P7\n";
+
+const REFUSED: &[Event] = &[Event::Refuses];
+
+const TERMINAL: &[Event] = &[Event::Terminal];
+
+const TORN: &[Event] = &[Event::Ends(Ok(true))];
+
+const FAULTY: &[Event] = &[Event::Ends(Err(RunFault::Capture(CaptureFault::TornEnd)))];
+
+const ACCEPTS: &str = "judge rules box\nannounce 1 2 3\n";
+
+const REFUSES: &str = "judge rules box\ntell nftrun: rules N06\n";
+
+const CLARIFIES: &str =
+    "judge rules box\ntell nftrun: rules N06\nclarify check nftrun: rules N06\n";
+
 static ROWS: [Row; 37] = [
-    DONE,
-    Row {
-        words: &["nftrun", "run", "--trace", "rules", "box", "in", "out"],
-        count: 11,
-        last: "run rules box traced\n",
-        ..DONE
-    },
-    CHECKED,
-    Row {
-        judged: Err(RunFault::Rules(RulesFault::Check(CheckFault::TooCostly))),
-        last: "judge rules box\ntell nftrun: rules N06\n",
-        code: 1,
-        ..CHECKED
-    },
-    Row {
-        failing: Some((2, io::ErrorKind::NotFound)),
-        last: "tell nftrun: device\n",
-        code: 5,
-        ..CHECKED
-    },
-    Row {
-        failing: Some((4, io::ErrorKind::BrokenPipe)),
-        last: "judge rules box\nannounce 1 2 3\ntell nftrun: device\n",
-        code: 5,
-        ..CHECKED
-    },
-    Row {
-        outcome: Ok(true),
-        last: "tell nftrun: capture torn\n",
-        code: 7,
-        ..DONE
-    },
-    Row {
-        same: "rules",
-        count: 6,
-        last: PRINTED_SAME_FILE,
-        code: 2,
-        ..DONE
-    },
-    Row {
-        same: "box",
-        count: 7,
-        last: PRINTED_SAME_FILE,
-        code: 2,
-        ..DONE
-    },
-    Row {
-        same: "in",
-        count: 8,
-        last: PRINTED_SAME_FILE,
-        code: 2,
-        ..DONE
-    },
-    Row {
-        same: "/dev/stdout",
-        count: 9,
-        last: PRINTED_SAME_FILE,
-        code: 2,
-        ..DONE
-    },
-    Row {
-        same: "in",
-        is_regular: false,
-        ..DONE
-    },
-    Row {
-        failing: Some((4, io::ErrorKind::NotFound)),
-        count: 5,
-        last: "draw keys\ncreate out\nrun rules box\n",
-        ..DONE
-    },
-    Row {
-        failing: Some((8, io::ErrorKind::NotFound)),
-        ..DONE
-    },
-    Row {
-        failing: Some((0, io::ErrorKind::InvalidData)),
-        count: 1,
-        last: "tell nftrun: usage: a word isn't UTF-8\n",
-        code: 2,
-        ..DONE
-    },
-    Row {
-        outcome: Err(RunFault::Capture(CaptureFault::TornEnd)),
-        last: "tell nftrun: capture P5\n",
-        code: 4,
-        ..DONE
-    },
-    Row {
-        failing: Some((12, io::ErrorKind::BrokenPipe)),
-        outcome: Err(RunFault::Device),
-        last: "tell nftrun: device\n",
-        code: 5,
-        ..DONE
-    },
-    Row {
-        words: &["nftrun", "run", "rules"],
-        count: 1,
-        last: "explain usage\n",
-        code: 2,
-        ..DONE
-    },
-    Row {
-        words: &["nftrun", "--help"],
-        count: 1,
-        last: "explain help\n",
-        ..DONE
-    },
-    Row {
-        words: &["nftrun", "--help"],
-        failing: Some((1, io::ErrorKind::BrokenPipe)),
-        count: 1,
-        last: "explain help\ntell nftrun: device\n",
-        code: 5,
-        ..DONE
-    },
-    Row {
-        words: &["nftrun", "check", "--explain", "rules", "box"],
-        judged: Err(RunFault::Rules(RulesFault::Check(CheckFault::TooCostly))),
-        last: "judge rules box\ntell nftrun: rules N06\nclarify check nftrun: rules N06\n",
-        code: 1,
-        ..CHECKED
-    },
-    Row {
-        words: &["nftrun", "check", "--all", "rules", "box"],
-        judged: Err(RunFault::Rules(RulesFault::Check(CheckFault::TooCostly))),
-        last: "judge rules box\ntell nftrun: rules N06\nlist_faults\n",
-        code: 1,
-        ..CHECKED
-    },
-    Row {
-        words: &["nftrun", "check", "--all", "--explain", "rules", "box"],
-        judged: Err(RunFault::Rules(RulesFault::Check(CheckFault::TooCostly))),
-        last: "judge rules box\ntell nftrun: rules N06\nclarify check nftrun: rules N06\nlist_faults\n",
-        code: 1,
-        ..CHECKED
-    },
-    Row {
-        words: &["nftrun", "check", "--all", "rules", "box"],
-        ..CHECKED
-    },
-    Row {
-        words: &["nftrun", "run", "rules", "box", "--explain", "in", "out"],
-        outcome: Ok(true),
-        last: "tell nftrun: capture torn\nclarify run nftrun: capture torn\nremark on in\n",
-        code: 7,
-        ..DONE
-    },
-    Row {
-        words: &["nftrun", "run", "--explain", "rules", "box", "in", "out"],
-        last: "remark on in\n",
-        ..DONE
-    },
-    Row {
-        terminal: true,
-        last: "remark on in\n",
-        ..DONE
-    },
-    Row {
-        words: &["nftrun", "run", "--no-explain", "rules", "box", "in", "out"],
-        terminal: true,
-        ..DONE
-    },
-    Row {
-        judged: Err(RunFault::Rules(RulesFault::Check(CheckFault::TooCostly))),
-        terminal: true,
-        last: "judge rules box\ntell nftrun: rules N06\nclarify check nftrun: rules N06\n",
-        code: 1,
-        ..CHECKED
-    },
-    Row {
-        words: &["nftrun", "check", "rules", "--no-explain", "box"],
-        judged: Err(RunFault::Rules(RulesFault::Check(CheckFault::TooCostly))),
-        terminal: true,
-        last: "judge rules box\ntell nftrun: rules N06\n",
-        code: 1,
-        ..CHECKED
-    },
-    Row {
-        words: &["nftrun", "check", "--nft", "rules", "box"],
-        last: "judge rules box\nannounce 1 2 3\nwarn of rules\n",
-        ..CHECKED
-    },
-    Row {
-        words: &["nftrun", "check", "--nft", "rules", "box"],
-        judged: Err(RunFault::Rules(RulesFault::Check(CheckFault::TooCostly))),
-        last: "judge rules box\ntell nftrun: rules N06\n",
-        code: 1,
-        ..CHECKED
-    },
-    Row {
-        words: &["nftrun", "run", "--nft", "rules", "box", "in", "out"],
-        count: 1,
-        last: "explain usage\n",
-        code: 2,
-        ..DONE
-    },
-    Row {
-        words: &["nftrun", "check", "--", "--explain", "box"],
-        count: 1,
-        last: "read --explain\nread box\njudge --explain box\nannounce 1 2 3\n",
-        ..CHECKED
-    },
-    Row {
-        words: &["nftrun", "explain", "N12"],
-        count: 1,
-        last: "show N12\n",
-        ..DONE
-    },
-    Row {
-        words: &["nftrun", "explain", "N12"],
-        failing: Some((1, io::ErrorKind::BrokenPipe)),
-        count: 1,
-        last: "show N12\ntell nftrun: device\n",
-        code: 5,
-        ..DONE
-    },
-    Row {
-        words: &["nftrun", "explain", "N16"],
-        count: 1,
-        last: PRINTED_NO_CODE,
-        code: 2,
-        ..DONE
-    },
-];
-
-/// Runs with the report in a file: one that succeeds, and one with a trace; runs that would
-/// overwrite a file that they read, or OUT, which may exist only once it is created; one whose OUT
-/// is a file that it reads; one whose OUT is standard output; one whose files are devices; one
-/// whose FILE doesn't exist; a torn end, and a fault of the run.
-static REPORTS: [Row; 13] = [
-    REPORTED,
-    Row {
-        words: &[
-            "nftrun",
-            "run",
-            "--report=file",
-            "--trace",
-            "rules",
-            "box",
-            "in",
-            "out",
+    // A run; one with a trace; one with a torn end; a fault of a run.
+    (RUN, &[], 12, "", 0),
+    (
+        "run --trace rules box in out",
+        &[],
+        11,
+        "run rules box traced\n",
+        0,
+    ),
+    (RUN, TORN, 12, "tell nftrun: capture torn\n", 7),
+    (RUN, FAULTY, 12, "tell nftrun: capture P5\n", 4),
+    // A check; one that refuses; a box that can't be read; a line that can't be printed.
+    (CHECK, &[], 3, ACCEPTS, 0),
+    (CHECK, REFUSED, 3, REFUSES, 1),
+    (
+        CHECK,
+        &[Event::Fails(2, io::ErrorKind::NotFound)],
+        3,
+        "tell nftrun: device\n",
+        5,
+    ),
+    (
+        CHECK,
+        &[Event::Fails(4, io::ErrorKind::BrokenPipe)],
+        3,
+        "judge rules box\nannounce 1 2 3\ntell nftrun: device\n",
+        5,
+    ),
+    // Runs that would overwrite a file that they read, or the report; one whose files are devices.
+    (RUN, &[Event::Same("out", "rules")], 6, SAME_FILE, 2),
+    (RUN, &[Event::Same("out", "box")], 7, SAME_FILE, 2),
+    (RUN, &[Event::Same("out", "in")], 8, SAME_FILE, 2),
+    (RUN, &[Event::Same("out", "/dev/stdout")], 9, SAME_FILE, 2),
+    (RUN, &[Event::Same("out", "in"), Event::Devices], 12, "", 0),
+    // OUT doesn't exist; standard output doesn't; an argument isn't UTF-8.
+    (
+        RUN,
+        &[Event::Fails(4, io::ErrorKind::NotFound)],
+        5,
+        "draw keys\ncreate out\nrun rules box\n",
+        0,
+    ),
+    (RUN, &[Event::Fails(8, io::ErrorKind::NotFound)], 12, "", 0),
+    (
+        RUN,
+        &[Event::Fails(0, io::ErrorKind::InvalidData)],
+        1,
+        "tell nftrun: usage: a word isn't UTF-8\n",
+        2,
+    ),
+    // A line that can't be printed changes nothing.
+    (
+        RUN,
+        &[
+            Event::Fails(12, io::ErrorKind::BrokenPipe),
+            Event::Ends(Err(RunFault::Device)),
         ],
-        last: "run rules box to a file traced\n",
-        ..REPORTED
-    },
-    Row {
-        same: "rules",
-        count: 10,
-        last: PRINTED_SAME_REPORT,
-        code: 2,
-        ..REPORTED
-    },
-    Row {
-        same: "box",
-        count: 11,
-        last: PRINTED_SAME_REPORT,
-        code: 2,
-        ..REPORTED
-    },
-    Row {
-        same: "in",
-        count: 12,
-        last: PRINTED_SAME_REPORT,
-        code: 2,
-        ..REPORTED
-    },
-    Row {
-        same: "out",
-        count: 13,
-        last: PRINTED_SAME_REPORT,
-        code: 2,
-        ..REPORTED
-    },
-    Row {
-        failing: Some((8, io::ErrorKind::NotFound)),
-        same: "out",
-        count: 9,
-        last: "draw keys\ncreate out\nidentify file\nidentify out\ntell nftrun: usage: FILE is the same file as RULES, BOX, IN or OUT\n",
-        code: 2,
-        ..REPORTED
-    },
-    Row {
-        same: "in",
-        file: "out",
-        count: 8,
-        last: PRINTED_SAME_FILE,
-        code: 2,
-        ..REPORTED
-    },
-    Row {
-        same: "/dev/stdout",
-        file: "out",
-        ..REPORTED
-    },
-    Row {
-        same: "out",
-        is_regular: false,
-        ..REPORTED
-    },
-    Row {
-        failing: Some((15, io::ErrorKind::NotFound)),
-        count: 16,
-        last: "create file\nrun rules box to a file\n",
-        ..REPORTED
-    },
-    Row {
-        outcome: Ok(true),
-        last: "run rules box to a file\ntell nftrun: capture torn\n",
-        code: 7,
-        ..REPORTED
-    },
-    Row {
-        outcome: Err(RunFault::Capture(CaptureFault::TornEnd)),
-        last: "run rules box to a file\ntell nftrun: capture P5\n",
-        code: 4,
-        ..REPORTED
-    },
+        12,
+        "tell nftrun: device\n",
+        5,
+    ),
+    // Arguments that are no task, and help.
+    ("run rules", &[], 1, "explain usage\n", 2),
+    ("--help", &[], 1, "explain help\n", 0),
+    (
+        "--help",
+        &[Event::Fails(1, io::ErrorKind::BrokenPipe)],
+        1,
+        "explain help\ntell nftrun: device\n",
+        5,
+    ),
+    // Explanations and lists of faults.
+    ("check --explain rules box", REFUSED, 3, CLARIFIES, 1),
+    (
+        "check --all rules box",
+        REFUSED,
+        3,
+        "judge rules box\ntell nftrun: rules N06\nlist_faults\n",
+        1,
+    ),
+    (
+        "check --all --explain rules box",
+        REFUSED,
+        3,
+        "judge rules box\ntell nftrun: rules N06\nclarify check nftrun: rules N06\nlist_faults\n",
+        1,
+    ),
+    ("check --all rules box", &[], 3, ACCEPTS, 0),
+    (
+        "run rules box --explain in out",
+        TORN,
+        12,
+        "tell nftrun: capture torn\nclarify run nftrun: capture torn\nremark on in\n",
+        7,
+    ),
+    (
+        "run --explain rules box in out",
+        &[],
+        12,
+        "remark on in\n",
+        0,
+    ),
+    // On a terminal, with `--no-explain` and without.
+    (RUN, TERMINAL, 12, "remark on in\n", 0),
+    ("run --no-explain rules box in out", TERMINAL, 12, "", 0),
+    (CHECK, &[Event::Refuses, Event::Terminal], 3, CLARIFIES, 1),
+    (
+        "check rules --no-explain box",
+        &[Event::Refuses, Event::Terminal],
+        3,
+        REFUSES,
+        1,
+    ),
+    // `--nft`, which a check that refuses and a run have no use for.
+    (
+        "check --nft rules box",
+        &[],
+        3,
+        "judge rules box\nannounce 1 2 3\nwarn of rules\n",
+        0,
+    ),
+    ("check --nft rules box", REFUSED, 3, REFUSES, 1),
+    ("run --nft rules box in out", &[], 1, "explain usage\n", 2),
+    // A path `--explain`; the explanation of a code.
+    (
+        "check -- --explain box",
+        &[],
+        1,
+        "read --explain\nread box\njudge --explain box\nannounce 1 2 3\n",
+        0,
+    ),
+    ("explain N12", &[], 1, "show N12\n", 0),
+    (
+        "explain N12",
+        &[Event::Fails(1, io::ErrorKind::BrokenPipe)],
+        1,
+        "show N12\ntell nftrun: device\n",
+        5,
+    ),
+    ("explain N16", &[], 1, NO_CODE, 2),
 ];
 
-/// The program ends so on the host of each row.
-fn each_ends<R: Abort + AllocGlobal>(rt: &R, rows: &[Row]) {
-    for row in rows {
-        ends(rt, *row);
-    }
+/// Runs with the report in a file.
+static REPORTS: [Row; 13] = [
+    // One that succeeds, and one with a trace.
+    (REPORT, &[], 19, "", 0),
+    (
+        "run --report=file --trace rules box in out",
+        &[],
+        18,
+        "run rules box to a file traced\n",
+        0,
+    ),
+    // Runs that would overwrite a file that they read, or OUT, which may exist only once it is created.
+    (REPORT, &[Event::Same("file", "rules")], 10, SAME_REPORT, 2),
+    (REPORT, &[Event::Same("file", "box")], 11, SAME_REPORT, 2),
+    (REPORT, &[Event::Same("file", "in")], 12, SAME_REPORT, 2),
+    (REPORT, &[Event::Same("file", "out")], 13, SAME_REPORT, 2),
+    (
+        REPORT,
+        &[
+            Event::Same("file", "out"),
+            Event::Fails(8, io::ErrorKind::NotFound),
+        ],
+        9,
+        "draw keys\ncreate out\nidentify file\nidentify out\ntell nftrun: usage: FILE is the same file as RULES, BOX, IN or OUT\n",
+        2,
+    ),
+    // OUT is a file that is read; it is standard output; the files are devices; FILE doesn't exist.
+    (REPORT, &[Event::Same("out", "in")], 8, SAME_FILE, 2),
+    (REPORT, &[Event::Same("out", "/dev/stdout")], 19, "", 0),
+    (
+        REPORT,
+        &[Event::Same("file", "out"), Event::Devices],
+        19,
+        "",
+        0,
+    ),
+    (
+        REPORT,
+        &[Event::Fails(15, io::ErrorKind::NotFound)],
+        16,
+        "create file\nrun rules box to a file\n",
+        0,
+    ),
+    // A torn end, and a fault of the run.
+    (REPORT, TORN, 19, "tell nftrun: capture torn\n", 7),
+    (REPORT, FAULTY, 19, "tell nftrun: capture P5\n", 4),
+];
+
+/// Whether the program does what the row says, where a run makes these calls.
+fn is_right(alloc: Global, row: &Row, calls: &[&str]) -> bool {
+    let (arguments, events, count, last, code) = *row;
+    let first = calls.get(..count).unwrap_or(calls);
+    ends(alloc, answers_of(arguments, events), first, last, code)
 }
 
 #[test]
 fn the_program_makes_these_calls(rt: HostRuntime) {
-    each_ends(&rt, &ROWS);
-    each_ends(&rt, &REPORTS);
+    for row in 0..ROWS.len() {
+        check_row(&rt, row, is_right(rt.alloc(), &ROWS[row], CALLS));
+    }
+}
+
+#[test]
+fn the_program_makes_these_calls_for_a_report_file(rt: HostRuntime) {
+    for row in 0..REPORTS.len() {
+        check_row(&rt, row, is_right(rt.alloc(), &REPORTS[row], REPORT_CALLS));
+    }
 }
 
 /// How a call fails, the last line that the program then prints, and its exit status.
@@ -694,163 +564,86 @@ static FAILURES: [(io::ErrorKind, &str, u8); 2] = [
     (io::ErrorKind::OutOfMemory, "tell nftrun: memory\n", 6),
 ];
 
+/// Whether the program makes no call after this one if it fails, in each way.
+fn stops_at(alloc: Global, arguments: &'static str, calls: &[&str], call: usize) -> bool {
+    let first = calls.get(..call.saturating_add(1)).unwrap_or(calls);
+    let mut is_right = true;
+    for &(kind, last, code) in &FAILURES {
+        let answers = answers_of(arguments, &[Event::Fails(call, kind)]);
+        is_right &= ends(alloc, answers, first, last, code);
+    }
+    is_right
+}
+
 /// Each call of a run fails in turn.
-fn stops<R: Abort + AllocGlobal>(rt: &R, done: Row, calls: usize) {
-    for call in 0..calls {
-        for &(kind, last, code) in &FAILURES {
-            let row = Row {
-                failing: Some((call, kind)),
-                count: call.saturating_add(1),
-                last,
-                code,
-                ..done
-            };
-            ends(rt, row);
-        }
+fn stops<R: Abort + AllocGlobal>(rt: &R, arguments: &'static str, calls: &[&str]) {
+    for call in 0..calls.len() {
+        check_row(rt, call, stops_at(rt.alloc(), arguments, calls, call));
     }
 }
 
 #[test]
 fn no_call_follows_one_that_failed(rt: HostRuntime) {
-    stops(&rt, DONE, CALLS.len());
-    stops(&rt, REPORTED, REPORT_CALLS.len());
+    stops(&rt, RUN, CALLS);
+    stops(&rt, REPORT, REPORT_CALLS);
 }
 
 /// The paths of a task, or the kind and the exit status of an error.
 type Answer = Result<&'static str, (ErrorKind, i32)>;
 
+const CONFLICT: Answer = Err((ErrorKind::ArgumentConflict, 2));
+
+const INVALID: Answer = Err((ErrorKind::InvalidValue, 2));
+
+const MISSING: Answer = Err((ErrorKind::MissingRequiredArgument, 2));
+
+const UNKNOWN: Answer = Err((ErrorKind::UnknownArgument, 2));
+
 /// Arguments, and what they are answered.
-static WORDS: [(&[&str], Answer); 37] = [
-    (&["nftrun", "check", "r", "b"], Ok("r b")),
-    (&["nftrun", "check", "--all", "r", "b"], Ok("r b all")),
-    (&["nftrun", "check", "r", "b", "--all"], Ok("r b all")),
-    (&["nftrun", "check", "--", "--all", "b"], Ok("--all b")),
+static WORDS: [(&str, Answer); 37] = [
+    ("nftrun check r b", Ok("r b")),
+    ("nftrun check --all r b", Ok("r b all")),
+    ("nftrun check r b --all", Ok("r b all")),
+    ("nftrun check -- --all b", Ok("--all b")),
+    ("nftrun check --all r b --all", CONFLICT),
+    ("nftrun run --all r b i o", UNKNOWN),
+    ("nftrun check --report f r b", UNKNOWN),
+    ("nftrun run --report f r b i o", Ok("r b i o to f")),
+    ("nftrun run r b --report=f i o", Ok("r b i o to f")),
+    ("nftrun run r b i o --report -", Ok("r b i o to -")),
     (
-        &["nftrun", "check", "--all", "r", "b", "--all"],
-        Err((ErrorKind::ArgumentConflict, 2)),
-    ),
-    (
-        &["nftrun", "run", "--all", "r", "b", "i", "o"],
-        Err((ErrorKind::UnknownArgument, 2)),
-    ),
-    (
-        &["nftrun", "check", "--report", "f", "r", "b"],
-        Err((ErrorKind::UnknownArgument, 2)),
-    ),
-    (
-        &["nftrun", "run", "--report", "f", "r", "b", "i", "o"],
-        Ok("r b i o to f"),
-    ),
-    (
-        &["nftrun", "run", "r", "b", "--report=f", "i", "o"],
-        Ok("r b i o to f"),
-    ),
-    (
-        &["nftrun", "run", "r", "b", "i", "o", "--report", "-"],
-        Ok("r b i o to -"),
-    ),
-    (
-        &["nftrun", "run", "--report=--trace", "r", "b", "i", "o"],
+        "nftrun run --report=--trace r b i o",
         Ok("r b i o to --trace"),
     ),
     (
-        &[
-            "nftrun", "run", "--trace", "r", "--report", "f", "b", "--", "-i", "o",
-        ],
+        "nftrun run --trace r --report f b -- -i o",
         Ok("r b -i o traced to f"),
     ),
-    (
-        &["nftrun", "run", "--", "--report", "f", "i", "o"],
-        Ok("--report f i o"),
-    ),
-    (
-        &["nftrun", "run", "--report", "--", "r", "b", "i", "o"],
-        Err((ErrorKind::InvalidValue, 2)),
-    ),
-    (
-        &["nftrun", "run", "--report", "--trace", "r", "b", "i", "o"],
-        Err((ErrorKind::InvalidValue, 2)),
-    ),
-    (
-        &["nftrun", "run", "r", "b", "i", "o", "--report"],
-        Err((ErrorKind::InvalidValue, 2)),
-    ),
-    (
-        &[
-            "nftrun",
-            "run",
-            "--report",
-            "f",
-            "r",
-            "b",
-            "i",
-            "o",
-            "--report=f",
-        ],
-        Err((ErrorKind::ArgumentConflict, 2)),
-    ),
-    (
-        &["nftrun", "run", "--report", "f", "r", "b", "i"],
-        Err((ErrorKind::MissingRequiredArgument, 2)),
-    ),
-    (&["nftrun", "check", "--", "-r", "b"], Ok("-r b")),
-    (
-        &["nftrun", "check", "r", "b", "i", "o"],
-        Err((ErrorKind::UnknownArgument, 2)),
-    ),
-    (&["nftrun", "run", "r", "b", "i", "o"], Ok("r b i o")),
-    (&["nftrun", "run", "r", "b", "-", "o"], Ok("r b - o")),
-    (
-        &["nftrun", "run", "--", "r", "b", "-i", "--help"],
-        Ok("r b -i --help"),
-    ),
-    (
-        &["nftrun", "run", "--trace", "r", "b", "i", "o"],
-        Ok("r b i o traced"),
-    ),
-    (
-        &["nftrun", "run", "r", "b", "--trace", "i", "o"],
-        Ok("r b i o traced"),
-    ),
-    (
-        &["nftrun", "run", "r", "b", "i", "o", "--trace"],
-        Ok("r b i o traced"),
-    ),
-    (
-        &["nftrun", "run", "--trace", "--", "-r", "b", "i", "o"],
-        Ok("-r b i o traced"),
-    ),
-    (
-        &["nftrun", "run", "--", "--trace", "b", "i", "o"],
-        Ok("--trace b i o"),
-    ),
-    (
-        &["nftrun", "run", "--trace", "r", "b", "i", "o", "--trace"],
-        Err((ErrorKind::ArgumentConflict, 2)),
-    ),
-    (
-        &["nftrun", "check", "--trace", "r", "b"],
-        Err((ErrorKind::UnknownArgument, 2)),
-    ),
-    (&["nftrun"], Err((ErrorKind::MissingSubcommand, 2))),
-    (
-        &["nftrun", "run", "r"],
-        Err((ErrorKind::MissingRequiredArgument, 2)),
-    ),
-    (&["nftrun", "explain", "E05"], Ok("E05")),
-    (
-        &["nftrun", "explain"],
-        Err((ErrorKind::MissingRequiredArgument, 2)),
-    ),
-    (
-        &["nftrun", "--version"],
-        Err((ErrorKind::DisplayVersion, 0)),
-    ),
-    (&["nftrun", "--help"], Err((ErrorKind::DisplayHelp, 0))),
-    (
-        &["nftrun", "run", "--help"],
-        Err((ErrorKind::DisplayHelp, 0)),
-    ),
+    ("nftrun run -- --report f i o", Ok("--report f i o")),
+    ("nftrun run --report -- r b i o", INVALID),
+    ("nftrun run --report --trace r b i o", INVALID),
+    ("nftrun run r b i o --report", INVALID),
+    ("nftrun run --report f r b i o --report=f", CONFLICT),
+    ("nftrun run --report f r b i", MISSING),
+    ("nftrun check -- -r b", Ok("-r b")),
+    ("nftrun check r b i o", UNKNOWN),
+    ("nftrun run r b i o", Ok("r b i o")),
+    ("nftrun run r b - o", Ok("r b - o")),
+    ("nftrun run -- r b -i --help", Ok("r b -i --help")),
+    ("nftrun run --trace r b i o", Ok("r b i o traced")),
+    ("nftrun run r b --trace i o", Ok("r b i o traced")),
+    ("nftrun run r b i o --trace", Ok("r b i o traced")),
+    ("nftrun run --trace -- -r b i o", Ok("-r b i o traced")),
+    ("nftrun run -- --trace b i o", Ok("--trace b i o")),
+    ("nftrun run --trace r b i o --trace", CONFLICT),
+    ("nftrun check --trace r b", UNKNOWN),
+    ("nftrun", Err((ErrorKind::MissingSubcommand, 2))),
+    ("nftrun run r", MISSING),
+    ("nftrun explain E05", Ok("E05")),
+    ("nftrun explain", MISSING),
+    ("nftrun --version", Err((ErrorKind::DisplayVersion, 0))),
+    ("nftrun --help", Err((ErrorKind::DisplayHelp, 0))),
+    ("nftrun run --help", Err((ErrorKind::DisplayHelp, 0))),
 ];
 
 /// A task and its arguments, in one line.
@@ -881,131 +674,109 @@ fn names_paths(alloc: Global, words: &[&str], error: &Error) -> Result<bool, All
     Ok(!is_help_of_run || text.contains("<RULES> <BOX> <IN> <OUT>"))
 }
 
-/// The task and its arguments are wanted.
-fn is_task<R: Abort + AllocGlobal>(rt: &R, wanted: &Answer, task: &Task<'_>) {
-    let text = shown(rt.alloc(), task).expect(rt, "memory");
-    assert!(rt; *wanted == Ok(text.as_str()), "{text}");
-}
-
-/// The error is wanted.
-fn is_refusal<R: Abort + AllocGlobal>(rt: &R, wanted: &Answer, words: &[&str], error: &Error) {
-    assert!(rt; *wanted == Err((error.kind(), error.exit_code())));
-    let is_named = names_paths(rt.alloc(), words, error);
-    assert!(rt; is_named.expect(rt, "memory"));
-}
-
-/// The arguments are answered so.
-fn are_answered<R: Abort + AllocGlobal>(rt: &R, words: &[&str], wanted: &Answer) {
-    match read_task(rt.alloc(), words) {
-        Ok(task) => is_task(rt, wanted, &task),
-        Err(error) => is_refusal(rt, wanted, words, &error),
+/// Whether the task is wanted.
+fn is_task(alloc: Global, wanted: &Answer, task: &Task<'_>) -> bool {
+    match shown(alloc, task) {
+        Ok(text) => *wanted == Ok(text.as_str()),
+        Err(_) => false,
     }
+}
+
+/// Whether the error is wanted, and the help of `run`, if it is printed, names its paths.
+fn is_refusal(alloc: Global, wanted: &Answer, words: &[&str], error: &Error) -> bool {
+    *wanted == Err((error.kind(), error.exit_code()))
+        && names_paths(alloc, words, error) == Ok(true)
+}
+
+/// Whether the words are answered so.
+fn are_answered(alloc: Global, words: &[&str], wanted: &Answer) -> bool {
+    match read_task(alloc, words) {
+        Ok(task) => is_task(alloc, wanted, &task),
+        Err(error) => is_refusal(alloc, wanted, words, &error),
+    }
+}
+
+/// Whether the words of the text are.
+fn is_answered<R: Abort + AllocGlobal>(rt: &R, text: &str, wanted: &Answer) -> bool {
+    let words: Result<Vec<&str>, AllocError> = text.split_whitespace().collect(rt.alloc());
+    are_answered(rt.alloc(), &words.expect(rt, "memory"), wanted)
 }
 
 #[test]
 fn words_ask_for_a_task_or_are_refused(rt: HostRuntime) {
-    for (words, wanted) in &WORDS {
-        are_answered(&rt, words, wanted);
+    for row in 0..WORDS.len() {
+        let (text, wanted) = WORDS[row];
+        check_row(&rt, row, is_answered(&rt, text, &wanted));
     }
 }
 
-/// Each status, its line and its exit status.
+const BYTE: TextFault = TextFault::Lexical(LexFault::Byte { line: 1 });
+
+const OPEN_STRING: TextFault = TextFault::Lexical(LexFault::OpenString { line: 1 });
+
+const NUMBER: TextFault = TextFault::Lexical(LexFault::Number { line: 1 });
+
+const TOO_LONG: TextFault = TextFault::Lexical(LexFault::TooLong);
+
+const TOO_LARGE: RulesFault = RulesFault::Check(CheckFault::TooLarge);
+
+/// Each status, its line after `nftrun: `, and its exit status.
 static STATUSES: [(Status, &str, u8); 28] = [
-    (Status::Success, "nftrun: done", 0),
-    (
-        Status::Rules(RulesFault::Text(TextFault::Lexical(LexFault::Byte { line: 1 }))),
-        "nftrun: rules E01",
-        1,
-    ),
-    (
-        Status::Rules(RulesFault::Text(TextFault::Lexical(LexFault::OpenString { line: 1 }))),
-        "nftrun: rules E02",
-        1,
-    ),
-    (
-        Status::Rules(RulesFault::Text(TextFault::Lexical(LexFault::Number { line: 1 }))),
-        "nftrun: rules E03",
-        1,
-    ),
-    (
-        Status::Rules(RulesFault::Text(TextFault::Lexical(LexFault::TooLong))),
-        "nftrun: rules E04",
-        1,
-    ),
+    (Status::Success, "done", 0),
+    (Status::Rules(RulesFault::Text(BYTE)), "rules E01", 1),
+    (Status::Rules(RulesFault::Text(OPEN_STRING)), "rules E02", 1),
+    (Status::Rules(RulesFault::Text(NUMBER)), "rules E03", 1),
+    (Status::Rules(RulesFault::Text(TOO_LONG)), "rules E04", 1),
     (
         Status::Rules(RulesFault::Text(TextFault::Syntax)),
-        "nftrun: rules E05",
+        "rules E05",
         1,
     ),
     (
         Status::Rules(RulesFault::Text(TextFault::Unsupported)),
-        "nftrun: rules E06",
+        "rules E06",
         1,
     ),
+    (Status::Rules(TOO_COSTLY), "rules N06", 1),
+    (Status::Rules(TOO_LARGE), "rules N15", 1),
+    (Status::Usage, "usage", 2),
+    (Status::NotUtf8, "usage: a word isn't UTF-8", 2),
     (
-        Status::Rules(RulesFault::Check(CheckFault::TooCostly)),
-        "nftrun: rules N06",
-        1,
+        Status::SameFile,
+        "usage: OUT is the same file as RULES, BOX, IN or standard output",
+        2,
     ),
     (
-        Status::Rules(RulesFault::Check(CheckFault::TooLarge)),
-        "nftrun: rules N15",
-        1,
-    ),
-    (Status::Usage, "nftrun: usage", 2),
-    (Status::NotUtf8, "nftrun: usage: a word isn't UTF-8", 2),
-    (Status::SameFile, SAME_FILE, 2),
-    (Status::SameReport, SAME_REPORT, 2),
-    (Status::UnknownCode, NO_CODE, 2),
-    (Status::Box(BoxFault::Form), "nftrun: box B1", 3),
-    (Status::Box(BoxFault::Repeated), "nftrun: box B2", 3),
-    (Status::Box(BoxFault::UnknownName), "nftrun: box B3", 3),
-    (Status::Box(BoxFault::TooLarge), "nftrun: box B4", 3),
-    (Status::Box(BoxFault::OutOfRange), "nftrun: box B5", 3),
-    (
-        Status::Capture(CaptureFault::Magic),
-        "nftrun: capture P1",
-        4,
+        Status::SameReport,
+        "usage: FILE is the same file as RULES, BOX, IN or OUT",
+        2,
     ),
     (
-        Status::Capture(CaptureFault::Version),
-        "nftrun: capture P2",
-        4,
+        Status::UnknownCode,
+        "usage: CODE is one of E01 to E06, B1 to B5, N01 to N15, P1 to P5 and P7",
+        2,
     ),
-    (
-        Status::Capture(CaptureFault::LinkType),
-        "nftrun: capture P3",
-        4,
-    ),
-    (
-        Status::Capture(CaptureFault::Malformed),
-        "nftrun: capture P4",
-        4,
-    ),
-    (
-        Status::Capture(CaptureFault::TornEnd),
-        "nftrun: capture P5",
-        4,
-    ),
-    (
-        Status::Capture(CaptureFault::TooMany),
-        "nftrun: capture P7",
-        4,
-    ),
-    (Status::Device, "nftrun: device", 5),
-    (Status::Memory, "nftrun: memory", 6),
-    (Status::Torn, "nftrun: capture torn", 7),
+    (Status::Box(BoxFault::Form), "box B1", 3),
+    (Status::Box(BoxFault::Repeated), "box B2", 3),
+    (Status::Box(BoxFault::UnknownName), "box B3", 3),
+    (Status::Box(BoxFault::TooLarge), "box B4", 3),
+    (Status::Box(BoxFault::OutOfRange), "box B5", 3),
+    (Status::Capture(CaptureFault::Magic), "capture P1", 4),
+    (Status::Capture(CaptureFault::Version), "capture P2", 4),
+    (Status::Capture(CaptureFault::LinkType), "capture P3", 4),
+    (Status::Capture(CaptureFault::Malformed), "capture P4", 4),
+    (Status::Capture(CaptureFault::TornEnd), "capture P5", 4),
+    (Status::Capture(CaptureFault::TooMany), "capture P7", 4),
+    (Status::Device, "device", 5),
+    (Status::Memory, "memory", 6),
+    (Status::Torn, "capture torn", 7),
 ];
-
-/// Fails with the line if it isn't right.
-fn check_line<R: Abort>(rt: &R, line: &str, is_right: bool) {
-    assert!(rt; is_right, "{line}");
-}
 
 #[test]
 fn each_status_has_its_line_and_its_code(rt: HostRuntime) {
-    for (status, line, code) in &STATUSES {
-        shows(&rt, *status, line);
-        check_line(&rt, line, status.code() == *code);
+    for row in 0..STATUSES.len() {
+        let (status, line, code) = STATUSES[row];
+        let is_right = shows(rt.alloc(), status, line) && status.code() == code;
+        check_row(&rt, row, is_right);
     }
 }

@@ -76,10 +76,12 @@ fn has_not_changed<R: Abort + AllocGlobal>(
     engine: &Engine<AgedTracker>,
     before: &EngineState,
 ) {
-    assert!(rt; engine.records() == before.records);
-    assert!(rt; last_record(engine) == before.entry);
-    assert!(rt; engine.packet() == before.packet.as_slice());
-    assert!(rt; connections_of(rt, engine) == before.connections);
+    let connections = connections_of(rt, engine);
+    let is_unchanged = engine.records() == before.records
+        && last_record(engine) == before.entry
+        && engine.packet() == before.packet.as_slice()
+        && connections == before.connections;
+    assert!(rt; is_unchanged);
 }
 
 /// Steps the record, and once more if there was no memory for it; between the two the engine's
@@ -225,7 +227,11 @@ fn replays<R: Abort + AllocGlobal + Files>(rt: &R, row: &Row) {
     );
     assert!(rt; !matches!(whole.status, Status::Memory));
     let (sent, report_bytes) = packets_and_report(rt, row, &capture);
-    assert!(rt; sent == whole.sent && report_bytes == whole.report);
+    let name = row.name;
+    assert!(rt;
+        sent == whole.sent && report_bytes == whole.report,
+        "{name}"
+    );
 }
 
 #[test]

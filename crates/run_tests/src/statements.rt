@@ -1,5 +1,5 @@
 //! The statements that an engine counts, record by record.
-use crate::support::{bytes, started, take};
+use crate::support::{bytes, check_row, started, take};
 use conntrack::ListTracker;
 use pcap_io::LinkType;
 use std::process::Abort;
@@ -74,7 +74,8 @@ fn started_by<R: Abort + AllocGlobal>(
 fn each_statement_is_counted_once(rt: HostRuntime) {
     let mut engine = started(&rt, RULES);
     assert!(&rt; engine.ticks() == 0);
-    for (packet, statements) in &STARTED {
-        assert!(&rt; started_by(&rt, &mut engine, packet) == *statements);
+    for row in 0..STARTED.len() {
+        let (packet, statements) = STARTED[row];
+        check_row(&rt, row, started_by(&rt, &mut engine, packet) == statements);
     }
 }

@@ -46,10 +46,17 @@ pub fn bytes(alloc: Global, parts: &[&str]) -> Result<Vec<u8>, FromHexError> {
     hex::decode(alloc, parts.concat(alloc)?)
 }
 
-/// The status has this line.
-pub fn shows<R: Abort + AllocGlobal>(rt: &R, status: Status, line: &str) {
-    let text = format!(in rt.alloc(); "{status}").expect(rt, "memory");
-    assert!(rt; text.as_str() == line, "{text}");
+/// Whether the status has this line.
+pub fn shows(alloc: Global, status: Status, line: &str) -> bool {
+    match format!(in alloc; "{status}") {
+        Ok(text) => text.strip_prefix("nftrun: ") == Some(line),
+        Err(_) => false,
+    }
+}
+
+/// Fails with the row's number if it isn't right.
+pub fn check_row<R: Abort>(rt: &R, row: usize, is_right: bool) {
+    assert!(rt; is_right, "row {row}");
 }
 
 /// A random source that leaves bytes as they are, so that all runs have the same keys.
