@@ -5,7 +5,7 @@ use crate::packets::random_facts;
 use crate::random_numbers::RandomNumbers;
 use crate::rules::{random_code, random_start};
 use filter_vm::{Code, Events, Start, run};
-use nft_tree::{Policy, RuleNo};
+use nft_tree::RuleNo;
 use rule_meaning::{ChainNo, ChainResult, CtFacts, Event, Facts, HookVerdict, StatementPosition};
 use std::process::Abort;
 
@@ -28,13 +28,6 @@ fn is_same_chain(one: ChainNo, other: ChainNo) -> bool {
     one.table == other.table && one.chain == other.chain
 }
 
-fn is_same_policy(one: Policy, other: Policy) -> bool {
-    matches!(
-        (one, other),
-        (Policy::Accept, Policy::Accept) | (Policy::Drop, Policy::Drop)
-    )
-}
-
 fn is_same_event(one: Event, other: Event) -> bool {
     match (one, other) {
         (Event::Counted(one), Event::Counted(other)) => is_same_position(one, other),
@@ -47,7 +40,7 @@ fn is_same_event(one: Event, other: Event) -> bool {
             is_same_rule(one, other) && rule_verdict == same
         }
         (Event::TookPolicy(one, policy), Event::TookPolicy(other, same)) => {
-            is_same_chain(one, other) && is_same_policy(policy, same)
+            is_same_chain(one, other) && policy as u8 == same as u8
         }
         _ => false,
     }

@@ -254,28 +254,22 @@ fn check_row<R: Abort>(rt: &R, row: usize, is_right: bool) {
     assert!(rt; is_right, "row {row}");
 }
 
-/// Fails with the row's number if its packets aren't right.
-fn check_packets<R: Abort>(rt: &R, row: usize, are_right: bool) {
-    assert!(rt; are_right, "packets of row {row}");
-}
-
 /// Whether the code has these steps, indexes and merged rules.
 fn has_size(code: &Code, wanted: [usize; 3]) -> bool {
     let size = code.size();
     [size.steps, size.tables, size.merged] == wanted
 }
 
-/// The code of a row has its size, and gives its packets their verdicts.
-fn is_right<R: Abort + AllocGlobal>(rt: &R, number: usize, row: &Row) {
+/// Whether the code of a row has its size, and gives its packets their verdicts.
+fn is_right<R: Abort + AllocGlobal>(rt: &R, row: &Row) -> bool {
     let code = code_of_rules(rt, row.0);
-    check_row(rt, number, has_size(&code, row.1));
-    check_packets(rt, number, has_verdicts(rt, &code, row.2));
+    has_size(&code, row.1) && has_verdicts(rt, &code, row.2)
 }
 
 #[test]
 fn rules_are_merged(rt: HostRuntime) {
-    for number in 0..ROWS.len() {
-        is_right(&rt, number, &ROWS[number]);
+    for row in 0..ROWS.len() {
+        check_row(&rt, row, is_right(&rt, &ROWS[row]));
     }
 }
 
@@ -331,18 +325,18 @@ fn masked_flags<R: Abort + AllocGlobal>(rt: &R) -> StepList {
     steps
 }
 
-/// One index for each selector, and one for the set that the other rules share.
-#[test]
-fn a_run_has_an_index_for_each_selector(rt: HostRuntime) {
-    let code = code_of_steps(&rt, many_selectors(&rt));
-    assert!(&rt; code.size().tables == 9, "indexes");
+/// The code of these steps has so many indexes.
+fn has_indexes<R: Abort + AllocGlobal>(rt: &R, steps: StepList, count: usize) {
+    let tables = code_of_steps(rt, steps).size().tables;
+    assert!(rt; tables == count, "{tables} indexes");
 }
 
-/// One index for all rules that ask for bits under one mask.
+/// One index for each selector, and one for the set that the other rules share; one index for all
+/// rules that ask for bits under one mask.
 #[test]
-fn masked_flags_are_indexed(rt: HostRuntime) {
-    let code = code_of_steps(&rt, masked_flags(&rt));
-    assert!(&rt; code.size().tables == 1, "indexes");
+fn a_run_has_an_index_for_each_selector_and_mask(rt: HostRuntime) {
+    has_indexes(&rt, many_selectors(&rt), 9);
+    has_indexes(&rt, masked_flags(&rt), 1);
 }
 
 fn one_number(number: u128) -> Range {
