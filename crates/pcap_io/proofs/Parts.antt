@@ -7,7 +7,7 @@ use Rattle.std.proofs.Math.Seq.{take-length}
 use Rattle.std.specs.Prelude.{nat_lt}
 use Rattle.std.specs.declared.option.Option.{Option}
 use Rattle.std.specs.Io.KnownBytes.{Appends}
-use Rattle.std.proofs.KnownBytes.{Appends-nil, Keeps-refl, Keeps-trans}
+use Rattle.std.proofs.KnownBytes.{Appends-nil}
 use Rattle.pcap_io.specs.Counting.{one_more}
 use Rattle.pcap_io.specs.Buffering.{AppendsBuffered}
 
@@ -17,8 +17,6 @@ pub moved_on : (bytes done rest : List ℕ) (n : ℕ) → bytes ≡ done ++ rest
 moved_on bytes done rest n whole =
     let all = take-length (drop n rest) in
     rw (whole, ← length-drop n rest, all, append_assoc done (take n rest) (drop n rest), take-append-drop n rest) refl
-
-pub ruleset kept_rules = (Keeps-refl, Keeps-trans)
 
 -- a write that took some bytes isn't counted
 pub took_some : (n : ℕ) (b : Bool) (x y : ℕ) → 0 < n → (if (n == 0) && b then x else y) ≡ y

@@ -11,7 +11,6 @@ mod link;
 mod read_buffer;
 mod record_headers;
 mod sink;
-mod slow;
 mod whole;
 mod write_buffer;
 
@@ -22,5 +21,4 @@ pub use format::LinkType;
 pub use laws::{header_alone, one_reading, some_reading};
 pub use link::{Link, LinkCause};
 pub use sink::{Leaving, Sink, SinkError};
-pub use slow::{Calls, Failing, Slow};
 pub use whole::{DeviceFailed, write_whole};
