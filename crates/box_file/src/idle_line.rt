@@ -42,7 +42,7 @@ impl IdleKind {
     ghost use Rattle.box_file.specs.Idle.{minimum_for, word_of};
 
     /// All kinds.
-    pub const ALL: [IdleKind; 5] = [
+    pub(crate) const ALL: [IdleKind; 5] = [
         IdleKind::Udp,
         IdleKind::Established,
         IdleKind::Transitory,
@@ -51,7 +51,7 @@ impl IdleKind {
     ];
 
     /// The keyword that a box file has for it.
-    pub fn keyword(self) -> &'static [u8]
+    pub(crate) fn keyword(self) -> &'static [u8]
         ensures { result.now ≡ word_of self }
     {
         match self {

@@ -2,10 +2,11 @@
 ghost use Rattle.std.specs.Prelude.{◌≤◌, length};
 
 use crate::support::{bytes, check_row, repeated};
-use pcap_io::{Calls, Capture, CaptureError, CaptureFault, Counted, Failing, Leaving, Sink, Slow};
+use pcap_io::{Capture, CaptureError, CaptureFault, Counted, Leaving, Sink};
 use std::alloc::Global;
 use std::io::{Read, Write};
 use std::process::Abort;
+use test_devices::{Calls, Failing, Slow};
 
 /// Magic a1b2c3d4 (microseconds), version 2.4, LINKTYPE_RAW.
 const HEADER: &str = "d4c3b2a1020004000000000000000000ffff000065000000";

@@ -195,8 +195,8 @@ fn is_compiled<R: Abort + AllocGlobal>(rt: &R, row: &Row) -> bool {
     }
 }
 
-/// What the report has of the nested matches, the written mark and the rule after `accept` is in
-/// `golden_runs`.
+/// What the report has of the nested matches, the written mark and the rule after `accept`, rows of
+/// `examples/rows` have.
 #[test]
 fn rules_are_merged_and_dropped(rt: HostRuntime) {
     for row in 0..ROWS.len() {

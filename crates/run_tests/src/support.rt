@@ -5,7 +5,7 @@ use conntrack::Tracker;
 use engine::{RunFault, run};
 use hex::FromHexError;
 use nft_parser::parse;
-use pcap_io::{Calls, Counted, LinkType, Record, Slow};
+use pcap_io::{Counted, LinkType, Record};
 use program::Status;
 use rule_check::{Checked, check};
 use std::alloc::Global;
@@ -15,6 +15,7 @@ use std::io::{ErrorKind, Read, Write};
 use std::process::Abort;
 use std::random::RandomSource;
 use stepping::Engine;
+use test_devices::{Calls, Slow};
 
 pub const BOX: &[u8] = b"interface 2 lan 192.168.1.1/24
 interface 3 wan 203.0.113.1/24
