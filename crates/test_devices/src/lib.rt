@@ -1,5 +1,6 @@
 //! Readers and writers for tests: short reads and writes, a failing call, a call count.
 #![tactic(auto)]
+
 ghost use Rattle.std.specs.Prelude.{◌≡◌, ◌<◌, ◌≤◌, ◌-◌, ◌++◌, max, false, cond, not, ◌&&◌, ◌||◌, ◌==◌, IfOk, IsErr};
 ghost use Rattle.pcap_io.specs.Counting.{one_more};
 ghost use Rattle.std.specs.Io.{ReadsAtMost, WritesAtMost};
