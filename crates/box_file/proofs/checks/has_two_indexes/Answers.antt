@@ -5,4 +5,4 @@ use Rattle.box_file.proofs.checks.has_two_indexes.Goals as goal
 pub returns : goal.returns
 returns c =
     IfOk-weaker c.has_conflict.result _ _ (λ r is. is ∙ pair-keys (λ l. (l.name, l.index)) interface_tree _ _ indexes_differ c.args.interfaces.now)
-        c.has_conflict.ensures
+    c.has_conflict.ensures
