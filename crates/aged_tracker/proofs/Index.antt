@@ -3,10 +3,10 @@ use Rattle.aged_tracker.proofs.Names.{AgedSlots, Belonging, Bool, ConnId, Conntr
 use Rattle.aged_tracker.proofs.Names.{None, NotFound, Option, Reply, Some, Tuple, [], and_parts, ap, apart-filter, apart-push, apart-touched_at, arith}
 use Rattle.aged_tracker.proofs.Names.{belonging_by, belonging_of, belongs_in, cases_Bool, common_steps, cond, connection_ref, cons_held, distinct-filter}
 use Rattle.aged_tracker.proofs.Names.{distinct-push, distinct-touched_at, entry_at, eq-eqb, eqb-true, false, filter, find, find-filter, found_by_id}
-use Rattle.aged_tracker.proofs.Names.{has_distinct_ids, has_id, have_disjoint_tuples, held_by, if◌then◌else◌, inl, inr, is_incoming, is_live, is_some, is_taken}
-use Rattle.aged_tracker.proofs.Names.{key_in, length, length-append, length-map, list_any, live_at, map, nat_tests, not, not-true, option_cases, option_map}
-use Rattle.aged_tracker.proofs.Names.{or_cases, or_parts, refl, rules, same_id, same_tuple, same_tuple-true, serial_at, slots_of, some_of_map, sym, touched}
-use Rattle.aged_tracker.proofs.Names.{touched_at, true, without_new, ℕ, ◌&&◌, ◌++◌, ◌+◌, ◌-◌, ◌||◌, ◌∙◌, ◌∷◌, ◌≡◌}
+use Rattle.aged_tracker.proofs.Names.{has_distinct_ids, has_id, have_disjoint_tuples, held_by, holds, if◌then◌else◌, inl, inr, is_incoming, is_live, is_some}
+use Rattle.aged_tracker.proofs.Names.{is_taken, key_in, length, length-append, length-map, list_any, live_at, map, nat_tests, not, not-true, option_cases}
+use Rattle.aged_tracker.proofs.Names.{option_map, or_cases, or_parts, refl, rules, same_id, same_tuple, same_tuple-true, serial_at, slots_of, some_of_map, sym}
+use Rattle.aged_tracker.proofs.Names.{touched, touched_at, true, true≢false, without_new, ℕ, ◌&&◌, ◌++◌, ◌+◌, ◌-◌, ◌||◌, ◌∙◌, ◌∷◌, ◌≡◌}
 use Rattle.aged_tracker.proofs.Lists.{named_at}
 use Rattle.aged_tracker.proofs.Order.{all_pass, at_slot, found_from, of_slot}
 use Rattle.conntrack.specs.ConntrackEntry.{without}
@@ -69,6 +69,21 @@ module _ (p f : ConntrackEntry → Bool) where
   find_both [] once = refl
   find_both (x ∷ held) once = grind (arith, find_none held, once.0, find_both held once.1)
 
+-- the one that passes one test, if it passes the other
+pub kept_both : (p q : ConntrackEntry → Bool) (held : List ConntrackEntry) → IsOnce p held → IsOnce q held
+    → kept_if q (find p held) ≡ kept_if p (find q held)
+kept_both p q held once_p once_q =
+    sym (find_both p q held once_p) ∙ (λ i. find (λ x. and-flip (q x) (p x) i) held) ∙ find_both q p held once_q
+
+kept_is : (q : ConntrackEntry → Bool) (o : Option ConntrackEntry) (h : ConntrackEntry) → kept_if q o ≡ Some h → o ≡ Some h
+kept_is q o h is = grind (arith, option_cases o)
+
+-- an entry that passes two tests is found by each
+pub found_too : (p q : ConntrackEntry → Bool) (held : List ConntrackEntry) (h : ConntrackEntry) → IsOnce p held → IsOnce q held
+    → find q held ≡ Some h → p h ≡ true → find p held ≡ Some h
+found_too p q held h once_p once_q is passes =
+    kept_is q (find p held) h (kept_both p q held once_p once_q ∙ ap (kept_if p) is ∙ rw passes refl)
+
 -- ---- an entry is touched
 
 touched_alike : (direction : Direction) (flags : Flags) (mark now : ℕ) (tuple : Tuple) (b : Bool) (x : ConntrackEntry)
@@ -119,9 +134,7 @@ module _ (id : ConnId) (h : ConntrackEntry) where
       → cond (same_tuple h.reply tuple) None (cond (same_tuple h.original tuple) None (key_in tuple held)) ≡ key_in tuple (without id held)
   key_in-without tuple held distinct apart is =
       by (find (is_incoming tuple) held)
-      (ap (kept_if (is_incoming tuple)) (sym is) ∙ sym (find_both (same_id id) (is_incoming tuple) held (once_by_id id held distinct))
-      ∙ (λ i. find (λ x. and-flip (is_incoming tuple x) (same_id id x) i) held)
-      ∙ find_both (is_incoming tuple) (same_id id) held once)
+      (ap (kept_if (is_incoming tuple)) (sym is) ∙ kept_both (same_id id) (is_incoming tuple) held (once_by_id id held distinct) once)
       ∙ ap (option_map (λ (x : ConntrackEntry). x.id.0))
       (sym (find-filter (is_incoming tuple) (λ x. not (same_id id x)) held ∙ find_both (is_incoming tuple) (λ x. not (same_id id x)) held once))
     where
@@ -228,6 +241,19 @@ module _ (t : AgedSlots) (table : IsTable t) where
       let h = some_of_map (λ (x : ConntrackEntry). x.id.0) (find (is_incoming tuple) (held_by t)) key (sym (is.keyed tuple) ∙ found) in
       let slot = ap (slots_of t) (sym h.2) ∙ sym (found_at h.0.id) ∙ found_by_id (is_incoming tuple) (held_by t) h.0 is.distinct h.1 in
       (h.0, (h.1, slot))
+
+  pub holder : (at : Tuple → Option ℕ) (live : ℕ) → IsIndexed (held_by t) at live → (tuple : Tuple) (key : ℕ)
+      → holds tuple (slots_of t key) ≡ true → at tuple ≡ Some key
+  holder at live is tuple key its =
+      elim (option_cases (slots_of t key)) [
+        | inl none ↦ absurd (true≢false (sym (rw none at its)))
+        | inr slot ↦
+            let h = slot.0 in
+            let found = found_too (is_incoming tuple) (same_id (record { 0 = key })) (held_by t) h
+            (once_by_tuple tuple (held_by t) is.apart) (once_by_id (record { 0 = key }) (held_by t) is.distinct)
+            (found_at (record { 0 = key }) ∙ slot.1) (rw slot.1 at its) in
+            is.keyed tuple ∙ ap (option_map (λ (x : ConntrackEntry). x.id.0)) found ∙ ap Some (named_at t.slots key h slot.1)
+      ]
 
 -- ---- the test of two tuples that `Tuple` derives
 

@@ -7,7 +7,7 @@ ghost use Rattle.conntrack.specs.ConntrackEntry.{begun_with, connection_of, is_l
 ghost use Rattle.aged_tracker.specs.steps.Table.{AreOldest, AreOldestBut, HasRings, IsAllLive, IsLiveQueue, IsOwned, IsRings, IsTable, Lists};
 ghost use Rattle.aged_tracker.specs.steps.Table.{MAX_KEYS, MAX_SERIAL};
 ghost use Rattle.aged_tracker.specs.steps.Table.{Relists, SameBy, SameSize, Slots as SlotsName, belonging_of, except_links, has_room, held_at};
-ghost use Rattle.aged_tracker.specs.steps.Table.{held_by, held_of, last_at, limit_at, off, owner_of, prev_of, pushed, queue_by, queue_of, slots_of};
+ghost use Rattle.aged_tracker.specs.steps.Table.{held_by, held_of, holds, last_at, limit_at, off, owner_of, prev_of, pushed, queue_by, queue_of, slots_of};
 ghost use Rattle.aged_tracker.specs.steps.Table.{updated};
 
 use crate::linked_lists::{empty_heads, front, is_first, is_last, push_back, unlink};
@@ -143,6 +143,17 @@ impl AgedSlots {
         }
     }
 
+    /// Whether a slot has an entry with this incoming tuple.
+    pub fn holds(&self, key: usize, tuple: Tuple, steps: &mut Steps) -> bool
+        ensures holds { result ≡ holds tuple (slots_of self.now key) }
+        ensures steps { IsWithin (Some 1) steps.old steps.new }
+    {
+        match self.slots.get(key, steps) {
+            Some(slot) => slot.is_incoming(tuple),
+            None => false,
+        }
+    }
+
     /// The lookup result of a packet whose tuple is an incoming tuple of the entry in a slot.
     pub fn belonging(
         &self,
@@ -164,7 +175,8 @@ impl AgedSlots {
         }
     }
 
-    /// Updates an entry for one more packet and moves it to the end of its queue.
+    /// Updates an entry for one more packet and moves it to the end of its queue. Returns the slot
+    /// that followed it in its queue: of the entry whose last packet came next after its last one.
     pub fn touch(
         &mut self,
         id: ConnId,
@@ -173,7 +185,7 @@ impl AgedSlots {
         mark: u32,
         now: Moment,
         steps: &mut Steps,
-    )
+    ) -> Option<usize>
         requires table { IsTable self.old }
         requires is_held { IsSome (slots_of self.old id.0) }
         requires later { IsNoneLater now (held_by self.old) }
@@ -184,7 +196,7 @@ impl AgedSlots {
         ensures steps { IsWithin (Some 7) steps.old steps.new }
     {
         let key = id.0;
-        let queue = self.slots.touch(key, direction, flags, mark, now, steps);
+        let (queue, follower) = self.slots.touch(key, direction, flags, mark, now, steps);
         requeue(
             &mut self.slots,
             &mut self.queues,
@@ -194,6 +206,7 @@ impl AgedSlots {
             steps,
         );
         note_front(&self.queues, &mut self.oldest, queue, key, now);
+        follower.key()
     }
 
     /// Creates an entry, at the end of its queue.

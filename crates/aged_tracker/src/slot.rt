@@ -1,7 +1,7 @@
 //! A slot of a table, with its links.
 ghost use Rattle.std.specs.Prelude.{◌≡◌, ◌+◌, ◌<◌, ℕ, None, IfSome, IfNone};
 ghost use Rattle.conntrack.specs.Phases.{is_closing, phase_by};
-ghost use Rattle.conntrack.specs.ConntrackEntry.{connection_ref, is_live};
+ghost use Rattle.conntrack.specs.ConntrackEntry.{connection_ref, is_incoming, is_live};
 ghost use Rattle.aged_tracker.specs.steps.Table.{MAX_KEYS, belonging_of, held_of, idle_at, number, queue_by, queue_in, touched_slot, tuple_of};
 ghost use Rattle.aged_tracker.specs.steps.Table.{with_neighbour};
 
@@ -246,6 +246,13 @@ impl Slot {
             mark: self.mark,
             replied: self.replied,
         }
+    }
+
+    /// Whether this is an incoming tuple of the entry.
+    pub fn is_incoming(&self, tuple: Tuple) -> bool
+        ensures { result ≡ is_incoming tuple (held_of 0 self.now) }
+    {
+        is_same(self.original.tuple(), tuple) || is_same(self.reply.tuple(), tuple)
     }
 
     /// The lookup result of a packet whose tuple is an incoming tuple of the entry in the slot of

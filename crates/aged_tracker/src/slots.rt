@@ -117,7 +117,8 @@ impl Slots {
         self.slab.remove(key)
     }
 
-    /// Updates the entry of one for one more packet, and returns its queue then.
+    /// Updates the entry of one for one more packet, and returns its queue then, and the node that
+    /// follows it in the one that it was in.
     pub fn touch(
         &mut self,
         key: usize,
@@ -126,21 +127,22 @@ impl Slots {
         mark: u32,
         now: Moment,
         steps: &mut Steps,
-    ) -> usize
+    ) -> (usize, NodeIndex)
         requires { ContainsKey self.old key }
         ensures slots { IfSome (get self.old key)
             (λ s. Updates self.old self.new key
             (Some (updated (touched direction flags mark now (held_of key s)) s))) }
         ensures queue { IfSome (get self.old key)
-            (λ s. result ≡ queue_of (touched direction flags mark now (held_of key s))) }
-        ensures range { result < 5 }
+            (λ s. result.0 ≡ queue_of (touched direction flags mark now (held_of key s))) }
+        ensures follower { IfSome (get self.old key) (λ s. result.1 ≡ s.links.link.next) }
+        ensures range { result.0 < 5 }
         ensures size { SameSize self.old self.new }
         ensures steps { Counts 1 steps.old steps.new }
     {
         steps.tick();
         let slot = &mut self.slab[key];
         slot.touch(direction, flags, mark, now);
-        slot.queue()
+        (slot.queue(), slot.links.link.next)
     }
 
     /// Takes the links of one: it is in no list then.

@@ -367,6 +367,11 @@ pub record IsConsistent (slots : AgedSlots) (at : Tuple → Option ℕ) (live : 
   pub table : IsTable slots
   pub indexed : IsIndexed (held_by slots) at live
 
+-- whether a slot has an entry with this incoming tuple
+abbrev pub holds : Tuple → Option ConntrackEntry → Bool
+holds tuple None = false
+holds tuple (Some h) = is_incoming tuple h
+
 -- the lookup result of a packet whose tuple is an incoming tuple of the entry
 abbrev pub belonging_of : Limits → ℕ → Tuple → Flags → ConntrackEntry → Belonging
 belonging_of limits now tuple flags h =

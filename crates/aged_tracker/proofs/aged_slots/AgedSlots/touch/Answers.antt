@@ -53,7 +53,7 @@ returns-clause-table c =
     let t = c.args.self.now in
     let table = c.requires.table in
     let key = c.args.id.0 in
-    let relists = relists_then _ _ _ _ _ _ key _ _ (λ lists. lists) (λ lists. pushed key c.touch-queue.result (off key lists)) (same at)
+    let relists = relists_then _ _ _ _ _ _ key _ _ (λ lists. lists) (λ lists. pushed key c.touch-queue.result.0 (off key lists)) (same at)
     c.requeue.ensures.relists in
     let rings = (same at).rings table.rings.0 table.rings.1 in
     let oldest = oldest_as key (last_at (held_at c.touch-queue.new.self)) (last_at (held_at c.requeue.new.slots)) _ _
@@ -63,7 +63,7 @@ returns-clause-table c =
     let last : last_at (held_at c.requeue.new.slots) key ≡ c.args.now = ap last_by (sets t table _ key _ ws).changed in
     table_after t table c.requeue.new.slots key (Some (after at)) ws c.requeue.new.queues _ _ c.note_front.new.oldest _
     relists (ap Some (rw (slot at).1 at c.touch-queue.ensures.queue))
-    (rising_pushed t table _ key _ ws c.touch-queue.result (off key table.rings.0) (rising_left t table _ key _ ws)
+    (rising_pushed t table _ key _ ws c.touch-queue.result.0 (off key table.rings.0) (rising_left t table _ key _ ws)
     (least t table _ key _ ws c.args.now last c.requires.later))
     (c.note_front.ensures c.requeue.new.slots _ _ (relists.rings table.rings.0 table.rings.1) relists.here last oldest)
     (numbered at c.requeue.new.slots c.requeue.ensures.except_links) (table.few key c.requires.is_held)

@@ -2,12 +2,12 @@ use Rattle.std.proofs.Common.{arith}
 use Rattle.aged_tracker.proofs.Index.{has_as, indexed_touched}
 use Rattle.aged_tracker.proofs.aged_tracker.AgedTrackerTracker.touch.Goals as goal
 
-pub touch-requires-clause-is_held : goal.touch-requires-clause-is_held
-touch-requires-clause-is_held c = grind (arith, has_as, c.self.invariant.table, c.self.view_is, c.requires.is_held)
+pub touch-follower-requires-clause-is_held : goal.touch-follower-requires-clause-is_held
+touch-follower-requires-clause-is_held c = grind (arith, has_as, c.self.invariant.table, c.self.view_is, c.requires.is_held)
 
 pub invariant_of-self : goal.invariant_of-self
 invariant_of-self c = record {
-  table = c.touch.ensures.table;
-  indexed = rw c.touch.ensures.held
+  table = c.touch-follower.ensures.table;
+  indexed = rw c.touch-follower.ensures.held
       (indexed_touched _ _ _ c.self.invariant.indexed c.args.id c.args.direction c.args.flags c.args.mark c.args.now);
 }
