@@ -75,14 +75,10 @@ pub kept_both : (p q : ConntrackEntry → Bool) (held : List ConntrackEntry) →
 kept_both p q held once_p once_q =
     sym (find_both p q held once_p) ∙ (λ i. find (λ x. and-flip (q x) (p x) i) held) ∙ find_both q p held once_q
 
-kept_is : (q : ConntrackEntry → Bool) (o : Option ConntrackEntry) (h : ConntrackEntry) → kept_if q o ≡ Some h → o ≡ Some h
-kept_is q o h is = grind (arith, option_cases o)
-
 -- an entry that passes two tests is found by each
 pub found_too : (p q : ConntrackEntry → Bool) (held : List ConntrackEntry) (h : ConntrackEntry) → IsOnce p held → IsOnce q held
     → find q held ≡ Some h → p h ≡ true → find p held ≡ Some h
-found_too p q held h once_p once_q is passes =
-    kept_is q (find p held) h (kept_both p q held once_p once_q ∙ ap (kept_if p) is ∙ rw passes refl)
+found_too p q held h once_p once_q is passes = grind (arith, option_cases (find p held), kept_both p q held once_p once_q)
 
 -- ---- an entry is touched
 

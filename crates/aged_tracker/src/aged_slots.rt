@@ -1,14 +1,10 @@
 //! The slots of a table, and the lists through them.
-ghost use Rattle.std.specs.Prelude.{◌≡◌, ◌+◌, ◌<◌, ◌≤◌, ◌++◌, ◌∷◌, [], ℕ, nat_lt, IsTrue, IsSome, IfOk, IsOk, OnOk, Some, None, IfSome, IfNone};
-ghost use Rattle.std.specs.Prelude.{false, map, slice_get};
-ghost use Rattle.slab.specs.Slab.{get, slab_len, ContainsKey, Updates};
-ghost use Rattle.futures.specs.LinkedLists.{IsIn};
+ghost use Rattle.std.specs.Prelude.{◌≡◌, ◌+◌, ◌<◌, ◌≤◌, ◌++◌, ◌∷◌, [], ℕ, IsTrue, IsSome, IfOk, IsOk, OnOk, Some, None, IfSome, IfNone, false, map, slice_get};
+ghost use Rattle.slab.specs.Slab.{get, Updates};
 ghost use Rattle.conntrack.specs.ConntrackEntry.{begun_with, connection_of, is_live, touched_at, without, IsNoneLater, IsWithin};
-ghost use Rattle.aged_tracker.specs.steps.Table.{AreOldest, AreOldestBut, HasRings, IsAllLive, IsLiveQueue, IsOwned, IsRings, IsTable, Lists};
-ghost use Rattle.aged_tracker.specs.steps.Table.{MAX_KEYS, MAX_SERIAL};
-ghost use Rattle.aged_tracker.specs.steps.Table.{Relists, SameBy, SameSize, Slots as SlotsName, belonging_of, except_links, has_room, held_at};
-ghost use Rattle.aged_tracker.specs.steps.Table.{held_by, held_of, holds, last_at, limit_at, off, owner_of, prev_of, pushed, queue_by, queue_of, slots_of};
-ghost use Rattle.aged_tracker.specs.steps.Table.{updated};
+ghost use Rattle.aged_tracker.specs.steps.Table.{AreOldest, AreOldestBut, HasRings, IsAllLive, IsLiveQueue, IsOwned, IsRings, IsTable, Lists, MAX_KEYS};
+ghost use Rattle.aged_tracker.specs.steps.Table.{Relists, SameBy, SameSize, Slots as SlotsName, belonging_of, except_links, has_room, held_at, held_by, holds};
+ghost use Rattle.aged_tracker.specs.steps.Table.{last_at, limit_at, off, owner_of, prev_of, pushed, queue_by, slots_of};
 
 use crate::linked_lists::{empty_heads, front, is_first, is_last, push_back, unlink};
 use crate::slot::{LISTS, Link, MAX_KEYS, Slot, idle_at, queue_by};

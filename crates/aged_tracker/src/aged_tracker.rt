@@ -29,18 +29,10 @@ pub struct AgedTracker {
     keys: HashMap<Tuple, u32, WordState>,
     live: usize,
     limits: Limits,
-    likely: LikelySlots,
-}
-
-/// The slots in which the next packet's entry likely is. Packets of a connection come in trains, and
-/// those of connections that send at one pace in the order of the round before: a lookup that finds
-/// its entry there reads no index, of which each read is a cache miss where many connections live.
-#[derive(Clone, Copy)]
-struct LikelySlots {
-    /// That of the last packet.
-    last: usize,
-    /// The one whose entry had its packet after that one's, when they had theirs before.
-    next: usize,
+    // The slot in which the next packet's entry likely is, as connections that send at one pace have
+    // their packets in the order of the round before. A lookup that finds it there reads no index,
+    // of which each read is a cache miss where many connections live.
+    likely: usize,
 }
 
 impl Model for AgedTracker {
@@ -68,7 +60,7 @@ impl AgedTracker {
             ≡ belongs_in (live_at self.now.limits now self.now.held) tuple flags }
         ensures distinct { IsTrue (has_distinct_ids self.now.held) }
         ensures apart { IsTrue (have_disjoint_tuples self.now.held) }
-        ensures steps { IsWithin (Some 3) steps.old steps.new }
+        ensures steps { IsWithin (Some 2) steps.old steps.new }
     {
         match slot_of(&self.slots, &self.keys, self.likely, tuple, steps) {
             None => Belonging::NotFound,
@@ -96,7 +88,7 @@ impl Tracker for AgedTracker {
             keys: HashMap::with_hasher(alloc, WordState::new(hasher)),
             live: 0,
             limits: idle,
-            likely: LikelySlots { last: 0, next: 0 },
+            likely: 0,
         }
     }
 
@@ -115,10 +107,7 @@ impl Tracker for AgedTracker {
         steps: &mut Steps,
     ) {
         let follower = self.slots.touch(id, direction, flags, mark, now, steps);
-        self.likely = LikelySlots {
-            last: id.0,
-            next: follower.unwrap_or(self.likely.next),
-        };
+        self.likely = follower.unwrap_or(self.likely);
     }
 
     fn reserve_one(&mut self) -> Result<(), AllocError> {
@@ -147,7 +136,6 @@ impl Tracker for AgedTracker {
         insert_tuple(&mut self.keys, connection.original, key);
         insert_tuple(&mut self.keys, connection.reply, key);
         self.live += 1;
-        self.likely.last = id.0;
         Ok(id)
     }
 
@@ -197,24 +185,21 @@ fn remove_tuple(keys: &mut HashMap<Tuple, u32, WordState>, tuple: Tuple)
     keys.remove(&tuple);
 }
 
-/// The slot of a tuple's entry, by the index unless it is a likely one.
+/// The slot of a tuple's entry, by the index unless it is the likely one.
 fn slot_of(
     slots: &AgedSlots,
     keys: &HashMap<Tuple, u32, WordState>,
-    likely: LikelySlots,
+    likely: usize,
     tuple: Tuple,
     steps: &mut Steps,
 ) -> Option<usize>
     requires table { IsTable slots.now }
     requires indexed { (live : ℕ) × IsIndexed (held_by slots.now) (get same_tuple keys.now) live }
     ensures slot { result ≡ get same_tuple keys.now tuple }
-    ensures steps { IsWithin (Some 2) steps.old steps.new }
+    ensures steps { IsWithin (Some 1) steps.old steps.new }
 {
-    if slots.holds(likely.last, tuple, steps) {
-        return Some(likely.last);
-    }
-    if slots.holds(likely.next, tuple, steps) {
-        return Some(likely.next);
+    if slots.holds(likely, tuple, steps) {
+        return Some(likely);
     }
     key_of(keys, tuple)
 }

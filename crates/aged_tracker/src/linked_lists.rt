@@ -4,8 +4,7 @@ ghost use Rattle.std.specs.Prelude.{◌≡◌, ℕ, ◌+◌, ◌<◌, ◌≤◌,
 ghost use Rattle.slab.specs.Slab.{ContainsKey};
 ghost use Rattle.conntrack.specs.ConntrackEntry.{IsWithin};
 ghost use Rattle.aged_tracker.specs.steps.Table.{HasRings, IsNode, IsOwned, IsRings, Lists, MAX_KEYS, is_first, Relinks, Relists, SameBy, SameSize};
-ghost use Rattle.aged_tracker.specs.steps.Table.{Slots as SlotsName};
-ghost use Rattle.aged_tracker.specs.steps.Table.{except_links, link_at, number, off, owner_of, prev_of, pushed, with_neighbour};
+ghost use Rattle.aged_tracker.specs.steps.Table.{Slots as SlotsName, except_links, link_at, number, off, owner_of, prev_of, pushed, with_neighbour};
 
 use crate::slot::{LISTS, Link, ListLinks, Neighbour, NodeIndex};
 use crate::slots::Slots;

@@ -2,8 +2,7 @@
 ghost use Rattle.std.specs.Prelude.{◌≡◌, ◌+◌, ◌<◌, ℕ, None, IfSome, IfNone};
 ghost use Rattle.conntrack.specs.Phases.{is_closing, phase_by};
 ghost use Rattle.conntrack.specs.ConntrackEntry.{connection_ref, is_incoming, is_live};
-ghost use Rattle.aged_tracker.specs.steps.Table.{MAX_KEYS, belonging_of, held_of, idle_at, number, queue_by, queue_in, touched_slot, tuple_of};
-ghost use Rattle.aged_tracker.specs.steps.Table.{with_neighbour};
+ghost use Rattle.aged_tracker.specs.steps.Table.{MAX_KEYS, belonging_of, held_of, idle_at, number, queue_by, queue_in, touched_slot, tuple_of, with_neighbour};
 
 use crate::packed::{PackedTuple, is_same};
 use box_file::{IdleKind, Limits};

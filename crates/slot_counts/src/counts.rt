@@ -137,9 +137,9 @@ fn visits_few<R: Abort>(rt: &R, mut tracker: AgedTracker, ports: u16)
     fill(rt, &mut tracker, ports);
     assert!(rt; age(&mut tracker, NOW) == (false, 0));
     // In the middle of its queue, and then at its end and at its front.
-    assert!(rt; touch(&mut tracker, 2) == Some((3, 7)));
+    assert!(rt; touch(&mut tracker, 2) == Some((2, 7)));
     assert!(rt; touch(&mut tracker, 2) == Some((2, 1)));
-    assert!(rt; touch(&mut tracker, 0) == Some((3, 6)));
+    assert!(rt; touch(&mut tracker, 0) == Some((2, 6)));
     assert!(rt; end(&mut tracker, 3) == Some(5));
     assert!(rt; end(&mut tracker, 3) == None);
     // The front has one neighbour.
