@@ -6,7 +6,7 @@ use Rattle.aged_tracker.proofs.Names.{distinct-push, distinct-touched_at, entry_
 use Rattle.aged_tracker.proofs.Names.{has_distinct_ids, has_id, have_disjoint_tuples, held_by, holds, if◌then◌else◌, inl, inr, is_incoming, is_live, is_some}
 use Rattle.aged_tracker.proofs.Names.{is_taken, key_in, length, length-append, length-map, list_any, live_at, map, nat_tests, not, not-true, option_cases}
 use Rattle.aged_tracker.proofs.Names.{option_map, or_cases, or_parts, refl, rules, same_id, same_tuple, same_tuple-true, serial_at, slots_of, some_of_map, sym}
-use Rattle.aged_tracker.proofs.Names.{touched, touched_at, true, true≢false, without_new, ℕ, ◌&&◌, ◌++◌, ◌+◌, ◌-◌, ◌||◌, ◌∙◌, ◌∷◌, ◌≡◌}
+use Rattle.aged_tracker.proofs.Names.{touched, touched_at, true, without_new, ℕ, ◌&&◌, ◌++◌, ◌+◌, ◌-◌, ◌||◌, ◌∙◌, ◌∷◌, ◌≡◌}
 use Rattle.aged_tracker.proofs.Lists.{named_at}
 use Rattle.aged_tracker.proofs.Order.{all_pass, at_slot, found_from, of_slot}
 use Rattle.conntrack.specs.ConntrackEntry.{without}
@@ -76,9 +76,9 @@ kept_both p q held once_p once_q =
     sym (find_both p q held once_p) ∙ (λ i. find (λ x. and-flip (q x) (p x) i) held) ∙ find_both q p held once_q
 
 -- an entry that passes two tests is found by each
-pub found_too : (p q : ConntrackEntry → Bool) (held : List ConntrackEntry) (h : ConntrackEntry) → IsOnce p held → IsOnce q held
-    → find q held ≡ Some h → p h ≡ true → find p held ≡ Some h
-found_too p q held h once_p once_q is passes = grind (arith, option_cases (find p held), kept_both p q held once_p once_q)
+pub found_too : (p q : ConntrackEntry → Bool) (held : List ConntrackEntry) → IsOnce p held → IsOnce q held
+    → (h : ConntrackEntry) → find q held ≡ Some h → p h ≡ true → find p held ≡ Some h
+found_too p q held once_p once_q h is passes = grind (arith, option_cases (find p held), kept_both p q held once_p once_q)
 
 -- ---- an entry is touched
 
@@ -241,15 +241,9 @@ module _ (t : AgedSlots) (table : IsTable t) where
   pub holder : (at : Tuple → Option ℕ) (live : ℕ) → IsIndexed (held_by t) at live → (tuple : Tuple) (key : ℕ)
       → holds tuple (slots_of t key) ≡ true → at tuple ≡ Some key
   holder at live is tuple key its =
-      elim (option_cases (slots_of t key)) [
-        | inl none ↦ absurd (true≢false (sym (rw none at its)))
-        | inr slot ↦
-            let h = slot.0 in
-            let found = found_too (is_incoming tuple) (same_id (record { 0 = key })) (held_by t) h
-            (once_by_tuple tuple (held_by t) is.apart) (once_by_id (record { 0 = key }) (held_by t) is.distinct)
-            (found_at (record { 0 = key }) ∙ slot.1) (rw slot.1 at its) in
-            is.keyed tuple ∙ ap (option_map (λ (x : ConntrackEntry). x.id.0)) found ∙ ap Some (named_at t.slots key h slot.1)
-      ]
+      let id : ConnId = record { 0 = key } in
+      let found = found_too (is_incoming tuple) (same_id id) (held_by t) (once_by_tuple _ _ is.apart) (once_by_id _ _ is.distinct) in
+      grind (arith, option_cases (slots_of t key), found_at id, found, is.keyed tuple, named_at t.slots key)
 
 -- ---- the test of two tuples that `Tuple` derives
 

@@ -1,6 +1,6 @@
 //! A conntrack table whose calls count few visited slots.
 ghost use Rattle.std.specs.Prelude.{◌≡◌, ◌+◌, ◌<◌, ◌≤◌, ℕ, IsTrue, Some, None, cond, is_some};
-ghost use Rattle.aged_tracker.specs.steps.Table.{IsIndexed, IsTable, held_by};
+ghost use Rattle.aged_tracker.specs.steps.Table.{IsConsistent};
 ghost use Rattle.conntrack.specs.ConntrackEntry.{IsWithin, belongs_in, has_distinct_ids, have_disjoint_tuples, live_at};
 ghost use Rattle.std.specs.HashMap.{get, spare};
 ghost use Rattle.ip_headers.specs.Same.{same_tuple};
@@ -29,9 +29,8 @@ pub struct AgedTracker {
     keys: HashMap<Tuple, u32, WordState>,
     live: usize,
     limits: Limits,
-    // The slot in which the next packet's entry likely is, as connections that send at one pace have
-    // their packets in the order of the round before. A lookup that finds it there reads no index,
-    // of which each read is a cache miss where many connections live.
+    // Where the next packet's entry likely is: connections that send at one pace have their packets in
+    // the order of the round before. A read of the index is a cache miss where many are live.
     likely: usize,
 }
 
@@ -193,8 +192,7 @@ fn slot_of(
     tuple: Tuple,
     steps: &mut Steps,
 ) -> Option<usize>
-    requires table { IsTable slots.now }
-    requires indexed { (live : ℕ) × IsIndexed (held_by slots.now) (get same_tuple keys.now) live }
+    requires { (live : ℕ) × IsConsistent slots.now (get same_tuple keys.now) live }
     ensures slot { result ≡ get same_tuple keys.now tuple }
     ensures steps { IsWithin (Some 1) steps.old steps.new }
 {

@@ -35,5 +35,5 @@ returns-in-Some-clause-distinct c = rw (← c.self.view_is) c.self.invariant.ind
 pub returns-in-Some-clause-apart : goal.returns-in-Some-clause-apart
 returns-in-Some-clause-apart c = rw (← c.self.view_is) c.self.invariant.indexed.apart
 
-pub slot_of-requires-clause-indexed : goal.slot_of-requires-clause-indexed
-slot_of-requires-clause-indexed c = (c.self.inside.live, c.self.invariant.indexed)
+pub slot_of-requires : goal.slot_of-requires
+slot_of-requires c = (c.self.inside.live, c.self.invariant)
