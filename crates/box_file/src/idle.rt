@@ -2,7 +2,6 @@
 ghost use Rattle.std.specs.Prelude.{◌≡◌, ◌<◌, ◌≤◌, ◌^◌, false, find, map};
 ghost use Rattle.std.specs.List.{list_any};
 ghost use Rattle.std.specs.Option.{option_map};
-ghost use Rattle.box_file.specs.Idle.{limit_for, usual_limits};
 ghost use Rattle.box_file.specs.Box.{AreLimits, idle_for, is_of_kind, is_out_of_range, seconds_of};
 ghost use Rattle.box_file.specs.steps.Reading.{idle_tree};
 

@@ -1,6 +1,6 @@
 //! The command line as clap's `Command`.
 ghost use Rattle.std.specs.Prelude.{◌≡◌, IfOk, Some, false, fold};
-ghost use Rattle.clap.specs.Words.{app_of, new_app, rule_of, shape_of};
+ghost use Rattle.clap.specs.Words.{app_of, new_app, rule_of};
 ghost use Rattle.clap.specs.declared.builder.command.Command.TheViews.{out-Command};
 ghost use Rattle.command_line.specs.steps.Program.{app_for, flag_rule, path_rule, program_app, report_rule, rule_for, top_app, with_described};
 

@@ -1,6 +1,6 @@
 //! What a command line asks for beside its task. clap doesn't see these options: they change nothing
 //! of the task.
-ghost use Rattle.std.specs.Prelude.{◌≡◌, ◌<◌, ◌≤◌, MatchOption, false, length, map, remove, true};
+ghost use Rattle.std.specs.Prelude.{◌≡◌, ◌<◌, MatchOption, false, length, map, remove, true};
 ghost use Rattle.command_line.specs.CommandLine.{are_explained, calls_check, has_flag, has_option, remarks_of, task_words, without_flag, without_option};
 
 /// What a command line asks for beside its task.

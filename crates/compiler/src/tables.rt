@@ -1,7 +1,6 @@
 //! The code of tables.
 ghost use Rattle.std.specs.Prelude.{◌≡◌, [], false, IfOk, OnOk};
 ghost use Rattle.std.specs.List.{list_any};
-ghost use Rattle.nft_tree.specs.Tree.{chain_tree};
 ghost use Rattle.rule_types.specs.Types.{table_mismatches};
 ghost use Rattle.rule_values.specs.Faults.{has_wrong_value, item_out_of_range};
 ghost use Rattle.lowering.specs.Lowered.{HasDeclared};

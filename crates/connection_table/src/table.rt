@@ -1,5 +1,5 @@
 //! A conntrack table with the NAT mappings of its entries.
-ghost use Rattle.std.specs.Prelude.{◌≡◌, ◌+◌, ◌<◌, ◌≤◌, ◌↔◌, ◌++◌, ◌∷◌, [], ℕ, IsTrue, List, false, length, map, IfOk, IsOk, OnErr, OnOk, Err};
+ghost use Rattle.std.specs.Prelude.{◌≡◌, ◌+◌, ◌<◌, ◌≤◌, ◌↔◌, ◌++◌, ◌∷◌, [], IsTrue, List, false, length, map, IfOk, IsOk, OnErr, OnOk, Err};
 ghost use Rattle.ip_headers.specs.declared.tuple.Mapping.{Mapping};
 ghost use Rattle.conntrack.specs.declared.connection.ConnId.{ConnId};
 ghost use Rattle.conntrack.specs.ConntrackEntry.{IsNoneLater, begun_with, belongs_in, connection_of};

@@ -1,5 +1,5 @@
 //! Small histories with their results: examples of the definitions, each a law.
-ghost use Rattle.std.specs.Prelude.{◌≡◌, ◌+◌, ◌*◌, ◌-◌, ◌∷◌, [], map};
+ghost use Rattle.std.specs.Prelude.{◌≡◌, ◌-◌, ◌∷◌, []};
 ghost use Rattle.ip_headers.specs.Tuple.{inverse};
 ghost use Rattle.ip_headers.specs.declared.tuple.Kind.TheVariants as kinds;
 ghost use Rattle.conntrack.specs.declared.belonging.Belonging.TheVariants as belongings;

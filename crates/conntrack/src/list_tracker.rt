@@ -1,10 +1,10 @@
 //! A tracker that keeps its entries in a list.
-ghost use Rattle.std.specs.Prelude.{◌≡◌, ◌+◌, ◌<◌, ◌≤◌, ◌^◌, ◌&&◌, ◌||◌, not, true, false, ℕ, [], Option, None, Some};
-ghost use Rattle.std.specs.Prelude.{IsTrue, IfOk, OnOk, OnErr, IfSome, IfNone, ◌-◌, nat_lt, vec_len, vec_capacity};
-ghost use Rattle.std.specs.Prelude.{filter, if◌then◌else◌, length};
-ghost use Rattle.std.specs.List.{find, list_any};
+ghost use Rattle.std.specs.Prelude.{◌≡◌, ◌+◌, ◌<◌, ◌≤◌, ◌^◌, ◌&&◌, ◌||◌, Option, None, Some};
+ghost use Rattle.std.specs.Prelude.{IsTrue, ◌-◌, nat_lt, vec_len, vec_capacity};
+ghost use Rattle.std.specs.Prelude.{if◌then◌else◌};
+ghost use Rattle.std.specs.List.{find};
 ghost use Rattle.conntrack.specs.steps.Entries.{has_ids_below, has_tuple, is_sought};
-ghost use Rattle.conntrack.specs.ConntrackEntry.{have_disjoint_tuples, belongs_in, has_distinct_ids, has_id};
+ghost use Rattle.conntrack.specs.ConntrackEntry.{have_disjoint_tuples, belongs_in, has_distinct_ids};
 ghost use Rattle.conntrack.specs.ConntrackEntry.{is_live, is_taken, live_at};
 ghost use Rattle.conntrack.specs.ConntrackEntry.{same_id, touched, touched_at, without};
 

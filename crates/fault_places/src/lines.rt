@@ -1,5 +1,5 @@
 //! The lines of a box file, as parts.
-ghost use Rattle.std.specs.Prelude.{◌≤◌, IfOk, length};
+ghost use Rattle.std.specs.Prelude.{IfOk, length};
 ghost use Rattle.fault_places.specs.Within.{AllWithin};
 
 use crate::brace_parts::{Level, Span, add_within, has_at};

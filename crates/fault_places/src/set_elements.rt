@@ -1,5 +1,5 @@
 //! The elements of sets and maps, found by braces and commas.
-ghost use Rattle.std.specs.Prelude.{◌≤◌, IfOk, length};
+ghost use Rattle.std.specs.Prelude.{IfOk, length};
 ghost use Rattle.fault_places.specs.Within.{AllWithin};
 
 use crate::brace_parts::{Quotes, Span, add_within};

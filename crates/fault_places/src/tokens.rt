@@ -1,5 +1,5 @@
 //! Splits a part into words, strings, numbers and operators by their bytes, without the lexer.
-ghost use Rattle.std.specs.Prelude.{◌≤◌, IfOk, length};
+ghost use Rattle.std.specs.Prelude.{IfOk, length};
 ghost use Rattle.fault_places.specs.Within.{AllWithin};
 
 use crate::brace_parts::{Span, add_within};

@@ -1,6 +1,6 @@
 //! The transport header of a packet: TCP, UDP or ICMP.
 ghost use Rattle.std.specs.Prelude.{◌≡◌, false, length};
-ghost use Rattle.ip_headers.specs.Transport.{destination_port_of, icmp_is_malformed, icmp_type_of, source_port_of};
+ghost use Rattle.ip_headers.specs.Transport.{destination_port_of, icmp_type_of, source_port_of};
 ghost use Rattle.ip_headers.specs.Transport.{tcp_flags_of, tcp_is_malformed, transport_in, transport_is_malformed};
 ghost use Rattle.ip_headers.specs.Transport.{udp_is_malformed};
 

@@ -1,5 +1,5 @@
 //! IPv4 packets, read in place.
-ghost use Rattle.std.specs.Prelude.{◌≤◌, length, ◌≡◌, None, take, drop, IfOk};
+ghost use Rattle.std.specs.Prelude.{◌≤◌, length, ◌≡◌, None, take, IfOk};
 ghost use Rattle.std.specs.Result.{result_err as err_of};
 ghost use Rattle.ip_headers.specs.Header.{fault_of, packet_of, payload_of, header_len, total_len, protocol, source, destination, transport_of, ttl};
 ghost use Rattle.ip_headers.specs.Tuple.{inner_tuple_of, is_error, tuple_of};

@@ -1,5 +1,5 @@
 //! Lowers matches.
-ghost use Rattle.std.specs.Prelude.{◌≡◌, ◌==◌, false, map, not, bit_and, IfOk, OnOk};
+ghost use Rattle.std.specs.Prelude.{◌≡◌, ◌==◌, false, map, IfOk, OnOk};
 ghost use Rattle.nft_tree.specs.Tree.{flag_tree, match_tree, range_tree};
 ghost use Rattle.nft_tree.specs.ComparedTypes.{selector_compared_type};
 ghost use Rattle.nft_values.specs.Values.{numbers_of};

@@ -1,5 +1,5 @@
 //! Tables of intervals for sets and maps.
-ghost use Rattle.std.specs.Prelude.{◌≡◌, ℕ, false, map, slice_get, is_some, IfOk, OnOk, IfSome};
+ghost use Rattle.std.specs.Prelude.{◌≡◌, ℕ, false, map, is_some, IfOk, OnOk};
 ghost use Rattle.std.specs.Option.{option_map, option_or};
 ghost use Rattle.set_intervals.specs.Pairs.{first_value};
 ghost use Rattle.nft_tree.specs.Tree.{data_tree, element_tree, pair_tree, verdict_tree};
@@ -7,7 +7,6 @@ ghost use Rattle.nft_tree.specs.declared.compared_types.ComparedType.TheVariants
 ghost use Rattle.rule_types.specs.Types.{is_too_wide};
 ghost use Rattle.rule_meaning.specs.Sets.{data_number, data_verdict, key_numbers, pair_gives, spans};
 ghost use Rattle.rule_meaning.specs.Statements.{chain_number, rule_verdict_of};
-ghost use Rattle.lowering.specs.Lowered.{Keeps};
 ghost use Rattle.lowering.specs.steps.Tables.{IsNumberTable, IsNumberType, IsSetTable, IsVerdictTable, entry_gives};
 
 use crate::keys::key_numbers;

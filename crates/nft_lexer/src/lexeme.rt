@@ -2,7 +2,7 @@
 ghost use Rattle.std.specs.Prelude.{◌≡◌, ◌≤◌, length, option_map};
 ghost use Rattle.std.specs.List.{prefix_len};
 ghost use Rattle.nft_lexer.specs.Lexing.{continues_word, punctuation, is_string_byte};
-ghost use Rattle.nft_lexer.specs.steps.Reading.{after_byte, behind, class_at, class_of, continues_run};
+ghost use Rattle.nft_lexer.specs.steps.Reading.{after_byte, behind, class_of, continues_run};
 ghost use Rattle.nft_lexer.specs.steps.Reading.{dotted_quad_at, hexadecimal_at, is_zero, next_octet_at, number_at};
 ghost use Rattle.nft_lexer.specs.steps.Reading.{long_punctuator_at, long_punctuators, punctuator_at, punctuator_from};
 ghost use Rattle.nft_lexer.specs.steps.Reading.{lexeme_at, run_at, scanned_kind};

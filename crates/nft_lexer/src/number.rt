@@ -1,5 +1,5 @@
 //! Digits and their values.
-ghost use Rattle.std.specs.Prelude.{◌≡◌, ◌≤◌, ◌<◌, ◌^◌, length};
+ghost use Rattle.std.specs.Prelude.{◌≡◌, ◌≤◌, ◌<◌};
 ghost use Rattle.nft_lexer.specs.steps.Reading.{address_of, decimal_at, has_leading_zero, octet_at, value_after, with_digit};
 
 /// The number with one more digit, if it fits 64 bits.

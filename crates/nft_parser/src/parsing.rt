@@ -1,5 +1,5 @@
 //! From a text to its syntax tree.
-ghost use Rattle.std.specs.Prelude.{◌≡◌, ◌<◌, ◌↔◌, ◌⊎◌, ℕ, List, length, Err, IfOk, MatchResult};
+ghost use Rattle.std.specs.Prelude.{◌≡◌, ◌<◌, ◌↔◌, ◌⊎◌, List, length, Err, IfOk, MatchResult};
 ghost use Rattle.nft_lexer.specs.declared.fault.LexFault.{LexFault};
 ghost use Rattle.nft_lexer.specs.Terminal.{terminals};
 ghost use Rattle.nft_lexer.specs.Lexing.{MOST_BYTES};

@@ -1,5 +1,5 @@
 //! The file header: byte order, timestamp resolution and link type.
-ghost use Rattle.std.specs.Prelude.{◌≡◌, ◌<◌, ◌≤◌, ◌+◌, ◌*◌, ◌^◌, Some, None, length, IfErr, OnOk};
+ghost use Rattle.std.specs.Prelude.{◌≡◌, ◌<◌, ◌≤◌, ◌+◌, ◌*◌, Some, None, length, IfErr, OnOk};
 ghost use Rattle.pcap_io.specs.declared.fault.CaptureError.{CaptureError};
 ghost use Rattle.pcap_io.specs.CaptureStates.{IsOfHeader};
 ghost use Rattle.pcap_io.specs.Pcap as pcap;

@@ -1,5 +1,5 @@
 //! A bitmap of 65,536 bits that counts its set bits.
-ghost use Rattle.std.specs.Prelude.{◌≡◌, ◌≤◌, ◌<◌, ◌+◌, ◌*◌, ℕ, Bool, true, false, not, length, Some, None, IfOk, find, nat_lt, if◌then◌else◌, ◌==◌};
+ghost use Rattle.std.specs.Prelude.{◌≡◌, ◌≤◌, ◌<◌, ◌+◌, ◌*◌, ℕ, true, false, not, length, Some, None, IfOk, find, nat_lt, if◌then◌else◌, ◌==◌};
 ghost use Rattle.std.specs.Bool.{OnTrue, OnFalse};
 ghost use Rattle.std.specs.Int.{trailing_zeros, w64};
 ghost use Rattle.port_pool.specs.Candidates.{starting_at};

@@ -1,7 +1,7 @@
 //! The numbers that are taken at one external address, and the choice of the next.
 #![tactic(auto, unfolding(crate::specs::Taken::is_taken, crate::specs::Taken::order_of))]
 
-ghost use Rattle.std.specs.Prelude.{◌≡◌, ◌≢◌, ◌↔◌, ℕ, All, Bool, true, false, not, Some, None, Contains, IfOk, IsOk, IfSome, IfNone, find, if◌then◌else◌, ◌==◌};
+ghost use Rattle.std.specs.Prelude.{◌≡◌, ◌≢◌, ◌↔◌, ℕ, All, true, false, not, Some, None, Contains, IfOk, IsOk, IfSome, find, if◌then◌else◌, ◌==◌};
 ghost use Rattle.std.specs.Bool.{OnTrue, OnFalse};
 ghost use Rattle.port_pool.specs.Candidates.{candidates, ports_of};
 

@@ -1,5 +1,5 @@
 //! The preferred ports as one interval and a parity.
-ghost use Rattle.std.specs.Prelude.{◌≡◌, ◌≤◌, ◌<◌, ℕ, if◌then◌else◌};
+ghost use Rattle.std.specs.Prelude.{◌≡◌, ◌<◌, ℕ, if◌then◌else◌};
 ghost use Rattle.std.specs.Bool.{OnTrue, OnFalse};
 ghost use Rattle.std.specs.Int.{bit_at};
 ghost use Rattle.port_pool.specs.Candidates.{numbers, ports_of, same_parity, preferred};

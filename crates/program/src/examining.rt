@@ -1,5 +1,4 @@
 //! `nftrun check`.
-ghost use Rattle.std.specs.Prelude.{◌≡◌};
 ghost use Rattle.program.specs.Calls.{MakesCalls};
 ghost use Rattle.program.specs.Examining.{Examines};
 ghost use Rattle.program.specs.steps.AnswerStatus.{check_status};

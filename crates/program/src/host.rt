@@ -16,8 +16,6 @@ use std::io;
 /// Nothing else is known of it, so what is proved over it is true of the calls that were made, in
 /// their order.
 pub trait Host {
-    ghost use Rattle.std.specs.Prelude.{◌≡◌};
-    ghost use Rattle.std.specs.Result.{result_map_both};
     ghost use Rattle.clap.specs.Values.{kind_of};
     ghost use Rattle.program.specs.Calls.{Call, words, errors_to_terminal, read, open_input, identify, draw_keys};
     ghost use Rattle.program.specs.Calls.{create, run, judge, print_accepted, print_status, explain_status};

@@ -1,6 +1,5 @@
 //! The status that the program ends with.
 ghost use Rattle.std.specs.Prelude.{◌≡◌, MatchResult};
-ghost use Rattle.std.specs.IoError.{error_kind};
 ghost use Rattle.program.specs.Status.{of_end, of_error, of_fault, of_words_error, has_line, code_of};
 
 use box_file::BoxFault;

@@ -1,5 +1,5 @@
 //! Pseudorandom numbers, the same for every run of the tests.
-ghost use Rattle.std.specs.Prelude.{◌<◌, ◌≤◌};
+ghost use Rattle.std.specs.Prelude.{◌<◌};
 
 use set_intervals::Range;
 

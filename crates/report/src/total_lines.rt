@@ -1,5 +1,4 @@
 //! The totals of a report.
-ghost use Rattle.std.specs.Prelude.{◌≡◌};
 ghost use Rattle.std.specs.List.{flat_map};
 ghost use Rattle.report.specs.Report.{drop_line, number_lines};
 ghost use Rattle.report.specs.steps.Paging.{Puts};

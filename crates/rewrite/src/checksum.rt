@@ -1,6 +1,6 @@
 //! Incremental checksum updates (RFC 1624).
 ghost use Rattle.std.specs.Prelude.{◌≡◌, ◌+◌, ◌^◌, ◌<◌};
-ghost use Rattle.rewrite.specs.Rewritten.{corrected, or_all_ones};
+ghost use Rattle.rewrite.specs.Rewritten.{corrected};
 ghost use Rattle.rewrite.specs.steps.Fields.{combined, u32_change, updated_checksum, updated_udp_checksum, u16_change};
 
 /// The words under a checksum that a change replaces: their sum before and after it, and whether

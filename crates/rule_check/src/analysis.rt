@@ -1,5 +1,5 @@
 //! The checks, in order of their faults' numbers.
-ghost use Rattle.std.specs.Prelude.{◌≡◌, List, IfOk, IfErr};
+ghost use Rattle.std.specs.Prelude.{◌≡◌, IfOk, IfErr};
 ghost use Rattle.nft_tree.specs.Tree.{tables_of};
 ghost use Rattle.box_file.specs.Box.{PlantTree};
 ghost use Rattle.rule_paths.specs.Findings.{AreFindings};

@@ -1,6 +1,6 @@
 //! Overlaying sorted intervals: where an upper and a lower interval overlap, the upper one's value
 //! wins.
-ghost use Rattle.std.specs.Prelude.{◌≡◌, ◌≤◌, ◌<◌, ◌+◌, ◌++◌, ◌∷◌, [], ◌↔◌, IsTrue, IfOk, OnOk};
+ghost use Rattle.std.specs.Prelude.{◌≡◌, ◌<◌, ◌+◌, ◌++◌, ◌∷◌, [], ◌↔◌, IsTrue, IfOk, OnOk};
 ghost use Rattle.set_intervals.specs.Pairs.{IsExact};
 ghost use Rattle.set_intervals.specs.steps.Layers.{AddsBelow, EndsBefore, Follows, SameFirstValues};
 ghost use Rattle.set_intervals.specs.steps.Pieces.{IsTable};

@@ -1,5 +1,5 @@
 //! The lookup table: values by number, kept as sorted intervals.
-ghost use Rattle.std.specs.Prelude.{◌≡◌, ◌≤◌, ◌<◌, ◌↔◌, ℕ, Contains, List, Some, length, IsTrue, IfOk, OnOk, IfErr, MatchOption};
+ghost use Rattle.std.specs.Prelude.{◌≡◌, ◌≤◌, ◌<◌, ℕ, Contains, List, Some, IfOk, OnOk, IfErr, MatchOption};
 ghost use Rattle.std.specs.Option.{option_copied};
 ghost use Rattle.set_intervals.specs.declared.range.Range.{Range};
 ghost use Rattle.search_levels.specs.Levels.{IsLevel, Parts};

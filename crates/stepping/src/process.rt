@@ -1,5 +1,5 @@
 //! Processes a record.
-ghost use Rattle.std.specs.Prelude.{◌≡◌, IsTrue, false, [], ℕ, Some};
+ghost use Rattle.std.specs.Prelude.{◌≡◌, IsTrue, false, [], Some};
 ghost use Rattle.history.specs.declared.outcome.Outcome.TheVariants as outcomes;
 ghost use Rattle.ip_headers.specs.Header.{transport_of};
 ghost use Rattle.conntrack.specs.ConntrackEntry.{IsNoneLater, live_at};

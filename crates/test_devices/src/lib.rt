@@ -1,7 +1,7 @@
 //! Readers and writers for tests: short reads and writes, a failing call, a call count.
 #![tactic(auto)]
 
-ghost use Rattle.std.specs.Prelude.{◌≡◌, ◌<◌, ◌≤◌, ◌-◌, ◌++◌, max, false, cond, not, ◌&&◌, ◌||◌, ◌==◌, IfOk, IsErr};
+ghost use Rattle.std.specs.Prelude.{◌≡◌, ◌<◌, ◌≤◌, ◌-◌, max, false, cond, not, ◌&&◌, ◌||◌, ◌==◌, IfOk, IsErr};
 ghost use Rattle.pcap_io.specs.Counting.{one_more};
 ghost use Rattle.std.specs.Io.{ReadsAtMost, WritesAtMost};
 ghost use Rattle.std.specs.Io.KnownBytes.{ReadConsumes, WriteAppends, Keeps};

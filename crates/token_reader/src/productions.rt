@@ -1,5 +1,5 @@
 //! Repetitions and lists of a production's parts.
-ghost use Rattle.std.specs.Prelude.{◌≡◌, ◌≤◌, ℕ, List, Option, length, map, IfOk};
+ghost use Rattle.std.specs.Prelude.{◌≡◌, ◌≤◌, List, Option, length, map, IfOk};
 ghost use Rattle.nft_lexer.specs.Terminal.{Terminal};
 ghost use Rattle.token_reader.specs.Readers.{IsRead, remaining};
 ghost use Rattle.nft_lexer.specs.declared.token.Punctuator.{Punctuator};
