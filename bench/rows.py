@@ -21,6 +21,15 @@ def number(word, most):
     return int(word)
 
 
+def numbers(word, most):
+    """Those of `NUMBER` or `FIRST-LAST`."""
+    first, dash, last = word.partition("-")
+    found = range(number(first, most), number(last if dash else first, most) + 1)
+    if not found:
+        raise Unreadable
+    return found
+
+
 def hexadecimal(digits):
     if not re.fullmatch("([0-9a-f]{2})*", digits):
         raise Unreadable
@@ -48,6 +57,24 @@ class Words:
     def end(self):
         if self.rest:
             raise Unreadable
+
+    def digits(self):
+        """The bytes of one or more words of hexadecimal digits."""
+        data = hexadecimal(self.next())
+        while self.rest and re.fullmatch("[0-9a-f]+", self.rest[0]):
+            data += hexadecimal(self.next())
+        return data
+
+    def interface(self):
+        """The index of `lan`, `wan` or an index."""
+        word = self.next()
+        return INDEX[word] if word in INDEX else number(word, 2**32 - 1)
+
+    def last(self):
+        """The next word, which is the last."""
+        word = self.next()
+        self.end()
+        return word
 
     def endpoint(self):
         word, _, port = self.next().partition(":")
@@ -92,14 +119,14 @@ def datagram(protocol, source, destination, load, ttl=64):
 
 
 class Packet:
-    """A packet without data: its payload, its endpoints, its TTL, and what an ICMP error is about."""
+    """A packet: its payload, its endpoints, its TTL, what an ICMP error is about, and the data of a protocol that none other names."""
 
-    def __init__(self, payload, endpoints, ttl=64, about=None, kept=None):
-        self.payload, self.endpoints, self.ttl, self.about, self.kept = payload, endpoints, ttl, about, kept
+    def __init__(self, payload, endpoints, ttl=64, about=None, kept=None, data=b""):
+        self.payload, self.endpoints, self.ttl, self.about, self.kept, self.data = payload, endpoints, ttl, about, kept, data
 
     @staticmethod
     def read(words):
-        """`PAYLOAD ENDPOINT > ENDPOINT [ttl NUMBER] [about PAYLOAD ENDPOINT > ENDPOINT [kept BYTES]]`"""
+        """`PAYLOAD ENDPOINT > ENDPOINT [ttl NUMBER] [about PAYLOAD ENDPOINT > ENDPOINT [kept BYTES] | carries DIGITS ..]`"""
         packet = Packet(payload(words.next()), words.endpoints())
         if words.takes("ttl"):
             packet.ttl = number(words.next(), 255)
@@ -107,17 +134,24 @@ class Packet:
             packet.about = Packet(payload(words.next()), words.endpoints(), 1)
             if words.takes("kept"):
                 packet.kept = number(words.next(), 65_535)
+        elif packet.payload[0] == "other" and words.takes("carries"):
+            packet.data = words.digits()
         return packet
+
+    def of_length(self, length):
+        """The packet with so much data: what it has, and zeros behind it."""
+        return Packet(self.payload, self.endpoints, self.ttl, data=self.data[:length].ljust(length, b"\0"))
 
     def forwarded(self, endpoints, about):
         """As it leaves, with new endpoints where there are any."""
         inner = self.about
         if inner and about:
             inner = Packet(inner.payload, about, inner.ttl)
-        return Packet(self.payload, endpoints or self.endpoints, max(self.ttl - 1, 0), inner, self.kept)
+        return Packet(self.payload, endpoints or self.endpoints, max(self.ttl - 1, 0), inner, self.kept, self.data)
 
     def bytes(self, behind=b""):
         """Its bytes with right checksums. A protocol without ports or an identifier carries what is `behind`."""
+        behind = self.data or behind
         if self.about:
             behind = self.about.bytes(b"\0" * 8)[: self.kept]
         (source, source_port), (destination, destination_port) = self.endpoints
@@ -143,6 +177,23 @@ class Packet:
         return datagram(1, source, destination, with_checksum(load, 2), self.ttl)
 
 
+class Bytes:
+    """A packet by its bytes, which may be no packet."""
+
+    def __init__(self, data):
+        self.data = data
+        self.endpoints = (data[12:16], 0), (data[16:20], 0)
+
+    def forwarded(self, _endpoints, _about):
+        """As it leaves: with another TTL and checksum, and without what is behind its end."""
+        header, end = self.data[0] % 16 * 4, int.from_bytes(self.data[2:4], "big")
+        lowered = self.data[:8] + bytes([self.data[8] - 1, self.data[9], 0, 0]) + self.data[12:header]
+        return Bytes(with_checksum(lowered, 10) + self.data[header:end])
+
+    def bytes(self):
+        return self.data
+
+
 def payload(word):
     """`udp`, `tcp:FLAGS`, `echo-request`, `echo-reply`, `error:TYPE` or `other:PROTOCOL`, with its number."""
     kind, colon, value = word.partition(":")
@@ -158,19 +209,11 @@ def payload(word):
 # ---- records
 
 class Record:
-    """A record: seconds, nanoseconds, the interface that it came by, and its packet, if it is one."""
+    """A record: seconds, nanoseconds, the interface that it came by, its packet, if it is one, and what stands behind that."""
 
-    def __init__(self, words):
-        """`TIME INTERFACE PACKET`, or `none` in the place of a packet; a time is seconds, or seconds, a dot and nine digits."""
-        seconds, dot, rest = words.next().partition(".")
-        if dot and len(rest) != 9:
-            raise Unreadable
-        self.seconds, self.nanoseconds = number(seconds, 2**32 - 1), number(rest or "0", 2**32 - 1)
-        self.interface = INDEX.get(words.next())
-        if self.interface is None:
-            raise Unreadable
-        self.packet = None if words.takes("none") else Packet.read(words)
-        words.end()
+    def __init__(self, when, interface, packet, padding=b""):
+        self.seconds, self.nanoseconds = when
+        self.interface, self.packet, self.padding = interface, packet, padding
 
     def behind_header(self, link, data):
         return struct.pack("<IIII", self.seconds, self.nanoseconds, 20 + len(data), 20 + len(data)) + link + data
@@ -180,19 +223,47 @@ class Record:
         # (IPv6 is no packet of the box's.)
         protocol, data = (0x0800, self.packet.bytes()) if self.packet else (0x86DD, b"")
         link = struct.pack(">HHIHBB8s", protocol, 0, self.interface, 1, 0, 6, bytes.fromhex("0200000000010000"))
-        return self.behind_header(link, data)
+        return self.behind_header(link, data + self.padding)
 
-    def leaves(self, endpoints, about):
-        """As it leaves: by `lan` for 192.168.1.0/24, else by `wan`."""
+    def leaves(self, endpoints, about, interface):
+        """As it leaves: by this interface, or else by `lan` for 192.168.1.0/24 and by `wan` for all others."""
         packet = self.packet.forwarded(endpoints, about)
         destination = packet.endpoints[1][0]
-        interface = INDEX["lan" if destination[:3] == bytes((192, 168, 1)) else "wan"]
+        if interface is None:
+            interface = INDEX["lan" if destination[:3] == bytes((192, 168, 1)) else "wan"]
         return self.behind_header(struct.pack(">HHIHBB8s", 0x0800, 0, interface, 1, 4, 0, b""), packet.bytes())
+
+
+def moment(word):
+    """The seconds and nanoseconds of a time: seconds, or seconds, a dot and nine digits."""
+    seconds, dot, rest = word.partition(".")
+    if dot and len(rest) != 9:
+        raise Unreadable
+    return number(seconds, 2**32 - 1), number(rest or "0", 2**32 - 1)
+
+
+def come(words):
+    """The records of `TIME INTERFACE none`, `TIME INTERFACE bytes DIGITS ..` or `TIME INTERFACE PACKET [long LENGTHS] [padded DIGITS]`."""
+    when, interface = moment(words.next()), words.interface()
+    padding = b""
+    if words.takes("none"):
+        packets = [None]
+    elif words.takes("bytes"):
+        packets = [Bytes(words.digits())]
+    else:
+        packet = Packet.read(words)
+        packets = [packet]
+        if packet.data and words.takes("long"):
+            packets = [packet.of_length(length) for length in numbers(words.next(), 65_515)]
+        if words.takes("padded"):
+            padding = words.digits()
+    words.end()
+    return [Record(when, interface, packet, padding) for packet in packets]
 
 
 def came(text):
     """The record of `TIME INTERFACE PACKET`."""
-    return Record(Words(text)).bytes()
+    return come(Words(text))[0].bytes()
 
 
 # ---- rows
@@ -210,6 +281,7 @@ class Row:
         self.file, self.rulesets, self.trace = None, [], False
         self.pace = self.reads = None
         self.status, self.ending = "done", "status"
+        self.changes, self.size = [], None
         self.lines, self.totals, self.given = "", {}, set()
 
     def follow(self, word, name):
@@ -227,11 +299,15 @@ class Row:
         if word == "nft":
             self.rulesets.append(rest)
         elif word == "in":
-            self.records.append(Record(Words(rest)))
+            self.records += come(Words(rest))
         elif word == "out":
             self.take_output(Words(rest))
         elif word == "line":
             self.lines += rest + "\n"
+        elif word == "outcome":
+            self.lines += f"trace {len(self.records)} outcome {Words(rest).last()}\n"
+        elif word == "put":
+            self.take_change(Words(rest))
         elif word == "leaves":
             self.leaving.append(hexadecimal(rest))
         elif word == "captured":
@@ -244,14 +320,21 @@ class Row:
             self.take_setting(word, rest, line)
 
     def take_output(self, words):
-        """`INDEX [ENDPOINT > ENDPOINT [about ENDPOINT > ENDPOINT]]`"""
-        index = number(words.next(), len(self.records) - 1)
-        endpoints = words.endpoints() if words.rest else None
+        """`INDEXES [ENDPOINT > ENDPOINT [about ENDPOINT > ENDPOINT]] [by INTERFACE]`"""
+        indexes = numbers(words.next(), len(self.records) - 1)
+        endpoints = words.endpoints() if words.rest and words.rest[0] != "by" else None
         about = words.endpoints() if words.takes("about") else None
+        interface = words.interface() if words.takes("by") else None
         words.end()
-        if not self.records[index].packet:
-            raise Unreadable
-        self.outputs.append((index, endpoints, about))
+        for index in indexes:
+            packet = self.records[index].packet
+            if not packet or endpoints and isinstance(packet, Bytes):
+                raise Unreadable
+            self.outputs.append((index, endpoints, about, interface))
+
+    def take_change(self, words):
+        """`OFFSET DIGITS`"""
+        self.changes.append((number(words.next(), 2**31), hexadecimal(words.last())))
 
     def pass_on(self, words):
         for word in words:
@@ -262,7 +345,7 @@ class Row:
         if word in ("status", "broken", "refused"):
             self.once("status")
             self.status, self.ending = rest, word
-        elif word in ("rules", "box", "trace", "header", "pace", "reads"):
+        elif word in ("rules", "box", "trace", "header", "size", "pace", "reads"):
             self.set(word, rest)
         else:
             name, _, value = line.rpartition(" ")
@@ -289,10 +372,8 @@ class Row:
             self.file = words[0]
         elif word == "box":
             self.box = words[0]
-        elif word == "pace":
-            self.pace = number(words[0], 2**31)
         else:
-            self.reads = number(words[0], 2**31)
+            setattr(self, word, number(words[0], 2**31))
 
     def once(self, name):
         if name in self.given:
@@ -302,7 +383,10 @@ class Row:
     def capture(self, most=None):
         """IN, with so many records at most."""
         header = IN_HEADER if self.header is None else self.header
-        return header + b"".join(record.bytes() for record in self.records[:most]) + self.captured
+        whole = header + b"".join(record.bytes() for record in self.records[:most]) + self.captured
+        for offset, data in self.changes:
+            whole = whole[:offset] + data + whole[offset + len(data) :]
+        return whole if self.size is None else whole[: self.size].ljust(self.size, b"x")
 
     def sent(self):
         """What OUT has to hold."""
