@@ -1,5 +1,5 @@
 //! Tests of the crates below the engine, each alone: lexer and parser, box files, compiled rules,
-//! captures, headers, interval and rule tables, ports, NAT mappings, and rewriting.
+//! captures, checksums, interval and rule tables, ports, NAT mappings, and rewriting.
 #![tactic(auto)]
 
 #[cfg(test)]
@@ -8,8 +8,6 @@ mod box_files;
 mod captures;
 #[cfg(test)]
 mod compiled;
-#[cfg(test)]
-mod headers;
 #[cfg(test)]
 mod intervals;
 #[cfg(test)]
@@ -28,5 +26,7 @@ mod rewriting;
 mod rulesets;
 #[cfg(test)]
 mod seek_tables;
+#[cfg(test)]
+mod sums;
 #[cfg(test)]
 mod support;

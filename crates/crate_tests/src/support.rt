@@ -32,11 +32,6 @@ pub fn repeated<R: Abort + AllocGlobal>(
         .expect(rt, "memory")
 }
 
-/// Fails with the row's number and a length if it isn't right.
-pub fn check_length<R: Abort>(rt: &R, row: usize, length: u8, is_right: bool) {
-    assert!(rt; is_right, "row {row} of {length} bytes");
-}
-
 /// The code of a ruleset on a box; `None` if the ruleset is refused.
 pub fn code_of<R: Abort + AllocGlobal>(rt: &R, rules: &[u8], plant: &[u8]) -> Option<Code> {
     let checked = checked(rt, rules, plant)?;
