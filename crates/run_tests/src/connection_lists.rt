@@ -1,6 +1,5 @@
 //! The connections that an engine lists, with the plain list tracker and with the aged one.
-use crate::device_failures::ROUTER;
-use crate::support::{bytes, check_row, started, take};
+use crate::support::{ROUTER, bytes, check_row, started, take};
 use aged_tracker::AgedTracker;
 use conntrack::{Connection, ListTracker, Tracker};
 use ip_headers::{Endpoint, Kind, Mapping, Tuple};

@@ -7,7 +7,7 @@ mod call_counts;
 #[cfg(test)]
 mod connection_lists;
 #[cfg(test)]
-mod device_failures;
+mod flushes;
 #[cfg(test)]
 mod large_tables;
 #[cfg(test)]

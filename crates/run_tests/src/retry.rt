@@ -2,8 +2,7 @@
 //! runs this test over and over, and refuses each request of its steps in turn.
 ghost use Rattle.std.specs.Prelude.{◌<◌};
 
-use crate::device_failures::{Row, rows};
-use crate::support::{BOX, bytes, no_failures, run_over, started};
+use crate::support::{AT_1_5, BOX, HEADER, PLAIN, ROUTER, bytes, no_failures, run_over, started};
 use aged_tracker::AgedTracker;
 use conntrack::Connection;
 use nft_tree::Ruleset;
@@ -14,6 +13,113 @@ use std::fs;
 use std::process::Abort;
 use std::rt::Files;
 use stepping::Engine;
+
+/// A run: rules, trace, and capture.
+#[derive(Clone, Copy)]
+struct Row {
+    name: &'static str,
+    rules: &'static [u8],
+    trace: bool,
+    capture: &'static [&'static str],
+}
+
+/// Each forwarded packet is logged and traced.
+const LOGS: &[u8] = b"table t { chain fwd { type filter hook forward priority 0; log accept; } }";
+
+/// Magic a1b23c4d (nanoseconds), version 2.4, snaplen 65,535, LINKTYPE_LINUX_SLL2.
+const COOKED: &str = "4d3cb2a1020004000000000000000000ffff000014010000";
+
+/// A record of 48 bytes from `lan` at 0 s.
+const AT_0: &str = "000000000000000030000000300000000800000000000002000100060000000000000000";
+
+/// UDP from 192.168.1.10:5000 to 198.51.100.7:53.
+const QUESTION: &str = "4500001c0000000040118ee4c0a8010ac63364071388003500080000";
+
+/// The reply to 203.0.113.1:5000.
+const ANSWER: &str = "4500001c0000000040111495c6336407cb0071010035138800080000";
+
+static ROWS: [Row; 8] = [
+    Row {
+        name: "a packet without rules",
+        rules: b"",
+        trace: false,
+        capture: &[HEADER, AT_1_5, PLAIN],
+    },
+    Row {
+        name: "a packet through the router",
+        rules: ROUTER,
+        trace: true,
+        capture: &[HEADER, AT_1_5, PLAIN],
+    },
+    Row {
+        name: "a reply just before its connection expires",
+        rules: ROUTER,
+        trace: false,
+        capture: &[
+            COOKED,
+            AT_0,
+            QUESTION,
+            "2b01000018c69a3b30000000300000000800000000000003000100060000000000000000",
+            ANSWER,
+        ],
+    },
+    Row {
+        name: "a reply just when its connection expires",
+        rules: ROUTER,
+        trace: true,
+        capture: &[
+            COOKED,
+            AT_0,
+            QUESTION,
+            "2c0100000000000030000000300000000800000000000003000100060000000000000000",
+            ANSWER,
+        ],
+    },
+    Row {
+        name: "one port to two hosts, and that of another host",
+        rules: ROUTER,
+        trace: false,
+        capture: &[
+            COOKED,
+            AT_0,
+            QUESTION,
+            AT_0,
+            "4500001c0000000040118ee2c0a8010ac63364091388003500080000",
+            AT_0,
+            "4500001c0000000040118ee3c0a8010bc63364071388003500080000",
+        ],
+    },
+    Row {
+        name: "an ICMP error about a forwarded packet",
+        rules: ROUTER,
+        trace: false,
+        capture: &[
+            COOKED,
+            AT_0,
+            "4500001c0001000040118ee3c0a8010ac63364071388003500081000",
+            "00000000000000004c0000004c0000000800000000000003000100060200000000010000",
+            "45000038000200004001148dc6336401cb0071010301538900000000",
+            "4500001c000100003f111594cb007101c633640713880035000895b0",
+        ],
+    },
+    Row {
+        name: "a torn end",
+        rules: ROUTER,
+        trace: false,
+        capture: &[HEADER, AT_1_5, PLAIN, AT_1_5, "4500001c0001"],
+    },
+    Row {
+        name: "lines written during the run",
+        rules: LOGS,
+        trace: true,
+        capture: &[HEADER, AT_1_5, PLAIN, AT_1_5, PLAIN],
+    },
+];
+
+/// The runs. One function alone names them, since each that does pays for them in its proof.
+fn rows() -> &'static [Row] {
+    &ROWS
+}
 
 /// The greatest number of records in a capture.
 const MOST_RECORDS: u64 = 4_294_967_296;

@@ -11,11 +11,11 @@ use rule_check::{Checked, check};
 use std::alloc::Global;
 use std::hash::RandomState;
 use std::io;
-use std::io::{ErrorKind, Read, Write};
+use std::io::{Read, Write};
 use std::process::Abort;
 use std::random::RandomSource;
 use stepping::Engine;
-use test_devices::{Calls, Slow};
+use test_devices::{Calls, Failing, Slow};
 
 pub const BOX: &[u8] = b"interface 2 lan 192.168.1.1/24
 interface 3 wan 203.0.113.1/24
@@ -23,24 +23,30 @@ route 0.0.0.0/0 wan
 default lan
 ";
 
+/// A masquerading firewall: hosts of `lan` share the box's address, and only replies come in.
+pub const ROUTER: &[u8] = b"table ip nat {
+ chain post { type nat hook postrouting priority srcnat; policy accept;
+  oifname \"wan\" masquerade
+ }
+}
+table ip fw {
+ chain in { type filter hook input priority filter; policy drop;
+ }
+ chain fwd { type filter hook forward priority filter; policy drop;
+  ct state established,related accept
+  iifname \"lan\" accept
+ }
+}
+";
+
 /// Magic a1b2c3d4 (microseconds), version 2.4, LINKTYPE_RAW.
 pub const HEADER: &str = "d4c3b2a1020004000000000000000000ffff000065000000";
-
-/// Magic a1b23c4d (nanoseconds), version 2.4, snaplen 262,144, LINKTYPE_LINUX_SLL2.
-pub const OUT_HEADER: &str = "4d3cb2a10200040000000000000000000000040014010000";
 
 /// 1 s and 500000 microseconds, 28 bytes.
 pub const AT_1_5: &str = "0100000020a107001c0000001c000000";
 
 /// UDP from 192.168.1.10:5000 to 198.51.100.7:53, TTL 64.
 pub const PLAIN: &str = "4500001c0001000040118ee3c0a8010ac63364071388003500080000";
-
-/// 1 s and 500000000 nanoseconds, 48 bytes, interface 3.
-pub const OUT_AT_1_5: &str =
-    "010000000065cd1d30000000300000000800000000000003000104000000000000000000";
-
-/// `PLAIN` with TTL 63.
-pub const PLAIN_OUT: &str = "4500001c000100003f118fe3c0a8010ac63364071388003500080000";
 
 /// The bytes of the concatenated hexadecimal strings.
 pub fn bytes(alloc: Global, parts: &[&str]) -> Result<Vec<u8>, FromHexError> {
@@ -108,71 +114,6 @@ pub fn take<R: Abort, T: Tracker>(
     }
 }
 
-/// How a call fails.
-#[derive(Clone, Copy)]
-pub enum Fault {
-    /// An error of this kind.
-    Error(ErrorKind),
-    /// A write that takes no byte.
-    NoByte,
-}
-
-/// A device that fails once, after a number of calls (reads, writes and flushes). The prover knows
-/// nothing of its contents.
-#[derive(Drop)]
-struct Faulty<T> {
-    inner: T,
-    /// The calls left before the failure; the greatest number once it has failed.
-    calls: usize,
-    fault: Fault,
-}
-
-impl<T> Faulty<T> {
-    /// The fault of this call, if it is the one that fails.
-    fn fails(&mut self) -> Option<Fault> {
-        if self.calls == 0 {
-            self.calls = usize::MAX;
-            return Some(self.fault);
-        }
-        self.calls -= 1;
-        None
-    }
-}
-
-/// The error of a call that fails.
-fn error_of(fault: Fault) -> io::Error {
-    match fault {
-        Fault::Error(kind) => io::Error::from(kind),
-        Fault::NoByte => io::Error::from(ErrorKind::WriteZero),
-    }
-}
-
-impl<R: Read> Read for Faulty<R> {
-    fn read(&mut self, buf: &mut [u8]) -> io::Result<usize> {
-        match self.fails() {
-            Some(fault) => Err(error_of(fault)),
-            None => self.inner.read(buf),
-        }
-    }
-}
-
-impl<W: Write> Write for Faulty<W> {
-    fn write(&mut self, buf: &[u8]) -> io::Result<usize> {
-        match self.fails() {
-            Some(Fault::NoByte) => Ok(0),
-            Some(fault) => Err(error_of(fault)),
-            None => self.inner.write(buf),
-        }
-    }
-
-    fn flush(&mut self) -> io::Result<()> {
-        match self.fails() {
-            Some(fault) => Err(error_of(fault)),
-            None => self.inner.flush(),
-        }
-    }
-}
-
 /// The settings of the reader and the two writers.
 #[derive(Clone, Copy)]
 pub struct DeviceSettings {
@@ -181,8 +122,6 @@ pub struct DeviceSettings {
     /// The number of calls before one fails: of the reader, of the packets' writer and of the
     /// report's.
     pub calls: [usize; 3],
-    /// How it fails.
-    pub fault: Fault,
 }
 
 /// No call fails.
@@ -190,7 +129,6 @@ pub fn no_failures(most: usize) -> DeviceSettings {
     DeviceSettings {
         most,
         calls: [usize::MAX; 3],
-        fault: Fault::NoByte,
     }
 }
 
@@ -221,25 +159,19 @@ impl Drop for RunResult {
     }
 }
 
-/// A reader or writer of which one call fails.
-fn device<T>(
-    inner: T,
-    device_settings: DeviceSettings,
-    calls: usize,
-) -> Counted<Calls<Faulty<Slow<T>>>> {
-    Counted::new(Calls::new(Faulty {
-        inner: Slow::new(inner, device_settings.most),
-        calls,
-        fault: device_settings.fault,
-    }))
+/// A reader or writer that fails once, behind so many calls of at most these bytes.
+fn device<T>(inner: T, most: usize, calls: usize) -> Counted<Calls<Failing<Slow<T>>>> {
+    let slow = Slow::new(inner, most);
+    Counted::new(Calls::new(Failing::new(slow, calls)))
 }
 
 /// The failed calls of a writer, all of them, and its bytes.
-fn ended(writer: Counted<Calls<Faulty<Slow<Vec<u8>>>>>) -> (u64, u64, Vec<u8>) {
+fn ended(writer: Counted<Calls<Failing<Slow<Vec<u8>>>>>) -> (u64, u64, Vec<u8>) {
     let failures = writer.failures();
     let writer = writer.into_inner();
     let calls = writer.calls();
-    (failures, calls, writer.into_inner().inner.into_inner())
+    let failing = writer.into_inner();
+    (failures, calls, failing.into_inner().into_inner())
 }
 
 /// The status of a run of these rules on this box.
@@ -271,9 +203,10 @@ pub fn run_over(
     device_settings: DeviceSettings,
 ) -> RunResult {
     let [reads, sends, reports] = device_settings.calls;
-    let mut reader = device(capture, device_settings, reads);
-    let mut sent = device(Vec::new(alloc), device_settings, sends);
-    let mut report = device(Vec::new(alloc), device_settings, reports);
+    let most = device_settings.most;
+    let mut reader = device(capture, most, reads);
+    let mut sent = device(Vec::new(alloc), most, sends);
+    let mut report = device(Vec::new(alloc), most, reports);
     let status = status_of(
         alloc,
         rules,

@@ -1,0 +1,51 @@
+//! A flush that fails stops the run. A file's flush never fails, so the built program can't show
+//! it; `bench/refuse` refuses that program's reads and writes.
+use crate::support::{
+    AT_1_5, BOX, DeviceSettings, HEADER, PLAIN, RunResult, bytes, run_over, shows,
+};
+use std::alloc::Global;
+use std::process::Abort;
+
+/// A run over a packet: two reads; two writes of packets and a flush; a write of the report and a
+/// flush. `calls` says how many calls of each device come before one that fails.
+fn run_of(alloc: Global, capture: &[u8], calls: [usize; 3]) -> RunResult {
+    let device_settings = DeviceSettings {
+        most: usize::MAX,
+        calls,
+    };
+    run_over(alloc, b"", BOX, capture, false, device_settings)
+}
+
+/// Whether the run has this line, so many failed calls of each device, and so many calls.
+fn has_made(
+    alloc: Global,
+    given: &RunResult,
+    line: &str,
+    failures: [u64; 3],
+    calls: [u64; 3],
+) -> bool {
+    shows(alloc, given.status, line) && given.failures == failures && given.calls == calls
+}
+
+/// The last call on OUT is a flush: behind it nothing is called, and the report is empty.
+fn stops_at_packets<R: Abort + AllocGlobal>(rt: &R, capture: &[u8], whole: &RunResult) {
+    let given = run_of(rt.alloc(), capture, [usize::MAX, 2, usize::MAX]);
+    let has_stopped = has_made(rt.alloc(), &given, "device", [0, 1, 0], [2, 3, 0]);
+    assert!(rt; has_stopped && given.sent == whole.sent && given.report.len() == 0);
+}
+
+/// The last call on the report is a flush: both outputs are whole.
+fn stops_at_report<R: Abort + AllocGlobal>(rt: &R, capture: &[u8], whole: &RunResult) {
+    let given = run_of(rt.alloc(), capture, [usize::MAX, usize::MAX, 1]);
+    let has_stopped = has_made(rt.alloc(), &given, "device", [0, 0, 1], [2, 3, 2]);
+    assert!(rt; has_stopped && given.sent == whole.sent && given.report == whole.report);
+}
+
+#[test]
+fn a_flush_that_fails_stops_the_run(rt: HostRuntime) {
+    let capture = bytes(rt.alloc(), &[HEADER, AT_1_5, PLAIN]).expect(&rt, "a capture");
+    let whole = run_of(rt.alloc(), &capture, [usize::MAX; 3]);
+    assert!(&rt; has_made(rt.alloc(), &whole, "done", [0, 0, 0], [2, 3, 2]));
+    stops_at_packets(&rt, &capture, &whole);
+    stops_at_report(&rt, &capture, &whole);
+}
