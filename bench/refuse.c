@@ -8,6 +8,11 @@
    last, '-' where none was. A refused call sets errno to REFUSE_ERRNO; where that is 0 a write takes no byte.
    Where REFUSE_ONLY is set, only calls of that byte are counted.
 
+   NOTE_CALLS names a file to which the calls on files are noted in their order, a line each (scripts/test-calls): `open`,
+   `create` (an open that may make the file), `stat`, `size` (a stat of what is open), `read` or `write` with the path of
+   the file, or the digit of one of the three that a process begins with; or `keys`, which asks for random bytes.
+   REFUSE_CALL may be such a line too, as `stat out`.
+
    SHORT_READ is the most bytes that a read of the third file gives, and SHORT_WRITE the most that a write takes
    (scripts/test-rows).
 
@@ -15,7 +20,10 @@
 typedef unsigned long size_t;
 typedef long ssize_t;
 
-enum { SYS_READ = 0, SYS_WRITE = 1, SYS_OPENAT = 257, SYS_STATX = 332, AT_FDCWD = -100, NO_MEMORY = 12 };
+enum { SYS_READ = 0, SYS_WRITE = 1, SYS_OPENAT = 257, SYS_GETRANDOM = 318, SYS_STATX = 332, AT_FDCWD = -100, NO_MEMORY = 12 };
+enum { O_WRONLY = 01, O_CREAT = 0100, O_APPEND = 02000, O_CLOEXEC = 02000000 };
+/* The descriptors whose files are known, and the bytes of a path that are noted. */
+enum { KNOWN = 64, MOST = 200 };
 
 extern void *__libc_malloc(size_t);
 extern void *__libc_calloc(size_t, size_t);
@@ -31,9 +39,13 @@ static const char *call = "";
 static int at, count, all, number;
 static char only;
 static size_t most_read = -1, most_written = -1;
-/* By descriptor, the letter of the file. */
-static char letters[64] = "012";
+/* By descriptor, the letter of the file, and its path. */
+static char letters[KNOWN] = "012";
+static char paths[KNOWN][MOST] = {"0", "1", "2"};
 static char next = 'a';
+/* Where calls are noted, and the line of the last one. */
+static int notes = -1;
+static char line[MOST + 10];
 
 static void set_most(const char *name, size_t *most) {
     const char *word = getenv(name);
@@ -44,7 +56,10 @@ static void set_most(const char *name, size_t *most) {
 __attribute__((constructor)) static void begin(void) {
     set_most("SHORT_READ", &most_read);
     set_most("SHORT_WRITE", &most_written);
-    const char *word = getenv("REFUSE_CALL");
+    const char *word = getenv("NOTE_CALLS");
+    if (word)
+        notes = syscall(SYS_OPENAT, AT_FDCWD, word, O_WRONLY | O_CREAT | O_APPEND | O_CLOEXEC, 0600);
+    word = getenv("REFUSE_CALL");
     if (!word)
         return;
     call = word;
@@ -69,14 +84,51 @@ static int refuses(const char *name, char byte) {
     return 1;
 }
 
+/* Notes a call on the file of this path. */
+static void note(const char *name, const char *path) {
+    size_t length = 0;
+    while (*name)
+        line[length++] = *name++;
+    if (*path)
+        line[length++] = ' ';
+    while (*path && length < MOST + 8)
+        line[length++] = *path++;
+    line[length] = '\n';
+    if (notes >= 0)
+        syscall(SYS_WRITE, notes, line, length + 1);
+    line[length] = 0;
+}
+
+/* Whether the call that was noted last is refused, by its name alone or by its line. */
+static int refuses_noted(const char *name, char byte) {
+    return refuses(name, byte) || (strcmp(name, line) && refuses(line, byte));
+}
+
 static int refuses_memory(void) {
     char byte = next == 'a' ? '-' : next - 1;
     return refuses("memory", byte) || ((next - 'a') % 2 && refuses("step", byte));
 }
 
+static int is_known(int descriptor) {
+    return descriptor >= 0 && descriptor < KNOWN;
+}
+
 static char letter(int descriptor) {
-    char byte = descriptor >= 0 && descriptor < 64 ? letters[descriptor] : 0;
+    char byte = is_known(descriptor) ? letters[descriptor] : 0;
     return byte ? byte : '-';
+}
+
+static const char *path_of(int descriptor) {
+    return is_known(descriptor) ? paths[descriptor] : "?";
+}
+
+/* Keeps the letter and the path of a file that was opened. */
+static void keep(int descriptor, const char *path) {
+    size_t length = 0;
+    letters[descriptor] = next++;
+    for (; path[length] && length < MOST - 1; length++)
+        paths[descriptor][length] = path[length];
+    paths[descriptor][length] = 0;
 }
 
 void *malloc(size_t size) {
@@ -107,11 +159,13 @@ ssize_t read(int descriptor, void *bytes, size_t length) {
     char byte = letter(descriptor);
     if (byte == 'c' && length > most_read)
         length = most_read;
-    return refuses("read", byte) ? -1 : syscall(SYS_READ, descriptor, bytes, length);
+    note("read", path_of(descriptor));
+    return refuses_noted("read", byte) ? -1 : syscall(SYS_READ, descriptor, bytes, length);
 }
 
 ssize_t write(int descriptor, const void *bytes, size_t length) {
-    if (refuses("write", letter(descriptor)))
+    note("write", path_of(descriptor));
+    if (refuses_noted("write", letter(descriptor)))
         return number ? -1 : 0;
     if (length > most_written)
         length = most_written;
@@ -127,14 +181,21 @@ int open(const char *path, int flags, ...) {
     __builtin_va_start(rest, flags);
     unsigned mode = __builtin_va_arg(rest, unsigned);
     __builtin_va_end(rest);
-    if (refuses("open", '-'))
+    note(flags & O_CREAT ? "create" : "open", path);
+    if (refuses_noted("open", '-'))
         return -1;
     int descriptor = syscall(SYS_OPENAT, AT_FDCWD, path, flags, mode);
-    if (descriptor >= 0 && descriptor < 64)
-        letters[descriptor] = next++;
+    if (is_known(descriptor))
+        keep(descriptor, path);
     return descriptor;
 }
 
 int statx(int folder, const char *path, int flags, unsigned mask, void *told) {
-    return refuses("stat", '-') ? -1 : syscall(SYS_STATX, folder, path, flags, mask, told);
+    note(*path ? "stat" : "size", *path ? path : path_of(folder));
+    return refuses_noted("stat", '-') ? -1 : syscall(SYS_STATX, folder, path, flags, mask, told);
+}
+
+int getentropy(void *bytes, size_t length) {
+    note("keys", "");
+    return refuses_noted("keys", '-') || syscall(SYS_GETRANDOM, bytes, length, 0) != (ssize_t)length ? -1 : 0;
 }
