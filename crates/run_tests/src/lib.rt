@@ -1,9 +1,7 @@
-//! Tests of whole runs: with calls that fail or are counted, with the connections that an engine
-//! lists, and of the program.
+//! Tests of whole runs: with calls that fail, with the connections that an engine lists, and of
+//! statuses that no run of the program shows.
 #![tactic(auto)]
 
-#[cfg(test)]
-mod call_counts;
 #[cfg(test)]
 mod connection_lists;
 #[cfg(test)]
@@ -11,10 +9,10 @@ mod flushes;
 #[cfg(test)]
 mod large_tables;
 #[cfg(test)]
-mod program_calls;
-#[cfg(test)]
 mod retry;
 #[cfg(test)]
 mod statements;
+#[cfg(test)]
+mod statuses;
 #[cfg(test)]
 mod support;

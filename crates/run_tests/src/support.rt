@@ -76,7 +76,7 @@ impl RandomSource for Fixed {
 }
 
 /// The hash keys of the tests. No result depends on them.
-pub fn hasher() -> io::Result<RandomState> {
+fn hasher() -> io::Result<RandomState> {
     RandomState::new(&Fixed)
 }
 
