@@ -3,7 +3,11 @@ use Rattle.engine.proofs.Names.{Accepted, Bool, Capture, CaptureFault, CaptureSt
 use Rattle.engine.proofs.Names.{IsBeforeHeader, IsChecked, IsHistoryOf, JudgeRefuses, Laws, LeavesPrefix, LeftDevices, List, Meaning, None, NothingTaken, Ok}
 use Rattle.engine.proofs.Names.{Option, READ_AHEAD, Refuses, Result, RunFault, Setup, Some, Untouched, WritesOutputs, WroteOutputs, [], ahead, ap, append-nil}
 use Rattle.engine.proofs.Names.{arith, decoded_records, drop, ending_of, format_of, header_fault, inl, inr, length, one_more, rules, setup_of, sym, true}
-use Rattle.engine.proofs.Names.{unread_input, ℕ, ◌<◌, ◌∙◌, ◌≡◌, ◌≤◌}
+use Rattle.engine.proofs.Names.{CaptureError, refl, unread_input, ℕ, ◌<◌, ◌∙◌, ◌≡◌, ◌≤◌}
+use Rattle.std.proofs.Common.{◌≢◌}
+use Rattle.pcap_io.specs.CaptureStates.{RefusedBy}
+use Rattle.pcap_io.specs.declared.fault.CaptureError.TheVariants as errors
+use Rattle.engine.specs.steps.Faults.{of_capture}
 use Rattle.engine.proofs.Histories.{OneEntry, one_history}
 use Rattle.engine.specs.declared.runs.Summary.{Summary}
 use Rattle.rule_check.specs.Checked.{CheckedTree}
@@ -78,7 +82,7 @@ wrote one {rules} {box} accepted (Some bytes) trace records summary old new same
     }
 
 -- what is refused of a capture, by the devices that the refusal left
-pub refuses_capture : (rules box : List ℕ) (trace : Bool) (input : Option (List ℕ)) (old new : Devices)
+refuses_capture : (rules box : List ℕ) (trace : Bool) (input : Option (List ℕ)) (old new : Devices)
     (fault : CaptureFault) → Accepted rules box
     → IfSome input (λ bytes. LeftDevices rules box bytes trace old new (Capture fault))
     → Refuses rules box input (Capture fault)
@@ -99,17 +103,38 @@ pub nothing_taken : (input : Option (List ℕ)) (old new : Devices) (part : List
 nothing_taken input old new part takes few kept no_failure = grind arith
 
 -- a read failed before the header was there
-pub left_unopened : {rules box : List ℕ} (accepted : Accepted rules box) (trace : Bool) (input : Option (List ℕ))
+left_unopened : {rules box : List ℕ} (accepted : Accepted rules box) (trace : Bool) (input : Option (List ℕ))
     (old new : Devices) (part : List ℕ) → Consumes input new.unread part → length part < HEADER_BYTES
     → Untouched old new → new.reads_failed ≡ one_more old.reads_failed
     → IfSome input (λ bytes. LeftDevices rules box bytes trace old new Device)
 left_unopened accepted trace input old new part takes short kept failed = grind arith
 
 -- the header is refused
-pub left_unread : (rules box : List ℕ) (trace : Bool) (input : Option (List ℕ)) (old new : Devices) (fault : CaptureFault)
+left_unread : (rules box : List ℕ) (trace : Bool) (input : Option (List ℕ)) (old new : Devices) (fault : CaptureFault)
     → IfSome input (λ bytes. NothingTaken bytes old new) → IfSome input (λ bytes. header_fault bytes ≡ Some fault)
     → IfSome input (λ bytes. LeftDevices rules box bytes trace old new (Capture fault))
 left_unread rules box trace input old new fault nothing refused = grind arith
+
+-- the capture can't be opened
+pub left_at_open : {rules box : List ℕ} (accepted : Accepted rules box) (trace : Bool) (input : Option (List ℕ))
+    (old new : Devices) (error : CaptureError) (part : List ℕ) → Consumes input new.unread part → length part ≤ READ_AHEAD
+    → Untouched old new → RefusedBy input error
+    → (error ≡ errors.Device → (part : List ℕ) × Consumes input new.unread part × (length part < HEADER_BYTES))
+    → (error ≢ errors.Device → new.reads_failed ≡ old.reads_failed)
+    → (error ≡ errors.Device → new.reads_failed ≡ one_more old.reads_failed)
+    → IfSome input (λ bytes. LeftDevices rules box bytes trace old new (of_capture error))
+left_at_open {rules} {box} accepted trace input old new (errors.Refused fault) part takes few kept refused broken calm failed =
+    left_unread rules box trace input old new fault (nothing_taken input old new part takes few kept (calm (λ e. cc))) refused
+left_at_open accepted trace input old new errors.Device part takes few kept refused broken calm failed =
+    let read = broken refl in left_unopened accepted trace input old new read.0 read.1 read.2 kept (failed refl)
+left_at_open accepted trace input old new errors.Memory part takes few kept refused broken calm failed =
+    let nothing = nothing_taken input old new part takes few kept (calm (λ e. cc)) in grind arith
+
+-- and that is a refusal of the run
+pub refuses_open : (rules box : List ℕ) (trace : Bool) (input : Option (List ℕ)) (old new : Devices) (error : CaptureError)
+    → Accepted rules box → IfSome input (λ bytes. LeftDevices rules box bytes trace old new (of_capture error))
+    → Refuses rules box input (of_capture error)
+refuses_open rules box trace input old new error accepted left = grind (arith, refuses_capture)
 
 -- a fault of the texts, or a failed allocation
 pub left_of_texts : (rules box : List ℕ) (trace : Bool) {bytes : List ℕ} {old new : Devices} (fault : RunFault)

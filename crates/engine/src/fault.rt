@@ -1,8 +1,8 @@
 //! Errors of a run.
-use box_file::BoxFault;
-use nft_parser::TextFault;
-use pcap_io::{CaptureFault, DeviceFailed, SinkError};
-use rule_check::CheckFault;
+use box_file::{BoxError, BoxFault};
+use nft_parser::{ParseError, TextFault};
+use pcap_io::{CaptureError, CaptureFault, DeviceFailed, SinkError};
+use rule_check::{CheckError, CheckFault};
 use std::alloc::AllocError;
 use thiserror::Error;
 
@@ -35,6 +35,63 @@ pub enum RunFault {
     /// An allocation failed.
     #[error("memory")]
     Memory,
+}
+
+impl From<ParseError> for RunFault {
+    ghost use Rattle.std.specs.Prelude.{◌≡◌};
+    ghost use Rattle.engine.specs.steps.Faults.{of_parser};
+
+    ghost from_gives = { λ error fault. fault ≡ of_parser error };
+
+    fn from(error: ParseError) -> RunFault {
+        match error {
+            ParseError::Refused(fault) => RunFault::Rules(RulesFault::Text(fault)),
+            ParseError::Memory => RunFault::Memory,
+        }
+    }
+}
+
+impl From<BoxError> for RunFault {
+    ghost use Rattle.std.specs.Prelude.{◌≡◌};
+    ghost use Rattle.engine.specs.steps.Faults.{of_box};
+
+    ghost from_gives = { λ error fault. fault ≡ of_box error };
+
+    fn from(error: BoxError) -> RunFault {
+        match error {
+            BoxError::Refused(fault) => RunFault::Box(fault),
+            BoxError::Memory => RunFault::Memory,
+        }
+    }
+}
+
+impl From<CheckError> for RunFault {
+    ghost use Rattle.std.specs.Prelude.{◌≡◌};
+    ghost use Rattle.engine.specs.steps.Faults.{of_check};
+
+    ghost from_gives = { λ error fault. fault ≡ of_check error };
+
+    fn from(error: CheckError) -> RunFault {
+        match error {
+            CheckError::Refused(fault) => RunFault::Rules(RulesFault::Check(fault)),
+            CheckError::Memory => RunFault::Memory,
+        }
+    }
+}
+
+impl From<CaptureError> for RunFault {
+    ghost use Rattle.std.specs.Prelude.{◌≡◌};
+    ghost use Rattle.engine.specs.steps.Faults.{of_capture};
+
+    ghost from_gives = { λ error fault. fault ≡ of_capture error };
+
+    fn from(error: CaptureError) -> RunFault {
+        match error {
+            CaptureError::Refused(fault) => RunFault::Capture(fault),
+            CaptureError::Device => RunFault::Device,
+            CaptureError::Memory => RunFault::Memory,
+        }
+    }
 }
 
 impl From<DeviceFailed> for RunFault {

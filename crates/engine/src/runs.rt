@@ -10,7 +10,7 @@ use crate::fault::RunFault;
 use crate::inputs::checked;
 use crate::laws::one_meaning;
 use crate::replay::replay_capture;
-use pcap_io::{Capture, CaptureError, Counted};
+use pcap_io::{Capture, Counted};
 use std::alloc::Global;
 use std::hash::RandomState;
 use std::io::{Read, Write};
@@ -88,12 +88,7 @@ pub fn run<R: Read, W: Write, W2: Write>(
         (devices R.remaining W.contents W2.contents capture.new sent.new report.new) }
 {
     let checked = checked(alloc, rules, plant)?;
-    let records = match Capture::open(alloc, capture) {
-        Ok(records) => records,
-        Err(CaptureError::Refused(fault)) => return Err(RunFault::Capture(fault)),
-        Err(CaptureError::Device) => return Err(RunFault::Device),
-        Err(CaptureError::Memory) => return Err(RunFault::Memory),
-    };
+    let records = Capture::open(alloc, capture)?;
     one_meaning();
     let engine = Engine::new(alloc, hasher, checked)?;
     replay_capture(alloc, engine, records, trace, capture, sent, report)
