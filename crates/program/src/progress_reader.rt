@@ -88,8 +88,9 @@ pub(crate) struct ProgressDisplay<'b, R> {
 }
 
 impl<'b, R: Clock + Eprint> ProgressDisplay<'b, R> {
-    /// None where there is no clock.
-    pub(crate) fn new(rt: &'b R, progress: Progress) -> Option<Self> {
+    /// None where nothing is to be shown, or there is no clock.
+    pub(crate) fn new(rt: &'b R, progress: Option<Progress>) -> Option<Self> {
+        let progress = progress?;
         let latest = Instant::now(rt).ok()?;
         Some(ProgressDisplay {
             rt,

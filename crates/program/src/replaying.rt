@@ -4,7 +4,8 @@ ghost use Rattle.std.specs.IoError.{error_kind};
 ghost use Rattle.std.specs.declared.io.Error.{Error};
 ghost use Rattle.command_line.specs.CommandLine.{name_of_file};
 ghost use Rattle.program.specs.Calls.{MakesCalls, identify};
-ghost use Rattle.program.specs.Replaying.{CreatesReport, ChecksOutputPath, ChecksReportPath, Replays, Runs, compared, others_of, unless_not_found};
+ghost use Rattle.program.specs.Replaying.{ChecksOutputPath, ChecksReportPath, Creates, CreatesReport, Opens, Replays};
+ghost use Rattle.program.specs.Replaying.{compared, others_of, unless_not_found};
 ghost use Rattle.program.specs.Status.{of_error};
 ghost use Rattle.program.specs.declared.status.Status.TheVariants.{SameFile};
 ghost use Rattle.program.specs.steps.AnswerStatus.{replay_status};
@@ -42,40 +43,49 @@ fn try_replay<H: Host>(host: &mut H, task: &ReplayTask<'_>) -> Result<bool, Stat
     let paths = &task.paths;
     let rules = host.read(paths.rules)?;
     let plant = host.read(paths.plant)?;
-    let mut input = host.open(paths.input)?;
+    replay_texts(host, task, &rules, &plant)
+}
+
+/// Opens IN, and replays it if OUT and FILE may be written.
+fn replay_texts<H: Host>(
+    host: &mut H,
+    task: &ReplayTask<'_>,
+    rules: &[u8],
+    plant: &[u8],
+) -> Result<bool, Status>
+    ensures { MakesCalls H.happens host.old host.new (λ calls.
+        Opens task.now rules.now plant.now calls (replay_status result)) }
+{
+    let mut input = host.open(task.paths.input)?;
     check_output(host, task)?;
     check_report(host, task)?;
     let hasher = host.draw_keys()?;
-    let mut output = host.create(paths.output)?;
-    let mut report = create_report(host, task)?;
-    play(
-        host,
-        hasher,
-        &rules,
-        &plant,
-        &mut input,
-        &mut output,
-        &mut report,
-        task.trace,
-    )
+    play(host, task, hasher, rules, plant, &mut input)
 }
 
 /// The run, with its report in a file or on standard output.
 fn play<H: Host>(
     host: &mut H,
+    task: &ReplayTask<'_>,
     hasher: RandomState,
     rules: &[u8],
     plant: &[u8],
     input: &mut H::Input,
-    output: &mut H::Output,
-    report: &mut Option<H::Output>,
-    trace: bool,
 ) -> Result<bool, Status>
     ensures { MakesCalls H.happens host.old host.new (λ calls.
-        Runs trace hasher rules.now plant.now input.old output.old report.old
-        calls (replay_status result)) }
+        Creates task.now hasher rules.now plant.now input.old calls (replay_status result)) }
 {
-    Ok(host.run(hasher, rules, plant, input, output, report, trace)?)
+    let mut output = host.create(task.paths.output)?;
+    let mut report = create_report(host, task)?;
+    Ok(host.run(
+        hasher,
+        rules,
+        plant,
+        input,
+        &mut output,
+        &mut report,
+        task.trace,
+    )?)
 }
 
 /// Writing OUT must not overwrite what is read, nor the report.

@@ -25,10 +25,7 @@ pub fn run_with_progress<R: Clock + Files + Eprint + AllocGlobal, W: Write>(
         (R.File.contents output.old.inner) (R.File.contents output.new.inner)
         (W.contents report.old.inner) (W.contents report.new.inner) result }
 {
-    let display = match progress {
-        Some(progress) => ProgressDisplay::new(rt, progress),
-        None => None,
-    };
+    let display = ProgressDisplay::new(rt, progress);
     let mut reader = Counted::new(ProgressReader::new(input, display));
     let outcome = engine::run(
         rt.alloc(),
