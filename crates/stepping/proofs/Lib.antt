@@ -3,6 +3,4 @@ mod OnePath
 mod Processing
 mod Extending
 mod FoundInterfaces
-mod OldConnections
-mod PacketFronts
 mod StepsTaken

@@ -23,10 +23,9 @@ pub use Rattle.rule_meaning.specs.declared.event.HookVerdict.TheVariants.{Accept
 pub use Rattle.rule_meaning.specs.declared.facts.CtFacts.{CtFacts}
 pub use Rattle.rule_meaning.specs.declared.facts.CtFacts.TheVariants.{Notrack}
 pub use Rattle.rule_meaning.specs.declared.facts.Facts.{Facts}
-pub use Rattle.std.proofs.Common.{◌+◌, ◌++◌, ◌-◌, Bool, Err, List, None, Ok, Option, Result, Some, [], ap, arith, drop, false, length, map, refl}
+pub use Rattle.std.proofs.Common.{◌+◌, ◌-◌, Bool, Err, List, None, Ok, Option, Result, Some, [], ap, arith, drop, false, length, map, refl}
 pub use Rattle.std.proofs.Common.{subst, sym, take, vec_capacity, vec_len, ℕ, ◌∙◌, ◌∷◌, ◌≡◌, ◌≤◌}
-pub use Rattle.std.proofs.lemmas.Grind.{common_steps}
-pub use Rattle.std.proofs.lemmas.List.{length-drop, take_at}
+pub use Rattle.std.proofs.lemmas.List.{length-drop}
 pub use Rattle.std.proofs.lemmas.Result.{err_from_is_err_and}
 pub use Rattle.std.specs.Prelude.{IsTrue, find, max}
 pub use Rattle.stepping.specs.Carried.{ReceivedPacket, carried, interface_facts}
@@ -42,10 +41,11 @@ pub use Rattle.stepping.specs.Representing.{EngineState, ShownEntry, newest_of, 
 pub use Rattle.stepping.specs.steps.Confirming.{CanConfirm, Confirms, begins, begun_in, belonging_in, confirmed_in}
 pub use Rattle.stepping.specs.steps.Interfaces.{interfaces_of, is_at}
 pub use Rattle.stepping.specs.steps.Processing.{Extends, Follows, HasProcessed, IsBeforeFirst, held_by, newest_in}
-pub use Rattle.stepping.specs.steps.Steps.{Spends, TakesStep, path_state, setup_in, step_result}
-pub use Rattle.translation.specs.CtInfos.{ct_info_by, error_ct_info, facts_after_destination_nat, facts_after_source_nat, untranslated}
+pub use Rattle.stepping.specs.steps.Steps.{Spends, TakesStep, path_state, step_result}
+pub use Rattle.translation.specs.CtInfos.{ct_info_by, error_ct_info, untranslated}
 pub use Rattle.translation.specs.Fitting.{Fits}
 pub use Rattle.translation.specs.LiveMappings.{mappings_in}
 pub use Rattle.translation.specs.declared.ct_info.CtInfo.{CtInfo}
-pub use Rattle.translation.specs.declared.ct_info.CtInfo.TheVariants.{New, Untracked}
+pub use Rattle.translation.specs.declared.ct_info.CtInfo.TheVariants.{New, Tracked, Untracked}
 pub use Rattle.translation.specs.declared.ct_info.NewConnection.{NewConnection}
+pub use Rattle.translation.specs.declared.ct_info.TrackedConnection.{TrackedConnection}

@@ -1,11 +1,11 @@
 -- A packet's path, by the answers of the calls, and the connections held after it.
 use Rattle.stepping.proofs.Names.{[], Arrival, Belonging, Bool, CanConfirm, Cause, Confirms, ConnId, ConntrackEntry, Continue, CtFacts, CtInfo, Drop, Err, Fits}
 use Rattle.stepping.proofs.Names.{Flags, Follows, List, Mapping, New, NewConnection, None, NotFound, Notrack, Ok, Option, PathState, Result, Some, StepResult}
-use Rattle.stepping.proofs.Names.{Tuple, Unconfirmed, after_end, after_packet, ap, arith, arrival_of, begins, begun_in, belonging_by_tuple, belonging_in}
-use Rattle.stepping.proofs.Names.{belonging_of, change_of_packet, confirmation_by, confirmation_of, confirmed_in, ct_info_by, ct_info_by_tuple}
-use Rattle.stepping.proofs.Names.{error_belonging, error_ct_info, false, final_state, flags_in, inner_tuple_of, is_creation, looked_up_info, lookup_tuple_of}
-use Rattle.stepping.proofs.Names.{mark_in, others_beside, others_in, refl, refusal, reply_to, step_result, sym, transport_of, tuple_of, unless_refused}
-use Rattle.stepping.proofs.Names.{untranslated, ℕ, ◌∙◌, ◌≡◌}
+use Rattle.stepping.proofs.Names.{Tracked, TrackedConnection, Tuple, Unconfirmed, after_end, after_packet, ap, arith, arrival_of, begins, begun_in}
+use Rattle.stepping.proofs.Names.{belonging_by_tuple, belonging_in, belonging_of, change_of_packet, confirmation_by, confirmation_of, confirmed_in, ct_info_by}
+use Rattle.stepping.proofs.Names.{ct_info_by_tuple, error_belonging, error_ct_info, false, final_state, flags_in, inner_tuple_of, is_creation, looked_up_info}
+use Rattle.stepping.proofs.Names.{lookup_tuple_of, mark_in, others_beside, others_in, refl, refusal, reply_to, step_result, sym, transport_of, tuple_of}
+use Rattle.stepping.proofs.Names.{unless_refused, untranslated, ℕ, ◌∙◌, ◌≡◌}
 use Rattle.connection_table.specs.Table.{IsConfirmable}
 
 -- ---- a packet whose connection can't begin
@@ -18,6 +18,15 @@ confirms_refused is = record {
   held = refl;
   begun = refl;
 }
+
+-- ---- a packet that refreshes and begins no connection
+
+pub idle_confirms : {now : ℕ} {flags : Flags} {b : Belonging} {mark : ℕ} {old : List ConntrackEntry} (info : CtInfo)
+    → ((t : TrackedConnection) → info ≡ Tracked t → ⊥) → ((n : NewConnection) → info ≡ New n → ⊥)
+    → Confirms now flags b info mark old old (Ok false)
+idle_confirms (Tracked t) not_tracked not_new = absurd (not_tracked t refl)
+idle_confirms (New n) not_tracked not_new = absurd (not_new n refl)
+idle_confirms info not_tracked not_new = record { id = record { 0 = 0 }; step = λ s. refl; held = refl; begun = refl }
 
 -- ---- NAT doesn't change a packet's connection, so that it can be confirmed whatever NAT did
 

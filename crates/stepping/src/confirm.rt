@@ -45,9 +45,7 @@ pub fn confirm<T: Tracker>(
         }
         CtInfo::New(new_connection) => begin(connections, new_connection, flags, mark, now),
         // An ICMP error doesn't refresh its connection.
-        CtInfo::Related(_) => Ok(false),
-        CtInfo::Invalid => Ok(false),
-        CtInfo::Untracked => Ok(false),
+        _ => Ok(false),
     }
 }
 

@@ -11,7 +11,7 @@ ghost use Rattle.stepping.specs.Representing.{Represents, sent_packets, packet_o
 
 use crate::laws::extends_history;
 use crate::packet_buffer::PacketBuffer;
-use crate::process::{RecordResult, output_interface, process_record};
+use crate::process::{RecordResult, process_record};
 use crate::setup::Setup;
 use crate::state::PacketState;
 use connection_table::ConnectionTable;
@@ -93,9 +93,9 @@ impl<T: Tracker> Engine<T> {
         ensures none { IfOk result (λ engine. Represents engine []) }
         ensures ticks { IfOk result (λ engine. engine.ticks ≡ 0) }
     {
-        let (setup, events) = Setup::new(alloc, checked)?;
-        let idle = setup.plant().idle();
+        let idle = checked.plant().idle();
         let packet = PacketBuffer::new(alloc)?;
+        let (setup, events) = Setup::new(alloc, checked)?;
         Ok(Engine {
             setup,
             connections: ConnectionTable::new(alloc, hasher, idle),
@@ -122,17 +122,6 @@ impl<T: Tracker> Engine<T> {
         if self.ready {
             return Ok(());
         }
-        self.reserve_connection()
-    }
-
-    /// Reserves memory for one more connection.
-    ///
-    /// # Errors
-    /// An allocation failed. The engine is unchanged.
-    fn reserve_connection(&mut self) -> Result<(), AllocError>
-        ensures ok { OnOk result (self.new ≡ record self.old { ready = true }) }
-        ensures err { OnErr result (self.new ≡ self.old) }
-    {
         self.connections.reserve()?;
         self.ready = true;
         Ok(())
@@ -171,8 +160,6 @@ impl<T: Tracker> Engine<T> {
         self.events.clear();
         let now = self.latest.max(record.moment);
         self.connections.age_all(now);
-        // The costs of the hooks' chains are bounded by the ruleset's.
-        self.setup.hooks.costs();
         let ended = process_record(
             &self.setup,
             record,
@@ -196,7 +183,9 @@ impl<T: Tracker> Engine<T> {
         ensures sends { sent_packets result ≡ sends_of self.now.newest }
         ensures fits { IfSome result (λ leaving. IsSent (sent leaving)) }
     {
-        let interface = output_interface(self.ended?.outcome)?;
+        let Outcome::Passed(interface) = self.ended?.outcome else {
+            return None;
+        };
         Some(Leaving {
             moment: self.latest,
             interface,

@@ -29,27 +29,6 @@ pub fn translate_destination(
     ensures took { TakesStep (DestinationNat (setup_in setup.now.hooks)) mappings.now.held
         setup.now.hooks.costs.prerouting_nat state.old events.old state.new events.new result }
 {
-    if let CtInfo::New(_) = state.info {
-        return translate_new_destination(setup, mappings, state, events);
-    }
-    update_destination(&state.info, &mut state.facts);
-    Ok(())
-}
-
-/// Destination NAT of the first packet of a connection: the nat chains run for no other.
-///
-/// # Errors
-/// `Rule`: a rule or a policy drops the packet.
-fn translate_new_destination(
-    setup: &Setup,
-    mappings: &Mappings,
-    state: &mut PacketState,
-    events: &mut Events,
-) -> Result<(), Cause>
-    requires room { HasRoom events.old setup.now.hooks.costs.prerouting_nat }
-    ensures took { TakesStep (DestinationNat (setup_in setup.now.hooks)) mappings.now.held
-        setup.now.hooks.costs.prerouting_nat state.old events.old state.new events.new result }
-{
     let verdict = run_nat_chains(setup, HookStage::PreroutingNat, state, events);
     if let HookVerdict::Dropped = verdict {
         return Err(Cause::Rule);
@@ -71,27 +50,6 @@ fn translate_new_destination(
 /// `Rule`: a rule or a policy drops the packet; `NoPort` where no port is free.
 #[inline(always)]
 pub fn translate_source(
-    setup: &Setup,
-    mappings: &Mappings,
-    state: &mut PacketState,
-    events: &mut Events,
-) -> Result<(), Cause>
-    requires room { HasRoom events.old setup.now.hooks.costs.postrouting_nat }
-    ensures took { TakesStep (SourceNat (setup_in setup.now.hooks)) mappings.now.held
-        setup.now.hooks.costs.postrouting_nat state.old events.old state.new events.new result }
-{
-    if let CtInfo::New(_) = state.info {
-        return translate_new_source(setup, mappings, state, events);
-    }
-    update_source(&state.info, &mut state.facts);
-    Ok(())
-}
-
-/// Source NAT of the first packet of a connection.
-///
-/// # Errors
-/// `Rule`: a rule or a policy drops the packet; `NoPort` where no port is free.
-fn translate_new_source(
     setup: &Setup,
     mappings: &Mappings,
     state: &mut PacketState,

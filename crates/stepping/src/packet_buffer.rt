@@ -1,5 +1,5 @@
 //! The buffer of the packet that leaves.
-ghost use Rattle.std.specs.Prelude.{◌≡◌, ◌≤◌, [], length, take, vec_capacity, IfOk};
+ghost use Rattle.std.specs.Prelude.{◌≡◌, ◌≤◌, [], length, IfOk};
 ghost use Rattle.rewrite.specs.Rewritten.{rewritten};
 
 use ip_headers::View;
@@ -67,32 +67,9 @@ impl PacketBuffer {
     pub fn put(&mut self, view: &View, change: &Change)
         ensures { self.new ≡ rewritten view.now.packet.now change.now }
     {
-        copy_to_front(&mut self.bytes, view.packet);
-        rewrite_front(&mut self.bytes, view, change);
+        let front = &mut self.bytes[0..view.packet.len()];
+        front.copy_from_slice(view.packet);
+        rewrite_packet(front, view, change);
         self.len = view.packet.len();
     }
-}
-
-/// Copies a packet to the front of a buffer.
-#[inline(always)]
-fn copy_to_front(bytes: &mut Vec<u8>, packet: &[u8])
-    requires { length packet.now ≤ length bytes.old.items }
-    ensures packet { take (length packet.now) bytes.new.items ≡ packet.now }
-    ensures length { length bytes.new.items ≡ length bytes.old.items }
-    ensures capacity { vec_capacity bytes.new ≡ vec_capacity bytes.old }
-{
-    bytes[0..packet.len()].copy_from_slice(packet);
-}
-
-/// Rewrites the packet at the front of a buffer.
-#[inline(always)]
-fn rewrite_front(bytes: &mut Vec<u8>, view: &View, change: &Change)
-    requires fits { length view.now.packet.now ≤ length bytes.old.items }
-    requires packet { take (length view.now.packet.now) bytes.old.items ≡ view.now.packet.now }
-    ensures packet { take (length view.now.packet.now) bytes.new.items
-        ≡ rewritten view.now.packet.now change.now }
-    ensures length { length bytes.new.items ≡ length bytes.old.items }
-    ensures capacity { vec_capacity bytes.new ≡ vec_capacity bytes.old }
-{
-    rewrite_packet(&mut bytes[0..view.packet.len()], view, change);
 }

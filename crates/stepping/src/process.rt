@@ -9,7 +9,7 @@ ghost use Rattle.stepping.specs.Carried.{carried};
 ghost use Rattle.stepping.specs.Next.{Path, outcome_by, sent_on};
 ghost use Rattle.stepping.specs.Representing.{recorded_of};
 ghost use Rattle.stepping.specs.steps.Confirming.{begun_in};
-ghost use Rattle.stepping.specs.steps.Processing.{Follows, HasProcessed, output_interface};
+ghost use Rattle.stepping.specs.steps.Processing.{Follows, HasProcessed};
 ghost use Rattle.stepping.specs.steps.Steps.{Spends, path_state, setup_in, step_result};
 
 use crate::arrival::{IncomingPacket, carried};
@@ -110,8 +110,6 @@ fn process_packet<T: Tracker>(
     ensures room { begun_in result ≡ false → IsTrue connections.new.has_room }
     ensures spent { Spends events.old events.new (total_stage_cost setup.now.hooks) }
 {
-    // The stages together have no more events than are reserved.
-    setup.hooks.costs();
     let flags = flags_in(state.facts.packet.transport);
     setup.run(HookStage::PreroutingRaw, state, events)?;
     let belonging = look_up(connections, view, flags, now, state);
@@ -153,15 +151,5 @@ fn dropped(cause: Cause, length: u16) -> RecordResult
         outcome: Outcome::Dropped(cause),
         length,
         begun: false,
-    }
-}
-
-/// The output interface of a forwarded packet.
-pub fn output_interface(outcome: Outcome) -> Option<u32>
-    ensures { result ≡ output_interface outcome }
-{
-    match outcome {
-        Outcome::Passed(interface) => Some(interface),
-        Outcome::Local | Outcome::Dropped(_) => None,
     }
 }

@@ -1,12 +1,11 @@
 //! The configuration of a box, compiled.
 ghost use Rattle.std.specs.Prelude.{◌≡◌, ◌≤◌, ℕ, [], IfOk, IfSome, List};
-ghost use Rattle.std.specs.Option.{option_copied, option_map};
+ghost use Rattle.std.specs.Option.{option_map};
 ghost use Rattle.nft_tree.specs.Tree.{TableTree};
 ghost use Rattle.rule_paths.specs.Paths.{AreAllCosts, Caller, ruleset_cost};
 ghost use Rattle.hook_runs.specs.Stages.{total_stage_cost, stage_cost};
 ghost use Rattle.ip_headers.specs.declared.tuple.Mapping.{Mapping};
 ghost use Rattle.stepping.specs.Carried.{input_interface, interface_facts};
-ghost use Rattle.box_file.specs.Box.{name_of};
 ghost use Rattle.stepping.specs.Representing.{setup_of};
 ghost use Rattle.stepping.specs.Paths.{RunsStage};
 ghost use Rattle.stepping.specs.steps.Interfaces.{interfaces_of};
@@ -30,6 +29,7 @@ pub struct Setup {
     interfaces: Vec<Interface>,
     pub ghost laid_out: { interfaces.items ≡ interfaces_of hooks.plant },
     pub ghost enters: { entering ≡ interface_facts hooks.plant hooks.plant.entering },
+    pub ghost few: { total_stage_cost hooks ≤ 65536 },
     pub ghost costs: { (cost : TableTree → Caller → ℕ) → AreAllCosts hooks.rules cost
         → total_stage_cost hooks ≤ ruleset_cost cost hooks.rules },
 }
@@ -43,10 +43,12 @@ impl Setup {
         ensures setup { IfOk result (λ made. setup_in made.0.hooks ≡ setup_of checked) }
         ensures events { IfOk result (λ made. made.1 ≡ record { events = []; ticks = 0 }) }
     {
-        let (hooks, events) = HookRuns::new(alloc, checked)?;
-        let plant = hooks.checked().plant();
+        let plant = checked.plant();
         let entering = interface_facts(plant, plant.entering());
         let interfaces = interfaces_of(alloc, plant)?;
+        let (hooks, events) = HookRuns::new(alloc, checked)?;
+        // The stages together have no more events than are reserved.
+        hooks.costs();
         let setup = Setup {
             hooks,
             entering,
@@ -65,6 +67,7 @@ impl Setup {
     /// The input interface: the link header's, if the box has it; without one the box file's
     /// default.
     #[inline(always)]
+    #[tactic(auto, using(crate::proofs::FoundInterfaces::found))]
     pub fn input_interface(&self, link_interface: Option<u32>) -> Option<&Interface>
         ensures index { option_map (λ input. input.now.index) result
             ≡ input_interface (setup_in self.now.hooks) link_interface }
@@ -72,27 +75,18 @@ impl Setup {
             input.now ≡ interface_facts self.now.hooks.plant input.now.index) }
     {
         match link_interface {
-            Some(index) => self.interface(index),
+            Some(index) => find_interface(&self.interfaces, index),
             None => Some(&self.entering),
         }
     }
 
-    /// The interface of this index, if the box has it.
-    #[inline(always)]
-    #[tactic(auto, using(crate::proofs::FoundInterfaces::found))]
-    fn interface(&self, index: u32) -> Option<&Interface>
-        ensures { option_copied result ≡ option_map (λ name. interface_facts self.now.hooks.plant index)
-            (name_of self.now.hooks.plant index) }
-    {
-        find_interface(&self.interfaces, index)
-    }
-
     /// The output interface of this index, which the box has.
     #[inline(always)]
+    #[tactic(auto, using(crate::proofs::FoundInterfaces::found))]
     pub fn output_interface(&self, index: u32) -> Interface
         ensures { result ≡ interface_facts self.now.hooks.plant index }
     {
-        match self.interface(index) {
+        match find_interface(&self.interfaces, index) {
             Some(interface) => *interface,
             None => interface_facts(self.plant(), index),
         }

@@ -13,7 +13,7 @@ use Rattle.rule_meaning.specs.declared.event.Event.{Event}
 use Rattle.filter_vm.specs.Machine.{EventsAndTicks}
 use Rattle.history.specs.declared.outcome.Cause.{Cause}
 use Rattle.history.specs.declared.outcome.Outcome.{Outcome}
-use Rattle.history.specs.declared.outcome.Outcome.TheVariants.{Passed, Dropped}
+use Rattle.history.specs.declared.outcome.Outcome.TheVariants.{Dropped}
 use Rattle.history.specs.History.{Entry, live_in}
 use Rattle.history.specs.Setup.{Setup, limits_of}
 use Rattle.stepping.specs.declared.arrival.IncomingPacket.{IncomingPacket}
@@ -52,11 +52,6 @@ newest_in (Some ended) moment ran packet = Some (record {
   packet = packet;
   begun = ended.begun;
 })
-
--- the interface that a packet leaves by, if it leaves
-abbrev pub output_interface : Outcome → Option ℕ
-output_interface (Passed interface) = Some interface
-output_interface _ = None
 
 -- ---- the packet of a record
 

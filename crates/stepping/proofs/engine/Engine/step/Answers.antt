@@ -23,7 +23,7 @@ invariant_of-self g c =
       few = omega (
         arith,
         ended.ensures.spent.events,
-        c.costs.ensures,
+        inside.setup.few,
         ap (λ (t : EventsAndTicks). length t.events) c.clear-2.ensures,
       );
       later = none_later-processed c.none_later.ensures.packet _ _ now _ _ _ _ _ ended.ensures.processed aged;
