@@ -21,11 +21,21 @@ use std::alloc::{AllocError, Global};
 use std::marker::Model;
 
 /// A compiled ruleset: its code, and the base chains of each stage in the order in which they run.
-#[derive(Drop)]
 pub struct HookRuns {
     checked: Checked,
     code: Code,
     stages: StagedChains,
+}
+
+// Written out, so that dropping one is a call.
+impl Drop for HookRuns {
+    fn drop(self) {
+        let HookRuns {
+            checked: _,
+            code: _,
+            stages: _,
+        } = self;
+    }
 }
 
 impl Model for HookRuns {
@@ -65,9 +75,9 @@ impl HookRuns {
             → total_stage_cost made.0 ≤ ruleset_cost cost checked.rules) }
         ensures events { IfOk result (λ made. made.1 ≡ record { events = []; ticks = 0 }) }
     {
+        let events = Events::new(alloc)?;
         let code = compile(alloc, &checked)?;
         let stages = staged_chains(alloc, &code)?;
-        let events = Events::new(alloc)?;
         let runs = HookRuns {
             checked,
             code,
