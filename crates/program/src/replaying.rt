@@ -63,7 +63,7 @@ fn replay_texts<H: Host>(
     play(host, task, hasher, rules, plant, &mut input)
 }
 
-/// The run, with its report in a file or on standard output.
+/// Creates OUT and, if there is one, FILE, and runs.
 fn play<H: Host>(
     host: &mut H,
     task: &ReplayTask<'_>,
