@@ -24,10 +24,11 @@ pub(crate) struct ProgressReader<'a, 'b, R, T> {
 }
 
 impl<'a, 'b, R: Clock + Eprint, T: Read> ProgressReader<'a, 'b, R, T> {
-    /// Without `display` nothing is shown.
-    pub(crate) fn new(input: &'a mut Counted<T>, display: Option<ProgressDisplay<'b, R>>) -> Self
+    /// Without `progress` nothing is shown.
+    pub(crate) fn new(rt: &'b R, input: &'a mut Counted<T>, progress: Option<Progress>) -> Self
         ensures input { result.input.now ≡ input.old }
     {
+        let display = ProgressDisplay::new(rt, progress);
         ProgressReader { input, display }
     }
 
@@ -76,7 +77,7 @@ pub enum ProgressLine {
 
 /// The lines that show how much of a capture is read.
 #[derive(Drop)]
-pub(crate) struct ProgressDisplay<'b, R> {
+struct ProgressDisplay<'b, R> {
     rt: &'b R,
     progress: Progress,
     /// How many bytes were read.
@@ -89,7 +90,7 @@ pub(crate) struct ProgressDisplay<'b, R> {
 
 impl<'b, R: Clock + Eprint> ProgressDisplay<'b, R> {
     /// None where nothing is to be shown, or there is no clock.
-    pub(crate) fn new(rt: &'b R, progress: Option<Progress>) -> Option<Self> {
+    fn new(rt: &'b R, progress: Option<Progress>) -> Option<Self> {
         let progress = progress?;
         let latest = Instant::now(rt).ok()?;
         Some(ProgressDisplay {

@@ -1,7 +1,7 @@
 //! A run whose progress is shown.
 ghost use Rattle.program.specs.Outputs.{Writes};
 
-use crate::progress_reader::{Progress, ProgressDisplay, ProgressReader};
+use crate::progress_reader::{Progress, ProgressReader};
 use engine::RunFault;
 use pcap_io::Counted;
 use std::hash::RandomState;
@@ -25,8 +25,7 @@ pub fn run_with_progress<R: Clock + Files + Eprint + AllocGlobal, W: Write>(
         (R.File.contents output.old.inner) (R.File.contents output.new.inner)
         (W.contents report.old.inner) (W.contents report.new.inner) result }
 {
-    let display = ProgressDisplay::new(rt, progress);
-    let mut reader = Counted::new(ProgressReader::new(input, display));
+    let mut reader = Counted::new(ProgressReader::new(rt, input, progress));
     let outcome = engine::run(
         rt.alloc(),
         hasher,
