@@ -12,7 +12,6 @@ use Rattle.conntrack.specs.Updates.{Confirmation, after_packet}
 use Rattle.rule_meaning.specs.declared.event.Event.{Event}
 use Rattle.filter_vm.specs.Machine.{EventsAndTicks}
 use Rattle.history.specs.declared.outcome.Cause.{Cause}
-use Rattle.history.specs.declared.outcome.Outcome.{Outcome}
 use Rattle.history.specs.declared.outcome.Outcome.TheVariants.{Dropped}
 use Rattle.history.specs.History.{Entry, live_in}
 use Rattle.history.specs.Setup.{Setup, limits_of}
