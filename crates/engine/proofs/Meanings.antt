@@ -3,10 +3,11 @@ use Rattle.engine.proofs.Names.{Accepted, Bool, Capture, CaptureFault, CaptureSt
 use Rattle.engine.proofs.Names.{IsBeforeHeader, IsChecked, IsHistoryOf, JudgeRefuses, Laws, LeavesPrefix, LeftDevices, List, Meaning, None, NothingTaken, Ok}
 use Rattle.engine.proofs.Names.{Option, READ_AHEAD, Refuses, Result, RunFault, Setup, Some, Untouched, WritesOutputs, WroteOutputs, [], ahead, ap, append-nil}
 use Rattle.engine.proofs.Names.{arith, decoded_records, drop, ending_of, format_of, header_fault, inl, inr, length, one_more, rules, setup_of, sym, true}
-use Rattle.engine.proofs.Names.{CaptureError, refl, unread_input, ℕ, ◌<◌, ◌∙◌, ◌≡◌, ◌≤◌}
+use Rattle.engine.proofs.Names.{CaptureError, CountsFault, Err, IsOfTexts, refl, unread_input, ℕ, ◌<◌, ◌∙◌, ◌≡◌, ◌≤◌}
 use Rattle.std.proofs.Common.{◌≢◌}
-use Rattle.pcap_io.specs.CaptureStates.{RefusedBy}
+use Rattle.pcap_io.specs.CaptureStates.{IsOfHeader, RefusedBy}
 use Rattle.pcap_io.specs.declared.fault.CaptureError.TheVariants as errors
+use Rattle.engine.specs.Refusals.{IsOfRecord}
 use Rattle.engine.specs.steps.Faults.{of_capture}
 use Rattle.engine.proofs.Histories.{OneEntry, one_history}
 use Rattle.engine.specs.declared.runs.Summary.{Summary}
@@ -135,6 +136,18 @@ pub refuses_open : (rules box : List ℕ) (trace : Bool) (input : Option (List �
     → Accepted rules box → IfSome input (λ bytes. LeftDevices rules box bytes trace old new (of_capture error))
     → Refuses rules box input (of_capture error)
 refuses_open rules box trace input old new error accepted left = grind (arith, refuses_capture)
+
+-- of neither text, and of no record
+pub no_text_fault : (error : CaptureError) → IsOfTexts (of_capture error) → ⊥
+no_text_fault error is = grind arith
+
+pub no_record_fault : (error : CaptureError) → IsOfHeader error → IsOfRecord (of_capture error) → ⊥
+no_record_fault error header is = grind arith
+
+pub counts_open : (error : CaptureError) (old new : Devices) → (error ≢ errors.Device → new.reads_failed ≡ old.reads_failed)
+    → (error ≡ errors.Device → new.reads_failed ≡ one_more old.reads_failed) → new.sends_failed ≡ old.sends_failed
+    → new.reports_failed ≡ old.reports_failed → CountsFault {T = Summary} (Err (of_capture error)) old new
+counts_open error old new calm failed sent report = grind arith
 
 -- a fault of the texts, or a failed allocation
 pub left_of_texts : (rules box : List ℕ) (trace : Bool) {bytes : List ℕ} {old new : Devices} (fault : RunFault)

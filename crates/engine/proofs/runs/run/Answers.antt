@@ -2,7 +2,7 @@ use Rattle.engine.proofs.Names.{Consumes-nil, Err, Keeps-refl, [], ap, arith, de
 use Rattle.list_laws.specs.Options.{IfSome_weaker}
 use Rattle.std.proofs.lemmas.Result.{IfOk-weaker}
 use Rattle.engine.proofs.Meanings.{accepted_of, if_err_both, left_all, left_at_open, left_of_texts, nothing_taken, opened}
-use Rattle.engine.proofs.Meanings.{refuses_open, refuses_within, wrote}
+use Rattle.engine.proofs.Meanings.{counts_open, no_record_fault, no_text_fault, refuses_open, refuses_within, wrote}
 use Rattle.engine.specs.declared.fault.RunFault.TheVariants.{Memory}
 use Rattle.engine.proofs.runs.run.Goals as goal
 
@@ -30,6 +30,24 @@ returns-in_err-records-clause-refusals g c =
     rw (q.1, q.2) (refuses_open _ _ c.args.trace _ (state c.args.capture.now c.args.sent.now c.args.report.now)
     (state c.open.new.reader c.args.sent.now c.args.report.now) c.in_err-records.field-0.0
     (accepted_of c.in_ok-checked.ensures.fine) (rw (q.1, q.2) at (returns-in_err-records-clause-left g c)))
+
+pub returns-in_err-records-clause-unread : goal.returns-in_err-records-clause-unread
+returns-in_err-records-clause-unread g c =
+    let q = err_from_is_err_and c.from_residual-in_err-records.result c.from_residual-in_err-records.ensures.1 in
+    rw (q.1, q.2) (λ is. absurd (no_text_fault c.in_err-records.field-0.0 is))
+
+pub returns-in_err-records-clause-refused : goal.returns-in_err-records-clause-refused
+returns-in_err-records-clause-refused g c =
+    let q = err_from_is_err_and c.from_residual-in_err-records.result c.from_residual-in_err-records.ensures.1 in
+    rw (q.1, q.2) (λ is. absurd (no_record_fault c.in_err-records.field-0.0 c.in_err-records.ensures.kinds is))
+
+pub returns-in_err-records-clause-failures : goal.returns-in_err-records-clause-failures
+returns-in_err-records-clause-failures g c =
+    let state = devices g.R.Read.remaining g.W.Write.contents g.W2.Write.contents in
+    let q = err_from_is_err_and c.from_residual-in_err-records.result c.from_residual-in_err-records.ensures.1 in
+    rw q.1 (rw q.2 (counts_open c.in_err-records.field-0.0 (state c.args.capture.now c.args.sent.now c.args.report.now)
+    (state c.open.new.reader c.args.sent.now c.args.report.now)
+    (λ not. c.in_err-records.ensures.no_failure (λ is. not (cc))) (λ is. c.in_err-records.ensures.device (ap Err is)) refl refl))
 
 pub returns-clause-meaning : goal.returns-clause-meaning
 returns-clause-meaning g c =
