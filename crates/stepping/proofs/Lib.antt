@@ -1,5 +1,6 @@
 mod Names
 mod OnePath
+mod OldConnections
 mod Processing
 mod Extending
 mod FoundInterfaces

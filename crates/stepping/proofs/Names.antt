@@ -41,8 +41,8 @@ pub use Rattle.stepping.specs.Representing.{EngineState, ShownEntry, newest_of, 
 pub use Rattle.stepping.specs.steps.Confirming.{CanConfirm, Confirms, begins, begun_in, belonging_in, confirmed_in}
 pub use Rattle.stepping.specs.steps.Interfaces.{interfaces_of, is_at}
 pub use Rattle.stepping.specs.steps.Processing.{Extends, Follows, HasProcessed, IsBeforeFirst, held_by, newest_in}
-pub use Rattle.stepping.specs.steps.Steps.{Spends, TakesStep, path_state, step_result}
-pub use Rattle.translation.specs.CtInfos.{ct_info_by, error_ct_info, untranslated}
+pub use Rattle.stepping.specs.steps.Steps.{Spends, TakesStep, path_state, setup_in, step_result}
+pub use Rattle.translation.specs.CtInfos.{ct_info_by, error_ct_info, facts_after_destination_nat, facts_after_source_nat, untranslated}
 pub use Rattle.translation.specs.Fitting.{Fits}
 pub use Rattle.translation.specs.LiveMappings.{mappings_in}
 pub use Rattle.translation.specs.declared.ct_info.CtInfo.{CtInfo}

@@ -29,6 +29,10 @@ pub fn translate_destination(
     ensures took { TakesStep (DestinationNat (setup_in setup.now.hooks)) mappings.now.held
         setup.now.hooks.costs.prerouting_nat state.old events.old state.new events.new result }
 {
+    let CtInfo::New(_) = state.info else {
+        update_destination(&state.info, &mut state.facts);
+        return Ok(());
+    };
     let verdict = run_nat_chains(setup, HookStage::PreroutingNat, state, events);
     if let HookVerdict::Dropped = verdict {
         return Err(Cause::Rule);
@@ -59,6 +63,10 @@ pub fn translate_source(
     ensures took { TakesStep (SourceNat (setup_in setup.now.hooks)) mappings.now.held
         setup.now.hooks.costs.postrouting_nat state.old events.old state.new events.new result }
 {
+    let CtInfo::New(_) = state.info else {
+        update_source(&state.info, &mut state.facts);
+        return Ok(());
+    };
     let verdict = run_nat_chains(setup, HookStage::PostroutingNat, state, events);
     if let HookVerdict::Dropped = verdict {
         return Err(Cause::Rule);
