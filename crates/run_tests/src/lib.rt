@@ -1,5 +1,5 @@
 //! Tests of whole runs: with calls that fail, with the connections that an engine lists, and of
-//! statuses that no run of the program shows.
+//! statuses that no run of the program shows; and of how many slots the calls of a tracker visit.
 #![tactic(auto)]
 
 #[cfg(test)]
@@ -10,6 +10,8 @@ mod flushes;
 mod large_tables;
 #[cfg(test)]
 mod retry;
+#[cfg(test)]
+mod slot_counts;
 #[cfg(test)]
 mod statements;
 #[cfg(test)]

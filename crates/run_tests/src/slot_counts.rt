@@ -1,4 +1,5 @@
-//! The slots that each call counts.
+//! The slots that each call of an aged tracker visits: as many beside thousands of connections as
+//! beside few.
 ghost use Rattle.std.specs.Prelude.{◌≡◌, IfSome};
 ghost use Rattle.conntrack.specs.ConntrackEntry.{IsNoneLater, belongs_in};
 ghost use Rattle.conntrack.specs.Phases.{no_flags};

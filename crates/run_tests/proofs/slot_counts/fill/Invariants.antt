@@ -1,5 +1,5 @@
 use Rattle.conntrack.specs.ConntrackEntry.{IsNoneLater}
-use Rattle.slot_counts.proofs.counts.fill.Given as goal
+use Rattle.run_tests.proofs.slot_counts.fill.Given as goal
 
 abbrev pub invariant-loop-port : goal.invariant-loop-port
 invariant-loop-port g l = IsNoneLater 0 l.tracker.held
