@@ -1,0 +1,578 @@
+"""Rulesets and captures drawn by chance, the same for the same seed. Rulesets have what indexes on rules could get wrong: long
+runs of rules that begin with matches of one selector or few, rules of one match and a verdict that are merged, and marks that
+rules write and later rules match. Values are drawn from few, so that many rules match.
+"""
+import random
+import struct
+
+from reading import (
+    ECHO_REPLY, ECHO_REQUEST, ERRORS, ICMP, PRIORITIES, SECOND, STATES, TCP, UDP, Arrived, Box, Chain, Counter, HasBits, HasOfMask,
+    Interface, IsIn, IsPart, Log, Lookup, Match, Name, Notrack, Packet, Rule, SetMark, Span, Table, Verdict, VerdictMap,
+)
+from rows import datagram, with_checksum
+
+LAN, LAN0, WAN, W = Interface(2, "lan"), Interface(3, "lan0"), Interface(5, "wan"), Interface(17, "w")
+FIRST = 0x0A000000
+BOX_TEXT = """interface 2 lan 10.0.0.1/29
+interface 3 lan0 10.0.0.9/29
+interface 3 lan0 10.0.0.10/29
+interface 5 wan 10.0.0.17/28
+interface 17 w 10.0.0.41/30
+route 10.0.0.32/29 lan0
+route 10.0.0.16/29 w
+default lan
+"""
+BOX = Box(
+    [LAN, LAN0, WAN, W],
+    [FIRST + last for last in (1, 9, 10, 17, 41)],
+    [(FIRST, 29, LAN), (FIRST + 8, 29, LAN0), (FIRST + 8, 29, LAN0), (FIRST + 16, 28, WAN), (FIRST + 40, 30, W)]
+    + [(FIRST + 32, 29, LAN0), (FIRST + 16, 29, W)],
+)
+
+# Of each selector the type of its values; those whose types have no name stand for themselves.
+KINDS = {
+    "ip saddr": "ipv4_addr", "ip daddr": "ipv4_addr", "ip protocol": "inet_proto", "meta l4proto": "inet_proto",
+    "ip ttl": "ip ttl", "ip length": "ip length", "meta length": "meta length",
+    "tcp sport": "inet_service", "tcp dport": "inet_service", "udp sport": "inet_service", "udp dport": "inet_service",
+    "th sport": "inet_service", "th dport": "inet_service", "tcp flags": "tcp_flag", "icmp type": "icmp_type",
+    "iifname": "ifname", "oifname": "ifname", "iif": "iface_index", "oif": "iface_index",
+    "meta mark": "mark", "ct mark": "mark", "meta nfproto": "nf_proto",
+    "ct state": "ct_state", "ct direction": "ct_dir", "ct status": "ct_status",
+}
+WORDS = {
+    "inet_proto": {"icmp": 1, "igmp": 2, "tcp": 6, "udp": 17, "gre": 47},
+    "inet_service": {"ssh": 22, "smtp": 25},
+    "tcp_flag": {"fin": 1, "syn": 2, "rst": 4, "psh": 8, "ack": 16, "urg": 32, "ecn": 64, "cwr": 128},
+    "icmp_type": {
+        "echo-reply": 0, "destination-unreachable": 3, "source-quench": 4, "redirect": 5, "echo-request": 8,
+        "router-advertisement": 9, "time-exceeded": 11, "parameter-problem": 12, "timestamp-request": 13, "info-reply": 16,
+    },
+    "nf_proto": {"ipv4": 2, "ipv6": 10},
+    "ct_state": STATES,
+    "ct_dir": {"original": 0, "reply": 1},
+    "ct_status": {"seen-reply": 2, "snat": 16, "dnat": 32},
+    "iface_index": {"lan": 2, "lan0": 3, "wan": 5, "w": 17},
+}
+GREATEST = {
+    "ipv4_addr": 2**32 - 1, "inet_proto": 255, "ip ttl": 255, "ip length": 65_535, "meta length": 2**32 - 1,
+    "inet_service": 65_535, "tcp_flag": 255, "icmp_type": 255, "mark": 2**32 - 1, "nf_proto": 255, "ct_dir": 255,
+}
+# The types that have an order, and those that have ranges.
+ORDERED = ("ipv4_addr", "inet_service", "mark", "ip ttl", "ip length", "meta length")
+RANGED = (*ORDERED, "inet_proto", "icmp_type")
+NAMES = ("lan", "lan0", "wan", "w", "la", "eth0")
+# Before the lookup and behind it, before the nat chains and behind them, and at each border.
+PREROUTING = ("raw", "raw - 1", "-250", "-200", "-199", "mangle", "-101", "dstnat", "-99", "filter", "-5", "filter + 5")
+HOOKS = ["prerouting"] * 5 + ["input"] * 5 + ["forward"] * 8 + ["postrouting"] * 5 + ["output"]
+PRIORITIES_DRAWN = {"prerouting": PREROUTING, "postrouting": ("mangle", "filter", "security", "99", "srcnat", "101")}
+OTHERS = ("filter", "-5", "filter + 5", "security", "mangle", "raw")
+
+# The types of bits, which are matched by lists of them.
+BITS = ("ct_state", "ct_status", "tcp_flag")
+# Of these types a value is often met.
+FEW_VALUES = ("ct_state", "ct_status", "iface_index")
+
+# How many consecutive rules are drawn alike, and how many chains a table has without a hook.
+MOST_RULES = 60
+CHAINS = 4
+# What a chain may cost, so that all base chains together cost less than a ruleset may.
+MOST_COST = 8_000
+
+
+def dotted(address):
+    return ".".join(str(address >> shift & 255) for shift in (24, 16, 8, 0))
+
+
+def priority_of(text):
+    """The number of a priority."""
+    name, *rest = text.split(" ")
+    base = PRIORITIES[name] if name in PRIORITIES else int(name)
+    return base + int("".join(rest) or "0")
+
+
+class Drawing:
+    """Draws by chance."""
+
+    def __init__(self, dice):
+        self.dice = dice
+        # Whether matches are drawn of which few hold, so that packets come to the end of long chains.
+        self.is_sparse = False
+
+    def below(self, number):
+        # (randrange() takes three times as long.)
+        return int(self.dice.random() * number)
+
+    def chance(self, percent):
+        return self.below(100) < percent
+
+    def one(self, *choices):
+        return choices[self.below(len(choices))]
+
+    # ---- values
+
+    def number(self, kind):
+        """A number of a type without words alone, from few or, seldom, at the greatest."""
+        most = GREATEST[kind]
+        if self.chance(5):
+            return most - (self.below(3) if most > 65_535 else 0)
+        if kind == "ipv4_addr":
+            return FIRST + self.below(48)
+        if kind in ("ip length", "meta length"):
+            return 20 + self.below(48)
+        if kind == "tcp_flag":
+            return self.below(256) if self.is_sparse else self.flags()
+        words = list(WORDS.get(kind, {}).values())
+        return self.below(48) if not words or self.chance(80 if self.is_sparse else 40) else self.one(*words)
+
+    def flags(self):
+        return self.one(2, 2, 16, 18, 17, 4, 4, 24, self.below(64), self.below(256))
+
+    def text(self, kind, number):
+        """How the number may be written."""
+        words = [word for word, value in WORDS.get(kind, {}).items() if value == number]
+        if kind == "ipv4_addr":
+            return dotted(number)
+        if words and (kind in ("ct_state", "ct_status") or self.chance(60)):
+            return words[0]
+        return hex(number) if self.chance(10) else str(number)
+
+    def value(self, kind):
+        """A value, and its text."""
+        if kind == "ifname":
+            return self.interface_name()
+        if kind in ("ct_state", "ct_status", "iface_index"):
+            number = self.one(*WORDS[kind].values())
+        else:
+            number = self.number(kind)
+        return Span(number, number), self.text(kind, number)
+
+    def interface_name(self):
+        name = f"x{self.below(30)}" if self.chance(80 if self.is_sparse else 0) else self.one(*NAMES)
+        if self.chance(25):
+            beginning = name[: 1 + self.below(len(name))]
+            return Name(beginning, True), f'"{beginning}*"'
+        return Name(name, False), f'"{name}"' if self.chance(70) else name
+
+    def part(self, kind):
+        """A value, a range or a prefix, and its text."""
+        if kind not in RANGED or self.chance(85 if self.is_sparse else 45):
+            return self.value(kind)
+        low = self.number(kind)
+        if kind == "ipv4_addr" and self.chance(30):
+            length = self.one(24, 27, 28, 29, 30, 31, 32, 0 if self.chance(5) else 29)
+            first = low >> 32 - length << 32 - length
+            return Span(first, first + 2 ** (32 - length) - 1), f"{dotted(low)}/{length}"
+        high = min(GREATEST[kind], low + (self.below(2**32) if self.chance(3) else self.below(9)))
+        texts = [dotted(it) if kind == "ipv4_addr" else str(it) for it in (low, high)]
+        return Span(low, high), "-".join(texts)
+
+    def element(self, kinds):
+        """An element of a set: a part for each type, of a concatenation a value each; and its text."""
+        if len(kinds) == 1:
+            part, text = self.part(kinds[0])
+            return (part,), text
+        # A packet's mark is 0 at first.
+        zero = Span(0, 0), "0"
+        drawn = [zero if kind == "mark" and self.chance(60) else self.value(kind) for kind in kinds]
+        return tuple(part for part, _ in drawn), " . ".join(text for _, text in drawn)
+
+    def elements(self, kinds, least=1):
+        """The elements of a set, and their texts."""
+        drawn = [self.element(kinds) for _ in range(least + self.below(5))]
+        return [element for element, _ in drawn], [text for _, text in drawn]
+
+
+class CaptureDrawing(Drawing):
+    """Draws the records of a capture."""
+
+    def ends(self):
+        """A source and a destination, each an address and a port, and a protocol."""
+        protocol = self.one(*[TCP] * 4, *[UDP] * 3, *[ICMP] * 2, self.one(47, 50, 2, self.below(48), 255))
+        source, destination = (FIRST + self.below(48) if self.chance(97) else self.number("ipv4_addr") for _ in "ab")
+        if self.chance(10):
+            destination = self.one(*BOX.own)
+        return (source, self.port()), (destination, self.port()), protocol
+
+    def port(self):
+        return self.below(48) if self.chance(95) else 65_535
+
+    def packet(self, source, destination, protocol, about=None):
+        """A packet between these ends, or an ICMP error about a packet, which it shows whole or cut short."""
+        (here, port), (there, other) = source, destination
+        spare = bytes(self.below(28))
+        if protocol == TCP:
+            load = struct.pack(">HHIIBBHHH", port, other, 1, 0, 0x50, self.flags(), 1000, 0x1234, 0) + spare
+        elif protocol == UDP:
+            load = struct.pack(">HHHH", port, other, 8 + len(spare), 0) + spare
+        elif about:
+            shown = about.data[: self.one(None, 28, 27, 20)]
+            load = with_checksum(struct.pack(">BBHI", self.one(*ERRORS), 0, 0, 0) + shown, 2)
+            about = about if len(shown) >= 28 else None
+        elif protocol == ICMP:
+            kind = self.one(ECHO_REQUEST, ECHO_REQUEST, ECHO_REPLY, self.below(20), self.number("icmp_type"))
+            # The identifier is the port of the end that asks.
+            load = with_checksum(struct.pack(">BBHHH", kind, 0, 0, other if kind == ECHO_REPLY else port, 1) + spare, 2)
+        else:
+            load = spare
+        ttl = 2 + self.below(46) if self.chance(93) else self.one(0, 1, 255)
+        return Packet(datagram(protocol, here.to_bytes(4, "big"), there.to_bytes(4, "big"), load, ttl), about)
+
+    def wait(self):
+        """How many nanoseconds pass before a record: few, and seldom as many as a connection may be idle, or one fewer."""
+        if self.chance(95):
+            return self.one(0, 1, SECOND, 2 * SECOND - 1)
+        return self.one(60, 240, 300, 600) * SECOND - self.below(2)
+
+    def arrivals(self, count):
+        """So many records: most of their packets go between the ends of earlier ones, either way, or are about an earlier one."""
+        when, earlier, arrived = 1000 * SECOND, [], []
+        for _ in range(count):
+            when += self.wait()
+            about = None
+            if earlier and self.chance(65):
+                (source, destination, protocol), packet = self.one(*earlier)
+                if self.chance(50):
+                    source, destination = destination, source
+                if packet.icmp_type not in ERRORS and self.chance(15):
+                    protocol, about = ICMP, packet
+            else:
+                source, destination, protocol = self.ends()
+            packet = self.packet(source, destination, protocol, about)
+            if not about:
+                earlier.append(((source, destination, protocol), packet))
+            arrived.append(Arrived(when, self.one(*BOX.interfaces), packet))
+        return arrived
+
+
+class Style:
+    """How consecutive rules are drawn: the selectors that they begin with, what most of them are, the mask of those that ask for
+    flags, and the percentage of rules of one match and a verdict, which are merged.
+    """
+
+    def __init__(self, drawing):
+        drawing.is_sparse = drawing.chance(65)
+        self.selectors = [drawing.selector() for _ in range(1 if drawing.chance(40) else 2 + drawing.below(6))]
+        self.kind = drawing.one("plain", "plain", "plain", "plain", "wide", "masked", "maps")
+        self.mask = drawing.one(3, 0x17, 0x3F, 0xFF)
+        self.plain = drawing.one(0, 60, 99)
+
+
+class TableDrawing(Drawing):
+    """Draws a table."""
+
+    def __init__(self, dice, name):
+        super().__init__(dice)
+        self.name = name
+        self.sets, self.maps = {}, {}
+        self.declared = []
+        # What the chains without a hook cost, by their names: the last is drawn first, and jumps lead to later ones.
+        self.costs = {}
+
+    # ---- sets and maps
+
+    def declare(self, word, name, kinds, data, texts):
+        """Declares a set or a map, by the names of types or by selectors."""
+        is_named = all(kind not in KINDS for kind in kinds)
+        if is_named and self.chance(70):
+            head = "type " + " . ".join(kinds) + (f" : {data}" if data else "")
+        else:
+            selectors = [self.one(*(it for it, of in KINDS.items() if of == kind)) for kind in kinds]
+            data = {"mark": "meta mark"}.get(data, data)
+            head = "typeof " + " . ".join(selectors) + (f" : {data}" if data else "")
+        lines = [head]
+        if any("-" in text or "/" in text for text in texts) and self.chance(50):
+            lines.append("flags interval")
+        if texts:
+            lines.append("elements = { " + ", ".join(texts) + self.one("", ",") + " }")
+        self.dice.shuffle(lines)
+        self.declared.append(block(f"{word} {name}", lines))
+
+    def named_set(self, kinds):
+        """A set of these types, which other rules may ask for: its elements and its name."""
+        known = self.sets.setdefault(kinds, [])
+        if len(known) < 4:
+            name = f"s{sum(map(len, self.sets.values()))}"
+            elements, texts = self.elements(kinds, least=0)
+            self.declare("set", name, kinds, None, texts)
+            known.append((elements, f"@{name}"))
+        return self.one(*known)
+
+    def pairs(self, kind, data):
+        """Elements of a map of which no two share a number, each with what `data` draws; and their texts."""
+        pairs, texts = [], []
+        for element, text in zip(*self.elements((kind,), least=8)):
+            if not any(shares(*element, *other) for other, _ in pairs):
+                value = data()
+                pairs.append((element, value))
+                texts.append(f"{text} : {value.text if isinstance(value, Verdict) else value}")
+        return pairs, texts
+
+    def lookup(self, word, data, key):
+        """A selector looked up in a map of such data, and the map's text. Rules whose data have one key share maps."""
+        selector = self.one(*KINDS)
+        kind = KINDS[selector]
+        if self.chance(50):
+            pairs, texts = self.pairs(kind, data)
+            return Lookup(selector, pairs), "{ " + ", ".join(texts) + " }"
+        known = self.maps.setdefault((kind, key), [])
+        if len(known) < 2:
+            name = f"m{sum(map(len, self.maps.values()))}"
+            pairs, texts = self.pairs(kind, data)
+            self.declare("map", name, (kind,), word, texts)
+            known.append((pairs, f"@{name}"))
+        pairs, text = self.one(*known)
+        return Lookup(selector, pairs), text
+
+    # ---- matches
+
+    def selector(self):
+        """A selector. Marks are frequent, since rules write what later rules match."""
+        if self.chance(30):
+            return self.one("meta mark", "ct mark")
+        selector = self.one(*KINDS)
+        # Few matches hold.
+        return self.selector() if self.is_sparse and KINDS[selector] in FEW_VALUES and self.chance(70) else selector
+
+    def bits(self, kind, operator=""):
+        """A list of words or numbers of bits: their bits, and the list's members, of which `==` mostly has one."""
+        words = list(WORDS[kind])
+        members = self.dice.sample(words, self.one(1, 1, 1, 2) if operator == "==" else self.one(1, 1, 2, 2, 3))
+        bits = sum(WORDS[kind][word] for word in members)
+        if kind == "tcp_flag" and self.chance(20):
+            number = self.flags()
+            members, bits = [*members, str(number)], bits | number
+        return bits, members
+
+    def plain(self, selector, operator=None):
+        """A match of one selector with a value, a range or a list of bits."""
+        kind = KINDS[selector]
+        if kind in BITS:
+            operator = self.one("", "", "==") if kind == "tcp_flag" else self.one("", "", "==", "!=")
+            bits, members = self.bits(kind, operator)
+            text = f"{selector} {operator} {','.join(members)}".replace("  ", " ")
+            return Match((selector,), operator, HasBits(operator, bits), text)
+        if operator is None:
+            is_ordered = kind in ORDERED and self.chance(4 if self.is_sparse else 25)
+            operator = self.one("<", "<=", ">", ">=") if is_ordered else self.one("", "", "", "==")
+        part, text = self.value(kind) if operator and operator[0] in "<>" else self.part(kind)
+        written = f"meta {selector}" if kind in ("ifname", "iface_index") and self.chance(20) else selector
+        return Match((selector,), operator, IsPart(operator, part), f"{written} {operator} {text}".replace("  ", " "))
+
+    def in_set(self, selectors, operator, is_named):
+        """A match in a set."""
+        kinds = tuple(KINDS[selector] for selector in selectors)
+        if is_named:
+            elements, text = self.named_set(kinds)
+        else:
+            elements, texts = self.elements(kinds)
+            text = "{ " + ", ".join(texts) + " }"
+        kind = ("named" if is_named else "anonymous") + (" concatenation" if len(selectors) > 1 else "")
+        written = f"{' . '.join(selectors)} {operator} {text}".replace("  ", " ")
+        return Match(selectors, operator, IsIn(operator, elements, kind), written)
+
+    def masked(self, mask=None):
+        """A match of flags under a mask, in one of its two forms."""
+        mask_text = hex(mask) if mask else None
+        if mask is None:
+            mask, members = self.bits("tcp_flag")
+            mask_text = "|".join(members)
+        bits = self.number("tcp_flag") & mask
+        words = [word for word, bit in WORDS["tcp_flag"].items() if bits & bit]
+        text = "|".join(words) if words and self.chance(60) else str(bits)
+        operator = "!=" if self.chance(1 if self.is_sparse else 25) else "=="
+        if self.chance(30):
+            shown = "" if operator == "==" and self.chance(50) else f" {operator}"
+            written = f"tcp flags{shown} {text} / {mask_text}".replace("|", ",")
+        else:
+            mask_text, text = (f"({it})" if "|" in it or self.chance(20) else it for it in (mask_text, text))
+            written = f"tcp flags & {mask_text} {operator} {text}"
+        return Match(("tcp flags",), operator, HasOfMask(operator, mask, bits), written)
+
+    def joined(self, selector):
+        """The selector and others with it, in a concatenation of at most 128 bits."""
+        if KINDS[selector] == "ifname":
+            selector = "iif"
+        return (selector, "meta mark", "ip protocol") if self.chance(20) else (selector, "meta mark")
+
+    def first(self, selector):
+        """The match that a rule begins with: mostly one of its own values, else one that other rules share."""
+        drawn = self.below(92 if self.is_sparse else 100)
+        if drawn < 58:
+            return self.plain(selector)
+        if drawn < 72:
+            return self.in_set((selector,), "", is_named=True)
+        if drawn < 80:
+            return self.in_set((selector,), self.one("", "=="), is_named=False)
+        if drawn < 90:
+            return self.in_set(self.joined(selector), "" if self.is_sparse else self.one("", "", "!="), self.chance(50))
+        if drawn < 93:
+            return self.in_set((selector,), "!=", self.chance(60))
+        if drawn < 97 and KINDS[selector] not in BITS:
+            return self.plain(selector, "!=")
+        return self.masked()
+
+    def wide(self, selector):
+        """A match on more than 32 bits: an interface's name, or a concatenation in a set of its own."""
+        drawn = self.below(10)
+        if drawn < 5:
+            return self.plain(self.one("iifname", "iifname", "oifname"), "")
+        if drawn < 6:
+            return self.in_set(("iifname",), "", self.chance(50))
+        return self.in_set(self.joined(selector), "" if drawn < 9 or self.is_sparse else "!=", is_named=False)
+
+    # ---- statements
+
+    def verdict(self, later, most):
+        """A verdict. Jumps lead to one of those later chains, and not to one that costs more."""
+        word = self.one("accept", "drop", "return", "jump", "jump", "goto", "continue", "continue")
+        if word in ("jump", "goto"):
+            reachable = [name for name in later if self.costs[name] <= most]
+            return Verdict(word, self.one(*reachable)) if reachable else Verdict("continue")
+        return Verdict(word)
+
+    def last_verdict(self, later):
+        """A verdict of a rule that may be merged with its neighbours."""
+        word = self.one("accept", "accept", "drop", "goto", "return", "return")
+        return Verdict("goto", later[0]) if word == "goto" and later else Verdict("return" if word == "goto" else word)
+
+    def set_mark(self):
+        field = self.one("meta mark", "ct mark")
+        drawn = self.below(10)
+        if drawn < 5:
+            number = self.number("mark")
+            return SetMark(field, number, f"{field} set {self.text('mark', number)}")
+        if drawn < 7:
+            operand = self.one("meta mark", "ct mark")
+            return SetMark(field, operand, f"{field} set {operand}")
+        lookup, text = self.lookup("mark", lambda: self.number("mark"), "mark")
+        return SetMark(field, lookup, f"{field} set {lookup.selector} map {text}")
+
+    def counter(self):
+        if self.chance(80):
+            return Counter(0, 0, "counter")
+        packets, octets = self.below(1000), self.below(2**40)
+        return Counter(packets, octets, f"counter packets {packets} bytes {octets}")
+
+    def log(self):
+        prefix = self.one(None, "a", "", "two words: ")
+        return Log(prefix, "log" if prefix is None else f'log prefix "{prefix}"')
+
+    def rest(self, chain, later):
+        """The statements behind a rule's first match, up to a verdict."""
+        statements = []
+        for _ in range(3):
+            drawn = self.below(20)
+            if drawn < 2:
+                statements.append(self.counter())
+            elif drawn < 4:
+                statements.append(self.log())
+            elif drawn < 8:
+                statements.append(self.set_mark())
+            elif drawn < 10:
+                statements.append(self.plain(self.selector()))
+            elif drawn < 11:
+                statements.append(Notrack())
+            elif drawn < 13:
+                return [*statements, self.verdict(later, MOST_COST - self.costs[chain])]
+            elif drawn < 16:
+                return [*statements, self.verdict_map(chain, later)]
+        return statements
+
+    def verdict_map(self, chain, later):
+        """A map of verdicts. One that rules share leads to the last chain at most."""
+        most = MOST_COST - self.costs[chain]
+        reachable = [name for name in later[-1:] if self.costs[name] <= most]
+        lookup, text = self.lookup("verdict", lambda: self.verdict(reachable, most), tuple(reachable))
+        return VerdictMap(lookup, f"{lookup.selector} vmap {text}")
+
+    # ---- chains
+
+    def cost(self, statement):
+        """What a statement adds to its chain's cost (section 10.3, N06)."""
+        verdicts = [statement]
+        if isinstance(statement, VerdictMap):
+            verdicts = [verdict for _, verdict in statement.lookup.pairs]
+        return 1 + max((self.costs[one.chain] for one in verdicts if isinstance(one, Verdict) and one.chain), default=0)
+
+    def stretch(self, chain, later):
+        """Consecutive rules of a chain, as long as it may cost more."""
+        style = Style(self)
+        for _ in range(self.below(MOST_RULES)):
+            statements = self.statements(style, chain, later)
+            cost = self.costs[chain] + sum(map(self.cost, statements))
+            if cost <= MOST_COST:
+                self.costs[chain] = cost
+                yield Rule(statements)
+
+    def statements(self, style, chain, later):
+        """The statements of a rule."""
+        first = self.styled(style)
+        if style.kind == "maps" and self.chance(40):
+            rest = [self.verdict_map(chain, later)]
+        elif self.chance(style.plain):
+            rest = [self.last_verdict(later)]
+        else:
+            rest = self.rest(chain, later)
+        is_matching = self.chance(50 if style.kind == "maps" else 99)
+        return [first, *rest] if is_matching or not rest else rest
+
+    def styled(self, style):
+        """The match that a rule begins with."""
+        selector = self.one(*style.selectors) if self.chance(99) else self.selector()
+        if style.kind == "wide" and self.chance(98):
+            return self.wide(selector)
+        if style.kind == "masked" and self.chance(90):
+            return self.masked(style.mask)
+        return self.first(selector)
+
+    def rules(self, chain, later):
+        self.costs[chain] = 0
+        return [rule for _ in range(self.one(1, 2, 2, 3)) for rule in self.stretch(chain, later)]
+
+    def base_chain(self, number, later):
+        """A base chain, and its head."""
+        self.is_sparse = False
+        hook = self.one(*HOOKS)
+        kind = "nat" if hook in ("prerouting", "postrouting", "output") and self.chance(20) else "filter"
+        fitting = [it for it in PRIORITIES_DRAWN.get(hook, OTHERS) if kind == "filter" or priority_of(it) > -200]
+        priority, policy = self.one(*fitting), self.one(None, "accept", "accept", "accept", "drop")
+        chain = Chain(f"b{number}", self.rules(f"b{number}", later), hook, kind, priority_of(priority), policy)
+        return chain, f"type {kind} hook {hook} priority {priority};" + (f" policy {policy};" if policy else "")
+
+    def table(self):
+        """The table, and its text."""
+        later, drawn = [], []
+        for number in range(self.one(2, CHAINS), 0, -1):
+            drawn.append((Chain(f"c{number}", self.rules(f"c{number}", later)), ""))
+            later.insert(0, f"c{number}")
+        drawn += [self.base_chain(number, later) for number in range(1, 3 + self.below(3))]
+        self.dice.shuffle(drawn)
+        family = self.one("ip", "inet")
+        texts = [chain_text(chain, head) for chain, head in drawn] + self.declared
+        text = "\n".join([f"table {family} {self.name} {{", *texts, "}\n"])
+        return Table(family, self.name, [chain for chain, _ in drawn]), text
+
+
+def shares(one, other):
+    """Whether two parts of one type share a value."""
+    if isinstance(one, Name):
+        return one.covers(other.name) or other.covers(one.name)
+    return one.low <= other.high and other.low <= one.high
+
+
+def chain_text(chain, head):
+    lines = [head] if head else []
+    lines += [" ".join(statement.text for statement in rule.statements) for rule in chain.rules]
+    return block(f"chain {chain.name}", lines)
+
+
+def block(head, lines):
+    """A chain, a set or a map of these lines."""
+    return "\n".join([f" {head} {{", *(f"  {line}" for line in lines), " }"])
+
+
+def drawn(seed, packets):
+    """The tables of a ruleset and its text, and so many records."""
+    dice = random.Random(seed)
+    tables = [TableDrawing(dice, name).table() for name in dice.choice((("t",), ("t", "u")))]
+    return [table for table, _ in tables], "".join(text for _, text in tables), CaptureDrawing(dice).arrivals(packets)
