@@ -1,8 +1,8 @@
-//! Rulesets as code: how many steps are left of their rules, how many rules are merged and dropped,
-//! and whose verdict a packet has.
+//! Rulesets as code: how many steps are left of their rules, how many indexes there are on them, how
+//! many rules are merged and dropped, and whose verdict a packet has.
 ghost use Rattle.std.specs.Prelude.{◌+◌, ◌≤◌, IfSome, length};
 
-use crate::support::{check_row, code_of};
+use crate::support::{check_row, code_of, repeated};
 use filter_vm::{Code, Events, Start, run};
 use ip_headers::Transport;
 use nft_tree::Hook;
@@ -19,9 +19,9 @@ default lan
 /// and whether the packet is dropped.
 type ExpectedVerdict = (u32, Option<u32>, bool);
 
-/// A ruleset whose last chain is a base chain; its steps, merged and dropped rules; and the verdicts
-/// of packets.
-type Row = (&'static [u8], [usize; 3], &'static [ExpectedVerdict]);
+/// A ruleset whose last chain is a base chain; its steps, indexes, merged and dropped rules; and the
+/// verdicts of packets.
+type Row = (&'static [u8], [usize; 4], &'static [ExpectedVerdict]);
 
 const TEN_ONE: u32 = 0x0a01_0203;
 
@@ -31,12 +31,14 @@ const ELEVEN: u32 = 0x0b00_0001;
 /// value more; a counter and another selector between rules of one selector; a rule that writes the
 /// mark that the next one matches; a rule after one that always gives a verdict; counters, logs and
 /// a jump end no chain, and what comes after `return` and `goto` is dropped in each chain; a match, a
-/// mark and a jump before the verdict don't end it either.
-static ROWS: [Row; 7] = [
+/// mark and a jump before the verdict don't end it either. Of named sets, the second rule of nested
+/// ones and one with an empty set keep their steps and are never found, so that they don't count; a
+/// counter, another match and a jump between rules that would be merged.
+static MERGED: [Row; 10] = [
     (
         b"table ip t { chain fwd { type filter hook forward priority 0;
 ip saddr 10.0.0.0/8 accept; ip saddr 10.1.0.0/16 drop; ip saddr 11.0.0.0/8 drop } }",
-        [5, 2, 1],
+        [5, 1, 2, 1],
         &[
             (TEN_ONE, Some(1), false),
             (ELEVEN, Some(3), true),
@@ -47,7 +49,7 @@ ip saddr 10.0.0.0/8 accept; ip saddr 10.1.0.0/16 drop; ip saddr 11.0.0.0/8 drop 
         b"table ip t { chain fwd { type filter hook forward priority 0;
 ip saddr { 10.0.0.0/9, 11.0.0.0/8 } accept; ip saddr 10.128.0.0/9 drop
 ip saddr 10.0.0.0/8 drop; ip saddr 10.0.0.0-12.0.0.0 return } }",
-        [7, 3, 1],
+        [7, 1, 3, 1],
         &[
             (TEN_ONE, Some(1), false),
             (ELEVEN, Some(1), false),
@@ -60,19 +62,19 @@ ip saddr 10.0.0.0/8 drop; ip saddr 10.0.0.0-12.0.0.0 return } }",
         b"table ip t { chain fwd { type filter hook forward priority 0;
 ip saddr 10.0.0.0/8 return; counter; ip saddr 10.1.0.0/16 drop
 ip daddr 0.0.0.1 continue; ip saddr 10.1.0.0/16 drop } }",
-        [10, 0, 0],
+        [10, 0, 0, 0],
         &[(TEN_ONE, Some(1), false)],
     ),
     (
         b"table ip t { chain fwd { type filter hook forward priority 0;
 ip saddr 10.1.2.3 meta mark set 1; meta mark 1 drop } }",
-        [5, 0, 0],
+        [5, 0, 0, 0],
         &[(TEN_ONE, Some(2), true), (ELEVEN, None, false)],
     ),
     (
         b"table ip t { chain fwd { type filter hook forward priority 0;
 accept; counter drop } }",
-        [2, 0, 1],
+        [2, 0, 0, 1],
         &[(TEN_ONE, Some(1), false)],
     ),
     (
@@ -80,17 +82,83 @@ accept; counter drop } }",
 chain end { return; counter }
 chain fwd { type filter hook forward priority 0; policy drop;
 counter; jump end; log; continue; counter log return; ip saddr 10.0.0.0/8 accept; accept } }",
-        [14, 0, 5],
+        [14, 0, 0, 5],
         &[(TEN_ONE, Some(2), true)],
     ),
     (
         b"table ip t { chain end { counter }
 chain fwd { type filter hook forward priority 0;
 ip saddr 10.0.0.0/8 drop; meta mark set 1 drop; jump end; accept; drop } }",
-        [9, 0, 1],
+        [9, 0, 0, 1],
         &[(TEN_ONE, Some(1), true), (ELEVEN, Some(2), true)],
     ),
+    (
+        b"table ip t { set ten { type ipv4_addr; elements = { 10.0.0.0/8 } }
+set ten_one { type ipv4_addr; elements = { 10.1.0.0/16 } }
+chain fwd { type filter hook forward priority 0;
+ip saddr @ten accept; ip saddr @ten_one drop; ip saddr 11.0.0.0/8 drop } }",
+        [7, 1, 2, 0],
+        &[
+            (TEN_ONE, Some(1), false),
+            (ELEVEN, Some(3), true),
+            (0x0c00_0001, None, false),
+        ],
+    ),
+    (
+        b"table ip t { set none { type ipv4_addr }
+chain fwd { type filter hook forward priority 0;
+ip saddr 10.0.0.0/16 drop; ip saddr @none accept; ip saddr 10.1.0.0/16 drop } }",
+        [7, 1, 2, 0],
+        &[(TEN_ONE, Some(3), true)],
+    ),
+    (
+        b"table ip t { chain end { }
+chain fwd { type filter hook forward priority 0;
+ip saddr 10.0.0.0/16 drop; ip saddr 10.1.0.0/16 counter drop; ip saddr 10.2.0.0/16 drop
+ip saddr != 0.0.0.7 drop; ip saddr 10.3.0.0/16 drop; ip saddr 10.4.0.0/16 jump end
+ip saddr 10.5.0.0/16 drop } }",
+        [17, 0, 0, 0],
+        &[(0x0a02_0000, Some(3), true), (7, None, false)],
+    ),
 ];
+
+/// Rules that compare bits under one mask have one index; names, and concatenations of two selectors,
+/// one each, however many sets these are looked up in.
+static INDEXED: [Row; 2] = [
+    (
+        b"table ip t { chain fwd { type filter hook forward priority 0;
+tcp flags & 63 == 0 drop; tcp flags & 63 == 1 drop; tcp flags & 63 == 2 drop
+tcp flags & 63 == 3 drop; tcp flags & 63 == 4 drop; tcp flags & 63 == 5 drop
+tcp flags & 63 == 6 drop; tcp flags & 63 == 7 drop; tcp flags & 63 == 8 drop
+tcp flags & 63 == 9 drop; tcp flags & 63 == 10 drop; tcp flags & 63 == 11 drop
+tcp flags & 63 == 12 drop; tcp flags & 63 == 13 drop; tcp flags & 63 == 14 drop
+tcp flags & 63 == 15 drop; tcp flags & 63 == 16 drop; tcp flags & 63 == 17 drop } }",
+        [37, 1, 0, 0],
+        &[(TEN_ONE, None, false)],
+    ),
+    (
+        b"table ip t { chain fwd { type filter hook forward priority 0;
+iifname a drop; ip saddr . meta mark { 0.0.0.0 . 0 } drop
+iifname b drop; ip saddr . meta mark { 0.0.0.1 . 0 } drop
+iifname c drop; ip saddr . meta mark { 0.0.0.2 . 0 } drop
+iifname d drop; ip saddr . meta mark { 0.0.0.3 . 0 } drop
+iifname e drop; ip saddr . meta mark { 0.0.0.4 . 0 } drop
+iifname f drop; ip saddr . meta mark { 0.0.0.5 . 0 } drop
+iifname g drop; ip saddr . meta mark { 0.0.0.6 . 0 } drop
+iifname h drop; ip saddr . meta mark { 0.0.0.7 . 0 } drop
+iifname i drop; ip saddr . meta mark { 0.0.0.8 . 0 } drop } }",
+        [37, 2, 0, 0],
+        &[(5, Some(12), true), (9, None, false)],
+    ),
+];
+
+/// Rules in turn of eight selectors, each of which has an index, and of a set that all others share,
+/// which has one more.
+const EIGHT_SELECTORS: &[u8] = b"
+ip saddr 0.0.0.5 drop; iifname @none drop; ip daddr 0.0.0.6 drop; iifname @none drop
+ip ttl 7 drop; iifname @none drop; ip length 8 drop; iifname @none drop
+tcp sport 9 drop; iifname @none drop; tcp dport 10 drop; iifname @none drop
+udp sport 11 drop; iifname @none drop; udp dport 12 drop; iifname @none drop";
 
 /// A packet from the address, as the base chains on forward see it.
 fn from(source: u32) -> Facts {
@@ -173,10 +241,10 @@ fn has_verdicts<R: Abort + AllocGlobal>(
     true
 }
 
-/// Whether the code has these steps, merged and dropped rules.
-fn has_size(code: &Code, wanted: [usize; 3]) -> bool {
+/// Whether the code has these steps, indexes, merged and dropped rules.
+fn has_size(code: &Code, wanted: [usize; 4]) -> bool {
     let size = code.size();
-    [size.steps, size.merged, size.dropped] == wanted
+    [size.steps, size.tables, size.merged, size.dropped] == wanted
 }
 
 /// Whether the code and the packets' verdicts are as the row says.
@@ -187,19 +255,46 @@ fn is_right<R: Abort + AllocGlobal>(rt: &R, code: &Code, row: &Row) -> bool {
     }
 }
 
-/// Whether the ruleset's code is.
+/// The row of a ruleset whose code has no indexes: nothing else of its size is another.
+fn without_indexes(row: &Row) -> Row {
+    let [steps, _, _, dropped] = row.1;
+    (row.0, [steps, 0, 0, dropped], row.2)
+}
+
+/// Whether the ruleset's code and verdicts are as the row says, and but for the indexes also where
+/// rules are tried one by one.
 fn is_compiled<R: Abort + AllocGlobal>(rt: &R, row: &Row) -> bool {
-    match code_of(rt, row.0, BOX) {
-        Some(code) => is_right(rt, &code, row),
-        None => false,
+    let Some(mut code) = code_of(rt, row.0, BOX) else {
+        return false;
+    };
+    let is_indexed = is_right(rt, &code, row);
+    if let Some(table) = code.tables.first_mut() {
+        table.drop_indexes();
     }
+    is_indexed && is_right(rt, &code, &without_indexes(row))
 }
 
 /// What the report has of the nested matches, the written mark and the rule after `accept`, rows of
 /// `examples/rows` have.
 #[test]
 fn rules_are_merged_and_dropped(rt: HostRuntime) {
-    for row in 0..ROWS.len() {
-        check_row(&rt, row, is_compiled(&rt, &ROWS[row]));
+    for row in 0..MERGED.len() {
+        check_row(&rt, row, is_compiled(&rt, &MERGED[row]));
     }
+}
+
+/// How many indexes there are on the eight selectors' rules, which a packet meets eight times.
+fn indexes_of_eight<R: Abort + AllocGlobal>(rt: &R) -> Option<usize> {
+    let head = b"table ip t { set none { type ifname }
+chain fwd { type filter hook forward priority 0;";
+    let rules = repeated(rt, head, EIGHT_SELECTORS, 8, b"} }");
+    Some(code_of(rt, &rules, BOX)?.size().tables)
+}
+
+#[test]
+fn a_run_has_an_index_for_each_selector_and_mask(rt: HostRuntime) {
+    for row in 0..INDEXED.len() {
+        check_row(&rt, row, is_compiled(&rt, &INDEXED[row]));
+    }
+    assert!(&rt; indexes_of_eight(&rt) == Some(9), "eight selectors");
 }
