@@ -1,75 +1,178 @@
-//! Sentences that say what to do about a fault, for people: those that are given in several places.
+//! What to do about a fault, for people: sentences, and those that are given in several places.
 //!
-//! Advice has a test where it is found. A word of nft(8) that isn't read is a row of `nft_words`.
+//! Advice is chosen without taking memory, and written where it is told. It has a test where it is
+//! chosen. A word of nft(8) that isn't read is a row of `nft_words`.
 #![tactic(auto)]
 
-use nft_words::{listed, nearest};
+use nft_words::nearest;
 use std::alloc::{AllocError, Global};
 
-/// What to do, if it is known.
-pub type Advice = Result<Option<String>, AllocError>;
-
-/// A sentence that says it.
-pub fn fixed(alloc: Global, sentence: &str) -> Advice {
-    Ok(Some(String::from_str(alloc, sentence)?))
+/// What fills a gap of a sentence.
+#[derive(Clone, Copy)]
+pub enum Gap<'a> {
+    Text(&'a str),
+    Number(u64),
+    /// Words, as `a`, `b`.
+    Words(&'a [&'a str]),
+    /// The types of the parts of a key, as a . b.
+    Types(&'a [&'a str]),
 }
 
-/// A sentence in pieces. It costs the prover less than a `format!` of each sentence.
-pub fn sentence(alloc: Global, pieces: &[&str]) -> Advice {
-    Ok(Some(pieces.concat(alloc)?))
-}
+/// What fills a gap that a sentence doesn't have.
+pub const NO_GAP: Gap<'static> = Gap::Text("");
 
-/// This is to be written in place of what stands there.
-pub fn write_this(alloc: Global, text: &str) -> Advice {
-    sentence(alloc, &["Write `", text, "`."])
-}
-
-/// There is a word like the one that was written.
-pub fn did_you_mean(alloc: Global, word: &str) -> Advice {
-    sentence(alloc, &["Did you mean `", word, "`?"])
-}
-
-/// One of these words is meant, this one probably.
-pub fn did_you_mean_one_of(alloc: Global, word: &str, words: &[&str]) -> Advice {
-    let words = listed(alloc, words)?;
-    sentence(
-        alloc,
-        &[
-            "Did you mean `",
-            word,
-            "`? It is one of ",
-            words.as_str(),
-            ".",
-        ],
-    )
-}
-
-/// One of these is wanted, probably the one nearest to the word that was written.
-pub fn nearest_of(alloc: Global, word: &str, words: &[&str]) -> Advice {
-    match nearest(alloc, word, words)? {
-        Some(near) => did_you_mean_one_of(alloc, near, words),
-        None => Ok(None),
+impl Gap<'_> {
+    fn put(self, lines: &mut String) -> Result<(), AllocError> {
+        match self {
+            Gap::Text(text) => lines.push_str(text),
+            Gap::Number(number) => write!(lines, "{number}"),
+            Gap::Words(words) => put_list(lines, words, "`", ", "),
+            Gap::Types(types) => put_list(lines, types, "", " . "),
+        }
     }
 }
 
+/// Writes words in quotes, with a mark between two.
+fn put_list(
+    lines: &mut String,
+    words: &[&str],
+    quote: &str,
+    between: &str,
+) -> Result<(), AllocError> {
+    let mut mark = "";
+    for word in words {
+        lines.push_str(mark)?;
+        lines.push_str(quote)?;
+        lines.push_str(word)?;
+        lines.push_str(quote)?;
+        mark = between;
+    }
+    Ok(())
+}
+
+/// Words of which one may be meant by the one that was written.
+#[derive(Clone, Copy)]
+struct Guess<'a> {
+    written: &'a str,
+    words: &'a [&'a str],
+    /// What is asked where one is near: that one fills the first gap, all of them the second.
+    question: &'static str,
+}
+
+/// What to do: a sentence, with a `{}` in each of its gaps.
+#[derive(Clone, Copy)]
+pub struct Advice<'a> {
+    sentence: &'static str,
+    gaps: [Gap<'a>; 4],
+    /// What is asked in its place, if a word is near.
+    guess: Option<Guess<'a>>,
+}
+
+impl<'a> Advice<'a> {
+    /// The same, unless one of some words is near the one that was written.
+    pub fn unless_near(
+        self,
+        written: &'a str,
+        words: &'a [&'a str],
+        question: &'static str,
+    ) -> Advice<'a> {
+        Advice {
+            guess: Some(Guess {
+                written,
+                words,
+                question,
+            }),
+            ..self
+        }
+    }
+
+    /// Writes it on a line.
+    pub fn put(self, alloc: Global, lines: &mut String) -> Result<(), AllocError> {
+        if let Some(guess) = self.guess {
+            if let Some(near) = nearest(alloc, guess.written, guess.words)? {
+                let gaps = [Gap::Text(near), Gap::Words(guess.words), NO_GAP, NO_GAP];
+                return put_filled(lines, guess.question, &gaps);
+            }
+        }
+        put_filled(lines, self.sentence, &self.gaps)
+    }
+}
+
+/// Writes a sentence on a line, its gaps filled.
+fn put_filled(lines: &mut String, sentence: &str, gaps: &[Gap<'_>]) -> Result<(), AllocError> {
+    let mut gaps = gaps.iter();
+    for piece in sentence.split("{}") {
+        lines.push_str(piece)?;
+        if let Some(gap) = gaps.next() {
+            gap.put(lines)?;
+        }
+    }
+    lines.push('\n')
+}
+
+/// A sentence with so many gaps filled.
+pub fn filled<'a>(sentence: &'static str, gaps: [Gap<'a>; 4]) -> Advice<'a> {
+    Advice {
+        sentence,
+        gaps,
+        guess: None,
+    }
+}
+
+/// A sentence without gaps.
+pub fn fixed<'a>(sentence: &'static str) -> Advice<'a> {
+    with_text(sentence, "")
+}
+
+/// A sentence with a word in its gap.
+pub fn with_text<'a>(sentence: &'static str, text: &'a str) -> Advice<'a> {
+    with_texts(sentence, text, "")
+}
+
+/// A sentence with a word in each of its two gaps.
+pub fn with_texts<'a>(sentence: &'static str, first: &'a str, second: &'a str) -> Advice<'a> {
+    filled(
+        sentence,
+        [Gap::Text(first), Gap::Text(second), NO_GAP, NO_GAP],
+    )
+}
+
+/// This is to be written in place of what stands there.
+pub fn write_this<'a>(text: &'a str) -> Advice<'a> {
+    with_text("Write `{}`.", text)
+}
+
+/// The question for a near word.
+pub const DID_YOU_MEAN: &str = "Did you mean `{}`?";
+
+/// The question for a near word, one of several.
+pub const DID_YOU_MEAN_ONE_OF: &str = "Did you mean `{}`? It is one of {}.";
+
 /// One of these is wanted.
-pub fn one_of(alloc: Global, words: &[&str]) -> Advice {
-    let words = listed(alloc, words)?;
-    sentence(alloc, &["Expected one of ", words.as_str(), "."])
+pub fn one_of<'a>(words: &'a [&'a str]) -> Advice<'a> {
+    filled(
+        "Expected one of {}.",
+        [Gap::Words(words), NO_GAP, NO_GAP, NO_GAP],
+    )
 }
 
 /// The names that could stand here: of what, and which.
-pub fn names_are(alloc: Global, kind: &str, names: &[&str]) -> Advice {
-    let names = listed(alloc, names)?;
-    sentence(alloc, &[kind, ": ", names.as_str(), "."])
+pub fn names_are<'a>(kind: &'a str, names: &'a [&'a str]) -> Advice<'a> {
+    filled(
+        "{}: {}.",
+        [Gap::Text(kind), Gap::Words(names), NO_GAP, NO_GAP],
+    )
 }
 
 /// The greatest number of a type.
-pub fn greatest_is(alloc: Global, of: &str, most: u64) -> Advice {
-    Ok(Some(format!(in alloc; "The greatest {of} is {most}.")?))
+pub fn greatest_is<'a>(of: &'a str, most: u64) -> Advice<'a> {
+    filled(
+        "The greatest {} is {}.",
+        [Gap::Text(of), Gap::Number(most), NO_GAP, NO_GAP],
+    )
 }
 
 /// A type takes no such value, but this.
-pub fn no_value(alloc: Global, of: &str, instead: &str) -> Advice {
-    sentence(alloc, &["This is no ", of, ": write ", instead, "."])
+pub fn no_value<'a>(of: &'a str, instead: &'a str) -> Advice<'a> {
+    with_texts("This is no {}: write {}.", of, instead)
 }

@@ -1,12 +1,9 @@
 //! Explains a fault: what its code means, where it is, and what to do.
-use crate::place_advice::place_advice;
-use advice_sentences::Advice;
-use box_file::BoxFault;
+use crate::place_advice::put_place_advice;
 use fault_location::{Fault, Sources, Subject, text_place};
 use fault_places::{enclosing_description, show};
 use nft_parser::TextFault;
-use rule_check::CheckFault;
-use rules_advice::{advice_on_box, advice_on_rules};
+use rules_advice::{put_advice_on_box, put_advice_on_rules};
 use std::alloc::{AllocError, Global};
 
 /// The lines that explain a fault: what its code means, and, if it is one of the ruleset or of the
@@ -31,6 +28,12 @@ fn put_meaning(alloc: Global, fault: Fault, lines: &mut String) -> Result<(), Al
     }
 }
 
+/// Writes a line.
+fn put_line(lines: &mut String, line: &str) -> Result<(), AllocError> {
+    lines.push_str(line)?;
+    lines.push('\n')
+}
+
 /// Writes where a fault is, and what to do.
 fn put_place(
     alloc: Global,
@@ -38,71 +41,61 @@ fn put_place(
     sources: Sources<'_>,
     lines: &mut String,
 ) -> Result<(), AllocError> {
-    match located(alloc, fault, sources, lines)? {
-        Some(advice) => put_line(lines, advice.as_str()),
-        None => Ok(()),
-    }
-}
-
-/// Writes a line.
-fn put_line(lines: &mut String, line: &str) -> Result<(), AllocError> {
-    lines.push_str(line)?;
-    lines.push('\n')
-}
-
-/// Writes where a fault is, and gives what to do.
-fn located(alloc: Global, fault: Fault, sources: Sources<'_>, lines: &mut String) -> Advice {
+    let Sources {
+        paths,
+        rules,
+        plant,
+    } = sources;
     match fault {
-        Fault::Text(fault) => located_in_text(alloc, sources, fault, lines),
-        Fault::Check(fault) => located_in_rules(alloc, sources, fault, lines),
-        Fault::Box(fault) => located_in_box(alloc, sources, fault, lines),
-        Fault::Capture(_) => Ok(None),
+        Fault::Text(fault) => put_place_in_text(alloc, paths.rules, rules, fault, lines),
+        Fault::Check(fault) => {
+            put_place_of(
+                alloc,
+                Subject::Rules { fault, plant },
+                paths.rules,
+                rules,
+                lines,
+            )
+        }
+        Fault::Box(fault) => put_place_of(alloc, Subject::Box(fault), paths.plant, plant, lines),
+        Fault::Capture(_) => Ok(()),
     }
 }
 
-/// Writes where a fault of a ruleset's text is, and gives what to do.
-fn located_in_text(
+/// Writes where a fault of a ruleset's text is, and what to do.
+fn put_place_in_text(
     alloc: Global,
-    sources: Sources<'_>,
+    path: &str,
+    text: &[u8],
     fault: TextFault,
     lines: &mut String,
-) -> Advice {
-    let Some(place) = text_place(alloc, sources.rules, fault)? else {
-        return Ok(None);
+) -> Result<(), AllocError> {
+    let Some(place) = text_place(alloc, text, fault)? else {
+        return Ok(());
     };
-    show(
-        alloc,
-        lines,
-        sources.paths.rules,
-        sources.rules,
-        place.offset(),
-    )?;
-    place_advice(alloc, sources.rules, fault, place)
+    show(alloc, lines, path, text, place.offset())?;
+    put_place_advice(alloc, text, fault, place, lines)
 }
 
-/// Writes where a fault of a ruleset as a whole is, and gives what to do.
-fn located_in_rules(
+/// Writes where a fault of judged rules or of a box file is, and what to do.
+fn put_place_of(
     alloc: Global,
-    sources: Sources<'_>,
-    fault: CheckFault,
+    subject: Subject<'_>,
+    path: &str,
+    text: &[u8],
     lines: &mut String,
-) -> Advice {
-    let subject = Subject::Rules {
-        fault,
-        plant: sources.plant,
+) -> Result<(), AllocError> {
+    let Some(found) = subject.location(alloc, text)? else {
+        return Ok(());
     };
-    let Some(found) = subject.location(alloc, sources.rules)? else {
-        return Ok(None);
-    };
-    show(
-        alloc,
-        lines,
-        sources.paths.rules,
-        sources.rules,
-        found.offset,
-    )?;
-    put_enclosing(alloc, sources.rules, found.offset, lines)?;
-    advice_on_rules(alloc, sources.rules, sources.plant, fault, found.offset)
+    show(alloc, lines, path, text, found.offset)?;
+    match subject {
+        Subject::Rules { fault, plant } => {
+            put_enclosing(alloc, text, found.offset, lines)?;
+            put_advice_on_rules(alloc, text, plant, fault, found.offset, lines)
+        }
+        Subject::Box(fault) => put_advice_on_box(alloc, text, fault, found.part, lines),
+    }
 }
 
 /// Writes what is around an offset.
@@ -117,24 +110,4 @@ fn put_enclosing(
         return Ok(());
     }
     put_line(lines, around.as_str())
-}
-
-/// Writes where a fault of a box file is, and gives what to do.
-fn located_in_box(
-    alloc: Global,
-    sources: Sources<'_>,
-    fault: BoxFault,
-    lines: &mut String,
-) -> Advice {
-    let Some(found) = Subject::Box(fault).location(alloc, sources.plant)? else {
-        return Ok(None);
-    };
-    show(
-        alloc,
-        lines,
-        sources.paths.plant,
-        sources.plant,
-        found.offset,
-    )?;
-    advice_on_box(alloc, sources.plant, fault, found.part)
 }

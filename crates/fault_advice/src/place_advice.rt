@@ -1,26 +1,46 @@
 //! What to do at the place of a fault.
-use crate::shape_advice::brace_advice;
+use crate::shape_advice::put_brace_advice;
 use crate::stop::Stop;
 use crate::token_advice::token_advice;
-use crate::word_advice::syntax_advice;
-use advice_sentences::Advice;
+use crate::word_advice::put_syntax_advice;
 use fault_location::{TextPlace, UnreadablePart};
+use fault_places::{Words, bytes_of, rest_from};
+use nft_lexer::LexFault;
 use nft_parser::TextFault;
-use std::alloc::Global;
+use std::alloc::{AllocError, Global};
 
-/// What to do about a fault of a ruleset's text at its place, if it is known.
-pub fn place_advice(alloc: Global, text: &[u8], fault: TextFault, place: TextPlace) -> Advice {
+/// Writes what to do about a fault of a ruleset's text at its place, if it is known.
+pub fn put_place_advice(
+    alloc: Global,
+    text: &[u8],
+    fault: TextFault,
+    place: TextPlace,
+    lines: &mut String,
+) -> Result<(), AllocError> {
     match (place, fault) {
         (TextPlace::Token(offset), TextFault::Lexical(fault)) => {
-            token_advice(alloc, text, fault, offset)
+            put_token_advice(alloc, text, fault, offset, lines)
         }
-        (TextPlace::Brace(brace), _) => brace_advice(alloc, text, brace),
-        (TextPlace::Part { offset, unreadable }, _) => part_advice(alloc, text, unreadable, offset),
-        _ => Ok(None),
+        (TextPlace::Brace(brace), _) => put_brace_advice(alloc, text, brace, lines),
+        (TextPlace::Part { offset, unreadable }, _) => {
+            put_syntax_advice(&Stop::new(alloc, text, unreadable, offset)?, lines)
+        }
+        _ => Ok(()),
     }
 }
 
-/// What to do at an offset of a part, at which the grammar stops.
-fn part_advice(alloc: Global, text: &[u8], unreadable: UnreadablePart, offset: usize) -> Advice {
-    syntax_advice(&Stop::new(alloc, text, unreadable, offset)?)
+/// Writes what to do about a lexical fault at an offset.
+fn put_token_advice(
+    alloc: Global,
+    text: &[u8],
+    fault: LexFault,
+    offset: usize,
+    lines: &mut String,
+) -> Result<(), AllocError> {
+    let rest = rest_from(text, offset);
+    let words = Words::of(alloc, text, rest)?;
+    match token_advice(fault, bytes_of(text, rest), words.get(0)) {
+        Some(advice) => advice.put(alloc, lines),
+        None => Ok(()),
+    }
 }

@@ -62,19 +62,37 @@ impl<'a> Stop<'a> {
         self.unreadable.level == Level::Rules
     }
 
+    /// Whether a brace is open at the place.
+    pub fn is_in_braces(&self) -> bool {
+        let mut open = 0usize;
+        for number in 0..self.at {
+            match self.words.get(number) {
+                "{" => open = open.saturating_add(1),
+                "}" => open = open.saturating_sub(1),
+                _ => {}
+            }
+        }
+        open > 0
+    }
+
     /// What stands before the place.
     pub fn start(&self) -> Span {
         up_to(self.unreadable.part, self.offset)
     }
 
-    /// Whether the grammar allows this behind what stands before the place: in its part, or, where
-    /// that begins here, in its chain.
-    pub fn allows(&self, added: &str) -> Result<bool, AllocError> {
-        if self.is_prefix(self.unreadable.wrapper, self.start(), added)? {
+    /// Whether the grammar allows a word, with another one behind it, at the place: in its part, or,
+    /// where that begins here, in its chain.
+    pub fn allows(&self, word: &str, next: &str) -> Result<bool, AllocError> {
+        let added = [word, " ", next].concat(self.alloc)?;
+        if self.allows_behind(self.start(), added.as_str())? {
             return Ok(true);
         }
         match self.chain {
-            Some(chain) => self.is_prefix(Wrapper::Declaration, up_to(chain, self.offset), added),
+            Some(chain) => self.is_prefix(
+                Wrapper::Declaration,
+                up_to(chain, self.offset),
+                added.as_str(),
+            ),
             None => Ok(false),
         }
     }
@@ -91,22 +109,44 @@ impl<'a> Stop<'a> {
             return Ok(false);
         }
         let prefix = with_word(self.alloc, before, added)?;
-        wrapper.is_prefix(self.alloc, &prefix, open_in(self.alloc, &prefix)?)
+        let words = Words::of(self.alloc, &prefix, rest_from(&prefix, 0))?;
+        wrapper.is_prefix(self.alloc, &prefix, open_braces(&words))
     }
 
-    /// Those of some words that the grammar allows at the place.
-    pub fn allowed_of<'w>(&self, words: &[&'w str]) -> Result<Vec<&'w str>, AllocError> {
+    /// Those of some words that the grammar allows at the place, with another one behind them.
+    pub fn allowed_of(
+        &self,
+        words: &[&'static str],
+        next: &str,
+    ) -> Result<Vec<&'static str>, AllocError> {
         let mut allowed = Vec::new(self.alloc);
-        for word in words {
-            if self.allows(word)? {
-                allowed.push(*word)?;
+        for &word in words {
+            if self.allows(word, next)? {
+                allowed.push(word)?;
             }
         }
         Ok(allowed)
     }
 
-    /// Whether the part can be read without one of its words.
-    pub fn reads_without(&self, word: Span) -> Result<bool, AllocError> {
+    /// The first of them.
+    pub fn first_allowed(
+        &self,
+        words: &[&'static str],
+        next: &str,
+    ) -> Result<Option<&'static str>, AllocError> {
+        for &word in words {
+            if self.allows(word, next)? {
+                return Ok(Some(word));
+            }
+        }
+        Ok(None)
+    }
+
+    /// Whether there is a word of this number without which the part can be read.
+    pub fn reads_without(&self, number: usize) -> Result<bool, AllocError> {
+        let Some(word) = self.words.spans.get(number) else {
+            return Ok(false);
+        };
         let part = self.unreadable.part;
         let behind = Span {
             start: word.end,
@@ -138,9 +178,4 @@ fn with_word(alloc: Global, before: &[u8], word: &str) -> Result<Vec<u8>, AllocE
     text.push(b' ')?;
     text.extend_from_slice(word.as_bytes())?;
     Ok(text)
-}
-
-/// How many braces a text leaves open.
-fn open_in(alloc: Global, text: &[u8]) -> Result<usize, AllocError> {
-    Ok(open_braces(&Words::of(alloc, text, rest_from(text, 0))?))
 }

@@ -1,16 +1,14 @@
 //! What to do about a word that is no token.
-use advice_sentences::{Advice, fixed, sentence};
-use fault_places::{Words, bytes_of, rest_from};
+use advice_sentences::{Advice, fixed, with_text};
 use nft_lexer::LexFault;
-use std::alloc::Global;
 
-/// What to do about a lexical fault at an offset.
-pub fn token_advice(alloc: Global, text: &[u8], fault: LexFault, offset: usize) -> Advice {
+/// What to do about a lexical fault, where these bytes are left, which begin with a word.
+pub fn token_advice<'a>(fault: LexFault, rest: &[u8], word: &'a str) -> Option<Advice<'a>> {
     match fault {
-        LexFault::Byte { .. } => fixed(alloc, byte_advice(bytes_of(text, rest_from(text, offset)))),
-        LexFault::OpenString { .. } => fixed(alloc, "Close it with `\"` on this line."),
-        LexFault::Number { .. } => number_advice(alloc, text, offset),
-        LexFault::TooLong => Ok(None),
+        LexFault::Byte { .. } => Some(fixed(byte_advice(rest))),
+        LexFault::OpenString { .. } => Some(fixed("Close it with `\"` on this line.")),
+        LexFault::Number { .. } => Some(number_advice(rest, word)),
+        LexFault::TooLong => None,
     }
 }
 
@@ -42,41 +40,21 @@ fn letter_advice(rest: &[u8]) -> &'static str {
 }
 
 /// What to do about a number or an address.
-fn number_advice(alloc: Global, text: &[u8], offset: usize) -> Advice {
-    let rest = rest_from(text, offset);
-    if is_hardware(bytes_of(text, rest)) {
-        return fixed(
-            alloc,
-            "Link headers aren't read: take the match out, or the rule.",
-        );
+fn number_advice<'a>(rest: &[u8], word: &'a str) -> Advice<'a> {
+    // Two digits and a colon stand in a hardware address.
+    if matches!(rest, [_, _, b':', ..]) {
+        return fixed("Link headers aren't read: take the match out, or the rule.");
     }
-    numeral_advice(alloc, Words::of(alloc, text, rest)?.get(0))
-}
-
-/// What to do about a word that begins with a digit.
-fn numeral_advice(alloc: Global, word: &str) -> Advice {
     if word.find('.').is_some() {
-        return fixed(
-            alloc,
-            "A group of an address is at most 255, without leading zeros.",
-        );
+        return fixed("A group of an address is at most 255, without leading zeros.");
     }
     if word.starts_with("0") {
-        return plain_number(alloc, without_zeros(word));
+        return with_text(
+            "Write `{}`: a number has no leading zeros.",
+            without_zeros(word),
+        );
     }
-    fixed(alloc, "Numbers are below 2^64.")
-}
-
-fn plain_number(alloc: Global, number: &str) -> Advice {
-    sentence(
-        alloc,
-        &["Write `", number, "`: a number has no leading zeros."],
-    )
-}
-
-/// Whether two digits and a colon stand here, as in a hardware address.
-fn is_hardware(rest: &[u8]) -> bool {
-    matches!(rest, [_, _, b':', ..])
+    fixed("Numbers are below 2^64.")
 }
 
 /// A number without its leading zeros.

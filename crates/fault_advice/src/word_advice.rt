@@ -1,8 +1,11 @@
 //! What to do where the grammar doesn't allow a word: the word that may be meant, or is missing.
-use crate::shape_advice::{left_out_advice, shape_advice};
+use crate::shape_advice::{is_list, left_out_advice, put_list_advice, shape_advice};
 use crate::stop::Stop;
-use advice_sentences::{Advice, did_you_mean, did_you_mean_one_of, one_of, sentence, write_this};
-use nft_words::{Kind, Near, kinds, near_words, other_words, words_of};
+use advice_sentences::{
+    Advice, DID_YOU_MEAN, DID_YOU_MEAN_ONE_OF, Gap, NO_GAP, filled, one_of, with_text, with_texts,
+    write_this,
+};
+use nft_words::{Kind, changes, kinds, otherwise, words_of};
 use std::alloc::{AllocError, Global};
 
 /// The most words that are listed as those that could stand at a place.
@@ -20,255 +23,202 @@ static MISSING: [&str; 16] = [
 /// Values of some types.
 static VALUES: [&str; 3] = ["1", "192.0.2.1", "\"x\""];
 
-/// What to do at the place at which the grammar stops, if it is known.
-pub fn syntax_advice(stop: &Stop<'_>) -> Advice {
-    if let Some(found) = left_out_advice(stop)? {
-        return Ok(Some(found));
+/// Writes what to do at the place at which the grammar stops, if it is known.
+pub fn put_syntax_advice(stop: &Stop<'_>, lines: &mut String) -> Result<(), AllocError> {
+    if let Some(advice) = left_out_advice(stop).or(shape_advice(stop)) {
+        return advice.put(stop.alloc, lines);
     }
-    if let Some(found) = shape_advice(stop)? {
-        return Ok(Some(found));
+    if is_list(stop) && put_list_advice(stop, lines)? {
+        return Ok(());
     }
-    if let Some(found) = other_word(stop)? {
-        return Ok(Some(found));
+    match meant_word(stop)? {
+        Some(meant) => put_meant(stop, meant, lines),
+        None => put_count_advice(stop, lines),
     }
-    count_advice(stop)
 }
 
-/// A word that is missing, or one too many; or else the words that may stand at the place.
-fn count_advice(stop: &Stop<'_>) -> Advice {
-    if let Some(found) = missing_advice(stop)? {
-        return Ok(Some(found));
+/// Writes which word is missing, or one too many; or else which may stand at the place.
+fn put_count_advice(stop: &Stop<'_>, lines: &mut String) -> Result<(), AllocError> {
+    if let Some(advice) = count_advice(stop)? {
+        return advice.put(stop.alloc, lines);
     }
-    if let Some(found) = surplus_advice(stop)? {
-        return Ok(Some(found));
+    let words = expected_words(stop)?;
+    match expected_advice(stop, &words) {
+        Some(advice) => advice.put(stop.alloc, lines),
+        None => Ok(()),
     }
-    expected_advice(stop)
 }
 
-/// A word that is written otherwise here, or is misspelt.
-fn other_word(stop: &Stop<'_>) -> Advice {
-    let here = stop.here();
-    if here.is_empty() {
-        return Ok(None);
-    }
-    for other in other_words(stop.alloc, here)? {
-        if stop.allows(other)? {
-            return write_this(stop.alloc, other);
-        }
-    }
-    misspelt_advice(stop)
-}
-
-/// A word near the one at the place, and its kind.
+/// A word that may be meant by the one at the place: of a kind one that is so many changes away, of
+/// none one that is written here in its place.
 #[derive(Clone, Copy)]
-struct NearWord {
-    near: Near<'static>,
-    kind: &'static Kind,
+struct Meant {
+    word: &'static str,
+    changes: usize,
+    kind: Option<&'static Kind>,
 }
 
-/// The nearest word that may stand at the place.
-fn misspelt_advice(stop: &Stop<'_>) -> Advice {
-    let mut found = words_near(stop)?;
-    found.sort_by_key(|word| word.near.changes)?;
-    for word in &found {
-        if stop.allows(word.near.word)? {
-            return nearest_advice(stop, *word);
+/// The first one of the words that may be meant which the grammar allows.
+fn meant_word(stop: &Stop<'_>) -> Result<Option<Meant>, AllocError> {
+    for meant in &words_meant(stop)? {
+        if stop.allows(meant.word, "")? {
+            return Ok(Some(*meant));
         }
     }
     Ok(None)
 }
 
-/// The words near the one at the place, in whatever case that is written.
-fn words_near(stop: &Stop<'_>) -> Result<Vec<NearWord>, AllocError> {
-    let here = stop.here().to_ascii_lowercase(stop.alloc)?;
+/// The words that may be meant, the nearest ones first, in whatever case the one at the place is
+/// written.
+fn words_meant(stop: &Stop<'_>) -> Result<Vec<Meant>, AllocError> {
     let mut found = Vec::new(stop.alloc);
+    add_others(stop.here(), &mut found)?;
+    let here = stop.here().to_ascii_lowercase(stop.alloc)?;
     for kind in kinds() {
         add_near(stop.alloc, here.as_str(), kind, &mut found)?;
     }
+    found.sort_by_key(|meant| meant.changes)?;
     Ok(found)
+}
+
+/// Adds what stands here for a word that others write.
+fn add_others(here: &str, found: &mut Vec<Meant>) -> Result<(), AllocError> {
+    for (written, instead) in otherwise() {
+        if *written == here {
+            found.push(Meant {
+                word: instead,
+                changes: 0,
+                kind: None,
+            })?;
+        }
+    }
+    Ok(())
 }
 
 /// Adds the words of a kind that are near another one.
 fn add_near(
     alloc: Global,
-    word: &str,
+    written: &str,
     kind: &'static Kind,
-    found: &mut Vec<NearWord>,
+    found: &mut Vec<Meant>,
 ) -> Result<(), AllocError> {
-    let words = kind.words(alloc)?;
-    for near in &near_words(alloc, word, &words)? {
-        found.push(NearWord { near: *near, kind })?;
+    for word in kind.words() {
+        if let Some(changes) = changes(alloc, written, word)? {
+            found.push(Meant {
+                word,
+                changes,
+                kind: Some(kind),
+            })?;
+        }
     }
     Ok(())
 }
 
-/// A word, and the others of its kind that may stand at the place.
-fn nearest_advice(stop: &Stop<'_>, nearest: NearWord) -> Advice {
-    let others = allowed_of_kind(stop, nearest.kind)?;
+/// Writes the word that is meant, and the others of its kind that may stand at the place.
+fn put_meant(stop: &Stop<'_>, meant: Meant, lines: &mut String) -> Result<(), AllocError> {
+    let Some(kind) = meant.kind else {
+        return write_this(meant.word).put(stop.alloc, lines);
+    };
+    let others = stop.allowed_of(kind.words(), "")?;
+    near_advice(meant.word, &others).put(stop.alloc, lines)
+}
+
+/// A word is meant, one of these if they are few.
+fn near_advice<'a>(word: &'a str, others: &'a [&'a str]) -> Advice<'a> {
     if others.len() < 2 || others.len() > MOST_LISTED {
-        return did_you_mean(stop.alloc, nearest.near.word);
+        return with_text(DID_YOU_MEAN, word);
     }
-    did_you_mean_one_of(stop.alloc, nearest.near.word, &others)
-}
-
-/// Those words of a kind that may stand at the place.
-fn allowed_of_kind(stop: &Stop<'_>, kind: &Kind) -> Result<Vec<&'static str>, AllocError> {
-    stop.allowed_of(&kind.words(stop.alloc)?)
-}
-
-/// What is missing before the word at the place.
-fn missing_advice(stop: &Stop<'_>) -> Advice {
-    if is_value_missing(stop)? {
-        return value_before(stop);
-    }
-    missing_mark(stop, &missing_of(stop, &MARKS)?)
-}
-
-/// Whether a value is missing before a statement.
-fn is_value_missing(stop: &Stop<'_>) -> Result<bool, AllocError> {
-    if !begins_statement(stop.alloc, stop.here())? {
-        return Ok(false);
-    }
-    Ok(!missing_of(stop, &VALUES)?.is_empty())
-}
-
-/// What to do where one of these marks is missing.
-fn missing_mark(stop: &Stop<'_>, marks: &[&str]) -> Advice {
-    if stop.here().is_empty() {
-        return match marks {
-            ["{"] => brace_behind(stop),
-            [] => Ok(None),
-            _ => missing_behind(stop),
-        };
-    }
-    match marks {
-        [] => missing_word(stop),
-        [";"] => expected_before(stop, "`;` or a newline"),
-        ["{", "@"] | ["@"] => reference(stop),
-        [one, other] => expected_either(stop, one, other),
-        [one, ..] => expected_word(stop, one),
-    }
-}
-
-/// A word or a value that is missing before the word at the place.
-fn missing_word(stop: &Stop<'_>) -> Advice {
-    if let Some(word) = missing_of(stop, &MISSING)?.first() {
-        return expected_word(stop, word);
-    }
-    if missing_of(stop, &VALUES)?.is_empty() {
-        return Ok(None);
-    }
-    value_before(stop)
-}
-
-/// Those of some words with which the word at the place may follow.
-fn missing_of(stop: &Stop<'_>, words: &[&'static str]) -> Result<Vec<&'static str>, AllocError> {
-    let mut found = Vec::new(stop.alloc);
-    for word in words {
-        if is_missing(stop, word)? {
-            found.push(*word)?;
-        }
-    }
-    Ok(found)
-}
-
-/// Whether the word at the place may follow with this one before it.
-fn is_missing(stop: &Stop<'_>, word: &str) -> Result<bool, AllocError> {
-    let added = [word, " ", stop.here()].concat(stop.alloc)?;
-    stop.allows(added.as_str())
-}
-
-fn expected_before(stop: &Stop<'_>, wanted: &str) -> Advice {
-    sentence(
-        stop.alloc,
-        &["Expected ", wanted, " before `", stop.here(), "`."],
+    filled(
+        DID_YOU_MEAN_ONE_OF,
+        [Gap::Text(word), Gap::Words(others), NO_GAP, NO_GAP],
     )
 }
 
-fn expected_word(stop: &Stop<'_>, wanted: &str) -> Advice {
-    sentence(
-        stop.alloc,
-        &["Expected `", wanted, "` before `", stop.here(), "`."],
-    )
+/// What is missing before the word at the place, or is one too many.
+fn count_advice<'a>(stop: &Stop<'a>) -> Result<Option<Advice<'a>>, AllocError> {
+    let here = stop.here();
+    if begins_statement(here) && stop.first_allowed(&VALUES, here)?.is_some() {
+        return Ok(Some(value_before(here)));
+    }
+    let marks = stop.allowed_of(&MARKS, here)?;
+    match missing_mark(stop.before(1), here, &marks) {
+        Some(advice) => Ok(Some(advice)),
+        None => missing_word(stop),
+    }
 }
 
-fn expected_either(stop: &Stop<'_>, one: &str, other: &str) -> Advice {
-    sentence(
-        stop.alloc,
-        &[
-            "Expected `",
-            one,
-            "` or `",
-            other,
-            "` before `",
-            stop.here(),
-            "`.",
-        ],
-    )
+/// Which of these marks is missing between two words; at the end of a part the second one is empty.
+fn missing_mark<'a>(before: &'a str, here: &'a str, marks: &[&'static str]) -> Option<Advice<'a>> {
+    let one = marks.first().copied()?;
+    Some(match (one, marks.len()) {
+        ("{", 1) if here.is_empty() => with_text("Expected `{` behind `{}`.", before),
+        _ if here.is_empty() => something_behind(before),
+        (";", 1) => with_text("Expected `;` or a newline before `{}`.", here),
+        ("@", 1) | ("{", 2) => with_text("Write `@{}`.", here),
+        (_, 2) => expected_either(one, marks.last().copied().unwrap_or(""), here),
+        _ => expected_word(one, here),
+    })
 }
 
-fn value_before(stop: &Stop<'_>) -> Advice {
-    expected_before(stop, "a value")
+fn expected_either<'a>(one: &'a str, other: &'a str, here: &'a str) -> Advice<'a> {
+    let gaps = [Gap::Text(one), Gap::Text(other), Gap::Text(here), NO_GAP];
+    filled("Expected `{}` or `{}` before `{}`.", gaps)
 }
 
-fn missing_behind(stop: &Stop<'_>) -> Advice {
-    sentence(
-        stop.alloc,
-        &["Something is missing behind `", stop.before(1), "`."],
-    )
+/// A word or a value that is missing before the word at the place, or else a word too many.
+fn missing_word<'a>(stop: &Stop<'a>) -> Result<Option<Advice<'a>>, AllocError> {
+    let here = stop.here();
+    if here.is_empty() {
+        return surplus_advice(stop);
+    }
+    if let Some(word) = stop.first_allowed(&MISSING, here)? {
+        return Ok(Some(expected_word(word, here)));
+    }
+    if stop.first_allowed(&VALUES, here)?.is_some() {
+        return Ok(Some(value_before(here)));
+    }
+    surplus_advice(stop)
 }
 
-fn brace_behind(stop: &Stop<'_>) -> Advice {
-    sentence(stop.alloc, &["Expected `{` behind `", stop.before(1), "`."])
+fn expected_word<'a>(wanted: &'a str, here: &'a str) -> Advice<'a> {
+    with_texts("Expected `{}` before `{}`.", wanted, here)
 }
 
-/// The name at the place is one of a set or a map.
-fn reference(stop: &Stop<'_>) -> Advice {
-    sentence(stop.alloc, &["Write `@", stop.here(), "`."])
+fn value_before<'a>(here: &'a str) -> Advice<'a> {
+    with_text("Expected a value before `{}`.", here)
+}
+
+fn something_behind<'a>(before: &'a str) -> Advice<'a> {
+    with_text("Something is missing behind `{}`.", before)
 }
 
 /// The word at the place or the one before, where the part can be read without it.
-fn surplus_advice(stop: &Stop<'_>) -> Advice {
+fn surplus_advice<'a>(stop: &Stop<'a>) -> Result<Option<Advice<'a>>, AllocError> {
     for number in [stop.at, stop.at.saturating_sub(1)] {
-        if is_surplus(stop, number)? {
-            return sentence(stop.alloc, &["Take `", stop.words.get(number), "` out."]);
+        if stop.reads_without(number)? {
+            let word = stop.words.get(number);
+            return Ok(Some(with_text("Take `{}` out.", word)));
         }
     }
     Ok(None)
 }
 
-/// Whether there is a word of this number without which the part can be read.
-fn is_surplus(stop: &Stop<'_>, number: usize) -> Result<bool, AllocError> {
-    match stop.words.spans.get(number) {
-        Some(word) => stop.reads_without(*word),
-        None => Ok(false),
-    }
-}
-
-/// The words that may stand at the place, if they are few.
-fn expected_advice(stop: &Stop<'_>) -> Advice {
-    let words = expected_words(stop)?;
+/// What to do where these words may stand at the place, if they are few.
+fn expected_advice<'a>(stop: &Stop<'a>, words: &'a [&'a str]) -> Option<Advice<'a>> {
     match words.len() {
-        0 => Ok(None),
-        1..=MOST_LISTED => one_of(stop.alloc, &words),
-        _ if stop.here().is_empty() => missing_behind(stop),
-        _ if stop.is_in_rule() => no_statement(stop),
-        _ => Ok(None),
+        0 => None,
+        1..=MOST_LISTED => Some(one_of(words)),
+        _ if stop.here().is_empty() => Some(something_behind(stop.before(1))),
+        _ if stop.is_in_rule() => Some(with_text("No statement begins with `{}`.", stop.here())),
+        _ => None,
     }
-}
-
-fn no_statement(stop: &Stop<'_>) -> Advice {
-    sentence(
-        stop.alloc,
-        &["No statement begins with `", stop.here(), "`."],
-    )
 }
 
 /// The words that may stand at the place.
 fn expected_words(stop: &Stop<'_>) -> Result<Vec<&'static str>, AllocError> {
     let mut words = Vec::new(stop.alloc);
     for kind in kinds() {
-        add_expected(stop, kind, &mut words)?;
+        add_expected(stop, kind.words(), &mut words)?;
     }
     words.sort()?;
     words.dedup();
@@ -278,22 +228,21 @@ fn expected_words(stop: &Stop<'_>) -> Result<Vec<&'static str>, AllocError> {
 /// Adds those words of a kind that may stand at the place, if the first one may.
 fn add_expected(
     stop: &Stop<'_>,
-    kind: &Kind,
+    known: &[&'static str],
     words: &mut Vec<&'static str>,
 ) -> Result<(), AllocError> {
-    let known = kind.words(stop.alloc)?;
-    if stop.allows(known.first().copied().unwrap_or(""))? {
-        words.extend_from_slice(&stop.allowed_of(&known)?)?;
+    if stop.allows(known.first().copied().unwrap_or(""), "")? {
+        words.extend_from_slice(&stop.allowed_of(known, "")?)?;
     }
     Ok(())
 }
 
 /// Whether a word begins a statement.
-fn begins_statement(alloc: Global, word: &str) -> Result<bool, AllocError> {
+fn begins_statement(word: &str) -> bool {
     for kind in ["verdict", "statement", "header", "interface"] {
-        if words_of(alloc, kind)?.contains(&word) {
-            return Ok(true);
+        if words_of(kind).contains(&word) {
+            return true;
         }
     }
-    Ok(false)
+    false
 }

@@ -9,6 +9,6 @@ mod near;
 mod unread;
 mod vocabulary;
 
-pub use near::{Near, listed, near_words, nearest};
+pub use near::{changes, nearest};
 pub use unread::{Place, left_out};
-pub use vocabulary::{Kind, kinds, other_words, words_of};
+pub use vocabulary::{Kind, kinds, otherwise, words_of};

@@ -1,60 +1,74 @@
 //! What to do about a fault of a ruleset as a whole.
 use crate::around::Around;
-use crate::name_advice::{chain_advice, duplicate_advice, interface_advice, set_advice};
+use crate::name_advice::{
+    chain_advice, duplicate_advice, interface_advice, names_wanted, set_advice,
+};
 use crate::type_advice::type_advice;
+use crate::types::Types;
 use crate::value_advice::value_advice;
-use advice_sentences::{Advice, fixed, greatest_is, sentence};
+use advice_sentences::{Advice, fixed, greatest_is, with_text, with_texts};
 use rule_check::CheckFault;
-use std::alloc::Global;
-
-/// The words whose statements end their rule.
-static ENDS: [&str; 11] = [
-    "accept",
-    "drop",
-    "return",
-    "continue",
-    "jump",
-    "goto",
-    "vmap",
-    "snat",
-    "dnat",
-    "masquerade",
-    "redirect",
-];
+use std::alloc::{AllocError, Global};
 
 /// The words that begin a match.
 static MATCHES: [&str; 11] = [
     "ip", "tcp", "udp", "th", "icmp", "meta", "ct", "iifname", "oifname", "iif", "oif",
 ];
 
-/// What to do about a fault at an offset of a ruleset that can be parsed, if it is known.
+/// Writes what to do about a fault at an offset of a ruleset that can be parsed, if it is known.
 ///
 /// # Errors
 /// `AllocError` for want of memory.
-pub fn advice_on_rules(
+pub fn put_advice_on_rules(
     alloc: Global,
     text: &[u8],
     plant: &[u8],
     fault: CheckFault,
     offset: usize,
-) -> Advice {
-    check_advice(&Around::new(alloc, text, plant, offset)?, fault)
+    lines: &mut String,
+) -> Result<(), AllocError> {
+    let around = Around::new(alloc, text, offset)?;
+    put_advice(alloc, &around, plant, fault, lines)
+}
+
+/// Writes what to do about a fault, if it is known.
+fn put_advice(
+    alloc: Global,
+    around: &Around<'_>,
+    plant: &[u8],
+    fault: CheckFault,
+    lines: &mut String,
+) -> Result<(), AllocError> {
+    let names = names_wanted(alloc, around, plant, fault)?;
+    let types = Types::at(alloc, around)?;
+    match check_advice(around, fault, &names, &types) {
+        Some(advice) => advice.put(alloc, lines),
+        None => Ok(()),
+    }
 }
 
 /// What to do about a fault, if it is known.
-fn check_advice(around: &Around<'_>, fault: CheckFault) -> Advice {
+fn check_advice<'a>(
+    around: &Around<'a>,
+    fault: CheckFault,
+    names: &'a [&'a str],
+    types: &'a Types,
+) -> Option<Advice<'a>> {
     match fault {
         CheckFault::DuplicateName => duplicate_advice(around),
-        CheckFault::NoSuchChain => chain_advice(around),
-        CheckFault::NoSuchSet => set_advice(around),
-        CheckFault::TypeMismatch => type_advice(around),
-        CheckFault::WrongValue => value_advice(around),
-        CheckFault::NoSuchInterface => interface_advice(around),
-        CheckFault::BaseChainCalled => split(around),
+        CheckFault::NoSuchChain => Some(chain_advice(around, names)),
+        CheckFault::NoSuchSet => Some(set_advice(around, names)),
+        CheckFault::TypeMismatch => type_advice(around, types),
+        CheckFault::WrongValue => value_advice(around, types),
+        CheckFault::NoSuchInterface => Some(interface_advice(around, names)),
+        CheckFault::BaseChainCalled => Some(with_text(
+            "Put the rules of `{}` into a chain without a `type` line, and jump to that from both.",
+            around.here(),
+        )),
         CheckFault::MisplacedNat => nat(around),
-        CheckFault::StatementAfterVerdict => behind_verdict(around),
-        CheckFault::TooLarge => too_large(around),
-        _ => fixed(around.alloc, sentence_of(fault)),
+        CheckFault::StatementAfterVerdict => Some(behind_verdict(around)),
+        CheckFault::TooLarge => Some(too_large(around)),
+        _ => Some(fixed(sentence_of(fault))),
     }
 }
 
@@ -71,20 +85,8 @@ fn sentence_of(fault: CheckFault) -> &'static str {
     }
 }
 
-/// What to do about a base chain that is called.
-fn split(around: &Around<'_>) -> Advice {
-    sentence(
-        around.alloc,
-        &[
-            "Put the rules of `",
-            around.here(),
-            "` into a chain without a `type` line, and jump to that from both.",
-        ],
-    )
-}
-
 /// The chain in which a NAT statement has its place.
-fn nat(around: &Around<'_>) -> Advice {
+fn nat<'a>(around: &Around<'a>) -> Option<Advice<'a>> {
     for number in 0..around.words.len() {
         let statement = around.words.get(number);
         let head = match statement {
@@ -92,54 +94,41 @@ fn nat(around: &Around<'_>) -> Advice {
             "dnat" | "redirect" => "type nat hook prerouting priority dstnat;",
             _ => continue,
         };
-        return sentence(
-            around.alloc,
-            &["`", statement, "` goes into a chain with `", head, "`."],
-        );
-    }
-    Ok(None)
-}
-
-/// What to do about what stands behind the end of a rule.
-fn behind_verdict(around: &Around<'_>) -> Advice {
-    let Some(end) = end_of_rule(around) else {
-        return fixed(around.alloc, "Write what ends the rule last.");
-    };
-    match around.words.get(end) {
-        word @ ("jump" | "goto") => surplus_advice(around, word, end.saturating_add(2)),
-        word @ ("accept" | "drop" | "return" | "continue") => {
-            surplus_advice(around, word, end.saturating_add(1))
-        }
-        _ => fixed(
-            around.alloc,
-            "A `vmap` or a NAT statement ends its rule: write it last.",
-        ),
-    }
-}
-
-/// The number of the first word whose statement ends the rule.
-fn end_of_rule(around: &Around<'_>) -> Option<usize> {
-    for number in 0..around.words.len() {
-        if ENDS.contains(&around.words.get(number)) {
-            return Some(number);
-        }
+        return Some(with_texts("`{}` goes into a chain with `{}`.", statement, head));
     }
     None
 }
 
+/// What to do about what stands behind the first statement that ends its rule.
+fn behind_verdict<'a>(around: &Around<'a>) -> Advice<'a> {
+    for number in 0..around.words.len() {
+        let word = around.words.get(number);
+        let places = match word {
+            "jump" | "goto" => 2,
+            "accept" | "drop" | "return" | "continue" => 1,
+            "vmap" | "snat" | "dnat" | "masquerade" | "redirect" => {
+                return fixed("A `vmap` or a NAT statement ends its rule: write it last.");
+            }
+            _ => continue,
+        };
+        return surplus_advice(around, word, number.saturating_add(places));
+    }
+    fixed("Write what ends the rule last.")
+}
+
 /// What to do about a word of this number behind the word that ends the rule.
-fn surplus_advice(around: &Around<'_>, end: &str, number: usize) -> Advice {
+fn surplus_advice<'a>(around: &Around<'a>, end: &'a str, number: usize) -> Advice<'a> {
     let word = around.words.get(number);
     let moved = moved_before(around, word);
     if !moved.is_empty() {
-        return move_before(around.alloc, moved, end);
+        return with_texts("Write `{}` before `{}`, which ends the rule.", moved, end);
     }
     let instead = if MATCHES.contains(&word) {
         "begin another one behind it, on a new line"
     } else {
         "take out what stands behind it"
     };
-    ends_rule(around.alloc, end, instead)
+    with_texts("`{}` ends the rule: {}.", end, instead)
 }
 
 /// The statement that a word begins, where it can stand before the end of its rule; else empty.
@@ -151,33 +140,9 @@ fn moved_before<'a>(around: &Around<'a>, word: &'a str) -> &'a str {
     }
 }
 
-fn move_before(alloc: Global, word: &str, end: &str) -> Advice {
-    sentence(
-        alloc,
-        &[
-            "Write `",
-            word,
-            "` before `",
-            end,
-            "`, which ends the rule.",
-        ],
-    )
-}
-
-fn ends_rule(alloc: Global, end: &str, instead: &str) -> Advice {
-    sentence(alloc, &["`", end, "` ends the rule: ", instead, "."])
-}
-
-fn too_large(around: &Around<'_>) -> Advice {
+fn too_large<'a>(around: &Around<'a>) -> Advice<'a> {
     if ["packets", "bytes"].contains(&around.before(1)) {
-        return greatest_is(
-            around.alloc,
-            "start of a counter",
-            4_611_686_018_427_387_904,
-        );
+        return greatest_is("start of a counter", 4_611_686_018_427_387_904);
     }
-    fixed(
-        around.alloc,
-        "A ruleset has at most 16,384 rules and 65,536 elements.",
-    )
+    fixed("A ruleset has at most 16,384 rules and 65,536 elements.")
 }

@@ -12,5 +12,5 @@ mod type_advice;
 mod types;
 mod value_advice;
 
-pub use box_advice::advice_on_box;
-pub use check_advice::advice_on_rules;
+pub use box_advice::put_advice_on_box;
+pub use check_advice::put_advice_on_rules;

@@ -1,184 +1,123 @@
 //! What to do about a name that stands twice, or isn't declared.
 use crate::around::Around;
-use crate::names::{Declared, declared_in, interfaces, names_but};
-use advice_sentences::{Advice, did_you_mean, fixed, names_are, nearest_of, sentence};
-use fault_places::{Level, Span, Words, part_around, position_at, rest_from, spans};
-use nft_words::nearest;
+use crate::names::{Declared, interfaces};
+use advice_sentences::{
+    Advice, DID_YOU_MEAN, DID_YOU_MEAN_ONE_OF, Gap, NO_GAP, filled, fixed, names_are, with_text,
+    with_texts,
+};
+use fault_places::position_at;
+use rule_check::CheckFault;
 use std::alloc::{AllocError, Global};
 
 /// The most names that are listed.
 const MOST_NAMES: usize = 12;
 
-/// The line that has the same name before.
-pub fn duplicate_advice(around: &Around<'_>) -> Advice {
-    match first_of_name(around)? {
-        Some(first) if first.start <= around.text.len() => line_advice(
-            around.alloc,
-            position_at(around.text, first.start).line,
-        ),
-        _ => Ok(None),
+/// The names of which one could stand at the place of a fault, if it is one of a name that isn't
+/// declared.
+pub fn names_wanted<'a>(
+    alloc: Global,
+    around: &Around<'a>,
+    plant: &'a [u8],
+    fault: CheckFault,
+) -> Result<Vec<&'a str>, AllocError> {
+    if matches!(fault, CheckFault::NoSuchInterface) {
+        return interfaces(alloc, plant);
     }
-}
-
-fn line_advice(alloc: Global, line: usize) -> Advice {
-    Ok(Some(format!(in alloc; "Line {line} has that name: give this one a name of its own.")?))
-}
-
-/// What has the same name before.
-fn first_of_name(around: &Around<'_>) -> Result<Option<Span>, AllocError> {
-    match around.inside {
-        Some(item) => Ok(same_before(around, item)),
-        None => table_before(around),
-    }
-}
-
-/// The declaration of the same name before one; a set and a map share their names.
-fn same_before(around: &Around<'_>, second: Declared<'_>) -> Option<Span> {
+    let mut names = Vec::new(alloc);
     for item in &around.declared {
-        let is_alike = item.name == second.name && item.is_chain() == second.is_chain();
-        if is_alike && item.part.start < second.part.start {
-            return Some(item.part);
+        if around.is_beside(*item) && is_wanted(around, *item, fault) {
+            names.push(item.name)?;
+        }
+    }
+    Ok(names)
+}
+
+/// Whether the name of a chain, a set or a map could stand at the place of a fault.
+fn is_wanted(around: &Around<'_>, item: Declared<'_>, fault: CheckFault) -> bool {
+    match (fault, around.inside) {
+        (CheckFault::NoSuchChain, Some(own)) if item.name == own.name => false,
+        (CheckFault::NoSuchChain, _) => item.is_chain() && !item.is_base,
+        (CheckFault::NoSuchSet, _) => item.is_set(),
+        _ => false,
+    }
+}
+
+/// The line that has the same name before.
+pub fn duplicate_advice<'a>(around: &Around<'a>) -> Option<Advice<'a>> {
+    let start = first_of_name(around, around.inside.or(around.table)?)?;
+    if start > around.text.len() {
+        return None;
+    }
+    let line = Gap::Number(position_at(around.text, start).line as u64);
+    let sentence = "Line {} has that name: give this one a name of its own.";
+    Some(filled(sentence, [line, NO_GAP, NO_GAP, NO_GAP]))
+}
+
+/// Where the declaration begins that has the same name before one.
+fn first_of_name(around: &Around<'_>, second: Declared<'_>) -> Option<usize> {
+    for item in &around.declared {
+        let is_near = item.is_table() || around.is_beside(*item);
+        if is_near && item.is_alike(second) && item.part.start < second.part.start {
+            return Some(item.part.start);
         }
     }
     None
 }
 
-/// The table of the same family and name before the one at the place.
-fn table_before(around: &Around<'_>) -> Result<Option<Span>, AllocError> {
-    let tables = spans(around.alloc, around.text, Level::Tables)?;
-    let Some(own) = part_around(&tables, around.offset) else {
-        return Ok(None);
-    };
-    let wanted = table_name(around.alloc, around.text, own)?;
-    for table in &tables {
-        if table.end <= around.offset && table_name(around.alloc, around.text, *table)? == wanted {
-            return Ok(Some(*table));
+/// The chain of these that may be meant.
+pub fn chain_advice<'a>(around: &Around<'a>, names: &'a [&'a str]) -> Advice<'a> {
+    no_chain(around, names).unless_near(around.here(), names, DID_YOU_MEAN)
+}
+
+/// What to do about the name of a chain that isn't one of these.
+fn no_chain<'a>(around: &Around<'a>, names: &'a [&'a str]) -> Advice<'a> {
+    let here = around.here();
+    for item in &around.declared {
+        if item.is_chain() && item.name == here {
+            return with_text(
+                "`{}` is a chain of another table: copy it into this one.",
+                here,
+            );
         }
-    }
-    Ok(None)
-}
-
-/// The family and the name of a table.
-fn table_name<'a>(
-    alloc: Global,
-    text: &'a [u8],
-    table: Span,
-) -> Result<(&'a str, &'a str), AllocError> {
-    let words = Words::of(alloc, text, table)?;
-    Ok(match words.get(2) {
-        "{" => ("ip", words.get(1)),
-        name => (words.get(1), name),
-    })
-}
-
-/// The chain that may be meant.
-pub fn chain_advice(around: &Around<'_>) -> Advice {
-    chain_of(around, &callable(around)?)
-}
-
-/// The one of these chains that may be meant.
-fn chain_of(around: &Around<'_>, names: &[&str]) -> Advice {
-    if let Some(near) = nearest(around.alloc, around.here(), names)? {
-        return did_you_mean(around.alloc, near);
-    }
-    if is_elsewhere(around, around.here())? {
-        return copy_chain(around.alloc, around.here());
     }
     if names.is_empty() {
         return fixed(
-            around.alloc,
             "The table has no chain that can be called: write it, as `chain web { accept }`.",
         );
     }
-    known_names(around, "Chains that can be called here", names)
-}
-
-fn copy_chain(alloc: Global, name: &str) -> Advice {
-    sentence(
-        alloc,
-        &[
-            "`",
-            name,
-            "` is a chain of another table: copy it into this one.",
-        ],
-    )
-}
-
-/// The chains that can be called from the one at the place.
-fn callable<'a>(around: &Around<'a>) -> Result<Vec<&'a str>, AllocError> {
-    let own = match around.inside {
-        Some(chain) => chain.name,
-        None => "",
-    };
-    names_but(around.alloc, &around.declared, true, own)
-}
-
-/// Whether some table has a chain of this name.
-fn is_elsewhere(around: &Around<'_>, name: &str) -> Result<bool, AllocError> {
-    let text = rest_from(around.text, 0);
-    for item in &declared_in(around.alloc, around.text, text)? {
-        if item.is_chain() && item.name == name {
-            return Ok(true);
-        }
-    }
-    Ok(false)
-}
-
-/// The set or map that may be meant.
-pub fn set_advice(around: &Around<'_>) -> Advice {
-    set_of(
-        around,
-        &names_but(around.alloc, &around.declared, false, "")?,
-    )
+    known_names("Chains that can be called here", names)
 }
 
 /// The one of these sets and maps that may be meant.
-fn set_of(around: &Around<'_>, names: &[&str]) -> Advice {
-    if let Some(near) = nearest(around.alloc, around.here(), names)? {
-        return sentence(around.alloc, &["Did you mean `@", near, "`?"]);
-    }
-    if names.is_empty() {
-        return fixed(
-            around.alloc,
-            "The table has no set or map: declare it, as `set lan { type ipv4_addr; }`.",
-        );
-    }
-    known_names(around, "Sets and maps of this table", names)
+pub fn set_advice<'a>(around: &Around<'a>, names: &'a [&'a str]) -> Advice<'a> {
+    no_set(names).unless_near(around.here(), names, "Did you mean `@{}`?")
 }
 
-/// The interface that may be meant.
-pub fn interface_advice(around: &Around<'_>) -> Advice {
-    interface_of(around, &interfaces(around.alloc, around.plant)?)
+/// What to do about the name of a set or a map that isn't one of these.
+fn no_set<'a>(names: &'a [&'a str]) -> Advice<'a> {
+    if names.is_empty() {
+        return fixed("The table has no set or map: declare it, as `set lan { type ipv4_addr; }`.");
+    }
+    known_names("Sets and maps of this table", names)
 }
 
 /// The one of these interfaces that may be meant.
-fn interface_of(around: &Around<'_>, names: &[&str]) -> Advice {
+pub fn interface_advice<'a>(around: &Around<'a>, names: &'a [&'a str]) -> Advice<'a> {
     let name = unquoted(around.here());
-    if let Some(near) = nearest_of(around.alloc, name, names)? {
-        return Ok(Some(near));
-    }
-    match around.before(1) {
-        selector @ ("iif" | "oif") => by_name(around.alloc, selector, name),
-        _ => known_names(around, "Interfaces of the box", names),
-    }
-}
-
-fn by_name(alloc: Global, selector: &str, name: &str) -> Advice {
-    sentence(
-        alloc,
-        &[
-            "Write `",
+    let unknown = match around.before(1) {
+        selector @ ("iif" | "oif") => with_texts(
+            "Write `{}name \"{}\"`: it compares names, and asks for no interface on the box.",
             selector,
-            "name \"",
             name,
-            "\"`: it compares names, and asks for no interface on the box.",
-        ],
-    )
+        ),
+        _ => known_names("Interfaces of the box", names),
+    };
+    unknown.unless_near(name, names, DID_YOU_MEAN_ONE_OF)
 }
 
 /// The names of a kind, up to some number.
-fn known_names(around: &Around<'_>, kind: &str, names: &[&str]) -> Advice {
-    names_are(around.alloc, kind, names.get(..MOST_NAMES).unwrap_or(names))
+fn known_names<'a>(kind: &'a str, names: &'a [&'a str]) -> Advice<'a> {
+    names_are(kind, names.get(..MOST_NAMES).unwrap_or(names))
 }
 
 /// A word without the quotes around it.

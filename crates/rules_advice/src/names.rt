@@ -2,68 +2,90 @@
 use fault_places::{Level, Span, Words, box_lines, holds, shown, spans};
 use std::alloc::{AllocError, Global};
 
-/// What is declared in a table.
+/// A table, or what is declared in one.
 #[derive(Clone, Copy)]
 pub struct Declared<'a> {
-    /// `chain`, `set` or `map`.
+    /// `table`, `chain`, `set` or `map`.
     pub kind: &'a str,
+    /// Of a table.
+    family: &'a str,
     pub name: &'a str,
     pub part: Span,
     /// Whether it is a base chain.
     pub is_base: bool,
 }
 
-impl Declared<'_> {
+impl<'a> Declared<'a> {
+    /// What a part with these words declares.
+    fn new(words: &Words<'a>, part: Span) -> Declared<'a> {
+        let kind = words.get(0);
+        let (family, name) = match (kind, words.get(2)) {
+            ("table", "{") => ("ip", words.get(1)),
+            ("table", name) => (words.get(1), name),
+            _ => ("", words.get(1)),
+        };
+        Declared {
+            kind,
+            family,
+            name,
+            part,
+            is_base: kind == "chain" && words.get(3) == "type",
+        }
+    }
+
+    pub fn is_table(self) -> bool {
+        self.kind == "table"
+    }
+
     pub fn is_chain(self) -> bool {
         self.kind == "chain"
     }
 
-    /// Whether it is a chain that isn't a base chain, or else a set or a map.
-    fn is_listed(self, chains: bool) -> bool {
-        self.is_chain() == chains && !self.is_base
+    pub fn is_set(self) -> bool {
+        matches!(self.kind, "set" | "map")
+    }
+
+    /// Whether it can't stand beside another one, by its name; a set and a map share their names.
+    pub fn is_alike(self, other: Declared<'_>) -> bool {
+        self.name == other.name
+            && self.family == other.family
+            && self.is_chain() == other.is_chain()
+            && self.is_table() == other.is_table()
     }
 }
 
-/// What a table declares, in the order of the text.
-pub fn declared_in<'a>(
-    alloc: Global,
-    text: &'a [u8],
-    table: Span,
-) -> Result<Vec<Declared<'a>>, AllocError> {
+/// The tables of a ruleset, and then what they declare, in the order of the text.
+pub fn declared_in<'a>(alloc: Global, text: &'a [u8]) -> Result<Vec<Declared<'a>>, AllocError> {
     let mut found = Vec::new(alloc);
-    for part in &spans(alloc, text, Level::Declarations)? {
-        if holds(table, part.start) {
-            found.push(declaration(alloc, text, *part)?)?;
-        }
-    }
+    add_declared(alloc, text, Level::Tables, &mut found)?;
+    add_declared(alloc, text, Level::Declarations, &mut found)?;
     Ok(found)
 }
 
-/// What a part of a table declares.
-fn declaration<'a>(alloc: Global, text: &'a [u8], part: Span) -> Result<Declared<'a>, AllocError> {
-    let words = Words::of(alloc, text, part)?;
-    Ok(Declared {
-        kind: words.get(0),
-        name: words.get(1),
-        part,
-        is_base: words.get(0) == "chain" && words.get(3) == "type",
-    })
+fn add_declared<'a>(
+    alloc: Global,
+    text: &'a [u8],
+    level: Level,
+    found: &mut Vec<Declared<'a>>,
+) -> Result<(), AllocError> {
+    for part in &spans(alloc, text, level)? {
+        found.push(Declared::new(&Words::of(alloc, text, *part)?, *part))?;
+    }
+    Ok(())
 }
 
-/// The names of chains that aren't base chains, or else of sets and maps; but not this one.
-pub fn names_but<'a>(
-    alloc: Global,
+/// The table around an offset, or else what is declared in one around it.
+pub fn declared_around<'a>(
     declared: &[Declared<'a>],
-    chains: bool,
-    own: &str,
-) -> Result<Vec<&'a str>, AllocError> {
-    let mut names = Vec::new(alloc);
+    offset: usize,
+    is_table: bool,
+) -> Option<Declared<'a>> {
     for item in declared {
-        if item.is_listed(chains) && item.name != own {
-            names.push(item.name)?;
+        if item.is_table() == is_table && holds(item.part, offset) {
+            return Some(*item);
         }
     }
-    Ok(names)
+    None
 }
 
 /// The names of a box's interfaces.

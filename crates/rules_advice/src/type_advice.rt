@@ -1,108 +1,66 @@
 //! What to do about types that don't fit.
 use crate::around::Around;
 use crate::names::Declared;
-use crate::types::{SetTypes, Type, compared_types, types_of_set};
-use advice_sentences::{Advice, fixed, nearest_of, no_value, one_of, sentence};
+use crate::types::{Type, Types};
+use advice_sentences::{
+    Advice, DID_YOU_MEAN_ONE_OF, Gap, NO_GAP, filled, fixed, no_value, one_of, with_text,
+};
 use nft_words::words_of;
-use std::alloc::Global;
 
 /// What to do about types that don't fit, if it is known.
-pub fn type_advice(around: &Around<'_>) -> Advice {
+pub fn type_advice<'a>(around: &Around<'a>, types: &'a Types) -> Option<Advice<'a>> {
+    let set = around.set();
     if around.before(1) == "@" {
-        return match around.set(around.here()) {
-            Some(set) => advice_on_set(around, set),
-            None => Ok(None),
-        };
+        return advice_on_set(around, set?, types);
     }
-    match around.inside {
-        Some(set) if !around.is_in_rule => advice_on_element(around, set),
-        _ => advice_on_rule(around),
+    match set {
+        Some(_) => advice_on_element(around, types),
+        None => advice_on_rule(around, types),
     }
 }
 
 /// What to do about a set or a map that a rule names.
-fn advice_on_set(around: &Around<'_>, set: Declared<'_>) -> Advice {
+fn advice_on_set<'a>(
+    around: &Around<'a>,
+    set: Declared<'a>,
+    types: &'a Types,
+) -> Option<Advice<'a>> {
     match (["vmap", "map"].contains(&around.before(2)), set.kind) {
-        (true, "set") => set_for_map(around.alloc, set.name),
-        (false, "map") => map_for_set(around.alloc, set.name),
-        _ => advice_on_types(
-            around,
+        (true, "set") => Some(with_text(
+            "`@{}` is a set: name a map, or take out `vmap` or `map` before it.",
             set.name,
-            &types_of_set(around.alloc, around.text, set)?,
-        ),
+        )),
+        (false, "map") => Some(with_text(
+            "`@{}` is a map: write `vmap` or `map` before it, or name a set.",
+            set.name,
+        )),
+        _ if types.compared == types.keys => advice_on_data(around, set.name, types),
+        _ => Some(other_keys(set.name, types)),
     }
 }
 
-fn set_for_map(alloc: Global, name: &str) -> Advice {
-    sentence(
-        alloc,
-        &[
-            "`@",
-            name,
-            "` is a set: name a map, or take out `vmap` or `map` before it.",
-        ],
-    )
-}
-
-fn map_for_set(alloc: Global, name: &str) -> Advice {
-    sentence(
-        alloc,
-        &[
-            "`@",
-            name,
-            "` is a map: write `vmap` or `map` before it, or name a set.",
-        ],
-    )
-}
-
-/// What to do about the types of a set or a map of this name.
-fn advice_on_types(around: &Around<'_>, name: &str, types: &SetTypes) -> Advice {
-    let compared = compared_types(around.alloc, &around.words, around.at)?;
-    if compared == types.keys {
-        return advice_on_data(around, name, types);
-    }
-    other_keys(around.alloc, name, &compared, &types.keys)
-}
-
-/// What is compared is of other types than the keys of a set or a map.
-fn other_keys(alloc: Global, name: &str, compared: &[Type], keys: &[Type]) -> Advice {
-    let compared = compared.join(alloc, " . ")?;
-    let keys = keys.join(alloc, " . ")?;
-    sentence(
-        alloc,
-        &[
-            "What is compared is ",
-            compared.as_str(),
-            ", the keys of `@",
-            name,
-            "` are ",
-            keys.as_str(),
-            ".",
+/// What is compared is of other types than the keys of a set or a map of this name.
+fn other_keys<'a>(name: &'a str, types: &'a Types) -> Advice<'a> {
+    filled(
+        "What is compared is {}, the keys of `@{}` are {}.",
+        [
+            Gap::Types(&types.compared),
+            Gap::Text(name),
+            Gap::Types(&types.keys),
+            NO_GAP,
         ],
     )
 }
 
 /// What to do about the data of a map of this name.
-fn advice_on_data(around: &Around<'_>, name: &str, types: &SetTypes) -> Advice {
-    let Some(data) = types.data else {
-        return Ok(None);
-    };
-    other_data(around.alloc, name, data, data_wanted(around))
-}
-
-fn other_data(alloc: Global, name: &str, data: &str, wanted: &str) -> Advice {
-    sentence(
-        alloc,
-        &[
-            "The data of `@",
-            name,
-            "` are ",
-            data,
-            ": ",
-            wanted,
-            " is wanted.",
-        ],
-    )
+fn advice_on_data<'a>(around: &Around<'a>, name: &'a str, types: &Types) -> Option<Advice<'a>> {
+    let gaps = [
+        Gap::Text(name),
+        Gap::Text(types.data?),
+        Gap::Text(data_wanted(around)),
+        NO_GAP,
+    ];
+    Some(filled("The data of `@{}` are {}: {} is wanted.", gaps))
 }
 
 /// The type of the data that a rule wants of a map.
@@ -117,45 +75,46 @@ fn data_wanted(around: &Around<'_>) -> Type {
 }
 
 /// What to do about an element of a set or a map.
-fn advice_on_element(around: &Around<'_>, set: Declared<'_>) -> Advice {
-    let types = types_of_set(around.alloc, around.text, set)?;
-    match types.data {
-        Some("verdict") => verdict_advice(around),
-        Some(data) => advice_on_datum(around, data),
-        None => advice_on_parts(around, types.keys.len()),
-    }
+fn advice_on_element<'a>(around: &Around<'a>, types: &Types) -> Option<Advice<'a>> {
+    let Some(data) = types.data else {
+        return advice_on_parts(types.keys.len(), parts_at(around));
+    };
+    Some(if data == "verdict" {
+        verdict_advice(around)
+    } else {
+        advice_on_datum(around, data)
+    })
 }
 
 /// What to do about the data of an element, which are to be of a type.
-fn advice_on_datum(around: &Around<'_>, data: &str) -> Advice {
-    if words_of(around.alloc, "verdict")?.contains(&around.here()) {
-        return no_value(around.alloc, data, "`: verdict` in the type for verdicts");
+fn advice_on_datum<'a>(around: &Around<'a>, data: Type) -> Advice<'a> {
+    if words_of("verdict").contains(&around.here()) {
+        return no_value(data, "`: verdict` in the type for verdicts");
     }
     if around.before(1) == ":" {
-        return no_value(around.alloc, data, "one");
+        return no_value(data, "one");
     }
-    fixed(
-        around.alloc,
-        "The data aren't of the type behind `:`, which is `verdict` for verdicts.",
-    )
+    fixed("The data aren't of the type behind `:`, which is `verdict` for verdicts.")
 }
 
-/// What to do about an element of a set whose type has so many parts.
-fn advice_on_parts(around: &Around<'_>, of_type: usize) -> Advice {
-    let of_element = parts_at(around);
+/// What to do about an element whose type has so many parts, and itself so many.
+fn advice_on_parts<'a>(of_type: usize, of_element: usize) -> Option<Advice<'a>> {
     if of_element == of_type {
-        return Ok(None);
+        return None;
     }
-    Ok(Some(format!(in around.alloc; "The type has {of_type} parts, this element {of_element}.")?))
+    let gaps = [
+        Gap::Number(of_type as u64),
+        Gap::Number(of_element as u64),
+        NO_GAP,
+        NO_GAP,
+    ];
+    Some(filled("The type has {} parts, this element {}.", gaps))
 }
 
 /// The verdict that may be meant.
-fn verdict_advice(around: &Around<'_>) -> Advice {
-    let verdicts = words_of(around.alloc, "verdict")?;
-    match nearest_of(around.alloc, around.here(), &verdicts)? {
-        Some(near) => Ok(Some(near)),
-        None => one_of(around.alloc, &verdicts),
-    }
+fn verdict_advice<'a>(around: &Around<'a>) -> Advice<'a> {
+    let verdicts = words_of("verdict");
+    one_of(verdicts).unless_near(around.here(), verdicts, DID_YOU_MEAN_ONE_OF)
 }
 
 /// How many parts the element at the place has.
@@ -172,35 +131,26 @@ fn parts_at(around: &Around<'_>) -> usize {
 }
 
 /// What to do about a rule that names no set.
-fn advice_on_rule(around: &Around<'_>) -> Advice {
+fn advice_on_rule<'a>(around: &Around<'a>, types: &Types) -> Option<Advice<'a>> {
     if around.words.has_before(around.at, "vmap") {
-        return verdict_advice(around);
+        return Some(verdict_advice(around));
     }
     if around.words.has_before(around.at, "map") {
-        return fixed(
-            around.alloc,
+        return Some(fixed(
             "`map` takes values, `meta mark set` numbers and NAT addresses; a verdict needs `vmap`.",
-        );
+        ));
     }
-    let types = compared_types(around.alloc, &around.words, around.at)?;
-    match types.last() {
-        Some(of) => order_advice(around, *of),
-        None => Ok(None),
-    }
+    Some(order_advice(around, types.compared.last().copied()?))
 }
 
 /// What to do about a comparison with a value of a type.
-fn order_advice(around: &Around<'_>, of: Type) -> Advice {
-    if has_order(around) && is_ordered(of) {
-        return fixed(
-            around.alloc,
-            "An order compares with one value: write `==` before a range or a prefix.",
-        );
+fn order_advice<'a>(around: &Around<'a>, of: Type) -> Advice<'a> {
+    let is_ordered = ["ipv4_addr", "inet_service", "mark"].contains(&of)
+        || of.starts_with("number");
+    if is_ordered && has_order(around) {
+        return fixed("An order compares with one value: write `==` before a range or a prefix.");
     }
-    sentence(
-        around.alloc,
-        &[of, " has no order: compare with `==`, `!=` or a set."],
-    )
+    with_text("{} has no order: compare with `==`, `!=` or a set.", of)
 }
 
 /// Whether a rule compares by an order up to the place.
@@ -211,9 +161,4 @@ fn has_order(around: &Around<'_>) -> bool {
         }
     }
     false
-}
-
-/// Whether values of a type have an order.
-fn is_ordered(of: &str) -> bool {
-    ["ipv4_addr", "inet_service", "mark"].contains(&of) || of.starts_with("number")
 }

@@ -1,5 +1,5 @@
 //! The types of what is compared, read off the words of a rule or a set.
-use crate::names::Declared;
+use crate::around::Around;
 use fault_places::Words;
 use nft_words::words_of;
 use std::alloc::{AllocError, Global};
@@ -13,8 +13,8 @@ pub const SHORT: Type = "number of 16 bits";
 
 pub const LONG: Type = "number of 32 bits";
 
-/// The selectors of two words, and their types.
-static SELECTORS: [(&str, &str, Type); 25] = [
+/// The selectors, of one or two words, and their types.
+static SELECTORS: [(&str, &str, Type); 29] = [
     ("ip", "saddr", "ipv4_addr"),
     ("ip", "daddr", "ipv4_addr"),
     ("ip", "protocol", "inet_proto"),
@@ -36,6 +36,10 @@ static SELECTORS: [(&str, &str, Type); 25] = [
     ("meta", "oifname", "ifname"),
     ("meta", "iif", "iface_index"),
     ("meta", "oif", "iface_index"),
+    ("iifname", "", "ifname"),
+    ("oifname", "", "ifname"),
+    ("iif", "", "iface_index"),
+    ("oif", "", "iface_index"),
     ("ct", "state", "ct_state"),
     ("ct", "direction", "ct_dir"),
     ("ct", "mark", "mark"),
@@ -80,103 +84,88 @@ pub fn greatest(of: Type) -> Option<u64> {
 
 /// The type of the selector that begins at a word.
 fn type_at(words: &Words<'_>, number: usize) -> Option<Type> {
-    let word = words.get(number);
-    if words.before(number, 1) != "meta" {
-        if let Some(of) = type_of_interface(word) {
-            return Some(of);
-        }
-    }
-    type_of_pair(word, words.get(number.saturating_add(1)))
-}
-
-/// The type of a selector of one word: an interface.
-fn type_of_interface(word: &str) -> Option<Type> {
-    match word {
-        "iifname" | "oifname" => Some("ifname"),
-        "iif" | "oif" => Some("iface_index"),
-        _ => None,
-    }
-}
-
-/// The type of a selector of two words.
-fn type_of_pair<'a>(word: &'a str, next: &'a str) -> Option<Type> {
+    let (word, next) = (words.get(number), words.get(number.saturating_add(1)));
+    let is_behind_meta = words.before(number, 1) == "meta";
     for (first, second, of) in &SELECTORS {
-        if *first == word && *second == next {
+        let is_second = if second.is_empty() {
+            !is_behind_meta
+        } else {
+            *second == next
+        };
+        if *first == word && is_second {
             return Some(*of);
         }
     }
     None
 }
 
-/// The types of the selectors that were read last before a word, joined by dots.
-pub fn compared_types(
-    alloc: Global,
-    words: &Words<'_>,
-    before: usize,
-) -> Result<Vec<Type>, AllocError> {
-    let mut types = Vec::new(alloc);
-    for number in 0..before {
-        let Some(found) = type_at(words, number) else {
-            continue;
-        };
-        if words.before(number, 1) != "." {
-            types.clear();
-        }
-        types.push(found)?;
-    }
-    Ok(types)
-}
-
-/// The types of a set or a map.
+/// The types at a place.
 #[derive(Drop)]
-pub struct SetTypes {
+pub struct Types {
+    /// Of the selectors that were read last before it, joined by dots.
+    pub compared: Vec<Type>,
+    /// Of the set or the map there: of the parts of its key, and of a map's data. None where they
+    /// aren't found.
     pub keys: Vec<Type>,
-    /// Of a map.
     pub data: Option<Type>,
 }
 
-/// The types that a set or a map declares; none where they aren't found.
-pub fn types_of_set(alloc: Global, text: &[u8], set: Declared<'_>) -> Result<SetTypes, AllocError> {
-    let words = Words::of(alloc, text, set.part)?;
-    types_in(alloc, &words, &words_of(alloc, "type")?)
+impl Types {
+    /// The types at a place.
+    pub fn at(alloc: Global, around: &Around<'_>) -> Result<Types, AllocError> {
+        let mut types = Types {
+            compared: compared_types(alloc, around)?,
+            keys: Vec::new(alloc),
+            data: None,
+        };
+        if let Some(set) = around.set() {
+            types.read(&Words::of(alloc, around.text, set.part)?)?;
+        }
+        Ok(types)
+    }
+
+    /// Reads the types that the words of a set or a map declare.
+    fn read(&mut self, words: &Words<'_>) -> Result<(), AllocError> {
+        let (first, by_selectors) = first_of_types(words);
+        let mut is_data = false;
+        for number in first..words.len() {
+            let word = words.get(number);
+            is_data = is_data || word == ":";
+            match declared_type(words, number, by_selectors) {
+                Some(data) if is_data => {
+                    self.data = Some(data);
+                    break;
+                }
+                Some(key) => self.keys.push(key)?,
+                None if ENDS.contains(&word) => break,
+                None => {}
+            }
+        }
+        Ok(())
+    }
 }
 
-/// The types that words declare, by selectors or by these names.
-fn types_in(alloc: Global, words: &Words<'_>, names: &[Type]) -> Result<SetTypes, AllocError> {
-    let mut types = SetTypes {
-        keys: Vec::new(alloc),
-        data: None,
-    };
-    let (first, by_selectors) = first_of_types(words);
-    let mut is_data = false;
-    for number in first..words.len() {
-        let word = words.get(number);
-        is_data = is_data || word == ":";
-        match declared_type(words, number, by_selectors, names) {
-            Some(data) if is_data => {
-                types.data = Some(data);
-                break;
+/// The types of the selectors that were read last before a place, joined by dots.
+fn compared_types(alloc: Global, around: &Around<'_>) -> Result<Vec<Type>, AllocError> {
+    let mut types = Vec::new(alloc);
+    for number in 0..around.at {
+        if let Some(found) = type_at(&around.words, number) {
+            if around.words.before(number, 1) != "." {
+                types.clear();
             }
-            Some(key) => types.keys.push(key)?,
-            None if ENDS.contains(&word) => break,
-            None => {}
+            types.push(found)?;
         }
     }
     Ok(types)
 }
 
 /// The type that a word of a declaration says: by a selector, or by its name.
-fn declared_type(
-    words: &Words<'_>,
-    number: usize,
-    by_selectors: bool,
-    names: &[Type],
-) -> Option<Type> {
+fn declared_type(words: &Words<'_>, number: usize, by_selectors: bool) -> Option<Type> {
     let word = words.get(number);
     if by_selectors && word != "verdict" {
         return type_at(words, number);
     }
-    named(names, word)
+    named(word)
 }
 
 /// The number of the first word of a set's types, and whether they go by selectors.
@@ -191,9 +180,9 @@ fn first_of_types(words: &Words<'_>) -> (usize, bool) {
     }
 }
 
-/// The one of some types that has this name.
-fn named(types: &[Type], name: &str) -> Option<Type> {
-    for known in types {
+/// The type of a name.
+fn named(name: &str) -> Option<Type> {
+    for known in words_of("type") {
         if *known == name {
             return Some(*known);
         }

@@ -1,64 +1,86 @@
 //! What to do about a value that isn't of its type.
 use crate::around::Around;
 use crate::name_advice::unquoted;
-use crate::types::{Type, compared_types, greatest, types_of_set};
+use crate::types::{Type, Types, greatest};
 use advice_sentences::{
-    Advice, did_you_mean_one_of, fixed, greatest_is, no_value, one_of, sentence, write_this,
+    Advice, DID_YOU_MEAN_ONE_OF, fixed, greatest_is, no_value, one_of, with_texts, write_this,
 };
-use nft_words::{nearest, other_words, words_of};
-use std::alloc::{AllocError, Global};
+use fault_places::Words;
+use nft_words::{otherwise, words_of};
 
 /// The greatest length of a prefix.
 const MOST_LENGTH: u64 = 32;
 
 /// What to do about a value that isn't of its type, if it is known.
-pub fn value_advice(around: &Around<'_>) -> Advice {
+pub fn value_advice<'a>(around: &Around<'a>, types: &Types) -> Option<Advice<'a>> {
     if let Some(sentence) = uncompared(around) {
-        return fixed(around.alloc, sentence);
+        return Some(fixed(sentence));
     }
-    let first = match around.before(1) {
+    let before = around.before(1);
+    match (around.set(), types.data) {
+        (Some(_), Some(data)) if before == ":" => values_advice(around, &[data]),
+        (Some(_), _) => values_advice(around, &types.keys),
+        (None, _) if before == "set" => values_advice(around, &["mark"]),
+        (None, _) => values_advice(around, &types.compared),
+    }
+}
+
+/// What to do about the values of the element at the place, whose parts are of these types.
+fn values_advice<'a>(around: &Around<'a>, types: &[Type]) -> Option<Advice<'a>> {
+    let mut first = match around.before(1) {
         "-" | "/" => around.at.saturating_sub(2),
         _ => around.at,
     };
-    let types = types_of(around)?;
-    let own = types.get(parts_before(around)..).unwrap_or(&[]);
-    values_advice(around, own, first)
-}
-
-/// What to do about the values of these types, the first of which begins at a word.
-fn values_advice(around: &Around<'_>, types: &[Type], first: usize) -> Advice {
-    let mut first = first;
-    for of in types {
-        let value = value_at(around, first)?;
-        if let Some(found) = part_advice(around.alloc, *of, &value)? {
-            return Ok(Some(found));
+    for of in types.get(parts_before(around)..)? {
+        let end = end_of_value(&around.words, first);
+        if let Some(found) = part_advice(&around.words, *of, first, end) {
+            return Some(found);
         }
-        first = first.saturating_add(value.len()).saturating_add(1);
+        first = end.saturating_add(1);
     }
-    Ok(None)
+    None
 }
 
-/// What to do about a value of one type, if it isn't of it.
-fn part_advice(alloc: Global, of: Type, value: &[&str]) -> Advice {
-    match value {
-        [first, "-", last] if is_reversed(first, last) => range_advice(alloc, first, last),
-        [_, "/", length] => prefix_advice(alloc, of, length),
-        _ => words_advice(alloc, of, value),
+/// The number behind the last word of the value that begins at a word.
+fn end_of_value(words: &Words<'_>, first: usize) -> usize {
+    for number in first..words.len() {
+        let is_more = matches!(
+            words.get(number).as_bytes(),
+            [b'0'..=b'9' | b'-' | b'/', ..]
+        );
+        if number != first && !is_more {
+            return number;
+        }
     }
+    words.len().max(first)
+}
+
+/// What to do about a value of one type, if it isn't of it: about the words from one number up to
+/// another.
+fn part_advice<'a>(words: &Words<'a>, of: Type, first: usize, end: usize) -> Option<Advice<'a>> {
+    let (start, last) = (words.get(first), words.before(end, 1));
+    let mark = if end.saturating_sub(first) == 3 {
+        words.before(end, 2)
+    } else {
+        ""
+    };
+    if mark == "/" {
+        return prefix_advice(of, last);
+    }
+    if mark == "-" && is_reversed(start, last) {
+        return Some(with_texts("Write `{}-{}`.", last, start));
+    }
+    words_advice(words, of, first, end)
 }
 
 /// What to do about the first word of a value that is none of a type.
-fn words_advice(alloc: Global, of: Type, value: &[&str]) -> Advice {
-    for word in value {
-        if let Some(found) = word_advice(alloc, of, word)? {
-            return Ok(Some(found));
+fn words_advice<'a>(words: &Words<'a>, of: Type, first: usize, end: usize) -> Option<Advice<'a>> {
+    for number in first..end {
+        if let Some(found) = word_advice(of, words.get(number)) {
+            return Some(found);
         }
     }
-    Ok(None)
-}
-
-fn range_advice(alloc: Global, first: &str, last: &str) -> Advice {
-    sentence(alloc, &["Write `", last, "-", first, "`."])
+    None
 }
 
 /// What to do about numbers and strings that aren't compared.
@@ -73,24 +95,6 @@ fn uncompared(around: &Around<'_>) -> Option<&'static str> {
         return Some("Ports are 1 to 65535, the lower one first.");
     }
     None
-}
-
-/// The words of the value that begins at a word.
-fn value_at<'a>(around: &Around<'a>, first: usize) -> Result<Vec<&'a str>, AllocError> {
-    let mut value = Vec::new(around.alloc);
-    for number in first..around.words.len() {
-        let word = around.words.get(number);
-        if number != first && !is_in_value(word) {
-            break;
-        }
-        value.push(word)?;
-    }
-    Ok(value)
-}
-
-/// Whether a word continues a value.
-fn is_in_value(word: &str) -> bool {
-    matches!(word.as_bytes(), [b'0'..=b'9' | b'-' | b'/', ..])
 }
 
 /// Whether the first of two numbers is greater.
@@ -111,21 +115,6 @@ fn number_of(address: &str) -> u64 {
     number
 }
 
-/// The types of the parts of the value at the place.
-fn types_of(around: &Around<'_>) -> Result<Vec<Type>, AllocError> {
-    match around.inside {
-        Some(set) if !around.is_in_rule => {
-            let types = types_of_set(around.alloc, around.text, set)?;
-            match types.data {
-                Some(data) if around.before(1) == ":" => [data].to_vec(around.alloc),
-                _ => Ok(types.keys),
-            }
-        }
-        _ if around.before(1) == "set" => ["mark"].to_vec(around.alloc),
-        _ => compared_types(around.alloc, &around.words, around.at),
-    }
-}
-
 /// How many parts of its element stand before the place.
 fn parts_before(around: &Around<'_>) -> usize {
     let mut parts = 0usize;
@@ -140,93 +129,90 @@ fn parts_before(around: &Around<'_>) -> usize {
 }
 
 /// What to do about a prefix of this length.
-fn prefix_advice(alloc: Global, of: Type, length: &str) -> Advice {
+fn prefix_advice<'a>(of: Type, length: &str) -> Option<Advice<'a>> {
     if of != "ipv4_addr" {
-        return fixed(alloc, "Only addresses have prefixes: write a range.");
+        return Some(fixed("Only addresses have prefixes: write a range."));
     }
     match length.parse::<u64>() {
-        Ok(length) if length > MOST_LENGTH => greatest_is(alloc, "length of a prefix", MOST_LENGTH),
-        _ => Ok(None),
+        Ok(length) if length > MOST_LENGTH => Some(greatest_is("length of a prefix", MOST_LENGTH)),
+        _ => None,
     }
 }
 
 /// What to do about a word that is no value of a type; none where it is one.
-fn word_advice(alloc: Global, of: Type, word: &str) -> Advice {
+fn word_advice<'a>(of: Type, word: &'a str) -> Option<Advice<'a>> {
     if let Ok(number) = word.parse::<u64>() {
-        return number_advice(alloc, of, number);
+        return number_advice(of, number);
     }
     match word.as_bytes() {
-        [b'"', ..] => string_advice(alloc, of),
-        [b'-' | b'/' | b'.', ..] => Ok(None),
-        [b'0'..=b'9', ..] if of == "ipv4_addr" => Ok(None),
-        [b'0'..=b'9', ..] => no_value(alloc, of, "a number"),
-        _ => named_advice(alloc, of, word),
+        [b'0'..=b'9', ..] => digits_advice(of),
+        [b'"', ..] => Some(string_advice(of)),
+        [b'-' | b'/' | b'.', ..] => None,
+        _ => named_advice(of, word),
     }
 }
 
-fn number_advice(alloc: Global, of: Type, number: u64) -> Advice {
+/// What to do about a word that begins with a digit and is no number.
+fn digits_advice<'a>(of: Type) -> Option<Advice<'a>> {
+    if of == "ipv4_addr" {
+        return None;
+    }
+    Some(no_value(of, "a number"))
+}
+
+fn number_advice<'a>(of: Type, number: u64) -> Option<Advice<'a>> {
     match greatest(of) {
-        Some(most) if number > most => greatest_is(alloc, of, most),
-        Some(_) => Ok(None),
-        None if of == "ipv4_addr" => no_value(alloc, of, "four numbers, as `192.0.2.1`"),
-        None => no_value(alloc, of, "a name"),
+        Some(most) if number > most => Some(greatest_is(of, most)),
+        Some(_) => None,
+        None if of == "ipv4_addr" => Some(no_value(of, "four numbers, as `192.0.2.1`")),
+        None => Some(no_value(of, "a name")),
     }
 }
 
-fn string_advice(alloc: Global, of: Type) -> Advice {
-    let is_name = ["ifname", "iface_index"].contains(&of);
-    fixed(
-        alloc,
-        if is_name {
-            "An interface's name has 1 to 15 bytes and no backslash."
-        } else {
-            "Write it without quotes."
-        },
-    )
+fn string_advice<'a>(of: Type) -> Advice<'a> {
+    if ["ifname", "iface_index"].contains(&of) {
+        fixed("An interface's name has 1 to 15 bytes and no backslash.")
+    } else {
+        fixed("Write it without quotes.")
+    }
 }
 
 /// What to do about a word, where it isn't one that its type lists.
-fn named_advice(alloc: Global, of: Type, word: &str) -> Advice {
-    let known = words_of(alloc, of)?;
+fn named_advice<'a>(of: Type, word: &'a str) -> Option<Advice<'a>> {
+    let known = words_of(of);
     if known.contains(&word) {
-        return Ok(None);
+        return None;
     }
-    unknown_advice(alloc, of, word, &known)
+    Some(match instead_of(of, word, known) {
+        Some(other) => write_this(other),
+        None => {
+            unknown_advice(of, known).unless_near(unquoted(word), known, DID_YOU_MEAN_ONE_OF)
+        }
+    })
 }
 
-/// What to do about a word that isn't one of those that its type lists.
-fn unknown_advice(alloc: Global, of: Type, word: &str, known: &[&str]) -> Advice {
-    if let Some(other) = otherwise(alloc, of, word, known)? {
-        return write_this(alloc, other);
-    }
-    if let Some(near) = nearest(alloc, unquoted(word), known)? {
-        return did_you_mean_one_of(alloc, near, known);
-    }
+/// What to do about a word that is like none of those that its type lists.
+fn unknown_advice<'a>(of: Type, known: &'a [&'a str]) -> Advice<'a> {
     match of {
-        "ifname" | "iface_index" => string_advice(alloc, of),
-        "ipv4_addr" => no_value(alloc, of, "four numbers, as `192.0.2.1`"),
-        "inet_service" => no_value(alloc, of, "the port's number"),
-        _ if known.is_empty() => no_value(alloc, of, "a number"),
-        _ => one_of(alloc, known),
+        "ifname" | "iface_index" => string_advice(of),
+        "ipv4_addr" => no_value(of, "four numbers, as `192.0.2.1`"),
+        "inet_service" => no_value(of, "the port's number"),
+        _ if known.is_empty() => no_value(of, "a number"),
+        _ => one_of(known),
     }
 }
 
 /// What stands here for a word that others write: a word of the type, or a port's number.
-fn otherwise(
-    alloc: Global,
-    of: Type,
-    word: &str,
-    known: &[&str],
-) -> Result<Option<&'static str>, AllocError> {
-    for other in &other_words(alloc, word)? {
-        if is_port(of, other) || known.contains(other) {
-            return Ok(Some(*other));
+fn instead_of(of: Type, word: &str, known: &[&str]) -> Option<&'static str> {
+    for (written, instead) in otherwise() {
+        if *written == word && is_known(of, instead, known) {
+            return Some(*instead);
         }
     }
-    Ok(None)
+    None
 }
 
-/// Whether a word is the number of a port, where the type is that of ports.
-fn is_port(of: Type, word: &str) -> bool {
-    of == "inet_service" && word.parse::<u16>().is_ok()
+/// Whether a word is one of those of its type, or a port's number.
+fn is_known(of: Type, word: &str, known: &[&str]) -> bool {
+    known.contains(&word) || (of == "inet_service" && word.parse::<u16>().is_ok())
 }
