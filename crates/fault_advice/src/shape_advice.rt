@@ -178,7 +178,7 @@ pub fn is_list(stop: &Stop<'_>) -> bool {
 pub fn put_list_advice(stop: &Stop<'_>, lines: &mut String) -> Result<bool, AllocError> {
     let values = values_from(stop)?.join(stop.alloc, ", ")?;
     let list = ["{ ", values.as_str(), " }"].concat(stop.alloc)?;
-    let is_allowed = stop.allows_behind(before_value(stop), list.as_str())?;
+    let is_allowed = stop.allows_behind(before_value(stop), list.as_str(), "")?;
     if is_allowed {
         write_this(list.as_str()).put(stop.alloc, lines)?;
     }

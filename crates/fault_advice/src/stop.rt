@@ -83,32 +83,37 @@ impl<'a> Stop<'a> {
     /// Whether the grammar allows a word, with another one behind it, at the place: in its part, or,
     /// where that begins here, in its chain.
     pub fn allows(&self, word: &str, next: &str) -> Result<bool, AllocError> {
-        let added = [word, " ", next].concat(self.alloc)?;
-        if self.allows_behind(self.start(), added.as_str())? {
+        if self.allows_behind(self.start(), word, next)? {
             return Ok(true);
         }
         match self.chain {
-            Some(chain) => self.is_prefix(
-                Wrapper::Declaration,
-                up_to(chain, self.offset),
-                added.as_str(),
-            ),
+            Some(chain) => {
+                self.is_prefix(Wrapper::Declaration, up_to(chain, self.offset), word, next)
+            }
             None => Ok(false),
         }
     }
 
-    /// Whether the grammar allows this behind the start of the part.
-    pub fn allows_behind(&self, start: Span, added: &str) -> Result<bool, AllocError> {
-        self.is_prefix(self.unreadable.wrapper, start, added)
+    /// Whether the grammar allows a word, with another one behind it, behind the start of the part.
+    pub fn allows_behind(&self, start: Span, word: &str, next: &str) -> Result<bool, AllocError> {
+        self.is_prefix(self.unreadable.wrapper, start, word, next)
     }
 
-    /// Whether some ending completes the start of a part with this behind it.
-    fn is_prefix(&self, wrapper: Wrapper, start: Span, added: &str) -> Result<bool, AllocError> {
+    /// Whether some ending completes the start of a part with two words behind it.
+    fn is_prefix(
+        &self,
+        wrapper: Wrapper,
+        start: Span,
+        word: &str,
+        next: &str,
+    ) -> Result<bool, AllocError> {
         let before = bytes_of(self.text, start);
         if before.len() > MOST_BYTES {
             return Ok(false);
         }
-        let prefix = with_word(self.alloc, before, added)?;
+        let blank = " ".as_bytes();
+        let pieces = [before, blank, word.as_bytes(), blank, next.as_bytes()];
+        let prefix = pieces.concat(self.alloc)?;
         let words = Words::of(self.alloc, &prefix, rest_from(&prefix, 0))?;
         wrapper.is_prefix(self.alloc, &prefix, open_braces(&words))
     }
@@ -152,8 +157,8 @@ impl<'a> Stop<'a> {
             start: word.end,
             end: part.end,
         };
-        let mut without = bytes_of(self.text, up_to(part, word.start)).to_vec(self.alloc)?;
-        without.extend_from_slice(bytes_of(self.text, behind))?;
+        let before = bytes_of(self.text, up_to(part, word.start));
+        let without = [before, bytes_of(self.text, behind)].concat(self.alloc)?;
         self.unreadable.wrapper.reads(self.alloc, &without)
     }
 }
@@ -170,12 +175,4 @@ fn chain_around(
         return Ok(None);
     }
     Ok(part_around(&spans(alloc, text, Level::Declarations)?, offset))
-}
-
-/// A text with a word behind it.
-fn with_word(alloc: Global, before: &[u8], word: &str) -> Result<Vec<u8>, AllocError> {
-    let mut text = before.to_vec(alloc)?;
-    text.push(b' ')?;
-    text.extend_from_slice(word.as_bytes())?;
-    Ok(text)
 }

@@ -155,14 +155,13 @@ fn missing_mark<'a>(before: &'a str, here: &'a str, marks: &[&'static str]) -> O
         _ if here.is_empty() => something_behind(before),
         (";", 1) => with_text("Expected `;` or a newline before `{}`.", here),
         ("@", 1) | ("{", 2) => with_text("Write `@{}`.", here),
-        (_, 2) => expected_either(one, marks.last().copied().unwrap_or(""), here),
+        (_, 2) => {
+            let other = Gap::Text(marks.last().copied().unwrap_or(""));
+            let gaps = [Gap::Text(one), other, Gap::Text(here), NO_GAP];
+            filled("Expected `{}` or `{}` before `{}`.", gaps)
+        }
         _ => expected_word(one, here),
     })
-}
-
-fn expected_either<'a>(one: &'a str, other: &'a str, here: &'a str) -> Advice<'a> {
-    let gaps = [Gap::Text(one), Gap::Text(other), Gap::Text(here), NO_GAP];
-    filled("Expected `{}` or `{}` before `{}`.", gaps)
 }
 
 /// A word or a value that is missing before the word at the place, or else a word too many.
