@@ -1,5 +1,5 @@
 //! What is around a fault of a ruleset.
-use crate::names::{Declared, declared_around, declared_in};
+use crate::names::{Declared, Kind, declared_around, declared_in};
 use fault_places::{Level, Words, holds, part_around, rest_from, spans};
 use std::alloc::{AllocError, Global};
 
@@ -74,7 +74,10 @@ impl<'a> Around<'a> {
     /// The set or map of a name.
     fn set_named(&self, name: &str) -> Option<Declared<'a>> {
         for item in &self.declared {
-            if self.is_beside(*item) && item.is_set() && item.name == name {
+            if matches!(item.kind, Kind::Set | Kind::Map)
+                && self.is_beside(*item)
+                && item.name == name
+            {
                 return Some(*item);
             }
         }

@@ -1,6 +1,6 @@
 //! What to do about a name that stands twice, or isn't declared.
 use crate::around::Around;
-use crate::names::{Declared, interfaces};
+use crate::names::{Declared, Kind, interfaces};
 use advice_sentences::{
     Advice, DID_YOU_MEAN, DID_YOU_MEAN_ONE_OF, Gap, NO_GAP, filled, fixed, names_are, with_text,
     with_texts,
@@ -34,10 +34,10 @@ pub fn names_wanted<'a>(
 
 /// Whether the name of a chain, a set or a map could stand at the place of a fault.
 fn is_wanted(around: &Around<'_>, item: Declared<'_>, fault: CheckFault) -> bool {
-    match (fault, around.inside) {
-        (CheckFault::NoSuchChain, Some(own)) if item.name == own.name => false,
-        (CheckFault::NoSuchChain, _) => item.is_chain() && !item.is_base,
-        (CheckFault::NoSuchSet, _) => item.is_set(),
+    match (fault, item.kind, around.inside) {
+        (CheckFault::NoSuchChain, Kind::Chain, Some(own)) => item.name != own.name,
+        (CheckFault::NoSuchChain, Kind::Chain, None) => true,
+        (CheckFault::NoSuchSet, Kind::Set | Kind::Map, _) => true,
         _ => false,
     }
 }
@@ -56,7 +56,7 @@ pub fn duplicate_advice<'a>(around: &Around<'a>) -> Option<Advice<'a>> {
 /// Where the declaration begins that has the same name before one.
 fn first_of_name(around: &Around<'_>, second: Declared<'_>) -> Option<usize> {
     for item in &around.declared {
-        let is_near = item.is_table() || around.is_beside(*item);
+        let is_near = matches!(item.kind, Kind::Table) || around.is_beside(*item);
         if is_near && item.is_alike(second) && item.part.start < second.part.start {
             return Some(item.part.start);
         }
@@ -73,7 +73,7 @@ pub fn chain_advice<'a>(around: &Around<'a>, names: &'a [&'a str]) -> Advice<'a>
 fn no_chain<'a>(around: &Around<'a>, names: &'a [&'a str]) -> Advice<'a> {
     let here = around.here();
     for item in &around.declared {
-        if item.is_chain() && item.name == here {
+        if matches!(item.kind, Kind::Chain | Kind::BaseChain) && item.name == here {
             return with_text(
                 "`{}` is a chain of another table: copy it into this one.",
                 here,

@@ -2,26 +2,40 @@
 use fault_places::{Level, Span, Words, box_lines, holds, shown, spans};
 use std::alloc::{AllocError, Global};
 
+/// What something is that has a name in a ruleset.
+#[derive(Clone, Copy)]
+pub enum Kind {
+    Table,
+    Chain,
+    /// A chain at a hook.
+    BaseChain,
+    Set,
+    Map,
+}
+
 /// A table, or what is declared in one.
 #[derive(Clone, Copy)]
 pub struct Declared<'a> {
-    /// `table`, `chain`, `set` or `map`.
-    pub kind: &'a str,
+    pub kind: Kind,
     /// Of a table.
     family: &'a str,
     pub name: &'a str,
     pub part: Span,
-    /// Whether it is a base chain.
-    pub is_base: bool,
 }
 
 impl<'a> Declared<'a> {
     /// What a part with these words declares.
     fn new(words: &Words<'a>, part: Span) -> Declared<'a> {
-        let kind = words.get(0);
+        let kind = match (words.get(0), words.get(3)) {
+            ("chain", "type") => Kind::BaseChain,
+            ("chain", _) => Kind::Chain,
+            ("set", _) => Kind::Set,
+            ("map", _) => Kind::Map,
+            _ => Kind::Table,
+        };
         let (family, name) = match (kind, words.get(2)) {
-            ("table", "{") => ("ip", words.get(1)),
-            ("table", name) => (words.get(1), name),
+            (Kind::Table, "{") => ("ip", words.get(1)),
+            (Kind::Table, name) => (words.get(1), name),
             _ => ("", words.get(1)),
         };
         Declared {
@@ -29,28 +43,18 @@ impl<'a> Declared<'a> {
             family,
             name,
             part,
-            is_base: kind == "chain" && words.get(3) == "type",
         }
-    }
-
-    pub fn is_table(self) -> bool {
-        self.kind == "table"
-    }
-
-    pub fn is_chain(self) -> bool {
-        self.kind == "chain"
-    }
-
-    pub fn is_set(self) -> bool {
-        matches!(self.kind, "set" | "map")
     }
 
     /// Whether it can't stand beside another one, by its name; a set and a map share their names.
     pub fn is_alike(self, other: Declared<'_>) -> bool {
-        self.name == other.name
-            && self.family == other.family
-            && self.is_chain() == other.is_chain()
-            && self.is_table() == other.is_table()
+        let is_one_kind = match (self.kind, other.kind) {
+            (Kind::Table, Kind::Table) => self.family == other.family,
+            (Kind::Chain | Kind::BaseChain, Kind::Chain | Kind::BaseChain) => true,
+            (Kind::Set | Kind::Map, Kind::Set | Kind::Map) => true,
+            _ => false,
+        };
+        is_one_kind && self.name == other.name
     }
 }
 
@@ -81,7 +85,7 @@ pub fn declared_around<'a>(
     is_table: bool,
 ) -> Option<Declared<'a>> {
     for item in declared {
-        if item.is_table() == is_table && holds(item.part, offset) {
+        if matches!(item.kind, Kind::Table) == is_table && holds(item.part, offset) {
             return Some(*item);
         }
     }
