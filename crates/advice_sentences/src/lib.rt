@@ -100,12 +100,11 @@ impl<'a> Advice<'a> {
 
 /// Writes a sentence on a line, its gaps filled.
 fn put_filled(lines: &mut String, sentence: &str, gaps: &[Gap<'_>]) -> Result<(), AllocError> {
-    let mut gaps = gaps.iter();
-    for piece in sentence.split("{}") {
+    let mut pieces = sentence.split("{}");
+    lines.push_str(pieces.next().unwrap_or(""))?;
+    for (piece, gap) in pieces.zip(gaps) {
+        gap.put(lines)?;
         lines.push_str(piece)?;
-        if let Some(gap) = gaps.next() {
-            gap.put(lines)?;
-        }
     }
     lines.push('\n')
 }
