@@ -1,6 +1,8 @@
-use Rattle.rule_names.proofs.Names.{any_of_map, ap, bytes_eq, list_any, ◌∙◌}
+use Rattle.rule_names.proofs.Names.{ap, bytes_eq, list_any, ◌∙◌}
+use Rattle.std.specs.Prelude.{is_some}
+use Rattle.rule_names.proofs.Texts.{index-found}
 use Rattle.rule_names.proofs.index.NameIndex.contains.Goals as goal
 
 pub returns : goal.returns
-returns c = c.contains.ensures ∙ any_of_map (bytes_eq c.args.name.now) (λ k. k.now) c.self.inside.names.keys
+returns c = c.contains_key.ensures ∙ ap is_some (c.self.invariant.located c.args.name) ∙ index-found c.args.name.now _
     ∙ ap (list_any (bytes_eq c.args.name.now)) c.self.view_is
