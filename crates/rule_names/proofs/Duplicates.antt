@@ -10,7 +10,7 @@ use Rattle.std.proofs.lemmas.Map.Views.{Contains-from_any}
 use Rattle.list_laws.specs.Elements.{Contains-at}
 use Rattle.list_laws.specs.Lists.{text-refl}
 use Rattle.rule_names.specs.steps.Index.{IsIndexed, same_name, texts}
-use Rattle.rule_names.proofs.Texts.{index-more}
+use Rattle.rule_names.proofs.IndexLookup.{index-more}
 
 pub repeats-more : (n : Text) (names : List Text) → HasDuplicate names → HasDuplicate (n ∷ names)
 repeats-more n names r = let a = r.apart in let w =

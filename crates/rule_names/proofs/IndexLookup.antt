@@ -1,13 +1,25 @@
--- The element at the index of a name.
-use Rattle.rule_names.proofs.Names.{Bool, Bor, List, MatchOption, None, Option, Some, Text, [], ap, ap₂, bytes_eq, cond, false, get_or, length, list_any, map}
-use Rattle.rule_names.proofs.Names.{option_map, refl, sym, true, ℕ, ◌<◌, ◌||◌, ◌∙◌, ◌∷◌, ◌≡◌}
+-- Indices of names, and the elements there.
+use Rattle.rule_names.proofs.Names.{Bool, Bor, List, MatchOption, None, Option, Some, Text, [], ap, ap₂, arith, bytes_eq, cond, false, get_or, length, list_any, map}
+use Rattle.rule_names.proofs.Names.{option_map, refl, sym, true, ℕ, ◌++◌, ◌<◌, ◌∙◌, ◌∷◌, ◌≡◌}
 use Rattle.std.proofs.Common.{suc, ◌≤◌}
 use Rattle.std.specs.Prelude.{IfSome, find, is_some, slice_get}
 use Rattle.std.specs.Option.{option_copied}
+use Rattle.std.specs.Cmp.Lexicographic.{same_text}
+use Rattle.std.proofs.lemmas.Cmp.{nat_list_eq_equiv}
 use Rattle.std.proofs.lemmas.Option.{slice_get-map, slice_get_past, slice_get_read}
 use Rattle.rule_names.specs.Names.{index_in}
 use Rattle.rule_names.specs.steps.Index.{at_index}
-use Rattle.rule_names.proofs.Texts.{text-sym}
+
+-- one more name
+pub index-more : (names : List Text) (name q : Text) → list_any (bytes_eq name) names ≡ false
+    → index_in q (names ++ name ∷ []) ≡ cond (bytes_eq name q) (Some (length names)) (index_in q names)
+index-more [] name q absent = refl
+index-more (n ∷ ns) name q absent = grind (arith, index-more ns name q, nat_list_eq_equiv.symm, same_text, absent)
+
+-- whether a name is there
+pub index-found : (name : Text) (names : List Text) → is_some (index_in name names) ≡ list_any (bytes_eq name) names
+index-found name [] = refl
+index-found name (n ∷ ns) = grind (arith, nat_list_eq_equiv.symm name n, index-found name ns)
 
 pub at-index-more : {X : Type 0} (b : Bool) (x : X) (xs : List X) (o : Option ℕ) → cond b (Some x) (at_index xs o)
     ≡ at_index (x ∷ xs) (cond b (Some 0) (option_map suc o))
@@ -18,10 +30,6 @@ at-index-more false x xs (Some k) = refl
 pub at-index-map : {A X : Type 0} (view : A → X) (found : List A) (o : Option ℕ) → option_map view (at_index found o) ≡ at_index (map view found) o
 at-index-map view found None = refl
 at-index-map view found (Some i) = sym (slice_get-map view found i)
-
-pub is-some-more : {X : Type 0} (b : Bool) (x : X) (o : Option X) → (b || is_some o) ≡ is_some (cond b (Some x) o)
-is-some-more true x o = refl
-is-some-more false x o = refl
 
 module _ {X : Type 0} (name_of : X → Text) (name : Text) where
   -- the first element with the name
@@ -35,10 +43,7 @@ module _ {X : Type 0} (name_of : X → Text) (name : Text) where
 
   pub any-found : (xs : List X) → list_any (bytes_eq name) (map name_of xs) ≡ is_some (first_named xs)
   any-found [] = refl
-  any-found (x ∷ xs) =
-      ap (λ b. b || list_any (bytes_eq name) (map name_of xs)) (text-sym name (name_of x))
-      ∙ ap (λ b. bytes_eq (name_of x) name || b) (any-found xs)
-      ∙ is-some-more (bytes_eq (name_of x) name) x (first_named xs)
+  any-found (x ∷ xs) = grind (arith, nat_list_eq_equiv.symm name (name_of x), any-found xs)
 
   -- the element at an optional index
   pub looked : {A : Type 0} (view : A → X) (found : List A) (names : List Text) (xs : List X) → map view found ≡ xs

@@ -1,8 +1,7 @@
 mod Names
-pub mod Texts
+pub mod IndexLookup
 pub mod Duplicates
 pub mod Lists
-pub mod IndexLookup
 pub mod Items
 pub mod Additions
 pub mod Bases

@@ -1,6 +1,6 @@
 use Rattle.rule_names.proofs.Names.{ap, bytes_eq, list_any, ◌∙◌}
 use Rattle.std.specs.Prelude.{is_some}
-use Rattle.rule_names.proofs.Texts.{index-found}
+use Rattle.rule_names.proofs.IndexLookup.{index-found}
 use Rattle.rule_names.proofs.index.NameIndex.contains.Goals as goal
 
 pub returns : goal.returns
