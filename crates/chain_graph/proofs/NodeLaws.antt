@@ -78,18 +78,19 @@ all-before nodes order i x o h l =
     let long' = targets-long (graph_of nodes) in
     subst (λ xs. Contains xs x) (sym (take_all i order h)) (o.all x (omega arith))
 
+pub pass-below : (nodes : List Node) (order : List ℕ) (i : ℕ) → IsTopologicalOrder (targets_of (graph_of nodes)) order → i < length order
+    → get_or order i 0 < length nodes
+pass-below nodes order i o inside = grind (arith, graph-long, targets-long)
+
 -- a pass over the nodes in topological order, at one index of the order
 module _ (nodes : List Node) (order : List ℕ) (i : ℕ) (node : Node) (o : IsTopologicalOrder (targets_of (graph_of nodes)) order)
     (inside : i < length order) (read : node ≡ get_or nodes (get_or order i 0) node) where
-  pub pass-below : get_or order i 0 < length nodes
-  pass-below = grind (arith, graph-long, targets-long)
-
   pub pass-node : node_of node ≡ node_at (graph_of nodes) (get_or order i 0)
-  pass-node = sym (node-is nodes (get_or order i 0) node pass-below read)
+  pass-node = sym (node-is nodes (get_or order i 0) node (pass-below nodes order i o inside) read)
 
   pub pass-within : {X : Type 0} {table seen : List X} → InRange (graph_of nodes) (length nodes) → length table ≡ length nodes
       → seen ≡ table → IsWithin (length seen) node
-  pass-within range long same = node-within nodes (get_or order i 0) _ node pass-below read
+  pass-within range long same = node-within nodes (get_or order i 0) _ node (pass-below nodes order i o inside) read
       (subst (InRange (graph_of nodes)) (sym (ap length same ∙ long)) range)
 
   -- what is known of the nodes so far, and of this node if of all its targets, is known of one node more
@@ -99,6 +100,6 @@ module _ (nodes : List Node) (order : List ℕ) (i : ℕ) (node : Node) (o : IsT
       → P x (get_or (set table (get_or order i 0) v) x d)
   pass-more P table v d long now before =
       let is = get_or_default order i 0 (get_or order i 0) inside in
-      let below = pass-below in
+      let below = pass-below nodes order i o inside in
       set-known P order table i (get_or order i 0) v d inside is (omega arith)
       (now (λ e k. before e.to (order-before (graph_of nodes) order i (get_or order i 0) o inside is e k))) before

@@ -13,7 +13,7 @@ pub loop-node-preserved : goal.loop-node-preserved
 loop-node-preserved c =
     let inside : c.loop-node.node-index < length c.args.order.now = omega arith in
     let node = pass-node c.args.nodes.now c.args.order.now c.loop-node.node-index c.index-nodes-node.result c.requires.order inside c.index-nodes-node.is in
-    let below = pass-below c.args.nodes.now c.args.order.now c.loop-node.node-index c.index-nodes-node.result c.requires.order inside c.index-nodes-node.is in
+    let below = pass-below c.args.nodes.now c.args.order.now c.loop-node.node-index c.requires.order inside in
     let long = graph-long c.args.nodes.now in
     let made = c.node_cost-cost.ensures
     ∙ ap (λ xs. saturated (node_cost (λ k. get_or xs k 0) (node_of c.index-nodes-node.result))) c.deref.ensures.value
@@ -28,3 +28,10 @@ loop-node-preserved c =
 
 pub returns-clause-costs : goal.returns-clause-costs
 returns-clause-costs c = λ cost of x h. c.loop-node.invariant.known cost of x (all-before _ _ _ x c.requires.order (omega arith) h)
+
+pub bounds-nodes-node : goal.bounds-nodes-node
+bounds-nodes-node c = pass-below c.args.nodes.now c.args.order.now c.loop-node.node-index c.requires.order (omega arith)
+
+pub index_mut-requires : goal.index_mut-requires
+index_mut-requires c =
+    omega (arith, pass-below c.args.nodes.now c.args.order.now c.loop-node.node-index c.requires.order (omega arith), c.loop-node.invariant.long)

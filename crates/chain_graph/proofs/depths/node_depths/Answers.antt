@@ -1,7 +1,7 @@
 use Rattle.chain_graph.proofs.Names.{ap, arith, calls_in, deepest, get_or, graph_of, length, length-set, node_of, subst, sym, ◌<◌, ◌∙◌}
 use Rattle.chain_graph.specs.Measures.{IsDepth}
 use Rattle.chain_graph.proofs.DepthLaws.{depth-now}
-use Rattle.chain_graph.proofs.NodeLaws.{all-before, pass-more, pass-node, pass-within}
+use Rattle.chain_graph.proofs.NodeLaws.{all-before, pass-below, pass-more, pass-node, pass-within}
 use Rattle.chain_graph.proofs.depths.node_depths.Goals as goal
 
 pub node_depth-depth-requires : goal.node_depth-depth-requires
@@ -26,3 +26,10 @@ loop-node-preserved c =
 
 pub returns-clause-depths : goal.returns-clause-depths
 returns-clause-depths c = λ x h. c.loop-node.invariant.known x (all-before _ _ _ x c.requires.order (omega arith) h)
+
+pub bounds-nodes-node : goal.bounds-nodes-node
+bounds-nodes-node c = pass-below c.args.nodes.now c.args.order.now c.loop-node.node-index c.requires.order (omega arith)
+
+pub index_mut-requires : goal.index_mut-requires
+index_mut-requires c =
+    omega (arith, pass-below c.args.nodes.now c.args.order.now c.loop-node.node-index c.requires.order (omega arith), c.loop-node.invariant.long)

@@ -3,7 +3,7 @@ use Rattle.std.proofs.Common.{◌||◌}
 use Rattle.std.specs.Prelude.{IsTrue}
 use Rattle.chain_graph.specs.Measures.{ReachesMarked}
 use Rattle.chain_graph.proofs.ReachLaws.{reaching-now}
-use Rattle.chain_graph.proofs.NodeLaws.{all-before, pass-more, pass-node, pass-within}
+use Rattle.chain_graph.proofs.NodeLaws.{all-before, pass-below, pass-more, pass-node, pass-within}
 use Rattle.chain_graph.proofs.reaching.reaches_marked.Goals as goal
 
 pub node_reaches-is_reaching-requires : goal.node_reaches-is_reaching-requires
@@ -31,3 +31,10 @@ loop-node-preserved c =
 
 pub returns-clause-reaching : goal.returns-clause-reaching
 returns-clause-reaching c = λ x h. c.loop-node.invariant.known x (all-before _ _ _ x c.requires.order (omega arith) h)
+
+pub bounds-nodes-node : goal.bounds-nodes-node
+bounds-nodes-node c = pass-below c.args.nodes.now c.args.order.now c.loop-node.node-index c.requires.order (omega arith)
+
+pub index_mut-requires : goal.index_mut-requires
+index_mut-requires c =
+    omega (arith, pass-below c.args.nodes.now c.args.order.now c.loop-node.node-index c.requires.order (omega arith), c.loop-node.invariant.long)
