@@ -181,6 +181,7 @@ pub(crate) fn block<K: Production, E: Production>(
     let at = skip_ends(tokens, at);
     let (fields, at) = found!(lines::<AnyField<K, E>>(alloc, tokens, at)?);
     let at = found!(after_punctuator(tokens, at, Punctuator::CloseBrace));
+    let name = Vec::from_slice(alloc, name)?;
     let all = found!(collect_fields::<K, E>(fields));
-    Ok(Some(((Vec::from_slice(alloc, name)?, all), at)))
+    Ok(Some(((name, all), at)))
 }
