@@ -1,18 +1,15 @@
 -- The stages of the checks, each after absent faults.
-use Rattle.std.proofs.Common.{◌≡◌, List, Option, Some, None, false, subst}
+use Rattle.std.proofs.Common.{◌≡◌, List, Option, Some, None, subst}
 use Rattle.std.specs.Prelude.{MatchOption}
-use Rattle.std.specs.List.{list_any}
 use Rattle.nft_tree.specs.Tree.{TableTree}
 use Rattle.box_file.specs.Box.{PlantTree}
 use Rattle.rule_names.specs.Names.{DuplicateName}
 use Rattle.rule_paths.specs.Findings.{AreFindings}
 use Rattle.rule_paths.specs.declared.analysis.Findings.{Findings}
-use Rattle.rule_values.specs.Faults.{has_contradiction}
 use Rattle.rule_check.specs.declared.fault.CheckFault.{CheckFault}
 use Rattle.rule_check.specs.declared.fault.CheckFault.TheVariants as faults
-use Rattle.rule_check.specs.WellFormed.{WellFormed}
 use Rattle.rule_check.specs.steps.FaultRanges.{HasNone, IsLeastFaultIn}
-use Rattle.rule_check.proofs.LeastFaults.{more, none_reported, not_true, well_formed, without}
+use Rattle.rule_check.proofs.LeastFaults.{more, none_reported, without}
 
 -- ---- options with a known value
 
@@ -36,13 +33,3 @@ module _ (tables : List TableTree) (plant : PlantTree) where
 
   pub after_cycles : (found : Findings) → HasNone 1 4 tables plant → AreFindings tables found → HasNone 1 5 tables plant
   after_cycles found none known = more tables plant 1 faults.Cycle none known.acyclic
-
-  pub after_chains : (answer : Option CheckFault) → HasNone 1 5 tables plant → answer ≡ None
-      → IsLeastFaultIn 5 12 tables plant answer → HasNone 1 12 tables plant
-  after_chains answer none is is_least = none_reported tables plant 5 12 answer none is is_least
-
-  pub after_maps : HasNone 1 12 tables plant → list_any (has_contradiction plant) tables ≡ false → HasNone 1 13 tables plant
-  after_maps none agree = more tables plant 1 faults.Contradiction none (not_true _ agree)
-
-  pub after_all : (answer : Option CheckFault) → HasNone 1 13 tables plant → answer ≡ None → IsLeastFaultIn 13 16 tables plant answer → WellFormed tables plant
-  after_all answer none is is_least = well_formed tables plant (none_reported tables plant 13 16 answer none is is_least)

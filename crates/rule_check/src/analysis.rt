@@ -2,6 +2,7 @@
 ghost use Rattle.std.specs.Prelude.{◌≡◌, IfOk, IfErr};
 ghost use Rattle.nft_tree.specs.Tree.{tables_of};
 ghost use Rattle.box_file.specs.Box.{PlantTree};
+ghost use Rattle.rule_names.specs.Names.{DuplicateName};
 ghost use Rattle.rule_paths.specs.Findings.{AreFindings};
 ghost use Rattle.rule_check.specs.Checked.{IsCheckRefusal};
 ghost use Rattle.rule_check.specs.WellFormed.{WellFormed};
@@ -19,7 +20,7 @@ use rule_names::{
 use rule_paths::Findings;
 use rule_types::has_type_mismatch;
 use rule_values::{has_contradiction, has_wrong_value, names_unknown_interface};
-use std::alloc::Global;
+use std::alloc::{AllocError, Global};
 
 /// The analysis of a well-formed ruleset's jumps, or the ruleset's fault with the lowest number.
 pub(crate) fn analyze(alloc: Global, tree: &Ruleset, plant: &Plant) -> Result<Findings, CheckError>
@@ -30,22 +31,32 @@ pub(crate) fn analyze(alloc: Global, tree: &Ruleset, plant: &Plant) -> Result<Fi
     let Some(names) = names_of(alloc, tree)? else {
         return Err(CheckError::Refused(CheckFault::DuplicateName));
     };
-    if let Some(fault) = fault_of_names(&names) {
+    analyze_named(alloc, &names, tree, plant)
+}
+
+/// N02 to N15: the same of a ruleset without duplicate names.
+fn analyze_named(
+    alloc: Global,
+    names: &[TableNames],
+    tree: &Ruleset,
+    plant: &Plant,
+) -> Result<Findings, CheckError>
+    requires names { names.now ≡ tables_of tree.now }
+    requires apart { DuplicateName (tables_of tree.now) → ⊥ }
+    ensures fine { IfOk result (λ found. WellFormed (tables_of tree.now) plant.now) }
+    ensures found { IfOk result (λ found. AreFindings (tables_of tree.now) found) }
+    ensures refused { IfErr result (λ error. IsCheckRefusal (tables_of tree.now) plant.now error) }
+{
+    if let Some(fault) = fault_of_names(names) {
         return Err(CheckError::Refused(fault));
     }
-    let Some(found) = rule_paths::analyze(alloc, &names)? else {
+    let Some(found) = rule_paths::analyze(alloc, names)? else {
         return Err(CheckError::Refused(CheckFault::Cycle));
     };
-    if let Some(fault) = fault_of_chains(&names, &found, tree, plant) {
-        return Err(CheckError::Refused(fault));
+    match fault_of_rules(alloc, names, &found, tree, plant)? {
+        Some(fault) => Err(CheckError::Refused(fault)),
+        None => Ok(found),
     }
-    if has_contradiction(alloc, plant, tree)? {
-        return Err(CheckError::Refused(CheckFault::Contradiction));
-    }
-    if let Some(fault) = last_fault(tree, plant) {
-        return Err(CheckError::Refused(fault));
-    }
-    Ok(found)
 }
 
 /// N02, N03.
@@ -59,6 +70,27 @@ fn fault_of_names(names: &[TableNames]) -> Option<CheckFault>
         return Some(CheckFault::NoSuchSet);
     }
     None
+}
+
+/// N05 to N15.
+fn fault_of_rules(
+    alloc: Global,
+    names: &[TableNames],
+    found: &Findings,
+    tree: &Ruleset,
+    plant: &Plant,
+) -> Result<Option<CheckFault>, AllocError>
+    requires names { names.now ≡ tables_of tree.now }
+    requires found { AreFindings (tables_of tree.now) found.now }
+    ensures { IfOk result (λ fault. IsLeastFaultIn 5 16 (tables_of tree.now) plant.now fault) }
+{
+    if let Some(fault) = fault_of_chains(names, found, tree, plant) {
+        return Ok(Some(fault));
+    }
+    if has_contradiction(alloc, plant, tree)? {
+        return Ok(Some(CheckFault::Contradiction));
+    }
+    Ok(last_fault(tree, plant))
 }
 
 /// N05 to N11.
