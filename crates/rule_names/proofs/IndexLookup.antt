@@ -1,5 +1,6 @@
 -- Indices of names, and the elements there.
-use Rattle.rule_names.proofs.Names.{Bool, Bor, List, MatchOption, None, Option, Some, Text, [], ap, ap₂, arith, bytes_eq, cond, false, get_or, length, list_any, map}
+use Rattle.rule_names.proofs.Names.{Bool, Bor, List, MatchOption, None, Option, Some, Text, [], ap, ap₂, arith, bytes_eq, cond, false, get_or, length}
+use Rattle.rule_names.proofs.Names.{list_any, map}
 use Rattle.rule_names.proofs.Names.{option_map, refl, sym, true, ℕ, ◌++◌, ◌<◌, ◌∙◌, ◌∷◌, ◌≡◌}
 use Rattle.std.proofs.Common.{suc, ◌≤◌}
 use Rattle.std.specs.Prelude.{IfSome, find, is_some, slice_get}
