@@ -1,7 +1,7 @@
 -- A report before the first record.
-use Rattle.report.proofs.Imports.{All, All-push, AllWithin, CounterStart, List, None, Option, Some, StatementPosition, TableTree, Tallies, Tally, [], ap, arith, length, take, ◌++◌, ◌∷◌}
-use Rattle.report.proofs.Imports.{common_steps, counter_at, counter_in, fresh_statement, get_or, map, numbered_from_one, option_and_then, option_map, refl}
-use Rattle.report.proofs.Imports.{slice_get, slice_get-map, slice_index, suc, sym, tally_at, tally_of, zero, ℕ, ◌*◌, ◌+◌, ◌<◌, ◌^◌, ◌≡◌}
+use Rattle.report.proofs.Imports.{All, All-push, AllWithin, CounterStart, List, None, Option, Some, StatementPosition, TableTree, Tallies, Tally, [], arith}
+use Rattle.report.proofs.Imports.{common_steps, counter_at, counter_in, fresh_statement, get_or, length, map, numbered_from_one, option_and_then, option_map}
+use Rattle.report.proofs.Imports.{refl, slice_get, slice_get-map, slice_index, suc, sym, take, tally_at, tally_of, zero, ℕ, ◌*◌, ◌++◌, ◌+◌, ◌<◌, ◌^◌, ◌∷◌, ◌≡◌}
 use Rattle.std.specs.Prelude.{replicate}
 use Rattle.std.proofs.lemmas.List.{map-append, take_more}
 use Rattle.std.proofs.lemmas.Option.{get_or_from_slice_get, option_and_then_some, slice_get_within}
@@ -36,10 +36,6 @@ fresh_starts rules at start is = grind (arith, fresh_there)
 -- a counter starts at numbers of 64 bits
 abbrev pub FitsStart : Tally → Type 0
 FitsStart n = (n.packets < 2 ^ 64) × (n.bytes < 2 ^ 64)
-
--- nothing has to hold of the elements of an empty list
-pub none_fit : {A : Type 0} (P : A → Type 0) (xs : List A) → xs ≡ [] → All P xs
-none_fit P xs none k d h = absurd (omega (arith, h, ap length none))
 
 -- the image of one element more
 pub mapped_more : {A B C : Type 0} (f : B → C) (g : A → B) (xs : List A) (i : ℕ) (x : A) {ys more : List C} {y : C} → i < length xs
