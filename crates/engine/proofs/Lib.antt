@@ -1,4 +1,5 @@
 mod Names
+mod Results
 mod Histories
 mod WritingOutputs
 mod Replays

@@ -10,6 +10,9 @@ use Rattle.pcap_io.specs.declared.fault.CaptureError.TheVariants as errors
 use Rattle.engine.specs.Refusals.{IsOfRecord}
 use Rattle.engine.specs.steps.Faults.{of_capture}
 use Rattle.engine.proofs.Histories.{OneEntry, one_history}
+use Rattle.engine.proofs.Names.{Box, NoneFailed, Rules}
+use Rattle.engine.proofs.Texts.{counts_later}
+use Rattle.engine.specs.declared.fault.RunFault.TheVariants.{Memory}
 use Rattle.engine.specs.declared.runs.Summary.{Summary}
 use Rattle.rule_check.specs.Checked.{CheckedTree}
 
@@ -153,6 +156,24 @@ counts_open error old new calm failed sent report = grind arith
 pub left_of_texts : (rules box : List ℕ) (trace : Bool) {bytes : List ℕ} {old new : Devices} (fault : RunFault)
     → JudgeRefuses rules box fault → NothingTaken bytes old new → LeftDevices rules box bytes trace old new fault
 left_of_texts rules box trace fault of nothing = let untouched = nothing.untouched in grind arith
+
+pub refused_texts : (rules box : List ℕ) (input : Option (List ℕ)) (old : Devices) (fault : RunFault) → JudgeRefuses rules box fault
+    → (IsOfRecord fault → ⊥) × Refuses rules box input fault × CountsFault {T = Summary} (Err fault) old old
+refused_texts rules box input old (Rules fault) refused = (λ is. is, refused, (refl, refl, refl))
+refused_texts rules box input old (Box fault) refused = (λ is. is, refused, (refl, refl, refl))
+refused_texts rules box input old Memory refused = (λ is. is, tt, (refl, refl, refl))
+refused_texts rules box input old _ refused = absurd refused
+
+-- such a fault comes before the header
+pub texts_before : (fault : RunFault) → IsOfTexts fault → IsBeforeHeader fault
+texts_before (Rules fault) is = tt
+texts_before (Box fault) is = tt
+texts_before _ is = absurd is
+
+pub counts_on : (result : Result Summary RunFault) (old mid new : Devices) → NoneFailed old mid → CountsFault result mid new
+    → CountsFault result old new
+counts_on (Ok summary) old mid new none h = (h.0 ∙ none.0, h.1 ∙ none.1, h.2 ∙ none.2)
+counts_on (Err fault) old mid new none h = counts_later Summary Summary fault old mid new none h
 
 -- ---- the texts that were checked
 

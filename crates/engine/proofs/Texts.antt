@@ -7,6 +7,9 @@ use Rattle.engine.proofs.Names.{torn_at, ℕ, ◌++◌, ◌∙◌, ◌≡◌, �
 use Rattle.engine.proofs.Replays.{halted, none_yet, so_far}
 use Rattle.list_laws.specs.Options.{some_of_map}
 use Rattle.pcap_io.specs.declared.sink.SinkError.{SinkError}
+use Rattle.std.proofs.Common.{Result}
+use Rattle.engine.specs.Refusals.{IsOfRecord}
+use Rattle.engine.specs.declared.fault.RunFault.TheVariants.{Memory}
 use Rattle.engine.specs.declared.runs.Summary.{Summary}
 use Rattle.engine.specs.steps.Faults.{of_sink}
 use Rattle.pcap_io.specs.declared.sink.SinkError.TheVariants as sinks
@@ -31,6 +34,28 @@ pub counts_ending : (fault : RunFault) (old mid new : Devices) → NoneFailed ol
     → CountsFault {T = Bool} (Err fault) (record mid { unread = None; reads_failed = 0 }) (record new { unread = None; reads_failed = 0 })
     → CountsFault {T = Summary} (Err fault) old new
 counts_ending fault old mid new none same h = grind arith
+
+-- or more of which failed
+pub counts_later : (T S : Type 0) (fault : RunFault) (old mid new : Devices) → NoneFailed old mid
+    → CountsFault {T = T} (Err fault) mid new → CountsFault {T = S} (Err fault) old new
+counts_later T S Device old mid new none h = grind arith
+counts_later T S _ old mid new none h = (h.0 ∙ none.0, h.1 ∙ none.1, h.2 ∙ none.2)
+
+-- the output capture couldn't be begun
+pub counts_begun : (error : SinkError) (old : Devices) (w : Option (List ℕ)) (failed : ℕ)
+    → (error ≡ sinks.Device → failed ≡ one_more old.sends_failed) → (error ≡ sinks.Memory → failed ≡ old.sends_failed)
+    → CountsFault {T = Summary} (Err (of_sink error)) old (record old { sent = w; sends_failed = failed })
+counts_begun sinks.Device old w failed device memory = inr (inl (refl, device refl, refl))
+counts_begun sinks.Memory old w failed device memory = (refl, memory refl, refl)
+
+pub of_no_record : (error : SinkError) → (IsOfRecord (of_sink error) → ⊥) × (IsBeforeHeader (of_sink error) → ⊥)
+of_no_record sinks.Device = (λ is. is, λ is. is)
+of_no_record sinks.Memory = (λ is. is, λ is. is)
+
+pub of_memory : {result : Result Summary RunFault} (error : SinkError) → result ≡ Err (of_sink error) → result ≡ Err Memory
+    → error ≡ sinks.Memory
+of_memory sinks.Device was is = cc
+of_memory sinks.Memory was is = refl
 
 -- before the first record: a prefix of the header is written, or an allocation failed
 pub fault_leaves_begun : (setup : Setup) (trace : Bool) (s : CaptureState) (old : Devices) (w : Option (List ℕ))
