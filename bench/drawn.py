@@ -1,15 +1,12 @@
-"""Rulesets and captures drawn by chance, the same for the same seed. Rulesets have what indexes on rules could get wrong: long
-runs of rules that begin with matches of one selector or few, rules of one match and a verdict that are merged, and marks that
-rules write and later rules match. Values are drawn from few, so that many rules match.
+"""Rulesets drawn by chance, the same for the same seed. They have what indexes on rules could get wrong: long runs of rules that
+begin with matches of one selector or few, rules of one match and a verdict that are merged, and marks that rules write and later
+rules match. Values are drawn from few, so that many rules match. Some rulesets translate.
 """
-import random
-import struct
-
 from reading import (
-    ECHO_REPLY, ECHO_REQUEST, ERRORS, ICMP, PRIORITIES, SECOND, STATES, TCP, UDP, Arrived, Box, Chain, Counter, HasBits, HasOfMask,
-    Interface, IsIn, IsPart, Log, Lookup, Match, Name, Notrack, Packet, Rule, SetMark, Span, Table, Verdict, VerdictMap,
+    PRIORITIES, Box, Chain, Counter, HasBits, HasOfMask, Interface, IsIn, IsPart, Log, Lookup, Match, Name, Notrack, Rule,
+    SetMark, Span, Table, Translate, Verdict, VerdictMap,
 )
-from rows import datagram, with_checksum
+from tracking import STATES
 
 LAN, LAN0, WAN, W = Interface(2, "lan"), Interface(3, "lan0"), Interface(5, "wan"), Interface(17, "w")
 FIRST = 0x0A000000
@@ -24,7 +21,7 @@ default lan
 """
 BOX = Box(
     [LAN, LAN0, WAN, W],
-    [FIRST + last for last in (1, 9, 10, 17, 41)],
+    {FIRST + 1: LAN, FIRST + 9: LAN0, FIRST + 10: LAN0, FIRST + 17: WAN, FIRST + 41: W},
     [(FIRST, 29, LAN), (FIRST + 8, 29, LAN0), (FIRST + 8, 29, LAN0), (FIRST + 16, 28, WAN), (FIRST + 40, 30, W)]
     + [(FIRST + 32, 29, LAN0), (FIRST + 16, 29, W)],
 )
@@ -72,6 +69,18 @@ BITS = ("ct_state", "ct_status", "tcp_flag")
 # Of these types a value is often met.
 FEW_VALUES = ("ct_state", "ct_status", "iface_index")
 
+# Where addresses and ports are drawn from few: the last numbers of the addresses of hosts and of those that NAT gives to sources,
+# of which the last is nobody's; and ports of both classes and parities.
+HOSTS = (2, 3, 11, 26, 34)
+EXTERNAL = (17, 17, 9, 41, 30)
+PORTS = (0, 2, 3, 4, 22, 1023, 1024, 65_535)
+# The NAT statements that chains of a hook may have.
+NAT_WORDS = {
+    "prerouting": ("dnat", "dnat", "dnat", "redirect"),
+    "postrouting": ("snat", "snat", "masquerade"),
+    "output": ("dnat", "redirect"),
+}
+
 # How many consecutive rules are drawn alike, and how many chains a table has without a hook.
 MOST_RULES = 60
 CHAINS = 4
@@ -93,8 +102,10 @@ def priority_of(text):
 class Drawing:
     """Draws by chance."""
 
-    def __init__(self, dice):
+    def __init__(self, dice, has_few):
         self.dice = dice
+        # Whether addresses and ports are drawn from few, so that those that are translated come together.
+        self.has_few = has_few
         # Whether matches are drawn of which few hold, so that packets come to the end of long chains.
         self.is_sparse = False
 
@@ -110,13 +121,22 @@ class Drawing:
 
     # ---- values
 
+    def address(self):
+        """An address of a host, or of the box."""
+        return FIRST + (self.one(*HOSTS) if self.has_few and self.chance(90) else self.below(48))
+
+    def port(self):
+        return self.one(*PORTS) if self.has_few else self.below(48) if self.chance(95) else 65_535
+
     def number(self, kind):
         """A number of a type without words alone, from few or, seldom, at the greatest."""
         most = GREATEST[kind]
         if self.chance(5):
             return most - (self.below(3) if most > 65_535 else 0)
         if kind == "ipv4_addr":
-            return FIRST + self.below(48)
+            return self.address()
+        if kind == "inet_service" and self.has_few:
+            return self.port()
         if kind in ("ip length", "meta length"):
             return 20 + self.below(48)
         if kind == "tcp_flag":
@@ -182,68 +202,6 @@ class Drawing:
         return [element for element, _ in drawn], [text for _, text in drawn]
 
 
-class CaptureDrawing(Drawing):
-    """Draws the records of a capture."""
-
-    def ends(self):
-        """A source and a destination, each an address and a port, and a protocol."""
-        protocol = self.one(*[TCP] * 4, *[UDP] * 3, *[ICMP] * 2, self.one(47, 50, 2, self.below(48), 255))
-        source, destination = (FIRST + self.below(48) if self.chance(97) else self.number("ipv4_addr") for _ in "ab")
-        if self.chance(10):
-            destination = self.one(*BOX.own)
-        return (source, self.port()), (destination, self.port()), protocol
-
-    def port(self):
-        return self.below(48) if self.chance(95) else 65_535
-
-    def packet(self, source, destination, protocol, about=None):
-        """A packet between these ends, or an ICMP error about a packet, which it shows whole or cut short."""
-        (here, port), (there, other) = source, destination
-        spare = bytes(self.below(28))
-        if protocol == TCP:
-            load = struct.pack(">HHIIBBHHH", port, other, 1, 0, 0x50, self.flags(), 1000, 0x1234, 0) + spare
-        elif protocol == UDP:
-            load = struct.pack(">HHHH", port, other, 8 + len(spare), 0) + spare
-        elif about:
-            shown = about.data[: self.one(None, 28, 27, 20)]
-            load = with_checksum(struct.pack(">BBHI", self.one(*ERRORS), 0, 0, 0) + shown, 2)
-            about = about if len(shown) >= 28 else None
-        elif protocol == ICMP:
-            kind = self.one(ECHO_REQUEST, ECHO_REQUEST, ECHO_REPLY, self.below(20), self.number("icmp_type"))
-            # The identifier is the port of the end that asks.
-            load = with_checksum(struct.pack(">BBHHH", kind, 0, 0, other if kind == ECHO_REPLY else port, 1) + spare, 2)
-        else:
-            load = spare
-        ttl = 2 + self.below(46) if self.chance(93) else self.one(0, 1, 255)
-        return Packet(datagram(protocol, here.to_bytes(4, "big"), there.to_bytes(4, "big"), load, ttl), about)
-
-    def wait(self):
-        """How many nanoseconds pass before a record: few, and seldom as many as a connection may be idle, or one fewer."""
-        if self.chance(95):
-            return self.one(0, 1, SECOND, 2 * SECOND - 1)
-        return self.one(60, 240, 300, 600) * SECOND - self.below(2)
-
-    def arrivals(self, count):
-        """So many records: most of their packets go between the ends of earlier ones, either way, or are about an earlier one."""
-        when, earlier, arrived = 1000 * SECOND, [], []
-        for _ in range(count):
-            when += self.wait()
-            about = None
-            if earlier and self.chance(65):
-                (source, destination, protocol), packet = self.one(*earlier)
-                if self.chance(50):
-                    source, destination = destination, source
-                if packet.icmp_type not in ERRORS and self.chance(15):
-                    protocol, about = ICMP, packet
-            else:
-                source, destination, protocol = self.ends()
-            packet = self.packet(source, destination, protocol, about)
-            if not about:
-                earlier.append(((source, destination, protocol), packet))
-            arrived.append(Arrived(when, self.one(*BOX.interfaces), packet))
-        return arrived
-
-
 class Style:
     """How consecutive rules are drawn: the selectors that they begin with, what most of them are, the mask of those that ask for
     flags, and the percentage of rules of one match and a verdict, which are merged.
@@ -260,9 +218,12 @@ class Style:
 class TableDrawing(Drawing):
     """Draws a table."""
 
-    def __init__(self, dice, name):
-        super().__init__(dice)
-        self.name = name
+    def __init__(self, dice, name, is_translating):
+        super().__init__(dice, is_translating)
+        self.name, self.is_translating = name, is_translating
+        self.most_rules = self.one(8, 16, MOST_RULES) if is_translating else MOST_RULES
+        # Of chains that may translate, the words for that.
+        self.words = {}
         self.sets, self.maps = {}, {}
         self.declared = []
         # What the chains without a hook cost, by their names: the last is drawn first, and jumps lead to later ones.
@@ -277,7 +238,7 @@ class TableDrawing(Drawing):
             head = "type " + " . ".join(kinds) + (f" : {data}" if data else "")
         else:
             selectors = [self.one(*(it for it, of in KINDS.items() if of == kind)) for kind in kinds]
-            data = {"mark": "meta mark"}.get(data, data)
+            data = {"mark": "meta mark", "ipv4_addr": "ip saddr"}.get(data, data)
             head = "typeof " + " . ".join(selectors) + (f" : {data}" if data else "")
         lines = [head]
         if any("-" in text or "/" in text for text in texts) and self.chance(50):
@@ -298,13 +259,13 @@ class TableDrawing(Drawing):
         return self.one(*known)
 
     def pairs(self, kind, data):
-        """Elements of a map of which no two share a number, each with what `data` draws; and their texts."""
+        """Elements of a map of which no two share a number, each with what `data` draws with its text; and their texts."""
         pairs, texts = [], []
         for element, text in zip(*self.elements((kind,), least=8)):
             if not any(shares(*element, *other) for other, _ in pairs):
-                value = data()
+                value, value_text = data()
                 pairs.append((element, value))
-                texts.append(f"{text} : {value.text if isinstance(value, Verdict) else value}")
+                texts.append(f"{text} : {value_text}")
         return pairs, texts
 
     def lookup(self, word, data, key):
@@ -326,9 +287,11 @@ class TableDrawing(Drawing):
     # ---- matches
 
     def selector(self):
-        """A selector. Marks are frequent, since rules write what later rules match."""
+        """A selector. Marks are frequent, since rules write what later rules match, and so is what translations do."""
         if self.chance(30):
             return self.one("meta mark", "ct mark")
+        if self.is_translating and self.chance(16):
+            return "ct status"
         selector = self.one(*KINDS)
         # Few matches hold.
         return self.selector() if self.is_sparse and KINDS[selector] in FEW_VALUES and self.chance(70) else selector
@@ -444,8 +407,13 @@ class TableDrawing(Drawing):
         if drawn < 7:
             operand = self.one("meta mark", "ct mark")
             return SetMark(field, operand, f"{field} set {operand}")
-        lookup, text = self.lookup("mark", lambda: self.number("mark"), "mark")
+        lookup, text = self.lookup("mark", self.marked, "mark")
         return SetMark(field, lookup, f"{field} set {lookup.selector} map {text}")
+
+    def marked(self):
+        """A mark, and its text."""
+        number = self.number("mark")
+        return number, str(number)
 
     def counter(self):
         if self.chance(80):
@@ -482,8 +450,53 @@ class TableDrawing(Drawing):
         """A map of verdicts. One that rules share leads to the last chain at most."""
         most = MOST_COST - self.costs[chain]
         reachable = [name for name in later[-1:] if self.costs[name] <= most]
-        lookup, text = self.lookup("verdict", lambda: self.verdict(reachable, most), tuple(reachable))
+
+        def data():
+            verdict = self.verdict(reachable, most)
+            return verdict, verdict.text
+
+        lookup, text = self.lookup("verdict", data, tuple(reachable))
         return VerdictMap(lookup, f"{lookup.selector} vmap {text}")
+
+    # ---- NAT statements
+
+    def translating(self, first, words):
+        """The statements of a rule that ends with one of these NAT statements. Often the first is a match that holds for some
+        packets, in place of that one.
+        """
+        is_source = "snat" in words
+        if self.chance(70):
+            interface = "oif" if is_source else "iif"
+            first = self.plain(self.one("ip saddr", "ip daddr", "th sport", "th dport", "ip protocol", *[interface] * 3))
+        statements = [first] if self.chance(94 if is_source else 99) else []
+        if self.chance(30):
+            statements.append(self.one(self.counter, self.log, self.set_mark)())
+        return [*statements, self.translate(words)]
+
+    def translate(self, words):
+        """One of these NAT statements."""
+        word = self.one(*words)
+        ports = self.ports(word) if self.chance(50) else None
+        # One port is written alone.
+        port_text = ":" + "-".join(map(str, ports if ports[0] != ports[1] else ports[:1])) if ports else ""
+        if word in ("redirect", "masquerade"):
+            return Translate(word, None, ports, f"{word} to {port_text}" if ports else word)
+        head = word + self.one(" to", " ip to")
+        if self.chance(25):
+            lookup, text = self.lookup("ipv4_addr", lambda: self.end(word), word)
+            return Translate(word, lookup, None, f"{head} {lookup.selector} map {text}")
+        address, text = self.end(word)
+        return Translate(word, address, ports, f"{head} {text}{port_text}")
+
+    def ports(self, word):
+        """A port, or a range of few for a source."""
+        low = self.port() or 1
+        return low, min(65_535, low + self.below(4)) if word in ("snat", "masquerade") else low
+
+    def end(self, word):
+        """An address that `snat` or `dnat` may lead to, and its text."""
+        address = FIRST + self.one(*(EXTERNAL if word == "snat" else HOSTS * 2 + EXTERNAL))
+        return address, dotted(address)
 
     # ---- chains
 
@@ -497,7 +510,7 @@ class TableDrawing(Drawing):
     def stretch(self, chain, later):
         """Consecutive rules of a chain, as long as it may cost more."""
         style = Style(self)
-        for _ in range(self.below(MOST_RULES)):
+        for _ in range(self.below(self.most_rules)):
             statements = self.statements(style, chain, later)
             cost = self.costs[chain] + sum(map(self.cost, statements))
             if cost <= MOST_COST:
@@ -507,6 +520,8 @@ class TableDrawing(Drawing):
     def statements(self, style, chain, later):
         """The statements of a rule."""
         first = self.styled(style)
+        if chain in self.words and self.chance(20 if "dnat" in self.words[chain] else 40):
+            return self.translating(first, self.words[chain])
         if style.kind == "maps" and self.chance(40):
             rest = [self.verdict_map(chain, later)]
         elif self.chance(style.plain):
@@ -529,15 +544,28 @@ class TableDrawing(Drawing):
         self.costs[chain] = 0
         return [rule for _ in range(self.one(1, 2, 2, 3)) for rule in self.stretch(chain, later)]
 
-    def base_chain(self, number, later):
+    def head(self):
+        """A hook and a type."""
+        hook = self.one(*HOOKS)
+        return hook, "nat" if hook in NAT_WORDS and self.chance(20) else "filter"
+
+    def base_chain(self, number, later, hook, kind):
         """A base chain, and its head."""
         self.is_sparse = False
-        hook = self.one(*HOOKS)
-        kind = "nat" if hook in ("prerouting", "postrouting", "output") and self.chance(20) else "filter"
         fitting = [it for it in PRIORITIES_DRAWN.get(hook, OTHERS) if kind == "filter" or priority_of(it) > -200]
         priority, policy = self.one(*fitting), self.one(None, "accept", "accept", "accept", "drop")
+        policy = None if self.is_translating and self.chance(90) else policy
+        if self.is_translating and kind == "nat":
+            self.words[f"b{number}"] = NAT_WORDS[hook]
+            later = [f"{hook}-nat", *later] if f"{hook}-nat" in self.words else later
         chain = Chain(f"b{number}", self.rules(f"b{number}", later), hook, kind, priority_of(priority), policy)
         return chain, f"type {kind} hook {hook} priority {priority};" + (f" policy {policy};" if policy else "")
+
+    def called(self, hook, later):
+        """A chain that chains of type nat on a hook may call, which translates."""
+        name = f"{hook}-nat"
+        self.words[name] = NAT_WORDS[hook]
+        return Chain(name, self.rules(name, later)), ""
 
     def table(self):
         """The table, and its text."""
@@ -545,7 +573,12 @@ class TableDrawing(Drawing):
         for number in range(self.one(2, CHAINS), 0, -1):
             drawn.append((Chain(f"c{number}", self.rules(f"c{number}", later)), ""))
             later.insert(0, f"c{number}")
-        drawn += [self.base_chain(number, later) for number in range(1, 3 + self.below(3))]
+        heads = []
+        if self.is_translating:
+            drawn += [self.called(hook, later) for hook in NAT_WORDS if hook != "output"]
+            heads = [(hook, "nat") for hook, percent in zip(NAT_WORDS, (40, 90, 5)) if self.chance(percent)]
+        heads += [None] * (2 + self.below(3) - len(heads))
+        drawn += [self.base_chain(number, later, *head or self.head()) for number, head in enumerate(heads, 1)]
         self.dice.shuffle(drawn)
         family = self.one("ip", "inet")
         texts = [chain_text(chain, head) for chain, head in drawn] + self.declared
@@ -569,10 +602,3 @@ def chain_text(chain, head):
 def block(head, lines):
     """A chain, a set or a map of these lines."""
     return "\n".join([f" {head} {{", *(f"  {line}" for line in lines), " }"])
-
-
-def drawn(seed, packets):
-    """The tables of a ruleset and its text, and so many records."""
-    dice = random.Random(seed)
-    tables = [TableDrawing(dice, name).table() for name in dice.choice((("t",), ("t", "u")))]
-    return [table for table, _ in tables], "".join(text for _, text in tables), CaptureDrawing(dice).arrivals(packets)

@@ -10,6 +10,7 @@ through all connections that were begun, with the mappings that they were begun 
 tracked.nft and translated.nft, and `outcome_of`, `aimed`, `asked` and `lets_through` tell the same in Python.
 Nothing here reads what the program writes.
 """
+import itertools
 import os
 import sys
 
@@ -252,6 +253,23 @@ GATE, OUTER, OTHER_OUTER = map(address, ("192.168.1.1", "203.0.113.1", "203.0.11
 NAMED, OTHER_NAME, SERVER = map(address, ("198.51.100.7", "203.0.113.200", "192.168.1.20"))
 
 
+def candidates(protocol, old, low, high):
+    """The ports that an old one may become, of these, the best first: those that are as like it as any of these can be, from
+    itself upward, then from the least."""
+    if protocol not in ("udp", "tcp"):
+        low, high = (0, 65535) if protocol == "echo" else (0, 0)
+        likenesses = [lambda port: True]
+    else:
+        likenesses = [
+            lambda port: port % 2 == old % 2 and (port < 1024) == (old < 1024),
+            lambda port: port % 2 == old % 2,
+            lambda port: True,
+        ]
+    is_like = next(it for it in likenesses if any(map(it, range(low, high + 1))))
+    upward = itertools.chain(range(max(low, old), high + 1), range(low, min(high + 1, old)))
+    return filter(is_like, upward)
+
+
 class Connection:
     """Between which ends its first packet came, and between which it left. A mapping is an internal end and
     the external one that stands for it: that which its source got, and that by which its destination was found."""
@@ -333,27 +351,13 @@ class Translated:
         return None
 
     def port_for(self, there, low, high):
-        """The port for the source at an external address: the one that it has there; else the first that is
-        as like its own as any of these can be and that no end has, from its own upward, then from the least."""
+        """The port for the source at an external address: the one that it has there; else the first that no end has."""
         held = self.port_at(there)
         if held is not None:
             return held
-        old = self.ends[0][1]
-        if self.packet.protocol not in ("udp", "tcp"):
-            low, high = (0, 65535) if self.packet.protocol == "echo" else (0, 0)
-            likenesses = [lambda port: True]
-        else:
-            likenesses = [
-                lambda port: port % 2 == old % 2 and (port < 1024) == (old < 1024),
-                lambda port: port % 2 == old % 2,
-                lambda port: True,
-            ]
-        is_like = next(it for it in likenesses if any(map(it, range(low, high + 1))))
         taken = {outer for _, outer in self.mappings()}
-        for port in [*range(max(low, old), high + 1), *range(low, min(high + 1, old))]:
-            if is_like(port) and (there, port) not in taken:
-                return port
-        return None
+        ports = candidates(self.packet.protocol, self.ends[0][1], low, high)
+        return next((port for port in ports if (there, port) not in taken), None)
 
     def is_taken(self):
         """Whether a packet back would be one of another connection."""
