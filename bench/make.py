@@ -3,12 +3,7 @@ import random
 import struct
 import sys
 
-
-def checksum(header):
-    total = sum(struct.unpack(">10H", header))
-    while total > 0xFFFF:
-        total = (total & 0xFFFF) + (total >> 16)
-    return 0xFFFF - total
+from plain_captures import file_header, ip_header, record
 
 
 def packet(number, length, conversations=1):
@@ -16,33 +11,28 @@ def packet(number, length, conversations=1):
     turn = number % conversations
     source = 0xC0A80100 + turn % 200 + 10
     destination = 0xC6336407
-    parts = [0x45, 0, length, number % 65536, 0, 64, 17, 0, source, destination]
-    parts[7] = checksum(struct.pack(">BBHHHBBHII", *parts))
     ports_and_length = struct.pack(">HHHH", 5000 + turn // 200, 53, length - 20, 0)
-    return struct.pack(">BBHHHBBHII", *parts) + ports_and_length + bytes(length - 28)
+    header = ip_header(length, 17, source, destination, identification=number % 65536)
+    return header + ports_and_length + bytes(length - 28)
 
 
 ETHERNET = bytes.fromhex("0200000000020200000000010800")
 
 
-def header(link):
-    return struct.pack("<IHHIIII", 0xA1B2C3D4, 2, 4, 0, 0, 0xFFFF, link)
-
-
 def records(count, length, link=b"", conversations=1):
     """So many records, each of a packet of that length behind a link header."""
-    whole = length + len(link)
-    return b"".join(struct.pack("<IIII", n // 1000, n % 1000, whole, whole) + link + packet(n, length, conversations) for n in range(count))
+    return b"".join(
+        record(link + packet(n, length, conversations), n // 1000, n % 1000) for n in range(count))
 
 
 def capture(count, length, conversations=1):
-    return header(101) + records(count, length, conversations=conversations)
+    return file_header() + records(count, length, conversations=conversations)
 
 
 def frames(power):
     """10^power frames of Ethernet of 74 bytes; from 10^5 on the same 10^5 again and again."""
     piece = records(10 ** min(power, 5), 60, ETHERNET)
-    return [header(1)] + [piece] * 10 ** max(power - 5, 0)
+    return [file_header(1)] + [piece] * 10 ** max(power - 5, 0)
 
 
 def ruleset():

@@ -8,7 +8,7 @@ import heapq
 import random
 
 from toolbox.captures import SENT_BY_US, TO_US, sll2_header, write_header, write_record
-from toolbox.crafted import ip_packet, tcp_segment, udp_datagram, echo_message
+from toolbox.crafted import Options, echo_message, ip_packet, tcp_segment, udp_datagram
 
 LAN, WAN = 2, 3
 BOX = """interface 2 lan 192.168.0.1/16
@@ -80,18 +80,20 @@ class Flow:
         """The packet of a step, with the inner or the outer end at the client's place."""
         ends = (source, port), (self.server, self.target)
         ends = ends[::-1] if is_reply else ends
-        options = {"ttl": ttl, "ipid": self.number * 5 + step & 0xFFFF, "bytes": BYTES}
+        numbers = {"ttl": ttl, "ipid": self.number * 5 + step & 0xFFFF, "bytes": BYTES}
         if self.kind == "udp":
+            options = Options(numbers)
             return ip_packet(ends[0][0], ends[1][0], 17, udp_datagram(*ends, options), options)
         if self.kind == "ping":
-            message = echo_message("pong" if is_reply else "ping", {"id": port, "bytes": BYTES})
-            return ip_packet(ends[0][0], ends[1][0], 1, message, options)
-        flags = TCP_STEPS[step][0].split()
-        options.update(dict.fromkeys(flags, True), seq=self.number * 65_537 + step & 0xFFFFFFFF)
+            message = echo_message("pong" if is_reply else "ping", Options({"id": port, "bytes": BYTES}))
+            return ip_packet(ends[0][0], ends[1][0], 1, message, Options(numbers))
+        flags = frozenset(TCP_STEPS[step][0].split())
+        numbers["seq"] = self.number * 65_537 + step & 0xFFFFFFFF
         if "ack" in flags:
-            options["acknum"] = self.number * 65_537 + 1 & 0xFFFFFFFF
+            numbers["acknum"] = self.number * 65_537 + 1 & 0xFFFFFFFF
         if "psh" not in flags:
-            options["bytes"] = 0
+            numbers["bytes"] = 0
+        options = Options(numbers, flags)
         return ip_packet(ends[0][0], ends[1][0], 6, tcp_segment(*ends, options), options)
 
     def records(self, step):

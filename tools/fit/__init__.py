@@ -13,7 +13,8 @@ numbers      values as numbers and as text
 network      the box file: what `fib` and the names of interfaces ask for
 marks        which marks there may be
 fitter       the whole ruleset; with tables, sets, chains and order
-rules        one rule; with matches, joined keys, maps, writes, effects and translation
+rules        one rule, statement by statement; the parts are matches, joined (keys), maps, writes, effects and
+             translation, which share a draft
 both         a guess tried both ways
 command      the command line
 """

@@ -1,9 +1,29 @@
 """The guesses: what is assumed where nobody knows, and what may be assumed instead."""
-from collections import namedtuple
+from __future__ import annotations
 
-# `ways` in order, the usual one first; `refuse` in place of a second one: there is none, but the guess may be refused
-Assumption = namedtuple("Assumption", "ways why")
+from dataclasses import dataclass
+from typing import Mapping
+
 REFUSE = "refuse"
+
+
+@dataclass(frozen=True)
+class Assumption:
+    """`ways` in order, the usual one first; `refuse` in place of a second one: there is none, but the guess may be
+    refused."""
+
+    ways: tuple[str, str]
+    why: str
+
+
+@dataclass(frozen=True)
+class Guess:
+    """What is guessed: its place in the text, what stands there, and the name of the assumption."""
+
+    place: str
+    what: str
+    name: str
+
 
 ASSUMPTIONS = {
     "limit": Assumption(("under", "over"), "packets stay below the rate"),
@@ -33,40 +53,40 @@ ASSUMPTIONS = {
 
 
 class Assumptions:
-    """What is assumed; `only` is the one guess, (place, what, name), that is turned, for `--both`."""
+    """What is assumed; `only` is the one guess that is turned, for `--both`."""
 
-    def __init__(self, chosen=(), only=None):
-        self.chosen = dict(chosen)
+    def __init__(self, chosen: Mapping[str, str] | None = None, only: Guess | None = None) -> None:
+        self.chosen = dict(chosen or {})
         self.only = only
-        self.asked = []  # (place of the text, what, name, way) of each guess
+        self.asked: list[tuple[Guess, str]] = []  # each guess with the way it was decided
 
-    def way(self, name, place, what):
+    def way(self, name: str, place: str, what: str) -> str:
         """How a guess is decided; it is remembered."""
         ways = ASSUMPTIONS[name].ways
         way = self.chosen.get(name, ways[0])
-        guess = place, what, name
+        guess = Guess(place, what, name)
         if self.only == guess:
             way = other_way(name, way)
-        self.asked.append((*guess, way))
+        self.asked.append((guess, way))
         return way
 
-    def chosen_way(self, name, place, what):
+    def chosen_way(self, name: str, place: str, what: str) -> str:
         """How a guess that was made already was decided; the usual way where it wasn't made."""
-        made = [it[3] for it in self.asked if it[:3] == (place, what, name)]
+        made = [way for guess, way in self.asked if guess == Guess(place, what, name)]
         return made[-1] if made else ASSUMPTIONS[name].ways[0]
 
-    def why(self, name, way):
+    def why(self, name: str, way: str) -> str:
         usual = ASSUMPTIONS[name]
         if way == usual.ways[0]:
             return f"assumed: {usual.why}; --assume {name}={usual.ways[1]} takes the other"
         return f"assumed as asked: {name}={way}"
 
 
-def other_way(name, way):
+def other_way(name: str, way: str) -> str:
     first, second = ASSUMPTIONS[name].ways
     return second if way == first else first
 
 
-def listed():
+def listed() -> str:
     """All that may be assumed, for the usage."""
     return "; ".join(f"{name}={'|'.join(it.ways)}" for name, it in ASSUMPTIONS.items())

@@ -1,53 +1,69 @@
 """What was changed: each change with its place, what it was, what it became, how much that matters, and why."""
-from collections import namedtuple
+from __future__ import annotations
 
-from .scanner import place
+from dataclasses import dataclass
+from typing import Iterator
+
+from .scanner import Token, place
 
 GRADES = ("same", "outcome", "guess", "refused")
-# `reads`: nftrun takes the text as it is, but reads it in another way than nft(8)
-Change = namedtuple("Change", "place grade what to why reads")
+
+
+@dataclass(frozen=True)
+class Change:
+    """`reads`: nftrun takes the text as it is, but reads it in another way than nft(8)."""
+
+    place: str
+    grade: str
+    what: str
+    to: str
+    why: str
+    reads: bool = False
 
 
 class Changes:
-    def __init__(self):
-        self.list, self.warnings = [], []
-        self.told = set()
+    """All changes in the order in which they were made, and warnings of what stays, as (place, text)."""
 
-    def tell(self, token, grade, what, to, why, reads=False):
+    def __init__(self) -> None:
+        self.list: list[Change] = []
+        self.warnings: list[tuple[str, str]] = []
+        self.told: set[tuple[str, str, str]] = set()
+
+    def tell(self, token: Token, grade: str, what: str, to: str, why: str, reads: bool = False) -> None:
         self.list.append(Change(place(token), grade, what, to, why, reads))
 
-    def tell_once(self, token, grade, what, to, why):
+    def tell_once(self, token: Token, grade: str, what: str, to: str, why: str) -> None:
         """Once for a ruleset, as it is the same everywhere."""
         if (grade, what, to) not in self.told:
             self.told.add((grade, what, to))
             self.tell(token, grade, what, to, why)
 
-    def refuse(self, token, what, why):
+    def refuse(self, token: Token, what: str, why: str) -> None:
         self.tell(token, "refused", what, "", why)
 
-    def warn(self, token, text):
+    def warn(self, token: Token, text: str) -> None:
         if (place(token), text) not in self.warnings:
             self.warnings.append((place(token), text))
 
-    def take(self, others):
+    def take(self, others: Changes) -> None:
         self.list += others.list
         for one in others.warnings:
             if one not in self.warnings:
                 self.warnings.append(one)
 
-    def worst(self):
+    def worst(self) -> str:
         return max((it.grade for it in self.list), key=GRADES.index, default="same")
 
-    def is_all_reading(self):
+    def is_all_reading(self) -> bool:
         """Whether nothing was changed but what nftrun takes as it is."""
         return all(it.reads for it in self.list)
 
-    def in_order(self):
+    def in_order(self) -> list[Change]:
         """By file and line, as far as these go."""
         files = list(dict.fromkeys(file_and_line(it.place)[0] for it in self.list))
         return sorted(self.list, key=lambda it: (files.index(file_and_line(it.place)[0]), file_and_line(it.place)[1]))
 
-    def lines(self):
+    def lines(self) -> Iterator[str]:
         for it in self.in_order():
             to = f" -> {it.to}" if it.to else ""
             yield f"{it.place}: {it.grade}: {it.what}{to} ({it.why})"
@@ -55,6 +71,6 @@ class Changes:
             yield f"{where}: warning: {text}"
 
 
-def file_and_line(where):
+def file_and_line(where: str) -> tuple[str, int]:
     file, _, line = where.rpartition(":")
     return file, int(line) if line.isdigit() else 0

@@ -1,15 +1,18 @@
 """The command line of fit-ruleset."""
+from __future__ import annotations
+
 import argparse
 import os
-import subprocess
 import sys
 import tempfile
-from collections import namedtuple
+from dataclasses import dataclass
+from typing import Mapping, Sequence, Tuple
 
 from toolbox import commands, rulemap
-from toolbox.program import find_program
+from toolbox.outputs import check_output
+from toolbox.program import find_program, run_child
 
-from .assumptions import ASSUMPTIONS, Assumptions, listed
+from .assumptions import ASSUMPTIONS, Assumptions, Guess, listed
 from .both import try_both
 from .changes import GRADES, Changes
 from .commands import Commands
@@ -17,14 +20,27 @@ from .fitter import Fitter
 from .network import Network
 from .profile import SIZE, takes
 from .scanner import Refused
+from .tree import Counter
 
 NAME = "fit-ruleset"
 DONE, WORSE = 0, 1
-# `text` is what is written, `rows` the map, `stays` whether RULES is taken as it is
-Fitted = namedtuple("Fitted", "text rows changes assumptions stays")
+Row = Tuple[str, int, rulemap.Origin]  # chain and number of a fitted rule, and the rule that it comes from
 
 
-def fit(path, network, chosen=(), only=None):
+@dataclass(frozen=True)
+class Fitted:
+    """`text` is what is written, `rows` the map, `stays` whether RULES is taken as it is."""
+
+    text: str
+    rows: list[Row]
+    changes: Changes
+    assumptions: Assumptions
+    stays: bool
+
+
+def fit(
+    path: str, network: Network | None, chosen: Mapping[str, str] | None = None, only: Guess | None = None
+) -> Fitted:
     """Fits the ruleset of a file. Refused where it can't be read; what can't be fitted is among the changes."""
     changes, assumptions = Changes(), Assumptions(chosen, only)
     read = Commands(changes)
@@ -41,23 +57,24 @@ def fit(path, network, chosen=(), only=None):
     return Fitted(head + body, rows_of(fitter), changes, assumptions, False)
 
 
-def rows_of(fitter):
+def rows_of(fitter: Fitter) -> list[Row]:
     """The map's rows, for rulemap.write."""
     rows = []
-    for chain, number, old_chain, old, rule, counters in fitter.rows:
-        origin = rulemap.Origin(old_chain, old, rule.token.source.name, rule.token.line, rule.text, counters)
-        rows.append((chain, number, origin))
+    for it in fitter.rows:
+        token = it.rule.token
+        origin = rulemap.Origin(it.old_chain, it.old_number, token.source.name, token.line, it.rule.text, it.counters)
+        rows.append((it.chain, it.number, origin))
     return rows
 
 
-def plain_rows(fitter):
+def plain_rows(fitter: Fitter) -> list[Row]:
     """The map of a ruleset that stays: each rule comes from itself."""
     rows = []
-    numbers = {}
+    numbers: dict[str, int] = {}
     for table, chain, rule in fitter.rules():
         place = f"{table.family} {table.name} {chain.name}"
         number = numbers[place] = numbers.get(place, 0) + 1
-        counters = tuple(range(1, sum(it.kind == "counter" for it in rule.statements) + 1))
+        counters = tuple(range(1, sum(isinstance(it.what, Counter) for it in rule.statements) + 1))
         rows.append(
             (
                 place,
@@ -68,13 +85,13 @@ def plain_rows(fitter):
     return rows
 
 
-def tell(changes):
+def tell(changes: Changes) -> None:
     for line in changes.lines():
-        print(commands.printable(line), file=sys.stderr)
+        commands.warn(line)
 
 
-def chosen_of(words):
-    chosen = {}
+def chosen_of(words: Sequence[str]) -> dict[str, str]:
+    chosen: dict[str, str] = {}
     for word in words:
         name, _, way = word.partition("=")
         if name not in ASSUMPTIONS or way not in ASSUMPTIONS[name].ways:
@@ -83,12 +100,12 @@ def chosen_of(words):
     return chosen
 
 
-def parsed_arguments():
-    parser = argparse.ArgumentParser(
-        prog=NAME,
+def parsed_arguments() -> argparse.Namespace:
+    parser = commands.Parser(
+        prog="nftrun fit",
         formatter_class=argparse.RawDescriptionHelpFormatter,
-        description="Rewrites a ruleset that nft(8) takes into the language of nftrun, and tells on standard error what\n"
-        "it changed.",
+        description="Rewrites a ruleset that nft(8) takes into the language of nftrun, and tells on standard error "
+        "what\nit changed.",
         epilog="Status: 0 FITTED is written, 1 a change is worse than --at-most, 2 refused.\n"
         "docs/FIT.md has the constructs.\n"
         f"--assume: {listed()}",
@@ -116,18 +133,20 @@ def parsed_arguments():
     return parser.parse_args()
 
 
-def main():
+def main() -> None:
     commands.run_command(NAME, command)
 
 
-def command():
+def command() -> int:
     try:
         return run(parsed_arguments())
     except Refused as refusal:
         raise commands.Refused(str(refusal)) from None
 
 
-def run(names):
+def run(names: argparse.Namespace) -> int:
+    if names.map:
+        check_output(names.map, (names.rules, names.box, names.both))
     network = Network(names.box) if names.box else None
     chosen = chosen_of(names.assume)
     if names.both:
@@ -142,41 +161,41 @@ def run(names):
         number = sum(it.grade == "refused" for it in fitted.changes.list)
         raise Refused(f"{names.rules}: {number} of {count} changes can't be made, as told above")
     if GRADES.index(worst) > GRADES.index(names.at_most):
-        print(f"{NAME}: {summary}, which is worse than {names.at_most}: nothing is written", file=sys.stderr)
+        commands.warn(f"{NAME}: {summary}, which is worse than {names.at_most}: nothing is written")
         return WORSE
     data = fitted.text.encode("utf-8", "surrogateescape")
     check(data, names)
     if names.map:
         rulemap.write(names.map, data, names.rules, fitted.rows)
-    print(f"{NAME}: {summary}", file=sys.stderr)
+    commands.warn(f"{NAME}: {summary}")
     sys.stdout.buffer.write(data)
     return DONE
 
 
-def run_both(names, network, chosen):
+def run_both(names: argparse.Namespace, network: Network | None, chosen: Mapping[str, str]) -> int:
     if network is None:
         raise Refused("--both wants --box")
 
-    def fit_with(only):
+    def fit_with(only: Guess | None) -> Fitted:
         fitted = fit(names.rules, network, chosen, only)
         if only is None:
             tell(fitted.changes)
         return fitted
 
-    kept = try_both(fit_with, names, lambda line: print(commands.printable(line)))
+    kept = try_both(fit_with, names, commands.say)
     if kept is None:
         raise Refused(f"{names.rules}: refused, as told above")
     return DONE if kept else WORSE
 
 
-def program_at_hand():
+def program_at_hand() -> str | None:
     try:
         return find_program()
     except commands.Refused:
         return None
 
 
-def check(data, names):
+def check(data: bytes, names: argparse.Namespace) -> None:
     """What is written is of nftrun's grammar, and `nftrun check` takes it, where the program is at hand."""
     if len(data) > SIZE:
         raise Refused(f"{names.rules}: what it becomes has {len(data)} bytes, and nftrun takes {SIZE}")
@@ -188,12 +207,7 @@ def check(data, names):
     with tempfile.NamedTemporaryFile(suffix=".nft") as file:
         file.write(data)
         file.flush()
-        done = subprocess.run([program, "check", "--explain", file.name, names.box], capture_output=True, check=False)
-    if done.returncode:
-        remark = (
-            done.stderr.decode("utf-8", "surrogateescape")
-            .replace(file.name, "the fitted ruleset")
-            .strip()
-            .split("\n")[0]
-        )
+        status, errors = run_child([program, "check", "--explain", file.name, names.box])
+    if status:
+        remark = errors.replace(file.name, "the fitted ruleset").split("\n")[0]
         raise Refused(f"{names.rules}: nftrun refuses what it becomes: {remark}")

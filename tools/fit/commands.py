@@ -1,28 +1,41 @@
 """Reads a file as `nft -f` does: definitions, includes, commands and blocks, done one by one on an empty ruleset."""
+from __future__ import annotations
+
 import glob
 import os
+from typing import TYPE_CHECKING, Mapping, Sequence, TypeVar
+
+import toolbox.commands
 
 from .expressions import ExpressionReader, as_number
-from .scanner import END, Refused, Source, moved, refuse, scan, shown, slice_of
-from .tree import Chain, Head, NotFitted, Rule, Set, Table
+from .scanner import END, Refused, Source, Token, moved, refuse, scan, shown, slice_of
+from .tree import Chain, Head, NamedObject, NotFitted, Rule, Set, Table
+
+if TYPE_CHECKING:
+    from .changes import Changes
 
 FAMILIES = ("ip", "ip6", "inet", "arp", "bridge", "netdev")
 OBJECTS = ("counter", "quota", "limit", "ct", "flowtable", "secmark", "synproxy")
 DEFINITIONS = ("define", "redefine", "undefine", "include")
 INCLUDE_DEPTH = 16
+Item = TypeVar("Item")
 NOTHING_ELSE = "nothing else is loaded"
 
 
 class Commands:
     """`tables` is what all commands together leave; `order` the base chains as they came to be."""
 
-    def __init__(self, changes):
+    def __init__(self, changes: Changes) -> None:
         self.changes = changes
-        self.tables, self.order = {}, []
-        self.variables, self.including = {}, []
-        self.tokens, self.at, self.taken = [], 0, []
+        self.tables: dict[tuple[str, str], Table] = {}
+        self.order: list[tuple[Table, Chain]] = []
+        self.variables: dict[str, list[Token]] = {}
+        self.including: list[str] = []
+        self.tokens: list[Token] = []
+        self.at = 0
+        self.taken: list[Token] = []
 
-    def read(self, path):
+    def read(self, path: str) -> Source:
         source = Source(path, read_text(path))
         outer = self.tokens, self.at
         self.tokens, self.at = scan(source), 0
@@ -36,20 +49,20 @@ class Commands:
 
     # tokens
 
-    def peek(self, ahead=0):
+    def peek(self, ahead: int = 0) -> Token:
         index = self.at + ahead
         return self.tokens[index] if index < len(self.tokens) else END
 
-    def has(self, *texts):
+    def has(self, *texts: str) -> bool:
         return self.peek().kind in ("word", "mark") and self.peek().text in texts
 
-    def skip(self, *texts):
+    def skip(self, *texts: str) -> bool:
         if self.has(*texts):
             self.at += 1
             return True
         return False
 
-    def take(self, *texts):
+    def take(self, *texts: str) -> Token:
         token = self.peek()
         if token.kind == "end":
             raise self.torn()
@@ -58,16 +71,16 @@ class Commands:
         self.at += 1
         return token
 
-    def torn(self):
+    def torn(self) -> Refused:
         return refuse(self.tokens[-1] if self.tokens else END, "the text ends too early")
 
-    def end(self):
+    def end(self) -> bool:
         if self.peek().kind == "newline" or self.has(";"):
             self.at += 1
             return True
         return False
 
-    def name(self):
+    def name(self) -> str:
         token = self.take()
         if token.kind == "variable":
             token = self.expanded([token])[0]
@@ -75,7 +88,7 @@ class Commands:
             raise refuse(token, f"`{spoken(token)}` is no name")
         return token.text.strip('"')
 
-    def to_end(self):
+    def to_end(self) -> list[Token]:
         """The tokens up to the end of a rule or a line, with definitions put in."""
         taken, depth = [], 0
         while self.peek().kind != "end":
@@ -89,7 +102,7 @@ class Commands:
         self.taken = taken
         return self.expanded(taken)
 
-    def expanded(self, tokens):
+    def expanded(self, tokens: Sequence[Token]) -> list[Token]:
         out = []
         for token in tokens:
             if token.kind != "variable":
@@ -103,13 +116,13 @@ class Commands:
 
     # commands
 
-    def command(self):
+    def command(self) -> None:
         token = self.peek()
         word = token.text if token.kind == "word" else ""
         if word in DEFINITIONS:
             self.definition()
         elif word in ("flush", "delete", "destroy", "rename"):
-            getattr(self, "flush" if word == "flush" else "rename" if word == "rename" else "delete")()
+            {"flush": self.flush, "rename": self.rename}.get(word, self.delete)()
         elif word in ("add", "create", "insert"):
             self.take()
             self.changes.tell_once(token, "same", f"command {word}", "a part of its table", NOTHING_ELSE)
@@ -122,7 +135,7 @@ class Commands:
         else:
             raise refuse(token, f"the command `{spoken(token)}` isn't understood")
 
-    def definition(self):
+    def definition(self) -> None:
         token = self.take()
         if token.text == "include":
             self.include(token)
@@ -135,7 +148,7 @@ class Commands:
         self.changes.tell_once(token, "same", token.text, "left out", "values stand where they are used")
         self.variables[name] = self.to_end()
 
-    def include(self, token):
+    def include(self, token: Token) -> None:
         pattern = self.take().text.strip('"')
         paths = included(pattern, token.source.name)
         if not paths and not glob.has_magic(pattern):
@@ -146,26 +159,26 @@ class Commands:
         for path in paths:
             self.read(path)
 
-    def family(self):
+    def family(self) -> str:
         if self.peek().text in FAMILIES and self.peek(1).kind in ("word", "string", "variable"):
             return self.take().text
         return "ip"
 
-    def table_of(self):
+    def table_of(self) -> Table:
         token = self.peek()
         key = self.family(), self.name()
         if key not in self.tables:
             raise refuse(token, f"there is no table {' '.join(key)}")
         return self.tables[key]
 
-    def one_of(self, named, what):
+    def one_of(self, named: Mapping[str, Item], what: str) -> Item:
         token = self.peek()
         name = self.name()
         if name not in named:
             raise refuse(token, f"there is no {what} {name}")
         return named[name]
 
-    def flush(self):
+    def flush(self) -> None:
         token = self.take()
         what = self.take().text
         if what == "ruleset":
@@ -187,7 +200,7 @@ class Commands:
         else:
             raise refuse(token, f"`flush {what}` isn't understood")
 
-    def nothing_to_flush(self):
+    def nothing_to_flush(self) -> bool:
         """`flush table inet t` of a table that isn't there yet: nft(8) refuses it, unless it is loaded already."""
         at = self.at
         key = self.family(), self.name()
@@ -196,7 +209,7 @@ class Commands:
             return False
         return True
 
-    def delete(self):
+    def delete(self) -> None:
         token = self.take()
         what = self.take().text
         self.changes.tell(token, "same", f"{token.text} {what}", "done", NOTHING_ELSE)
@@ -218,15 +231,15 @@ class Commands:
         else:
             raise refuse(token, f"`{token.text} {what}` isn't understood")
 
-    def delete_elements(self, found):
+    def delete_elements(self, found: Set) -> None:
         tokens = self.to_end()
         try:
-            gone = {it.key for it in ExpressionReader(tokens).elements().list}
+            gone = {it.key for it in ExpressionReader(tokens).elements().items}
         except NotFitted as fault:
             raise refuse(tokens[0], str(fault)) from None
         found.elements, found.slices = [it for it in found.elements if it.key not in gone], None
 
-    def rename(self):
+    def rename(self) -> None:
         self.take()
         token = self.take("chain")
         table = self.table_of()
@@ -238,7 +251,7 @@ class Commands:
         chain.name = name
         self.changes.tell(token, "same", "rename chain", "done", NOTHING_ELSE)
 
-    def add(self, verb):
+    def add(self, verb: str) -> None:
         token = self.take()
         what = token.text
         if what == "table":
@@ -257,7 +270,7 @@ class Commands:
         else:
             raise refuse(token, f"`{verb} {spoken(token)}` isn't understood")
 
-    def add_rule(self, verb):
+    def add_rule(self, verb: str) -> None:
         chain = self.one_of(self.table_of().chains, "chain")
         where = len(chain.rules) if verb != "insert" else 0
         if self.has("position", "handle"):
@@ -272,11 +285,11 @@ class Commands:
         if tokens:
             chain.rules.insert(where, Rule(tokens, shown(self.taken)))
 
-    def add_elements(self, found, tokens):
+    def add_elements(self, found: Set, tokens: list[Token]) -> None:
         if not tokens:
             raise refuse(self.peek(), "a list of elements is wanted")
         try:
-            elements = ExpressionReader(tokens).elements(found.is_map).list
+            elements = ExpressionReader(tokens).elements(found.is_map).items
         except NotFitted as fault:
             found.fault = tokens[0], str(fault)  # nftrun may take them as they are
             return
@@ -285,7 +298,7 @@ class Commands:
 
     # blocks
 
-    def table(self):
+    def table(self) -> None:
         token = self.peek()
         key = self.family(), self.name()
         if key in self.tables and self.has("{"):
@@ -299,7 +312,7 @@ class Commands:
             if not self.end():
                 self.table_line(table)
 
-    def table_line(self, table):
+    def table_line(self, table: Table) -> None:
         token = self.peek()
         if self.has(*DEFINITIONS):
             self.definition()
@@ -319,7 +332,7 @@ class Commands:
         else:
             raise refuse(token, f"`{spoken(token)}` isn't understood in a table")
 
-    def item(self, table, what, token):
+    def item(self, table: Table, what: str, token: Token) -> None:
         name = self.name()
         if what == "chain":
             chain = table.chains.setdefault(name, Chain(name, token))
@@ -331,9 +344,10 @@ class Commands:
             if self.skip("{"):
                 self.set(found, is_new)
         else:
-            table.objects[name] = (what, token, self.braced() if self.has("{") else self.to_end())
+            body = self.braced() if self.has("{") else self.to_end()
+            table.objects[name] = NamedObject(what, token, tuple(body))
 
-    def braced(self):
+    def braced(self) -> list[Token]:
         self.take("{")
         body, depth = [], 1
         while depth:
@@ -342,12 +356,12 @@ class Commands:
             body.append(token)
         return body[:-1]
 
-    def chain(self, table, chain):
+    def chain(self, table: Table, chain: Chain) -> None:
         while not self.skip("}"):
             if not self.end():
                 self.chain_line(table, chain)
 
-    def chain_line(self, table, chain):
+    def chain_line(self, table: Table, chain: Chain) -> None:
         if self.has("type") and self.peek(1).text in ("filter", "nat", "route"):
             self.take()
             if chain.head is None:
@@ -373,7 +387,7 @@ class Commands:
                 raise refuse(self.peek(), f"`{spoken(self.peek())}` isn't understood in a chain")
             chain.rules.append(Rule(tokens, shown(self.taken)))
 
-    def head(self):
+    def head(self) -> Head:
         first = self.peek()
         words = [it.text for it in self.to_end()]
         if len(words) < 3 or words[1] != "hook" or "priority" not in words:
@@ -384,7 +398,7 @@ class Commands:
             priority = [name, "-", offset]
         return Head(words[0], words[2], tuple(priority))
 
-    def set(self, found, is_new):
+    def set(self, found: Set, is_new: bool) -> None:
         while not self.skip("}"):
             if self.end():
                 continue
@@ -401,7 +415,7 @@ class Commands:
                 else:
                     found.slices = None
 
-    def set_line(self, found):
+    def set_line(self, found: Set) -> None:
         token = self.take()
         word = token.text
         if word == "type":
@@ -431,7 +445,7 @@ class Commands:
             raise refuse(token, f"`{spoken(token)}` isn't understood in a {found.word}")
 
 
-def types_of(words):
+def types_of(words: list[str]) -> tuple[list[str], list[str] | None]:
     """The names of types of a key, and of a map's data."""
     words = [it for it in words if it not in (".", "interval")]
     if ":" not in words:
@@ -440,7 +454,7 @@ def types_of(words):
     return words[:at], words[at + 1 :]
 
 
-def included(pattern, from_file):
+def included(pattern: str, from_file: str) -> list[str]:
     """The files of an `include`: beside the file that has it, from here, or from /etc as nft(8) does."""
     folders = [os.path.dirname(from_file), ""] if not os.path.isabs(pattern) else [""]
     if not os.path.isabs(pattern) and not pattern.startswith("./"):
@@ -452,14 +466,13 @@ def included(pattern, from_file):
     return []
 
 
-def read_text(path):
+def read_text(path: str) -> str:
     try:
-        with open(path, encoding="utf-8", errors="surrogateescape", newline="") as file:
-            return file.read()
-    except OSError as error:
-        raise Refused(f"{path}: {error.strerror}") from None
+        return toolbox.commands.read_text(path)
+    except toolbox.commands.Refused as refusal:
+        raise Refused(str(refusal)) from None
 
 
-def spoken(token):
+def spoken(token: Token) -> str:
     """A token in a message: a newline is named."""
     return "the end of the line" if token.kind == "newline" else token.text

@@ -1,170 +1,181 @@
 """Statements that count, tell or bound, verdicts, and what ends a rule."""
-from .facts import NEVER_IN_IPV4, TRANSPORTS, first_word
-from .numbers import spell_value
+from __future__ import annotations
+
+from dataclasses import replace
+from typing import Sequence
+
+from .draft import Draft
+from .facts import NEVER_IN_IPV4, first_word
+from .maps import Maps
+from .matches import Matches
 from .profile import takes
 from .sets import verdict_text
-from .tree import Lookup, Missing, NotFitted, Selector, Value, selectors_in
+from .tree import (
+    Bound,
+    ChangeOfSet,
+    Counter,
+    Element,
+    Expression,
+    LeftOut,
+    Log,
+    Lookup,
+    Match,
+    Missing,
+    NotFitted,
+    Reject,
+    Selector,
+    Verdict,
+    selectors_in,
+)
 
 
 class Effects:
+    """Fits statements that count, tell or bound, and those that end a rule."""
+
+    def __init__(self, draft: Draft, matches: Matches, maps: Maps) -> None:
+        self.draft, self.matches, self.maps = draft, matches, maps
+
     # verdicts
 
-    def fit_verdict(self, verdict):
-        if verdict.target is not None and verdict.target not in self.table.chains:
+    def fit_verdict(self, verdict: Verdict) -> None:
+        if verdict.target is not None and verdict.target not in self.draft.table.chains:
             raise Missing(f"there is no chain {verdict.target}")
-        if verdict.word == "continue" and not self.is_last():
-            self.tell("same", "left out", "a packet goes on in the rule")
+        if verdict.word == "continue" and not self.draft.is_last():
+            self.draft.tell("same", "left out", "a packet goes on in the rule")
             return
-        self.put(verdict_text(verdict), "end")
+        self.draft.put(verdict_text(verdict), "end")
 
-    def test_of_reject(self):
+    def test_of_reject(self) -> None:
         """What `reject` asks of the packet is asked first, before any counter: so nft(8) orders it."""
-        for it in self.rule.statements:
-            if it.kind != "reject":
+        for it in self.draft.rule.statements:
+            if not isinstance(it.what, Reject):
                 continue
-            self.statement = it
-            if it.parts[:1] == ("icmpv6",):
-                self.tell("same", self.never() + " in front", "it is for IPv6 packets alone")
-                self.die()
-            elif it.parts == ("tcp", "reset") and not self.asks_for_tcp():
-                self.tell("same", "meta l4proto tcp in front", "nft(8) tests for TCP first")
-                self.put("meta l4proto tcp")
+            self.draft.found = it
+            if it.what.words[:1] == ("icmpv6",):
+                self.draft.tell("same", self.draft.never() + " in front", "it is for IPv6 packets alone")
+                self.draft.die()
+            elif it.what.words == ("tcp", "reset") and not self.asks_for_tcp():
+                self.draft.tell("same", "meta l4proto tcp in front", "nft(8) tests for TCP first")
+                self.draft.put("meta l4proto tcp")
 
-    def asks_for_tcp(self):
+    def asks_for_tcp(self) -> bool:
         """Whether the matches before all else ask for TCP anyway."""
-        for it in self.leading_matches():
-            if it.kind == "match" and any(first_word(one.name) == "tcp" for one in selectors_in(it.parts[0])):
-                return True
-        return False
+        return any(
+            isinstance(it, Match) and any(first_word(one.name) == "tcp" for one in selectors_in(it.left))
+            for it in self.draft.leading_matches()
+        )
 
-    def fit_reject(self, *_):
-        self.tell("outcome", "drop", "the packet is dropped as well, the answer isn't shown")
-        self.put("drop", "end")
+    def fit_reject(self, *_: str) -> None:
+        self.draft.tell("outcome", "drop", "the packet is dropped as well, the answer isn't shown")
+        self.draft.put("drop", "end")
 
-    def fit_queue(self):
-        way = self.way("queue")
-        self.guess("queue", way, way)
-        self.put(way, "end")
+    def fit_queue(self) -> None:
+        way = self.draft.way("queue")
+        self.draft.guess("queue", way, way)
+        self.draft.put(way, "end")
 
     # what counts and tells
 
-    def fit_counter(self, packets, size):
-        stands = self.statement_text() if self.statement and self.statement.kind == "counter" else ""
+    def fit_counter(self, counter: Counter) -> None:
+        packets, size = counter.packets, counter.size
+        stands = self.draft.statement_text() if isinstance(self.draft.statement.what, Counter) else ""
         anew = f"counter packets {packets} bytes {size}" if packets or size else "counter"
         self.count(stands if takes(stands, "statement") else anew)
 
-    def count(self, text):
-        self.counters += 1
-        self.put(text, "effect", (), self.counters)
+    def count(self, text: str) -> None:
+        self.draft.counters += 1
+        self.draft.put(text, "effect", (), self.draft.counters)
 
-    def fit_object(self, what, named):
+    def fit_object(self, what: str, named: str | Expression) -> None:
         if isinstance(named, Lookup):
             self.object_by_map(what, named)
         elif what != "counter" or not isinstance(named, str):
-            raise NotFitted(f"`{self.statement_line()}` isn't understood")
+            raise NotFitted(f"`{self.draft.statement_line()}` isn't understood")
         else:
-            packets, size = self.start_of(named)
-            self.tell("same", "counter", f"the counter {named} is the sum of the counters of its rules")
-            self.fit_counter(packets, size)
+            start = self.start_of(named)
+            self.draft.tell("same", "counter", f"the counter {named} is the sum of the counters of its rules")
+            self.fit_counter(start)
 
-    def object_by_map(self, what, lookup):
+    def object_by_map(self, what: str, lookup: Lookup) -> None:
         """An object that a map gives: the rule goes on where the map has the key."""
         if what != "counter":
             raise NotFitted(f"{what} by a map")
-        self.tell(
+        self.draft.tell(
             "outcome",
             "left out",
             "which counter of the map it is isn't shown; keys that it hasn't end the rule as before",
         )
-        elements, _ = self.mapping(lookup.map, verdicts=False)
+        elements, _ = self.maps.mapping(lookup.map, verdicts=False)
         self.find_key(lookup.key, elements)
 
-    def start_of(self, name):
+    def start_of(self, name: str) -> Counter:
         """Where a named counter starts; the first rule that names it starts there."""
-        what, token, body = self.table.objects.get(name, (None, None, ()))
-        if what != "counter":
+        found = self.draft.table.objects.get(name)
+        if found is None or found.what != "counter":
             raise Missing(f"there is no counter {name}")
-        numbers = [int(it.text) for it in body if it.kind == "number"]
-        self.table.objects[name] = (what, token, ())
-        return tuple(numbers[:2]) if len(numbers) >= 2 else (0, 0)
+        numbers = [int(it.text) for it in found.body if it.kind == "number"]
+        self.draft.table.objects[name] = replace(found, body=())
+        return Counter(*numbers[:2]) if len(numbers) >= 2 else Counter(0, 0)
 
-    def fit_log(self, options):
+    def fit_log(self, log: Log) -> None:
         """Of the options of `log` nftrun has the prefix."""
+        options = dict(log.options)
         others = [name for name in options if name != "prefix"]
-        prefix = options["prefix"][0].text if "prefix" in options else None
+        prefix = options["prefix"][0] if "prefix" in options else None
         if prefix is not None and not prefix.startswith('"'):
             prefix = f'"{prefix}"'
         text = "log" + (f" prefix {prefix}" if prefix is not None else "")
         if others:
-            self.tell("same", text, f"{', '.join(others)}: where and how it is told is no matter of packets")
-            self.put(text, "effect")
+            self.draft.tell("same", text, f"{', '.join(others)}: where and how it is told is no matter of packets")
+            self.draft.put(text, "effect")
         else:
-            self.put_spelled(text, kind="effect")
+            self.draft.put_spelled(text, kind="effect")
 
-    def fit_notrack(self):
-        self.put("notrack", "effect")
+    def fit_notrack(self) -> None:
+        self.draft.put("notrack", "effect")
 
-    def fit_left_out(self, grade, why, *operands):
-        self.tell(grade, "left out", why)
-        self.keep_tests(*operands)
+    def fit_left_out(self, it: LeftOut) -> None:
+        self.draft.tell(it.grade, "left out", it.why)
+        self.draft.keep_tests(*it.operands)
 
-    def fit_offload(self):
-        way = self.way("offload")
-        self.guess("offload", way, "left out")
+    def fit_offload(self) -> None:
+        way = self.draft.way("offload")
+        self.draft.guess("offload", way, "left out")
 
     # what bounds
 
-    def fit_bound(self, bound):
+    def fit_bound(self, bound: Bound) -> None:
         over = bound.over
         if bound.name is not None:
-            what, _, body = self.table.objects.get(bound.name, (None, None, ()))
-            if what != bound.kind:
+            found = self.draft.table.objects.get(bound.name)
+            if found is None or found.what != bound.kind:
                 raise Missing(f"there is no {bound.kind} {bound.name}")
-            over = any(it.text == "over" for it in body)
-        way = self.way(bound.kind)
+            over = any(it.text == "over" for it in found.body)
+        way = self.draft.way(bound.kind)
         passes = (way == "under") != bool(over)
-        self.guess(bound.kind, way, "always" if passes else self.never())
+        self.draft.guess(bound.kind, way, "always" if passes else self.draft.never())
         if not passes:
-            self.put(self.never())  # what follows is told all the same
+            self.draft.put(self.draft.never())  # what follows is told all the same
 
-    def fit_dynamic(self, word, name, key, data, bounds):
+    def fit_dynamic(self, change: ChangeOfSet) -> None:
         """A rule that changes a set: it goes on where the key has a value, and where its bounds hold."""
-        if any(first_word(it.name) in NEVER_IN_IPV4 for it in selectors_in(key)):
-            self.tell("same", self.never(), "it reads a header that no IPv4 packet has")
-            self.die()
+        name = change.name
+        if any(first_word(it.name) in NEVER_IN_IPV4 for it in selectors_in(change.key)):
+            self.draft.tell("same", self.draft.never(), "it reads a header that no IPv4 packet has")
+            self.draft.die()
             return
-        if name in self.table.sets and self.fitter.is_read(self.table, name):
-            self.tell(
+        if name in self.draft.table.sets and self.draft.fitter.is_read(self.draft.table, name):
+            self.draft.tell(
                 "outcome", "left out", f"nothing is kept in {name}; what is guessed of it is told where rules read it"
             )
         else:
-            self.tell("outcome", "left out", f"what is in {name} isn't shown")
-        self.keep_tests(key, data)
-        for bound in bounds:
+            self.draft.tell("outcome", "left out", f"what is in {name} isn't shown")
+        self.draft.keep_tests(change.key, change.data)
+        for bound in change.bounds:
             self.fit_bound(bound)
 
-    # tests that statements make beside what they do
-
-    def keep_tests(self, *operands):
-        """A statement that reads `tcp sport` also asks for TCP, where it is left out too."""
-        for header in dict.fromkeys(first_word(it.name) for it in selectors_in(operands)):
-            if header in TRANSPORTS and not all(
-                any(
-                    it.text.startswith((f"{header} ", f"meta l4proto {header}")) and it.kind == "match" for it in line
-                )
-                for line in self.lines
-            ):
-                self.put(f"meta l4proto {spell_value(Value('word', header), 'inet_proto')}")
-        for selector in selectors_in(operands):
-            if selector.name.startswith("ct ") and selector.name not in ("ct state",):
-                self.put("ct direction { original, reply }")
-
-    def find_key(self, key, elements):
+    def find_key(self, key: Expression, elements: Sequence[Element]) -> None:
         """The rule goes on where one of the elements has the key."""
-        raise_unless_selector(key)
-        self.match_elements(key, "", elements)
-
-
-def raise_unless_selector(key):
-    if not isinstance(key, Selector):
-        raise NotFitted("a map of objects over joined keys")
+        if not isinstance(key, Selector):
+            raise NotFitted("a map of objects over joined keys")
+        self.matches.match_elements(key, "", elements)

@@ -1,25 +1,33 @@
 """Reads expressions: selectors, values, lists of elements, and what joins them."""
+from __future__ import annotations
+
+from typing import Sequence
+
 from .facts import FIELDS, META, TCP_FLAGS, VERDICTS
-from .scanner import END
+from .scanner import END, Token
 from .tree import (
     Anything,
     Calculation,
     Drawn,
     Element,
     Elements,
+    Expression,
     Joined,
     Listed,
     Lookup,
+    Mapping,
     Masked,
     Named,
     NotFitted,
     One,
+    Part,
     Prefix,
     Range,
     Selector,
     Value,
     Verdict,
 )
+
 
 # operators between expressions, the loosest first, in both spellings
 CALCULATIONS = (
@@ -33,7 +41,7 @@ OPTION_FIELDS = set("kind length size count left right tsval tsecr ptr type valu
 VALUES = ("number", "address", "six", "mac", "time", "word", "string", "wild")
 
 
-def as_number(text):
+def as_number(text: str) -> int:
     """nft(8) reads a number with a leading zero as octal, nftrun not at all."""
     if len(text) > 1 and text[0] == "0" and text.isdigit():
         raise NotFitted(f"`{text}` is a number with a leading zero")
@@ -43,27 +51,27 @@ def as_number(text):
 class ExpressionReader:
     """Reads from a list of tokens, from `at` on."""
 
-    def __init__(self, tokens):
+    def __init__(self, tokens: Sequence[Token]) -> None:
         self.tokens = tokens
         self.at = 0
 
     # tokens
 
-    def peek(self, ahead=0):
+    def peek(self, ahead: int = 0) -> Token:
         index = self.at + ahead
         return self.tokens[index] if index < len(self.tokens) else END
 
-    def has(self, *texts, ahead=0):
+    def has(self, *texts: str, ahead: int = 0) -> bool:
         token = self.peek(ahead)
         return token.kind in ("word", "mark") and token.text in texts
 
-    def skip(self, *texts):
+    def skip(self, *texts: str) -> bool:
         if self.has(*texts):
             self.at += 1
             return True
         return False
 
-    def take(self, kind=None, *texts):
+    def take(self, kind: str | None = None, *texts: str) -> Token:
         token = self.peek()
         if token.kind == "end":
             raise NotFitted("the rule ends too early")
@@ -72,22 +80,22 @@ class ExpressionReader:
         self.at += 1
         return token
 
-    def name(self):
+    def name(self) -> str:
         token = self.take()
         if token.kind not in ("word", "string"):
             raise NotFitted(f"`{token.text}` is no name")
         return token.text.strip('"')
 
-    def newlines(self):
+    def newlines(self) -> None:
         while self.peek().kind == "newline":
             self.at += 1
 
-    def number(self):
+    def number(self) -> int:
         return as_number(self.take("number").text)
 
     # values
 
-    def value(self):
+    def value(self) -> Value:
         if self.skip("["):
             address = self.take("six")
             self.take("mark", "]")
@@ -98,7 +106,7 @@ class ExpressionReader:
         self.at += 1
         return Value(token.kind, token.text)
 
-    def part(self):
+    def part(self) -> Part:
         """One value, a range, a prefix or `*`."""
         if self.skip("*"):
             return Anything()
@@ -110,14 +118,14 @@ class ExpressionReader:
             return Prefix(value, self.number())
         return One(value)
 
-    def elements(self, is_map=False):
+    def elements(self, is_map: bool = False) -> Elements:
         """`{ .. }`; lists within lists, which definitions make, are one list."""
         self.take("mark", "{")
-        found = []
+        found: list[Element] = []
         self.newlines()
         while not self.has("}"):
             if self.has("{"):
-                found += self.elements(is_map).list
+                found += self.elements(is_map).items
             else:
                 found.append(self.element(is_map))
             self.newlines()
@@ -125,14 +133,15 @@ class ExpressionReader:
                 break
             self.newlines()
         self.take("mark", "}")
-        return Elements(found)
+        return Elements(tuple(found))
 
-    def element(self, is_map):
+    def element(self, is_map: bool) -> Element:
         key = [self.element_part()]
         while self.skip("."):
             self.newlines()
             key.append(self.element_part())
-        extras, data = self.extras(), None
+        extras = self.extras()
+        data: Verdict | tuple[Part, ...] | None = None
         if is_map:
             self.newlines()
             self.take("mark", ":")
@@ -141,13 +150,13 @@ class ExpressionReader:
             extras += self.extras()
         return Element(tuple(key), data, tuple(extras))
 
-    def data(self):
+    def data(self) -> tuple[Part, ...]:
         parts = [self.part()]
         while self.skip("."):
             parts.append(self.part())
         return tuple(parts)
 
-    def element_part(self):
+    def element_part(self) -> Part:
         """In sets of bits an element may be `syn | ack`."""
         part = self.part()
         if not self.has("|") or not isinstance(part, One):
@@ -157,7 +166,7 @@ class ExpressionReader:
             bits |= flag_bits(self.value())
         return One(Value("number", hex(bits)))
 
-    def extras(self):
+    def extras(self) -> list[str]:
         """What an element has beside its key: the words of it, without comments."""
         found = []
         while True:
@@ -176,7 +185,7 @@ class ExpressionReader:
             else:
                 return found
 
-    def verdict(self):
+    def verdict(self) -> Verdict:
         word = self.take("word", *VERDICTS).text
         if word not in ("jump", "goto"):
             return Verdict(word, None)
@@ -184,25 +193,27 @@ class ExpressionReader:
             return Verdict(word, self.anonymous_chain())
         return Verdict(word, self.name())
 
-    def anonymous_chain(self):
+    def anonymous_chain(self) -> tuple[tuple[Token, ...], ...]:
         """The rules of a chain without a name, each as its tokens."""
         self.take("mark", "{")
-        rules, rule, depth = [], [], 0
+        rules: list[tuple[Token, ...]] = []
+        rule: list[Token] = []
+        depth = 0
         while True:
             token = self.take()
             if depth == 0 and (token.kind == "newline" or token.kind == "mark" and token.text in ";}"):
                 if rule:
-                    rules.append(rule)
+                    rules.append(tuple(rule))
                 rule = []
                 if token.text == "}":
-                    return rules
+                    return tuple(rules)
             else:
                 depth += (token.text == "{") - (token.text == "}")
                 rule.append(token)
 
     # selectors
 
-    def selector(self):
+    def selector(self) -> Selector | Drawn | None:
         """A selector, or None where none begins here. What nft(8) hasn't is refused: nothing may be assumed of it."""
         token, after = self.peek(), self.peek(1)
         word = token.text
@@ -238,20 +249,20 @@ class ExpressionReader:
             name += " " + self.take("word").text
         return Selector(name)
 
-    def fib(self):
+    def fib(self) -> Selector:
         self.take()
         flags = [self.take("word", "saddr", "daddr", "mark", "iif", "oif").text]
         while self.skip("."):
             flags.append(self.take("word", "saddr", "daddr", "mark", "iif", "oif").text)
         return Selector(f"fib {' . '.join(flags)} {self.take('word', 'oif', 'oifname', 'type').text}")
 
-    def option(self):
+    def option(self) -> Selector:
         name = f"{self.take().text} {self.take().text} {self.take().text}"
         if self.has(*OPTION_FIELDS):
             name += " " + self.take().text
         return Selector(name)
 
-    def lookup_selector(self):
+    def lookup_selector(self) -> Selector:
         """`rt nexthop`, `socket cgroupv2 level 1`, `osf name`, `ipsec in reqid`."""
         token, after = self.take(), self.take("word")
         if token.text == "rt" and after.text in ("type", "hdrlength", "nexthdr", "seg-left"):
@@ -264,7 +275,7 @@ class ExpressionReader:
             words.append(self.take().text)
         return Selector(" ".join(words))
 
-    def drawn(self):
+    def drawn(self) -> Drawn:
         kind = self.take().text
         over = None
         if kind == "numgen":
@@ -283,7 +294,7 @@ class ExpressionReader:
 
     # what joins them
 
-    def operand(self, level=0):
+    def operand(self, level: int = 0) -> Expression:
         """Selectors and values, calculated with, joined by dots, or looked up in a map."""
         if level == len(CALCULATIONS):
             return self.primary()
@@ -300,19 +311,19 @@ class ExpressionReader:
             left = Lookup(left, self.mapping())
         return left
 
-    def primary(self):
+    def primary(self) -> Expression:
         if self.skip("("):
             inner = self.operand()
             self.take("mark", ")")
             return inner
         return self.selector() or self.part()
 
-    def mapping(self):
+    def mapping(self) -> Mapping:
         if self.skip("@"):
             return Named(self.name())
         return self.elements(is_map=True)
 
-    def compared(self, left):
+    def compared(self, left: Expression) -> tuple[str, Expression]:
         """The operator and what a match compares with."""
         operator = ""
         if self.peek().kind == "word" and self.peek().text in COMPARISONS:
@@ -328,19 +339,19 @@ class ExpressionReader:
         if self.skip("/"):
             right = Masked(right, self.listed())
         if isinstance(left, Joined) and self.has("."):
-            parts = [right]
+            parts = [as_part(right)]
             while self.skip("."):
                 parts.append(self.part())
-            right = Elements([Element(tuple(parts), None, ())])
+            right = Elements((Element(tuple(parts), None, ()),))
         return operator, right
 
-    def listed(self):
+    def listed(self) -> Expression:
         items = [self.constant()]
         while self.skip(","):
             items.append(self.constant())
         return items[0] if len(items) == 1 else Listed(tuple(items))
 
-    def constant(self, level=0):
+    def constant(self, level: int = 0) -> Expression:
         """A value to compare with, which may be calculated."""
         if level == 3:
             if not self.skip("("):
@@ -357,9 +368,16 @@ class ExpressionReader:
         return left
 
 
-def flag_bits(value):
+def flag_bits(value: Value) -> int:
     if value.kind == "number":
         return as_number(value.text)
     if value.text in TCP_FLAGS:
         return TCP_FLAGS[value.text]
     raise NotFitted(f"`{value.text}` is no flag of TCP")
+
+
+def as_part(it: Expression) -> Part:
+    """One part of joined keys, which isn't calculated."""
+    if not isinstance(it, (One, Range, Prefix, Anything)):
+        raise NotFitted("arithmetic within joined keys")
+    return it

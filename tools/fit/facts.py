@@ -1,5 +1,8 @@
 """Words, types and what is known of selectors: of those that nftrun reads, and of those that it doesn't."""
-from collections import namedtuple
+from __future__ import annotations
+
+from dataclasses import dataclass, field
+from typing import Mapping
 
 # What nftrun's language has (docs/SPEC.md)
 
@@ -24,7 +27,7 @@ ICMP_TYPES = {
     "address-mask-reply": 18,
 }
 # the words of each type, and its width in bits
-WORDS = {
+WORDS: dict[str, Mapping[str, int]] = {
     "ipv4_addr": {},
     "inet_proto": PROTOCOLS,
     "inet_service": SERVICES,
@@ -95,7 +98,7 @@ META = set(
     "obriport pkttype cpu iifgroup oifgroup cgroup time day hour protocol nfproto l4proto priority secpath "
     "iifkind oifkind random sdif sdifname broute secmark ipsec ibrpvid ibrvproto length".split()
 )
-FIELDS = {
+FIELDS: dict[str, set[str] | tuple[str, ...] | list[str]] = {
     "meta": META,
     "ip": set("version hdrlength dscp ecn length id frag-off ttl protocol checksum saddr daddr option".split()),
     "ip6": set("version dscp ecn flowlabel length nexthdr hoplimit saddr daddr".split()),
@@ -155,7 +158,19 @@ TRANSPORTS = {
 # Selectors that nftrun doesn't read. A fact: what every packet of a run has, or is assumed to have. `needs` is what
 # must hold of the packet for there to be a value.
 
-Fact = namedtuple("Fact", "value assumption why needs words", defaults=("", {}))
+
+@dataclass(frozen=True)
+class Fact:
+    """What is known of a selector: its value, and why; `assumption` is the guess that it rests on, `needs` the match
+    that nft(8) puts before it, `words` those of its values."""
+
+    value: int
+    assumption: str | None
+    why: str
+    needs: str = ""
+    words: Mapping[str, int] = field(default_factory=dict)
+
+
 ETHER_TYPES = {"ip": 0x0800, "arp": 0x0806, "ip6": 0x86DD, "vlan": 0x8100, "8021q": 0x8100}
 DSCP = {f"cs{it}": 8 * it for it in range(8)} | {
     "be": 0,
@@ -221,7 +236,7 @@ UNKNOWN = {
     "osf": "header",
 }
 # `.. set` of what nftrun doesn't write: how much it matters that it is left out, and why
-LEFT_OUT = {
+LEFT_OUT: dict[str, tuple[str, str]] = {
     "meta nftrace": ("same", "it changes no packet; --trace tells all"),
     "ct event": ("same", "it changes no packet"),
     "meta priority": ("outcome", "the queue of a packet isn't shown"),
@@ -308,10 +323,10 @@ MORE_PROTOCOLS = {
 }
 
 
-def first_word(name):
+def first_word(name: str) -> str:
     return name.split()[0]
 
 
-def assumption_of(name):
+def assumption_of(name: str) -> str:
     """Which assumption is made of a selector that nftrun doesn't read and of which nothing is known."""
     return UNKNOWN.get(name) or UNKNOWN.get(first_word(name)) or "header"

@@ -1,4 +1,9 @@
 """The whole ruleset: what of it is left out, what leads where, and the text that it becomes."""
+from __future__ import annotations
+
+from dataclasses import dataclass, replace
+from typing import TYPE_CHECKING, Iterator
+
 from .facts import CHAIN_HOOKS, MARKS
 from .marks import Marks
 from .order import Order
@@ -6,20 +11,39 @@ from .rules import RuleFitter, marks_read
 from .scanner import shown
 from .sets import Sets
 from .statements import RuleReader
-from .tree import Chain, NotFitted, Rule, Verdict, counters_in, names_in
+from .tree import Chain, ChangeOfSet, Match, NotFitted, Rule, Setting, Table, Verdict, VerdictMap, counters_in, names_in
+
+if TYPE_CHECKING:
+    from .assumptions import Assumptions
+    from .commands import Commands
+    from .network import Network
+    from .scanner import Token
+
+
+@dataclass(frozen=True)
+class FittedRule:
+    """Where a rule stands in the fitted text, and the operator's rule that it comes from, with the counters that it has
+    of that one."""
+
+    chain: str
+    number: int
+    old_chain: str
+    old_number: int
+    rule: Rule
+    counters: tuple[int, ...]
 
 
 class Fitter:
-    """`rows` is the map: (chain, new number, old rule's chain, its number, Rule, counters of the old rule)."""
+    """Fits all that commands left; `rows` is the map from fitted rules to the operator's."""
 
-    def __init__(self, commands, assumptions, network):
+    def __init__(self, commands: Commands, assumptions: Assumptions, network: Network | None) -> None:
         self.tables, self.changes = commands.tables, commands.changes
         self.assumptions, self.network = assumptions, network
         self.order = Order(self, commands.order)
         self.sets = Sets(self)
-        self.rows = []
+        self.rows: list[FittedRule] = []
 
-    def run(self):
+    def run(self) -> str:
         self.leave_out_tables()
         for table in self.tables.values():
             for chain in list(table.chains.values()):
@@ -29,26 +53,26 @@ class Fitter:
         self.marks = Marks(self)
         self.warn_of_marks()
         self.added_to = {
-            (table.family, table.name, it.parts[1])
+            (table.family, table.name, it.what.name)
             for table, _, rule in self.rules()
             for it in rule.statements
-            if it.kind == "dynamic"
+            if isinstance(it.what, ChangeOfSet)
         }
         self.sets_zones = any(
-            it.kind == "set" and getattr(it.parts[0], "name", "") == "ct zone"
+            isinstance(it.what, Setting) and it.what.left.name == "ct zone"
             for _, _, rule in self.rules()
             for it in rule.statements
         )
         self.order.settle()
         return "\n".join(self.table_text(table) for table in self.tables.values())
 
-    def rules(self):
+    def rules(self) -> Iterator[tuple[Table, Chain, Rule]]:
         for table in self.tables.values():
             for chain in table.chains.values():
                 for rule in chain.rules:
                     yield table, chain, rule
 
-    def leave_out_tables(self):
+    def leave_out_tables(self) -> None:
         for key, table in list(self.tables.items()):
             what = f"table {table.family} {table.name}"
             bases = [it for it in table.chains.values() if it.head]
@@ -64,7 +88,7 @@ class Fitter:
                 continue
             del self.tables[key]
 
-    def read_rule(self, table, chain, number, rule):
+    def read_rule(self, table: Table, chain: Chain, number: int, rule: Rule) -> None:
         try:
             rule.statements, rule.comment = RuleReader(rule.tokens).rule()
         except (NotFitted, RecursionError) as fault:
@@ -74,19 +98,22 @@ class Fitter:
             )
         counters = rule.counters_before
         for index, it in enumerate(rule.statements):
-            if it.kind == "verdict" and isinstance(it.parts[0].target, list):
-                inner = self.named_chain(table, chain, number, rule, it.parts[0], counters)
-                rule.statements[index] = it._replace(parts=(Verdict(it.parts[0].word, inner.name),))
+            if isinstance(it.what, Verdict) and isinstance(it.what.target, tuple):
+                inner = self.named_chain(table, chain, number, rule, it.what, counters)
+                rule.statements[index] = replace(it, what=Verdict(it.what.word, inner.name))
             counters += counters_in(it.tokens)
 
-    def named_chain(self, table, chain, number, rule, verdict, counters):
+    def named_chain(
+        self, table: Table, chain: Chain, number: int, rule: Rule, verdict: Verdict, counters: int
+    ) -> Chain:
         """A chain of its own for the rules in braces behind `jump` or `goto`."""
         count = 1
         while f"fitted_{count}" in table.chains:
             count += 1
         inner = Chain(f"fitted_{count}", rule.token)
         inner.made_for = chain.made_for or (chain, number)
-        inner.rules = [Rule(tokens, shown(tokens)) for tokens in verdict.target]
+        braced = verdict.target if isinstance(verdict.target, tuple) else ()
+        inner.rules = [Rule(tokens, shown(tokens)) for tokens in braced]
         table.chains[inner.name] = inner
         self.changes.tell(
             rule.token, "same", f"{verdict.word} {{ .. }}", f"{verdict.word} {inner.name}", "a chain of its own"
@@ -99,16 +126,16 @@ class Fitter:
 
     # what leads where
 
-    def targets(self, table, rule):
+    def targets(self, table: Table, rule: Rule) -> Iterator[str]:
         for it in rule.statements:
-            if it.kind == "verdict" and it.parts[0].target:
-                yield it.parts[0].target
-            elif it.kind == "vmap":
-                for element in self.sets.elements_of(table, it.parts[1]):
+            if isinstance(it.what, Verdict) and isinstance(it.what.target, str):
+                yield it.what.target
+            elif isinstance(it.what, VerdictMap):
+                for element in self.sets.elements_of(table, it.what.map):
                     if isinstance(element.data, Verdict) and isinstance(element.data.target, str):
                         yield element.data.target
 
-    def find_hooks(self):
+    def find_hooks(self) -> None:
         """From which hooks packets come to a chain."""
         for table in self.tables.values():
             for base in table.chains.values():
@@ -117,31 +144,31 @@ class Fitter:
                     chain = table.chains.get(todo.pop())
                     if chain and chain.name not in seen:
                         seen.add(chain.name)
-                        chain.hooks.add(base.head.hook)
+                        chain.hooks.add(base.base.hook)
                         chain.is_early |= self.order.is_early(base)
                         for rule in chain.rules:
                             todo += self.targets(table, rule)
 
-    def warn_of_marks(self):
+    def warn_of_marks(self) -> None:
         if any(self.marks.may_change(name) for name in MARKS):
             return
         for _, _, rule in self.rules():
-            if any(it.kind in ("match", "vmap") and marks_read(it.parts[0]) for it in rule.statements):
+            if any(isinstance(it.what, (Match, VerdictMap)) and marks_read(it.what.left) for it in rule.statements):
                 self.changes.warn(
                     rule.token, "a mark is asked for that no rule writes: in nftrun each mark begins at 0"
                 )
                 return
 
-    def is_read(self, table, name):
+    def is_read(self, table: Table, name: str) -> bool:
         """Whether some rule looks into the set."""
         return any(
-            it.kind not in ("dynamic",) and name in names_in(it.parts)
+            not isinstance(it.what, ChangeOfSet) and name in names_in(it.what)
             for other, _, rule in self.rules()
             if other is table
             for it in rule.statements
         )
 
-    def guess(self, token, what, to, name):
+    def guess(self, token: Token, what: str, to: str, name: str) -> str:
         """A guess about what isn't a rule; NotFitted never: where it is refused, that is told."""
         way = self.assumptions.way(name, self.changes_place(token), what)
         if way == "refuse":
@@ -151,15 +178,15 @@ class Fitter:
         return way
 
     @staticmethod
-    def changes_place(token):
+    def changes_place(token: Token) -> str:
         return f"{token.source.name}:{token.line}"
 
     # the text
 
-    def table_text(self, table):
-        for name, (what, token, _) in table.objects.items():
-            why = "rules count for themselves" if what == "counter" else "what it does is told where rules name it"
-            self.changes.tell(token, "same", f"{what} {name}", "left out", why)
+    def table_text(self, table: Table) -> str:
+        for name, it in table.objects.items():
+            why = "rules count for themselves" if it.what == "counter" else "what it does is told where rules name it"
+            self.changes.tell(it.token, "same", f"{it.what} {name}", "left out", why)
         # sets first: what is guessed of their elements decides for the rules that have them
         sets = [line for found in table.sets.values() for line in self.sets.lines(table, found)]
         chains = [line for chain in table.chains.values() for line in self.chain_lines(table, chain)]
@@ -169,7 +196,7 @@ class Fitter:
             body.pop()
         return "\n".join([f"table {table.family} {table.name} {{", *body, "}", ""])
 
-    def chain_lines(self, table, chain):
+    def chain_lines(self, table: Table, chain: Chain) -> list[str]:
         lines = [f"comment {note}" for note in chain.notes]
         if chain.head:
             try:
@@ -182,14 +209,13 @@ class Fitter:
             made_for = chain.made_for or (chain, old)
             for text, counters in RuleFitter(self, table, chain, rule).fitted():
                 number += 1
-                self.rows.append(
-                    (place, number, f"{table.family} {table.name} {made_for[0].name}", made_for[1], rule, counters)
-                )
+                old_chain = f"{table.family} {table.name} {made_for[0].name}"
+                self.rows.append(FittedRule(place, number, old_chain, made_for[1], rule, counters))
                 lines.append(text)
         return [f"\tchain {chain.name} {{", *("\t\t" + it for it in lines), "\t}", ""]
 
-    def head_lines(self, chain):
-        head = chain.head
+    def head_lines(self, chain: Chain) -> list[str]:
+        head = chain.base
         what = f"chain {chain.name}, type {head.type} hook {head.hook}"
         is_idle = not chain.rules and chain.policy != "drop"
         if head.hook not in CHAIN_HOOKS:

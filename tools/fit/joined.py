@@ -1,115 +1,142 @@
 """Matches and maps over joined keys (`ip saddr . tcp dport`), with ranges or of more bits than nftrun takes."""
+from __future__ import annotations
+
+from typing import Callable, Iterable, List, Sequence, Tuple
+
 from .assumptions import ASSUMPTIONS
+from .draft import Draft
 from .facts import KNOWN, LONGEST_KEY, TYPES, assumption_of
-from .matches import rules_text, shown
+from .matches import Matches, rules_text, shown
 from .numbers import holds, name_of, range_of, spell_number, spell_part, width_of
 from .profile import takes
 from .sets import parts_are_plain
-from .tree import Anything, Elements, Named, Missing, NotFitted, One, Selector, Value
+from .tree import (
+    Anything,
+    Element,
+    Elements,
+    Expression,
+    Joined,
+    Missing,
+    Named,
+    NotFitted,
+    One,
+    Part,
+    Piece,
+    Selector,
+    Value,
+)
 
+Key = Tuple[Part, ...]
+Then = Callable[[Element], List[Piece]]  # the pieces for what an element of a map gives
 MOST_KEYS = 512  # that ranges in joined keys may become
 FEW_KEYS = 32  # as which ranges are written out, where they needn't be
 
 
 class JoinedKeys:
-    def match_joined(self, left, operator, right):
+    """Fits matches and maps over joined keys."""
+
+    def __init__(self, draft: Draft, matches: Matches) -> None:
+        self.draft, self.matches = draft, matches
+
+    def match_joined(self, left: Joined, operator: str, right: Expression) -> None:
         if operator not in ("", "==", "!=", "!"):
             raise NotFitted(f"`{operator}` with joined keys")
         is_not = operator in ("!=", "!")
         if isinstance(right, Named):
-            found = self.table.sets.get(right.name)
+            found = self.draft.table.sets.get(right.name)
             if found is None:
                 raise Missing(f"there is no set {right.name}")
-            if self.is_hit(right.name, operator):
+            if self.matches.is_hit(right.name, operator):
                 return
-            names = self.joined_names(left, [it.key for it in self.fitter.sets.kept(found)])
-            if names is not None and self.fitter.sets.is_plain(found) and len(names[0]) == len(left.parts):
-                self.put_spelled(
+            names = self.joined_names(left, [it.key for it in self.draft.fitter.sets.kept(found)])
+            if names is not None and self.draft.fitter.sets.is_plain(found) and len(names[0]) == len(left.parts):
+                self.draft.put_spelled(
                     f"{' . '.join(map(shown, names[0]))} {'!= ' if is_not else ''}@{right.name}", names[0]
                 )
                 return
             self.look_up(names, is_not)
         elif isinstance(right, Elements) and self.are_taken(left, right):
-            self.put(self.statement_text(), "match", [it.name for it in left.parts])
+            self.draft.put(self.draft.statement_text(), "match", [it.name for it in selectors_of(left)])
         elif isinstance(right, Elements):
-            self.look_up(self.joined_names(left, [it.key for it in right.list]), is_not)
+            self.look_up(self.joined_names(left, [it.key for it in right.items]), is_not)
         else:
             raise NotFitted("joined keys without a list")
 
-    def are_taken(self, left, right):
+    def are_taken(self, left: Joined, right: Elements) -> bool:
         """Whether nftrun has the joined keys as they stand."""
-        names = [getattr(it, "name", "") for it in left.parts]
-        if not takes(self.statement_text(), "statement") or any(it not in TYPES for it in names):
+        names = [it.name if isinstance(it, Selector) else "" for it in left.parts]
+        if not takes(self.draft.statement_text(), "statement") or any(it not in TYPES for it in names):
             return False
-        kinds, keys = [TYPES[it] for it in names], [it.key for it in right.list]
+        kinds, keys = [TYPES[it] for it in names], [it.key for it in right.items]
         plain = all(len(key) == len(kinds) and parts_are_plain(key, kinds) for key in keys)
         return plain and sum(map(width_of, kinds)) <= LONGEST_KEY and self.names_of_interfaces(names, keys) == names
 
-    def look_up(self, names_and_keys, is_not):
+    def look_up(self, names_and_keys: tuple[list[str], list[Key]] | None, is_not: bool) -> None:
         if names_and_keys is None:
             return
         names, keys = names_and_keys
         ways = self.ways(names, keys, is_not)
         if len(ways) == 1 and len(ways[0]) == 1:
             kinds = [TYPES[it] for it in names]
-            self.put_spelled(ways[0][0].text, names, plain=all(parts_are_plain(key, kinds) for key in keys))
+            self.draft.put_spelled(ways[0][0].text, names, plain=all(parts_are_plain(key, kinds) for key in keys))
             return
-        self.tell(
+        self.draft.tell(
             "same",
-            "a rule for each way" if ways else self.never(),
+            "a rule for each way" if ways else self.draft.never(),
             "nftrun has no joined keys with ranges, or of more than 128 bits",
         )
-        self.split(ways, names)
+        self.draft.split(ways, names)
 
-    def joined_names(self, left, keys):
+    def joined_names(self, left: Joined, keys: Sequence[Key]) -> tuple[list[str], list[Key]] | None:
         """The selectors that nftrun reads with their parts of the keys; None where no IPv4 packet has one of them. Of
         another selector its part is decided: keys in which it isn't what packets have are gone."""
+        names = []
         for it in left.parts:
             if not isinstance(it, Selector):
                 raise NotFitted("arithmetic within joined keys")
-            if not self.is_in_ipv4(it):
+            if not self.matches.is_in_ipv4(it):
                 return None
-        names = [it.name for it in left.parts]
+            names.append(it.name)
         if any(len(key) != len(names) for key in keys):
             raise NotFitted("keys of another number of parts")
         for name in [it for it in names if it not in TYPES]:
             keys = self.without(names.index(name), name, keys)
             names = [it for it in names if it != name]
-        return names, list(dict.fromkeys(map(tuple, keys)))
+        return names, list(dict.fromkeys(keys))
 
-    def without(self, index, name, keys):
+    def without(self, index: int, name: str, keys: Sequence[Key]) -> list[Key]:
         fact, assumption = KNOWN.get(name), assumption_of(name)
-        self.keep_header(name)
+        self.matches.keep_header(name)
         if fact is not None and fact.needs:
-            self.put(fact.needs)
+            self.draft.put(fact.needs)
         if fact is not None and not fact.assumption:
             kept = [key for key in keys if holds(fact.value, "", key[index], "32", fact.words)]
-            self.tell("same", f"without {name}", fact.why)
+            self.draft.tell("same", f"without {name}", fact.why)
         else:
-            assumption = fact.assumption if fact else assumption
-            way = self.way(assumption)
+            assumption = fact.assumption or assumption if fact else assumption
+            way = self.draft.way(assumption)
             is_usual = way == ASSUMPTIONS[assumption].ways[0]
             kept = (
-                keys
+                list(keys)
                 if not is_usual
                 else [key for key in keys if fact and holds(fact.value, "", key[index], "32", fact.words)]
             )
-            self.guess(assumption, way, f"without {name}")
+            self.draft.guess(assumption, way, f"without {name}")
         return [key[:index] + key[index + 1 :] for key in kept]
 
     # ways to say that joined values are one of some keys
 
-    def ways(self, names, keys, is_not=False):
+    def ways(self, names: Sequence[str], keys: Sequence[Key], is_not: bool = False) -> list[list[Piece]]:
         """Lists of pieces that exclude each other: one set where nftrun has it."""
         if not keys:
-            return [[self.piece(self.always())]] if is_not else []
+            return [[self.draft.piece(self.draft.always())]] if is_not else []
         if not names:
-            return [] if is_not else [[self.piece(self.always())]]
+            return [] if is_not else [[self.draft.piece(self.draft.always())]]
         names = self.names_of_interfaces(names, keys)
         kinds = [TYPES[name] for name in names]
         if len(names) == 1 and not any(isinstance(key[0], Anything) for key in keys):
             listed = ", ".join(spell_part(key[0], kinds[0]) for key in keys)
-            return [[self.piece(f"{shown(names[0])} {'!= ' if is_not else ''}{{ {listed} }}", reads=names)]]
+            return [[self.draft.piece(f"{shown(names[0])} {'!= ' if is_not else ''}{{ {listed} }}", reads=names)]]
         overlaps = overlap(keys, kinds)
         if sum(map(width_of, kinds)) <= LONGEST_KEY:
             exact = expanded(keys, kinds)
@@ -119,7 +146,7 @@ class JoinedKeys:
                 )
                 return [
                     [
-                        self.piece(
+                        self.draft.piece(
                             f"{' . '.join(map(shown, names))} {'!= ' if is_not else ''}{{ {listed} }}", reads=names
                         )
                     ]
@@ -130,76 +157,77 @@ class JoinedKeys:
             raise NotFitted("joined keys that overlap, with wide ranges or more than 128 bits")
         return [self.way_of(names, kinds, group) for group in grouped(keys, kinds)]
 
-    def names_of_interfaces(self, names, keys):
+    def names_of_interfaces(self, names: Sequence[str], keys: Sequence[Key]) -> list[str]:
         """Indices of interfaces become names where the box isn't known to have them."""
         out = []
         for index, name in enumerate(names):
             stays = TYPES[name] != "iface_index" or all(
-                self.fitter.sets.is_index(name_of(key[index])) for key in keys
+                self.draft.fitter.sets.is_index(name_of(key[index])) for key in keys
             )
             out.append(name if stays else name + "name")
         return out
 
-    def way_of(self, names, kinds, group):
+    def way_of(self, names: Sequence[str], kinds: Sequence[str], group: Sequence[Key]) -> list[Piece]:
         """The keys of a group differ in one part at most: a match for each part."""
         pieces = []
         for index, (name, kind) in enumerate(zip(names, kinds)):
             parts = list(dict.fromkeys(key[index] for key in group))
             if any(isinstance(it, Anything) for it in parts):
-                low, high = range_of(Anything(), kind)
                 if kind == "ifname":
                     raise NotFitted("any interface in joined keys")
-                pieces.append(
-                    self.piece(f"{shown(name)} {spell_number(low, kind)}-{spell_number(high, kind)}", reads=[name])
-                )
+                low, high = 0, 2 ** width_of(kind) - 1
+                whole = f"{spell_number(low, kind)}-{spell_number(high, kind)}"
+                pieces.append(self.draft.piece(f"{shown(name)} {whole}", reads=[name]))
                 continue
             listed = ", ".join(spell_part(it, kind) for it in parts)
             pieces.append(
-                self.piece(f"{shown(name)} {'{ ' + listed + ' }' if len(parts) > 1 else listed}", reads=[name])
+                self.draft.piece(f"{shown(name)} {'{ ' + listed + ' }' if len(parts) > 1 else listed}", reads=[name])
             )
         return pieces
 
-    def choose(self, left, elements, then):
+    def choose(self, left: Joined, elements: Sequence[Element], then: Then) -> None:
         """A map over joined keys: rules for each thing that it gives."""
         found = self.joined_names(left, [it.key for it in elements])
         if found is None:
             return
-        names, ways = found[0], []
-        whole = [it.name for it in left.parts]
-        kept = [index for index, name in enumerate(whole) if name in names]
-        by_data = {}
+        names = found[0]
+        ways: list[list[Piece]] = []
+        whole = [it.name for it in selectors_of(left)]
+        kept_places = [index for index, name in enumerate(whole) if name in names]
+        by_data: dict[object, list[Element]] = {}
+        keys_of: dict[object, list[Key]] = {}
         for it in elements:
-            key = tuple(it.key[index] for index in kept)
+            key = tuple(it.key[index] for index in kept_places)
             if key in found[1]:
-                by_data.setdefault(it.data, []).append(key)
-        for data, keys in by_data.items():
-            ways += [way + then(data) for way in self.ways(names, list(dict.fromkeys(keys)))]
-        if len(by_data) > 1 and overlap(
-            [key for keys in by_data.values() for key in keys], [TYPES[it] for it in names]
-        ):
+                by_data.setdefault(it.data, []).append(it)
+                keys_of.setdefault(it.data, []).append(key)
+        for data, keys in keys_of.items():
+            ways += [way + then(by_data[data][0]) for way in self.ways(names, list(dict.fromkeys(keys)))]
+        all_keys = [key for keys in keys_of.values() for key in keys]
+        if len(keys_of) > 1 and overlap(all_keys, [TYPES[it] for it in names]):
             raise NotFitted("a map with joined keys that overlap")
-        self.tell(
+        self.draft.tell(
             "same",
-            rules_text(len(ways)) if ways else self.never(),
+            rules_text(len(ways)) if ways else self.draft.never(),
             "nftrun has no maps over joined keys" if ways else "the map is empty",
         )
-        self.split(ways, names)
+        self.draft.split(ways, names)
 
 
-def grouped(keys, kinds):
+def grouped(keys: Sequence[Key], kinds: Sequence[str]) -> Iterable[list[Key]]:
     """Groups of keys that differ in one part alone."""
     several = 0 if kinds[-1] == "ifname" else len(kinds) - 1
-    groups = {}
+    groups: dict[Key, list[Key]] = {}
     for key in keys:
         groups.setdefault(key[:several] + key[several + 1 :], []).append(key)
     return groups.values()
 
 
-def expanded(keys, kinds):
+def expanded(keys: Sequence[Key], kinds: Sequence[str]) -> list[Key] | None:
     """The keys with each range as its numbers, or None where these are too many."""
-    out = []
+    out: list[Key] = []
     for key in keys:
-        rows = [()]
+        rows: list[Key] = [()]
         for part, kind in zip(key, kinds):
             choices = numbers_of(part, kind)
             if choices is None or len(rows) * len(choices) + len(out) > MOST_KEYS:
@@ -209,7 +237,7 @@ def expanded(keys, kinds):
     return list(dict.fromkeys(out))
 
 
-def numbers_of(part, kind):
+def numbers_of(part: Part, kind: str) -> list[One] | None:
     if isinstance(part, One) and not part.value.text.rstrip('"').endswith("*"):
         return [part]
     found = range_of(part, kind) if kind != "ifname" else None
@@ -220,7 +248,7 @@ def numbers_of(part, kind):
     return [One(Value("number", str(it))) for it in range(found[0], found[1] + 1)]
 
 
-def overlap(keys, kinds):
+def overlap(keys: Sequence[Key], kinds: Sequence[str]) -> bool:
     """Whether a value may be in two of the keys."""
     exact = [exact_key(key, kinds) for key in keys]
     if None not in exact:
@@ -234,9 +262,9 @@ def overlap(keys, kinds):
     )
 
 
-def exact_key(key, kinds):
+def exact_key(key: Key, kinds: Sequence[str]) -> tuple[int | str, ...] | None:
     """The key as numbers and names, or None where a part of it stands for several."""
-    found = []
+    found: list[int | str] = []
     for part, kind in zip(key, kinds):
         if kind in ("ifname", "iface_index"):
             name = name_of(part)
@@ -251,17 +279,30 @@ def exact_key(key, kinds):
     return tuple(found)
 
 
-def meet(one, other, kind):
+def meet(one: Part, other: Part, kind: str) -> bool:
+    """Whether a value may be in both parts."""
     if isinstance(one, Anything) or isinstance(other, Anything):
         return True
     if kind in ("ifname", "iface_index"):
-        one, other = name_of(one), name_of(other)
-        return (
-            one == other
-            or one.endswith("*")
-            and other.startswith(one[:-1])
-            or other.endswith("*")
-            and one.startswith(other[:-1])
-        )
-    one, other = range_of(one, kind), range_of(other, kind)
-    return one is None or other is None or one[0] <= other[1] and other[0] <= one[1]
+        return names_meet(name_of(one) or "", name_of(other) or "")
+    first, second = range_of(one, kind), range_of(other, kind)
+    return first is None or second is None or first[0] <= second[1] and second[0] <= first[1]
+
+
+def names_meet(one: str, other: str) -> bool:
+    """Whether two names of interfaces, of which a `*` at the end stands for any letters, may be of one."""
+    return (
+        one == other
+        or one.endswith("*")
+        and other.startswith(one[:-1])
+        or other.endswith("*")
+        and one.startswith(other[:-1])
+    )
+
+
+def selectors_of(left: Joined) -> list[Selector]:
+    """The parts, which are selectors and nothing else."""
+    found = [it for it in left.parts if isinstance(it, Selector)]
+    if len(found) != len(left.parts):
+        raise NotFitted("arithmetic within joined keys")
+    return found

@@ -1,69 +1,97 @@
 """Maps: verdicts by a key, and what else a map gives."""
+from __future__ import annotations
+
+from typing import Sequence
+
 from .assumptions import ASSUMPTIONS
+from .draft import Draft
 from .facts import KNOWN, MARKS, TYPES, assumption_of
-from .matches import flag_names, rules_text, shown
+from .joined import JoinedKeys, Then
+from .matches import Matches, flag_names, rules_text, shown
 from .numbers import constant_number, holds, spell_part
 from .sets import parts_are_plain, verdict_text
-from .tree import Anything, Calculation, Drawn, Elements, Joined, Missing, NotFitted, Selector, Verdict
+from .tree import (
+    Anything,
+    Calculation,
+    Drawn,
+    Element,
+    Elements,
+    Expression,
+    Joined,
+    Mapping,
+    Missing,
+    NotFitted,
+    Piece,
+    Selector,
+    Verdict,
+)
 
 
 class Maps:
-    has_continue = False
+    """Fits maps of verdicts, and looks into those of values."""
 
-    def mapping(self, mapping, verdicts):
+    def __init__(self, draft: Draft, matches: Matches, joined: JoinedKeys) -> None:
+        self.draft, self.matches, self.joined = draft, matches, joined
+        self.has_continue = False
+
+    def mapping(self, mapping: Mapping, verdicts: bool) -> tuple[Sequence[Element], bool]:
         """The elements of a map, and whether nftrun has it as it stands."""
+        elements: Sequence[Element]
         if isinstance(mapping, Elements):
-            elements, plain = mapping.list, True
+            elements, plain = mapping.items, True
         else:
-            found = self.table.sets.get(mapping.name)
+            found = self.draft.table.sets.get(mapping.name)
             if found is None or not found.is_map:
                 raise Missing(f"there is no map {mapping.name}")
-            sets = self.fitter.sets
+            sets = self.draft.fitter.sets
             elements, plain = sets.kept(found), sets.is_plain(found) and not sets.by_name(found)
-            if (self.table.family, self.table.name, mapping.name) in self.fitter.added_to:
+            if (self.draft.table.family, self.draft.table.name, mapping.name) in self.draft.fitter.added_to:
                 self.guess_of_map(mapping.name)
         if any(isinstance(it.data, Verdict) != verdicts for it in elements):
             raise NotFitted("a verdict where a value is wanted, or the reverse")
         return elements, plain
 
-    def guess_of_map(self, name):
-        way = self.way("dynamic")
+    def guess_of_map(self, name: str) -> None:
+        way = self.draft.way("dynamic")
         if way != "listed":
             raise NotFitted(f"which element of the map {name} it is can't be known: dynamic={way}")
-        self.guess("dynamic", way, "by what is listed")
+        self.draft.guess("dynamic", way, "by what is listed")
 
     # verdicts
 
-    def fit_vmap(self, left, mapping):
-        if isinstance(left, Selector) and not self.is_in_ipv4(left):
+    def fit_vmap(self, left: Expression, mapping: Mapping) -> None:
+        if isinstance(left, Selector) and not self.matches.is_in_ipv4(left):
             return
         elements, plain = self.mapping(mapping, verdicts=True)
         for it in elements:
-            if isinstance(it.data.target, str) and it.data.target not in self.table.chains:
-                raise Missing(f"there is no chain {it.data.target}")
-            if isinstance(it.data.target, list):
+            if isinstance(it.verdict.target, str) and it.verdict.target not in self.draft.table.chains:
+                raise Missing(f"there is no chain {it.verdict.target}")
+            if isinstance(it.verdict.target, tuple):
                 raise NotFitted("a chain in braces within a map")
-        self.has_continue = any(it.data.word == "continue" for it in elements) and not self.is_last()
+        self.has_continue = any(it.verdict.word == "continue" for it in elements) and not self.draft.is_last()
         if self.has_continue:
             raise NotFitted("`continue` in a map with statements behind it")
         if isinstance(left, Joined):
-            self.choose(left, elements, self.ending)
+            self.joined.choose(left, elements, self.ending)
         elif isinstance(left, Drawn):
             self.draw(left, elements, self.ending)
         elif isinstance(left, Calculation):
             self.choose_masked(left, elements)
+        elif not isinstance(left, Selector):
+            raise NotFitted("a statement that isn't known here")
         elif left.name in TYPES:
             self.choose_plain(left, mapping, elements, plain)
         else:
             self.choose_known(left.name, elements)
 
-    def ending(self, data):
-        return [self.piece(verdict_text(data), "end")]
+    def ending(self, it: Element) -> list[Piece]:
+        return [self.draft.piece(verdict_text(it.verdict), "end")]
 
-    def choose_plain(self, left, mapping, elements, plain):
-        name, kind = self.by_name(left.name, [it.key[0] for it in elements if not isinstance(it.key[0], Anything)])
+    def choose_plain(self, left: Selector, mapping: Mapping, elements: Sequence[Element], plain: bool) -> None:
+        parts = [it.key[0] for it in elements if not isinstance(it.key[0], Anything)]
+        name, kind = self.matches.by_name(left.name, parts)
         if kind == "ct_status":
-            self.warn_of_status()
+            self.matches.warn_of_status()
         if any(len(it.key) != 1 for it in elements):
             raise NotFitted("keys of another number of parts")
         rest = [it for it in elements if isinstance(it.key[0], Anything)]
@@ -71,69 +99,70 @@ class Maps:
         if not isinstance(mapping, Elements) and plain and not rest:
             text = f"{shown(name)} vmap @{mapping.name}"
         elif not elements:
-            self.tell("same", self.never(), "the map is empty")
-            self.die()
+            self.draft.tell("same", self.draft.never(), "the map is empty")
+            self.draft.die()
             return
         else:
-            listed = ", ".join(f"{spell_part(it.key[0], kind)} : {verdict_text(it.data)}" for it in named)
+            listed = ", ".join(f"{spell_part(it.key[0], kind)} : {verdict_text(it.verdict)}" for it in named)
             text = f"{shown(name)} vmap {{ {listed} }}"
         if rest:
             self.catch_all(shown(name), kind, named, rest[0], text)
             return
         words = not isinstance(mapping, Elements) or all(parts_are_plain(it.key, (kind,)) for it in elements)
-        self.put_spelled(text, [name], "end", plain=words and self.stays(name))
+        self.draft.put_spelled(text, [name], "end", plain=words and self.matches.stays(name))
 
-    def catch_all(self, name, kind, named, rest, text):
+    def catch_all(self, name: str, kind: str, named: Sequence[Element], rest: Element, text: str) -> None:
         """`*` in a map is a rule behind it, for all that the map hasn't."""
         keys = ", ".join(spell_part(it.key[0], kind) for it in named)
         behind = (
-            [self.piece(f"{name} != {{ {keys} }}"), *self.ending(rest.data)]
+            [self.draft.piece(f"{name} != {{ {keys} }}"), *self.ending(rest)]
             if named
-            else [self.piece(self.always()), *self.ending(rest.data)]
+            else [self.draft.piece(self.draft.always()), *self.ending(rest)]
         )
-        ways = [[self.piece(text, "end")], behind] if named else [behind]
-        self.tell("same", f"{rules_text(len(ways))}, the last one with {behind[0].text}", "nftrun has no `*` in maps")
-        self.split(ways, [name])
+        ways = [[self.draft.piece(text, "end")], behind] if named else [behind]
+        to = f"{rules_text(len(ways))}, the last one with {behind[0].text}"
+        self.draft.tell("same", to, "nftrun has no `*` in maps")
+        self.draft.split(ways, [name])
 
-    def choose_known(self, name, elements):
+    def choose_known(self, name: str, elements: Sequence[Element]) -> None:
         """By what nftrun doesn't read: one element, as is known or assumed."""
         if name.startswith("fib "):
             self.choose_by_route(name, elements)
             return
         fact, assumption = KNOWN.get(name), assumption_of(name)
-        self.keep_header(name)
+        self.matches.keep_header(name)
         chosen = [it for it in elements if holds(fact.value, "", it.key[0], "32", fact.words)][:1] if fact else []
         if fact is not None and not fact.assumption:
-            self.tell("same", verdict_text(chosen[0].data) if chosen else self.never(), fact.why)
+            self.draft.tell("same", verdict_text(chosen[0].verdict) if chosen else self.draft.never(), fact.why)
             if fact.needs:
-                self.put(fact.needs)
+                self.draft.put(fact.needs)
         else:
-            assumption = fact.assumption if fact else assumption
-            way = self.way(assumption)
+            assumption = fact.assumption or assumption if fact else assumption
+            way = self.draft.way(assumption)
             if way != ASSUMPTIONS[assumption].ways[0] or fact is None and way == "hit":
                 chosen = [it for it in elements if it not in chosen][:1]
-            self.guess(assumption, way, verdict_text(chosen[0].data) if chosen else self.never())
-        self.split([self.ending(it.data) for it in chosen])
+            self.draft.guess(assumption, way, verdict_text(chosen[0].verdict) if chosen else self.draft.never())
+        self.draft.split([self.ending(it) for it in chosen])
 
-    def choose_by_route(self, name, elements):
+    def choose_by_route(self, name: str, elements: Sequence[Element]) -> None:
         keys, result = name[4:].rsplit(" ", 1)
         parts = keys.split(" . ")
         fields = [it for it in parts if it in ("saddr", "daddr")]
-        if result != "type" or len(parts) != 1 or not fields or self.fitter.network is None:
-            way = self.way("fib")
+        if result != "type" or len(parts) != 1 or not fields or self.draft.fitter.network is None:
+            way = self.draft.way("fib")
             chosen = elements[:1] if way == "hit" else []
-            self.guess("fib", way, verdict_text(chosen[0].data) if chosen else self.never())
-            self.split([self.ending(it.data) for it in chosen])
+            self.draft.guess("fib", way, verdict_text(chosen[0].verdict) if chosen else self.draft.never())
+            self.draft.split([self.ending(it) for it in chosen])
             return
         ways = []
         for it in elements:
-            text = self.type_text(fields[0], self.type_words(it.key[0]), "", None)
-            if text != self.never():
-                ways.append([self.piece(text), *self.ending(it.data)])
-        self.tell("same", rules_text(len(ways)) if ways else self.never(), "the addresses of the box file")
-        self.split(ways)
+            text = self.matches.type_text(fields[0], self.matches.type_words(it.key[0]), "", None)
+            if text != self.draft.never():
+                ways.append([self.draft.piece(text), *self.ending(it)])
+        self.draft.tell("same", rules_text(len(ways)) if ways else self.draft.never(), "the addresses of the box file")
+        self.draft.split(ways)
 
-    def choose_masked(self, left, elements):
+    def choose_masked(self, left: Calculation, elements: Sequence[Element]) -> None:
         if left.operator != "&" or not isinstance(left.left, Selector):
             raise NotFitted("arithmetic before a map")
         name = left.left.name
@@ -141,38 +170,41 @@ class Maps:
             mask = flag_names(constant_number(left.right))
             ways = [
                 [
-                    self.piece(f"tcp flags & ({mask}) == {flag_names(constant_number(it.key[0]))}"),
-                    *self.ending(it.data),
+                    self.draft.piece(f"tcp flags & ({mask}) == {flag_names(constant_number(it.key[0]))}"),
+                    *self.ending(it),
                 ]
                 for it in elements
             ]
-            self.tell("same", rules_text(len(ways)), "a mask before a map")
-            self.split(ways)
+            self.draft.tell("same", rules_text(len(ways)), "a mask before a map")
+            self.draft.split(ways)
             return
-        values = self.fitter.marks.values.get(name)
+        values = self.draft.fitter.marks.values.get(name)
         if name not in MARKS or values is None:
             raise NotFitted("a mask before a map")
-        mask = constant_number(left.right, {})
+        bits = constant_number(left.right, {})
         found = [
-            (it, e.data) for it in sorted(values) for e in elements if holds(it & mask, "", e.key[0], "mark", {})
+            (mark, e.verdict)
+            for mark in sorted(values)
+            for e in elements
+            if holds(mark & bits, "", e.key[0], "mark", {})
         ]
         why = f"of the marks that rules write ({', '.join(map(hex, sorted(values)))}) these; each mark begins at 0"
         text = (
-            f"{name} vmap {{ {', '.join(f'{it:#x} : {verdict_text(data)}' for it, data in found)} }}"
+            f"{name} vmap {{ {', '.join(f'{mark:#x} : {verdict_text(data)}' for mark, data in found)} }}"
             if found
-            else self.never()
+            else self.draft.never()
         )
-        self.tell("same", text, why)
+        self.draft.tell("same", text, why)
         if found:
-            self.put(text, "end", [name])
+            self.draft.put(text, "end", [name])
         else:
-            self.die()
+            self.draft.die()
 
-    def draw(self, drawn, elements, then):
+    def draw(self, drawn: Drawn, elements: Sequence[Element], then: Then) -> None:
         """What numgen or a hash gives is assumed."""
-        number, way = self.number_drawn(drawn)
+        number, way = self.matches.number_drawn(drawn)
         chosen = [it for it in elements if holds(number, "", it.key[0], "32", {})][:1]
-        pieces = then(chosen[0].data) if chosen else [self.piece(self.never())]
-        self.keep_tests(drawn.over)
-        self.tell_drawn(way, pieces[-1].text)
-        self.lines = [line + pieces for line in self.lines]
+        pieces = then(chosen[0]) if chosen else [self.draft.piece(self.draft.never())]
+        self.draft.keep_tests(drawn.over)
+        self.matches.tell_drawn(way, pieces[-1].text)
+        self.draft.lines = [line + pieces for line in self.draft.lines]

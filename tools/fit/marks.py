@@ -1,7 +1,14 @@
 """Which marks there may be: 0, with which each begins, and what rules write, until nothing new comes."""
+from __future__ import annotations
+
+from typing import TYPE_CHECKING
+
 from .facts import MARKS
 from .numbers import calculated, range_of
-from .tree import Calculation, Drawn, Lookup, Named, One, Selector
+from .tree import Calculation, Drawn, Elements, Expression, Lookup, Mapping, One, Selector, Setting, Table
+
+if TYPE_CHECKING:
+    from .fitter import Fitter
 
 MOST = 512  # of marks that are followed
 
@@ -9,19 +16,19 @@ MOST = 512  # of marks that are followed
 class Marks:
     """`values` of each kind of mark: a set of numbers, or None where they are too many or not known."""
 
-    def __init__(self, fitter):
+    def __init__(self, fitter: Fitter) -> None:
         self.fitter = fitter
-        self.values = {name: {0} for name in MARKS}
+        self.values: dict[str, set[int] | None] = {name: {0} for name in MARKS}
         self.writes = [
-            (table, it.parts[0].name, it.parts[1])
+            (table, it.what.left.name, it.what.operand)
             for table, _, rule in fitter.rules()
             for it in rule.statements
-            if it.kind == "set" and getattr(it.parts[0], "name", "") in MARKS
+            if isinstance(it.what, Setting) and it.what.left.name in MARKS
         ]
         while self.grow():
             pass
 
-    def grow(self):
+    def grow(self) -> bool:
         before = {name: None if it is None else set(it) for name, it in self.values.items()}
         for table, name, operand in self.writes:
             found, known = self.evaluate(table, operand), self.values[name]
@@ -31,7 +38,7 @@ class Marks:
                 self.values[name] = known | found
         return self.values != before
 
-    def evaluate(self, table, it):
+    def evaluate(self, table: Table, it: Expression) -> set[int] | None:
         """The numbers that an operand may have, or None."""
         if isinstance(it, Selector):
             return self.values.get(it.name)
@@ -49,23 +56,21 @@ class Marks:
             return self.data_of(table, it.map)
         return None
 
-    def data_of(self, table, mapping):
-        elements = (
-            table.sets[mapping.name].elements
-            if isinstance(mapping, Named) and mapping.name in table.sets
-            else getattr(mapping, "list", [])
-        )
+    def data_of(self, table: Table, mapping: Mapping) -> set[int] | None:
+        if isinstance(mapping, Elements):
+            elements = list(mapping.items)
+        else:
+            elements = table.sets[mapping.name].elements if mapping.name in table.sets else []
         found = set()
         for element in elements:
-            number = (
-                range_of(element.data[0], "mark")
-                if isinstance(element.data, tuple) and len(element.data) == 1 and isinstance(element.data[0], One)
-                else None
-            )
+            data = element.data
+            number = None
+            if isinstance(data, tuple) and len(data) == 1 and isinstance(data[0], One):
+                number = range_of(data[0], "mark")
             if number is None:
                 return None
             found.add(number[0])
         return found
 
-    def may_change(self, name):
+    def may_change(self, name: str) -> bool:
         return len(self.values[name] or (0, 1)) > 1

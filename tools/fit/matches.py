@@ -1,7 +1,11 @@
 """Matches of one selector: of those that nftrun reads, and of those of which something is known or assumed."""
+from __future__ import annotations
+
 from ipaddress import IPv4Address
+from typing import Sequence
 
 from .assumptions import ASSUMPTIONS
+from .draft import Draft
 from .facts import BITS, KNOWN, MARKS, NEVER_IN_IPV4, SHORT, TCP_FLAGS, TYPES, WORDS, assumption_of, first_word
 from .network import Network, spelled_networks
 from .numbers import bits_named, constant, constant_number, holds, name_of, number_of, spell_part
@@ -10,19 +14,24 @@ from .tree import (
     Anything,
     Calculation,
     Drawn,
+    Element,
     Elements,
-    Joined,
+    Expression,
     Listed,
+    Mapping,
     Masked,
-    Named,
+    Match,
     Missing,
+    Named,
     NotFitted,
     One,
-    Piece,
+    Part,
     Prefix,
     Range,
     Selector,
+    Setting,
     Value,
+    VerdictMap,
 )
 
 OWNERS = ("meta skuid", "meta skgid", "meta cgroup")
@@ -31,41 +40,46 @@ YES_NO = (One(Value("word", "missing")), One(Value("word", "exists")))
 
 
 class Matches:
-    def fit_match(self, left, operator, right):
-        if isinstance(left, Joined):
-            self.match_joined(left, operator, right)
-        elif isinstance(left, Drawn):
+    """Fits matches of one selector."""
+
+    def __init__(self, draft: Draft) -> None:
+        self.draft = draft
+
+    def fit_match(self, left: Expression, operator: str, right: Expression) -> None:
+        if isinstance(left, Drawn):
             self.match_drawn(left, operator, right)
         elif isinstance(left, Calculation):
             self.match_masked(left, operator, right)
+        elif not isinstance(left, Selector):
+            raise NotFitted("a statement that isn't known here")
         elif self.is_in_ipv4(left):
             if left.name in TYPES:
                 self.match_plain(left.name, operator, right)
             else:
                 self.match_known(left.name, operator, right)
 
-    def is_in_ipv4(self, selector):
+    def is_in_ipv4(self, selector: Selector) -> bool:
         if first_word(selector.name) not in NEVER_IN_IPV4:
             return True
-        self.tell("same", self.never(), "no IPv4 packet has that header")
-        self.die()
+        self.draft.tell("same", self.draft.never(), "no IPv4 packet has that header")
+        self.draft.die()
         return False
 
     # what nftrun doesn't read
 
-    def match_known(self, name, operator, right):
+    def match_known(self, name: str, operator: str, right: Expression) -> None:
         if name.startswith("fib "):
             self.match_fib(name, operator, right)
             return
-        if name in OWNERS and self.chain.hooks and self.chain.hooks <= WITHOUT_OWNER:
-            self.tell("same", self.never(), "a packet that is forwarded is of no process")
-            self.die()
+        if name in OWNERS and self.draft.chain.hooks and self.draft.chain.hooks <= WITHOUT_OWNER:
+            self.draft.tell("same", self.draft.never(), "a packet that is forwarded is of no process")
+            self.draft.die()
             return
         fact = KNOWN.get(name)
         if isinstance(right, Named):
             right = self.elements_named(right)
         self.keep_header(name)
-        if fact is None or name == "ct zone" and self.fitter.sets_zones:
+        if fact is None or name == "ct zone" and self.draft.fitter.sets_zones:
             self.guess_match(assumption_of(name), self.usual_answer(assumption_of(name), operator))
             return
         answer = holds(fact.value, operator, right, "32", fact.words)
@@ -76,34 +90,35 @@ class Matches:
         elif fact.assumption:
             self.guess_match(fact.assumption, answer, fact.why)
         else:
-            self.tell("same", (fact.needs or "left out, as it always holds") if answer else self.never(), fact.why)
+            to = (fact.needs or "left out, as it always holds") if answer else self.draft.never()
+            self.draft.tell("same", to, fact.why)
             if fact.needs:
-                self.put(fact.needs)
+                self.draft.put(fact.needs)
             if not answer:
-                self.die()
+                self.draft.die()
 
-    def elements_named(self, named):
+    def elements_named(self, named: Named) -> Mapping:
         """What a named set has, where no rule adds to it."""
-        found = self.table.sets.get(named.name)
+        found = self.draft.table.sets.get(named.name)
         if found is None:
             raise Missing(f"there is no set {named.name}")
-        if (self.table.family, self.table.name, named.name) in self.fitter.added_to:
+        if (self.draft.table.family, self.draft.table.name, named.name) in self.draft.fitter.added_to:
             return named
-        return Elements(self.fitter.sets.kept(found))
+        return Elements(tuple(self.draft.fitter.sets.kept(found)))
 
-    def keep_header(self, name):
+    def keep_header(self, name: str) -> None:
         """The protocol that the match asks for first, or the connection that it reads."""
         if name not in KNOWN or not KNOWN[name].needs:
-            self.keep_tests(Selector(name))
+            self.draft.keep_tests(Selector(name))
 
     @staticmethod
-    def usual_answer(assumption, operator):
+    def usual_answer(assumption: str, operator: str) -> bool:
         """`miss`: the value isn't the one that is named; `hit`: it is."""
         return (ASSUMPTIONS[assumption].ways[0] == "hit") != (operator in ("!=", "!"))
 
-    def guess_match(self, assumption, usual, fact=None):
+    def guess_match(self, assumption: str, usual: bool, fact: str | None = None) -> None:
         """A match that nobody can decide: `usual` is its answer by the usual way."""
-        way = self.way(assumption)
+        way = self.draft.way(assumption)
         is_usual = way == ASSUMPTIONS[assumption].ways[0]
         answer = usual if is_usual else not usual
         why = (
@@ -111,39 +126,39 @@ class Matches:
             if fact and is_usual
             else None
         )
-        self.guess(assumption, way, "always" if answer else self.never(), why=why)
+        self.draft.guess(assumption, way, "always" if answer else self.draft.never(), why=why)
         if not answer:
-            self.put(self.never())  # what follows is told all the same
+            self.draft.put(self.draft.never())  # what follows is told all the same
 
-    def match_drawn(self, drawn, operator, right):
+    def match_drawn(self, drawn: Drawn, operator: str, right: Expression) -> None:
         number, way = self.number_drawn(drawn)
         answer = holds(number, operator, right, "32", {})
         if answer is None:
             raise NotFitted("a value that isn't known")
-        self.keep_tests(drawn.over)
-        self.tell_drawn(way, "always" if answer else self.never())
+        self.draft.keep_tests(drawn.over)
+        self.tell_drawn(way, "always" if answer else self.draft.never())
         if not answer:
-            self.put(self.never())
+            self.draft.put(self.draft.never())
 
-    def number_drawn(self, drawn):
+    def number_drawn(self, drawn: Drawn) -> tuple[int, str | None]:
         """The number that is drawn, and how that was guessed: None where there is one number alone."""
-        way = self.way("random") if drawn.modulus > 1 else None
+        way = self.draft.way("random") if drawn.modulus > 1 else None
         return drawn.offset + (drawn.modulus - 1 if way == "last" else 0), way
 
-    def tell_drawn(self, way, to):
+    def tell_drawn(self, way: str | None, to: str) -> None:
         if way is None:
-            self.tell("same", to, "there is one number alone")
+            self.draft.tell("same", to, "there is one number alone")
         else:
-            self.guess("random", way, to)
+            self.draft.guess("random", way, to)
 
     # routing
 
-    def match_fib(self, name, operator, right):
+    def match_fib(self, name: str, operator: str, right: Expression) -> None:
         if name.endswith(" oif") and right == One(Value("number", "0")):
             right = YES_NO[0]  # no interface: there is no such route
         keys, result = name[4:].rsplit(" ", 1)
         parts = keys.split(" . ")
-        network = self.fitter.network
+        network = self.draft.fitter.network
         fields = [it for it in parts if it in ("saddr", "daddr")]
         if (
             result == "type"
@@ -153,7 +168,7 @@ class Matches:
         ):
             self.match_fib_type(fields[0], "iif" in parts, operator, right)
         elif result in ("oif", "oifname") and network and set(parts) == {"saddr", "iif"} and right in YES_NO:
-            self.match_reverse_path((right.value.text == "exists") != (operator == "!="))
+            self.match_reverse_path(self.guess_of_route(operator, right))
         else:
             self.guess_match(
                 "fib",
@@ -161,93 +176,90 @@ class Matches:
             )
 
     @staticmethod
-    def guess_of_route(operator, right):
+    def guess_of_route(operator: str, right: Expression) -> bool:
         """Usually a route to the sender exists."""
-        return (right.value.text == "exists") != (operator == "!=")
+        return (right == YES_NO[1]) != (operator == "!=")
 
     @staticmethod
-    def type_words(right):
-        items = (
-            [it.key[0] for it in right.list]
-            if isinstance(right, Elements)
-            else right.items
-            if isinstance(right, Listed)
-            else [right]
-        )
+    def type_words(right: Expression) -> list[str]:
+        items: Sequence[Expression] = [right]
+        if isinstance(right, Elements):
+            items = [it.key[0] for it in right.items]
+        elif isinstance(right, Listed):
+            items = right.items
         return [it.value.text if isinstance(it, One) else "" for it in items]
 
-    def match_fib_type(self, field, by_interface, operator, right):
+    def match_fib_type(self, field: str, by_interface: bool, operator: str, right: Expression) -> None:
         """`fib daddr type local`, by the addresses of the box file."""
-        network = self.fitter.network or Network()
+        network = self.draft.fitter.network or Network()
         words = self.type_words(right)
         if not by_interface:
             text = self.type_text(field, words, operator, None)
-            self.tell("same", text, "the addresses of the box file")
-            self.put(text)
+            self.draft.tell("same", text, "the addresses of the box file")
+            self.draft.put(text)
             return
         ways = [
-            [self.piece(f'iifname "{name}"'), self.piece(self.type_text(field, words, operator, name))]
+            [self.draft.piece(f'iifname "{name}"'), self.draft.piece(self.type_text(field, words, operator, name))]
             for name in network.names()
         ]
-        self.tell("same", f"{rules_text(len(ways))}, one for each interface", "the addresses of the box file")
-        self.split(ways)
+        self.draft.tell("same", f"{rules_text(len(ways))}, one for each interface", "the addresses of the box file")
+        self.draft.split(ways)
 
-    def type_text(self, field, words, operator, name):
-        network = self.fitter.network or Network()
+    def type_text(self, field: str, words: Sequence[str], operator: str, name: str | None) -> str:
+        network = self.draft.fitter.network or Network()
         is_not = operator in ("!=", "!")
         if "unicast" in words:  # all that is of no other type
             words = [it for it in ("local", "broadcast", "multicast") if it not in words]
             is_not = not is_not
         networks = [net for word in words for net in network.of_type(word, name)]
         if not networks:
-            return self.always() if is_not else self.never()
+            return self.draft.always() if is_not else self.draft.never()
         return f"ip {field} {'!= ' if is_not else ''}{{ {spelled_networks(networks)} }}"
 
-    def match_reverse_path(self, wants):
+    def match_reverse_path(self, wants: bool) -> None:
         """`fib saddr . iif oif exists`: the best route to the sender leads to where the packet came from."""
         ways = []
-        for name in self.fitter.network.names():
-            reached = ", ".join(self.fitter.network.reached_by(name))
+        network = self.draft.fitter.network or Network()
+        for name in network.names():
+            reached = ", ".join(network.reached_by(name))
             if reached:
+                sign = "" if wants else "!= "
                 ways.append(
-                    [self.piece(f'iifname "{name}"'), self.piece(f"ip saddr {'' if wants else '!= '}{{ {reached} }}")]
+                    [self.draft.piece(f'iifname "{name}"'), self.draft.piece(f"ip saddr {sign}{{ {reached} }}")]
                 )
             elif not wants:
-                ways.append([self.piece(f'iifname "{name}"')])
-        self.tell(
+                ways.append([self.draft.piece(f'iifname "{name}"')])
+        self.draft.tell(
             "same",
-            f"{rules_text(len(ways))}, one for each interface" if ways else self.never(),
+            f"{rules_text(len(ways))}, one for each interface" if ways else self.draft.never(),
             "by the best route of each address, as the box file has them",
         )
-        self.split(ways)
-
-    def piece(self, text, kind="match", reads=()):
-        return Piece(text, kind, tuple(reads))
+        self.draft.split(ways)
 
     # what nftrun reads
 
-    def match_plain(self, name, operator, right):
+    def match_plain(self, name: str, operator: str, right: Expression) -> None:
         kind, reading = TYPES[name], ""
-        if name == "ct state" and self.chain.is_early:
-            self.told.warn(
-                self.rule.token,
+        if name == "ct state" and self.draft.chain.is_early:
+            self.draft.told.warn(
+                self.draft.rule.token,
                 "before connections are looked for (priority -200), Linux reads ct state as invalid, nftrun as nothing:"
                 " no match on it holds",
             )
-        if kind in ("tcp_flag", "ct_status") and isinstance(right, Elements) and len(right.list) == 1:
-            right = right.list[0].key[0]
+        if kind in ("tcp_flag", "ct_status") and isinstance(right, Elements) and len(right.items) == 1:
+            right = right.items[0].key[0]
             operator = "!=" if operator == "!=" else ""
             reading = "nft(8) reads a list of one as the bit alone, nftrun would compare the whole value"
         if isinstance(right, Named):
             self.match_set(name, operator, right)
         elif isinstance(right, Elements):
-            self.match_elements(Selector(name), operator, right.list)
+            self.match_elements(Selector(name), operator, right.items)
         elif kind in BITS:
             self.match_bits(name, kind, operator, right, reading)
         else:
             self.match_value(name, operator, right)
 
-    def match_value(self, name, operator, right):
+    def match_value(self, name: str, operator: str, right: Expression) -> None:
         if isinstance(right, Calculation):
             right = constant(right, WORDS.get(TYPES[name], {}))
         if isinstance(right, Masked) and name in MARKS:
@@ -258,9 +270,9 @@ class Matches:
         name, kind = self.by_name(name, [right])
         operator = "!=" if operator == "!" else operator
         sign = "" if operator in ("", "==") else operator + " "
-        self.put_spelled(f"{shown(name)} {sign}{spell_part(right, kind)}", [name], plain=self.stays(name))
+        self.draft.put_spelled(f"{shown(name)} {sign}{spell_part(right, kind)}", [name], plain=self.stays(name))
 
-    def match_elements(self, selector, operator, elements):
+    def match_elements(self, selector: Selector, operator: str, elements: Sequence[Element]) -> None:
         name = selector.name
         if operator not in ("", "==", "!=", "!"):
             raise NotFitted(f"`{operator}` with a list")
@@ -270,20 +282,20 @@ class Matches:
         name, kind = self.by_name(name, parts)
         listed = ", ".join(spell_part(it, kind) for it in parts)
         if not listed:
-            self.die()
+            self.draft.die()
             return
         if kind == "ct_status":
             self.warn_of_status()
         plain = parts_are_plain(parts, [kind] * len(parts)) and self.stays(name)
-        self.put_spelled(
+        self.draft.put_spelled(
             f"{shown(name)} {'!= ' if operator in ('!=', '!') else ''}{{ {listed} }}", [name], plain=plain
         )
 
-    def match_set(self, name, operator, named):
-        found = self.table.sets.get(named.name)
+    def match_set(self, name: str, operator: str, named: Named) -> None:
+        found = self.draft.table.sets.get(named.name)
         if found is None:
             raise Missing(f"there is no set {named.name}")
-        if not self.fitter.sets.is_plain(found):
+        if not self.draft.fitter.sets.is_plain(found):
             raise NotFitted(f"the set {named.name} has no place in nftrun's language")
         if self.is_hit(named.name, operator):
             return
@@ -291,47 +303,54 @@ class Matches:
             self.warn_of_status()
         new = (
             "meta " + name.split()[1] + "name"
-            if TYPES[name] == "iface_index" and self.fitter.sets.by_name(found)
+            if TYPES[name] == "iface_index" and self.draft.fitter.sets.by_name(found)
             else name
         )
-        self.put_spelled(f"{shown(new)} {'!= ' if operator == '!=' else ''}@{named.name}", [name], plain=new == name)
+        sign = "!= " if operator == "!=" else ""
+        self.draft.put_spelled(f"{shown(new)} {sign}@{named.name}", [name], plain=new == name)
 
-    def is_hit(self, name, operator):
+    def is_hit(self, name: str, operator: str) -> bool:
         """A set to which packets add: what it has beside what is listed is guessed. Whether that decided it."""
-        if (self.table.family, self.table.name, name) not in self.fitter.added_to:
+        if (self.draft.table.family, self.draft.table.name, name) not in self.draft.fitter.added_to:
             return False
-        way = self.way("dynamic")
+        way = self.draft.way("dynamic")
         if way == "listed":
-            self.guess("dynamic", way, "by what is listed")
+            self.draft.guess("dynamic", way, "by what is listed")
             return False
         answer = operator not in ("!=", "!")
-        self.keep_tests(self.statement.parts[0])
-        self.guess("dynamic", way, "always" if answer else self.never())
+        self.draft.keep_tests(self.left())
+        self.draft.guess("dynamic", way, "always" if answer else self.draft.never())
         if not answer:
-            self.put(self.never())
+            self.draft.put(self.draft.never())
         return True
 
     # interfaces by index
 
-    def by_name(self, name, parts):
+    def by_name(self, name: str, parts: Sequence[Part]) -> tuple[str, str]:
         """`iif NAME` asks for an interface of the box; where it isn't known to be one, `iifname` asks for none."""
         kind = TYPES[name]
-        if kind != "iface_index" or all(self.fitter.sets.is_index(name_of(it)) for it in parts):
+        if kind != "iface_index" or all(self.draft.fitter.sets.is_index(name_of(it)) for it in parts):
             return name, kind
         return name + "name", "ifname"
 
-    def stays(self, name):
+    def stays(self, name: str) -> bool:
         """Whether a match of an index stays one."""
-        return getattr(self.statement.parts[0], "name", name) == name
+        left = self.left()
+        return left.name == name if isinstance(left, Selector) else True
+
+    def left(self) -> Expression | None:
+        """What the statement at hand reads first, where it is a match or the like."""
+        what = self.draft.statement.what
+        return what.left if isinstance(what, (Match, VerdictMap, Setting)) else None
 
     # bits
 
-    def match_bits(self, name, kind, operator, right, reading):
+    def match_bits(self, name: str, kind: str, operator: str, right: Expression, reading: str) -> None:
         if kind == "tcp_flag" and operator in ("<", ">", "<=", ">="):
             self.match_order_of_flags(0xFF, operator, right)
             return
         if kind == "tcp_flag":
-            self.put_spelled(self.flags_text(operator, right), reading=reading)
+            self.draft.put_spelled(self.flags_text(operator, right), reading=reading)
             return
         words = self.bit_words(right)
         if kind == "ct_status" and any(it not in WORDS[kind] for it in words):
@@ -344,43 +363,45 @@ class Matches:
             why = "none of them"
             if kind == "ct_status":
                 why += "; so nftrun reads it, nft(8) would compare the whole value"
-            self.tell("same", text, why)
-            self.put(text)
+            self.draft.tell("same", text, why)
+            self.draft.put(text)
         elif operator == "!=" and (kind == "ct_status" or len(words) > 1):
             self.match_unequal(name, words)
         elif operator in ("", "==", "!="):
             if kind == "ct_status" and operator == "==":
                 self.warn_of_status()
             sign = operator + " " if operator else ""
-            self.put_spelled(f"{name} {sign}{','.join(words)}", reading=reading)
+            self.draft.put_spelled(f"{name} {sign}{','.join(words)}", reading=reading)
         else:
             raise NotFitted(f"`{name} {operator}`")
 
-    def match_unequal(self, name, words):
+    def match_unequal(self, name: str, words: Sequence[str]) -> None:
         """nft(8) compares with all the bits at once, which no packet's value equals: `!=` always holds."""
-        to = self.always() if name == "ct state" else "ct direction { original, reply }"
+        to = self.draft.always() if name == "ct state" else "ct direction { original, reply }"
         meant = f"{name} != {{ {', '.join(words)} }}" if name == "ct state" else f"{name} ! {','.join(words)}"
         why = "nft(8) compares with the whole value, so it always holds; nftrun would read `none of them`,"
         why += f" which nft(8) spells `{meant}`"
-        self.tell("same", to, why, reads=True)
-        self.put(to)
+        self.draft.tell("same", to, why, reads=True)
+        self.draft.put(to)
 
-    def match_unknown_status(self, operator, words):
+    def match_unknown_status(self, operator: str, words: Sequence[str]) -> None:
         known = [it for it in words if it in WORDS["ct_status"]]
         if operator == "" and known:
-            way = self.way("ct")
+            way = self.draft.way("ct")
             to = f"ct status {','.join(known)}" if way == "miss" else "always"
-            self.guess("ct", way, to)
-            self.put(to if way == "miss" else "ct direction { original, reply }")
+            self.draft.guess("ct", way, to)
+            self.draft.put(to if way == "miss" else "ct direction { original, reply }")
             return
-        self.put("ct direction { original, reply }")
+        self.draft.put("ct direction { original, reply }")
         self.guess_match("ct", self.usual_answer("ct", operator))
 
-    def warn_of_status(self):
-        self.told.warn(self.rule.token, "Linux has more bits of ct status than nftrun, and compares all of them here")
+    def warn_of_status(self) -> None:
+        self.draft.told.warn(
+            self.draft.rule.token, "Linux has more bits of ct status than nftrun, and compares all of them here"
+        )
 
     @staticmethod
-    def bit_words(right):
+    def bit_words(right: Expression) -> list[str]:
         """The words of `a,b` or `a | b`."""
         if isinstance(right, Listed):
             return [word for it in right.items for word in Matches.bit_words(it)]
@@ -391,7 +412,7 @@ class Matches:
         raise NotFitted("a bit that isn't known")
 
     @staticmethod
-    def flags_text(operator, right):
+    def flags_text(operator: str, right: Expression) -> str:
         if isinstance(right, Masked):
             if operator not in ("", "==", "!="):
                 raise NotFitted(f"`tcp flags {operator}` with a mask")
@@ -407,17 +428,17 @@ class Matches:
 
     # masks
 
-    def match_masked(self, left, operator, right):
+    def match_masked(self, left: Calculation, operator: str, right: Expression) -> None:
         """`SELECTOR & MASK OPERATOR VALUE`."""
         if left.operator != "&" or not isinstance(left.left, Selector):
             raise NotFitted("arithmetic in a match")
         name = left.left.name
         if not self.is_in_ipv4(left.left):
             return
-        if isinstance(right, Elements) and len(right.list) == 1:
-            right = right.list[0].key[0]
+        if isinstance(right, Elements) and len(right.items) == 1:
+            right = right.items[0].key[0]
         if name == "tcp flags":
-            self.match_masked_flags(left.right, operator, right)
+            self.match_masked_flags(constant_number(left.right), operator, right)
         elif name in MARKS:
             self.match_mark(name, constant_number(left.right, {}), operator, right)
         elif name in ("ip saddr", "ip daddr"):
@@ -427,29 +448,28 @@ class Matches:
         else:
             self.match_masked_other(name, constant_number(left.right, {}), operator, right)
 
-    def match_masked_flags(self, mask, operator, right):
-        mask = constant_number(mask)
+    def match_masked_flags(self, mask: int, operator: str, right: Expression) -> None:
         if operator not in ("", "==", "!="):
             self.match_order_of_flags(mask, operator, right)
             return
         if not isinstance(right, Elements):
             sign = "!=" if operator == "!=" else "=="
-            self.put_spelled(f"tcp flags & ({flag_names(mask)}) {sign} {flag_words(right, ' | ')}")
+            self.draft.put_spelled(f"tcp flags & ({flag_names(mask)}) {sign} {flag_words(right, ' | ')}")
             return
-        values = [constant_number(it.key[0]) for it in right.list]
+        values = [constant_number(it.key[0]) for it in right.items]
         texts = [
             f"tcp flags & ({flag_names(mask)}) {'!=' if operator == '!=' else '=='} {flag_names(it)}"
             for it in dict.fromkeys(values)
         ]
         if operator == "!=":
-            self.tell("same", " ".join(texts), "one after the other")
+            self.draft.tell("same", " ".join(texts), "one after the other")
             for text in texts:
-                self.put(text)
+                self.draft.put(text)
         else:
-            self.tell("same", "a rule for each value", "a mask before a list")
-            self.split([[self.piece(it)] for it in texts])
+            self.draft.tell("same", "a rule for each value", "a mask before a list")
+            self.draft.split([[self.draft.piece(it)] for it in texts])
 
-    def match_order_of_flags(self, mask, operator, right):
+    def match_order_of_flags(self, mask: int, operator: str, right: Expression) -> None:
         """The values of the flags for which an order holds, in a list."""
         answers = [holds(it & mask, operator, constant(right), "8", {}) for it in range(256)]
         if None in answers:
@@ -460,14 +480,14 @@ class Matches:
             if len(found) > 1
             else f"tcp flags == {found[0]}"
             if found
-            else self.never()
+            else self.draft.never()
         )
-        self.tell("same", text, "all values for which it holds")
-        self.put(text)
+        self.draft.tell("same", text, "all values for which it holds")
+        self.draft.put(text)
 
-    def match_mark(self, name, mask, operator, right):
+    def match_mark(self, name: str, mask: int, operator: str, right: Expression) -> None:
         """The marks that rules write are known, so those for which the match holds can be listed."""
-        values = self.fitter.marks.values[name]
+        values = self.draft.fitter.marks.values[name]
         if values is None:
             raise NotFitted("a mask of marks that are too many, or not known")
         answers = {it: holds(it & mask, operator, right, "mark", {}) for it in values}
@@ -476,14 +496,14 @@ class Matches:
         found = [it for it in sorted(values) if answers[it]]
         why = f"of the marks that rules write ({', '.join(map(hex, sorted(values)))}) these; each mark begins at 0"
         if not found:
-            self.tell("same", self.never(), why)
-            self.die()
+            self.draft.tell("same", self.draft.never(), why)
+            self.draft.die()
             return
         text = f"{name} {{ {', '.join(map(hex, found))} }}"
-        self.tell("same", text, why)
-        self.put(text, "match", [name])
+        self.draft.tell("same", text, why)
+        self.draft.put(text, "match", [name])
 
-    def match_masked_address(self, name, mask, operator, right):
+    def match_masked_address(self, name: str, mask: Expression, operator: str, right: Expression) -> None:
         number = number_of(mask.value, "ipv4_addr") if isinstance(mask, One) else None
         length = bin(number or 0).count("1")
         if (
@@ -497,15 +517,16 @@ class Matches:
             raise NotFitted("a value that isn't known")
         is_not = operator == "!="
         if base & ~number & 0xFFFFFFFF:
-            self.tell("same", "always" if is_not else self.never(), "the value has bits outside of the mask")
+            to = "always" if is_not else self.draft.never()
+            self.draft.tell("same", to, "the value has bits outside of the mask")
             if not is_not:
-                self.die()
+                self.draft.die()
             return
         text = f"{name} {'!= ' if is_not else ''}{IPv4Address(base)}/{length}"
-        self.tell("same", text, "a prefix")
-        self.put(text)
+        self.draft.tell("same", text, "a prefix")
+        self.draft.put(text)
 
-    def match_masked_state(self, name, mask, operator, right):
+    def match_masked_state(self, name: str, mask: Expression, operator: str, right: Expression) -> None:
         """`ct state & (established | related) != 0`."""
         words = self.bit_words(mask)
         if (
@@ -515,40 +536,41 @@ class Matches:
         ):
             raise NotFitted(f"a mask of {name}")
         text = f"{name} {','.join(words)}" if operator == "!=" else " ".join(f"{name} != {word}" for word in words)
-        self.tell("same", text, "one of them" if operator == "!=" else "none of them")
-        self.put(text)
+        self.draft.tell("same", text, "one of them" if operator == "!=" else "none of them")
+        self.draft.put(text)
 
-    def match_masked_other(self, name, mask, operator, right):
+    def match_masked_other(self, name: str, mask: int, operator: str, right: Expression) -> None:
         if name in TYPES:
             raise NotFitted(f"a mask of {name}")
         if name == "ip frag-off" and not mask & 0x4000:
             answer = holds(0, operator, right, "16", {})
             if answer is None:
                 raise NotFitted("a value that isn't known")
-            self.tell("same", "left out, as it always holds" if answer else self.never(), "nftrun takes no fragments")
+            to = "left out, as it always holds" if answer else self.draft.never()
+            self.draft.tell("same", to, "nftrun takes no fragments")
             if not answer:
-                self.die()
+                self.draft.die()
             return
         self.keep_header(name)
         fact = KNOWN.get(name)
         answer = holds(fact.value & mask, operator, right, "32", fact.words) if fact else None
-        if answer is not None:
+        if fact is not None and answer is not None:
             self.guess_match(fact.assumption or "header", answer, fact.why)
         else:
             self.guess_match(assumption_of(name), self.usual_answer(assumption_of(name), operator))
 
 
-def shown(name):
+def shown(name: str) -> str:
     """A selector as nft(8) lists it."""
     short = name.removeprefix("meta ")
     return short if short in SHORT else name
 
 
-def rules_text(number):
+def rules_text(number: int) -> str:
     return "a rule" if number == 1 else f"{number} rules"
 
 
-def flag_words(it, between):
+def flag_words(it: Expression, between: str) -> str:
     """Flags of TCP, joined; calculated ones as a number."""
     if isinstance(it, Listed):
         return between.join(flag_words(one, between) for one in it.items)
@@ -561,5 +583,5 @@ def flag_words(it, between):
     raise NotFitted("flags that aren't known")
 
 
-def flag_names(number):
+def flag_names(number: int) -> str:
     return " | ".join(bits_named(number, TCP_FLAGS))

@@ -1,4 +1,6 @@
 """The box file, for what rules ask of routing: the box's addresses, and by which interface an address is reached."""
+from __future__ import annotations
+
 from ipaddress import IPv4Address, IPv4Interface, IPv4Network
 
 from .commands import read_text
@@ -15,12 +17,13 @@ EMPTY_TYPES = ("blackhole", "unreachable", "prohibit", "throw", "nat", "anycast"
 class Network:
     """`interfaces` are (name, IPv4Interface), `routes` (IPv4Network, name) in the order of the text."""
 
-    def __init__(self, path=None):
-        self.interfaces, self.routes = [], []
+    def __init__(self, path: str | None = None) -> None:
+        self.interfaces: list[tuple[str, IPv4Interface]] = []
+        self.routes: list[tuple[IPv4Network, str]] = []
         if path is not None:
             self.read(path)
 
-    def read(self, path):
+    def read(self, path: str) -> None:
         for number, line in enumerate(read_text(path).split("\n"), 1):
             words = line.split("#")[0].split()
             try:
@@ -33,20 +36,20 @@ class Network:
             except ValueError:
                 raise Refused(f"{path}:{number}: it is no line of a box file") from None
 
-    def names(self):
+    def names(self) -> list[str]:
         return list(dict.fromkeys(name for name, _ in self.interfaces))
 
-    def own(self, name=None):
+    def own(self, name: str | None = None) -> list[IPv4Network]:
         """The box's addresses, of one interface or of all."""
         found = [IPv4Network(it.ip) for by, it in self.interfaces if name in (None, by)]
         return [LOOPBACK, *found] if name in (None, "lo") else found
 
-    def broadcast(self, name=None):
+    def broadcast(self, name: str | None = None) -> list[IPv4Network]:
         """What the kernel takes for broadcast, of one interface's networks or of all."""
         nets = [it.network for by, it in self.interfaces if it.network.prefixlen < 31 and name in (None, by)]
         return [*BROADCAST, *(IPv4Network(it.broadcast_address) for it in nets)]
 
-    def of_type(self, word, name=None):
+    def of_type(self, word: str, name: str | None = None) -> list[IPv4Network]:
         """The networks of which `fib daddr type WORD` holds; of one interface, `fib daddr . iif type`."""
         if word == "local":
             return self.own(name)
@@ -58,12 +61,13 @@ class Network:
             return []
         raise NotFitted(f"`fib .. type {word}`")
 
-    def reached_by(self, name):
+    def reached_by(self, name: str) -> list[str]:
         """The addresses whose best route leads to the interface, as ranges of text. The box's own addresses have
         none, as in the kernel; those of broadcast have that of their network."""
-        routes = [(net, None) for net in self.own()] + self.routes
+        routes: list[tuple[IPv4Network, str | None]] = [(net, None) for net in self.own()]
+        routes += self.routes
         bounds = sorted({0, 1 << 32} | {int(net[0]) for net, _ in routes} | {int(net[-1]) + 1 for net, _ in routes})
-        ranges = []
+        ranges: list[tuple[int, int]] = []
         for low, after in zip(bounds, bounds[1:]):
             if self.best(routes, low) != name:
                 continue
@@ -73,16 +77,16 @@ class Network:
         return [span(low, high) for low, high in ranges]
 
     @staticmethod
-    def best(routes, address):
+    def best(routes: list[tuple[IPv4Network, str | None]], address: int) -> str | None:
         """The interface of the first of the most specific routes that cover an address."""
         covering = [(net, by) for net, by in routes if int(net[0]) <= address <= int(net[-1])]
         return max(covering, key=lambda it: it[0].prefixlen)[1] if covering else None
 
 
-def span(low, high):
+def span(low: int, high: int) -> str:
     return str(IPv4Address(low)) if low == high else f"{IPv4Address(low)}-{IPv4Address(high)}"
 
 
-def spelled_networks(networks):
+def spelled_networks(networks: list[IPv4Network]) -> str:
     """Networks as elements of a set, each once."""
     return ", ".join(dict.fromkeys(str(it[0]) if it.prefixlen == 32 else str(it) for it in networks))

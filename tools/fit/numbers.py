@@ -1,19 +1,35 @@
 """Values as numbers, and as nftrun spells them."""
+from __future__ import annotations
+
 import socket
 from ipaddress import IPv4Address
+from typing import Mapping
 
-from .expressions import as_number
+from .expressions import as_number, as_part
 from .facts import MORE_PROTOCOLS, MORE_SERVICES, PROTOCOLS, SERVICES, TCP_FLAGS, WIDTHS, WORDS
-from .tree import Anything, Calculation, Element, Elements, Listed, NotFitted, One, Prefix, Range, Value
+from .tree import (
+    Anything,
+    Calculation,
+    Element,
+    Elements,
+    Expression,
+    Listed,
+    NotFitted,
+    One,
+    Part,
+    Prefix,
+    Range,
+    Value,
+)
 
 NAMED = ("ifname", "iface_index")
 
 
-def width_of(kind):
+def width_of(kind: str) -> int:
     return int(kind) if kind.isdigit() else WIDTHS.get(kind, 32)
 
 
-def number_of(value, kind, words=None):
+def number_of(value: Value, kind: str, words: Mapping[str, int] | None = None) -> int | None:
     """The number of a value, or None where it has none that is known."""
     if value.kind == "number":
         return as_number(value.text)
@@ -32,14 +48,14 @@ def number_of(value, kind, words=None):
     return None
 
 
-def address_of(text):
+def address_of(text: str) -> IPv4Address:
     try:
         return IPv4Address(text)
     except ValueError:
         raise NotFitted(f"`{text}` is no address") from None
 
 
-def range_of(part, kind, words=None):
+def range_of(part: Part, kind: str, words: Mapping[str, int] | None = None) -> tuple[int, int] | None:
     """The least and the greatest number that a part stands for, or None."""
     width = width_of(kind)
     if isinstance(part, Anything):
@@ -57,7 +73,7 @@ def range_of(part, kind, words=None):
     return base & ~host, base | host
 
 
-def service(word):
+def service(word: str) -> int:
     known = SERVICES.get(word) or MORE_SERVICES.get(word)
     try:
         return known or socket.getservbyname(word)
@@ -65,7 +81,7 @@ def service(word):
         raise NotFitted(f"`{word}` is no service that is known here") from None
 
 
-def protocol(word):
+def protocol(word: str) -> int:
     known = PROTOCOLS.get(word) or MORE_PROTOCOLS.get(word)
     try:
         return known or socket.getprotobyname(word)
@@ -73,13 +89,13 @@ def protocol(word):
         raise NotFitted(f"`{word}` is no protocol that is known here") from None
 
 
-def spell_number(number, kind):
+def spell_number(number: int, kind: str) -> str:
     if kind == "ipv4_addr":
         return str(IPv4Address(number))
     return hex(number) if kind == "mark" else str(number)
 
 
-def spell_value(value, kind):
+def spell_value(value: Value, kind: str) -> str:
     if kind in NAMED:
         if value.kind == "number" and kind == "iface_index":
             return value.text
@@ -100,7 +116,7 @@ def spell_value(value, kind):
     raise NotFitted(f"`{value.text}` isn't a value of {kind}")
 
 
-def spell_name(text):
+def spell_name(text: str) -> str:
     """The name of an interface, quoted; `eth*` and `"eth"*` mean what `"eth*"` means."""
     name = text.replace('"', "")
     if not 0 < len(name.removesuffix("*")) <= 15 or "\\" in name or "\n" in name:
@@ -108,7 +124,7 @@ def spell_name(text):
     return f'"{name}"'
 
 
-def spell_part(part, kind):
+def spell_part(part: Part, kind: str) -> str:
     if isinstance(part, One):
         return spell_value(part.value, kind)
     if isinstance(part, Range):
@@ -123,22 +139,22 @@ def spell_part(part, kind):
     return f"{spell_number(found[0], kind)}-{spell_number(found[1], kind)}"
 
 
-def name_of(part):
+def name_of(part: Part) -> str | None:
     """The name of an interface without quotes, or None where the part is none."""
     return part.value.text.replace('"', "") if isinstance(part, One) else None
 
 
-def holds(number, operator, right, kind, words=None):
+def holds(
+    number: int, operator: str, right: Expression, kind: str, words: Mapping[str, int] | None = None
+) -> bool | None:
     """Whether `number OPERATOR right` holds; None where `right` isn't known. Words None: those of the type."""
     if isinstance(right, Elements):
-        found = [range_of(it.key[0], kind, words) for it in right.list]
-        if None in found:
-            return None
-        return any(low <= number <= high for low, high in found) == (operator not in ("!=", "!"))
+        return is_element(number, operator, right, kind, words)
     if isinstance(right, Calculation):
         right = constant(right)
     if isinstance(right, Listed):
-        return holds(number, operator, Elements([Element((it,), None, ()) for it in right.items]), kind, words)
+        listed = Elements(tuple(Element((as_part(it),), None, ()) for it in right.items))
+        return is_element(number, operator, listed, kind, words)
     if not isinstance(right, (One, Range, Prefix, Anything)):
         return None
     found = range_of(right, kind, words)
@@ -151,7 +167,20 @@ def holds(number, operator, right, kind, words=None):
     return (low <= number <= high) == (operator not in ("!=", "!"))
 
 
-def calculated(operator, left, right):
+def is_element(
+    number: int, operator: str, elements: Elements, kind: str, words: Mapping[str, int] | None
+) -> bool | None:
+    """Whether the number is in a list, or isn't; None where what is listed isn't known."""
+    found = []
+    for it in elements.items:
+        ends = range_of(it.key[0], kind, words)
+        if ends is None:
+            return None
+        found.append(ends)
+    return any(low <= number <= high for low, high in found) == (operator not in ("!=", "!"))
+
+
+def calculated(operator: str, left: int, right: int) -> int:
     results = {
         "&": left & right,
         "|": left | right,
@@ -162,7 +191,7 @@ def calculated(operator, left, right):
     return results[operator] & 0xFFFFFFFF
 
 
-def constant(it, words=TCP_FLAGS):
+def constant(it: Expression, words: Mapping[str, int] = TCP_FLAGS) -> One:
     """The number that constants joined by | ^ & make, as a part; flags of TCP by name or number."""
     if isinstance(it, Calculation):
         return number_part(calculated(it.operator, constant_number(it.left, words), constant_number(it.right, words)))
@@ -178,15 +207,15 @@ def constant(it, words=TCP_FLAGS):
     raise NotFitted("a constant that isn't known")
 
 
-def constant_number(it, words=TCP_FLAGS):
+def constant_number(it: Expression, words: Mapping[str, int] = TCP_FLAGS) -> int:
     return as_number(constant(it, words).value.text)
 
 
-def number_part(number):
+def number_part(number: int) -> One:
     return One(Value("number", hex(number)))
 
 
-def bits_named(number, words):
+def bits_named(number: int, words: Mapping[str, int]) -> list[str]:
     """`fin | syn` for a number made of named bits, else the number."""
     names = [name for name, bit in words.items() if number & bit == bit]
     if not names or sum(words[name] for name in names) != number:

@@ -2,13 +2,24 @@
 
 What is recognised here isn't refused with E01 to E06; what the check refuses (N01 to N15) it alone judges.
 """
+from __future__ import annotations
+
 import re
-from collections import namedtuple
+from dataclasses import dataclass
 
 from .facts import CHAIN_HOOKS, PRIORITIES, TYPES, WORDS
 
 SIZE = 1 << 20
-Piece = namedtuple("Piece", "kind text")
+
+
+@dataclass(frozen=True)
+class Piece:
+    """A token; `kind` is the name of its group in CUT."""
+
+    kind: str
+    text: str
+
+
 CUT = re.compile(
     r"""(?P<blank>[ \t\r]+|\\\n|\#[^\n]*)
       | (?P<newline>\n)
@@ -55,7 +66,7 @@ class NotTaken(Exception):
     """The language of nftrun hasn't got it."""
 
 
-def cut(text):
+def cut(text: str) -> list[Piece]:
     """The tokens, or NotTaken where nftrun knows none (E01 to E04)."""
     pieces, at = [], 0
     if len(text.encode("utf-8", "surrogateescape")) > SIZE:
@@ -65,12 +76,12 @@ def cut(text):
         if not found or not is_sound(found):
             raise NotTaken
         if found.lastgroup != "blank":
-            pieces.append(Piece(found.lastgroup, found[0]))
+            pieces.append(Piece(found.lastgroup or "", found[0]))
         at = found.end()
     return pieces
 
 
-def is_sound(found):
+def is_sound(found: re.Match[str]) -> bool:
     """Numbers below 2^64 without leading zeros, addresses of four such numbers to 255."""
     text = found[0]
     if found.lastgroup == "address":
@@ -89,53 +100,53 @@ def is_sound(found):
 class Recognizer:
     """Each method reads one production from `at` on, or raises NotTaken."""
 
-    def __init__(self, text):
+    def __init__(self, text: str) -> None:
         self.pieces, self.at = cut(text), 0
 
-    def peek(self, ahead=0):
+    def peek(self, ahead: int = 0) -> Piece:
         index = self.at + ahead
         return self.pieces[index] if index < len(self.pieces) else Piece("end", "")
 
-    def has(self, *texts, ahead=0):
+    def has(self, *texts: str, ahead: int = 0) -> bool:
         piece = self.peek(ahead)
         return piece.kind in ("word", "mark") and piece.text in texts
 
-    def skip(self, *texts):
+    def skip(self, *texts: str) -> bool:
         if self.has(*texts):
             self.at += 1
             return True
         return False
 
-    def want(self, *texts):
+    def want(self, *texts: str) -> None:
         if not self.skip(*texts):
             raise NotTaken
 
-    def kind(self, *kinds):
+    def kind(self, *kinds: str) -> str:
         piece = self.peek()
         if piece.kind not in kinds:
             raise NotTaken
         self.at += 1
         return piece.text
 
-    def is_end(self):
+    def is_end(self) -> bool:
         return self.peek().kind == "newline" or self.has(";")
 
-    def ends(self):
+    def ends(self) -> None:
         while self.is_end():
             self.at += 1
 
-    def some_ends(self):
+    def some_ends(self) -> None:
         if not self.is_end():
             raise NotTaken
         self.ends()
 
-    def newlines(self):
+    def newlines(self) -> None:
         while self.peek().kind == "newline":
             self.at += 1
 
     # tables and what is in them
 
-    def ruleset(self):
+    def ruleset(self) -> None:
         self.ends()
         if self.skip("flush"):
             self.want("ruleset")
@@ -152,11 +163,11 @@ class Recognizer:
             self.ends()
         self.done()
 
-    def done(self):
+    def done(self) -> None:
         if self.peek().kind != "end":
             raise NotTaken
 
-    def item(self):
+    def item(self) -> None:
         if self.skip("comment"):
             self.kind("string")
         elif self.skip("chain"):
@@ -166,7 +177,7 @@ class Recognizer:
         else:
             raise NotTaken
 
-    def chain(self):
+    def chain(self) -> None:
         self.kind("word")
         self.want("{")
         self.ends()
@@ -179,12 +190,12 @@ class Recognizer:
             if not self.has("}"):
                 self.some_ends()
 
-    def notes(self):
+    def notes(self) -> None:
         while self.skip("comment"):
             self.kind("string")
             self.some_ends()
 
-    def head(self):
+    def head(self) -> None:
         self.want("type")
         self.want("filter", "nat")
         self.want("hook")
@@ -201,11 +212,11 @@ class Recognizer:
             self.want("accept", "drop")
             self.some_ends()
 
-    def set(self, is_map):
+    def set(self, is_map: bool) -> None:
         self.kind("word")
         self.want("{")
         self.ends()
-        seen = set()
+        seen: set[str] = set()
         while not self.skip("}"):
             name = self.field(is_map)
             if name in seen or name in ("type", "typeof") and seen & {"type", "typeof"}:
@@ -216,7 +227,7 @@ class Recognizer:
         if not seen & {"type", "typeof"}:
             raise NotTaken
 
-    def field(self, is_map):
+    def field(self, is_map: bool) -> str:
         name = self.kind("word")
         if name == "type":
             self.types(is_map)
@@ -243,7 +254,7 @@ class Recognizer:
             raise NotTaken
         return name
 
-    def types(self, is_map):
+    def types(self, is_map: bool) -> None:
         self.want(*WORDS)
         while not is_map and self.skip("."):
             self.want(*WORDS)
@@ -251,7 +262,7 @@ class Recognizer:
             self.want(":")
             self.want("verdict", *WORDS)
 
-    def elements(self, is_map):
+    def elements(self, is_map: bool) -> None:
         self.want("{")
         self.newlines()
         while True:
@@ -264,7 +275,7 @@ class Recognizer:
                 break
         self.want("}")
 
-    def element(self, is_map):
+    def element(self, is_map: bool) -> None:
         self.any_value()
         self.newlines()
         if not is_map and self.has("."):
@@ -289,12 +300,12 @@ class Recognizer:
             if not self.verdict():
                 self.any_value()
 
-    def any_value(self):
+    def any_value(self) -> str:
         return self.kind("number", "address", "word", "string")
 
     # rules
 
-    def rule(self):
+    def rule(self) -> None:
         self.statement()
         while not (self.is_end() or self.has("}") or self.peek().kind == "end"):
             if self.skip("comment"):
@@ -302,7 +313,7 @@ class Recognizer:
                 return
             self.statement()
 
-    def statement(self):
+    def statement(self) -> None:
         if self.skip("counter"):
             if self.skip("packets"):
                 self.kind("number")
@@ -319,13 +330,13 @@ class Recognizer:
         elif not (self.verdict() or self.translation()):
             self.match()
 
-    def verdict(self):
+    def verdict(self) -> bool | None:
         if self.skip("jump", "goto"):
             self.kind("word")
             return True
         return self.skip("accept", "drop", "continue", "return")
 
-    def operand(self):
+    def operand(self) -> None:
         if self.peek().kind == "number":
             self.at += 1
         elif self.has("meta", "ct") and self.has("mark", ahead=1) and not self.has("map", ahead=2):
@@ -333,18 +344,18 @@ class Recognizer:
         else:
             self.lookup()
 
-    def lookup(self):
+    def lookup(self) -> None:
         self.selector()
         self.want("map")
         self.named_or_list(True)
 
-    def named_or_list(self, is_map):
+    def named_or_list(self, is_map: bool) -> None:
         if self.skip("@"):
             self.kind("word")
         else:
             self.elements(is_map)
 
-    def translation(self):
+    def translation(self) -> bool | None:
         if self.has("snat", "dnat"):
             is_source = self.kind("word") == "snat"
             if self.has("ip") and self.has("to", ahead=1):
@@ -365,12 +376,12 @@ class Recognizer:
             return False
         return True
 
-    def ports(self, may_be_range):
+    def ports(self, may_be_range: bool) -> None:
         self.kind("number")
         if may_be_range and self.skip("-"):
             self.kind("number")
 
-    def selector(self):
+    def selector(self) -> str:
         if self.skip("iifname", "oifname", "iif", "oif"):
             return "meta " + self.peek(-1).text
         name = f"{self.peek().text} {self.peek(1).text}"
@@ -379,7 +390,7 @@ class Recognizer:
         self.at += 2
         return name
 
-    def match(self):
+    def match(self) -> None:
         name = self.selector()
         if self.has("vmap") and not self.is_value_of(name):
             self.at += 1
@@ -399,11 +410,11 @@ class Recognizer:
             self.skip(*OPERATORS)
             self.one(name)
 
-    def is_value_of(self, name):
+    def is_value_of(self, name: str) -> bool:
         """`iifname vmap accept` asks for the interface `vmap`."""
         return TYPES[name] in ("ifname", "iface_index") and not self.has("@", "{", ahead=1)
 
-    def one(self, name):
+    def one(self, name: str) -> None:
         self.value_of(name)
         if self.skip("-"):
             self.value_of(name)
@@ -411,13 +422,13 @@ class Recognizer:
             self.at += 1
             self.kind("number")
 
-    def value_of(self, name):
+    def value_of(self, name: str) -> None:
         kind = TYPES[name]
         if self.kind("number", "address", "word", "string") and self.peek(-1).kind == "word":
             if kind not in ("ifname", "iface_index") and self.peek(-1).text not in WORDS.get(kind, {}):
                 raise NotTaken
 
-    def bits(self, name):
+    def bits(self, name: str) -> None:
         if name != "tcp flags":
             self.skip("==", "!=")
             self.want(*WORDS[TYPES[name]])
@@ -436,18 +447,18 @@ class Recognizer:
             elif is_not:
                 raise NotTaken
 
-    def flags(self):
+    def flags(self) -> None:
         self.flag()
         while self.skip(",", "|"):
             self.flag()
 
-    def flag(self):
+    def flag(self) -> None:
         if self.peek().kind != "number":
             self.want(*WORDS["tcp_flag"])
         else:
             self.at += 1
 
-    def group(self):
+    def group(self) -> None:
         if self.skip("("):
             self.flags()
             self.want(")")
@@ -455,7 +466,7 @@ class Recognizer:
             self.flags()
 
 
-def takes(text, production):
+def takes(text: str, production: str) -> bool:
     """Whether all of the text is of one production: `ruleset`, `rule`, `statement`, `chain`, `head` .."""
     try:
         recognizer = Recognizer(text)

@@ -1,5 +1,10 @@
 """One rule: it becomes one line, or several of which a packet meets one."""
-from .changes import Changes
+from __future__ import annotations
+
+from dataclasses import replace
+from typing import TYPE_CHECKING, List, Tuple
+
+from .draft import MOST_LINES, Draft
 from .effects import Effects
 from .facts import KNOWN, MARKS, NEVER_IN_IPV4, first_word
 from .joined import JoinedKeys
@@ -7,85 +12,117 @@ from .maps import Maps
 from .matches import Matches
 from .numbers import holds
 from .profile import takes
-from .scanner import place, shown, slice_of, spelled
+from .scanner import slice_of
 from .translation import Translations
-from .tree import Calculation, Joined, Missing, NotFitted, Piece, Selector, counters_in, selectors_in
+from .tree import (
+    Bound,
+    Calculation,
+    Chain,
+    ChangeOfSet,
+    Counter,
+    Expression,
+    Joined,
+    LeftOut,
+    Log,
+    Match,
+    Missing,
+    NotFitted,
+    ObjectUse,
+    Offload,
+    Piece,
+    Queue,
+    Reject,
+    Rule,
+    Selector,
+    Setting,
+    Statement,
+    Table,
+    Translation,
+    Untracked,
+    Verdict,
+    VerdictMap,
+    counters_in,
+    selectors_in,
+)
 from .writes import Writes
 
-ENDS = ("verdict", "vmap", "nat", "reject", "queue")  # statements after which a rule goes no further
-MOST_LINES = 512
+if TYPE_CHECKING:
+    from .fitter import Fitter
+
+ENDS = (Verdict, VerdictMap, Translation, Reject, Queue)  # statements after which a rule goes no further
 NO_PACKET = "no packet comes so far in the rule"
+Line = Tuple[str, Tuple[int, ...]]  # a fitted rule, and which counters of the old one it has
 
 
-class RuleFitter(Matches, JoinedKeys, Maps, Writes, Translations, Effects):
-    """`lines` are what the rule becomes so far, `before` those in front that do what is done once."""
+class RuleFitter:
+    """Fits one rule, statement by statement, each by the part that knows its kind."""
 
-    def __init__(self, fitter, table, chain, rule):
-        self.fitter, self.table, self.chain, self.rule = fitter, table, chain, rule
-        self.before, self.lines, self.is_dead = [], [[]], False
-        self.told, self.counters, self.statement, self.index = Changes(), rule.counters_before, None, 0
-        # what runs in chains of output alone meets no packet of a capture
-        self.never_runs = chain.hooks == {"output"}
+    def __init__(self, fitter: Fitter, table: Table, chain: Chain, rule: Rule) -> None:
+        self.fitter, self.rule = fitter, rule
+        self.draft = Draft(fitter, table, chain, rule)
+        self.matches = Matches(self.draft)
+        self.joined = JoinedKeys(self.draft, self.matches)
+        self.maps = Maps(self.draft, self.matches, self.joined)
+        self.writes = Writes(self.draft, self.matches, self.joined, self.maps)
+        self.translations = Translations(self.draft, self.matches, self.joined, self.maps, self.writes)
+        self.effects = Effects(self.draft, self.matches, self.maps)
 
-    def fitted(self):
-        """The lines as (text, which counters of the old rule they have)."""
+    def fitted(self) -> list[Line]:
+        """The lines of the rule in the fitted text."""
         try:
             if self.rule.fault:
                 raise NotFitted(self.rule.fault)
             self.fit()
         except (NotFitted, RecursionError) as fault:
-            if not isinstance(fault, Missing) and self.is_taken():
+            stands = slice_of(self.rule.tokens)
+            if not isinstance(fault, Missing) and stands is not None and self.is_taken(stands):
                 counters = range(1, counters_in(self.rule.tokens) + 1)
-                return [(slice_of(self.rule.tokens), tuple(self.rule.counters_before + it for it in counters))]
+                return [(stands, tuple(self.rule.counters_before + it for it in counters))]
             return self.not_fitted(str(fault) if isinstance(fault, NotFitted) else "expressions nested too deeply")
-        for it in self.told.list:
-            if self.never_runs and it.grade != "same":
-                it = it._replace(grade="same", why="nftrun runs no chain of output")
+        for it in self.draft.told.list:
+            if self.draft.never_runs and it.grade != "same":
+                it = replace(it, grade="same", why="nftrun runs no chain of output")
             self.fitter.changes.list.append(it)
-        self.fitter.changes.warnings += [it for it in self.told.warnings if it not in self.fitter.changes.warnings]
+        warnings = self.fitter.changes.warnings
+        warnings += [it for it in self.draft.told.warnings if it not in warnings]
         return self.texts()
 
-    def is_taken(self):
+    def is_taken(self, stands: str) -> bool:
         """Whether nftrun takes the rule as it stands, with the sets that it names."""
-        stands = slice_of(self.rule.tokens)
-        if stands is None or not takes(stands, "rule"):
+        if not takes(stands, "rule"):
             return False
         tokens = self.rule.tokens
         named = [after.text for before, after in zip(tokens, tokens[1:]) if before.text == "@"]
-        sets = [self.table.sets.get(name) for name in named]
+        sets = [self.draft.table.sets.get(name) for name in named]
         return all(it is not None and self.fitter.sets.is_plain(it) for it in sets)
 
-    def not_fitted(self, why):
-        text = self.rule.text
-        if self.never_runs:
-            self.fitter.changes.tell(self.rule.token, "same", text, self.never(), "nftrun runs no chain of output")
+    def not_fitted(self, why: str) -> list[Line]:
+        text, never = self.rule.text, self.draft.never()
+        if self.draft.never_runs:
+            self.fitter.changes.tell(self.rule.token, "same", text, never, "nftrun runs no chain of output")
         else:
             self.fitter.changes.refuse(self.rule.token, text, why)
-        return [(self.never(), ())]
+        return [(never, ())]
 
-    def texts(self):
+    def unchanged(self) -> str | None:
+        """The rule as it stands, where nothing of it changes."""
         stands = slice_of(self.rule.tokens)
-        if (
-            not self.told.list
-            and len(self.lines) == 1
-            and not self.before
-            and stands is not None
-            and takes(stands, "rule")
-        ):
-            return [(stands, tuple(it.counter for it in self.lines[0] if it.counter))]
-        lines = self.before + [line or [Piece(self.always())] for line in self.lines]
+        draft = self.draft
+        if draft.told.list or len(draft.lines) != 1 or draft.before or stands is None or not takes(stands, "rule"):
+            return None
+        return stands
+
+    def texts(self) -> list[Line]:
+        draft = self.draft
+        stands = self.unchanged()
+        if stands is not None:
+            return [(stands, tuple(it.counter for it in draft.lines[0] if it.counter))]
+        lines = draft.before + [line or [Piece(draft.always())] for line in draft.lines]
         self.start_once(lines)
         if len(lines) > MOST_LINES:
             return self.not_fitted(f"it becomes more than {MOST_LINES} rules")
         if len(lines) > 1:
-            why = (
-                "the first does what is done once, and a packet meets one of the others"
-                if self.before
-                else "a packet meets one of them"
-            )
-            self.fitter.changes.tell(
-                self.rule.token, "same", "the rule", f"{len(lines)} rules", why + "; their counters are to be added"
-            )
+            self.tell_of_lines(len(lines))
         comment = f" comment {self.rule.comment}" if self.rule.comment else ""
         texts = [" ".join(it.text for it in line if it.text) + comment for line in lines]
         for text in texts:
@@ -93,189 +130,144 @@ class RuleFitter(Matches, JoinedKeys, Maps, Writes, Translations, Effects):
                 return self.not_fitted(f"it would become `{text}`, which nftrun hasn't")
         return [(text, tuple(it.counter for it in line if it.counter)) for text, line in zip(texts, lines)]
 
+    def tell_of_lines(self, number: int) -> None:
+        why = "a packet meets one of them"
+        if self.draft.before:
+            why = "the first does what is done once, and a packet meets one of the others"
+        why += "; their counters are to be added"
+        self.fitter.changes.tell(self.rule.token, "same", "the rule", f"{number} rules", why)
+
     @staticmethod
-    def start_once(lines):
+    def start_once(lines: List[List[Piece]]) -> None:
         """Of the lines of one rule the first with a counter has its start."""
-        seen = set()
+        seen: set[int] = set()
         for line in lines:
             for index, it in enumerate(line):
                 if it.counter and it.counter in seen:
-                    line[index] = it._replace(text="counter")
+                    line[index] = replace(it, text="counter")
                 seen.add(it.counter)
 
     # statement by statement
 
-    def fit(self):
-        statements = self.rule.statements
+    def fit(self) -> None:
+        draft = self.draft
         if self.never_from_the_start():
             return
-        self.test_of_reject()
-        for self.index, it in enumerate(statements):
-            self.statement = it
-            if self.is_dead:
+        self.effects.test_of_reject()
+        for draft.index, it in enumerate(self.rule.statements):
+            draft.found = it
+            if draft.is_dead:
                 self.fit_dead(it)
                 continue
-            getattr(self, "fit_" + it.kind)(*it.parts)
-            if it.kind in ENDS and not self.is_last() and not self.goes_past(it):
-                self.is_dead = True
+            self.fit_statement(it)
+            if isinstance(it.what, ENDS) and not draft.is_last() and not self.goes_past(it):
+                draft.is_dead = True
 
-    def is_last(self):
-        return self.index + 1 == len(self.rule.statements)
-
-    def goes_past(self, it):
-        """Whether a packet may go on in the rule behind a verdict."""
-        return it.kind == "verdict" and it.parts[0].word == "continue" or it.kind == "vmap" and self.has_continue
-
-    def fit_dead(self, it):
-        """What no packet reaches isn't needed; a counter is kept, to be found in the report."""
-        if it.kind == "counter" and self.lines and not any(piece.kind == "end" for piece in self.lines[0]):
-            self.fit_counter(*it.parts)
+    def fit_statement(self, it: Statement) -> None:
+        """Fits the statement at hand by its kind."""
+        what = it.what
+        if isinstance(what, Match):
+            self.fit_match(what)
+        elif isinstance(what, VerdictMap):
+            self.maps.fit_vmap(what.left, what.map)
+        elif isinstance(what, Verdict):
+            self.effects.fit_verdict(what)
+        elif isinstance(what, Translation):
+            self.translations.fit_nat(what)
+        elif isinstance(what, Setting):
+            self.writes.fit_set(what.left, what.operand)
+        elif isinstance(what, ChangeOfSet):
+            self.effects.fit_dynamic(what)
+        elif isinstance(what, Bound):
+            self.effects.fit_bound(what)
         else:
-            self.tell("same", "left out", NO_PACKET)
+            self.fit_effect(what)
 
-    def never_from_the_start(self):
+    def fit_match(self, what: Match) -> None:
+        if isinstance(what.left, Joined):
+            self.joined.match_joined(what.left, what.operator, what.right)
+        else:
+            self.matches.fit_match(what.left, what.operator, what.right)
+
+    def fit_effect(self, what: Counter | ObjectUse | Log | Reject | Queue | Untracked | Offload | LeftOut) -> None:
+        """What counts, tells, or ends a rule."""
+        effects = self.effects
+        if isinstance(what, Counter):
+            effects.fit_counter(what)
+        elif isinstance(what, ObjectUse):
+            effects.fit_object(what.what, what.named)
+        elif isinstance(what, Log):
+            effects.fit_log(what)
+        elif isinstance(what, LeftOut):
+            effects.fit_left_out(what)
+        elif isinstance(what, Reject):
+            effects.fit_reject()
+        elif isinstance(what, Queue):
+            effects.fit_queue()
+        elif isinstance(what, Offload):
+            effects.fit_offload()
+        else:
+            effects.fit_notrack()
+
+    def goes_past(self, it: Statement) -> bool:
+        """Whether a packet may go on in the rule behind a verdict."""
+        if isinstance(it.what, Verdict):
+            return it.what.word == "continue"
+        return isinstance(it.what, VerdictMap) and self.maps.has_continue
+
+    def fit_dead(self, it: Statement) -> None:
+        """What no packet reaches isn't needed; a counter is kept, to be found in the report."""
+        lines = self.draft.lines
+        if isinstance(it.what, Counter) and lines and not any(piece.kind == "end" for piece in lines[0]):
+            self.effects.fit_counter(it.what)
+        else:
+            self.draft.tell("same", "left out", NO_PACKET)
+
+    def never_from_the_start(self) -> bool:
         """A rule whose leading matches have one that no packet passes: nothing of it is met."""
-        found = next((it for it in self.leading_matches() if self.is_never(it)), None)
-        if found is None:
+        draft = self.draft
+        if not any(self.is_never(it) for it in draft.leading_matches()):
             return False
         stands = slice_of(self.rule.tokens)
         if stands is not None and takes(stands, "rule"):
-            self.lines = [[Piece(stands)]]  # it is told by nothing: `texts` takes it as it stands
+            draft.lines = [[Piece(stands)]]  # it is told by nothing: `texts` takes it as it stands
             self.count_counters()
             return True
-        self.put(self.never())
+        draft.put(draft.never())
         for it in self.rule.statements:
-            self.statement = it
-            if it.kind == "counter":
-                self.fit_counter(*it.parts)
-            elif it.kind == "object" and it.parts[0] == "counter" and isinstance(it.parts[1], str):
-                self.count("counter")
-            elif it.kind == "verdict":
-                self.fit_verdict(*it.parts)
+            draft.found = it
+            if isinstance(it.what, Counter):
+                self.effects.fit_counter(it.what)
+            elif isinstance(it.what, ObjectUse) and it.what.what == "counter" and isinstance(it.what.named, str):
+                self.effects.count("counter")
+            elif isinstance(it.what, Verdict):
+                self.effects.fit_verdict(it.what)
                 break
-        self.told.tell(
-            self.rule.token,
-            "same",
-            self.rule.text,
-            " ".join(it.text for it in self.lines[0]),
-            "no IPv4 packet meets it",
-        )
+        to = " ".join(it.text for it in draft.lines[0])
+        draft.told.tell(self.rule.token, "same", self.rule.text, to, "no IPv4 packet meets it")
         return True
 
-    def count_counters(self):
-        number = sum(it.kind == "counter" for it in self.rule.statements)
-        self.lines[0] += [Piece("", "effect", (), it) for it in range(self.counters + 1, self.counters + number + 1)]
+    def count_counters(self) -> None:
+        number = sum(isinstance(it.what, Counter) for it in self.rule.statements)
+        first = self.draft.counters + 1
+        self.draft.lines[0] += [Piece("", "effect", (), it) for it in range(first, first + number)]
 
-    def leading_matches(self):
-        """The matches before all else, and a vmap right behind them."""
-        for it in self.rule.statements:
-            if it.kind in ("match", "vmap"):
-                yield it
-            if it.kind != "match":
-                return
-
-    def is_never(self, it):
-        left = it.parts[0]
-        if any(first_word(one.name) in NEVER_IN_IPV4 for one in selectors_in(left)):
+    def is_never(self, it: Match | VerdictMap) -> bool:
+        """Whether no IPv4 packet passes a match."""
+        if any(first_word(one.name) in NEVER_IN_IPV4 for one in selectors_in(it.left)):
             return True
-        if it.kind != "match" or not isinstance(left, Selector):
+        if not isinstance(it, Match) or not isinstance(it.left, Selector):
             return False
-        if left.name == "meta nfproto":
-            return holds(2, it.parts[1], it.parts[2], "nf_proto") is False
-        fact = KNOWN.get(left.name)
+        if it.left.name == "meta nfproto":
+            return holds(2, it.operator, it.right, "nf_proto") is False
+        fact = KNOWN.get(it.left.name)
         if fact is None or fact.assumption or fact.needs:
             return False
-        return holds(fact.value, it.parts[1], it.parts[2], "32", fact.words) is False
-
-    # pieces
-
-    def put(self, text, kind="match", reads=(), counter=0):
-        self.lines = [line + [Piece(text, kind, tuple(reads), counter)] for line in self.lines]
-
-    def statement_text(self):
-        return slice_of(self.statement.tokens) or spelled(self.statement.tokens)
-
-    def put_spelled(self, text, reads=(), kind="match", plain=True, reading=""):
-        """Puts a statement that nftrun has: as it stands where nftrun takes that, else as `text`. `plain` is whether
-        its values are those that nftrun knows; `reading` tells why nftrun would read it otherwise."""
-        stands = self.statement_text()
-        is_taken = takes(stands, "statement")
-        if reading:
-            self.tell("same", text, reading, reads=is_taken and plain)
-        elif is_taken and plain:
-            text = stands
-        else:
-            self.tell("same", text, "spelled anew")
-        self.put(text, kind, reads)
-
-    def never(self):
-        """A match that holds for no packet, and that nft(8) takes too."""
-        return "meta nfproto ipv6" if self.table.family == "inet" else "ip length 0"
-
-    def always(self):
-        return "meta nfproto ipv4" if self.table.family == "inet" else "ip length != 0"
-
-    def die(self):
-        """The rest of the rule is met by no packet."""
-        self.put(self.never())
-        self.is_dead = True
-
-    def split(self, ways, reads=()):
-        """One line for each way. The ways exclude each other, by what `reads` names."""
-        if not ways:
-            self.die()
-            return
-        if len(ways) > 1:
-            if any(self.fitter.marks.may_change(name) for name in MARKS if name in reads) and self.goes_on():
-                raise NotFitted(
-                    "a choice by a mark, behind which a packet meets the next rule, maybe with another mark"
-                )
-            self.do_once()
-        self.lines = [line + list(way) for line in self.lines for way in ways]
-        if len(self.lines) > MOST_LINES:
-            raise NotFitted(f"it becomes more than {MOST_LINES} rules")
-
-    def do_once(self):
-        """What was done before a split is done in a line of its own, in front."""
-        for line in self.lines:
-            if any(piece.kind == "mark" for piece in line):
-                raise NotFitted("a choice behind a mark that is set")
-            if any(piece.kind == "effect" for piece in line):
-                self.before.append(line)
-        self.lines = [[piece for piece in line if piece.kind == "match"] for line in self.lines]
-
-    def goes_on(self):
-        """Whether a packet that passed the rule may meet the next one."""
-        last = self.rule.statements[-1]
-        if last.kind in ("nat", "reject", "queue"):
-            return False
-        if last.kind == "vmap":
-            return any(
-                it.data.word in ("jump", "continue") for it in self.fitter.sets.elements_of(self.table, last.parts[1])
-            )
-        return last.kind != "verdict" or last.parts[0].word in ("jump", "continue")
-
-    # what is told
-
-    def tell(self, grade, to, why, what=None, reads=False):
-        self.told.tell(self.rule.token, grade, what or self.statement_line(), to, why, reads)
-
-    def statement_line(self):
-        return shown(self.statement.tokens)
-
-    def way(self, name, what=None):
-        """How a guess is decided."""
-        way = self.fitter.assumptions.way(name, place(self.rule.token), what or self.statement_line())
-        if way == "refuse":
-            raise NotFitted(f"as asked: {name}=refuse")
-        return way
-
-    def guess(self, name, way, to, what=None, why=None):
-        why = why or self.fitter.assumptions.why(name, way)
-        self.tell("guess", to, why, what)
+        return holds(fact.value, it.operator, it.right, "32", fact.words) is False
 
 
-def marks_read(it):
+def marks_read(it: Expression) -> bool:
+    """Whether an expression reads a mark."""
     if isinstance(it, Selector):
         return it.name in MARKS
     if isinstance(it, Joined):

@@ -1,12 +1,32 @@
 """The tokens of nft(8), with their places."""
-import re
-from collections import namedtuple
-from ipaddress import IPv6Address
+from __future__ import annotations
 
-# a file, or what stands for one
-Source = namedtuple("Source", "name text")
-# `start` and `end` are places in the text of `source`
-Token = namedtuple("Token", "kind text source line start end")
+import re
+from dataclasses import dataclass, replace
+from ipaddress import IPv6Address
+from typing import Sequence
+
+
+@dataclass(frozen=True)
+class Source:
+    """A file, or what stands for one."""
+
+    name: str
+    text: str
+
+
+@dataclass(frozen=True)
+class Token:
+    """`start` and `end` are places in the text of `source`; negative where it doesn't stand there."""
+
+    kind: str
+    text: str
+    source: Source
+    line: int
+    start: int
+    end: int
+
+
 NOWHERE = Source("", "")
 END = Token("end", "", NOWHERE, 0, 0, 0)
 
@@ -34,15 +54,15 @@ class Refused(Exception):
     """A ruleset that can't be used; the text is one line and says why and where."""
 
 
-def place(token):
+def place(token: Token) -> str:
     return f"{token.source.name}:{token.line}"
 
 
-def refuse(token, why):
+def refuse(token: Token, why: str) -> Refused:
     return Refused(f"{place(token)}: {why}" if token.source.name else why)
 
 
-def is_six(text):
+def is_six(text: str) -> bool:
     try:
         IPv6Address(text)
         return True
@@ -50,7 +70,7 @@ def is_six(text):
         return False
 
 
-def scan(source):
+def scan(source: Source) -> list[Token]:
     """All tokens of a text but blanks; Refused where nft(8) knows none."""
     tokens, at, line, text = [], 0, 1, source.text
     while at < len(text):
@@ -61,13 +81,13 @@ def scan(source):
             shown = text[at : at + 20].split("\n")[0]
             raise Refused(f"{source.name}:{line}: {shown!r} begins nothing that nft(8) knows")
         if found.lastgroup != "blank":
-            tokens.append(Token(found.lastgroup, found[0], source, line, at, found.end()))
+            tokens.append(Token(found.lastgroup or "", found[0], source, line, at, found.end()))
         line += found[0].count("\n")
         at = found.end()
     return tokens
 
 
-def spelled(tokens):
+def spelled(tokens: Sequence[Token]) -> str:
     """Tokens as text on one line, with blanks where they are usual."""
     text = ""
     for token in tokens:
@@ -78,21 +98,21 @@ def spelled(tokens):
     return text
 
 
-def is_tight(text, mark):
+def is_tight(text: str, mark: str) -> bool:
     """Ranges, prefixes and ports are written without blanks: `80-90`, `10.0.0.0/8`, `to :80`."""
     if mark in ("-", "/"):
         return not text.endswith(("priority", "filter", "srcnat", "dstnat", "raw", "mangle", "security"))
     return text[-1] in "-/" or text.endswith(" to :")
 
 
-def slice_of(tokens):
+def slice_of(tokens: Sequence[Token]) -> str | None:
     """The text of the tokens just as it stands in its file, or None where it isn't all from there."""
     if not tokens or any(it.start < 0 or it.source is not tokens[0].source for it in tokens):
         return None
     return tokens[0].source.text[tokens[0].start : tokens[-1].end]
 
 
-def shown(tokens):
+def shown(tokens: Sequence[Token]) -> str:
     """Tokens on one line, as they stand in their file where that is possible."""
     text = slice_of(tokens)
     if text is None or "#" in text or "\\" in text:
@@ -100,6 +120,6 @@ def shown(tokens):
     return " ".join(text.split())
 
 
-def moved(token, to):
+def moved(token: Token, to: Token) -> Token:
     """The token of a definition, as if it stood where the definition is used."""
-    return token._replace(source=to.source, line=to.line, start=-1, end=-1)
+    return replace(token, source=to.source, line=to.line, start=-1, end=-1)

@@ -1,36 +1,60 @@
 """Named sets and maps: which of them nftrun has, and their text."""
+from __future__ import annotations
+
 import re
+from typing import TYPE_CHECKING, Sequence
 
 from .expressions import ExpressionReader
 from .facts import LONGEST_KEY, TYPES, WIDTHS, WORDS
 from .numbers import name_of, spell_part, width_of
 from .profile import takes
 from .scanner import spelled
-from .tree import Anything, Elements, Joined, Named, NotFitted, One, Verdict
+from .tree import (
+    Anything,
+    Element,
+    Elements,
+    Joined,
+    Mapping,
+    Named,
+    NotFitted,
+    One,
+    Part,
+    Set,
+    Table,
+    Value,
+    Verdict,
+    inner_parts,
+)
+
+if TYPE_CHECKING:
+    from .fitter import Fitter
+    from .scanner import Token
 
 ENDING = {"timeout", "expires"}
 OWN_FLAGS = ("constant", "interval")
 
 
 class Sets:
-    def __init__(self, fitter):
+    """What is known of the sets and maps of all tables."""
+
+    def __init__(self, fitter: Fitter) -> None:
         self.fitter = fitter
 
-    def elements_of(self, table, mapping):
+    def elements_of(self, table: Table, mapping: Mapping) -> list[Element]:
         if isinstance(mapping, Elements):
-            return mapping.list
+            return list(mapping.items)
         found = table.sets.get(mapping.name) if isinstance(mapping, Named) else None
         return found.elements if found else []
 
     # types
 
-    def key_types(self, found):
+    def key_types(self, found: Set) -> list[str]:
         """The types of the key's parts; `?` for one that nftrun hasn't."""
         if found.typeof is None:
             return list(found.types)
         return selector_types(found.typeof[: colon(found.typeof)])
 
-    def data_types(self, found):
+    def data_types(self, found: Set) -> list[str] | None:
         if found.typeof is None:
             return found.data
         at = colon(found.typeof)
@@ -39,10 +63,10 @@ class Sets:
             return None
         return ["verdict"] if rest[0].text == "verdict" else selector_types(rest)
 
-    def is_foreign(self, found):
+    def is_foreign(self, found: Set) -> bool:
         return any(it not in WIDTHS and not it.isdigit() for it in self.key_types(found))
 
-    def is_plain(self, found):
+    def is_plain(self, found: Set) -> bool:
         """Whether nftrun has such a set."""
         types, data = self.key_types(found), self.data_types(found)
         if not types or any(it not in WIDTHS and not it.isdigit() for it in types):
@@ -56,17 +80,17 @@ class Sets:
         return not found.is_map or self.is_plain_map(found, types, data)
 
     @staticmethod
-    def is_plain_map(found, types, data):
+    def is_plain_map(found: Set, types: Sequence[str], data: Sequence[str] | None) -> bool:
         if len(types) > 1 or not data or len(data) > 1 or data[0] not in (*WIDTHS, "verdict"):
             return False
         if any(isinstance(it.data, Verdict) != (data[0] == "verdict") for it in found.elements):
             return False
         return not any(
-            isinstance(it.key[0], Anything) or not isinstance(it.data, Verdict) and not isinstance(it.data[0], One)
+            isinstance(it.key[0], Anything) or isinstance(it.data, tuple) and not isinstance(it.data[0], One)
             for it in found.elements
         )
 
-    def by_name(self, found):
+    def by_name(self, found: Set) -> bool:
         """Whether a set of interfaces holds names that the box hasn't, so that it becomes one of names."""
         if self.key_types(found) != ["iface_index"]:
             return False
@@ -77,21 +101,21 @@ class Sets:
             raise NotFitted(f"names and numbers of interfaces in the set {found.name}; --box BOX tells the names")
         return True
 
-    def is_index(self, name):
+    def is_index(self, name: str | None) -> bool:
         """Whether `iif NAME` can stay: it asks for an interface of the box."""
         network = self.fitter.network
         return name is not None and (is_number(name) or network is not None and name in network.names())
 
     # text
 
-    def lines(self, table, found):
+    def lines(self, table: Table, found: Set) -> list[str]:
         try:
             return self.lines_of(table, found)
         except NotFitted as fault:
             self.fitter.changes.refuse(found.token, f"{found.word} {found.name}", str(fault))
             return []
 
-    def lines_of(self, table, found):
+    def lines_of(self, table: Table, found: Set) -> list[str]:
         changes = self.fitter.changes
         if found.fault is not None and (found.slices is None or not self.is_taken(found)):
             changes.refuse(found.fault[0], f"elements of {found.name}", found.fault[1])
@@ -115,26 +139,26 @@ class Sets:
                 "names compare alike, and ask for no interface of the box",
             )
         stands = found.slices is not None and not by_name and self.stands(found)
-        body = found.slices if stands else self.anew(found, "ifname" if by_name else None)
+        body = found.slices if stands and found.slices is not None else self.anew(found, "ifname" if by_name else None)
         return [f"\t{found.word} {found.name} {{", *("\t\t" + it for it in body), "\t}", ""]
 
-    def stands(self, found):
+    def stands(self, found: Set) -> bool:
         """Whether nftrun takes the fields of the set as they are."""
         return self.is_taken(found) and self.has_known_words(found)
 
     @staticmethod
-    def is_taken(found):
-        text = f"{found.word} x {{\n" + "\n".join(found.slices) + "\n}"
+    def is_taken(found: Set) -> bool:
+        text = f"{found.word} x {{\n" + "\n".join(found.slices or []) + "\n}"
         return takes(f"table x {{\n{text}\n}}", "ruleset")
 
-    def has_known_words(self, found):
+    def has_known_words(self, found: Set) -> bool:
         types, data = self.key_types(found), self.data_types(found)
         keys = all(parts_are_plain(it.key, types) for it in found.elements)
         return keys and all(
-            isinstance(it.data, Verdict) or it.data is None or parts_are_plain(it.data, data) for it in found.elements
+            not isinstance(it.data, tuple) or parts_are_plain(it.data, data or ()) for it in found.elements
         )
 
-    def tell_of_time(self, table, found):
+    def tell_of_time(self, table: Table, found: Set) -> None:
         changes, foreign = self.fitter.changes, [it for it in found.flags if it not in OWN_FLAGS]
         if any(set(it.extras) & ENDING for it in found.elements) or found.timeout and found.elements:
             self.fitter.guess(found.token, f"timeouts of {found.name}", "none", "timeout")
@@ -147,7 +171,7 @@ class Sets:
                 "no rule adds to it, and no element runs out",
             )
 
-    def kept(self, found):
+    def kept(self, found: Set) -> list[Element]:
         """The elements, but for those that are assumed to have run out."""
         if (
             self.fitter.assumptions.chosen_way(
@@ -158,69 +182,75 @@ class Sets:
             return found.elements
         return [it for it in found.elements if not (set(it.extras) & ENDING or found.timeout)]
 
-    def anew(self, found, other_type):
+    def anew(self, found: Set, other_type: str | None) -> list[str]:
         types = [other_type] if other_type else self.key_types(found)
         data = self.data_types(found)
         if found.typeof is not None and not other_type:
             lines = ["typeof " + spelled(found.typeof)]
         else:
-            lines = ["type " + " . ".join(types) + (f" : {data[0]}" if found.is_map else "")]
+            lines = ["type " + " . ".join(types) + (f" : {data[0]}" if found.is_map and data else "")]
         flags = [it for it in found.flags if it in OWN_FLAGS]
         lines += [f"flags {', '.join(flags)}"] if flags else []
         lines += [f"size {found.size}"] if found.size is not None else []
         lines += ["auto-merge"] if found.merges else []
         lines += [f"comment {found.comment}"] if found.comment else []
-        elements, kept = [], self.kept(found)
+        kept = self.kept(found)
         if len(types) == 1 and not found.is_map:  # `*` has all others
             kept = [it for it in kept if isinstance(it.key[0], Anything)] or kept
-        for it in kept:
-            try:
-                text = " . ".join(spell_part(part, kind) for part, kind in zip(it.key, types, strict=True))
-            except ValueError:
-                raise NotFitted("keys of another number of parts") from None
-            if found.is_map:
-                text += " : " + (verdict_text(it.data) if data == ["verdict"] else spell_part(it.data[0], data[0]))
-            elements.append(text)
+        elements = [element_text(it, types, data if found.is_map else None) for it in kept]
         if elements:
             lines.append("elements = { " + ",\n\t\t\t     ".join(elements) + " }")
         return lines
 
 
-def is_number(text):
+def element_text(it: Element, types: Sequence[str], data: Sequence[str] | None) -> str:
+    """An element of a set, or of a map whose `data` has these types."""
+    if len(it.key) != len(types):
+        raise NotFitted("keys of another number of parts")
+    text = " . ".join(spell_part(part, kind) for part, kind in zip(it.key, types))
+    if data is None:
+        return text
+    if list(data) == ["verdict"]:
+        return f"{text} : {verdict_text(it.verdict)}"
+    return f"{text} : {spell_part(it.values[0], data[0])}"
+
+
+def is_number(text: str) -> bool:
     return re.fullmatch("0x[0-9A-Fa-f]+|[0-9]+", text) is not None
 
 
-def verdict_text(verdict):
+def verdict_text(verdict: Verdict) -> str:
     return verdict.word if verdict.target is None else f"{verdict.word} {verdict.target}"
 
 
-def colon(tokens):
+def colon(tokens: list[Token]) -> int:
     """Where the `:` of a map's type stands, or the end."""
     return next((index for index, it in enumerate(tokens) if it.text == ":"), len(tokens))
 
 
-def selector_types(tokens):
+def selector_types(tokens: list[Token]) -> list[str]:
     operand = ExpressionReader(list(tokens)).operand()
     parts = operand.parts if isinstance(operand, Joined) else [operand]
     return [TYPES.get(getattr(it, "name", ""), "?") for it in parts]
 
 
-def parts_are_plain(parts, kinds):
+def parts_are_plain(parts: Sequence[Part], kinds: Sequence[str]) -> bool:
     """Whether nftrun takes the parts as they are spelled in a list: with words of their types, and nothing else."""
     for part, kind in zip(parts, kinds):
         if isinstance(part, Anything):
             return False
-        for value in part:
-            if getattr(value, "kind", "number") in ("wild", "six", "mac", "time"):
-                return False
-            if (
-                getattr(value, "kind", "") == "word"
-                and kind not in ("ifname", "iface_index")
-                and value.text not in WORDS.get(kind, {})
-            ):
-                return False
-            if getattr(value, "kind", "") == "string" and (
-                kind not in ("ifname", "iface_index") or value.text.endswith("*")
-            ):
-                return False
+        if not all(is_plain_value(value, kind) for value in inner_parts(part)):
+            return False
     return True
+
+
+def is_plain_value(value: object, kind: str) -> bool:
+    """Whether nftrun takes a value of a type as it is spelled; the length of a prefix is one too."""
+    if not isinstance(value, Value):
+        return True
+    is_name = kind in ("ifname", "iface_index")
+    if value.kind == "word":
+        return is_name or value.text in WORDS.get(kind, {})
+    if value.kind == "string":
+        return is_name and not value.text.endswith("*")
+    return value.kind not in ("wild", "six", "mac", "time")

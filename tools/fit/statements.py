@@ -1,47 +1,72 @@
 """Reads rules, statement by statement."""
+from __future__ import annotations
+
+from dataclasses import replace
+from typing import Callable, NoReturn
+
 from .expressions import ExpressionReader
 from .facts import VERDICTS
-from .tree import Bound, Calculation, Drawn, Joined, Listed, NotFitted, Selector, Statement, Translation
+from .tree import (
+    Bound,
+    Calculation,
+    ChangeOfSet,
+    Counter,
+    Drawn,
+    Expression,
+    Joined,
+    LeftOut,
+    Listed,
+    Log,
+    Match,
+    NotFitted,
+    ObjectUse,
+    Offload,
+    Queue,
+    Reject,
+    Selector,
+    Setting,
+    Statement,
+    Translation,
+    Untracked,
+    VerdictMap,
+    What,
+)
 
 LOG_OPTIONS = ("prefix", "level", "group", "flags", "snaplen", "queue-threshold")
 LOG_FLAGS = set("tcp sequence options ip skuid ether all".split())
 NAT_FLAGS = ("random", "fully-random", "persistent")
 UNITS = ("packets", "bytes", "kbytes", "mbytes", "packet")
-# statements by their first word, for which `read_WORD` reads the rest
-STATEMENTS = set(
-    "counter log limit quota reject notrack last snat dnat masquerade redirect queue dup flow meter "
-    "synproxy tproxy fwd xt".split()
-)
 
 
 class RuleReader(ExpressionReader):
     """Reads one rule from its tokens."""
 
-    def rule(self):
+    def rule(self) -> tuple[list[Statement], str | None]:
         """The statements and the comment of the rule."""
-        statements, comment = [], None
+        statements: list[Statement] = []
+        comment = None
         while self.peek().kind != "end":
             start = self.at
             if self.skip("comment"):
                 comment = self.take("string").text
                 continue
-            kind, parts = self.statement()
-            statements.append(Statement(kind, tuple(self.tokens[start : self.at]), parts))
+            what = self.statement()
+            statements.append(Statement(tuple(self.tokens[start : self.at]), what))
         return statements, comment
 
-    def statement(self):
+    def statement(self) -> What:
         token, after = self.peek(), self.peek(1)
         word = token.text if token.kind == "word" else ""
         if word in VERDICTS:
-            return "verdict", (self.verdict(),)
-        if word in STATEMENTS:
+            return self.verdict()
+        if word in READERS:
             self.take()
-            return getattr(self, "read_" + word)()
+            return READERS[word](self)
         if word == "ct" and after.text == "count":
-            return "bound", (self.connections(),)
+            return self.connections()
         if word == "ct" and after.text in ("helper", "timeout", "expectation") and self.has("set", ahead=2):
             self.at += 3
-            return "set", (Selector(f"ct {after.text}"), self.operand())
+            return Setting(Selector(f"ct {after.text}"), self.operand())
         if word in ("add", "update", "delete") and after.text == "@":
             self.at += 2
             return self.change_of_set(word)
@@ -49,40 +74,42 @@ class RuleReader(ExpressionReader):
             return self.old_change_of_set()
         return self.match_or_set()
 
-    def match_or_set(self):
+    def match_or_set(self) -> What:
         left = self.operand()
         if not begins_with_selector(left):
             raise NotFitted("a statement that isn't known here")
         if self.skip("set"):
+            if not isinstance(left, Selector):
+                raise NotFitted("`set` behind what can't be set")
             operand = self.operand()
             if left == Selector("meta priority") and self.skip(":"):
                 self.take()
             while self.skip(","):  # `ct event set new,destroy`
                 operand = Listed((operand, self.operand()))
-            return "set", (left, operand)
+            return Setting(left, operand)
         if self.skip("vmap"):
-            return "vmap", (left, self.mapping())
-        return "match", (left, *self.compared(left))
+            return VerdictMap(left, self.mapping())
+        return Match(left, *self.compared(left))
 
     # what counts, tells and bounds
 
-    def read_counter(self):
+    def read_counter(self) -> Counter | ObjectUse:
         if self.skip("packets"):
             packets = self.number()
             self.take("word", "bytes")
-            return "counter", (packets, self.number())
+            return Counter(packets, self.number())
         if self.skip("name"):
-            return "object", ("counter", *self.object())
-        return "counter", (0, 0)
+            return ObjectUse("counter", self.object())
+        return Counter(0, 0)
 
-    def object(self):
+    def object(self) -> str | Expression:
         """A named object, or a map that gives one: its name or the map."""
         if self.peek().kind == "string" or (self.peek().kind == "word" and not self.has("map", ahead=2)):
-            return (self.name(),)
-        return (self.operand(),)
+            return self.name()
+        return self.operand()
 
-    def read_log(self):
-        options = {}
+    def read_log(self) -> Log:
+        options: dict[str, tuple[str, ...]] = {}
         while self.has(*LOG_OPTIONS):
             name = self.take().text
             value = [self.take()]
@@ -92,22 +119,22 @@ class RuleReader(ExpressionReader):
                 and self.has(",", *LOG_FLAGS)
             ):
                 value.append(self.take())
-            options[name] = value
-        return "log", (options,)
+            options[name] = tuple(it.text for it in value)
+        return Log(tuple(options.items()))
 
-    def over(self):
+    def over(self) -> bool:
         if self.skip("until"):
             return False
         return self.skip("over")
 
-    def connections(self):
+    def connections(self) -> Bound:
         """`ct count over 10`"""
         self.at += 2
         over = self.over()
         self.number()
         return Bound("connections", over, None)
 
-    def read_limit(self):
+    def read_limit(self) -> Bound | ObjectUse:
         if self.skip("name"):
             return self.named_bound("limit")
         self.take("word", "rate")
@@ -123,9 +150,9 @@ class RuleReader(ExpressionReader):
         if self.skip("burst"):
             self.number()
             self.take("word", *UNITS)
-        return "bound", (Bound("limit", over, None),)
+        return Bound("limit", over, None)
 
-    def read_quota(self):
+    def read_quota(self) -> Bound | ObjectUse:
         if self.skip("name"):
             return self.named_bound("quota")
         over = self.over()
@@ -134,80 +161,54 @@ class RuleReader(ExpressionReader):
         if self.skip("used"):
             self.number()
             self.take("word", *UNITS)
-        return "bound", (Bound("quota", over, None),)
+        return Bound("quota", over, None)
 
-    def named_bound(self, kind):
-        named = self.object()[0]
-        if isinstance(named, str):
-            return "bound", (Bound(kind, None, named),)
-        return "object", (kind, named)
+    def named_bound(self, kind: str) -> Bound | ObjectUse:
+        named = self.object()
+        return Bound(kind, None, named) if isinstance(named, str) else ObjectUse(kind, named)
 
-    def read_last(self):
+    def read_last(self) -> LeftOut:
         while self.has("used", "never") or self.peek().kind == "time":
             self.take()
-        return "left_out", ("outcome", "when the last packet came isn't shown")
+        return LeftOut("outcome", "when the last packet came isn't shown")
 
     # what ends a rule
 
-    def read_reject(self):
+    def read_reject(self) -> Reject:
         if not self.skip("with"):
-            return "reject", ()
+            return Reject(())
         words = [self.take("word", "tcp", "icmp", "icmpv6", "icmpx").text]
         if words[0] == "tcp":
             words.append(self.take("word", "reset").text)
         else:
             self.skip("type")
             words.append(self.take().text)
-        return "reject", tuple(words)
+        return Reject(tuple(words))
 
-    def read_queue(self):
+    def read_queue(self) -> Queue:
         while self.peek().kind != "end" and not self.has("comment"):
             self.take()
-        return "queue", ()
+        return Queue()
 
-    def read_notrack(self):
-        return "notrack", ()
+    def read_notrack(self) -> Untracked:
+        return Untracked()
 
-    def read_synproxy(self):
-        raise NotFitted("`synproxy` answers for the host behind it, with packets of the box's own")
-
-    def read_tproxy(self):
-        raise NotFitted("`tproxy` gives packets to a program of the box")
-
-    def read_fwd(self):
-        raise NotFitted("`fwd` sends packets past routing")
-
-    def read_xt(self):
-        raise NotFitted("`xt` is a part of iptables that nft(8) can't spell")
-
-    def read_dup(self):
+    def read_dup(self) -> LeftOut:
         self.skip("to")
         operands = [self.operand()]
         if self.skip("device"):
             operands.append(self.operand())
-        return "left_out", ("outcome", "the copy isn't shown", *operands)
+        return LeftOut("outcome", "the copy isn't shown", tuple(operands))
 
-    def read_flow(self):
+    def read_flow(self) -> Offload:
         self.take("word", "add", "offload")
         self.take("mark", "@")
         self.name()
-        return "offload", ()
+        return Offload()
 
     # translation
 
-    def read_snat(self):
-        return self.translation("snat")
-
-    def read_dnat(self):
-        return self.translation("dnat")
-
-    def read_masquerade(self):
-        return self.translation("masquerade")
-
-    def read_redirect(self):
-        return self.translation("redirect")
-
-    def translation(self, kind):
+    def translation(self, kind: str) -> Translation:
         family = self.family()
         prefix = self.skip("prefix")
         self.skip("interval")
@@ -227,9 +228,9 @@ class RuleReader(ExpressionReader):
         while self.has(*NAT_FLAGS):
             flags.append(self.take().text)
             self.skip(",")
-        return "nat", (Translation(kind, family, address, ports, tuple(flags), prefix),)
+        return Translation(kind, family, address, ports, tuple(flags), prefix)
 
-    def family(self):
+    def family(self) -> str:
         """`ip` or `ip6` before `to`; `ip` also begins a selector, as in `snat ip saddr map ..`."""
         after = self.peek(1)
         if self.has("ip", "ip6") and (
@@ -240,10 +241,11 @@ class RuleReader(ExpressionReader):
 
     # sets that packets change
 
-    def change_of_set(self, word):
+    def change_of_set(self, word: str) -> ChangeOfSet:
         name = self.name()
         self.take("mark", "{")
-        key, bounds = self.operand(), []
+        key = self.operand()
+        bounds: list[Bound | None] = []
         while not self.has("}", ":"):
             if self.has("timeout", "expires"):
                 self.at += 2
@@ -253,21 +255,21 @@ class RuleReader(ExpressionReader):
                 bounds.append(self.bound_of_element())
         data = self.operand() if self.skip(":") else None
         self.take("mark", "}")
-        return "dynamic", (word, name, key, data, tuple(it for it in bounds if it))
+        return ChangeOfSet(word, name, key, data, tuple(it for it in bounds if it))
 
-    def bound_of_element(self):
+    def bound_of_element(self) -> Bound | None:
         if self.skip("counter"):
             self.read_counter()
             return None
         if self.has("ct") and self.has("count", ahead=1):
             return self.connections()
         if self.has("limit", "quota"):
-            kind, parts = getattr(self, "read_" + self.take().text)()
-            if kind == "bound":
-                return parts[0]
+            found = self.read_limit() if self.take().text == "limit" else self.read_quota()
+            if isinstance(found, Bound):
+                return found
         raise NotFitted(f"`{self.peek().text}` isn't understood in what is added to a set")
 
-    def old_change_of_set(self):
+    def old_change_of_set(self) -> ChangeOfSet:
         """`set add KEY @NAME`, the older spelling."""
         self.take()
         word = self.take().text
@@ -275,22 +277,53 @@ class RuleReader(ExpressionReader):
         if self.has("timeout"):
             self.at += 2
         self.take("mark", "@")
-        return "dynamic", (word, self.name(), key, None, ())
+        return ChangeOfSet(word, self.name(), key, None, ())
 
-    def read_meter(self):
+    def read_meter(self) -> ChangeOfSet:
         """`meter NAME { KEY limit rate .. }`: a set of its own."""
         name = self.peek()
         self.name()
         if self.skip("size"):
             self.number()
-        self.tokens = [*self.tokens[: self.at], name._replace(kind="word"), *self.tokens[self.at :]]
-        kind, parts = self.change_of_set("add")
-        return kind, parts
+        self.tokens = [*self.tokens[: self.at], replace(name, kind="word"), *self.tokens[self.at :]]
+        return self.change_of_set("add")
 
 
-def begins_with_selector(it):
+def begins_with_selector(it: Expression) -> bool:
     if isinstance(it, (Selector, Drawn)):
         return True
     if isinstance(it, Joined):
         return all(map(begins_with_selector, it.parts))
     return isinstance(it, Calculation) and begins_with_selector(it.left)
+
+
+def translating(kind: str) -> Callable[[RuleReader], Translation]:
+    return lambda reader: reader.translation(kind)
+
+
+def unreadable(why: str) -> Callable[[RuleReader], NoReturn]:
+    def refuse(_: RuleReader) -> NoReturn:
+        raise NotFitted(why)
+
+    return refuse
+
+
+# by the first word of a statement what reads the rest of it
+READERS: dict[str, Callable[[RuleReader], What]] = {
+    "counter": RuleReader.read_counter,
+    "log": RuleReader.read_log,
+    "limit": RuleReader.read_limit,
+    "quota": RuleReader.read_quota,
+    "reject": RuleReader.read_reject,
+    "notrack": RuleReader.read_notrack,
+    "last": RuleReader.read_last,
+    "queue": RuleReader.read_queue,
+    "dup": RuleReader.read_dup,
+    "flow": RuleReader.read_flow,
+    "meter": RuleReader.read_meter,
+    **{kind: translating(kind) for kind in ("snat", "dnat", "masquerade", "redirect")},
+    "synproxy": unreadable("`synproxy` answers for the host behind it, with packets of the box's own"),
+    "tproxy": unreadable("`tproxy` gives packets to a program of the box"),
+    "fwd": unreadable("`fwd` sends packets past routing"),
+    "xt": unreadable("`xt` is a part of iptables that nft(8) can't spell"),
+}

@@ -1,68 +1,97 @@
 """Statements that write: marks, and what nftrun doesn't write."""
+from __future__ import annotations
+
+from typing import Sequence
+
+from .draft import Draft
 from .facts import LEFT_OUT, MARKS, NEVER_IN_IPV4, TYPES, first_word
-from .matches import shown
+from .joined import JoinedKeys
+from .maps import Maps
+from .matches import Matches, shown
 from .numbers import calculated, range_of, spell_part
 from .sets import parts_are_plain
-from .tree import Calculation, Drawn, Elements, Joined, Lookup, Named, NotFitted, One, Selector
+from .tree import (
+    Anything,
+    Calculation,
+    Drawn,
+    Element,
+    Elements,
+    Expression,
+    Joined,
+    Lookup,
+    Mapping,
+    Named,
+    NotFitted,
+    One,
+    Piece,
+    Prefix,
+    Range,
+    Selector,
+)
 
 
 class Writes:
-    def fit_set(self, left, operand):
-        name = getattr(left, "name", "?")
+    """Fits statements that set something."""
+
+    def __init__(self, draft: Draft, matches: Matches, joined: JoinedKeys, maps: Maps) -> None:
+        self.draft, self.matches, self.joined, self.maps = draft, matches, joined, maps
+
+    def fit_set(self, left: Selector, operand: Expression) -> None:
+        name = left.name
         if name in MARKS:
             self.set_mark(name, operand)
             return
         if first_word(name) in NEVER_IN_IPV4:
-            self.is_in_ipv4(left)
+            self.matches.is_in_ipv4(left)
             return
-        grade, why = LEFT_OUT.get(name, (None, None))
-        if grade is None:
+        if name not in LEFT_OUT:
             raise NotFitted(f"`{name} set` writes what nftrun can't")
+        grade, why = LEFT_OUT[name]
         if grade == "guess":
-            way = self.way(why)
-            self.guess(why, way, "left out")
+            way = self.draft.way(why)
+            self.draft.guess(why, way, "left out")
         else:
-            self.tell(grade, "left out", why)
+            self.draft.tell(grade, "left out", why)
         if not name.startswith("ct "):  # these do nothing where there is no connection
-            self.keep_tests(left)
+            self.draft.keep_tests(left)
         if isinstance(operand, Lookup):
             self.keep_lookup(operand)
 
-    def keep_lookup(self, lookup):
+    def keep_lookup(self, lookup: Lookup) -> None:
         """A value by a map ends the rule where the map hasn't the key; where nothing follows that is no matter."""
-        if self.is_last():
+        if self.draft.is_last():
             return
         if isinstance(lookup.key, Drawn):
-            self.keep_tests(lookup.key.over)
+            self.draft.keep_tests(lookup.key.over)
             return
         if not isinstance(lookup.key, Selector) or lookup.key.name not in TYPES:
             raise NotFitted("a value by a map of what nftrun doesn't read, with statements behind it")
-        self.match_elements(lookup.key, "", self.fitter.sets.elements_of(self.table, lookup.map))
+        self.matches.match_elements(lookup.key, "", self.draft.fitter.sets.elements_of(self.draft.table, lookup.map))
 
     # marks
 
-    def set_mark(self, name, operand):
+    def set_mark(self, name: str, operand: Expression) -> None:
         if isinstance(operand, Lookup):
             self.set_by_map(name, operand)
         elif isinstance(operand, One) and operand.value.kind == "number":
-            self.put_spelled(f"{name} set {operand.value.text}", kind="mark")
+            self.draft.put_spelled(f"{name} set {operand.value.text}", kind="mark")
         elif isinstance(operand, Selector) and operand.name in MARKS:
-            self.put_spelled(f"{name} set {operand.name}", [operand.name], "mark")
+            self.draft.put_spelled(f"{name} set {operand.name}", [operand.name], "mark")
         elif isinstance(operand, Drawn):
-            number, way = self.number_drawn(operand)
-            self.keep_tests(operand.over)
-            self.tell_drawn(way, str(number))
-            self.put(f"{name} set {number}", "mark")
+            number, way = self.matches.number_drawn(operand)
+            self.draft.keep_tests(operand.over)
+            self.matches.tell_drawn(way, str(number))
+            self.draft.put(f"{name} set {number}", "mark")
         elif isinstance(operand, Calculation):
             self.set_calculated(name, operand)
         else:
             raise NotFitted("a mark of what nftrun doesn't read")
 
-    def set_calculated(self, name, operand):
+    def set_calculated(self, name: str, operand: Calculation) -> None:
         used = list(dict.fromkeys(marks_in(operand)))
         if len(used) > 1:
             raise NotFitted("a mark of two marks")
-        values = self.fitter.marks.values[used[0]] if used else {0}
+        values = self.draft.fitter.marks.values[used[0]] if used else {0}
         if values is None:
             raise NotFitted("arithmetic with marks that are too many, or not known")
         results = {it: result(operand, it) for it in sorted(values)}
@@ -70,57 +99,59 @@ class Writes:
             text = f"{name} set {used[0]} map {{ {', '.join(f'{a:#x} : {b:#x}' for a, b in results.items())} }}"
         else:
             text = f"{name} set {results[0]:#x}"
-        self.tell("same", text, "for each mark that rules write; each mark begins at 0")
-        self.put(text, "mark", used)
+        self.draft.tell("same", text, "for each mark that rules write; each mark begins at 0")
+        self.draft.put(text, "mark", used)
 
-    def set_by_map(self, name, operand):
+    def set_by_map(self, name: str, operand: Lookup) -> None:
         key = operand.key
-        if isinstance(key, Selector) and not self.is_in_ipv4(key):
+        if isinstance(key, Selector) and not self.matches.is_in_ipv4(key):
             return
-        elements, plain = self.mapping(operand.map, verdicts=False)
+        elements, plain = self.maps.mapping(operand.map, verdicts=False)
 
-        def setting(data):
-            return [self.piece(f"{name} set {spell_part(data[0], 'mark')}", "mark")]
+        def setting(it: Element) -> list[Piece]:
+            return [self.draft.piece(f"{name} set {spell_part(it.values[0], 'mark')}", "mark")]
 
         if isinstance(key, Joined):
-            self.choose(key, elements, setting)
+            self.joined.choose(key, elements, setting)
         elif isinstance(key, Drawn):
-            self.draw(key, elements, setting)
+            self.maps.draw(key, elements, setting)
         elif isinstance(key, Selector) and key.name in TYPES:
             text, words = self.lookup_text(key, operand.map, elements, plain, "mark")
-            self.put_spelled(f"{name} set {text}", [key.name], "mark", plain=words)
+            self.draft.put_spelled(f"{name} set {text}", [key.name], "mark", plain=words)
         else:
             raise NotFitted("a mark by a map of what nftrun doesn't read")
 
-    def lookup_text(self, key, mapping, elements, plain, data_kind):
+    def lookup_text(
+        self, key: Selector, mapping: Mapping, elements: Sequence[Element], plain: bool, data_kind: str
+    ) -> tuple[str, bool]:
         """`KEY map ..`, and whether its words are nftrun's."""
-        if any(len(it.key) != 1 or len(it.data) != 1 for it in elements):
+        if any(len(it.key) != 1 or len(it.values) != 1 for it in elements):
             raise NotFitted("keys or data of another number of parts")
-        name, kind = self.by_name(key.name, [it.key[0] for it in elements])
+        name, kind = self.matches.by_name(key.name, [it.key[0] for it in elements])
         if isinstance(mapping, Named) and plain:
             return f"{shown(name)} map @{mapping.name}", name == key.name
-        listed = ", ".join(f"{spell_part(it.key[0], kind)} : {spell_part(it.data[0], data_kind)}" for it in elements)
+        listed = ", ".join(f"{spell_part(it.key[0], kind)} : {spell_part(it.values[0], data_kind)}" for it in elements)
         if not listed:
             raise NotFitted("a map without elements")
         words = isinstance(mapping, Elements) and all(
-            parts_are_plain(it.key, (kind,)) and parts_are_plain(it.data, (data_kind,)) for it in elements
+            parts_are_plain(it.key, (kind,)) and parts_are_plain(it.values, (data_kind,)) for it in elements
         )
         return f"{shown(name)} map {{ {listed} }}", words and name == key.name
 
 
-def result(operand, mark):
+def result(operand: Expression, mark: int) -> int:
     """What a calculated mark is, for a mark that it is calculated of."""
     if isinstance(operand, Calculation):
         return calculated(operand.operator, result(operand.left, mark), result(operand.right, mark))
     if isinstance(operand, Selector):
         return mark
-    found = range_of(operand, "mark")
+    found = range_of(operand, "mark") if isinstance(operand, (One, Range, Prefix, Anything)) else None
     if found is None:
         raise NotFitted("a value that isn't known")
     return found[0]
 
 
-def marks_in(it):
+def marks_in(it: Expression) -> list[str]:
     if isinstance(it, Selector):
         if it.name not in MARKS:
             raise NotFitted("a mark of what nftrun doesn't read")

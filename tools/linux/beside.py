@@ -16,7 +16,7 @@ from linux.nftrun import Run
 from linux.sections import title
 from toolbox import program
 from toolbox.captures import IPV4, LINK_LENGTHS, PROTOCOL_AT, header_of, records
-from toolbox.commands import Refused, check_files, plural, printable
+from toolbox.commands import Refused, check_files, plural, say
 from toolbox.packets import describe
 from toolbox.rulesets import read_ruleset
 
@@ -248,5 +248,5 @@ def beside_linux(options):
     check_needs()
     beside = Beside(options)
     for line in lines_of(beside):
-        print(printable(line))
+        say(line)
     return beside.status()

@@ -1,4 +1,4 @@
-"""Captures of the sections' packets: a line is one of tools/packet, or
+"""Captures of the sections' packets: a line is one of nftrun packet, or
 
   protocol N ADDRESS > ADDRESS         a packet of another protocol; `hex ..` gives what it carries
   icmp TYPE ADDRESS > ADDRESS          a message of ICMP, 12 bytes of zero behind its checksum
@@ -99,8 +99,8 @@ def capture_of(lines, box):
             packet, options = packet_of(words, modifiers)
         except (Refused, ValueError, IndexError) as refusal:
             raise Refused(f"{line.strip()}: {refusal}") from None
-        moment = options.get("at", moment)
-        header = sll2_header(box.indices[options.get("in", box.default)], BROADCAST if "group" in modifiers else TO_US)
+        moment = moment if options.moment is None else options.moment
+        header = sll2_header(box.indices[options.comes_by or box.default], BROADCAST if "group" in modifiers else TO_US)
         if words[0] == "ipv6":
             header = b"\x86\xdd" + header[2:]
         write_record(file, moment, header + modified(packet, modifiers))

@@ -1,5 +1,6 @@
 """Where the kernel and nftrun differ: of each record outcome, leaving bytes and rules; of the whole run counters."""
 from collections import namedtuple
+from dataclasses import replace
 
 from toolbox.reports import THROUGH
 from toolbox.rulesets import TRANSLATIONS
@@ -34,7 +35,7 @@ def outcome_of_linux(told):
 
 def rules_of_nftrun(said):
     """The decisions in Linux's words: it tells of a translation as of an accept."""
-    return [decision._replace(verdict="accept") if decision.verdict in TRANSLATIONS else decision
+    return [replace(decision, verdict="accept") if decision.verdict in TRANSLATIONS else decision
             for decision in said.decisions]
 
 

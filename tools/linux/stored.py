@@ -1,6 +1,7 @@
 """What a kernel said of a capture, as JSON: so that comparing and explaining are tried without one."""
 import json
 from collections import namedtuple
+from dataclasses import astuple
 
 from linux.frames import sending_of
 from linux.kernel import Told
@@ -15,10 +16,10 @@ def packets_text(packets):
 
 def write(path, beside):
     """Stores what the kernel said in a run."""
-    records = [[told.outcome, told.where, told.state, told.decisions, packets_text(told.leaves), packets_text(told.made)]
-               for told in beside.told]
+    records = [[told.outcome, told.where, told.state, [astuple(one) for one in told.decisions],
+                packets_text(told.leaves), packets_text(told.made)] for told in beside.told]
     data = {"limits": beside.box.linux_limits, "own": beside.own_packets, "with_ipv6": beside.with_ipv6,
-            "counters": beside.others, "records": records}
+            "counters": [astuple(one) for one in beside.others], "records": records}
     with open(path, "w", encoding="ascii") as file:
         json.dump(data, file, separators=(",", ":"))
         file.write("\n")

@@ -1,4 +1,6 @@
 """Box files (docs/BOX.md): interfaces, addresses, routes, idle limits."""
+from __future__ import annotations
+
 from ipaddress import AddressValueError, IPv4Address
 
 from toolbox.commands import Refused, read_bytes
@@ -12,11 +14,14 @@ NO_ROUTE_FROM = 224 << 24
 class Box:
     """What a box file says; nftrun has the last word on what is wrong with it."""
 
-    def __init__(self, path):
+    def __init__(self, path: str) -> None:
         self.path = path
-        self.indices, self.names = {}, {}  # by name, by index
-        self.addresses, self.routes = {}, []  # packed address: index; (prefix, length, name) in the text's order
-        self.idle, self.default = dict(IDLE), None
+        self.indices: dict[str, int] = {}  # by name
+        self.names: dict[int, str] = {}  # by index
+        self.addresses: dict[bytes, int] = {}  # packed address: index
+        self.routes: list[tuple[int, int, str]] = []  # (prefix, length, name) in the text's order
+        self.idle = dict(IDLE)
+        self.default: str | None = None
         for number, line in enumerate(read_bytes(path).decode("utf-8", "replace").split("\n"), 1):
             words = line.partition("#")[0].split()
             try:
@@ -24,7 +29,7 @@ class Box:
             except (ValueError, AddressValueError):
                 raise Refused(f"{path}: line {number} is none of a box file (docs/BOX.md)") from None
 
-    def take(self, words):
+    def take(self, words: list[str]) -> None:
         if not words:
             return
         if words[0] == "interface" and len(words) == 4:
@@ -45,24 +50,24 @@ class Box:
         else:
             raise ValueError
 
-    def add_route(self, address, length, name):
+    def add_route(self, address: int, length: str, name: str) -> None:
         bits = int(length)
         if not 0 <= bits <= 32:
             raise ValueError
         self.routes.append((address >> 32 - bits, bits, name))
 
-    def index_bytes(self):
+    def index_bytes(self) -> set[bytes]:
         """The indices as LINUX_SLL2 has them."""
         return {index.to_bytes(4, "big") for index in self.names}
 
-    def entering(self):
+    def entering(self) -> int | None:
         """The index of the interface that packets enter by where a capture tells none."""
-        return self.indices.get(self.default)
+        return None if self.default is None else self.indices.get(self.default)
 
-    def interface_name(self, index):
-        return self.names.get(index, f"index {index}")
+    def interface_name(self, index: int | None) -> str:
+        return f"index {index}" if index is None or index not in self.names else self.names[index]
 
-    def route(self, address):
+    def route(self, address: bytes) -> str | None:
         """The name of the interface that packets to the address (4 bytes) leave by, or None."""
         number = int.from_bytes(address, "big")
         covering = [(bits, name) for prefix, bits, name in self.routes if number >> 32 - bits == prefix]
@@ -70,7 +75,7 @@ class Box:
             return None
         return max(covering, key=lambda one: one[0])[1]
 
-    def limits(self):
+    def limits(self) -> list[int]:
         """The idle limit in seconds by a tuple's kind; of TCP the longer one."""
         limits = [self.idle["other"]] * 256
         limits[TCP], limits[UDP] = self.idle["established"], self.idle["udp"]

@@ -1,6 +1,10 @@
 """Classic libpcap files (docs/CAPTURES.md), streamed: reading their records, and writing LINUX_SLL2."""
+from __future__ import annotations
+
+import os
 import struct
-from collections import namedtuple
+from dataclasses import dataclass
+from typing import BinaryIO, Callable, Iterator, List, Tuple, cast
 
 from toolbox.commands import Refused
 
@@ -26,10 +30,26 @@ SNAPLEN = 262144
 ALIGNED_MARK = int.from_bytes(b"alig", "big")
 CHUNK = 1 << 16
 
-Header = namedtuple("Header", "order fractions link_type snaplen aligned")
+# Tuples, since a capture has millions of them: seconds, fraction, length and original length of a record; what `pieces`
+# and `records` tell of some records and of one.
+RecordHeader = Tuple[int, int, int, int]
+Piece = Tuple[bytes, int, List[int], List[RecordHeader]]
+Record = Tuple[int, int, int, int, int, int, bytes]
 
 
-def header_of(path):
+@dataclass(frozen=True)
+class Header:
+    """What the header of a capture says: the order of its numbers, as `struct` has it, how many fractions make a
+    second, and whether `mark_aligned` was here."""
+
+    order: str
+    fractions: int
+    link_type: int
+    snaplen: int
+    aligned: bool
+
+
+def header_of(path: str) -> Header:
     """The header of a capture; refused is what nftrun wouldn't read."""
     try:
         with open(path, "rb") as file:
@@ -45,17 +65,19 @@ def header_of(path):
     return Header(order, fractions, link_type & 0xFFFF, snaplen, sigfigs == ALIGNED_MARK)
 
 
-def pieces(path):
-    """The whole records in order, some at a time: a piece of the file, where its first byte stands in the file, where the
-    bytes of its records begin in the piece, and the records' headers (seconds, fraction, length, original length). A record
-    that is torn at the end isn't among them."""
-    unpack = struct.Struct(header_of(path).order + "4I").unpack_from
+def pieces(path: str) -> Iterator[Piece]:
+    """The whole records in order, some at a time: a piece of the file, where its first byte stands in the file, where
+    the bytes of its records begin in the piece, and the records' headers (seconds, fraction, length, original length).
+    A record that is torn at the end isn't among them."""
+    unpack = cast("Callable[[bytes, int], RecordHeader]", struct.Struct(header_of(path).order + "4I").unpack_from)
     with open(path, "rb") as file:
         file.seek(FILE_HEADER)
         base, number, rest = FILE_HEADER, 0, b""
         while more := file.read(CHUNK):
             piece = rest + more
-            starts, headers, at = [], [], 0
+            starts: list[int] = []
+            headers: list[RecordHeader] = []
+            at = 0
             last, size, length = len(piece) - RECORD_HEADER, len(piece), 0
             while at <= last:
                 header = unpack(piece, at)
@@ -73,7 +95,7 @@ def pieces(path):
             base, rest = base + at, piece[at:]
 
 
-def records(path, most=SNAPLEN):
+def records(path: str, most: int = SNAPLEN) -> Iterator[Record]:
     """The whole records in order, each as (number, seconds, fraction, offset, length, original length, data): `offset`
     is where its bytes begin in the file, and `data` has the first `most` of them."""
     number = 0
@@ -84,7 +106,12 @@ def records(path, most=SNAPLEN):
                    piece[start:start + (length if length <= most else most)])
 
 
-def packet_at(data, link_type):
+def is_torn(path: str, end: int) -> bool:
+    """Whether a capture ends within a record: it has bytes behind its last whole one, which ends at `end`."""
+    return os.path.getsize(path) > end
+
+
+def packet_at(data: bytes, link_type: int) -> int | None:
     """Where an IPv4 packet begins in a record's bytes, or None where the link header tells of none."""
     protocol = PROTOCOL_AT[link_type]
     if protocol is not None and data[protocol:protocol + 2] != IPV4:
@@ -92,7 +119,7 @@ def packet_at(data, link_type):
     return LINK_LENGTHS[link_type] if len(data) > LINK_LENGTHS[link_type] else None
 
 
-def interface_of(data, link_type):
+def interface_of(data: bytes, link_type: int) -> int | None:
     """The index of the interface that the link header tells, or None."""
     return int.from_bytes(data[4:8], "big") if link_type == LINUX_SLL2 and len(data) >= 8 else None
 
@@ -100,23 +127,23 @@ def interface_of(data, link_type):
 # Writing
 
 
-def write_header(file, link_type=LINUX_SLL2):
+def write_header(file: BinaryIO, link_type: int = LINUX_SLL2) -> None:
     """A header with nanoseconds, lowest byte first."""
     file.write(struct.pack("<IHHIIII", NANOSECONDS_MAGIC, 2, 4, 0, 0, SNAPLEN, link_type))
 
 
-def write_record(file, nanoseconds, data):
+def write_record(file: BinaryIO, nanoseconds: int, data: bytes) -> None:
     """A record behind `write_header`, with its moment in nanoseconds."""
     seconds, fraction = divmod(nanoseconds, 10**9)
     file.write(struct.pack("<IIII", seconds, fraction, len(data), len(data)) + data)
 
 
-def sll2_header(interface, packet_type=TO_US):
+def sll2_header(interface: int, packet_type: int = TO_US) -> bytes:
     """A link header of LINUX_SLL2: IPv4, the interface's index, Ethernet, the packet type, no address."""
     return struct.pack(">HHIHBB8x", 0x0800, 0, interface, 1, packet_type, 0)
 
 
-def mark_aligned(path):
+def mark_aligned(path: str) -> None:
     """Writes into the header of a capture that its answers go to nftrun's ports."""
     order = header_of(path).order
     with open(path, "r+b") as file:

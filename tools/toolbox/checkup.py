@@ -1,13 +1,19 @@
 """What in a capture and a box file misleads a run, found in one pass over the records, beside the flows."""
-import os
-from collections import Counter, namedtuple
+from __future__ import annotations
+
+from collections import Counter
+from dataclasses import dataclass
+from typing import TYPE_CHECKING, Iterator, Mapping
 
 from toolbox.captures import (
-    BROADCAST, LINUX_SLL2, MULTICAST, OTHER_STATION, PROTOCOL_AT, TO_US, header_of, packet_at,
-    records)
+    BROADCAST, LINUX_SLL2, MULTICAST, OTHER_STATION, PROTOCOL_AT, TO_US, header_of, packet_at, records)
 from toolbox.commands import plural
 from toolbox.flows import BEGUN, MOST_READ, TRANSLATED, Flows
 from toolbox.packets import TCP, address_text, identity
+
+if TYPE_CHECKING:
+    from toolbox.boxes import Box
+    from toolbox.replay import Replay
 
 ETHER_TYPES = {b"\x86\xdd": "IPv6", b"\x08\x06": "ARP", b"\x81\x00": "VLAN tags", b"\x88\xa8": "VLAN tags",
                b"\x88\x64": "PPPoE"}
@@ -19,36 +25,49 @@ WINDOW = 4096  # how many packets may come between two sights of one
 MOST_LISTED = 5
 FEW_FLOWS = 10
 
-# `misleads` tells whether a run differs by it from what the box did; `numbers` are for scripts
-Finding = namedtuple("Finding", "name misleads text advice numbers")
+
+@dataclass(frozen=True)
+class Finding:
+    """`misleads` tells whether a run differs by it from what the box did; `numbers` are for scripts."""
+
+    name: str
+    misleads: bool
+    text: str
+    advice: str
+    numbers: Mapping[str, object]
 
 
 class Checkup:
     """The counts of one pass over the records."""
 
-    def __init__(self, capture, box):
+    def __init__(self, capture: str, box: Box) -> None:
         self.capture, self.box, self.header = capture, box, header_of(capture)
         self.link_type = self.header.link_type
         self.flows = Flows(capture, box)
-        self.not_ip, self.lacking, self.own_sources, self.types = Counter(), Counter(), Counter(), Counter()
+        self.not_ip: Counter[str] = Counter()
+        self.lacking: Counter[int] = Counter()
+        self.own_sources: Counter[bytes] = Counter()
+        self.types: Counter[int] = Counter()
         self.cut = self.joined = self.backwards = self.fragments = self.by_loopback = 0
         # entering packets by identity that were seen on interfaces that the box file lacks alone, so far
-        self.elsewhere, self.elsewhere_before, self.alone = {}, {}, Counter()
+        self.elsewhere: dict[bytes, int] = {}
+        self.elsewhere_before: dict[bytes, int] = {}
+        self.alone: Counter[int] = Counter()
         # entering packets with the interface of the box file, and how many entered by two such, by both
-        self.entered, self.entered_before, self.twice = {}, {}, Counter()
+        self.entered: dict[bytes, bytes] = {}
+        self.entered_before: dict[bytes, bytes] = {}
+        self.twice: Counter[tuple[bytes, bytes]] = Counter()
         self.ip = self.count = 0
-        self.end = 0  # of the last whole record
         self.protocol_at, self.indices = PROTOCOL_AT[self.link_type], box.index_bytes()
         self.read()
 
-    def read(self):
+    def read(self) -> None:
         latest = 0
-        for self.count, seconds, fraction, offset, length, original, data in records(self.capture, MOST_READ):
+        for self.count, seconds, fraction, _, length, original, data in records(self.capture, MOST_READ):
             moment = seconds * self.header.fractions + fraction
             self.backwards += moment < latest
             latest = max(moment, latest)
             self.cut += length < original
-            self.end = offset + length
             at = packet_at(data, self.link_type)
             if at is None or len(data) < at + 20 or data[at] >> 4 != 4:
                 self.take_other(data, at)
@@ -57,7 +76,7 @@ class Checkup:
         for mark in (*self.elsewhere_before.values(), *self.elsewhere.values()):
             self.alone[mark] += 1
 
-    def take_other(self, data, at):
+    def take_other(self, data: bytes, at: int | None) -> None:
         """A record without an IPv4 packet."""
         if at is not None:
             self.not_ip["IPv6" if len(data) > at and data[at] >> 4 == 6 else "damaged"] += 1
@@ -67,7 +86,7 @@ class Checkup:
             kind = data[self.protocol_at:self.protocol_at + 2]
             self.not_ip[ETHER_TYPES.get(kind, f"EtherType {kind.hex()}")] += 1
 
-    def take_packet(self, data, at):
+    def take_packet(self, data: bytes, at: int) -> None:
         self.ip += 1
         self.fragments += bool(data[at + 6] & 0x3F or data[at + 7])
         if self.link_type == LINUX_SLL2 and not self.take_interface(data, at):
@@ -79,7 +98,7 @@ class Checkup:
                 self.own_sources[data[at + 12:at + 16]] += 1
         self.joined += int.from_bytes(data[at + 2:at + 4], "big") > LONGEST_PACKET
 
-    def take_interface(self, data, at):
+    def take_interface(self, data: bytes, at: int) -> bool:
         """Counts a packet by its interface and type; answers whether it enters the box."""
         self.types[data[10]] += 1
         if data[4:8] in self.indices:
@@ -100,9 +119,9 @@ class Checkup:
                 self.elsewhere, self.elsewhere_before = {}, self.elsewhere
         return False
 
-    def take_entering(self, mark, index):
-        """A packet that enters by an interface of the box, known by the first bytes of its headers: perhaps it was seen at
-        another one just before."""
+    def take_entering(self, mark: bytes, index: bytes) -> None:
+        """A packet that enters by an interface of the box, known by the first bytes of its headers: perhaps it was seen
+        at another one just before."""
         before = self.entered.get(mark) or self.entered_before.get(mark)
         if before and before != index:
             self.twice[before, index] += 1
@@ -112,27 +131,28 @@ class Checkup:
 
     # What was found
 
-    def findings(self):
+    def findings(self) -> list[Finding]:
         """All findings, those that mislead a run first."""
         found = [one for part in (self.of_file, self.of_interfaces, self.of_packets, self.of_flows) for one in part()]
         return sorted(found, key=lambda one: not one.misleads)
 
-    def of_file(self):
+    def of_file(self) -> Iterator[Finding]:
         if self.cut:
             yield Finding("snap length", True,
                           f"{plural(self.cut, 'record')} cut by the snap length ({self.header.snaplen})",
                           "they are dropped for `truncated`: capture with tcpdump -s 0", {"records": self.cut})
-        if self.end and self.end < os.path.getsize(self.capture):
+        if self.flows.torn:
             yield Finding("torn", True, "the file ends within a record",
                           "a run takes the whole records before it, and ends with status 7", {})
         if self.backwards:
             yield Finding("time", False, f"{plural(self.backwards, 'record')} with an earlier time than the one before",
-                          "a run takes the order of the file, and the greatest time so far", {"records": self.backwards})
+                          "a run takes the order of the file, and the greatest time so far",
+                          {"records": self.backwards})
         if self.header.aligned:
-            yield Finding("aligned", False, "answers were sent to the ports that nftrun chose (tools/align)",
+            yield Finding("aligned", False, "answers were sent to the ports that nftrun chose (nftrun align)",
                           "replay it with the rules with which it was aligned", {})
 
-    def of_interfaces(self):
+    def of_interfaces(self) -> Iterator[Finding]:
         lacking = sum(self.lacking.values())
         if lacking:
             listed = ", ".join(f"index {index}: {number}" for index, number in self.lacking.most_common(MOST_LISTED))
@@ -140,8 +160,8 @@ class Checkup:
             yield Finding(
                 "interfaces", bool(self.alone),
                 f"{plural(lacking, 'record')} of interfaces that the box file lacks ({listed}{rest})",
-                "they are dropped for `interface` or `link`: right for bridge ports and devices below a VLAN; else add the "
-                "interface (tools/box-from-ip)", {"records": lacking, "by_index": dict(self.lacking)})
+                "they are dropped for `interface` or `link`: right for bridge ports and devices below a VLAN; else add "
+                "the interface (nftrun box-from-ip)", {"records": lacking, "by_index": dict(self.lacking)})
         alone = sum(self.alone.values())
         if alone:
             yield Finding(
@@ -155,10 +175,10 @@ class Checkup:
             names = [self.box.interface_name(int.from_bytes(index, "big")) for index in (first, second)]
             yield Finding(
                 "twice", True, f"{plural(number, 'packet')} seen to enter by {names[0]} and again by {names[1]}",
-                "they are replayed twice: one is the port of a bridge, or below a VLAN, and has an address of its own; leave "
-                "out that sight (docs/CAPTURES.md)", {"packets": number, "interfaces": names})
+                "they are replayed twice: one is the port of a bridge, or below a VLAN, and has an address of its own; "
+                "leave out that sight (docs/CAPTURES.md)", {"packets": number, "interfaces": names})
 
-    def of_packets(self):
+    def of_packets(self) -> Iterator[Finding]:
         own = sum(self.own_sources.values())
         if own:
             addresses = ", ".join(address_text(address) for address, _ in self.own_sources.most_common(MOST_LISTED))
@@ -187,44 +207,47 @@ class Checkup:
                             ((BROADCAST, MULTICAST), "broadcasts and multicasts")):
             number = sum(self.types[kind] for kind in kinds)
             if number:
-                yield Finding(name, False, f"{number} {name}", "dropped for `link`: no rule sees them", {"records": number})
+                yield Finding(name, False, f"{number} {name}", "dropped for `link`: no rule sees them",
+                              {"records": number})
 
-    def of_flows(self):
+    def of_flows(self) -> Iterator[Finding]:
         flows = self.flows
         own = len(flows.answers_to_box())
         if own:
-            yield Finding("answers to the box", True, f"{plural(own, 'record')} with answers to packets of the box itself",
-                          "on Linux they are established; here they are new, since a run has no packets of the box, and "
-                          "input drops them, or a mapping leads them inside: tools/align takes them out", {"records": own})
+            yield Finding(
+                "answers to the box", True, f"{plural(own, 'record')} with answers to packets of the box itself",
+                "on Linux they are established; here they are new, since a run has no packets of the box, and input "
+                "drops them, or a mapping leads them inside: nftrun align takes them out", {"records": own})
         midway = flows.without_beginning()
         if midway:
             yield Finding("no beginning", True, f"{plural(midway, 'TCP flow')} without a SYN in the capture",
-                          "they began before it: new at their first packet here, established on Linux", {"flows": midway})
+                          "they began before it: new at their first packet here, established on Linux",
+                          {"flows": midway})
         yield from self.of_answers()
         yield from self.of_copies()
 
-    def of_answers(self):
+    def of_answers(self) -> Iterator[Finding]:
         flows = self.flows
-        begun = [flow for flow in flows.some() if flows.kind[flow] == TCP and flows.flags[flow] & BEGUN]
+        begun = [flow for flow in flows.some() if flows.kind[flow] == TCP and flows.is_marked(flow, BEGUN)]
         unanswered = sum(not flows.answered[flow] for flow in begun)
         if len(begun) >= FEW_FLOWS and unanswered > 0.9 * len(begun):
             yield Finding("one direction", True, f"{unanswered} of {plural(len(begun), 'TCP flow')} without any answer",
                           "the other direction isn't in the capture, or isn't taken: capture on all interfaces "
                           "(-i any -y LINUX_SLL2)", {"flows": unanswered})
 
-    def of_copies(self):
+    def of_copies(self) -> Iterator[Finding]:
         flows = self.flows
-        translated = sum(bool(known & TRANSLATED) for known in flows.flags)
+        translated = flows.marked(TRANSLATED)
         if self.link_type == LINUX_SLL2 and not flows.copies:
             yield Finding("no copies", False, "no outgoing copies in the capture",
                           "what Linux chose isn't known, so it can't be aligned: capture without -Q in", {})
         elif translated and not flows.aligned:
             yield Finding("translated", False, f"{plural(translated, 'flow')} translated by Linux",
-                          "it may have chosen other ports than a run does: tools/doctor BOX IN RULES tells, and "
-                          "tools/align mends", {"flows": translated})
+                          "it may have chosen other ports than a run does: nftrun doctor BOX IN RULES tells, and "
+                          "nftrun align mends", {"flows": translated})
 
 
-def of_run(replay):
+def of_run(replay: Replay) -> Iterator[Finding]:
     """What a run of the rules shows: answers that go to ports that Linux chose."""
     flows = replay.flows
     to = replay.decide(False).to
@@ -233,5 +256,5 @@ def of_run(replay):
         count = len({flows.of[record] for record in elsewhere})
         answers = f"{plural(len(elsewhere), 'answer')} of {plural(count, 'flow')}"
         yield Finding("ports", True, f"{answers} to ports that Linux chose and a run doesn't",
-                      "they are dropped, or led to another host: replay what tools/align makes of the capture",
+                      "they are dropped, or led to another host: replay what nftrun align makes of the capture",
                       {"records": len(elsewhere), "flows": count})

@@ -1,35 +1,54 @@
 """What two rulesets make of one capture otherwise: opened, blocked, rewritten only, in groups by cause."""
+from __future__ import annotations
+
 import filecmp
 from array import array
-from collections import Counter, namedtuple
+from collections import Counter
+from dataclasses import dataclass
+from typing import TYPE_CHECKING, Iterator, Sequence, Tuple
 
 from toolbox.captures import records
-from toolbox.flows import SIDE
 from toolbox.packets import ANSWER, ASK, TCP, UDP, address_text, describe, inverse
 from toolbox.replay import ELSEWHERE, LOCAL, NOT_SENT, PASSED
 from toolbox.reports import Decision, event_of, events_of_some
 from toolbox.rulesets import TRANSLATIONS, read_ruleset
 
+if TYPE_CHECKING:
+    from toolbox.flows import Flows
+    from toolbox.replay import Replay
+    from toolbox.rulemap import RuleMap
+
 OPENED, BLOCKED, REWRITTEN, OTHERWISE = "opened", "blocked", "rewritten only", "dropped otherwise"
-KINDS = (None, OPENED, BLOCKED, REWRITTEN, OTHERWISE)
+KINDS = ("", OPENED, BLOCKED, REWRITTEN, OTHERWISE)
 DECIDE = ("accept", "drop", *TRANSLATIONS)
 MOST_TOLD_APART = 10_000  # hosts and ports of a group
 MOST_RANGES, MOST_IN_FILTER = 40, 20
 
-# A decision of a rule or policy; `number` is None of a policy, `chain` None where no rule decided.
-Told = namedtuple("Told", "chain number verdict text")
+
+@dataclass(frozen=True)
+class Told:
+    """A decision of a rule or policy; `number` is None of a policy, `chain` None where no rule decided."""
+
+    chain: str | None
+    number: int | None
+    verdict: str
+    text: str
+
+
+# What the rulesets made of a record: its events in each run, and how it ended in each
+Made = Tuple[Tuple[bytes, ...], Tuple[bytes, ...], str, str]
 
 
 class Sight:
     """What one ruleset makes of the records, read beside the capture."""
 
-    def __init__(self, replay, origins=None):
+    def __init__(self, replay: Replay, origins: RuleMap | None = None) -> None:
         self.replay = replay
         self.ruleset = read_ruleset(replay.rules)
         self.origins = origins  # the map of a fitted ruleset
-        self.known = {}
+        self.known: dict[bytes, Told | None] = {}
 
-    def told(self, event):
+    def told(self, event: bytes) -> Told | None:
         """The decision that an event of the report is, or None where it decides nothing."""
         if event not in self.known:
             told, one = None, event_of(event)
@@ -38,20 +57,20 @@ class Sight:
             self.known[event] = told
         return self.known[event]
 
-    def of_rule(self, one):
+    def of_rule(self, one: Decision) -> Told:
         """A decision as the operator's text has it."""
         origin = self.origins and self.origins.origin(one.chain, one.rule)
         if origin:
             return Told(origin.chain, origin.rule, one.verdict, origin.text)
         return Told(one.chain, one.rule, one.verdict, self.ruleset.text_of(one.chain, one.rule))
 
-    def decisions(self, wanted):
+    def decisions(self, wanted: array[int]) -> Iterator[tuple[tuple[bytes, ...], str]]:
         """Of each wanted record in order its events, and how it ended."""
         for record, events in zip(wanted, events_of_some(self.replay.files.report, wanted)):
             yield tuple(events), self.replay.outcome(record)
 
 
-def differing(old, new):
+def differing(old: Replay, new: Replay) -> bytearray:
     """Of each record how the replays differ, as the place in KINDS; 0: not at all."""
     count = len(old.to) - 1
     what = bytearray(count + 1)
@@ -70,12 +89,14 @@ def differing(old, new):
             what[record] = 1
         elif before:
             what[record] = 2
-        elif is_sent != is_sent_now or is_sent and old.numbers[old.outcomes[record]] != new.numbers[new.outcomes[record]]:
+        elif is_sent != is_sent_now:
+            what[record] = 4
+        elif is_sent and old.numbers[old.outcomes[record]] != new.numbers[new.outcomes[record]]:
             what[record] = 4
     return what
 
 
-def through_places(replay):
+def through_places(replay: Replay) -> list[int]:
     """By an outcome's number whether the packet went through, and how."""
     return [{PASSED: PASSED, LOCAL: LOCAL}.get(number, 0) for number in range(len(replay.names) + 1)]
 
@@ -83,7 +104,8 @@ def through_places(replay):
 # Causes
 
 
-def cause(kind, before, after, outcome_before, outcome_after):
+def cause(kind: str, before: Sequence[Told], after: Sequence[Told], outcome_before: str,
+          outcome_after: str) -> tuple[Told, Told]:
     """The old decision and the new one that a difference comes of."""
     if kind == OPENED:
         new, old = cause(BLOCKED, after, before, outcome_after, outcome_before)
@@ -92,36 +114,37 @@ def cause(kind, before, after, outcome_before, outcome_after):
         return blocked_by(before, after, outcome_before, outcome_after)
     if kind == OTHERWISE:
         return stopped_by(before, outcome_before), stopped_by(after, outcome_after)
-    old, new = parted(before, after), parted(after, before)
-    if not old and not new and outcome_before == outcome_after:
+    gone, come = parted(before, after), parted(after, before)
+    if not gone and not come and outcome_before == outcome_after:
         same = Told(None, None, outcome_after, "the same rules; other ports, since other flows have them or leave them")
         return same, same
-    return (old[0] if old else outcome(outcome_before)), (new[0] if new else outcome(outcome_after))
+    return (gone[0] if gone else outcome(outcome_before)), (come[0] if come else outcome(outcome_after))
 
 
-def stopped_by(decisions, ended):
+def stopped_by(decisions: Sequence[Told], ended: str) -> Told:
     """What dropped a packet: its last decision, if a rule did."""
     return decisions[-1] if decisions and ended == "rule" else outcome(ended)
 
 
-def blocked_by(before, after, outcome_before, outcome_after):
+def blocked_by(before: Sequence[Told], after: Sequence[Told], outcome_before: str,
+               outcome_after: str) -> tuple[Told, Told]:
     """What let a packet through is the decision in the chain that now drops it, or else the first that isn't taken any
     more; that of a policy tells least."""
     stopped = stopped_by(after, outcome_after)
     gone = parted(before, after)
     let_through = ([one for one in gone if one.chain == stopped.chain]
                    or [one for one in gone if one.number is not None or one.verdict != "accept"]
-                   or before[-1:] or [outcome(outcome_before)])
+                   or list(before[-1:]) or [outcome(outcome_before)])
     return let_through[0], stopped
 
 
-def parted(decisions, others):
+def parted(decisions: Sequence[Told], others: Sequence[Told]) -> list[Told]:
     """The decisions that the others don't have, by text: an inserted rule doesn't shift all."""
     there = {(one.chain, one.verdict, one.text) for one in others}
     return [one for one in decisions if (one.chain, one.verdict, one.text) not in there]
 
 
-def outcome(name):
+def outcome(name: str) -> Told:
     words = {"local": "addressed to this box, and let in", "not sent": "not sent: its flow was stopped before"}
     return Told(None, None, name, words.get(name, "no rule decides"))
 
@@ -132,13 +155,15 @@ def outcome(name):
 class Group:
     """The differences of one kind and cause: counts, the first record, and what a display filter needs."""
 
-    def __init__(self, number, kind, old, new, first):
+    def __init__(self, number: int, kind: str, old: Told, new: Told, first: tuple[int, str]) -> None:
         self.number, self.kind, self.old, self.new, self.first = number, kind, old, new, first
         self.packets = self.flows = self.not_sent = self.elsewhere = 0
-        self.hosts, self.ports, self.ranges = set(), Counter(), []
-        self.filtered = set()  # destination ports and kinds, on both sides of a translation
+        self.hosts: set[bytes] = set()
+        self.ports: Counter[bytes] = Counter()
+        self.ranges: list[list[int]] = []
+        self.filtered: set[bytes] = set()  # destination ports and kinds, on both sides of a translation
 
-    def take(self, record, begins, key):
+    def take(self, record: int, begins: bool, key: bytes | None) -> None:
         """Takes a record whose flow has the tuple `key`, as its first packet, or none."""
         self.packets += 1
         self.flows += begins
@@ -154,17 +179,18 @@ class Group:
         elif len(self.ranges) <= MOST_RANGES:
             self.ranges.append([record, record])
 
-    def ports_text(self):
+    def ports_text(self) -> list[tuple[str, int]]:
         """[("tcp 443", 12), ..], the most frequent first"""
-        ports = ((port_text(end), number) for end, number in sorted(self.ports.items(), key=lambda one: (-one[1], one[0])))
+        by_number = sorted(self.ports.items(), key=lambda one: (-one[1], one[0]))
+        ports = ((port_text(end), number) for end, number in by_number)
         return [one for one in ports if one[0]]
 
-    def display_filter(self):
+    def display_filter(self) -> str:
         """A display filter of Wireshark: the records; of many the hosts and ports."""
         if len(self.ranges) <= MOST_RANGES:
-            pieces = (f"{first}" if first == last else f"{first}..{last}" for first, last in self.ranges)
-            return "frame.number in {" + ", ".join(pieces) + "}"
-        pieces = []
+            numbers = (f"{first}" if first == last else f"{first}..{last}" for first, last in self.ranges)
+            return "frame.number in {" + ", ".join(numbers) + "}"
+        pieces: list[str] = []
         for name, kind in (("tcp", TCP), ("udp", UDP)):
             ports = [str(int.from_bytes(end[:2], "big")) for end in sorted(self.filtered) if end[2] == kind]
             if 0 < len(ports) <= MOST_IN_FILTER:
@@ -174,7 +200,7 @@ class Group:
         return " && ".join(whose + ([f"({' || '.join(pieces)})"] if pieces else [])) or "ip"
 
 
-def port_text(end):
+def port_text(end: bytes) -> str:
     """tcp 443, of 3 bytes: port and kind"""
     kind = end[2]
     if kind in (TCP, UDP):
@@ -185,14 +211,17 @@ def port_text(end):
 class Groups:
     """The groups of all differences. What isn't sent has its flow's group."""
 
-    def __init__(self, flows, old, new, what):
+    def __init__(self, flows: Flows, old: Sight, new: Sight, what: bytearray) -> None:
         self.flows_of, self.sights, self.what = flows, (old, new), what
-        self.all, self.by_key, self.causes = [], {}, {}
-        self.flow_counts = Counter()
+        self.all: list[Group] = []
+        self.by_key: dict[tuple[str, Told, Told], Group] = {}
+        self.causes: dict[tuple[str, Made], tuple[Told, Told]] = {}
+        self.flow_counts: Counter[str] = Counter()
         # of each flow its last group (from 1) and the kinds it is in; and what is in several groups
-        self.last, self.kinds, self.several = array("I", bytes(4 * len(flows.first))), bytearray(len(flows.first)), set()
+        self.last, self.kinds = array("I", bytes(4 * len(flows.first))), bytearray(len(flows.first))
+        self.several: set[tuple[int, int]] = set()
 
-    def each(self):
+    def each(self) -> Iterator[tuple[int, bytes, Group]]:
         """Groups the differences, and gives each record as (record, its bytes, its group)."""
         if not any(self.what):
             return
@@ -203,7 +232,7 @@ class Groups:
                 (before, outcome_before), (after, outcome_after) = next(decisions)
                 yield record, data, self.take(record, data, (before, after, outcome_before, outcome_after))
 
-    def take(self, record, data, made):
+    def take(self, record: int, data: bytes, made: Made) -> Group:
         flow, kind = self.flows_of.of[record], KINDS[self.what[record]]
         unsent = [sight.replay for sight in self.sights if sight.replay.to[record] == NOT_SENT]
         group = self.all[self.last[flow] - 1] if unsent and self.last[flow] else None
@@ -222,15 +251,15 @@ class Groups:
         group.elsewhere += any(one.cut[flow] == ELSEWHERE for one in unsent)
         return group
 
-    def cause_of(self, kind, made):
-        key = kind, *made
+    def cause_of(self, kind: str, made: Made) -> tuple[Told, Told]:
+        key = kind, made
         if key not in self.causes:
             before, after = (
                 [told for told in map(sight.told, events) if told] for sight, events in zip(self.sights, made[:2]))
             self.causes[key] = cause(kind, before, after, *made[2:])
         return self.causes[key]
 
-    def begins(self, flow, group):
+    def begins(self, flow: int, group: Group) -> bool:
         """Whether the group hasn't had this flow; a record of none is a flow of its own."""
         bit = 1 << KINDS.index(group.kind)
         self.flow_counts[group.kind] += not (flow and self.kinds[flow] & bit)
@@ -245,9 +274,9 @@ class Groups:
         self.several.add((flow, group.number))
         return not known
 
-    def tuple_of(self, record):
+    def tuple_of(self, record: int) -> bytes | None:
         """The tuple of the flow's side 0, as this record has it."""
         flows = self.flows_of
         if not flows.of[record]:
             return None
-        return inverse(flows.tuple_of(record)) if flows.role[record] & SIDE else flows.tuple_of(record)
+        return inverse(flows.tuple_of(record)) if flows.side(record) else flows.tuple_of(record)

@@ -1,14 +1,22 @@
 """Records as lines of JSON: what came, what left, and the rules on the way."""
+from __future__ import annotations
+
 import json
 from itertools import islice
+from typing import TYPE_CHECKING, Callable, Dict, Iterator, TypeVar
 
 from toolbox.captures import (
     BROADCAST, LINK_LENGTHS, LINUX_SLL2, MULTICAST, OTHER_STATION, SENT_BY_US, header_of, packet_at, records)
 from toolbox.flows import ERROR, MOST_READ, SIDE
 from toolbox.packets import (
-    ANSWER, ASK, ECHO_REPLY, ECHO_REQUEST, ICMP, PORTED, PROTOCOL_NAMES, TCP, UDP, address_text, error_tuple_at, inverse,
-    tuple_at)
+    ANSWER, ASK, ECHO_REPLY, ECHO_REQUEST, ICMP, PORTED, PROTOCOL_NAMES, TCP, UDP, address_text, error_tuple_at,
+    inverse, tuple_at)
 from toolbox.reports import Log, event_of, text_of, traced_records
+
+if TYPE_CHECKING:
+    from toolbox.boxes import Box
+    from toolbox.flows import Flows
+    from toolbox.rulesets import Ruleset
 
 ECHOES = (ASK[0], ANSWER[0])
 DIRECTIONS = ('"original"', '"reply"')
@@ -19,40 +27,47 @@ LINK_KINDS = {bytes([kind]): f', "link": "{word}"' for kind, word in (
 OUT_LINK = LINK_LENGTHS[LINUX_SLL2]
 
 
-class Cache(dict):
-    """A dict that makes what it lacks, and begins anew when it is full."""
+Known = TypeVar("Known")
+Told = Dict[str, object]  # what becomes an object of JSON
 
-    def __init__(self, make):
+
+class Cache(Dict[Known, str]):
+    """Texts by what they are of: makes those that it lacks, and begins anew when it is full."""
+
+    def __init__(self, make: Callable[[Known], str]) -> None:
         super().__init__()
         self.make = make
 
-    def __missing__(self, key):
+    def __missing__(self, key: Known) -> str:
         if len(self) >= MOST_CACHED:
             self.clear()
         value = self[key] = self.make(key)
         return value
 
 
-def event_json(event, ruleset=None):
+def event_json(event: bytes, ruleset: Ruleset | None = None) -> Told:
     """An event of a report, with the text of its rule where the ruleset is known."""
     one = event_of(event)
-    told = {"chain": one.chain, "rule": one.rule}
-    told["log" if isinstance(one, Log) else "verdict"] = one[2]
+    told: Told = {"chain": one.chain, "rule": one.rule}
+    if isinstance(one, Log):
+        told["log"] = one.prefix
+    else:
+        told["verdict"] = one.verdict
     if ruleset is not None and one.rule is not None:
         told["text"] = ruleset.text_of(one.chain, one.rule)
     return told
 
 
-def events_cache(ruleset=None):
+def events_cache(ruleset: Ruleset | None = None) -> Cache[bytes]:
     """The JSON of events, by their bytes, each with a newline behind it."""
     return Cache(lambda events: json.dumps([event_json(event, ruleset) for event in events.split(b"\n")[:-1]]))
 
 
-def tuple_json(key):
+def tuple_json(key: bytes) -> Told:
     """The parts of a tuple."""
     kind = key[12]
-    told = {"protocol": PROTOCOL_NAMES.get(kind, str(kind)),
-            "saddr": address_text(key[:4]), "daddr": address_text(key[4:8])}
+    told: Told = {"protocol": PROTOCOL_NAMES.get(kind, str(kind)), "saddr": address_text(key[:4]),
+                  "daddr": address_text(key[4:8])}
     if kind in (TCP, UDP):
         told["sport"], told["dport"] = int.from_bytes(key[8:10], "big"), int.from_bytes(key[10:12], "big")
     elif kind in (ICMP, 255):
@@ -62,13 +77,13 @@ def tuple_json(key):
     return told
 
 
-def packet_json(data, at):
+def packet_json(data: bytes, at: int | None) -> Told | None:
     """The ends of an IPv4 packet of any kind, or None."""
     if at is None or len(data) < at + 20 or data[at] >> 4 != 4:
         return None
     protocol, behind = data[at + 9], at + 4 * (data[at] & 15)
-    told = {"protocol": PROTOCOL_NAMES.get(protocol, str(protocol)),
-            "saddr": address_text(data[at + 12:at + 16]), "daddr": address_text(data[at + 16:at + 20])}
+    told: Told = {"protocol": PROTOCOL_NAMES.get(protocol, str(protocol)),
+                  "saddr": address_text(data[at + 12:at + 16]), "daddr": address_text(data[at + 16:at + 20])}
     if data[at + 6] & 0x1F or data[at + 7]:
         told["fragment"] = True
     elif protocol in (TCP, UDP) and len(data) >= behind + 4:
@@ -87,25 +102,28 @@ def packet_json(data, at):
 class PacketTexts:
     """The JSON of packets. That of TCP and UDP is kept by their tuple, that of an echo by its tuple and code."""
 
-    def __init__(self):
-        self.kept, self.echoes, self.addresses = Cache(self.ports_text), Cache(self.echo_text), Cache(address_text)
+    def __init__(self) -> None:
+        self.kept: Cache[bytes] = Cache(self.ports_text)
+        self.echoes: Cache[bytes] = Cache(self.echo_text)
+        self.addresses: Cache[bytes] = Cache(address_text)
 
-    def ends_text(self, protocol, key):
-        return f'{{"protocol": "{protocol}", "saddr": "{self.addresses[key[:4]]}", "daddr": "{self.addresses[key[4:8]]}"'
+    def ends_text(self, protocol: str, key: bytes) -> str:
+        source, destination = self.addresses[key[:4]], self.addresses[key[4:8]]
+        return f'{{"protocol": "{protocol}", "saddr": "{source}", "daddr": "{destination}"'
 
-    def ports_text(self, key):
+    def ports_text(self, key: bytes) -> str:
         return (f'{self.ends_text(PROTOCOL_NAMES[key[12]], key)}, "sport": {key[8] << 8 | key[9]}, '
                 f'"dport": {key[10] << 8 | key[11]}}}')
 
-    def echo_text(self, key):
+    def echo_text(self, key: bytes) -> str:
         is_request = key[12] == ASK[0]
         identifier = key[8] << 8 | key[9] if is_request else key[10] << 8 | key[11]
         return (f'{self.ends_text("icmp", key)}, "type": {ECHO_REQUEST if is_request else ECHO_REPLY}, '
                 f'"code": {key[13]}, "id": {identifier}}}')
 
-    def text(self, data, at):
+    def text(self, data: bytes, at: int | None) -> str:
         key = None if at is None else tuple_at(data, at)
-        if key is None:
+        if key is None or at is None:
             return json.dumps(packet_json(data, at))
         if key[12] in PORTED:
             return self.kept[key]
@@ -118,17 +136,17 @@ class PacketTexts:
 class RecordTexts:
     """The line of each record of a run."""
 
-    def __init__(self, flows, box, ruleset):
+    def __init__(self, flows: Flows, box: Box, ruleset: Ruleset) -> None:
         self.flows, self.header = flows, header_of(flows.path)
         self.events, self.packets = events_cache(ruleset), PacketTexts()
         # of entering packets of TCP and UDP, by the place of their tuple
-        self.came = Cache(lambda place: self.packets.ports_text(flows.tuples[place]))
+        self.came: Cache[int] = Cache(lambda place: self.packets.ports_text(flows.tuples[place]))
         names = {index.to_bytes(4, "big"): name for index, name in box.names.items()}
-        self.names = Cache(lambda index: json.dumps(names.get(index, int.from_bytes(index, "big"))))
-        self.outcomes = Cache(lambda outcome: json.dumps(text_of(outcome)))
+        self.names: Cache[bytes] = Cache(lambda index: json.dumps(names.get(index, int.from_bytes(index, "big"))))
+        self.outcomes: Cache[bytes] = Cache(lambda outcome: json.dumps(text_of(outcome)))
         self.default = json.dumps(box.default)
 
-    def lines(self, leaving, report):
+    def lines(self, leaving: str, report: str) -> Iterator[str]:
         """The lines in order, by the packets that left and the report."""
         flows, link_type, digits = self.flows, self.header.link_type, len(str(self.header.fractions)) - 1
         packet_text, names, came, told, outcomes = self.packets.text, self.names, self.came, self.events, self.outcomes

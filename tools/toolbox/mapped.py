@@ -1,14 +1,31 @@
 """What a report tells of the operator's own rules, through the map of a fitted ruleset (rulemap)."""
-from collections import namedtuple
+from __future__ import annotations
 
-from toolbox.commands import Refused, plural, printable, read_bytes
+from dataclasses import dataclass
+from typing import TYPE_CHECKING, Mapping, Sequence
+
+from toolbox.commands import Refused, plural, read_bytes, say
 from toolbox.rulemap import map_of
 
-# `rules` are the fitted ones that come from it
-OldRule = namedtuple("OldRule", "chain number file line text rules")
+if TYPE_CHECKING:
+    from toolbox.hits import Hits
+    from toolbox.rulemap import RuleMap
+    from toolbox.rulesets import Rule, Ruleset
 
 
-def maps_of(paths, *rulesets):
+@dataclass(frozen=True)
+class OldRule:
+    """A rule of the operator's text; `rules` are the fitted ones that come from it."""
+
+    chain: str
+    number: int
+    file: str
+    line: int
+    text: str
+    rules: list[Rule]
+
+
+def maps_of(paths: Sequence[str], *rulesets: str) -> list[RuleMap | None]:
     """Of each ruleset (a path) its map among those given, or None; refused where one given is of none of them."""
     texts = [read_bytes(it) for it in rulesets] if paths else []
     for path in paths:
@@ -20,9 +37,9 @@ def maps_of(paths, *rulesets):
 class MappedRules:
     """The operator's rules in the order of his text, with what became of them."""
 
-    def __init__(self, origins, ruleset, hits, reasons):
+    def __init__(self, origins: RuleMap, ruleset: Ruleset, hits: Hits, reasons: Mapping[tuple[str, int], str]) -> None:
         self.origins, self.hits, self.reasons = origins, hits, reasons
-        found = {}
+        found: dict[tuple[str, int, str, int], OldRule] = {}
         for rule in ruleset.rules:
             origin = origins.origin(*rule.place)
             if origin is not None:
@@ -33,49 +50,51 @@ class MappedRules:
         files = list(dict.fromkeys(key[0] for key in found))
         self.rules = [found[key] for key in sorted(found, key=lambda it: (files.index(it[0]), *it[1:]))]
 
-    def number(self, old):
+    def number(self, old: OldRule) -> int | None:
         """How often the rule was hit: of several that it became a packet meets one, but for their counters, which are
         added as the rule had them."""
         if all(self.hits.number(rule) is None for rule in old.rules):
             return None
         decided = sum(self.hits.decided.get(rule.place, 0) for rule in old.rules)
         logged = sum(self.hits.logged.get(rule.place, 0) for rule in old.rules)
-        counted = {}
+        counted: dict[int, int] = {}
         for rule in old.rules:
-            which = self.origins.origin(*rule.place).counters
-            for counter, packets in zip(which, self.hits.counted.get(rule.place, [])):
+            origin = self.origins.origin(*rule.place)
+            for counter, packets in zip(origin.counters if origin else (), self.hits.counted.get(rule.place, [])):
                 counted[counter] = counted.get(counter, 0) + packets
         return max([decided, logged, *counted.values()])
 
-    def mark(self, old):
+    def mark(self, old: OldRule) -> str:
         number = self.number(old)
         if not number and self.is_never(old):
             return "-"
         return "?" if number is None else str(number)
 
-    def is_never(self, old):
+    def is_never(self, old: OldRule) -> bool:
         return all(rule.place in self.reasons for rule in old.rules)
 
-    def is_unmet(self, old):
+    def is_unmet(self, old: OldRule) -> bool:
         seen = [rule for rule in old.rules if self.hits.number(rule) is not None]
         return bool(seen) and not self.is_never(old) and all(self.hits.is_unmet(rule) for rule in seen)
 
-    def print_rules(self):
+    def print_rules(self) -> None:
         """Each rule with its hits, below the chain that it stands in."""
         chain = None
         for old in self.rules:
             if old.chain != chain:
                 chain = old.chain
-                print(printable(f"          {chain}"))
-            print(printable(f"{self.mark(old):>8}  {old.file}:{old.line}: {old.number}: {old.text}"))
+                say(f"          {chain}")
+            say(f"{self.mark(old):>8}  {old.file}:{old.line}: {old.number}: {old.text}")
 
-    def print_unmet(self):
+    def print_unmet(self) -> None:
         unmet = [old for old in self.rules if self.is_unmet(old)]
-        print(f"\n{len(unmet)} of {plural(len(self.rules), 'rule')} met no packet")
+        say()
+        say(f"{len(unmet)} of {plural(len(self.rules), 'rule')} met no packet")
         for old in unmet:
-            print(printable(f"  {old.file}:{old.line}: {old.chain} {old.number}: {old.text}"))
+            say(f"  {old.file}:{old.line}: {old.chain} {old.number}: {old.text}")
         never = [old for old in self.rules if not self.number(old) and self.is_never(old)]
         if never:
-            print(f"\n{plural(len(never), 'rule')} that no packet of a run can meet")
+            say()
+            say(f"{plural(len(never), 'rule')} that no packet of a run can meet")
             for old in never:
-                print(printable(f"  {old.file}:{old.line}: {old.chain} {old.number}: {old.text}"))
+                say(f"  {old.file}:{old.line}: {old.chain} {old.number}: {old.text}")

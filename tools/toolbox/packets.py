@@ -4,16 +4,21 @@ A tuple is 13 bytes: source and destination address, source and destination port
 kind. The kind is the protocol's number, but 1 for an echo request and 255 (which is reserved) for an echo reply; an
 echo's identifier stands in a port's place, as conntrack has it. An end is 6 bytes, address and port.
 """
-import struct
+from __future__ import annotations
 
+import struct
+from typing import Callable, Sequence, Union, cast
+
+Bytes = Union[bytes, bytearray]
 ICMP, TCP, UDP = 1, 6, 17
 PORTED = (TCP, UDP)
 NOT_WHOLE = 0x3FFF  # of flags and offset: what is set in a fragment
 # of a packet with a usual header: version and header length, flags and offset, protocol, both addresses and ports
-usual_parts = struct.Struct(">B5xHxB2x12s").unpack_from
+usual_parts = cast("Callable[[bytes, int], tuple[int, int, int, bytes]]", struct.Struct(">B5xHxB2x12s").unpack_from)
 ASK, ANSWER, TCP_KIND, UDP_KIND = b"\x01", b"\xff", bytes([TCP]), bytes([UDP])
 PARTS = struct.Struct("4s4s2s2s1s")
-parts_of, joined_parts = PARTS.unpack, PARTS.pack
+parts_of = cast("Callable[[bytes], tuple[bytes, bytes, bytes, bytes, bytes]]", PARTS.unpack)
+joined_parts: Callable[[bytes, bytes, bytes, bytes, bytes], bytes] = PARTS.pack
 USUAL_HEADER = 0x45  # version 4, without options
 ECHO_REPLY, ECHO_REQUEST = 0, 8
 ICMP_ERRORS = frozenset((3, 4, 5, 11, 12))
@@ -25,9 +30,9 @@ ICMP_NAMES = {0: "echo-reply", 3: "destination-unreachable", 4: "source-quench",
               11: "time-exceeded", 12: "parameter-problem", 13: "timestamp-request", 14: "timestamp-reply"}
 
 
-def tuple_at(data, at, cut=False):
-    """The tuple of the IPv4 packet that begins at `at`; None where it has none (a fragment, an ICMP error, a header that
-    doesn't fit). `cut` allows a transport header of 8 bytes."""
+def tuple_at(data: bytes, at: int, cut: bool = False) -> bytes | None:
+    """The tuple of the IPv4 packet that begins at `at`; None where it has none (a fragment, an ICMP error, a header
+    that doesn't fit). `cut` allows a transport header of 8 bytes."""
     size = len(data)
     if size >= at + 34:
         version, fragment, protocol, ends = usual_parts(data, at)
@@ -52,7 +57,7 @@ def tuple_at(data, at, cut=False):
     return None
 
 
-def error_tuple_at(data, at):
+def error_tuple_at(data: bytes, at: int) -> bytes | None:
     """Of an ICMP error the tuple of the answer to the datagram in it; None of other packets."""
     if len(data) < at + 24 or data[at] >> 4 != 4 or data[at + 9] != ICMP or data[at + 6] & 0x3F or data[at + 7]:
         return None
@@ -64,28 +69,29 @@ def error_tuple_at(data, at):
     return inner and inverse(inner)
 
 
-def inverse_kind(kind):
+def inverse_kind(kind: bytes) -> bytes:
     return {ASK: ANSWER, ANSWER: ASK}.get(kind, kind)
 
 
-def inverse(key):
+def inverse(key: bytes) -> bytes:
     """The tuple of what answers."""
     source, destination, source_port, destination_port, kind = parts_of(key)
     return joined_parts(destination, source, destination_port, source_port,
                         kind if kind != ASK and kind != ANSWER else inverse_kind(kind))
 
 
-def source_end(key):
+def source_end(key: bytes) -> bytes:
     return key[:4] + key[8:10]
 
 
-def destination_end(key):
+def destination_end(key: bytes) -> bytes:
     return key[4:8] + key[10:12]
 
 
-def identity(data, at):
+def identity(data: bytes, at: int) -> bytes:
     """What translation and forwarding leave of a packet, to know it again in its outgoing copy: length, identification,
-    and of the transport what isn't a port or a checksum; of the datagram in an ICMP error its header up to the checksum."""
+    and of the transport what isn't a port or a checksum; of the datagram in an ICMP error its header up to the
+    checksum."""
     protocol, behind = data[at + 9], at + 4 * (data[at] & 15)
     if protocol == TCP:
         return data[at + 2:at + 6] + data[behind + 4:behind + 16]
@@ -97,10 +103,10 @@ def identity(data, at):
     return data[at + 2:at + 6] + data[behind:behind + 40]
 
 
-def without_ports(packet):
-    """An IPv4 packet without ports, identifiers of echoes and checksums, also in the datagram of an ICMP error: what two
-    boxes that chose other ports have in common."""
-    packet = bytearray(packet[:int.from_bytes(packet[2:4], "big")])
+def without_ports(whole: bytes) -> bytes:
+    """An IPv4 packet without ports, identifiers of echoes and checksums, also in the datagram of an ICMP error: what
+    two boxes that chose other ports have in common."""
+    packet = bytearray(whole[:int.from_bytes(whole[2:4], "big")])
     if len(packet) >= 20:
         blank_ports(packet, 0)
         if error_tuple_at(packet, 0):
@@ -108,7 +114,7 @@ def without_ports(packet):
     return bytes(packet)
 
 
-def blank_ports(packet, at):
+def blank_ports(packet: bytearray, at: int) -> None:
     """Makes zero the ports, or the identifier, and the checksums of the packet that begins at `at`."""
     behind = at + 4 * (packet[at] & 15)
     places = [(at + 10, 2)]
@@ -125,24 +131,24 @@ def blank_ports(packet, at):
 # Checksums
 
 
-def checksum(data):
+def checksum(data: bytes) -> int:
     """The complement of the ones' complement sum of the 16-bit words (RFC 1071)."""
     if len(data) % 2:
         data += b"\0"
-    total = sum(struct.unpack(f">{len(data) // 2}H", data))
+    total: int = sum(struct.unpack(f">{len(data) // 2}H", data))
     while total >> 16:
         total = (total & 0xFFFF) + (total >> 16)
     return total ^ 0xFFFF
 
 
-def corrected(check, old, new):
+def corrected(check: Bytes, old: Bytes, new: Bytes) -> bytes:
     """The checksum over words that change from `old` to `new` (RFC 1624): a wrong one stays as wrong as it was."""
     # 65,536 is 1 modulo 65,535, so the words' sum is that of the whole as one number
     total = (int.from_bytes(check, "big") + int.from_bytes(old, "big") - int.from_bytes(new, "big")) % 0xFFFF
     return total.to_bytes(2, "big")
 
 
-def checksum_place(packet, at, behind):
+def checksum_place(packet: bytearray, at: int, behind: int) -> int | None:
     """Where the transport's checksum stands, or None where there is none."""
     place = {TCP: behind + 16, UDP: behind + 6, ICMP: behind + 2}.get(packet[at + 9])
     if place is None or place + 2 > len(packet) or packet[at + 9] == UDP and packet[place:place + 2] == NO_PORT:
@@ -153,7 +159,7 @@ def checksum_place(packet, at, behind):
 # Another destination for a packet
 
 
-def put(packet, place, new, checksums):
+def put(packet: bytearray, place: int, new: bytes, checksums: Sequence[int]) -> None:
     """Writes `new` at `place`, which is even, and corrects the checksums at `checksums`."""
     old = bytes(packet[place:place + len(new)])
     packet[place:place + len(new)] = new
@@ -161,7 +167,7 @@ def put(packet, place, new, checksums):
         packet[check:check + 2] = corrected(packet[check:check + 2], old, new)
 
 
-def change_end(packet, at, behind, address_place, port_place, end):
+def change_end(packet: bytearray, at: int, behind: int, address_place: int, port_place: int, end: bytes) -> None:
     """Makes `end` the address and the port that stand at these places, with all checksums over them."""
     protocol, check = packet[at + 9], checksum_place(packet, at, behind)
     address = bytes(packet[address_place:address_place + 4])
@@ -178,10 +184,10 @@ def change_end(packet, at, behind, address_place, port_place, end):
         put(packet, behind + 4, end[4:], [check] if check else [])
 
 
-def with_destination(packet, end):
+def with_destination(whole: bytes, end: bytes) -> bytes:
     """The IPv4 packet with `end` as its destination. Of an ICMP error the source of the datagram in it becomes `end`,
     and the error's own destination where it was the same address."""
-    packet = bytearray(packet)
+    packet = bytearray(whole)
     behind = 4 * (packet[0] & 15)
     if packet[9] != ICMP or packet[behind] not in ICMP_ERRORS:
         change_end(packet, 0, behind, 16, behind + 2, end)
@@ -202,16 +208,16 @@ def with_destination(packet, end):
 # Words
 
 
-def address_text(address):
+def address_text(address: bytes) -> str:
     return ".".join(map(str, address))
 
 
-def end_text(end):
+def end_text(end: bytes) -> str:
     """203.0.113.1:5000"""
     return f"{address_text(end[:4])}:{int.from_bytes(end[4:6], 'big')}"
 
 
-def tuple_text(key):
+def tuple_text(key: bytes) -> str:
     """udp 192.168.1.10:5000 > 198.51.100.7:53"""
     kind = key[12]
     if kind in (TCP, UDP):
@@ -224,7 +230,7 @@ def tuple_text(key):
     return f"protocol {kind} {addresses}"
 
 
-def describe(data, at):
+def describe(data: bytes, at: int | None) -> str:
     """The packet in words: its tuple, or what else can be said of it."""
     if at is None or len(data) < at + 20 or data[at] >> 4 != 4:
         return "no IPv4 packet"
@@ -239,10 +245,11 @@ def describe(data, at):
         return f"{PROTOCOL_NAMES.get(data[at + 9], f'protocol {data[at + 9]}')} {addresses}"
     about = error_tuple_at(data, at)
     name = ICMP_NAMES.get(data[behind], f"type {data[behind]}")
-    return f"icmp {addresses} {name} code {data[behind + 1]}" + (f" about {tuple_text(inverse(about))}" if about else "")
+    told = f" about {tuple_text(inverse(about))}" if about else ""
+    return f"icmp {addresses} {name} code {data[behind + 1]}{told}"
 
 
-def flags_text(flags):
+def flags_text(flags: int) -> str:
     """syn ack"""
     names = (("syn", SYN), ("ack", ACK), ("fin", FIN), ("rst", RST), ("psh", PSH), ("urg", URG))
     return " ".join(name for name, bit in names if flags & bit) or "no flags"

@@ -1,13 +1,17 @@
 """A ruleset over a capture as it would have been: answers go to the ends that this ruleset chose, and what a host
-wouldn't have sent, since nothing answered it, isn't sent. Nor are answers to the box's own packets: a run doesn't have these.
+wouldn't have sent, since nothing answered it, isn't sent. Nor are answers to the box's own packets: a run doesn't have
+these.
 
 Each round runs nftrun and decides anew, for each record, where it goes; the rounds end when one decides as the round
 before. A decision rests on earlier records alone, so each round settles one more at least, and there is one end.
 """
+from __future__ import annotations
+
 import os
 import shutil
 import struct
 from array import array
+from typing import TYPE_CHECKING, Iterator
 
 from toolbox import program
 from toolbox.captures import LINK_LENGTHS, LINUX_SLL2, OTHER_STATION, RAW_IP, header_of, pieces, records
@@ -15,6 +19,9 @@ from toolbox.commands import Refused
 from toolbox.flows import BEGUN, ERROR, OPENER, OWN, SAW_SYN_ACK, SIDE, SYN_ACK, TRANSLATED
 from toolbox.packets import PORTED, TCP, USUAL_HEADER, destination_end, inverse, source_end, tuple_at, with_destination
 from toolbox.reports import outcomes_of
+
+if TYPE_CHECKING:
+    from toolbox.flows import Flows
 
 # Where a record goes: as it came, to an end (its place in `ends`, from 1), or nowhere
 AS_CAPTURED, NOT_SENT = 0, 0xFFFFFFFF
@@ -29,7 +36,7 @@ MOST_CHANGED = 2048  # bytes of a record within which its headers stand, or the 
 class Files:
     """Where the runs of one ruleset put their files, in a folder that is gone in the end."""
 
-    def __init__(self, folder, name):
+    def __init__(self, folder: str, name: str) -> None:
         self.report = os.path.join(folder, name + ".report.txt")
         self.leaving = os.path.join(folder, name + ".out.pcap")
         self.replayed = os.path.join(folder, name + ".in.pcap")
@@ -40,17 +47,19 @@ class Replay:
     sent, but for flows that are `spared`. `like` is another replay that is likely to end near, to begin with. With
     `as_captured` there is one run, of the capture as it is.
 
-    Afterwards `to` and `ends` tell where each record goes, `cut` of each flow why it was cut, `outcomes` and `names` how
-    each record ended; `files` has the last report and what left."""
+    Afterwards `to` and `ends` tell where each record goes, `cut` of each flow why it was cut, `outcomes` and `names`
+    how each record ended; `files` has the last report and what left."""
 
-    def __init__(self, path, rules, box, flows, files, cuts, spared=None, like=None, as_captured=False):
+    def __init__(self, path: str, rules: str, box: str, flows: Flows, files: Files, cuts: bool,
+                 spared: bytearray | None = None, like: Replay | None = None, as_captured: bool = False) -> None:
         self.program, self.rules, self.box, self.flows, self.files = path, rules, box, flows, files
         self.cuts, self.spared, self.as_captured = cuts, spared, as_captured
         self.names = {b"passed": PASSED, b"local": LOCAL}
-        self.to, self.ends = (like.to, like.ends) if like else (array("I", bytes(4 * (flows.count + 1))), Ends())
+        self.to: array[int] = like.to if like else array("I", bytes(4 * (flows.count + 1)))
+        self.ends: Ends = like.ends if like else Ends()
         self.cut = bytearray(flows.number() + 1)
         self.rounds, self.settled = 0, as_captured
-        self.plan = like.plan if like else Plan(flows, files)
+        self.plan: Plan = like.plan if like else Plan(flows, files)
         if as_captured:
             self.run()
             if not flows.copies or flows.aligned:
@@ -60,9 +69,9 @@ class Replay:
             self.run()
             # answers that don't go to this ruleset's ends yet are dropped, which is no reason to cut
             self.take(cuts and (self.rounds > 1 or like is not None))
-        self.numbers = {number: name.decode() for name, number in self.names.items()}
+        self.numbers: dict[int, str] = {number: name.decode() for name, number in self.names.items()}
 
-    def run(self):
+    def run(self) -> None:
         capture = self.written() if any(self.to) else self.flows.path
         program.run(self.program, self.rules, self.box, capture, self.files.leaving, self.files.report)
         self.outcomes = outcomes_of(self.files.report, self.names)
@@ -70,7 +79,7 @@ class Replay:
             raise Refused(f"{self.flows.path} has {self.flows.count} records, and the report on {self.rules} "
                           f"{len(self.outcomes) - 1}")
 
-    def decide(self, cuts):
+    def decide(self, cuts: bool) -> Decisions:
         decisions = Decisions(self, cuts)
         try:
             decisions.make()
@@ -78,14 +87,14 @@ class Replay:
             raise Refused(f"the run of {self.rules}: more records passed than packets left") from None
         return decisions
 
-    def join(self, decisions):
+    def join(self, decisions: Decisions) -> bool:
         """Joins the flows that a run shows to be one; answers whether there are any."""
         if decisions.joined or decisions.joined_errors:
             self.flows.join(decisions.joined, decisions.joined_errors)
             return True
         return False
 
-    def take(self, with_cuts):
+    def take(self, with_cuts: bool) -> None:
         """Decides after a round, and settles if the decisions are those of the round before."""
         decisions = self.decide(with_cuts)
         joins = self.join(decisions)
@@ -94,21 +103,21 @@ class Replay:
         self.settled = decisions.to == self.to
         self.to, self.cut = decisions.to, decisions.cut
 
-    def outcome(self, record):
+    def outcome(self, record: int) -> str:
         """How a record ended; "not sent" where the host wouldn't have sent it."""
         return "not sent" if self.to[record] == NOT_SENT else self.numbers[self.outcomes[record]]
 
-    def leaving_packets(self):
+    def leaving_packets(self) -> Iterator[bytes | None]:
         """Of each record in order (from 1) the frame that left, or None."""
         leaving = records(self.files.leaving)
         for outcome in self.outcomes[1:]:
             yield next(leaving)[6] if outcome == PASSED else None
 
-    def redirected(self):
+    def redirected(self) -> list[int]:
         """The records that go to another end than they came with."""
         return [record for record, place in enumerate(self.to) if place not in (AS_CAPTURED, NOT_SENT)]
 
-    def written(self):
+    def written(self) -> str:
         """The path of the capture as it would have been."""
         return self.plan.write(self.to, self.ends)
 
@@ -116,13 +125,14 @@ class Replay:
 class Ends:
     """The ends to which answers are sent, by number from 1; each keeps its number for all rounds."""
 
-    def __init__(self):
-        self.ends, self.numbers = [], {}
+    def __init__(self) -> None:
+        self.ends: list[bytes] = []
+        self.numbers: dict[bytes, int] = {}
 
-    def __getitem__(self, number):
+    def __getitem__(self, number: int) -> bytes:
         return self.ends[number - 1]
 
-    def number(self, end):
+    def number(self, end: bytes) -> int:
         number = self.numbers.get(end)
         if number is None:
             self.ends.append(end)
@@ -131,15 +141,15 @@ class Ends:
 
 
 class Plan:
-    """The capture as it would have been, in a file. What isn't sent becomes a record of the same length and time that no
-    rule sees, so that numbers stay."""
+    """The capture as it would have been, in a file. What isn't sent becomes a record of the same length and time that
+    no rule sees, so that numbers stay."""
 
-    def __init__(self, flows, files):
+    def __init__(self, flows: Flows, files: Files) -> None:
         self.flows, self.path = flows, files.replayed
-        self.to = None
+        self.to: array[int] | None = None
         self.lengths = struct.Struct(header_of(flows.path).order + "I")
 
-    def write(self, to, ends):
+    def write(self, to: array[int], ends: Ends) -> str:
         """Writes what differs from what was written before, and answers the file's path."""
         if self.to is None:
             shutil.copyfile(self.flows.path, self.path)
@@ -152,7 +162,7 @@ class Plan:
             self.to = to
         return self.path
 
-    def write_record(self, record, place, ends, source, target):
+    def write_record(self, record: int, place: int, ends: Ends, source: int, target: int) -> None:
         flows = self.flows
         offset = flows.offset[record]
         if place == NOT_SENT:
@@ -165,7 +175,7 @@ class Plan:
         os.pwrite(target, data, offset)
 
 
-def silence(file, offset, link_type):
+def silence(file: int, offset: int, link_type: int) -> None:
     """Makes a record one that no rule sees, for `link`, `version` or `notip`."""
     if link_type == LINUX_SLL2:
         os.pwrite(file, bytes([OTHER_STATION]), offset + 10)
@@ -175,7 +185,7 @@ def silence(file, offset, link_type):
         os.pwrite(file, b"\0\0", offset + 12)
 
 
-def left_tuples(path):
+def left_tuples(path: str) -> Iterator[bytes | None]:
     """The tuple of each packet that a run sent, or None. A run sends no fragments."""
     header, protocol, ends = OUT_LINK, OUT_LINK + 9, OUT_LINK + 12
     for piece, _, starts, _ in pieces(path):
@@ -188,7 +198,7 @@ def left_tuples(path):
 class Decisions:
     """Where each record goes after a round, by the outcomes and what left."""
 
-    def __init__(self, replay, cuts):
+    def __init__(self, replay: Replay, cuts: bool) -> None:
         flows = self.flows = replay.flows
         self.outcomes, self.left = replay.outcomes, left_tuples(replay.files.leaving)
         self.cuts, self.spared, self.takes_out = cuts, replay.spared, not replay.as_captured
@@ -197,15 +207,18 @@ class Decisions:
         self.opened = bytearray(len(flows.first))  # PASSED, LOCAL: an opener went through; 4: a SYN and ACK did
         self.fine = bytearray(len(flows.first))  # whose beginning went through: it is cut no more
         # by flow times two, and side: the tuple with which its packets have to come, the one with which they last left
-        self.choice, self.left_as = [None] * (2 * len(flows.first)), [None] * (2 * len(flows.first))
+        self.choice: list[bytes | None] = [None] * (2 * len(flows.first))
+        self.left_as: list[bytes | None] = [None] * (2 * len(flows.first))
         # without copies a run tells which later flow is the other side of an earlier one
-        self.expected = None if flows.copies and not flows.aligned or replay.spared else {}
-        self.joined, self.joined_errors = {}, {}
+        self.joins = not (flows.copies and not flows.aligned or replay.spared)
+        self.expected: dict[bytes, int] = {}
+        self.joined: dict[int, int] = {}
+        self.joined_errors: dict[int, int] = {}
 
-    def make(self):
-        flows, next_left, cuts, joins = self.flows, self.left.__next__, self.cuts, self.expected is not None
+    def make(self) -> None:
+        flows, next_left, cuts, joins = self.flows, self.left.__next__, self.cuts, self.joins
         seen, tuples, known, first = flows.seen, flows.tuples, flows.flags, flows.first
-        to, choice, left_as, fine, opened = self.to, self.choice, self.left_as, self.fine, self.opened
+        to, choice, left_as, fine = self.to, self.choice, self.left_as, self.fine
         takes_out = self.takes_out
         for record, (flow, what, outcome) in enumerate(zip(flows.of, flows.role, self.outcomes)):
             left = next_left() if outcome == PASSED else None
@@ -213,17 +226,15 @@ class Decisions:
                 if what and joins:
                     self.look_for_error(record)
                 continue
-            if takes_out and known[flow] & OWN:
-                to[record] = NOT_SENT
-                continue
             # an opener comes before any answer, so it is never cut
-            if cuts and not fine[flow] and not what & OPENER and known[flow] & BEGUN and self.is_cut(record, flow):
+            if takes_out and known[flow] & OWN or cuts and not fine[flow] and not what & OPENER and (
+                    known[flow] & BEGUN and self.is_cut(record, flow)):
                 to[record] = NOT_SENT
                 continue
             side = what & SIDE
             value = flow + flow + side
-            if what & (OPENER | SYN_ACK) and (outcome == PASSED or outcome == LOCAL):
-                opened[flow] |= outcome if what & OPENER else 4
+            if what & (OPENER | SYN_ACK):
+                self.note_opening(flow, what, outcome)
             wanted = choice[value]
             if wanted is not None:
                 came = tuples[seen[record]]
@@ -238,7 +249,12 @@ class Decisions:
             if left is not None and left_as[value] != left:
                 self.learn(record, flow, side, left)
 
-    def is_cut(self, record, flow):
+    def note_opening(self, flow: int, what: int, outcome: int) -> None:
+        """Notes that a packet which opens a flow, or the SYN and ACK that answers it, went through."""
+        if outcome in (PASSED, LOCAL):
+            self.opened[flow] |= outcome if what & OPENER else 4
+
+    def is_cut(self, record: int, flow: int) -> bool:
         """Whether a record isn't sent, since what comes before it in its flow didn't go through."""
         if self.spared and self.spared[flow]:
             return False
@@ -253,9 +269,9 @@ class Decisions:
         else:
             last = acked if flows.kind[flow] == TCP else answered
             self.fine[flow] = 0 < last <= record
-        return self.cut[flow]
+        return bool(self.cut[flow])
 
-    def send_to(self, record, flow, side, came, wanted):
+    def send_to(self, record: int, flow: int, side: int, came: bytes, wanted: bytes) -> bool:
         """Sends a record to the end that the ruleset chose; not where it comes from another host than the ruleset sent
         the flow to: that one's answers aren't known. Answers whether it is sent."""
         if source_end(came) != source_end(wanted):
@@ -266,7 +282,7 @@ class Decisions:
         self.to[record] = self.ends.number(destination_end(wanted))
         return True
 
-    def is_answered_by_box(self, record, flow):
+    def is_answered_by_box(self, record: int, flow: int) -> bool:
         """Whether the ruleset delivers a flow of TCP to the box itself, whose answers aren't known."""
         if self.opened[flow] & (PASSED | LOCAL) != LOCAL or self.flows.kind[flow] != TCP:
             return False
@@ -275,10 +291,10 @@ class Decisions:
         self.goes_elsewhere(record, flow)
         return True
 
-    def goes_elsewhere(self, record, flow):
+    def goes_elsewhere(self, record: int, flow: int) -> None:
         self.cut[flow], self.fine[flow], self.to[record] = ELSEWHERE, 0, NOT_SENT
 
-    def look_for_join(self, record, flow):
+    def look_for_join(self, record: int, flow: int) -> None:
         """Whether this flow is the other side of an earlier one, as what left of that one tells."""
         value = self.expected.pop(self.flows.tuple_of(record), None)
         if value is not None and value >> 1 in self.joined:
@@ -286,13 +302,13 @@ class Decisions:
         if value is not None and value >> 1 != flow:
             self.joined[flow] = value
 
-    def look_for_error(self, record):
+    def look_for_error(self, record: int) -> None:
         """Whether an ICMP error of no flow is about what left of one."""
         value = self.expected.get(self.flows.tuple_of(record))
         if value is not None:
             self.joined_errors[record] = self.joined.get(value >> 1, value & ~1) ^ value & 1
 
-    def learn(self, record, flow, side, left):
+    def learn(self, record: int, flow: int, side: int, left: bytes) -> None:
         """What left, as the tuple `left`, tells with which one the other side's packets have to come."""
         self.left_as[2 * flow + side] = left
         if self.flows.flags[flow] & TRANSLATED or left != self.flows.tuple_of(record):
@@ -300,5 +316,5 @@ class Decisions:
             self.choice[2 * flow + (side ^ 1)] = answer
             # side 0 is known by how it came; what comes so again may begin another flow. Of one that is joined to an
             # earlier one, its side 0 may be the other side
-            if self.expected is not None and side == self.joined.get(flow, 0) & SIDE:
+            if self.joins and side == self.joined.get(flow, 0) & SIDE:
                 self.expected[answer] = 2 * flow + (side ^ 1)

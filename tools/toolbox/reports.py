@@ -1,6 +1,10 @@
 """Reports of nftrun run --trace (docs/SPEC.md, 9), streamed."""
+from __future__ import annotations
+
 import re
-from collections import Counter, namedtuple
+from collections import Counter
+from dataclasses import dataclass
+from typing import BinaryIO, Dict, Iterable, Iterator
 
 from toolbox.commands import Refused
 
@@ -17,21 +21,46 @@ LOGGED = re.compile(rb"(\S+ \S+ \S+) ([0-9]+)(?: (.*))?", re.DOTALL)
 # what became of a packet that nothing dropped
 THROUGH = ("passed", "local")
 
-# `rule` is None where the policy decides; `chain` is "FAMILY TABLE CHAIN"
-Decision = namedtuple("Decision", "chain rule verdict")
-Log = namedtuple("Log", "chain rule prefix")
-RuleCounter = namedtuple("RuleCounter", "chain rule which packets bytes")
+
+@dataclass(frozen=True)
+class Decision:
+    """What a rule decided; `rule` is None where the policy decides. `chain` is "FAMILY TABLE CHAIN", here and below."""
+
+    chain: str
+    rule: int | None
+    verdict: str
 
 
-def text_of(data):
+@dataclass(frozen=True)
+class Log:
+    """What a log statement said."""
+
+    chain: str
+    rule: int
+    prefix: str
+
+
+@dataclass(frozen=True)
+class RuleCounter:
+    """A counter of a rule, `which` of them from 1, with what it counted."""
+
+    chain: str
+    rule: int
+    which: int
+    packets: int
+    bytes: int
+
+
+def text_of(data: bytes) -> str:
     return data.decode("utf-8", "surrogateescape")
 
 
-def records_of(path):
+def records_of(path: str) -> Iterator[tuple[int, list[bytes], bytes | None]]:
     """Each record of a report, as (number, events, outcome). Events are what stands behind `trace N `, and `log ` with
     what stands behind `log N `, all as bytes; `event_of` reads them. Without a trace there are records only where
     something was logged, and the outcome is None; a report that broke off gives what is whole."""
-    current, events = None, []
+    current = b""
+    events: list[bytes] = []
     with open(path, "rb") as file:
         for line in file:
             is_trace = line.startswith(b"trace ")
@@ -51,7 +80,7 @@ def records_of(path):
         yield number_of(current), events, None
 
 
-def traced_records(path):
+def traced_records(path: str) -> Iterator[tuple[bytes, bytes]]:
     """Each record of a whole report with a trace, as (events, outcome): `events` is what `records_of` has of them, each
     with a newline behind it."""
     rest = b"\n"
@@ -71,13 +100,13 @@ def traced_records(path):
                     yield lines and lines.replace(b"trace " + number + b" ", b""), outcome
 
 
-def number_of(word):
+def number_of(word: bytes) -> int:
     if not word.isdigit():
         raise Refused(f"no line of a report: record {text_of(word)}")
     return int(word)
 
 
-def event_of(event):
+def event_of(event: bytes) -> Decision | Log:
     """A Decision or a Log."""
     is_log = event.startswith(b"log ")
     parts = (LOGGED if is_log else DECISION).fullmatch(event[4:] if is_log else event)
@@ -89,15 +118,15 @@ def event_of(event):
     return Decision(text_of(chain), None if rule == b"policy" else int(rule), text_of(rest))
 
 
-class Numbers(dict):
+class Numbers(Dict[bytes, int]):
     """Numbers from 1 for names, as they come."""
 
-    def __missing__(self, name):
+    def __missing__(self, name: bytes) -> int:
         number = self[name] = len(self) + 1
         return number
 
 
-def outcomes_of(path, names):
+def outcomes_of(path: str, names: dict[bytes, int]) -> bytearray:
     """Of each record (from 1) the number of its outcome in `names`, which grows: a byte a record."""
     numbers, outcomes, rest = Numbers(names), bytearray(1), b"\n"
     with open(path, "rb") as file:
@@ -110,9 +139,9 @@ def outcomes_of(path, names):
     return outcomes
 
 
-def events_of_some(path, wanted):
-    """The events of each wanted record, whose numbers rise, as `records_of` has them. The report is whole and has a trace;
-    what stands between is passed over."""
+def events_of_some(path: str, wanted: Iterable[int]) -> Iterator[list[bytes]]:
+    """The events of each wanted record, whose numbers rise, as `records_of` has them. The report is whole and has a
+    trace; what stands between is passed over."""
     with open(path, "rb") as file:
         report = Passages(file)
         for number in wanted:
@@ -122,12 +151,13 @@ def events_of_some(path, wanted):
 
 
 class Passages:
-    """A report from its front, of which `text` is kept: behind its first newline stands what comes behind record `number`."""
+    """A report from its front, of which `text` is kept: behind its first newline stands what comes behind record
+    `number`."""
 
-    def __init__(self, file):
+    def __init__(self, file: BinaryIO) -> None:
         self.file, self.text, self.at, self.number = file, b"\n", 0, 0
 
-    def take(self, number, passes_over=False):
+    def take(self, number: int, passes_over: bool = False) -> bytes:
         """What stands before a record's outcome, and goes behind that. What is passed over isn't kept, nor given."""
         head = b"\ntrace %d outcome " % number
         while (found := self.text.find(head, self.at)) < 0 or (end := self.text.find(b"\n", found + 1)) < 0:
@@ -140,7 +170,7 @@ class Passages:
         return b"" if passes_over else self.text[begin:found + 1]
 
 
-def event_in(line):
+def event_in(line: bytes) -> bytes:
     """What stands behind `trace N ` or `log N `."""
     word, _, rest = line.partition(b" ")
     what = rest.partition(b" ")[2]
@@ -151,10 +181,12 @@ class Summary:
     """What a report tells in all: how often each event, each outcome; its counters and totals. `name` is what messages
     call the report."""
 
-    def __init__(self, path, name=None):
+    def __init__(self, path: str, name: str | None = None) -> None:
         self.name = name or path
-        self.counted = Counter()  # what stands behind `trace N ` or `log N `, with that word
-        self.counters, self.totals = [], {}
+        # what stands behind `trace N ` or `log N `, with that word
+        self.counted: Counter[tuple[bytes, bytes]] = Counter()
+        self.counters: list[RuleCounter] = []
+        self.totals: dict[str, int] = {}
         rest, lines = b"", 0
         try:
             with open(path, "rb") as file:
@@ -166,14 +198,15 @@ class Summary:
                     rest = rest[end:]
         except OSError as error:
             raise Refused(f"{path}: {error.strerror}") from None
-        self.events, self.outcomes = Counter(), Counter()
+        self.events: Counter[Decision | Log] = Counter()
+        self.outcomes: Counter[str] = Counter()
         for (word, what), number in self.counted.items():
             if word == b"trace" and what.startswith(b"outcome "):
                 self.outcomes[text_of(what[8:])] += number
             else:
                 self.events[event_of(b"log " + what if word == b"log" else what)] += number
 
-    def take_lines(self, lines, number):
+    def take_lines(self, lines: bytes, number: int) -> None:
         """Takes whole lines, of which the first is line `number` + 1 of the report."""
         events = EVENT.findall(lines)
         self.counted.update(events)
@@ -184,7 +217,7 @@ class Summary:
             if not EVENT.fullmatch(line):
                 self.take_total(line, number)
 
-    def take_total(self, line, number):
+    def take_total(self, line: bytes, number: int) -> None:
         parts = COUNTER.fullmatch(line)
         if parts:
             self.counters.append(RuleCounter(text_of(parts[1]), *map(int, parts.groups()[1:])))
@@ -194,16 +227,16 @@ class Summary:
         else:
             raise Refused(f"{self.name}: line {number} is none of a report: {text_of(line)}")
 
-    def check_whole(self):
+    def check_whole(self) -> None:
         """Refuses a report that broke off, or that was made without --trace."""
         if "torn" not in self.totals or "records" not in self.totals:
             raise Refused(f"{self.name}: the report isn't whole: it has no line `torn`")
         if sum(self.outcomes.values()) != self.totals["records"]:
             raise Refused(f"{self.name}: the report lacks outcomes: run nftrun with --trace")
 
-    def decisions(self):
+    def decisions(self) -> dict[Decision, int]:
         """Each decision with how often it was taken."""
         return {event: number for event, number in self.events.items() if isinstance(event, Decision)}
 
-    def logs(self):
+    def logs(self) -> dict[Log, int]:
         return {event: number for event, number in self.events.items() if isinstance(event, Log)}

@@ -14,14 +14,30 @@ Each further line is a fitted rule, `chain` and `rule` as reports name it, with 
 `counters` has, for each counter of the fitted rule, which counter of the old rule it is; the packets of all fitted
 counters of one old counter are to be added.
 """
+from __future__ import annotations
+
 import hashlib
 import json
-from collections import namedtuple
+from dataclasses import dataclass
+from typing import Iterable, Mapping, Sequence, Tuple
 
 from toolbox.commands import Refused, printable
+from toolbox.outputs import output
 
 VERSION = 1
-Origin = namedtuple("Origin", "chain rule file line text counters")
+CounterPlace = Tuple[str, int, int]  # chain and rule, and which of its counters
+
+
+@dataclass(frozen=True)
+class Origin:
+    """The operator's rule that a fitted one comes from, and which of its counters the fitted rule has."""
+
+    chain: str
+    rule: int
+    file: str
+    line: int
+    text: str
+    counters: tuple[int, ...]
 
 
 class MapFault(Refused):
@@ -31,29 +47,29 @@ class MapFault(Refused):
 class RuleMap:
     """What one map tells: `origins` by (chain, rule), and whether it is of a given ruleset."""
 
-    def __init__(self, digest, rules, origins):
+    def __init__(self, digest: str, rules: str, origins: dict[tuple[str, int], Origin]) -> None:
         self.digest = digest
         self.rules = rules
         self.origins = origins
 
-    def is_of(self, ruleset):
+    def is_of(self, ruleset: bytes) -> bool:
         """Whether the map was written with this ruleset, given as bytes."""
         return digest_of(ruleset) == self.digest
 
-    def origin(self, chain, rule):
+    def origin(self, chain: str, rule: int | None) -> Origin | None:
         """The old rule of a fitted one, or None where there is none."""
-        return self.origins.get((chain, rule))
+        return None if rule is None else self.origins.get((chain, rule))
 
-    def describe(self, chain, rule):
+    def describe(self, chain: str, rule: int | None) -> str | None:
         """`rules.nft:12 ip filter fwd 3  # text`, or None where the rule isn't mapped."""
         origin = self.origin(chain, rule)
         if origin is None:
             return None
         return f"{printable(origin.file)}:{origin.line} {origin.chain} {origin.rule}  # {printable(origin.text)}"
 
-    def sums(self, numbers):
+    def sums(self, numbers: Mapping[tuple[str, int], int]) -> dict[tuple[str, int], int]:
         """Numbers by (chain, rule) of fitted rules, added for each old rule: a dict by (chain, rule)."""
-        total = {}
+        total: dict[tuple[str, int], int] = {}
         for place, number in numbers.items():
             origin = self.origins.get(place)
             if origin is not None:
@@ -61,9 +77,10 @@ class RuleMap:
                 total[key] = total.get(key, 0) + number
         return total
 
-    def counter_sums(self, counters):
+    def counter_sums(
+            self, counters: Mapping[CounterPlace, tuple[int, int]]) -> dict[CounterPlace, tuple[int, int]]:
         """(packets, bytes) by (chain, rule, which counter of the rule), added for each old counter."""
-        total = {}
+        total: dict[CounterPlace, tuple[int, int]] = {}
         for (chain, rule, which), (packets, size) in counters.items():
             origin = self.origins.get((chain, rule))
             if origin is None or not 1 <= which <= len(origin.counters):
@@ -74,14 +91,14 @@ class RuleMap:
         return total
 
 
-def digest_of(ruleset):
+def digest_of(ruleset: bytes) -> str:
     return hashlib.sha256(ruleset).hexdigest()
 
 
-def write(path, ruleset, rules, rows):
+def write(path: str, ruleset: bytes, rules: str, rows: Iterable[tuple[str, int, Origin]]) -> None:
     """Writes the map of a fitted ruleset (bytes); `rows` are (chain, rule, Origin)."""
     head = {"rule-map": VERSION, "sha256": digest_of(ruleset), "rules": rules}
-    with open(path, "w", encoding="ascii") as file:
+    with output(path) as written, open(written, "w", encoding="ascii") as file:
         print(json.dumps(head), file=file)
         for chain, rule, origin in rows:
             row = {
@@ -97,7 +114,7 @@ def write(path, ruleset, rules, rows):
             print(json.dumps(row), file=file)
 
 
-def read(path):
+def read(path: str) -> RuleMap:
     """The map in a file; MapFault where it is none."""
     try:
         with open(path, encoding="ascii") as file:
@@ -113,42 +130,37 @@ def read(path):
     for number, line in enumerate(lines[1:], 2):
         place, origin = row_of(path, number, line)
         origins[place] = origin
-    return RuleMap(head.get("sha256"), str(head.get("rules")), origins)
+    return RuleMap(str(head.get("sha256")), str(head.get("rules")), origins)
 
 
-def parsed(path, number, line):
+def parsed(path: str, number: int, line: str) -> object:
     try:
         return json.loads(line)
     except (ValueError, RecursionError):
         raise MapFault(f"{path}:{number}: it is no line of a map of rules") from None
 
 
-def row_of(path, number, line):
+def row_of(path: str, number: int, line: str) -> tuple[tuple[str, int], Origin]:
     row = parsed(path, number, line)
     try:
-        kinds = {
-            "chain": str,
-            "was-chain": str,
-            "file": str,
-            "text": str,
-            "rule": int,
-            "was": int,
-            "line": int,
-            "counters": list,
-        }
-        if not all(type(row[name]) is kind for name, kind in kinds.items()) or not all(
-            type(it) is int for it in row["counters"]
-        ):
+        if not isinstance(row, dict):
             raise ValueError
-        origin = Origin(row["was-chain"], row["was"], row["file"], row["line"], row["text"], tuple(row["counters"]))
-        return (row["chain"], row["rule"]), origin
+        texts = [row[name] for name in ("chain", "was-chain", "file", "text")]
+        numbers = [row[name] for name in ("rule", "was", "line")]
+        counters = row["counters"]
+        if type(counters) is not list or not all(type(it) is int for it in (*numbers, *counters)):
+            raise ValueError
+        if not all(type(it) is str for it in texts):
+            raise ValueError
+        (chain, was_chain, file, text), (rule, was, file_line) = texts, numbers
+        return (chain, rule), Origin(was_chain, was, file, file_line, text, tuple(counters))
     except (KeyError, TypeError, ValueError):
         raise MapFault(f"{path}:{number}: it is no line of a map of rules") from None
 
 
-def map_of(paths, ruleset):
+def map_of(paths: Sequence[str], ruleset: bytes) -> RuleMap | None:
     """Of the maps in several files the one of this ruleset (bytes), or None; MapFault where one can't be read."""
-    found = None
+    found: RuleMap | None = None
     for path in paths:
         one = read(path)
         if one.is_of(ruleset):

@@ -2,8 +2,11 @@
 
 What nftrun refuses may be read here as anything.
 """
+from __future__ import annotations
+
 import re
-from collections import namedtuple
+from dataclasses import dataclass
+from typing import Iterator, Sequence
 
 from toolbox.commands import Refused, read_text
 
@@ -16,7 +19,17 @@ TOKEN = re.compile(
       | (?P<mark>==|!=|<=|>=|.)""",
     re.VERBOSE | re.DOTALL,
 )
-Token = namedtuple("Token", "kind text line parted")
+
+
+@dataclass(frozen=True)
+class Token:
+    """A token; `kind` is the name of its group in TOKEN, and `parted` tells whether something stands before it."""
+
+    kind: str
+    text: str
+    line: int
+    parted: bool
+
 
 # Selectors whose values may be spelled like statements: an interface may be called `log`,
 # `redirect` is a type of ICMP, and `snat` a status.
@@ -32,7 +45,7 @@ EARLY = -200  # filter chains of prerouting up to here run before connections ar
 class Rule:
     """One rule: its chain as reports name it, its number there, its first line and its text."""
 
-    def __init__(self, chain, number, tokens):
+    def __init__(self, chain: str, number: int, tokens: list[Token]) -> None:
         self.chain = chain
         self.number = number
         self.line = tokens[0].line
@@ -44,25 +57,26 @@ class Rule:
         self.counter_starts = list(counter_starts(self.words))
 
     @property
-    def place(self):
+    def place(self) -> tuple[str, int]:
         return self.chain, self.number
 
 
 class Chain:
     """One chain: `name` is "FAMILY TABLE CHAIN". A chain without a hook is led to by others alone."""
 
-    def __init__(self, name, line):
+    def __init__(self, name: str, line: int) -> None:
         self.name = name
         self.line = line
-        self.type = self.hook = None
+        self.type: str | None = None
+        self.hook: str | None = None
         self.priority, self.policy = 0, "accept"
-        self.rules = []
+        self.rules: list[Rule] = []
 
     @property
-    def is_early(self):
+    def is_early(self) -> bool:
         return self.type == "filter" and self.hook == "prerouting" and self.priority <= EARLY
 
-    def take_head(self, texts):
+    def take_head(self, texts: list[str]) -> None:
         """Reads `type filter hook forward priority filter + 5` or `policy drop`."""
         if texts[0] == "policy":
             self.policy = "".join(texts[1:2])
@@ -72,44 +86,88 @@ class Chain:
             self.priority = priority_of(texts[texts.index("priority") + 1:])
 
 
-class Ruleset:
-    """The chains and rules of a text, in its order."""
+@dataclass(frozen=True)
+class NamedSet:
+    """A named set or map: `name` is "FAMILY TABLE NAME", `tokens` what stands between its braces."""
 
-    def __init__(self, text):
+    name: str
+    tokens: list[Token]
+
+    @property
+    def text(self) -> str:
+        return " ".join(token.text for token in self.tokens if token.text not in ("\n", ";"))
+
+
+class Ruleset:
+    """The chains and rules of a text, in its order; named sets and maps by their names."""
+
+    def __init__(self, text: str) -> None:
         self.text = text
-        self.chains = list(chains_of(text))
+        blocks = list(blocks_of(text))
+        self.chains = [block for block in blocks if isinstance(block, Chain)]
+        self.sets = {block.name: block for block in blocks if isinstance(block, NamedSet)}
         self.rules = [rule for chain in self.chains for rule in chain.rules]
         self.by_place = {rule.place: rule for rule in self.rules}
         self.by_name = {chain.name: chain for chain in self.chains}
 
-    def text_of(self, chain, number):
+    def rule(self, chain: str, number: int | None) -> Rule | None:
+        """The rule that a report names, or None where there is none, as of a policy."""
+        return None if number is None else self.by_place.get((chain, number))
+
+    def sets_of(self, rule: Rule) -> list[NamedSet]:
+        """The named sets and maps that a rule asks."""
+        table, texts = rule.chain.rsplit(" ", 1)[0], [token.text for token in rule.tokens]
+        names = (f"{table} {name}" for mark, name in zip(texts, texts[1:]) if mark == "@")
+        return [self.sets[name] for name in names if name in self.sets]
+
+    def targets(self, rule: Rule) -> list[Chain]:
+        """The chains of the table that a rule leads to, also by a verdict map, written there or named."""
+        table = rule.chain.rsplit(" ", 1)[0]
+        led = [name for tokens in (rule.tokens, *(one.tokens for one in self.sets_of(rule)))
+               for word, name in zip(tokens, tokens[1:]) if word.kind == "word" and word.text in ("jump", "goto")]
+        names = dict.fromkeys(f"{table} {token.text}" for token in led)
+        return [self.by_name[name] for name in names if name in self.by_name]
+
+    def behind(self, base: Chain) -> dict[str, Chain]:
+        """The chain, and all that it leads to, by name."""
+        found: dict[str, Chain] = {}
+        work = [base]
+        while work:
+            chain = work.pop()
+            if chain.name not in found:
+                found[chain.name] = chain
+                work += [target for rule in chain.rules for target in self.targets(rule)]
+        return found
+
+    def text_of(self, chain: str, number: int | None) -> str:
         """The text of a rule as a report names it, or of the policy where `number` is None."""
         if number is None:
             return "policy"
-        rule = self.by_place.get((chain, number))
+        rule = self.rule(chain, number)
         return rule.text if rule else f"rule {number}"
 
 
-def read_ruleset(path):
+def read_ruleset(path: str) -> Ruleset:
     return Ruleset(read_text(path))
 
 
-def rules_of(text):
+def rules_of(text: str) -> list[Rule]:
     """The rules of a ruleset, in the order of its text."""
     return Ruleset(text).rules
 
 
-def tokens_of(text):
+def tokens_of(text: str) -> Iterator[Token]:
     """The tokens of a ruleset; `parted` tells whether something stands before one."""
     line, parted = 1, False
     for match in TOKEN.finditer(text):
         if match.lastgroup != "blank":
-            yield Token(match.lastgroup, match.group(), line, parted)
+            yield Token(match.lastgroup or "", match.group(), line, parted)
         parted = match.lastgroup in ("blank", "newline")
         line += match.group().count("\n")
 
 
-def chains_of(text):
+def blocks_of(text: str) -> Iterator[Chain | NamedSet]:
+    """The chains, sets and maps of all tables, in the order of the text."""
     tokens = list(tokens_of(text))
     table = None
     position = 0
@@ -125,6 +183,8 @@ def chains_of(text):
             end = end_of_block(tokens, position)
             if word == "chain":
                 yield chain_of(f"{table} {' '.join(names)}", line, tokens[position:end])
+            else:
+                yield NamedSet(f"{table} {' '.join(names)}", tokens[position:end])
             position = end + 1
         else:
             if word == "}":
@@ -132,7 +192,7 @@ def chains_of(text):
             position += 1
 
 
-def head_of_block(tokens, position):
+def head_of_block(tokens: list[Token], position: int) -> tuple[list[str], int]:
     """The names before a brace that opens, and the position behind it."""
     names = []
     while position < len(tokens) and tokens[position].text != "{":
@@ -141,7 +201,7 @@ def head_of_block(tokens, position):
     return names, position + 1
 
 
-def end_of_block(tokens, position):
+def end_of_block(tokens: list[Token], position: int) -> int:
     """The position of the brace that closes the block whose first token stands at `position`."""
     depth = 1
     while position < len(tokens):
@@ -152,7 +212,7 @@ def end_of_block(tokens, position):
     return position
 
 
-def chain_of(name, line, tokens):
+def chain_of(name: str, line: int, tokens: list[Token]) -> Chain:
     """The chain of the tokens between its braces."""
     chain = Chain(name, line)
     for piece in lines_of_chain(tokens):
@@ -163,9 +223,10 @@ def chain_of(name, line, tokens):
     return chain
 
 
-def lines_of_chain(tokens):
+def lines_of_chain(tokens: list[Token]) -> Iterator[list[Token]]:
     """What stands between the ends (newlines and semicolons) that are in no braces."""
-    line, depth = [], 0
+    line: list[Token] = []
+    depth = 0
     for token in tokens:
         depth += {"{": 1, "}": -1}.get(token.text, 0)
         if depth == 0 and token.text in ("\n", ";"):
@@ -178,7 +239,7 @@ def lines_of_chain(tokens):
         yield line
 
 
-def priority_of(texts):
+def priority_of(texts: Sequence[str]) -> int:
     """The number of `filter`, `-5`, `dstnat + 10`."""
     total, sign = 0, 1
     for text in texts:
@@ -191,7 +252,7 @@ def priority_of(texts):
     return total
 
 
-def statement_words(tokens):
+def statement_words(tokens: list[Token]) -> Iterator[str]:
     """The words and numbers of a rule without names, elements, and words that are values."""
     texts = [token.text for token in tokens]
     position = 0
@@ -212,7 +273,7 @@ def statement_words(tokens):
             position += 2 if text in ("jump", "goto") else 1
 
 
-def behind_value(tokens, position):
+def behind_value(tokens: list[Token], position: int) -> int:
     """The position behind the words with which a selector is compared, or where it was if none."""
     texts = [token.text for token in tokens] + ["", ""]
     if texts[position] in OPERATORS:
@@ -227,7 +288,7 @@ def behind_value(tokens, position):
     return position
 
 
-def counter_starts(words):
+def counter_starts(words: list[str]) -> Iterator[int]:
     """For each counter statement the number of packets from which it counts."""
     for position, word in enumerate(words):
         if word == "counter":
@@ -235,7 +296,7 @@ def counter_starts(words):
             yield number_of("".join(words[position + 2:position + 3])) if starts_elsewhere else 0
 
 
-def number_of(text):
+def number_of(text: str) -> int:
     try:
         return int(text, 16 if text.startswith("0x") else 10)
     except ValueError:

@@ -1,12 +1,21 @@
 """One record of a run: how it came, the rules on its way, what translation made of it, and its flow."""
+from __future__ import annotations
+
+import struct
+from typing import TYPE_CHECKING
+
 from toolbox.boxes import Box
-from toolbox.captures import LINK_LENGTHS, LINUX_SLL2, RECORD_HEADER, SENT_BY_US, header_of, interface_of, packet_at, records
+from toolbox.captures import (
+    LINK_LENGTHS, LINUX_SLL2, RECORD_HEADER, SENT_BY_US, header_of, interface_of, packet_at, records)
 from toolbox.commands import Refused
-from toolbox.flows import ERROR, SIDE, Flows
+from toolbox.flows import Flows
 from toolbox.packets import TCP, describe, destination_end, end_text, flags_text, inverse, source_end, tuple_at
 from toolbox.replay import AS_CAPTURED, Replay
 from toolbox.reports import Decision, event_of, events_of_some
 from toolbox.rulesets import TRANSLATIONS, read_ruleset
+
+if TYPE_CHECKING:
+    from toolbox.replay import Files
 
 OUT_LINK = LINK_LENGTHS[LINUX_SLL2]
 
@@ -14,7 +23,7 @@ OUT_LINK = LINK_LENGTHS[LINUX_SLL2]
 class Why:
     """What is known of one record after a run of the capture as it is."""
 
-    def __init__(self, record, rules, box, capture, program, files):
+    def __init__(self, record: int, rules: str, box: str, capture: str, program: str, files: Files) -> None:
         self.record, self.capture = record, capture
         self.ruleset, self.box, self.header = read_ruleset(rules), Box(box), header_of(capture)
         self.link_type = self.header.link_type
@@ -24,8 +33,11 @@ class Why:
         self.replay = Replay(program, rules, box, self.flows, files, cuts=False, as_captured=True)
         self.read_record()
         self.read_events()
-        self.flow, self.role = self.flows.of[record], self.flows.role[record]
-        self.members = [number for number, flow in enumerate(self.flows.of) if flow == self.flow] if self.flow else [record]
+        self.flow = self.flows.of[record]
+        self.is_reply, self.is_error = bool(self.flows.side(record)), self.flows.is_error(record)
+        self.members = [record]
+        if self.flow:
+            self.members = [number for number, flow in enumerate(self.flows.of) if flow == self.flow]
         self.read_frames()
         first = self.flows.first[self.flow] if self.flow else record
         self.first_outcome = self.replay.outcome(first)
@@ -36,34 +48,35 @@ class Why:
         # the end to which an answer has to go in this run, where it isn't the one in the capture
         self.wanted = None if place == AS_CAPTURED else decisions.ends[place]
 
-    def read_record(self):
+    def read_record(self) -> None:
         """The bytes of the record, its moment, and how it came."""
         with open(self.capture, "rb") as file:
             file.seek(self.flows.offset[self.record] - RECORD_HEADER)
             head = file.read(RECORD_HEADER)
-            order = {"<": "little", ">": "big"}[self.header.order]
-            self.seconds, self.fraction, length = (int.from_bytes(head[at:at + 4], order) for at in (0, 4, 8))
+            self.seconds, self.fraction, length = struct.unpack_from(self.header.order + "3I", head)
             self.data = file.read(length)
         self.at = packet_at(self.data, self.link_type)
         self.key = None if self.at is None else tuple_at(self.data, self.at)
         index = interface_of(self.data, self.link_type) if self.link_type == LINUX_SLL2 else self.box.entering()
         self.came_by = self.box.interface_name(index)
 
-    def read_events(self):
+    def read_events(self) -> None:
         events = next(events_of_some(self.replay.files.report, [self.record]))
         self.outcome = self.replay.outcome(self.record)
         self.events = [event_of(event) for event in events]
         self.decisions = [event for event in self.events if isinstance(event, Decision)]
 
-    def read_frames(self):
+    def read_frames(self) -> None:
         """What left of the flow's records, by number."""
         wanted = set(self.members)
         self.left = {number: frame for number, frame in enumerate(self.replay.leaving_packets(), 1) if number in wanted}
         frame = self.left.get(self.record)
         self.key_left = None if frame is None else tuple_at(frame, OUT_LINK)
 
-    def behind_mapping(self):
+    def behind_mapping(self) -> bytes | None:
         """The inner end that has this packet's destination as its external one in this run, or None."""
+        if self.key is None:
+            return None
         outside = destination_end(self.key)
         for value, left in enumerate(self.left_as):
             if left and value & 1 == 0 and left[12] == self.key[12] and source_end(left) == outside:
@@ -71,8 +84,9 @@ class Why:
                 return inside if inside != outside else None
         return None
 
-    def answered_flow(self):
-        """An earlier flow that this packet would answer, with how many seconds had gone since its last record; or None."""
+    def answered_flow(self) -> tuple[int, int] | None:
+        """An earlier flow that this packet would answer, with how many seconds had gone since its last record; or
+        None."""
         for value, left in enumerate(self.left_as):
             flow = value >> 1
             if left and flow != self.flow and inverse(left) == self.key:
@@ -80,18 +94,20 @@ class Why:
                 return (flow, self.seconds - self.seconds_of(last)) if last else None
         return None
 
-    def seconds_of(self, record):
+    def seconds_of(self, record: int) -> int:
         with open(self.capture, "rb") as file:
             file.seek(self.flows.offset[record] - RECORD_HEADER)
-            return int.from_bytes(file.read(4), {"<": "little", ">": "big"}[self.header.order])
+            seconds: int = struct.unpack(self.header.order + "I", file.read(4))[0]
+            return seconds
 
-    def moment(self, seconds=None, fraction=None):
+    def moment(self, seconds: int | None = None, fraction: int | None = None) -> str:
         digits = len(str(self.header.fractions)) - 1
-        return f"{self.seconds if seconds is None else seconds}.{self.fraction if fraction is None else fraction:0{digits}}"
+        rest = self.fraction if fraction is None else fraction
+        return f"{self.seconds if seconds is None else seconds}.{rest:0{digits}}"
 
     # In words, each part as lines
 
-    def arrival(self):
+    def arrival(self) -> list[str]:
         came = describe(self.data, self.at)
         if self.at is None or len(self.data) < self.at + 20:
             return [f"{came}, {len(self.data)} bytes"]
@@ -103,21 +119,21 @@ class Why:
         return [f"{came}{flags}, {length} bytes, TTL {self.data[self.at + 8]}",
                 f"{'sent' if is_copy else 'came'} by {self.came_by}"]
 
-    def way(self):
+    def way(self) -> list[str]:
         """A line for each decision and log: hook, rule, verdict, text."""
         lines, hook = [], ""
         for event in self.events:
             chain = self.ruleset.by_name.get(event.chain)
             if chain is not None and chain.hook:
                 hook = chain.hook
-            rule = self.ruleset.by_place.get((event.chain, event.rule))
+            rule = self.ruleset.rule(event.chain, event.rule)
             what = event.verdict if isinstance(event, Decision) else "log"
             place = f"{event.chain} {'policy' if event.rule is None else event.rule}"
             text = f"  line {rule.line}: {rule.text}" if rule else ""
             lines.append(f"{hook:<11} {place:<28} {what:<11}{text}".rstrip())
         return lines or ["no rule saw it"]
 
-    def translation(self):
+    def translation(self) -> list[str]:
         if self.key is None or self.key_left is None:
             return []
         by = [event.verdict for event in self.decisions if event.verdict in TRANSLATIONS]
@@ -129,14 +145,14 @@ class Why:
             lines.append(f"by {' and '.join(by)}" if by else "as its connection, or a mapping, says")
         return lines
 
-    def result(self, number):
+    def result(self, number: int) -> str:
         """Where a record went."""
         frame = self.left.get(number)
         if frame is None:
             return self.replay.outcome(number)
         return f"left by {self.box.interface_name(interface_of(frame, LINUX_SLL2))} as {describe(frame, OUT_LINK)}"
 
-    def flow_lines(self, most):
+    def flow_lines(self, most: int | None) -> list[str]:
         """The flow's records, those near this one if there are more than `most`."""
         if not self.flow:
             return ["it is of no flow"]
@@ -152,11 +168,13 @@ class Why:
         rest = len(self.members) - len(shown)
         return lines + ([f"and {rest} more (--all)"] if rest else [])
 
-    def member_line(self, number, moment, data):
-        role = self.flows.role[number]
-        direction = ("error about " if role & ERROR else "") + ("reply" if role & SIDE else "original")
+    def member_line(self, number: int, moment: str, data: bytes) -> str:
+        about = "error about " if self.flows.is_error(number) else ""
+        direction = about + ("reply" if self.flows.side(number) else "original")
         at = packet_at(data, self.link_type)
         key = None if at is None else tuple_at(data, at)
-        flags = f" {flags_text(data[at + 4 * (data[at] & 15) + 13])}" if key is not None and key[12] == TCP else ""
+        flags = ""
+        if at is not None and key is not None and key[12] == TCP:
+            flags = f" {flags_text(data[at + 4 * (data[at] & 15) + 13])}"
         mark = ">" if number == self.record else " "
         return f"{mark} {number} at {moment}, {direction}: {describe(data, at)}{flags}; {self.result(number)}"

@@ -11,10 +11,11 @@ use crate::slot::{LISTS, Link, MAX_KEYS, Slot, idle_at, queue_by};
 use crate::slots::Slots;
 use box_file::Limits;
 use conntrack::{
-    Belonging, ConnId, Connection, ConntrackEntry, Direction, Flags, Moment, Steps, limit_in,
+    Belonging, ConnId, Connection, ConntrackEntry, Direction, Flags, Memory, Moment, Steps,
+    limit_in,
 };
 use ip_headers::Tuple;
-use std::alloc::{AllocError, Global};
+use std::alloc::Global;
 
 /// The slots, which are numbered in the order of their creation, and a queue for each timeout. In
 /// `steps` calls count the slots that they read or write.
@@ -289,9 +290,9 @@ impl AgedSlots {
     ///
     /// # Errors
     ///
-    /// `AllocError` where memory ran out, or where the next key has no 32-bit node index: the slab's
+    /// `Memory` where memory ran out, or where the next key has no 32-bit node index: the slab's
     /// contracts don't bound its keys by how many slots are in use; or where all numbers are used.
-    pub fn reserve_one(&mut self) -> Result<(), AllocError>
+    pub fn reserve_one(&mut self) -> Result<(), Memory>
         requires table { IsTable self.old }
         ensures table { IsTable self.new }
         ensures held { held_by self.new ≡ held_by self.old }
@@ -300,13 +301,13 @@ impl AgedSlots {
         ensures spared { IsTrue (has_room self.old) → (self.new ≡ self.old) × IsOk result }
     {
         if self.slots.vacant_key() >= MAX_KEYS || self.next_serial == u64::MAX {
-            return Err(AllocError);
+            return Err(Memory);
         }
         self.slots.reserve_one()
     }
 
     /// All entries in the order of their creation.
-    pub fn list(&self, alloc: Global, steps: &mut Steps) -> Result<Vec<Connection>, AllocError>
+    pub fn list(&self, alloc: Global, steps: &mut Steps) -> Result<Vec<Connection>, Memory>
         requires { IsTable self.now }
         ensures list { IfOk result (λ all. all.items ≡ map connection_of (held_by self.now)) }
         ensures rises { steps.old ≤ steps.new }

@@ -1,5 +1,5 @@
 //! A conntrack table whose calls count few visited slots.
-ghost use Rattle.std.specs.Prelude.{◌≡◌, ◌+◌, ◌<◌, ◌≤◌, ℕ, IsTrue, Some, None, cond, is_some};
+ghost use Rattle.std.specs.Prelude.{◌≡◌, ◌+◌, ◌<◌, ◌≤◌, ℕ, [], IsTrue, Some, None, cond, false, is_some};
 ghost use Rattle.aged_tracker.specs.steps.Table.{IsConsistent};
 ghost use Rattle.conntrack.specs.ConntrackEntry.{IsWithin, belongs_in, has_distinct_ids, have_disjoint_tuples, live_at};
 ghost use Rattle.std.specs.HashMap.{get, spare};
@@ -10,11 +10,11 @@ use crate::aged_slots::AgedSlots;
 use box_file::Limits;
 use conntrack::laws::independent_of_ids;
 use conntrack::{
-    Aged, BeginError, Belonging, ConnId, Connection, Direction, Flags, MAX_CONNECTIONS, Moment,
-    Steps, Tracker,
+    Aged, BeginError, Belonging, ConnId, Connection, Direction, Flags, MAX_CONNECTIONS, Memory,
+    Moment, Steps, Tracker,
 };
 use ip_headers::Tuple;
-use std::alloc::{AllocError, Global};
+use std::alloc::Global;
 use std::collections::HashMap;
 use std::hash::RandomState;
 use std::marker::Model;
@@ -53,6 +53,21 @@ impl Model for AgedTracker {
 }
 
 impl AgedTracker {
+    /// An empty table with these timeouts, whose index of tuples hashes by these keys.
+    fn with_keys(alloc: Global, keys: WordState, idle: Limits) -> Self
+        ensures held { result.held ≡ [] }
+        ensures limits { result.limits ≡ idle }
+        ensures room { result.room ≡ false }
+    {
+        AgedTracker {
+            slots: AgedSlots::new(alloc),
+            keys: HashMap::with_hasher(alloc, keys),
+            live: 0,
+            limits: idle,
+            likely: 0,
+        }
+    }
+
     /// Looks up a packet with this tuple and these flags at a moment.
     fn find(&self, tuple: Tuple, flags: Flags, now: Moment, steps: &mut Steps) -> Belonging
         ensures belonging { result
@@ -81,14 +96,12 @@ impl Tracker for AgedTracker {
 
     ghost max_slots = { Some 7 };
 
-    fn new(alloc: Global, hasher: RandomState, idle: Limits) -> Self {
-        AgedTracker {
-            slots: AgedSlots::new(alloc),
-            keys: HashMap::with_hasher(alloc, WordState::new(hasher)),
-            live: 0,
-            limits: idle,
-            likely: 0,
-        }
+    fn new(alloc: Global, idle: Limits) -> Self {
+        Self::with_keys(alloc, WordState::published(), idle)
+    }
+
+    fn with_hasher(alloc: Global, hasher: RandomState, idle: Limits) -> Self {
+        Self::with_keys(alloc, WordState::new(hasher), idle)
     }
 
     fn look(&self, tuple: Tuple, flags: Flags, now: Moment, steps: &mut Steps) -> Belonging {
@@ -109,7 +122,7 @@ impl Tracker for AgedTracker {
         self.likely = follower.unwrap_or(self.likely);
     }
 
-    fn reserve_one(&mut self) -> Result<(), AllocError> {
+    fn reserve_one(&mut self) -> Result<(), Memory> {
         self.slots.reserve_one()?;
         let spare = self.keys.capacity() - self.keys.len();
         if spare >= 2 {
@@ -157,7 +170,7 @@ impl Tracker for AgedTracker {
         self.live
     }
 
-    fn list(&self, alloc: Global, steps: &mut Steps) -> Result<Vec<Connection>, AllocError> {
+    fn list_counted(&self, alloc: Global, steps: &mut Steps) -> Result<Vec<Connection>, Memory> {
         self.slots.list(alloc, steps)
     }
 }

@@ -8,9 +8,9 @@ ghost use Rattle.aged_tracker.specs.steps.Table.{Placed, SameSize, held_of, link
 ghost use Rattle.aged_tracker.specs.declared.slot.Link.{Link as Linked};
 
 use crate::slot::{Link, ListLinks, Neighbour, NodeIndex, Slot};
-use conntrack::{Connection, Direction, Flags, Moment, Steps};
+use conntrack::{Connection, Direction, Flags, Memory, Moment, Steps};
 use slab::Slab;
-use std::alloc::{AllocError, Global};
+use std::alloc::Global;
 use std::marker::Model;
 
 /// The slots by their keys.
@@ -51,8 +51,8 @@ impl Slots {
     ///
     /// # Errors
     ///
-    /// `AllocError` where memory ran out.
-    pub fn reserve_one(&mut self) -> Result<(), AllocError>
+    /// `Memory` where memory ran out.
+    pub fn reserve_one(&mut self) -> Result<(), Memory>
         ensures room { OnOk result (IsTrue (nat_lt (slab_len self.new) self.new.capacity)) }
         ensures rest_kept { self.new ≡ record self.old { capacity = self.new.capacity } }
         ensures spared { IsTrue (nat_lt (slab_len self.old) self.old.capacity)
@@ -74,12 +74,12 @@ impl Slots {
     ///
     /// # Errors
     ///
-    /// `AllocError` where memory ran out.
+    /// `Memory` where memory ran out.
     pub fn numbered(
         &self,
         alloc: Global,
         steps: &mut Steps,
-    ) -> Result<Vec<(u64, Connection)>, AllocError>
+    ) -> Result<Vec<(u64, Connection)>, Memory>
         ensures numbered { IfOk result (λ all. all.items ≡ map numbered_entry (entries self.now)) }
         ensures steps { Counts (slab_len self.now) steps.old steps.new }
     {

@@ -2,6 +2,7 @@
 ghost use Rattle.std.specs.Io.{ReadsAtMost};
 ghost use Rattle.std.specs.Io.KnownBytes.{ReadConsumes};
 
+use byteorder::{BigEndian, ByteOrder, LittleEndian};
 use pcap_io::CaptureFault;
 use std::io::Read;
 use std::{fmt, io};
@@ -95,11 +96,11 @@ fn magic_advice(first: &[u8]) -> Option<HeaderAdvice> {
 
 /// The link type of a header: the low 16 bits of its last number, in the byte order of the first.
 fn link_type(first: &[u8; HEADER_BYTES]) -> u32 {
-    let last = [first[20], first[21], first[22], first[23]];
+    let last = &first[20..];
     let number = if first[0] == 0xa1 {
-        u32::from_be_bytes(last)
+        BigEndian::read_u32(last)
     } else {
-        u32::from_le_bytes(last)
+        LittleEndian::read_u32(last)
     };
     number & 0xffff
 }

@@ -1,5 +1,7 @@
 mod Names
 pub mod AddLaws
 pub mod FirstLaws
+mod CoverLaws
+mod RunLaws
 pub mod ShadowLaws
 pub mod FlagLaws

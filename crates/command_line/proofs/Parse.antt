@@ -1,4 +1,4 @@
--- clap's parse of the words of a command of some paths, with a flag or not, and with `--report FILE` or not, is
+-- clap's parse of the words of a command of some paths, with some flags, and with `--report FILE` or not, is
 -- the pass over them (`parsed`): where the pass finds nothing the parse has a fault, and else it has none and the
 -- rows are those of what the pass found.
 use Rattle.std.proofs.Common.{◌&&◌, ◌++◌, ◌+◌, ◌==◌, ◌||◌, ◌∙◌, ◌∷◌, ◌≡◌, [], ℕ, Bool, List, None, Option, Some, ap, append-nil, arith, codes, cond, false}
@@ -25,8 +25,8 @@ use Rattle.clap.specs.declared.parser.matches.ValueSource.TheVariants.{CommandLi
 use Rattle.clap.proofs.WalkLemmas.{bundle_ends}
 use Rattle.clap.proofs.FaultLemmas.{fault_ends}
 use Rattle.command_line.specs.steps.Program.{flag_rule, path_rule, report_rule}
-use Rattle.command_line.proofs.Words.{Pairs, Seen, has_no_short, Place, after, at_end, before, flag_word, is_flag, is_taken, naming, operand_met, scan}
-use Rattle.command_line.proofs.Words.{word_met, none_of}
+use Rattle.command_line.proofs.Words.{AreFlags, Pairs, Seen, has_no_short, Place, after, are_closed, at_end, before, closed, closes, fewer, flag_word}
+use Rattle.command_line.proofs.Words.{is_flag_in, is_in, is_open, is_taken, keeps_open, long_text, naming, no_report, none_of, operand_met, scan, word_met}
 use Rattle.clap.specs.declared.error.kind.ErrorKind.TheVariants.{ArgumentConflict}
 use Rattle.command_line.specs.CommandLine.{as_report, report_option}
 
@@ -168,7 +168,8 @@ module _ (s : Shape) (asks : AsksHelp s) (names : Names) (waiting : Waiting) (ro
   -- a word is `--`, an option by its long name, no option, or a bundle of short flags, which has a fault
   pub by_word : subcommand_met names waiting word ≡ None → (P : Bool → Option (Text × Option Text) → Bool → Type 0)
       → ((o : Option (Text × Option Text)) (b : Bool) → Turn [] (held_now, trailing p) → P true o b)
-      → ((q : Text × Option Text) (b : Bool) → Turn (long_fault s.rules s.args_override_self (arg_by_long s.rules q.0) q.1 held_now)
+      → ((q : Text × Option Text) (b : Bool) → long_of word ≡ Some q
+      → Turn (long_fault s.rules s.args_override_self (arg_by_long s.rules q.0) q.1 held_now)
       (long_word s.rules waiting word q.0 q.1 held_now) → P false (Some q) b)
       → (Turn [] (plain_word s.rules waiting word held_now) → P false None true)
       → ((turn_fault s names walk_now word ≡ [] → ⊥) → P false None false)
@@ -180,7 +181,7 @@ module _ (s : Shape) (asks : AsksHelp s) (names : Names) (waiting : Waiting) (ro
       go : (d : Bool) → bytes_eq word (codes "--") ≡ d → (o : Option (Text × Option Text)) → long_of word ≡ o
           → (b : Bool) → has_no_short (short_of word) ≡ b → P d o b
       go true d o is b e = dashed o b (grind (arith, none, d), grind (arith, none, d))
-      go false d (Some q) is b e = long q b (grind (arith, none, d, is), grind (arith, none, d, is))
+      go false d (Some q) is b e = long q b is (grind (arith, none, d, is), grind (arith, none, d, is))
       go false d None is true e =
           let met = bare_met (short_of word) e in bare (grind (arith, none, d, is, met.0), grind (arith, none, d, is, met.1))
       go false d None is false e = short (λ f. short_fails (short_of word) e (grind (arith, none, d, is, f)))
@@ -205,12 +206,13 @@ flag_filled flag = filled (flag_rule flag)
 abbrev pub report_filled : Rule
 report_filled = filled report_rule
 
--- the option of a name, where the command has the flag or not, and `--report` or not
-abbrev pub option_by : Bool → Bool → Text → Text → Option Rule
-option_by has_flag has_file flag name =
+-- the option of a name, of a command with these flags, and with `--report` or not
+abbrev pub option_by : List Text → Bool → Text → Option Rule
+option_by [] has_file name =
     let other = cond (bytes_eq (codes "help") name || false) (Some help) None in
-    let file = cond (bytes_eq (codes "report") name || false) (cond has_file (Some report_filled) other) other in
-    cond (bytes_eq flag name || false) (cond has_flag (Some (flag_filled flag)) file) file
+    cond (bytes_eq (codes "report") name || false) (cond has_file (Some report_filled) other) other
+option_by (flag ∷ flags) has_file name =
+    cond (bytes_eq flag name || false) (Some (flag_filled flag)) (option_by flags has_file name)
 
 abbrev pub place_of : Text → ℕ → Rule
 place_of id p = with_index p (filled (path_rule id))
@@ -219,43 +221,52 @@ abbrev pub Other : Text → List Text → Type 0
 Other id others = Each (λ other. bytes_eq id other ≡ false) others
 
 -- the paths from a position on, each with an id of its own
-abbrev pub Paths : List Rule → Text → ℕ → List Text → Type 0
-Paths rules flag p [] = arg_by_index rules p ≡ None
-Paths rules flag p (id ∷ left) =
+abbrev pub Paths : List Rule → List Text → ℕ → List Text → Type 0
+Paths rules flags p [] = arg_by_index rules p ≡ None
+Paths rules flags p (id ∷ left) =
     (arg_by_index rules p ≡ Some (place_of id p)) × (arg_by_id rules id ≡ Some (place_of id p))
-    × Other id (flag ∷ codes "report" ∷ left) × (bytes_eq flag id ≡ false) × (bytes_eq (codes "report") id ≡ false)
-    × Paths rules flag (min (p + 1) usize_max) left
+    × Other id (codes "report" ∷ left) × (is_in flags id ≡ false) × (bytes_eq (codes "report") id ≡ false)
+    × Paths rules flags (min (p + 1) usize_max) left
 
 abbrev pub lacks : List Row → List Text → Bool
 lacks rows ids = list_any (λ id. not (is_given id rows)) ids
 
--- the form of a subcommand: its rules, the ids of its paths, its flag if it has one, whether it has
--- `--report`, and with what the pass over its words begins
+-- the form of a subcommand: its rules, the ids of its paths, its flags, whether it has `--report`, and with
+-- what file the pass over its words begins
 pub record Form : Type 0 where
   pub name : Text
   pub rules : List Rule
   pub ids : List Text
-  pub has_flag : Bool
+  pub flags : List Text
   pub has_file : Bool
-  pub flag : Text
-  pub met : Bool
   pub file : Option Text
 
--- only the flag has a default, which its parser takes
+-- the default of a flag
+abbrev pub defaulted : List Row → Text → List Row
+defaulted all flag = with_default all (flag_filled flag)
+
+-- only flags have a default, which its parser takes
 abbrev pub Defaults : Form → Type 0
-Defaults c = (all : List Row) → (fold with_default all c.rules ≡ cond c.has_flag (with_default all (flag_filled c.flag)) all)
+Defaults c = (all : List Row) → (fold with_default all c.rules ≡ fold defaulted all c.flags)
     × (defaults_fault all c.rules ≡ [])
 
 -- the rules are those of the form
 pub record IsCommand (c : Form) : Type 0 where
   pub shorts : (x : ℕ) → arg_by_short c.rules x ≡ cond (104 == x || false) (Some help) None
-  pub longs : (name : Text) → arg_by_long c.rules name ≡ option_by c.has_flag c.has_file c.flag name
+  pub longs : (name : Text) → arg_by_long c.rules name ≡ option_by c.flags c.has_file name
   pub report : arg_by_id c.rules (codes "report") ≡ cond c.has_file (Some report_filled) None
-  pub paths : Paths c.rules c.flag 1 c.ids
-  pub long : long_of (45 ∷ 45 ∷ c.flag) ≡ Some (c.flag, None)
-  pub apart : (bytes_eq c.flag (codes "report") ≡ false) × (bytes_eq (codes "report") c.flag ≡ false)
+  pub paths : Paths c.rules c.flags 1 c.ids
+  pub are : AreFlags c.flags
   pub defaults : Defaults c
   pub required : (rows : List Row) → list_any (λ a. a.required && not (is_given a.id rows)) c.rules ≡ lacks rows c.ids
+
+-- two names, of which one is a flag
+flag_apart : (flags : List Text) (flag id : Text) → is_in flags id ≡ false → is_in flags flag ≡ true → bytes_eq id flag ≡ false
+flag_apart flags flag id none some = go (bytes_eq id flag) refl
+  where
+    go : (b : Bool) → bytes_eq id flag ≡ b → bytes_eq id flag ≡ false
+    go false e = e
+    go true e = grind (arith, bytes_eq-Decides id flag, e, none, some)
 
 -- ---- the rows
 
@@ -275,35 +286,156 @@ each_kept r all (id ∷ left) other none = (kept id all r other.0 ∙ none.0, ea
 
 module _ (c : Form) where
   -- what is known of the rows on the way
-  pub record Fits (all : List Row) (done : Pairs) (left : List Text) (met : Bool) (file : Option Text) : Type 0 where
+  pub record Fits (all : List Row) (done : Pairs) (left free : List Text) (file : Option Text) : Type 0 where
     pub holds : Holds all done
     pub unused : Each (λ id. row_at id all ≡ None) left
-    pub flagged : (c.has_flag ≡ true → row_at c.flag all ≡ flag_of c.flag met) × (c.has_flag ≡ false → met ≡ true)
+    pub flagged : (flag : Text) → is_in c.flags flag ≡ true → row_at flag all ≡ flag_of flag (not (is_in free flag))
+    pub known : (flag : Text) → is_in free flag ≡ true → is_in c.flags flag ≡ true
+    pub are : AreFlags free
     pub filed : (c.has_file ≡ true → row_at (codes "report") all ≡ row_of (codes "report") file) × (c.has_file ≡ false → is_some file ≡ true)
     pub owes : (final : List Row) → Holds final done → lacks final c.ids ≡ lacks final left
 
   -- and of those at the end
   pub record Gives (seen : Seen) (final : List Row) : Type 0 where
     pub holds : Holds final seen.0
-    pub flagged : c.has_flag ≡ true → row_at c.flag final ≡ Some (source_of c.flag seen.1)
+    pub flagged : (flag : Text) → is_in c.flags flag ≡ true → row_at flag final ≡ Some (source_of flag (not (is_in seen.1 flag)))
     pub filed : c.has_file ≡ true → row_at (codes "report") final ≡ row_of (codes "report") seen.2
 
-  module _ (all : List Row) (done : Pairs) (left : List Text) (met : Bool) where
-    pub fits_path : (id word : Text) (file : Option Text) → Other id (c.flag ∷ codes "report" ∷ left)
-        → Fits all done (id ∷ left) met file → Fits (all ++ row id word ∷ []) ((id, word) ∷ done) left met file
-    fits_path id word file other fits =
-        let r = row id word in
-        grind (arith, fits, newly all r, holds_more, each_kept, kept c.flag all r other.0, kept (codes "report") all r other.1.0)
+  module _ (all : List Row) (done : Pairs) (left free : List Text) where
+    pub fits_path : (id word : Text) (file : Option Text) → Other id (codes "report" ∷ left) → is_in c.flags id ≡ false
+        → Fits all done (id ∷ left) free file → Fits (all ++ row id word ∷ []) ((id, word) ∷ done) left free file
+    fits_path id word file other apart fits = record {
+      holds = (newly all r fits.unused.0, holds_more all (r ∷ []) done fits.holds);
+      unused = each_kept r all left other.1 fits.unused.1;
+      flagged = λ flag is. kept flag all r (flag_apart c.flags flag id apart is) ∙ fits.flagged flag is;
+      known = fits.known;
+      are = fits.are;
+      filed = (λ so. kept (codes "report") all r other.0 ∙ fits.filed.0 so, fits.filed.1);
+      owes = λ final holds. grind (arith, fits.owes final holds.1, holds.0);
+    }
+      where
+        r : Row
+        r = row id word
 
-    pub fits_flag : (file : Option Text) → row_at c.flag all ≡ None → Other c.flag (codes "report" ∷ left)
-        → Fits all done left met file → Fits (all ++ set_row c.flag ∷ []) done left true file
-    fits_flag file none other fits =
-        let r = set_row c.flag in grind (arith, fits, newly all r, holds_more all (r ∷ []) done, each_kept r all left, kept (codes "report") all r)
+    pub fits_flag : (flag : Text) (file : Option Text) → is_in free flag ≡ true → row_at flag all ≡ None → Other flag (codes "report" ∷ left)
+        → Fits all done left free file → Fits (all ++ set_row flag ∷ []) done left (closed (45 ∷ 45 ∷ flag) free) file
+    fits_flag flag file is none other fits = record {
+      holds = holds_more all (r ∷ []) done fits.holds;
+      unused = each_kept r all left other.1 fits.unused;
+      flagged = λ name of. met name of (bytes_eq flag name) refl;
+      known = λ name of. fits.known name (still_open name of);
+      are = are_closed (45 ∷ 45 ∷ flag) free fits.are;
+      filed = (λ so. kept (codes "report") all r other.0 ∙ fits.filed.0 so, fits.filed.1);
+      owes = fits.owes;
+    }
+      where
+        r : Row
+        r = set_row flag
 
-    pub fits_file : (f : Text) (file : Option Text) → row_at (codes "report") all ≡ None → Other (codes "report") (c.flag ∷ left)
-        → Fits all done left met file → Fits (all ++ row (codes "report") f ∷ []) done left met (Some f)
-    fits_file f file none other fits =
-        let r = row (codes "report") f in grind (arith, fits, newly all r, holds_more all (r ∷ []) done, each_kept r all left, kept c.flag all r)
+        still_open : (name : Text) → is_in (closed (45 ∷ 45 ∷ flag) free) name ≡ true → is_in free name ≡ true
+        still_open name e = grind (arith, fewer (45 ∷ 45 ∷ flag) name free, e)
+
+        met : (name : Text) → is_in c.flags name ≡ true → (b : Bool) → bytes_eq flag name ≡ b
+            → row_at name (all ++ r ∷ []) ≡ flag_of name (not (is_in (closed (45 ∷ 45 ∷ flag) free) name))
+        met name of true e =
+            let same : flag ≡ name = (bytes_eq-Decides flag name).0 e in
+            subst (λ (n : Text). row_at n (all ++ r ∷ []) ≡ flag_of n (not (is_in (closed (45 ∷ 45 ∷ flag) free) n))) same
+            (newly all r none ∙ ap (λ b. flag_of flag (not b)) (sym (closes flag free fits.are)))
+        met name of false e = kept name all r e ∙ fits.flagged name of
+            ∙ ap (λ b. flag_of name (not b)) (sym (keeps_open flag name free e))
+
+    pub fits_file : (f : Text) (file : Option Text) → row_at (codes "report") all ≡ None → is_in c.flags (codes "report") ≡ false
+        → Other (codes "report") left → Fits all done left free file → Fits (all ++ row (codes "report") f ∷ []) done left free (Some f)
+    fits_file f file none apart other fits = record {
+      holds = holds_more all (r ∷ []) done fits.holds;
+      unused = each_kept r all left other fits.unused;
+      flagged = λ flag is. kept flag all r (flag_apart c.flags flag (codes "report") apart is) ∙ fits.flagged flag is;
+      known = fits.known;
+      are = fits.are;
+      filed = (λ so. newly all r none, λ so. refl);
+      owes = fits.owes;
+    }
+      where
+        r : Row
+        r = row (codes "report") f
+
+-- ---- the defaults of flags
+
+default_is : (flag : Text) (all : List Row) → defaulted all flag ≡ cond (has_row flag all) all (all ++ unset_row flag ∷ [])
+default_is flag all = go (row_at flag all) refl
+  where
+    go : (o : Option Row) → row_at flag all ≡ o → defaulted all flag ≡ cond (has_row flag all) all (all ++ unset_row flag ∷ [])
+    go None e = grind (arith, has_row-at flag all, e, appended flag (unset_row flag).reading DefaultValue (codes "false" ∷ []) all e)
+    go (Some r) e = grind (arith, has_row-at flag all, e)
+
+-- what holds with the default and without it holds of the rows with it
+with_flag : (P : List Row → Type 0) (flag : Text) (all : List Row) → P all → P (all ++ unset_row flag ∷ []) → P (defaulted all flag)
+with_flag P flag all here more = subst P (sym (default_is flag all)) (go (has_row flag all))
+  where
+    go : (b : Bool) → P (cond b all (all ++ unset_row flag ∷ []))
+    go true = here
+    go false = more
+
+defaults_stay : (flags : List Text) (id : Text) (all : List Row) (r : Row) → row_at id all ≡ Some r → row_at id (fold defaulted all flags) ≡ Some r
+defaults_stay [] id all r e = e
+defaults_stay (flag ∷ flags) id all r e = defaults_stay flags id (defaulted all flag) r
+    (with_flag (λ rows. row_at id rows ≡ Some r) flag all e (still id all (unset_row flag ∷ []) r e))
+
+defaults_hold : (flags : List Text) (all : List Row) (done : Pairs) → Holds all done → Holds (fold defaulted all flags) done
+defaults_hold [] all done holds = holds
+defaults_hold (flag ∷ flags) all done holds = defaults_hold flags (defaulted all flag) done
+    (with_flag (λ rows. Holds rows done) flag all holds (holds_more all (unset_row flag ∷ []) done holds))
+
+apart_too : (a b : Text) → bytes_eq a b ≡ false → bytes_eq b a ≡ false
+apart_too a b e = grind (arith, bytes_eq-Decides a b, bytes_eq-Decides b a, e)
+
+no_default : (flag id : Text) (all : List Row) → bytes_eq id flag ≡ false → row_at id (defaulted all flag) ≡ row_at id all
+no_default flag id all e = with_flag (λ rows. row_at id rows ≡ row_at id all) flag all refl (kept id all (unset_row flag) (apart_too id flag e))
+
+defaults_apart : (flags : List Text) (id : Text) (all : List Row) → is_in flags id ≡ false → row_at id (fold defaulted all flags) ≡ row_at id all
+defaults_apart [] id all e = refl
+defaults_apart (flag ∷ flags) id all e =
+    defaults_apart flags id (defaulted all flag) (grind (arith, e)) ∙ no_default flag id all (grind (arith, e))
+
+unmet_default : (flags : List Text) (id : Text) (all : List Row) → is_in flags id ≡ true → row_at id all ≡ None
+    → row_at id (fold defaulted all flags) ≡ Some (unset_row id)
+unmet_default [] id all e none = absurd (true≢false (sym e))
+unmet_default (flag ∷ flags) id all e none = go (bytes_eq id flag) refl (unmet_default flags id (defaulted all flag))
+  where
+    go : (b : Bool) → bytes_eq id flag ≡ b
+        → (is_in flags id ≡ true → row_at id (defaulted all flag) ≡ None → row_at id (fold defaulted (defaulted all flag) flags) ≡ Some (unset_row id))
+        → row_at id (fold defaulted (defaulted all flag) flags) ≡ Some (unset_row id)
+    go true same later = defaults_stay flags id (defaulted all flag) (unset_row id)
+        (subst (λ (x : Text). row_at id (defaulted all x) ≡ Some (unset_row id)) ((bytes_eq-Decides id flag).0 same)
+        (ap (row_at id) (default_is id all ∙ ap (λ b. cond b all (all ++ unset_row id ∷ [])) (has_row-at id all ∙ ap is_some none))
+        ∙ newly all (unset_row id) none))
+    go false other later = later (grind (arith, e, other)) (no_default flag id all other ∙ none)
+
+defaults_flag : (flags : List Text) (id : Text) (met : Bool) (all : List Row) → is_in flags id ≡ true → row_at id all ≡ flag_of id met
+    → row_at id (fold defaulted all flags) ≡ Some (source_of id met)
+defaults_flag flags id true all is e = defaults_stay flags id all (set_row id) e
+defaults_flag flags id false all is e = unmet_default flags id all is e
+
+-- ---- the option of a name
+
+option_flag : (flags : List Text) (has_file : Bool) (name : Text) → is_in flags name ≡ true
+    → option_by flags has_file name ≡ Some (flag_filled name)
+option_flag [] has_file name e = absurd (true≢false (sym e))
+option_flag (flag ∷ flags) has_file name e = go (bytes_eq name flag) refl (option_flag flags has_file name)
+  where
+    go : (b : Bool) → bytes_eq name flag ≡ b → (is_in flags name ≡ true → option_by flags has_file name ≡ Some (flag_filled name))
+        → option_by (flag ∷ flags) has_file name ≡ Some (flag_filled name)
+    go true same later = subst (λ (x : Text). option_by (x ∷ flags) has_file name ≡ Some (flag_filled name)) ((bytes_eq-Decides name flag).0 same)
+        (ap (λ b. cond (b || false) (Some (flag_filled name)) (option_by flags has_file name)) ((bytes_eq-Decides name name).1 refl))
+    go false other later = ap (λ b. cond (b || false) (Some (flag_filled flag)) (option_by flags has_file name)) (apart_too name flag other)
+        ∙ later (grind (arith, e, other))
+
+option_other : (flags : List Text) (has_file : Bool) (name : Text) → is_in flags name ≡ false
+    → option_by flags has_file name ≡ option_by [] has_file name
+option_other [] has_file name e = refl
+option_other (flag ∷ flags) has_file name e =
+    ap (λ b. cond (b || false) (Some (flag_filled flag)) (option_by flags has_file name)) (apart_too name flag (grind (arith, e)))
+    ∙ option_other flags has_file name (grind (arith, e))
 
 -- ---- faults
 
@@ -336,7 +468,7 @@ module _ (c : Form) (is : IsCommand c) where
   abbrev pub fault : Walk → List Text → Kinds
   fault w rest = or_else (walk_fault s [] w rest) (ends (end_of w rest))
 
-  abbrev fits : List Row → Pairs → List Text → Bool → Option Text → Type 0
+  abbrev fits : List Row → Pairs → List Text → List Text → Option Text → Type 0
   fits = Fits c
 
   -- the walk with these faults and this end answers as the pass does
@@ -369,29 +501,39 @@ module _ (c : Form) (is : IsCommand c) where
   abbrev now : List Row → Pending → List Row
   now rows pending = settled_rows c.rules pending rows
 
-  abbrev Ended : Bool → List Row → List Row → Type 0
-  Ended met all final = ((done : Pairs) → Holds all done → Holds final done)
-      × ((id : Text) → bytes_eq c.flag id ≡ false → row_at id final ≡ row_at id all)
-      × (c.has_flag ≡ true → row_at c.flag final ≡ Some (source_of c.flag met))
+  abbrev Ended : List Text → List Row → List Row → Type 0
+  Ended free all final = ((done : Pairs) → Holds all done → Holds final done)
+      × ((id : Text) → is_in c.flags id ≡ false → row_at id final ≡ row_at id all)
+      × ((flag : Text) → is_in c.flags flag ≡ true → row_at flag final ≡ Some (source_of flag (not (is_in free flag))))
 
-  ended : (all : List Row) (met : Bool) → (c.has_flag ≡ true → row_at c.flag all ≡ flag_of c.flag met)
-      → Ended met all (fold with_default all c.rules)
-  ended all met unset =
-      grind (arith, (is.defaults all).0, unset, has_row-at c.flag all, appended, holds_more all, kept, newly all (unset_row c.flag))
+  ended : (all : List Row) (free : List Text)
+      → ((flag : Text) → is_in c.flags flag ≡ true → row_at flag all ≡ flag_of flag (not (is_in free flag)))
+      → Ended free all (fold with_default all c.rules)
+  ended all free unset = subst (Ended free all) (sym (is.defaults all).0) (
+    λ done holds. defaults_hold c.flags all done holds,
+    λ id none. defaults_apart c.flags id all none,
+    λ flag of. defaults_flag c.flags flag (not (is_in free flag)) all of (unset flag of),
+  )
 
   end_faults : (rows : List Row) (pending : Pending) (p : ℕ) (t : Bool) (left : List Text) → Stands rows pending
       → let final = finished c.rules (at rows pending) in lacks final c.ids ≡ lacks final left
       → ends (idle_walk (at rows pending) p t) ≡ check_kinds false false (lacks final left)
   end_faults rows pending p t left stands owes = simp (stands, (is.defaults (now rows pending)).1, is.required, owes)
 
-  words_end : (t : Bool) (done : Pairs) (left : List Text) (met : Bool) (file : Option Text) (p : ℕ) (rows : List Row) (pending : Pending)
-      → Paths c.rules c.flag p left → Stands rows pending → fits (now rows pending) done left met file
-      → AnswersAt (ends (idle_walk (at rows pending) p t)) (idle_walk (at rows pending) p t) (at_end done left met file)
-  words_end t done [] met file p rows pending paths stands known =
-      let end = ended (now rows pending) met known.flagged.0 in
-      grind (arith, end, known, end_faults rows pending p t [] stands (known.owes _ (end.0 done known.holds)), is.apart)
-  words_end t done (id ∷ left) met file p rows pending paths stands known =
-      let end = ended (now rows pending) met known.flagged.0 in
+  words_end : (t : Bool) (done : Pairs) (left free : List Text) (file : Option Text) (p : ℕ) (rows : List Row) (pending : Pending)
+      → Paths c.rules c.flags p left → Stands rows pending → fits (now rows pending) done left free file
+      → AnswersAt (ends (idle_walk (at rows pending) p t)) (idle_walk (at rows pending) p t) (at_end done left free file)
+  words_end t done [] free file p rows pending paths stands known =
+      let end = ended (now rows pending) free known.flagged in (
+        end_faults rows pending p t [] stands (known.owes _ (end.0 done known.holds)),
+        record {
+          holds = end.0 done known.holds;
+          flagged = end.2;
+          filed = λ so. end.1 (codes "report") (no_report c.flags is.are) ∙ known.filed.0 so;
+        },
+      )
+  words_end t done (id ∷ left) free file p rows pending paths stands known =
+      let end = ended (now rows pending) free known.flagged in
       grind (arith, end.1 id paths.3, known.unused.0, end_faults rows pending p t (id ∷ left) stands (known.owes _ (end.0 done known.holds)))
 
   -- ---- an operand
@@ -412,39 +554,39 @@ module _ (c : Form) (is : IsCommand c) where
 
   -- the words answer, wherever the walk over them begins
   abbrev Go : Bool → List Text → Type 0
-  Go t rest = (done : Pairs) (left : List Text) (met : Bool) (file : Option Text) (p : ℕ) (rows : List Row) (pending : Pending)
-      → Paths c.rules c.flag p left → Stands rows pending → fits (now rows pending) done left met file
-      → Answers (idle_walk (at rows pending) p t) rest (scan is_taken c.flag rest (place_by t) done left met file)
+  Go t rest = (done : Pairs) (left free : List Text) (file : Option Text) (p : ℕ) (rows : List Row) (pending : Pending)
+      → Paths c.rules c.flags p left → Stands rows pending → fits (now rows pending) done left free file
+      → Answers (idle_walk (at rows pending) p t) rest (scan is_taken rest (place_by t) done left free file)
 
-  operand_answers : (t : Bool) (word : Text) (rest : List Text) (done : Pairs) (left : List Text) (met : Bool) (file : Option Text)
+  operand_answers : (t : Bool) (word : Text) (rest : List Text) (done : Pairs) (left free : List Text) (file : Option Text)
       (p : ℕ) (rows : List Row) (pending : Pending)
       → turn_fault s [] (idle_walk (at rows pending) p t) word ≡ step_fault s p (at rows pending) value
       → walked c.rules [] (idle_walk (at rows pending) p t) word
       ≡ to_positional c.rules (arg_by_index c.rules p) word (idle_walk (at rows pending) p t) (at rows pending)
-      → Paths c.rules c.flag p left → Stands rows pending → fits (now rows pending) done left met file → Go t rest
+      → Paths c.rules c.flags p left → Stands rows pending → fits (now rows pending) done left free file → Go t rest
       → Answers (idle_walk (at rows pending) p t) (word ∷ rest)
-      (operand_met word (place_by t) done left met file (scan is_taken c.flag rest))
-  operand_answers t word rest done [] met file p rows pending turn goes paths stands known later =
+      (operand_met word (place_by t) done left free file (scan is_taken rest))
+  operand_answers t word rest done [] free file p rows pending turn goes paths stands known later =
       stops (idle_walk (at rows pending) p t) word rest (λ e. grind (arith, turn, paths, e))
-  operand_answers t word rest done (id ∷ left) met file p rows pending turn goes paths stands known later =
+  operand_answers t word rest done (id ∷ left) free file p rows pending turn goes paths stands known later =
       let all = now rows pending in
       let pends = pends id word (place_of id p) all paths.1 known.unused.0 refl refl in
       passes (idle_walk (at rows pending) p t) (idle_walk (at all (Some (id, word ∷ []))) (min (p + 1) usize_max) t) word rest _
       (grind (arith, turn, paths.0, stands)) (grind (arith, goes, paths.0))
-      (later ((id, word) ∷ done) left met file (min (p + 1) usize_max) all (Some (id, word ∷ [])) paths.5 pends.0
-      (rw pends.1 (fits_path c all done left met id word file paths.2 known)))
+      (later ((id, word) ∷ done) left free file (min (p + 1) usize_max) all (Some (id, word ∷ [])) paths.5 pends.0
+      (rw pends.1 (fits_path c all done left free id word file paths.2 paths.3 known)))
 
   -- ---- what is pending has a fault, whatever follows
 
   abbrev Bad : List Row → Pending → Type 0
   Bad rows pending = settle_fault c.rules false (at rows pending) ≡ [] → ⊥
 
-  bad_step : (rows : List Row) (pending : Pending) (p : ℕ) (left : List Text) → Paths c.rules c.flag p left → Bad rows pending
+  bad_step : (rows : List Row) (pending : Pending) (p : ℕ) (left : List Text) → Paths c.rules c.flags p left → Bad rows pending
       → step_fault s p (at rows pending) value ≡ [] → ⊥
   bad_step rows pending p [] paths bad e = grind (arith, paths, e)
   bad_step rows pending p (id ∷ left) paths bad e = grind (arith, paths.0, bad, e)
 
-  bad_after : (waiting : Waiting) (rows : List Row) (pending : Pending) (p : ℕ) (left rest : List Text) → Paths c.rules c.flag p left
+  bad_after : (waiting : Waiting) (rows : List Row) (pending : Pending) (p : ℕ) (left rest : List Text) → Paths c.rules c.flags p left
       → Bad rows pending → fault (walk_with waiting (at rows pending) p true) rest ≡ [] → ⊥
   unfolding walk_fault
   bad_after waiting rows pending p left [] paths bad e = bad (first_nil _ _ e)
@@ -453,7 +595,7 @@ module _ (c : Form) (is : IsCommand c) where
 
   -- the word has to be a value of what is pending
   bad_word : (waiting : Waiting) (word : Text) (rest left : List Text) (rows : List Row) (pending : Pending) (p : ℕ) (o : Option Seen)
-      → subcommand_met [] waiting word ≡ None → Paths c.rules c.flag p left → Bad rows pending → let w = walk_with waiting (at rows pending) p false in
+      → subcommand_met [] waiting word ≡ None → Paths c.rules c.flags p left → Bad rows pending → let w = walk_with waiting (at rows pending) p false in
       (Turn s asks [] waiting rows pending p word [] (plain_word c.rules waiting word (at rows pending)) → Answers w (word ∷ rest) o)
       → Answers w (word ∷ rest) (cond (is_taken word) o None)
   bad_word waiting word rest left rows pending p o none paths bad bare =
@@ -462,11 +604,11 @@ module _ (c : Form) (is : IsCommand c) where
       (λ d q b. Answers w (word ∷ rest) (cond (not d && (not (is_some q) && b)) o None))
       (λ q b turn. passes w (walk_with waiting (at rows pending) p true) word rest None turn.0 turn.1
       (bad_after waiting rows pending p left rest paths bad))
-      (λ q b turn. stops w word rest (λ e.
+      (λ q b is_long turn. stops w word rest (λ e.
       bad (long_settles c.rules (arg_by_long c.rules q.0) q.1 (at rows pending) (first_nil _ _ (sym turn.0 ∙ e)))))
       bare (λ fails. stops w word rest fails)
 
-  bad_before : (rows : List Row) (pending : Pending) (p : ℕ) (left rest : List Text) → Paths c.rules c.flag p left
+  bad_before : (rows : List Row) (pending : Pending) (p : ℕ) (left rest : List Text) → Paths c.rules c.flags p left
       → Bad rows pending → fault (idle_walk (at rows pending) p false) rest ≡ [] → ⊥
   unfolding walk_fault
   bad_before rows pending p left [] paths bad = λ e. bad (first_nil _ _ e)
@@ -490,7 +632,7 @@ module _ (c : Form) (is : IsCommand c) where
   unnamed_bad all so e = grind (arith, is.report, so, e)
 
   named_so : (word : Text) (rest left : List Text) (p : ℕ) (all : List Row) (o : Option Seen) → c.has_file ≡ true
-      → Paths c.rules c.flag p left → Answers (idle_walk (at all (file_pending (word ∷ []))) p false) rest o
+      → Paths c.rules c.flags p left → Answers (idle_walk (at all (file_pending (word ∷ []))) p false) rest o
       → Answers (waits all p) (word ∷ rest) (cond (is_taken word) o None)
   named_so word rest left p all o so paths later =
       bad_word (option (codes "report")) word rest left all (file_pending []) p o refl paths (unnamed_bad all so) (λ turn.
@@ -501,24 +643,33 @@ module _ (c : Form) (is : IsCommand c) where
 
   -- of a second `--report` the file is refused
   abbrev Wait : List Text → Type 0
-  Wait rest = (done : Pairs) (left : List Text) (met : Bool) (file : Option Text) (p : ℕ) (all : List Row) → c.has_file ≡ true
-      → Paths c.rules c.flag p left → fits all done left met file
-      → Answers (waits all p) rest (cond (is_some file) None (scan is_taken c.flag rest naming done left met None))
+  Wait rest = (done : Pairs) (left free : List Text) (file : Option Text) (p : ℕ) (all : List Row) → c.has_file ≡ true
+      → Paths c.rules c.flags p left → fits all done left free file
+      → Answers (waits all p) rest (cond (is_some file) None (scan is_taken rest naming done left free None))
 
-  others : (left : List Text) (p : ℕ) → Paths c.rules c.flag p left → Other c.flag left × Other (codes "report") left
-  others [] p paths = (tt, tt)
-  others (id ∷ left) p paths = let more = others left (min (p + 1) usize_max) paths.5 in ((paths.3, more.0), (paths.4, more.1))
+  others : (flag : Text) → is_in c.flags flag ≡ true → (left : List Text) (p : ℕ) → Paths c.rules c.flags p left → Other flag left
+  others flag of [] p paths = tt
+  others flag of (id ∷ left) p paths =
+      (apart_too id flag (flag_apart c.flags flag id paths.3 of), others flag of left (min (p + 1) usize_max) paths.5)
+
+  file_others : (left : List Text) (p : ℕ) → Paths c.rules c.flags p left → Other (codes "report") left
+  file_others [] p paths = tt
+  file_others (id ∷ left) p paths = (paths.4, file_others left (min (p + 1) usize_max) paths.5)
+
+  -- a flag isn't the report's option
+  flag_no_report : (flag : Text) → is_in c.flags flag ≡ true → bytes_eq flag (codes "report") ≡ false
+  flag_no_report flag of = apart_too (codes "report") flag (flag_apart c.flags flag (codes "report") (no_report c.flags is.are) of)
 
   module _ (word : Text) (rest : List Text) (done : Pairs) (left : List Text) (p : ℕ) (rows : List Row) (pending : Pending)
-      (paths : Paths c.rules c.flag p left) (stands : Stands rows pending) (goes_on : Go false rest) (waits_on : Wait rest) where
+      (paths : Paths c.rules c.flags p left) (stands : Stands rows pending) (goes_on : Go false rest) (waits_on : Wait rest) where
     abbrev so_far : List Row
     so_far = now rows pending
 
     abbrev w : Walk
     w = idle_walk (at rows pending) p false
 
-    abbrev After : Bool → Bool → Option (Option Text) → Bool → Bool → Option Text → Type 0
-    After d f r a met file = Answers w (word ∷ rest) (word_met d f r a word done left met file (scan is_taken c.flag rest))
+    abbrev After : Bool → Bool → Option (Option Text) → Bool → List Text → Option Text → Type 0
+    After d f r a free file = Answers w (word ∷ rest) (word_met d f r a word done left free file (scan is_taken rest))
 
     abbrev Turned : Option Text → Option Rule → Type 0
     Turned v a = let m = clap_long_met c.rules a v (at rows pending) in
@@ -537,78 +688,118 @@ module _ (c : Form) (is : IsCommand c) where
         (grind (arith, turn.1, appended_anew id how CommandLine values so_far none)) (later none)
     used id how values true r o turn there later = stops w word rest (λ e. grind (arith, turn.0, e, there, has_row-at id so_far))
 
-    flag_met : (met : Bool) (file : Option Text) → fits so_far done left met file → Turned None (Some (flag_filled c.flag))
-        → c.has_flag ≡ true → After false true None false met file
-    flag_met met file known turn so =
-        used c.flag (set_row c.flag).reading (codes "true" ∷ []) met (set_row c.flag) _ turn (known.flagged.0 so)
-        (λ none. goes_on done left true file p (so_far ++ set_row c.flag ∷ []) None paths refl
-        (fits_flag c so_far done left met file none (is.apart.0, (others left p paths).0) known))
+    flag_met : (name : Text) (free : List Text) (file : Option Text) → fits so_far done left free file → long_of word ≡ Some (name, None)
+        → Turned None (Some (flag_filled name)) → is_in c.flags name ≡ true → After false (is_in free name && true) None false free file
+    flag_met name free file known is_long turn of = go (is_in free name) refl
+      where
+        less : List Text
+        less = closed (45 ∷ 45 ∷ name) free
 
-    file_met : (v : Option Text) (met : Bool) (file : Option Text) → fits so_far done left met file → Turned v (Some report_filled)
-        → c.has_file ≡ true → After false false (Some v) false met file
-    file_met None met file known turn so =
+        first : is_in free name ≡ true → row_at name so_far ≡ None → Answers (idle_walk (at (so_far ++ set_row name ∷ []) None) p false) rest
+            (scan is_taken rest before done left less file)
+        first e none = goes_on done left less file p (so_far ++ set_row name ∷ []) None paths refl
+            (fits_flag c so_far done left free name file e none (flag_no_report name of, others name of left p paths) known)
+
+        met : (b : Bool) → is_in free name ≡ b → row_at name so_far ≡ flag_of name (not b)
+        met b e = known.flagged name of ∙ ap (λ x. flag_of name (not x)) e
+
+        not_none : ◌≡◌ {A = Option Row} None (Some (set_row name)) → ⊥
+        not_none e = cc
+
+        go : (b : Bool) → is_in free name ≡ b → After false (b && true) None false free file
+        go true e = subst (λ (x : Text). Answers w (word ∷ rest) (scan is_taken rest before done left (closed x free) file))
+            (sym (long_text word name is_long))
+            (used name (set_row name).reading (codes "true" ∷ []) false (set_row name) _ turn (met true e) (first e))
+        go false e = used name (set_row name).reading (codes "true" ∷ []) true (set_row name) None turn (met false e)
+            (λ none. absurd (not_none (sym none ∙ met false e)))
+
+    file_met : (v : Option Text) (free : List Text) (file : Option Text) → fits so_far done left free file → Turned v (Some report_filled)
+        → c.has_file ≡ true → After false false (Some v) false free file
+    file_met None free file known turn so =
         passes w (waits so_far p) word rest _ (turn.0 ∙ ap (λ k. or_else k []) stands) turn.1
-        (waits_on done left met file p so_far so paths known)
-    file_met (Some f) met file known turn so = used (codes "report") (row (codes "report") f).reading (f ∷ []) (is_some file)
+        (waits_on done left free file p so_far so paths known)
+    file_met (Some f) free file known turn so = used (codes "report") (row (codes "report") f).reading (f ∷ []) (is_some file)
         (row (codes "report") (unwrap_or file [])) _ turn (known.filed.0 so)
-        (λ none. goes_on done left met (Some f) p (so_far ++ row (codes "report") f ∷ []) None paths refl
-        (fits_file c so_far done left met f file none (is.apart.1, (others left p paths).1) known))
+        (λ none. goes_on done left free (Some f) p (so_far ++ row (codes "report") f ∷ []) None paths refl
+        (fits_file c so_far done left free f file none (no_report c.flags is.are) (file_others left p paths) known))
 
     no_option : (b : Bool) (v : Option Text) → Turned v (cond b (Some help) None) → fault w (word ∷ rest) ≡ [] → ⊥
     no_option b v turn = stops w word rest (λ e. shown_long c.rules b false v (at rows pending) (first_nil _ _ (sym turn.0 ∙ e)))
 
-    long_answers : (name : Text) (v : Option Text) → (f : Bool) → bytes_eq c.flag name ≡ f
-        → (r : Bool) → bytes_eq (codes "report") name ≡ r → (hf : Bool) → c.has_flag ≡ hf → (hr : Bool) → c.has_file ≡ hr
-        → Turned v (let other = cond (bytes_eq (codes "help") name || false) (Some help) None in
-        let file = cond (r || false) (cond hr (Some report_filled) other) other in
-        cond (f || false) (cond hf (Some (flag_filled c.flag)) file) file)
-        → (met : Bool) (file : Option Text) → fits so_far done left met file → After false (f && not (is_some v)) (cond r (Some v) None) false met file
-    long_answers name v true f true re hf hfe hr hre turn met file known = grind (arith, bytes_eq-Decides c.flag name, is.apart)
-    long_answers name None true f false re true hf hr hre turn met file known = flag_met met file known turn hf
-    long_answers name (Some x) true f false re true hf hr hre turn met file known =
-        stops w word rest (λ e. not_nil _ _ (sym turn.0 ∙ e))
-    long_answers name None true f false re false hf hr hre turn true file known = no_option _ None turn
-    long_answers name (Some x) true f false re false hf hr hre turn met file known = no_option _ (Some x) turn
-    long_answers name v false f true re hf hfe true hr turn met file known = file_met v met file known turn hr
-    long_answers name v false f true re hf hfe false hr turn met (Some g) known = no_option _ v turn
-    long_answers name v false f false re hf hfe hr hre turn met file known = no_option _ v turn
-    long_answers name v f fe r re hf hfe hr hre turn met file known = grind (arith, known.flagged.1, known.filed.1)
+    flag_long : (name : Text) (v : Option Text) (free : List Text) (file : Option Text) → fits so_far done left free file
+        → long_of word ≡ Some (name, v) → Turned v (Some (flag_filled name)) → is_in c.flags name ≡ true
+        → After false (is_in free name && not (is_some v)) None false free file
+    flag_long name None free file known is_long turn of = flag_met name free file known is_long turn of
+    flag_long name (Some x) free file known is_long turn of = go (is_in free name)
+      where
+        refused : Answers w (word ∷ rest) None
+        refused = stops w word rest (λ e. not_nil _ _ (sym turn.0 ∙ e))
 
-    word_answers : (met : Bool) (file : Option Text) → fits so_far done left met file → Go true rest
-        → After (bytes_eq word (codes "--")) (bytes_eq word (45 ∷ 45 ∷ c.flag)) (as_report word) (is_taken word) met file
-    word_answers met file known trails =
-        rw (flag_word c.flag is.long word)
+        go : (b : Bool) → After false (b && false) None false free file
+        go true = refused
+        go false = refused
+
+    other_long : (name : Text) (v : Option Text) (free : List Text) (file : Option Text) → fits so_far done left free file
+        → (r : Bool) → bytes_eq (codes "report") name ≡ r → (hr : Bool) → c.has_file ≡ hr
+        → Turned v (let other = cond (bytes_eq (codes "help") name || false) (Some help) None in
+        cond (r || false) (cond hr (Some report_filled) other) other)
+        → After false false (cond r (Some v) None) false free file
+    other_long name v free file known true re true hr turn = file_met v free file known turn hr
+    other_long name v free (Some g) known true re false hr turn = no_option _ v turn
+    other_long name v free None known true re false hr turn = absurd (true≢false (sym (known.filed.1 hr)))
+    other_long name v free file known false re hr hre turn = no_option _ v turn
+
+    long_answers : (name : Text) (v : Option Text) (free : List Text) (file : Option Text) → fits so_far done left free file
+        → long_of word ≡ Some (name, v) → Turned v (option_by c.flags c.has_file name)
+        → After false (is_in free name && not (is_some v)) (cond (bytes_eq (codes "report") name) (Some v) None) false free file
+    long_answers name v free file known is_long turn = go (is_in c.flags name) refl
+      where
+        never : is_in c.flags name ≡ false → (b : Bool) → is_in free name ≡ b → is_in free name ≡ false
+        never none true e = absurd (true≢false (sym (known.known name e) ∙ none))
+        never none false e = e
+
+        go : (b : Bool) → is_in c.flags name ≡ b
+            → After false (is_in free name && not (is_some v)) (cond (bytes_eq (codes "report") name) (Some v) None) false free file
+        go true of = rw (apart_too name (codes "report") (flag_no_report name of))
+            (flag_long name v free file known is_long (subst (Turned v) (option_flag c.flags c.has_file name of) turn) of)
+        go false none = rw (never none (is_in free name) refl)
+            (other_long name v free file known (bytes_eq (codes "report") name) refl c.has_file refl
+            (subst (Turned v) (option_other c.flags c.has_file name none) turn))
+
+    word_answers : (free : List Text) (file : Option Text) → fits so_far done left free file → Go true rest
+        → After (bytes_eq word (codes "--")) (is_open free word) (as_report word) (is_taken word) free file
+    word_answers free file known trails =
+        rw (flag_word free known.are word)
         (by_word s asks [] idle rows pending p word refl
-        (λ d q b. After d (is_flag c.flag q) (report_option q) (not d && (not (is_some q) && b)) met file)
+        (λ d q b. After d (is_flag_in free q) (report_option q) (not d && (not (is_some q) && b)) free file)
         (λ q b turn. passes w (idle_walk (at rows pending) p true) word rest _ turn.0 turn.1
-        (trails done left met file p rows pending paths stands known))
-        (λ q b turn. long_answers q.0 q.1 (bytes_eq c.flag q.0) refl (bytes_eq (codes "report") q.0) refl c.has_flag refl
-        c.has_file refl (subst (Turned q.1) (is.longs q.0) turn) met file known)
-        (λ turn. operand_answers false word rest done left met file p rows pending turn.0 turn.1 paths stands known goes_on)
+        (trails done left free file p rows pending paths stands known))
+        (λ q b is_long turn. long_answers q.0 q.1 free file known is_long (subst (Turned q.1) (is.longs q.0) turn))
+        (λ turn. operand_answers false word rest done left free file p rows pending turn.0 turn.1 paths stands known goes_on)
         (λ fails. stops w word rest fails))
 
   mutual
     unfolding walked walk_fault
 
     pub parsed : (t : Bool) (rest : List Text) → Go t rest
-    parsed true [] done left met file p rows pending paths stands known =
-        words_end true done left met file p rows pending paths stands known
-    parsed false [] done left met file p rows pending paths stands known =
-        words_end false done left met file p rows pending paths stands known
-    parsed true (word ∷ rest) done left met file p rows pending paths stands known =
-        operand_answers true word rest done left met file p rows pending refl refl paths stands known (parsed true rest)
-    parsed false (word ∷ rest) done left met file p rows pending paths stands known =
-        word_answers word rest done left p rows pending paths stands (parsed false rest) (named rest) met file known
+    parsed true [] done left free file p rows pending paths stands known =
+        words_end true done left free file p rows pending paths stands known
+    parsed false [] done left free file p rows pending paths stands known =
+        words_end false done left free file p rows pending paths stands known
+    parsed true (word ∷ rest) done left free file p rows pending paths stands known =
+        operand_answers true word rest done left free file p rows pending refl refl paths stands known (parsed true rest)
+    parsed false (word ∷ rest) done left free file p rows pending paths stands known =
+        word_answers word rest done left p rows pending paths stands (parsed false rest) (named rest) free file known
         (parsed true rest)
 
     named : (rest : List Text) → Wait rest
-    named [] done left met file p all so paths known =
+    named [] done left free file p all so paths known =
         subst (Answers (waits all p) []) (sym (either (is_some file) None)) (λ e. unnamed_bad all so (first_nil _ _ e))
-    named (word ∷ rest) done left met None p all so paths known = named_so word rest left p all _ so paths
+    named (word ∷ rest) done left free None p all so paths known = named_so word rest left p all _ so paths
         (let pends = pends (codes "report") word report_filled all (report_is so) (known.filed.0 so) refl refl in
-        parsed false rest done left met (Some word) p all (file_pending (word ∷ [])) paths pends.0
-        (rw pends.1 (fits_file c all done left met word None (known.filed.0 so) (is.apart.1, (others left p paths).1) known)))
-    named (word ∷ rest) done left met (Some file) p all so paths known =
+        parsed false rest done left free (Some word) p all (file_pending (word ∷ [])) paths pends.0
+        (rw pends.1 (fits_file c all done left free word None (known.filed.0 so) (no_report c.flags is.are) (file_others left p paths) known)))
+    named (word ∷ rest) done left free (Some file) p all so paths known =
         subst (Answers (waits all p) (word ∷ rest)) (either (is_taken word) None) (named_so word rest left p all None so paths
         (bad_before all (file_pending (word ∷ [])) p left rest paths
         (λ e. grind (arith, is.report, so, known.filed.0, has_row-at (codes "report") all, e))))

@@ -2,31 +2,33 @@
 -- (`task_requested`), and words that are a task are never refused but for memory (`words_pass`).
 -- `Words` has the pass over the words of a subcommand, which finds what the definitions say, and `Parse` shows
 -- that clap finds the same, for each command of one form; the three subcommands are such.
-use Rattle.std.proofs.Common.{◌==◌, ◌||◌, ◌∙◌, ◌∷◌, ◌≡◌, [], ℕ, Bool, List, None, Option, Some, ap, codes, cond, false, is_some, refl, rules, subst, sym, true}
-use Rattle.std.proofs.Common.{arith, ◌&&◌, length, fold, map, option_map, option_and_then, slice_get, slice_index_or, bytes_eq}
+use Rattle.std.proofs.Common.{◌==◌, ◌||◌, ◌∙◌, ◌∷◌, ◌≡◌, [], ℕ, Bool, List, None, Option, Some, ap, codes, cond, false, is_some, refl, rules, subst, sym, true, true≢false}
+use Rattle.std.proofs.Common.{arith, ◌&&◌, not, length, fold, map, option_map, option_and_then, slice_get, slice_index_or, bytes_eq}
 use Rattle.std.proofs.Math.Bool.{or-true}
 use Rattle.std.proofs.lemmas.Slice.Eq.{bytes_eq-Decides}
 use Rattle.clap.specs.Faults.{check_fault, defaults_fault, entered_fault, level_fault, settle_fault, stray_fault, turn_fault, walk_fault}
 use Rattle.clap.specs.Kinds.{Kinds, or_else, HasKind}
-use Rattle.clap.specs.Simple.{App, Shape, built, entered, names_of, new_shape, subcommand_of, HasMatchesOf, subcommand_rows_of}
+use Rattle.clap.specs.Simple.{App, Shape, built, entered, is_simple, names_of, new_shape, subcommand_of, HasMatchesOf, subcommand_rows_of}
 use Rattle.clap.specs.Walk.{Names, Row, Text, Walk, arg_by_long, finished, idle, nothing_held, rows_after, settled, subcommand_met, walked, rows_of}
 use Rattle.clap.specs.declared.error.kind.ErrorKind.TheVariants.{InvalidSubcommand, UnknownArgument, OutOfMemory}
 use Rattle.clap.proofs.FaultLemmas.{stopped_fault}
 use Rattle.clap.proofs.OnLiterals.{clap_on_literals}
 use Rattle.clap.proofs.WalkLemmas.{walk_stopped, first_value-rows, one_text-rows}
 use Rattle.command_line.specs.steps.Program.{program_app}
-use Rattle.command_line.proofs.Parse.{Defaults, Fits, Form, Gives, IsCommand, Paths, by_word, either, first_nil, idle_walk, leaf, not_nil, option_by}
+use Rattle.command_line.proofs.Parse.{Defaults, Fits, Form, Gives, IsCommand, Paths, by_word, either, first_nil, flag_of, idle_walk, leaf, not_nil, option_by}
 use Rattle.command_line.proofs.Parse.{shown_long, then_nil, Holds, row_of, AnswersAt, parsed}
-use Rattle.command_line.proofs.Words.{Seen, before, is_taken, scan, Pairs, formed_found, found_said, is_met, is_formed}
-use Rattle.command_line.proofs.Words.{pairs, seen_of, words_of}
+use Rattle.command_line.proofs.Words.{AreFlags, Seen, before, is_in, is_taken, met_in, scan, Pairs, formed_found, found_said, is_formed}
+use Rattle.command_line.proofs.Words.{pairs, seen_of, without_option, words_of}
 use Rattle.std.specs.Borrow.{Bor}
 use Rattle.clap.specs.declared.error.Error.{Error}
 use Rattle.clap.specs.declared.parser.matches.ArgMatches.{ArgMatches}
 use Rattle.clap.specs.declared.parser.matches.Found.{Found}
-use Rattle.command_line.specs.CommandLine.{AreTexts, RequestsTask, is_well_formed, operands, report_of}
-use Rattle.command_line.specs.steps.Given.{GivesTask, Sets, value_at}
-use Rattle.command_line.specs.declared.task.Task.{Task}
-use Rattle.command_line.specs.declared.task.Task.TheVariants.{Check, Explain, Run}
+use Rattle.command_line.specs.CommandLine.{AreTexts, RequestsTask, are_operands, check_flags, explaining_by, explaining_in, has_flag, is_check, is_explain}
+use Rattle.command_line.specs.CommandLine.{is_run, is_well_formed, names_file, operands, report_of, run_flags, without_flags, without_report}
+use Rattle.command_line.specs.steps.Given.{Contradicts, GivesExplaining, GivesTask, Sets, value_at}
+use Rattle.command_line.specs.declared.tasks.Explaining.{Explaining}
+use Rattle.command_line.specs.declared.tasks.Task.{Task}
+use Rattle.command_line.specs.declared.tasks.Task.TheVariants.{Check, Explain, Run}
 use Rattle.clap.specs.Words.{found_of, subcommand_name_of, kind_of, fault_of, is_simple_and_free}
 
 abbrev pub whole : App
@@ -48,36 +50,34 @@ run_form = record {
   name = codes "run";
   rules = (sub 0).rules;
   ids = codes "rules" ∷ codes "plant" ∷ codes "input" ∷ codes "output" ∷ [];
-  has_flag = true;
+  flags = codes "trace" ∷ codes "explain" ∷ codes "no-explain" ∷ [];
   has_file = true;
-  flag = codes "trace";
-  met = false;
   file = None;
 }
 
+-- its file is none, as if it had been named
 abbrev pub check_form : Form
-check_form = record run_form {
+check_form = record {
   name = codes "check";
   rules = (sub 1).rules;
   ids = codes "rules" ∷ codes "plant" ∷ [];
+  flags = codes "all" ∷ codes "explain" ∷ codes "no-explain" ∷ codes "nft" ∷ [];
   has_file = false;
-  flag = codes "all";
   file = Some [];
 }
 
--- its flag is none, as if it had been met
 abbrev pub explain_form : Form
-explain_form = record check_form { name = codes "explain"; rules = (sub 2).rules; ids = codes "code" ∷ []; has_flag = false; met = true }
+explain_form = record check_form { name = codes "explain"; rules = (sub 2).rules; ids = codes "code" ∷ []; flags = [] }
 
 -- the pass over the words of a subcommand
 abbrev pub found_in : Form → List Text → Option Seen
-found_in c rest = scan is_taken c.flag rest before [] c.ids c.met c.file
+found_in c rest = scan is_taken rest before [] c.ids c.flags c.file
 
 -- the words are well-formed, and these are the rows of what they say
 abbrev pub Took : Form → List Text → List Row → Type 0
-Took c rest rows = ((length (operands (words_of c.flag c.met c.file rest)) == length c.ids) ≡ true)
-    × (AreTexts rest → is_formed c.flag c.ids c.met c.file rest ≡ true)
-    × Gives c (seen_of c.flag [] c.ids c.met c.file rest) rows
+Took c rest rows = ((length (operands (words_of c.flags c.file rest)) == length c.ids) ≡ true)
+    × (AreTexts rest → is_formed c.ids c.flags c.file rest ≡ true)
+    × Gives c (seen_of [] c.ids c.flags c.file rest) rows
 
 abbrev level : Form → List Text → Kinds
 level c rest = level_fault (leaf c.name c.rules) [] nothing_held rest false []
@@ -119,31 +119,40 @@ enters c program rest goes faults ends met =
 -- a subcommand of the program
 pub record IsSubcommand (c : Form) : Type 0 where
   pub command : IsCommand c
-  pub begins : Fits c [] [] c.ids c.met c.file
+  pub begins : Fits c [] [] c.ids c.flags c.file
   pub enters : (program : Text) (rest : List Text) → Enters c program rest
+
+-- no flag is met at first
+not_met : (flags : List Text) (flag : Text) → is_in flags flag ≡ true → ◌≡◌ {A = Option Row} None (flag_of flag (not (is_in flags flag)))
+not_met flags flag e = grind (arith, e)
 
 pub run_sub : IsSubcommand run_form
 unfolding clap_on_literals defaults_fault
 run_sub =
     let defaults : Defaults run_form = λ all. (simp either, simp (or-true, either)) in
-    let begins : Fits run_form [] [] run_form.ids run_form.met run_form.file = search rules in
-    search (rules, defaults, begins, enters run_form)
+    let are : AreFlags run_form.flags = search rules in
+    let begins : Fits run_form [] [] run_form.ids run_form.flags run_form.file =
+    search (rules, not_met run_form.flags, are) in
+    search (rules, are, defaults, begins, enters run_form)
 
 pub check_sub : IsSubcommand check_form
 unfolding clap_on_literals defaults_fault
 check_sub =
-    let longs : (name : Text) → arg_by_long (sub 1).rules name ≡ option_by true false (codes "all") name = λ name. simp either in
+    let longs : (name : Text) → arg_by_long (sub 1).rules name ≡ option_by check_form.flags false name = λ name. simp either in
     let defaults : Defaults check_form = λ all. (simp either, simp (or-true, either)) in
-    let begins : Fits check_form [] [] check_form.ids check_form.met check_form.file = search rules in
-    let paths : Paths check_form.rules check_form.flag 1 check_form.ids = search rules in
-    search (rules, longs, defaults, begins, paths, enters check_form)
+    let are : AreFlags check_form.flags = search rules in
+    let begins : Fits check_form [] [] check_form.ids check_form.flags check_form.file =
+    search (rules, not_met check_form.flags, are) in
+    let paths : Paths check_form.rules check_form.flags 1 check_form.ids = search rules in
+    search (rules, longs, are, defaults, begins, paths, enters check_form)
 
 pub explain_sub : IsSubcommand explain_form
 unfolding clap_on_literals defaults_fault
 explain_sub =
-    let longs : (name : Text) → arg_by_long (sub 2).rules name ≡ option_by false false (codes "all") name = λ name. simp either in
+    let longs : (name : Text) → arg_by_long (sub 2).rules name ≡ option_by [] false name = λ name. simp either in
     let defaults : Defaults explain_form = λ all. (simp either, simp or-true) in
-    let begins : Fits explain_form [] [] explain_form.ids explain_form.met explain_form.file = search rules in
+    let begins : Fits explain_form [] [] explain_form.ids explain_form.flags explain_form.file =
+    search (rules, not_met explain_form.flags) in
     search (rules, longs, defaults, begins, enters explain_form)
 
 -- ---- other words
@@ -171,7 +180,7 @@ module _ (program word : Text) (rest : List Text) (e : fault_of program_app (pro
       names idle [] None 1 word none (λ d o b. ⊥)
       (λ o b turn. let at = λ (w : Walk). (walk_fault top names w rest ≡ []) × (ended (fold (walked top.rules names) w rest) ≡ []) in
       let none = subst at turn.1 (no_fault.1, no_fault.2) in stray rest none.0 none.1)
-      (λ q b turn. shown_long top.rules (bytes_eq (codes "help") q.0 || false) (bytes_eq (codes "version") q.0 || false) q.1
+      (λ q b is_long turn. shown_long top.rules (bytes_eq (codes "help") q.0 || false) (bytes_eq (codes "version") q.0 || false) q.1
       nothing_held (first_nil _ _ (sym turn.0 ∙ no_fault.0)))
       (λ turn. let none : stray_fault top ≡ [] = sym turn.0 ∙ no_fault.0 in not_nil UnknownArgument (InvalidSubcommand ∷ []) none)
       (λ fails. fails no_fault.0)
@@ -196,7 +205,7 @@ module _ (c : Form) (is : IsSubcommand c) (program word : Text) (rest : List Tex
   Answer = AnswersAt c is.command (level c rest) (fold (walked c.rules []) first rest)
 
   answer : Answer (found_in c rest)
-  answer = parsed c is.command false rest [] c.ids c.met c.file 1 [] None is.command.paths refl is.begins
+  answer = parsed c is.command false rest [] c.ids c.flags c.file 1 [] None is.command.paths refl is.begins
 
   read_as : form_of c.name ≡ c → bytes_eq c.name word ≡ true → fault_of program_app (program ∷ word ∷ rest) ≡ []
       → IsRead (program ∷ word ∷ rest)
@@ -210,14 +219,14 @@ module _ (c : Form) (is : IsSubcommand c) (program word : Text) (rest : List Tex
       go : (o : Option Seen) → found_in c rest ≡ o → Answer o → level c rest ≡ [] → Took c rest (rows_after c.rules [] rest)
       go None found a e = absurd (a e)
       go (Some seen) found a e =
-          let said = found_said c.flag is.command.long is.command.apart.1 rest c.ids c.met c.file seen found in
+          let said = found_said c.flags is.command.are rest c.ids c.file seen found in
           (said.0, said.1, subst (λ (m : Seen). Gives c m (rows_after c.rules [] rest)) (sym said.2) a.1)
 
   -- well-formed words of this name have no fault
-  words_fit : (bytes_eq word c.name && is_formed c.flag c.ids c.met c.file rest) ≡ true
+  words_fit : (bytes_eq word c.name && is_formed c.ids c.flags c.file rest) ≡ true
       → fault_of program_app (program ∷ word ∷ rest) ≡ []
   words_fit e =
-      let found = formed_found c.flag is.command.long is.command.apart.1 rest c.ids c.met c.file in
+      let found = formed_found c.flags is.command.are rest c.ids c.file in
       grind (arith, e, bytes_eq-Decides word c.name, (is.enters program rest).0, found, answer)
 
 pub task_read : (words : List Text) → fault_of program_app words ≡ [] → IsRead words
@@ -237,21 +246,35 @@ task_read (program ∷ word ∷ rest) e =
     go false is false f false g true h = grind (arith, is, f, g, h, (no_fault program word rest e).0)
     go false is false f false g false h = absurd (stranger program word rest e (grind (arith, is, f, g, h)))
 
+-- what else is asked of well-formed words clap doesn't see
+drop_last : (a b c d : Bool) → (a && (b && (c && d))) ≡ true → (a && (b && c)) ≡ true
+drop_last a b c d e = grind (arith, e)
+
 pub words_pass : (words : List Text) → is_well_formed words ≡ true → fault_of program_app words ≡ []
 words_pass (program ∷ name ∷ rest) e =
-    grind (
-      arith,
-      words_fit run_form run_sub program name rest,
-      words_fit check_form check_sub program name rest,
-      words_fit explain_form explain_sub program name rest,
-    )
-words_pass words e = grind arith
+    go (bytes_eq name (codes "run") && is_run rest) refl (bytes_eq name (codes "check") && is_check rest) refl
+  where
+    go : (r : Bool) → (bytes_eq name (codes "run") && is_run rest) ≡ r
+        → (c : Bool) → (bytes_eq name (codes "check") && is_check rest) ≡ c → fault_of program_app (program ∷ name ∷ rest) ≡ []
+    go true f c g = words_fit run_form run_sub program name rest
+        (drop_last (bytes_eq name (codes "run")) (names_file rest) (are_operands 4 (without_flags run_flags (without_report rest)))
+        (is_some (explaining_in (without_report rest))) f)
+    go false f true g = words_fit check_form check_sub program name rest
+        (drop_last (bytes_eq name (codes "check")) true (are_operands 2 (without_flags check_flags rest)) (is_some (explaining_in rest)) g)
+    go false f false g = words_fit explain_form explain_sub program name rest
+        (sym (λ j. f j || (g j || (bytes_eq name (codes "explain") && is_explain rest))) ∙ e)
+words_pass (program ∷ []) e = absurd (true≢false (sym e))
+words_pass [] e = absurd (true≢false (sym e))
 
 -- ---- the parse, as the caller sees it
 
 pub is_simple_program : is_simple_and_free program_app ≡ true
 unfolding clap_on_literals
 is_simple_program = refl
+
+is_simple_alone : is_simple program_app ≡ true
+unfolding clap_on_literals
+is_simple_alone = refl
 
 -- the words of the subcommand that the matches give
 pub has_read : (app : App) (words : List Text) (m : ArgMatches) (o : Option (Bor Text × Bor ArgMatches)) (p : Bor Text × Bor ArgMatches)
@@ -263,7 +286,8 @@ pub has_read : (app : App) (words : List Text) (m : ArgMatches) (o : Option (Bor
 has_read app words m o p is fault matches found names rows =
     let got = task_read words (subst (λ (a : App). fault_of a words ≡ []) is
     (fault (ap is_simple_and_free is ∙ is_simple_program))) in
-    let sub : subcommand_rows_of m ≡ Some (got.0, got.1) = grind (arith, is, matches, is_simple_program, got.2) in
+    let sub : subcommand_rows_of m ≡ Some (got.0, got.1) =
+    (subst (λ (a : App). HasMatchesOf a words m) is matches is_simple_alone).1 ∙ got.2 in
     let name_is : p.0.now ≡ got.0 = grind (arith, found, names, sub) in
     let rows_are : rows_of (found_of p.1.now) ≡ got.1 = grind (arith, found, rows, sub) in
     rw (name_is, rows_are) got.3
@@ -289,33 +313,64 @@ module _ (words : List Text) (name : Text) (f : Found) (got : HasRead words name
   taken : (c : Form) → form_of name ≡ c → Taken c
   taken c of = subst Taken of (got.2 ∙ ap (λ (n : Text). got.0 ∷ n ∷ got.1) got.3, got.4)
 
-  module _ (c : Form) (t : Taken c) where
-    paths_are : operands (words_of c.flag c.met c.file got.1) ≡ map (value_at f) c.ids
-    paths_are = (values f [] c.ids (operands (words_of c.flag c.met c.file got.1)) t.1.0 t.1.2.holds).0
+  module _ (c : Form) (is : IsSubcommand c) (t : Taken c) where
+    paths_are : operands (words_of c.flags c.file got.1) ≡ map (value_at f) c.ids
+    paths_are = (values f [] c.ids (operands (words_of c.flags c.file got.1)) t.1.0 t.1.2.holds).0
 
-    flag_is : (flag : Bool) → c.has_flag ≡ true → Sets f c.flag flag → flag ≡ is_met c.flag c.met c.file got.1
-    flag_is flag so sets = grind (arith, one_text-rows f c.flag, t.1.2.flagged so, sets.0, sets.1)
+    -- the words in which flags are looked for
+    abbrev flagged : List Text
+    flagged = without_option c.file got.1
+
+    flag_is : (flag : Text) (b : Bool) → is_in c.flags flag ≡ true → Sets f flag b → b ≡ has_flag (45 ∷ 45 ∷ flag) flagged
+    flag_is flag b of sets = grind (arith, one_text-rows f flag, t.1.2.flagged flag of, sets.0, sets.1)
+        ∙ met_in c.flags is.command.are flag flagged of
+
+    explaining_is : (o : Option Explaining) → is_in c.flags (codes "explain") ≡ true → is_in c.flags (codes "no-explain") ≡ true
+        → GivesExplaining f o → o ≡ explaining_in flagged
+    explaining_is o always never gives = gives.4
+        ∙ (λ j. explaining_by (flag_is (codes "explain") gives.0 always gives.2 j) (flag_is (codes "no-explain") gives.1 never gives.3 j))
 
   -- the task is the one that the words request
   pub task_requested : (task : Task) → GivesTask name f task → RequestsTask words task
   task_requested (Run task) gives =
       let t = taken run_form (λ j. cond (gives.0 j) check_form (cond (gives.1 j) explain_form run_form)) in
+      let explaining = explaining_is run_form run_sub t (Some task.explaining) refl refl gives.3 in
       rw t.0 (
         refl,
-        t.1.1,
-        gives.3 ∙ first_value-rows f (codes "report") ∙ ap (option_and_then (λ (r : Row). slice_get r.values 0)) (t.1.2.filed refl)
+        λ texts. grind (arith, t.1.1 texts, ap is_some explaining),
+        gives.4 ∙ first_value-rows f (codes "report") ∙ ap (option_and_then (λ (r : Row). slice_get r.values 0)) (t.1.2.filed refl)
             ∙ file_of (report_of got.1),
-        flag_is run_form t task.trace refl gives.2,
-        paths_are run_form t ∙ sym (λ j. gives.4 j ∷ gives.5 j ∷ gives.6 j ∷ gives.7 j ∷ []),
+        flag_is run_form run_sub t (codes "trace") task.trace refl gives.2,
+        explaining,
+        paths_are run_form run_sub t ∙ sym (λ j. gives.5 j ∷ gives.6 j ∷ gives.7 j ∷ gives.8 j ∷ []),
       )
   task_requested (Check task) gives =
       let t = taken check_form (λ j. cond (gives.0 j) check_form (cond (bytes_eq name (codes "explain")) explain_form run_form)) in
-      rw t.0
-      (refl, t.1.1, flag_is check_form t task.all refl gives.1, paths_are check_form t ∙ sym (λ j. gives.2 j ∷ gives.3 j ∷ []))
+      let explaining = explaining_is check_form check_sub t (Some task.explaining) refl refl gives.3 in
+      rw t.0 (
+        refl,
+        λ texts. grind (arith, t.1.1 texts, ap is_some explaining),
+        flag_is check_form check_sub t (codes "all") task.all refl gives.1,
+        flag_is check_form check_sub t (codes "nft") task.nft refl gives.2,
+        explaining,
+        paths_are check_form check_sub t ∙ sym (λ j. gives.4 j ∷ gives.5 j ∷ []),
+      )
   task_requested (Explain code) gives =
       let t = taken explain_form (λ j. cond (gives.0 j) check_form (cond (gives.1 j) explain_form run_form)) in
       rw t.0
-      (refl, t.1.1, paths_are explain_form t ∙ sym (λ j. gives.2 j ∷ []))
+      (refl, t.1.1, paths_are explain_form explain_sub t ∙ sym (λ j. gives.2 j ∷ []))
+
+  -- words that have both flags are none of a task
+  pub contradicted : Contradicts name f → is_well_formed words ≡ false
+  contradicted both = go (bytes_eq name (codes "check")) refl
+    where
+      go : (b : Bool) → bytes_eq name (codes "check") ≡ b → is_well_formed words ≡ false
+      go true e =
+          let t = taken check_form (λ j. cond (e j) check_form (cond (both.0 j) explain_form run_form)) in
+          rw t.0 (grind (arith, ap is_some (explaining_is check_form check_sub t None refl refl both.1)))
+      go false e =
+          let t = taken run_form (λ j. cond (e j) check_form (cond (both.0 j) explain_form run_form)) in
+          rw t.0 (grind (arith, ap is_some (explaining_is run_form run_sub t None refl refl both.1)))
 
 -- ---- errors
 

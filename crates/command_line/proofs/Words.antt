@@ -1,7 +1,7 @@
 -- What a word of a command line is, one pass over the words of a subcommand, which takes for operands what clap
 -- takes (`scan`), and that it finds what the definitions of the command line say.
 use Rattle.std.proofs.Common.{◌&&◌, ◌==◌, ◌||◌, ◌∙◌, ◌∷◌, ◌≡◌, [], ℕ, Bool, List, None, Option, Some, ap, arith, codes, cond, eqb-true, false}
-use Rattle.std.proofs.Common.{is_some, length, not, refl, sym, true, option_and_then, slice_get, IsUtf8, bytes_eq, chars, encode_utf8_all}
+use Rattle.std.proofs.Common.{is_some, length, not, refl, sym, true, true≢false, option_and_then, slice_get, IsUtf8, bytes_eq, chars, encode_utf8_all}
 use Rattle.std.specs.Option.{option_map_or}
 use Rattle.std.specs.List.{before_first}
 use Rattle.std.proofs.lemmas.Option.{option_and_then_some}
@@ -33,47 +33,70 @@ is_taken word = not (bytes_eq word (codes "--")) && (not (is_some (long_of word)
 -- the word of this long name is the flag
 abbrev pub is_flag : Text → Option (Text × Option Text) → Bool
 is_flag flag None = false
-is_flag flag (Some q) = bytes_eq flag q.0 && not (is_some q.1)
+is_flag flag (Some q) = bytes_eq q.0 flag && not (is_some q.1)
 
--- the paths by their ids, the last first; whether the flag was met; and the report's file
+-- the word is one of these flags
+abbrev pub is_open : List Text → Text → Bool
+is_open [] word = false
+is_open (flag ∷ free) word = bytes_eq word (45 ∷ 45 ∷ flag) || is_open free word
+
+-- the flags without the one that the word is
+abbrev pub closed : Text → List Text → List Text
+closed word [] = []
+closed word (flag ∷ free) = cond (bytes_eq word (45 ∷ 45 ∷ flag)) free (flag ∷ closed word free)
+
+-- the paths by their ids, the last first; the flags that weren't met; and the report's file
 abbrev pub Pairs : Type 0
 Pairs = List (Text × Text)
 
 abbrev pub Seen : Type 0
-Seen = Pairs × Bool × Option Text
+Seen = Pairs × List Text × Option Text
 
--- what the words after one give, by the place, the paths so far, the ids of those that are left, whether
--- the flag was met, and the report's file
+-- what the words after one give, by the place, the paths so far, the ids of those that are left, the flags
+-- that may come, and the report's file
 abbrev pub Later : Type 0
-Later = Place → Pairs → List Text → Bool → Option Text → Option Seen
+Later = Place → Pairs → List Text → List Text → Option Text → Option Seen
 
-abbrev pub operand_met : Text → Place → Pairs → List Text → Bool → Option Text → Later → Option Seen
-operand_met word place done [] met file later = None
-operand_met word place done (id ∷ left) met file later = later place ((id, word) ∷ done) left met file
+abbrev pub operand_met : Text → Place → Pairs → List Text → List Text → Option Text → Later → Option Seen
+operand_met word place done [] free file later = None
+operand_met word place done (id ∷ left) free file later = later place ((id, word) ∷ done) left free file
 
--- a word before any `--`, by whether it is `--`, the flag, the report's option with any FILE in the same word,
--- an operand
-abbrev pub word_met : Bool → Bool → Option (Option Text) → Bool → Text → Pairs → List Text → Bool → Option Text → Later → Option Seen
-word_met true flagged report plain word done left met file later = later after done left met file
-word_met false true report plain word done left met file later = cond met None (later before done left true file)
-word_met false false (Some v) plain word done left met file later =
-    cond (is_some file) None (later (cond (is_some v) before naming) done left met v)
-word_met false false None true word done left met file later = operand_met word before done left met file later
-word_met d f r a word done left met file later = None
+-- a word before any `--`, by whether it is `--`, a flag that may come, the report's option with any FILE in the
+-- same word, an operand
+abbrev pub word_met : Bool → Bool → Option (Option Text) → Bool → Text → Pairs → List Text → List Text → Option Text → Later → Option Seen
+word_met true flagged report plain word done left free file later = later after done left free file
+word_met false true report plain word done left free file later = later before done left (closed word free) file
+word_met false false (Some v) plain word done left free file later =
+    cond (is_some file) None (later (cond (is_some v) before naming) done left free v)
+word_met false false None true word done left free file later = operand_met word before done left free file later
+word_met d f r a word done left free file later = None
 
-abbrev pub at_end : Pairs → List Text → Bool → Option Text → Option Seen
-at_end done [] met file = Some (done, met, file)
-at_end done (id ∷ left) met file = None
+-- the later words may be read either way
+met_same : (d f : Bool) (r : Option (Option Text)) (a : Bool) (word : Text) (done : Pairs) (left free : List Text) (file : Option Text)
+    (later other : Later) → ((p : Place) (done : Pairs) (left : List Text) (file : Option Text) → later p done left free file ≡ other p done left free file)
+    → ((p : Place) (done : Pairs) (left : List Text) (file : Option Text) → later p done left (closed word free) file ≡ other p done left (closed word free) file)
+    → word_met d f r a word done left free file later ≡ word_met d f r a word done left free file other
+met_same true f r a word done left free file later other same less = same after done left file
+met_same false true r a word done left free file later other same less = less before done left file
+met_same false false (Some v) a word done left free None later other same less = same (cond (is_some v) before naming) done left v
+met_same false false (Some v) a word done left free (Some g) later other same less = refl
+met_same false false None true word done [] free file later other same less = refl
+met_same false false None true word done (id ∷ left) free file later other same less = same before ((id, word) ∷ done) left file
+met_same false false None false word done left free file later other same less = refl
+
+abbrev pub at_end : Pairs → List Text → List Text → Option Text → Option Seen
+at_end done [] free file = Some (done, free, file)
+at_end done (id ∷ left) free file = None
 
 -- the words, of which those that pass the test are operands
-module _ (is_operand : Text → Bool) (flag : Text) where
-  abbrev pub scan : List Text → Place → Pairs → List Text → Bool → Option Text → Option Seen
-  scan [] naming done left met file = None
-  scan [] place done left met file = at_end done left met file
-  scan (word ∷ rest) before done left met file = word_met (bytes_eq word (codes "--")) (bytes_eq word (45 ∷ 45 ∷ flag))
-      (as_report word) (is_operand word) word done left met file (scan rest)
-  scan (word ∷ rest) after done left met file = operand_met word after done left met file (scan rest)
-  scan (word ∷ rest) naming done left met file = cond (is_operand word) (scan rest before done left met (Some word)) None
+module _ (is_operand : Text → Bool) where
+  abbrev pub scan : List Text → Place → Pairs → List Text → List Text → Option Text → Option Seen
+  scan [] naming done left free file = None
+  scan [] place done left free file = at_end done left free file
+  scan (word ∷ rest) before done left free file = word_met (bytes_eq word (codes "--")) (is_open free word)
+      (as_report word) (is_operand word) word done left free file (scan rest)
+  scan (word ∷ rest) after done left free file = operand_met word after done left free file (scan rest)
+  scan (word ∷ rest) naming done left free file = cond (is_operand word) (scan rest before done left free (Some word)) None
 
 -- ---- a flag, by its text
 
@@ -139,20 +162,88 @@ Apart flagged report plain = (not ((is_some report || plain) && flagged) && not 
 apart_names : (f r : Bool) (v : Option Text) → (f ≡ true → r ≡ false) → Apart (f && not (is_some v)) (cond r (Some v) None) false
 apart_names f r v apart = grind (arith, apart)
 
-module _ (flag : Text) (long : long_of (45 ∷ 45 ∷ flag) ≡ Some (flag, None)) where
-  pub flag_word : (word : Text) → bytes_eq word (45 ∷ 45 ∷ flag) ≡ is_flag flag (long_of word)
-  flag_word word = grind (arith, long, long_text word, bytes_eq-Decides word (45 ∷ 45 ∷ flag), bytes_eq-Decides flag)
+-- ---- the flags that may come
 
-  pub word_apart : (is_operand : Text → Bool) → bytes_eq (codes "report") flag ≡ false
-      → ((word : Text) → is_operand word ≡ true → long_of word ≡ None)
-      → (word : Text) → Apart (bytes_eq word (45 ∷ 45 ∷ flag)) (as_report word) (is_operand word)
-  word_apart is_operand apart bare word =
-      rw (flag_word word) (go (long_of word) (is_operand word) (bare word))
-    where
-      go : (o : Option (Text × Option Text)) (plain : Bool) → (plain ≡ true → o ≡ None) → Apart (is_flag flag o) (report_option o) plain
-      go None plain none = grind arith
-      go (Some q) true none = grind (arith, none)
-      go (Some q) false none = apart_names _ (bytes_eq (codes "report") q.0) q.1 (λ e. grind (arith, e, apart, bytes_eq-Decides flag q.0))
+-- each is a long option of its own, and none is the report's
+abbrev pub AreFlags : List Text → Type 0
+AreFlags [] = Unit {0}
+AreFlags (flag ∷ free) = (long_of (45 ∷ 45 ∷ flag) ≡ Some (flag, None)) × (bytes_eq (codes "report") flag ≡ false)
+    × (is_open free (45 ∷ 45 ∷ flag) ≡ false) × AreFlags free
+
+-- the flag is one of these
+abbrev pub is_in : List Text → Text → Bool
+is_in free name = is_open free (45 ∷ 45 ∷ name)
+
+abbrev pub is_flag_in : List Text → Option (Text × Option Text) → Bool
+is_flag_in free None = false
+is_flag_in free (Some q) = is_in free q.0 && not (is_some q.1)
+
+flag_is : (flag : Text) → long_of (45 ∷ 45 ∷ flag) ≡ Some (flag, None) → (word : Text) → bytes_eq word (45 ∷ 45 ∷ flag) ≡ is_flag flag (long_of word)
+flag_is flag long word = grind (arith, long, long_text word, bytes_eq-Decides word (45 ∷ 45 ∷ flag), λ (x : Text). bytes_eq-Decides x flag)
+
+flag_or : (flag : Text) (free : List Text) (o : Option (Text × Option Text))
+    → (is_flag flag o || is_flag_in free o) ≡ is_flag_in (flag ∷ free) o
+flag_or flag free None = refl
+flag_or flag free (Some q) = grind arith
+
+pub flag_word : (free : List Text) → AreFlags free → (word : Text) → is_open free word ≡ is_flag_in free (long_of word)
+flag_word [] are word = none (long_of word)
+  where
+    none : (o : Option (Text × Option Text)) → false ≡ is_flag_in [] o
+    none None = refl
+    none (Some q) = refl
+flag_word (flag ∷ free) are word =
+    (λ j. flag_is flag are.0 word j || flag_word free are.3 word j) ∙ flag_or flag free (long_of word)
+
+-- a flag is no file
+pub no_report : (free : List Text) → AreFlags free → is_in free (codes "report") ≡ false
+no_report [] are = refl
+no_report (flag ∷ free) are = grind (arith, are, no_report free are.3)
+
+-- what is closed stays so
+pub fewer : (word name : Text) (free : List Text) → is_in free name ≡ false → is_in (closed word free) name ≡ false
+fewer word name [] e = refl
+fewer word name (flag ∷ free) e = grind (arith, fewer word name free, e)
+
+pub are_closed : (word : Text) (free : List Text) → AreFlags free → AreFlags (closed word free)
+are_closed word [] are = tt
+are_closed word (flag ∷ free) are = go (bytes_eq word (45 ∷ 45 ∷ flag)) (are_closed word free are.3)
+  where
+    go : (b : Bool) → AreFlags (closed word free) → AreFlags (cond b free (flag ∷ closed word free))
+    go true later = are.3
+    go false later = (are.0, are.1, fewer word flag free are.2, later)
+
+-- the flag that is met is closed, and no other
+pub closes : (name : Text) (free : List Text) → AreFlags free → is_in (closed (45 ∷ 45 ∷ name) free) name ≡ false
+closes name [] are = refl
+closes name (flag ∷ free) are = go (bytes_eq name flag) refl (closes name free are.3)
+  where
+    go : (b : Bool) → bytes_eq name flag ≡ b → is_in (closed (45 ∷ 45 ∷ name) free) name ≡ false
+        → is_in (cond b free (flag ∷ closed (45 ∷ 45 ∷ name) free)) name ≡ false
+    go true e later = grind (arith, bytes_eq-Decides name flag, e, are.2)
+    go false e later = grind (arith, e, later)
+
+pub keeps_open : (name other : Text) (free : List Text) → bytes_eq name other ≡ false
+    → is_in (closed (45 ∷ 45 ∷ name) free) other ≡ is_in free other
+keeps_open name other [] e = refl
+keeps_open name other (flag ∷ free) e = go (bytes_eq name flag) refl (keeps_open name other free e)
+  where
+    go : (b : Bool) → bytes_eq name flag ≡ b → is_in (closed (45 ∷ 45 ∷ name) free) other ≡ is_in free other
+        → is_in (cond b free (flag ∷ closed (45 ∷ 45 ∷ name) free)) other ≡ (bytes_eq other flag || is_in free other)
+    go true f later = grind (arith, bytes_eq-Decides name flag, bytes_eq-Decides other flag, bytes_eq-Decides name other, e, f)
+    go false f later = grind (arith, later)
+
+pub word_apart : (free : List Text) → AreFlags free → (is_operand : Text → Bool)
+    → ((word : Text) → is_operand word ≡ true → long_of word ≡ None)
+    → (word : Text) → Apart (is_open free word) (as_report word) (is_operand word)
+word_apart free are is_operand bare word =
+    rw (flag_word free are word) (go (long_of word) (is_operand word) (bare word))
+  where
+    go : (o : Option (Text × Option Text)) (plain : Bool) → (plain ≡ true → o ≡ None) → Apart (is_flag_in free o) (report_option o) plain
+    go None plain none = grind arith
+    go (Some q) true none = grind (arith, none)
+    go (Some q) false none = apart_names _ (bytes_eq (codes "report") q.0) q.1
+        (λ e. grind (arith, e, no_report free are, bytes_eq-Decides (codes "report") q.0))
 
 -- the paths with these operands
 abbrev pub pairs : Pairs → List Text → List Text → Pairs
@@ -178,73 +269,154 @@ abbrev pub without_option : Option Text → List Text → List Text
 without_option None words = without_report words
 without_option (Some f) words = words
 
-abbrev pub words_of : Text → Bool → Option Text → List Text → List Text
-words_of flag true file words = without_option file words
-words_of flag false file words = without_flag (45 ∷ 45 ∷ flag) (without_option file words)
+-- the words without these flags, and the flags that they don't have
+abbrev pub flagless : List Text → List Text → List Text
+flagless [] words = words
+flagless (flag ∷ free) words = flagless free (without_flag (45 ∷ 45 ∷ flag) words)
 
-abbrev pub is_met : Text → Bool → Option Text → List Text → Bool
-is_met flag true file words = true
-is_met flag false file words = has_flag (45 ∷ 45 ∷ flag) (without_option file words)
+abbrev pub open_in : List Text → List Text → List Text
+open_in [] words = []
+open_in (flag ∷ free) words = let later = open_in free (without_flag (45 ∷ 45 ∷ flag) words) in
+    cond (has_flag (45 ∷ 45 ∷ flag) words) later (flag ∷ later)
+
+abbrev pub words_of : List Text → Option Text → List Text → List Text
+words_of free file words = flagless free (without_option file words)
+
+abbrev pub unmet : List Text → Option Text → List Text → List Text
+unmet free file words = open_in free (without_option file words)
 
 abbrev pub file_of : Option Text → List Text → Option Text
 file_of None words = report_of words
 file_of (Some f) words = Some f
 
-abbrev pub seen_of : Text → Pairs → List Text → Bool → Option Text → List Text → Seen
-seen_of flag done left met file words =
-    (pairs done left (operands (words_of flag met file words)), is_met flag met file words, file_of file words)
+abbrev pub seen_of : Pairs → List Text → List Text → Option Text → List Text → Seen
+seen_of done left free file words = (pairs done left (operands (words_of free file words)), unmet free file words, file_of file words)
+
+-- ---- the flags of the words, by the first of them
+
+past_dashes : (free : List Text) (word : Text) (rest : List Text) → bytes_eq word (codes "--") ≡ true
+    → (flagless free (word ∷ rest) ≡ word ∷ rest) × (open_in free (word ∷ rest) ≡ free)
+past_dashes [] word rest e = (refl, refl)
+past_dashes (flag ∷ free) word rest e = grind (arith, e, past_dashes free word rest e)
+
+past_none : (free : List Text) → (flagless free [] ≡ []) × (open_in free [] ≡ free)
+past_none [] = (refl, refl)
+past_none (flag ∷ free) = grind (arith, past_none free)
+
+abbrev PastFlag : Text → List Text → List Text → Type 0
+PastFlag word free rest = (flagless free (word ∷ rest) ≡ flagless (closed word free) rest)
+    × (open_in free (word ∷ rest) ≡ open_in (closed word free) rest)
+
+past_flag : (free : List Text) (word : Text) (rest : List Text) → bytes_eq word (codes "--") ≡ false → is_open free word ≡ true
+    → PastFlag word free rest
+past_flag [] word rest d e = absurd (true≢false (sym e))
+past_flag (flag ∷ free) word rest d e =
+    go (bytes_eq word (45 ∷ 45 ∷ flag)) refl (λ o. past_flag free word (without_flag (45 ∷ 45 ∷ flag) rest) d o) (λ o. past_flag free word rest d o)
+  where
+    go : (b : Bool) → bytes_eq word (45 ∷ 45 ∷ flag) ≡ b
+        → (is_open free word ≡ true → PastFlag word free (without_flag (45 ∷ 45 ∷ flag) rest))
+        → (is_open free word ≡ true → PastFlag word free rest)
+        → (flagless (flag ∷ free) (word ∷ rest) ≡ flagless (cond b free (flag ∷ closed word free)) rest)
+        × (open_in (flag ∷ free) (word ∷ rest) ≡ open_in (cond b free (flag ∷ closed word free)) rest)
+    go true f without with_it = grind (arith, d, f)
+    go false f without with_it = grind (arith, d, e, f, without, with_it)
+
+past_other : (free : List Text) (word : Text) (rest : List Text) → bytes_eq word (codes "--") ≡ false → is_open free word ≡ false
+    → (flagless free (word ∷ rest) ≡ word ∷ flagless free rest) × (open_in free (word ∷ rest) ≡ open_in free rest)
+past_other [] word rest d e = (refl, refl)
+past_other (flag ∷ free) word rest d e =
+    grind (arith, d, e, past_other free word (without_flag (45 ∷ 45 ∷ flag) rest) d, past_other free word rest d)
+
+-- ---- which flags are met
+
+has_other : (flag other : Text) → bytes_eq flag other ≡ false → (words : List Text)
+    → has_flag (45 ∷ 45 ∷ flag) (without_flag (45 ∷ 45 ∷ other) words) ≡ has_flag (45 ∷ 45 ∷ flag) words
+has_other flag other e [] = refl
+has_other flag other e (word ∷ rest) =
+    grind (
+      arith,
+      e,
+      has_other flag other e rest,
+      bytes_eq-Decides word (45 ∷ 45 ∷ other),
+      bytes_eq-Decides word (45 ∷ 45 ∷ flag),
+      bytes_eq-Decides flag other,
+    )
+
+never_open : (name : Text) (free words : List Text) → is_in free name ≡ false → is_in (open_in free words) name ≡ false
+never_open name [] words e = refl
+never_open name (flag ∷ free) words e =
+    grind (arith, e, never_open name free (without_flag (45 ∷ 45 ∷ flag) words))
+
+pub met_in : (free : List Text) → AreFlags free → (name : Text) (words : List Text) → is_in free name ≡ true
+    → not (is_in (open_in free words) name) ≡ has_flag (45 ∷ 45 ∷ name) words
+met_in [] are name words e = absurd (true≢false (sym e))
+met_in (flag ∷ free) are name words e = go (bytes_eq name flag) refl (has_flag (45 ∷ 45 ∷ flag) words) refl
+    (λ o. met_in free are.3 name (without_flag (45 ∷ 45 ∷ flag) words) o)
+  where
+    later : List Text
+    later = open_in free (without_flag (45 ∷ 45 ∷ flag) words)
+
+    go : (b : Bool) → bytes_eq name flag ≡ b → (h : Bool) → has_flag (45 ∷ 45 ∷ flag) words ≡ h
+        → (is_in free name ≡ true → not (is_in later name) ≡ has_flag (45 ∷ 45 ∷ name) (without_flag (45 ∷ 45 ∷ flag) words))
+        → not (is_in (cond h later (flag ∷ later)) name) ≡ has_flag (45 ∷ 45 ∷ name) words
+    go true f h g rest = grind (arith, f, g, are.2, never_open name free (without_flag (45 ∷ 45 ∷ flag) words), bytes_eq-Decides name flag)
+    go false f h g rest = grind (arith, f, g, e, rest, has_other name flag f words)
 
 abbrev pub names_of : (Text → Bool) → Option Text → List Text → Bool
 names_of is_operand None words = names_by is_operand words
 names_of is_operand (Some f) words = true
 
-module _ (is_operand : Text → Bool) (flag : Text) where
-  -- the flag may be among the words, or was met already, and so may the report's option
-  abbrev pub with_file : Pairs → List Text → Bool → Option Text → List Text → Option Seen
-  with_file done left met file words = let ws = words_of flag met file words in
+module _ (is_operand : Text → Bool) where
+  -- the flags may be among the words, and so may the report's option unless it was met already
+  abbrev pub with_file : Pairs → List Text → List Text → Option Text → List Text → Option Seen
+  with_file done left free file words = let ws = words_of free file words in
       cond (names_of is_operand file words && (plain_by is_operand ws && length (operands ws) == length left))
-      (Some (seen_of flag done left met file words)) None
+      (Some (seen_of done left free file words)) None
 
-  abbrev pub meaning : List Text → Place → Pairs → List Text → Bool → Option Text → Option Seen
-  meaning words after done left met file = cond (length words == length left) (Some (pairs done left words, met, file)) None
-  meaning words before done left met file = with_file done left met file words
-  meaning [] naming done left met file = None
-  meaning (word ∷ rest) naming done left met file = cond (is_operand word) (with_file done left met (Some word) rest) None
+  abbrev pub meaning : List Text → Place → Pairs → List Text → List Text → Option Text → Option Seen
+  meaning words after done left free file = cond (length words == length left) (Some (pairs done left words, free, file)) None
+  meaning words before done left free file = with_file done left free file words
+  meaning [] naming done left free file = None
+  meaning (word ∷ rest) naming done left free file = cond (is_operand word) (with_file done left free (Some word) rest) None
 
-  by_word : (word : Text) (rest : List Text) (d f : Bool) (r : Option (Option Text)) (a : Bool) → bytes_eq word (codes "--") ≡ d
-      → bytes_eq word (45 ∷ 45 ∷ flag) ≡ f → as_report word ≡ r → is_operand word ≡ a → Apart f r a
-      → (done : Pairs) (left : List Text) (met : Bool) (file : Option Text)
-      → word_met d f r a word done left met file (meaning rest) ≡ with_file done left met file (word ∷ rest)
-  by_word word rest d f r a ed ef er ea apart done left met file = grind arith
+  by_word : (word : Text) (rest : List Text) (done : Pairs) (left free : List Text) (file : Option Text) (d f : Bool) (r : Option (Option Text)) (a : Bool)
+      → bytes_eq word (codes "--") ≡ d → is_open free word ≡ f → as_report word ≡ r → is_operand word ≡ a → Apart f r a
+      → word_met d f r a word done left free file (meaning rest) ≡ with_file done left free file (word ∷ rest)
+  by_word word rest done left free file true f r a ed ef er ea apart = grind (arith, past_dashes free word rest ed)
+  by_word word rest done left free file false true r a ed ef er ea apart =
+      grind (arith, past_flag free word rest ed ef, past_flag free word (without_report rest) ed ef)
+  by_word word rest done left free file false false r a ed ef er ea apart =
+      grind (arith, past_other free word rest ed ef, past_other free word (without_report rest) ed ef)
 
-  module _ (apart : (word : Text) → Apart (bytes_eq word (45 ∷ 45 ∷ flag)) (as_report word) (is_operand word)) where
-    pub scan_means : (words : List Text) (place : Place) (done : Pairs) (left : List Text) (met : Bool) (file : Option Text)
-        → scan is_operand flag words place done left met file ≡ meaning words place done left met file
-    scan_means [] place done left met file = grind arith
-    scan_means (word ∷ rest) before done left met file =
-        (λ j. word_met (bytes_eq word (codes "--")) (bytes_eq word (45 ∷ 45 ∷ flag)) (as_report word) (is_operand word) word
-        done left met file (λ p d l m f. scan_means rest p d l m f j))
-        ∙ by_word word rest _ _ _ _ refl refl refl refl (apart word) done left met file
-    scan_means (word ∷ rest) place done left met file = grind (arith, scan_means rest)
+  pub scan_means : ((word : Text) → is_operand word ≡ true → long_of word ≡ None) → (words : List Text) (place : Place) (done : Pairs)
+      (left free : List Text) (file : Option Text) → AreFlags free
+      → scan is_operand words place done left free file ≡ meaning words place done left free file
+  scan_means bare [] place done left free file are = grind (arith, past_none free)
+  scan_means bare (word ∷ rest) before done left free file are =
+      met_same (bytes_eq word (codes "--")) (is_open free word) (as_report word) (is_operand word) word done left free file
+      (scan is_operand rest) (meaning rest) (λ p d l f. scan_means bare rest p d l free f are)
+      (λ p d l f. scan_means bare rest p d l (closed word free) f (are_closed word free are))
+      ∙ by_word word rest done left free file _ _ _ _ refl refl refl refl (word_apart free are is_operand bare word)
+  scan_means bare (word ∷ rest) place done left free file are = grind (arith, scan_means bare rest, are)
 
 -- the report's option names a file
 abbrev pub is_named : Option Text → List Text → Bool
 is_named None words = names_file words
 is_named (Some f) words = true
 
-abbrev pub is_formed : Text → List Text → Bool → Option Text → List Text → Bool
-is_formed flag left met file words = is_named file words && are_operands (length left) (words_of flag met file words)
+abbrev pub is_formed : List Text → List Text → Option Text → List Text → Bool
+is_formed left free file words = is_named file words && are_operands (length left) (words_of free file words)
 
 -- ---- the two tests of operands
 
 -- texts pass both or none
-scan_same : (flag : Text) (words : List Text) → AreTexts words → (place : Place) (done : Pairs) (left : List Text) (met : Bool) (file : Option Text)
-    → scan is_taken flag words place done left met file ≡ scan is_plain_word flag words place done left met file
-scan_same flag [] texts place done left met file = grind arith
-scan_same flag (word ∷ rest) texts before done left met file =
-    λ j. word_met (bytes_eq word (codes "--")) (bytes_eq word (45 ∷ 45 ∷ flag)) (as_report word) (taken_plain word texts.0 j) word
-    done left met file (λ p d l m f. scan_same flag rest texts.1 p d l m f j)
-scan_same flag (word ∷ rest) texts place done left met file = grind (arith, taken_plain word texts.0, scan_same flag rest texts.1)
+scan_same : (words : List Text) → AreTexts words → (place : Place) (done : Pairs) (left free : List Text) (file : Option Text)
+    → scan is_taken words place done left free file ≡ scan is_plain_word words place done left free file
+scan_same [] texts place done left free file = grind arith
+scan_same (word ∷ rest) texts before done left free file =
+    λ j. word_met (bytes_eq word (codes "--")) (is_open free word) (as_report word) (taken_plain word texts.0 j) word
+    done left free file (λ p d l o f. scan_same rest texts.1 p d l o f j)
+scan_same (word ∷ rest) texts place done left free file = grind (arith, taken_plain word texts.0, scan_same rest texts.1)
 
 plain_all_taken : (words : List Text) → are_plain words ≡ true → plain_by is_taken words ≡ true
 plain_all_taken [] e = refl
@@ -266,26 +438,25 @@ named_all (Some f) words = refl
 named_all None [] = refl
 named_all None (word ∷ rest) = grind (arith, named_all None rest)
 
-module _ (flag : Text) (long : long_of (45 ∷ 45 ∷ flag) ≡ Some (flag, None)) (apart : bytes_eq (codes "report") flag ≡ false)
-    (rest left : List Text) (met : Bool) (file : Option Text) where
+module _ (free : List Text) (are : AreFlags free) (rest left : List Text) (file : Option Text) where
   abbrev said : Seen
-  said = seen_of flag [] left met file rest
+  said = seen_of [] left free file rest
 
   -- what the pass finds is what the words say, and if they are texts they are well-formed
-  pub found_said : (seen : Seen) → scan is_taken flag rest before [] left met file ≡ Some seen
-      → ((length (operands (words_of flag met file rest)) == length left) ≡ true)
-      × (AreTexts rest → is_formed flag left met file rest ≡ true) × (said ≡ seen)
+  pub found_said : (seen : Seen) → scan is_taken rest before [] left free file ≡ Some seen
+      → ((length (operands (words_of free file rest)) == length left) ≡ true)
+      × (AreTexts rest → is_formed left free file rest ≡ true) × (said ≡ seen)
   found_said seen found =
       let means : (p : Text → Bool) → ((word : Text) → p word ≡ true → long_of word ≡ None)
-      → scan p flag rest before [] left met file ≡ meaning p flag rest before [] left met file =
-      λ p bare. scan_means p flag (word_apart flag long p apart bare) rest before [] left met file in
-      let words = words_of flag met file rest in
-      grind (arith, found, means is_taken taken_bare, means is_plain_word plain_bare, scan_same flag rest, named_all file rest, plain_all words)
+      → scan p rest before [] left free file ≡ meaning p rest before [] left free file =
+      λ p bare. scan_means p bare rest before [] left free file are in
+      let words = words_of free file rest in
+      grind (arith, found, means is_taken taken_bare, means is_plain_word plain_bare, scan_same rest, named_all file rest, plain_all words)
 
   -- the pass finds something in well-formed words
-  pub formed_found : is_formed flag left met file rest ≡ true
-      → scan is_taken flag rest before [] left met file ≡ Some said
+  pub formed_found : is_formed left free file rest ≡ true
+      → scan is_taken rest before [] left free file ≡ Some said
   formed_found e =
-      let words = words_of flag met file rest in
-      let means = scan_means is_taken flag (word_apart flag long is_taken apart taken_bare) rest before [] left met file in
+      let words = words_of free file rest in
+      let means = scan_means is_taken taken_bare rest before [] left free file are in
       grind (arith, means, e, named_taken file rest, plain_all_taken words)

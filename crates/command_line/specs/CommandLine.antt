@@ -1,16 +1,17 @@
 -- The command line: which words request which task (own; `--` and options follow POSIX.1, XBD 12.2, and
 -- GNU's long options).
 use Rattle.std.specs.Prelude.{◌≡◌, ◌==◌, ◌&&◌, ◌||◌, ℕ, Bool, true, not, List, [], ◌∷◌, length}
-use Rattle.std.specs.Prelude.{Option, Some, None, codes, drop, if◌then◌else◌, false, option_map, slice_get}
+use Rattle.std.specs.Prelude.{Option, Some, None, codes, drop, if◌then◌else◌, false, is_some, option_map, slice_get}
 use Rattle.std.specs.Borrow.{Bor}
 use Rattle.std.specs.Option.{option_map_or}
 use Rattle.std.specs.Str.{IsUtf8, bytes_eq}
 use Rattle.clap.specs.Lexer.{long_of}
 use Rattle.clap.specs.Words.{Text}
-use Rattle.command_line.specs.declared.task.Task.{Task}
-use Rattle.command_line.specs.declared.task.Task.TheVariants.{Run, Check, Explain}
-use Rattle.command_line.specs.declared.task.ReplayPaths.{ReplayPaths}
-use Rattle.command_line.specs.declared.remarks.Remarks.{Remarks}
+use Rattle.command_line.specs.declared.tasks.Task.{Task}
+use Rattle.command_line.specs.declared.tasks.Task.TheVariants.{Run, Check, Explain}
+use Rattle.command_line.specs.declared.tasks.ReplayPaths.{ReplayPaths}
+use Rattle.command_line.specs.declared.tasks.Explaining.{Explaining}
+use Rattle.command_line.specs.declared.tasks.Explaining.TheVariants.{Always, Never, OnTerminal}
 
 -- the operands among the words after `run`, `check` or `explain`: all words but the first `--`
 abbrev pub operands : List Text → List Text
@@ -28,6 +29,11 @@ abbrev pub without_flag : Text → List Text → List Text
 without_flag flag [] = []
 without_flag flag (word ∷ rest) = if bytes_eq word (codes "--") then word ∷ rest
     else (if bytes_eq word flag then rest else word ∷ without_flag flag rest)
+
+-- these words without the first of each of these flags before any `--`
+abbrev pub without_flags : List Text → List Text → List Text
+without_flags [] words = words
+without_flags (flag ∷ flags) words = without_flags flags (without_flag flag words)
 
 abbrev pub report_option : Option (Text × Option Text) → Option (Option Text)
 report_option None = None
@@ -93,14 +99,35 @@ names_file [] = true
 names_file (word ∷ rest) =
     if bytes_eq word (codes "--") then true else names_file_by (as_report word) rest (names_file rest)
 
--- four paths, with `--trace` and `--report FILE` or `--report=FILE`, each at most once, anywhere before
--- the first `--`
-abbrev pub is_run : List Text → Bool
-is_run rest = names_file rest && are_operands 4 (without_flag (codes "--trace") (without_report rest))
+-- the flags of a run, and of a check
+abbrev pub run_flags : List Text
+run_flags = codes "--trace" ∷ codes "--explain" ∷ codes "--no-explain" ∷ []
 
--- two paths, with `--all`, at most once, anywhere before the first `--`
+abbrev pub check_flags : List Text
+check_flags = codes "--all" ∷ codes "--explain" ∷ codes "--no-explain" ∷ codes "--nft" ∷ []
+
+-- whether faults are explained, by whether `--explain` and `--no-explain` are there, which exclude each
+-- other
+abbrev pub explaining_by : Bool → Bool → Option Explaining
+explaining_by true true = None
+explaining_by true false = Some Always
+explaining_by false true = Some Never
+explaining_by false false = Some OnTerminal
+
+-- the same, by the words before any `--`
+abbrev pub explaining_in : List Text → Option Explaining
+explaining_in words = explaining_by (has_flag (codes "--explain") words) (has_flag (codes "--no-explain") words)
+
+-- four paths, with `--trace`, `--explain` or `--no-explain`, and `--report FILE` or `--report=FILE`, each
+-- at most once, anywhere before the first `--`
+abbrev pub is_run : List Text → Bool
+is_run rest = names_file rest && (are_operands 4 (without_flags run_flags (without_report rest))
+    && is_some (explaining_in (without_report rest)))
+
+-- two paths, with `--all`, `--nft`, and `--explain` or `--no-explain`, each at most once, anywhere before
+-- the first `--`
 abbrev pub is_check : List Text → Bool
-is_check rest = are_operands 2 (without_flag (codes "--all") rest)
+is_check rest = are_operands 2 (without_flags check_flags rest) && is_some (explaining_in rest)
 
 -- a code
 abbrev pub is_explain : List Text → Bool
@@ -111,17 +138,20 @@ abbrev pub AreTexts : List Text → Type 0
 AreTexts [] = Unit {0}
 AreTexts (word ∷ rest) = IsUtf8 word × AreTexts rest
 
--- the words request this task: they are the program's name and either `run`, the report's file, the flag
--- of the trace and four paths, or `check`, the flag of all faults and two paths, or `explain` and a code;
--- no other word is among them, so none that begins with a hyphen is taken for a path before a `--`
+-- the words request this task: they are the program's name and either `run`, the report's file, the flags
+-- of a run and four paths, or `check`, the flags of a check and two paths, or `explain` and a code; no
+-- other word is among them, so none that begins with a hyphen is taken for a path before a `--`
 abbrev pub RequestsTask : List Text → Task → Type 0
 RequestsTask (program ∷ name ∷ rest) (Run task) =
     (name ≡ codes "run") × (AreTexts rest → is_run rest ≡ true) × (name_of_file task.report ≡ report_of rest)
     × (task.trace ≡ has_flag (codes "--trace") (without_report rest))
-    × (operands (without_flag (codes "--trace") (without_report rest)) ≡ path_texts task.paths)
+    × (Some task.explaining ≡ explaining_in (without_report rest))
+    × (operands (without_flags run_flags (without_report rest)) ≡ path_texts task.paths)
 RequestsTask (program ∷ name ∷ rest) (Check task) =
-    (name ≡ codes "check") × (AreTexts rest → is_check rest ≡ true) × (task.all ≡ has_flag (codes "--all") rest)
-    × (operands (without_flag (codes "--all") rest) ≡ task.texts.rules.now ∷ task.texts.plant.now ∷ [])
+    (name ≡ codes "check") × (AreTexts rest → is_check rest ≡ true)
+    × (task.all ≡ has_flag (codes "--all") rest) × (task.nft ≡ has_flag (codes "--nft") rest)
+    × (Some task.explaining ≡ explaining_in rest)
+    × (operands (without_flags check_flags rest) ≡ task.texts.rules.now ∷ task.texts.plant.now ∷ [])
 RequestsTask (program ∷ name ∷ rest) (Explain code) =
     (name ≡ codes "explain") × (AreTexts rest → is_explain rest ≡ true) × (operands rest ≡ code.now ∷ [])
 RequestsTask _ _ = ⊥
@@ -133,40 +163,15 @@ is_well_formed (program ∷ name ∷ rest) =
     || (bytes_eq name (codes "check") && is_check rest || bytes_eq name (codes "explain") && is_explain rest)
 is_well_formed _ = false
 
--- the command line has this option before any `--`
-abbrev pub has_option : Text → List Text → Bool
-has_option option [] = false
-has_option option (program ∷ rest) = has_flag option rest
+-- whether faults of a task are explained; a code is what `explain` prints, and its faults are explained
+-- on a terminal
+abbrev pub explaining_of : Task → Explaining
+explaining_of (Run task) = task.explaining
+explaining_of (Check task) = task.explaining
+explaining_of (Explain code) = OnTerminal
 
--- the command line without the first such option before any `--`
-abbrev pub without_option : Text → List Text → List Text
-without_option option [] = []
-without_option option (program ∷ rest) = program ∷ without_flag option rest
-
--- the command line is one of `check`
-abbrev pub calls_check : List Text → Bool
-calls_check (program ∷ name ∷ rest) = bytes_eq name (codes "check")
-calls_check _ = false
-
--- the command line without `--explain` and `--no-explain`
-abbrev pub unexplained_words : List Text → List Text
-unexplained_words words =
-    without_option (codes "--no-explain") (without_option (codes "--explain") words)
-
--- what a command line asks for beside its task: `--explain`, `--no-explain`, and of `check` `--nft`
-abbrev pub remarks_of : List Text → Remarks
-remarks_of words = record {
-  explain = has_option (codes "--explain") words;
-  no_explain = has_option (codes "--no-explain") words;
-  nft = calls_check (unexplained_words words) && has_option (codes "--nft") (unexplained_words words);
-}
-
--- the command line without what it asks for beside its task
-abbrev pub task_words : List Text → List Text
-task_words words =
-    if calls_check (unexplained_words words) then without_option (codes "--nft") (unexplained_words words)
-    else unexplained_words words
-
--- faults are explained: with `--explain` or on a terminal, and never with `--no-explain`
-abbrev pub are_explained : Remarks → Bool → Bool
-are_explained remarks terminal = (remarks.explain || terminal) && not remarks.no_explain
+-- faults are explained: with `--explain`, on a terminal without `--no-explain`
+abbrev pub are_explained : Explaining → Bool → Bool
+are_explained Always terminal = true
+are_explained Never terminal = false
+are_explained OnTerminal terminal = terminal

@@ -1,11 +1,10 @@
-//! Parses the command line (`nftrun run [--trace] [--report FILE] RULES BOX IN OUT`, `nftrun check
-//! [--all] [--nft] RULES BOX`, `nftrun explain CODE`; of the first two with `--explain` or
-//! `--no-explain`).
+//! Parses the command line (`nftrun run [--explain | --no-explain] [--trace] [--report FILE] RULES BOX
+//! IN OUT`, `nftrun check [--explain | --no-explain] [--all] [--nft] RULES BOX`, `nftrun explain CODE`).
 #![tactic(auto)]
 
+mod parsing;
 mod program;
-mod remarks;
-mod task;
+mod tasks;
 
-pub use remarks::Remarks;
-pub use task::{CheckPaths, CheckTask, ReplayPaths, ReplayTask, Task, read_task};
+pub use parsing::task;
+pub use tasks::{CheckPaths, CheckTask, Explaining, ReplayPaths, ReplayTask, Task};

@@ -14,6 +14,14 @@ const TRACE_HELP: &str = "Tells each decision of a rule, each policy and how eac
 
 const ALL_HELP: &str = "Tells all faults of RULES that can be found, and not the first alone";
 
+const NFT_HELP: &str =
+    "Warns of what nft(8) 1.0.6 refuses, or of what means something else on Linux";
+
+const EXPLAIN_HELP: &str =
+    "Tells what a fault means, and where it is; on a terminal that is done without it";
+
+const NO_EXPLAIN_HELP: &str = "Tells no more than the line of a fault, not on a terminal either";
+
 /// The end of `--help`.
 const NOTES: &str = "\
 With --explain, run and check tell what a fault means, and where it is. Where
@@ -35,11 +43,9 @@ Examples:
 
 /// The end of `run --help`.
 const RUN_NOTES: &str = "\
---explain tells what a fault means, and where it is, and after a run what in IN
-may mislead. Where standard error is a terminal that is done without it;
---no-explain turns it off. A path that begins with a hyphen goes after --. A run
-of more than a second tells each second how much of IN is read, if standard
-error is a terminal.
+With --explain the end of a run tells what in IN may mislead. A path that begins
+with a hyphen goes after --. A run of more than a second tells each second how
+much of IN is read, if standard error is a terminal.
 
 Exit statuses:
   0  done
@@ -57,10 +63,8 @@ Examples:
 
 /// The end of `check --help`.
 const CHECK_NOTES: &str = "\
---explain tells what a fault means, and where it is. Where standard error is a
-terminal that is done without it; --no-explain turns it off. --nft warns of what
-is accepted here and refused by nft(8) 1.0.6, or means something else on Linux.
-A path that begins with a hyphen goes after --.
+--nft warns of rulesets that are accepted. A path that begins with a hyphen goes
+after --.
 
 Exit statuses:
   0  the ruleset is accepted
@@ -104,6 +108,8 @@ static SUBCOMMANDS: [Subcommand; 3] = [
             Argument::Path("input", "IN", "The capture to read"),
             Argument::Path("output", "OUT", "The capture to write"),
             Argument::Flag("trace", TRACE_HELP),
+            Argument::Flag("explain", EXPLAIN_HELP),
+            Argument::Flag("no-explain", NO_EXPLAIN_HELP),
             Argument::Report,
         ],
     },
@@ -115,6 +121,9 @@ static SUBCOMMANDS: [Subcommand; 3] = [
             Argument::Path("rules", "RULES", "The file of the ruleset"),
             Argument::Path("plant", "BOX", "The file of the box"),
             Argument::Flag("all", ALL_HELP),
+            Argument::Flag("explain", EXPLAIN_HELP),
+            Argument::Flag("no-explain", NO_EXPLAIN_HELP),
+            Argument::Flag("nft", NFT_HELP),
         ],
     },
     Subcommand {
@@ -132,8 +141,16 @@ pub(crate) fn program<'a>(alloc: Global) -> Result<Command<'a>, AllocError>
     with_subcommands(alloc, top(alloc), &SUBCOMMANDS)
 }
 
-// What a command line asks for beside its task is removed before clap parses the words, so the help
-// mentions it in its notes.
+/// The program's command, of which `--explain` and `--no-explain` exclude each other.
+pub(crate) fn excluding_program<'a>(alloc: Global) -> Result<Command<'a>, AllocError> {
+    let mut command = top(alloc);
+    for subcommand in &SUBCOMMANDS {
+        command = command.subcommand(subcommand.excluding_command(alloc)?)?;
+    }
+    Ok(command)
+}
+
+// Each subcommand has options of its own, so the help of the program only mentions them.
 fn top<'a>(alloc: Global) -> Command<'a>
     ensures { app_of result ≡ top_app }
 {
@@ -172,6 +189,14 @@ impl Subcommand {
         Ok(command)
     }
 
+    fn excluding_command<'a>(&self, alloc: Global) -> Result<Command<'a>, AllocError> {
+        let mut command = self.bare_command(alloc);
+        for argument in self.arguments {
+            command = command.arg(argument.excluding_arg(alloc)?)?;
+        }
+        Ok(command)
+    }
+
     // The command without its arguments.
     fn bare_command<'a>(&self, alloc: Global) -> Command<'a>
         ensures app { app_of result ≡ new_app self.now.name.now }
@@ -194,6 +219,16 @@ impl Argument {
             Argument::Path(name, value_name, help) => path(alloc, name, value_name, help),
             Argument::Flag(name, help) => flag(alloc, name, help),
             Argument::Report => report(alloc),
+        }
+    }
+}
+
+impl Argument {
+    fn excluding_arg<'a>(&self, alloc: Global) -> Result<Arg<'a>, AllocError> {
+        let arg = self.arg(alloc);
+        match self {
+            Argument::Flag("no-explain", _) => arg.conflicts_with("explain"),
+            _ => Ok(arg),
         }
     }
 }

@@ -4,7 +4,7 @@ pub use Rattle.code_layout.proofs.AddLaws.{declared_kept, extends_code_itself, e
 pub use Rattle.code_layout.specs.Adding.{AddsChain, ExtendsCode, rule_out_of_range}
 pub use Rattle.code_layout.specs.CodeLayout.{AreTableCodes, IsCode, IsTableCode, RulesAt, StatementsAt, chain_steps, dropped_rules, left_program}
 pub use Rattle.code_layout.specs.CodeLayout.{left_statements, rules_in}
-pub use Rattle.code_layout.specs.DroppedRules.{AreLeft, IsDropped, IsLeft, IsShadowed, always_ends, ends_chain, lists, merged_selector, rule_at}
+pub use Rattle.code_layout.specs.DroppedRules.{AreLeft, IsDropped, IsLeft, IsShadowed, always_ends, ends_chain, lists, merged_selectors, rule_at}
 pub use Rattle.compiler.specs.Compiled.{StartHead, base_chain_head, cost_in, start_cost, start_head, total_cost}
 pub use Rattle.compiler.specs.declared.compiled_chain.CompiledChain.{CompiledChain}
 pub use Rattle.compiler.specs.steps.Bases.{Ordered, Prices, PricesTable, base, costed, priced, runs_on_hook, start_of}

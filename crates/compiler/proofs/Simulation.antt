@@ -7,6 +7,7 @@ use Rattle.compiler.proofs.Names.{add-zero, ap, apply_effect, arith, base_chain_
 use Rattle.compiler.proofs.Names.{inr, left_program, length, policy_of, refl, return_from, rules_in, run_table, slice_get, some_of_map, start_head, stop, subst}
 use Rattle.compiler.proofs.Names.{suc, sum_by, sum_by-cons, sym, with_policy, zero, ℕ, ◌+◌, ◌-◌, ◌↔◌, ◌∙◌, ◌∷◌, ◌≡◌, ◌≤◌}
 use Rattle.list_laws.specs.Lists.{Contains-head}
+use Rattle.lowering.specs.Lowered.{scope_of}
 use Rattle.rule_code.specs.Actions.{action_effect, statement_at}
 use Rattle.rule_code.specs.declared.code.Instruction.{Instruction}
 use Rattle.rule_meaning.specs.Runs.{IsTerminal, Program, Remainder, RunResult, Runs, accepts, at_end, at_rule, chain_ends, continues, drops, fails, goes}
@@ -303,9 +304,10 @@ module _ (plant : PlantTree) (tables : List TableTree) (b : BaseChain) (code : C
       let q = left_program plant b.number.table r.table is.left in
       let leaves : (c : ℕ) (rules : List (List Statement)) → p.rules_at c ≡ Some rules → LeavesOutOf p c rules (q.rules_at c) =
       λ c rules has. let found = some_of_map rules_in (slice_get (chains_of r.table) c) rules has in
-      leaves-of plant b.number.table r.table c rules (slice_get is.left c) (subst (λ rs. IsSomeAnd (slice_get is.left c) (AreLeft plant rs)) found.2
-      (MatchOption-at_some (Unit {0}) (λ x. IsSomeAnd (slice_get is.left c) (AreLeft plant (rules_in x))) found.0 found.1
-      (AllZip-left (λ x. AreLeft plant (rules_in x)) (chains_of r.table) is.left is.are_left c))) in
+      leaves-of plant b.number.table r.table c rules (slice_get is.left c)
+      (subst (λ rs. IsSomeAnd (slice_get is.left c) (AreLeft rs (scope_of plant r.table))) found.2
+      (MatchOption-at_some (Unit {0}) (λ x. IsSomeAnd (slice_get is.left c) (AreLeft (rules_in x) (scope_of plant r.table))) found.0 found.1
+      (AllZip-left (λ x. AreLeft (rules_in x) (scope_of plant r.table)) (chains_of r.table) is.left is.are_left c))) in
       let sum = costs_rank_chains.sums c r.rules r.has in
       let d : Does t (rules_weigh p q.rules_at t weight cost depth r.rules) (λ go. enter_chain go (slice_get t.chain_offsets.items c) [] f es) [] r.after =
       entered p q.rules_at t weight cost depth is.laid_out costs_rank_chains leaves c r.rules f es r.has (omega arith)

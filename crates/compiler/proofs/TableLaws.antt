@@ -6,6 +6,7 @@ use Rattle.compiler.proofs.Names.{false_from_ne_true, false≢true, filter_map, 
 use Rattle.compiler.proofs.Names.{left_statements, length, length-append, list_any, list_any_at, map, min, none-some, or_parts, refl, rules_in}
 use Rattle.compiler.proofs.Names.{same_Some, slice_get, slice_get-map, slice_get-push, slice_get_read, slice_get_within, some_of_map, subst, suc, sum_by}
 use Rattle.compiler.proofs.Names.{sum_by_push, sym, take, take_all, take_more, zero, ℕ, ⊎_elim, ◌++◌, ◌+◌, ◌-◌, ◌<◌, ◌^◌, ◌∙◌, ◌∷◌, ◌≡◌, ◌≤◌, ◌⊎◌}
+use Rattle.lowering.specs.Lowered.{scope_of}
 use Rattle.rule_meaning.specs.Runs.{table_program}
 use Rattle.nft_tree.specs.Tree as tree
 
@@ -49,7 +50,7 @@ module _ (plant : PlantTree) (number : ℕ) (t : TableTree) where
   -- loop invariant: the first chains of the table are in the code
   pub record ChainsSoFar (place : ℕ) (now : TableCode) : Type 0 where
     pub left : List (List (Option (List Statement)))
-    pub are_left : AllZip (λ chain rules. AreLeft plant (rules_in chain) rules) (take place (chains_of t)) left
+    pub are_left : AllZip (λ chain rules. AreLeft (rules_in chain) (scope_of plant t) rules) (take place (chains_of t)) left
     pub count : length left ≡ place
     pub offsets : length now.chain_offsets.items ≡ place
     pub placed : (c : ℕ) (rules : List (Option (List Statement))) → slice_get left c ≡ Some rules → IsPlaced now c rules
@@ -62,7 +63,8 @@ module _ (plant : PlantTree) (number : ℕ) (t : TableTree) where
   chains_more place chain offsets now new is pushed added so = record {
     left = so.left ++ added.left ∷ [];
     are_left = rw (take_more (chains_of t) place chain within, get_or_from_slice_get (chains_of t) place chain chain is)
-        (all_zipped_more (λ c rules. AreLeft plant (rules_in c) rules) (take place (chains_of t)) so.left chain added.left so.are_left added.are_left);
+        (all_zipped_more (λ c rules. AreLeft (rules_in c) (scope_of plant t) rules) (take place (chains_of t)) so.left chain added.left
+        so.are_left added.are_left);
     count = length-append so.left (added.left ∷ []) ∙ ap (λ n. n + 1) so.count;
     offsets = ap (λ ps. length ps.items) added.adds.same_places ∙ ap length pushed
         ∙ length-append now.chain_offsets.items (length now.steps.items ∷ []) ∙ ap (λ n. n + 1) so.offsets;

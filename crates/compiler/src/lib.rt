@@ -7,3 +7,4 @@ mod starts;
 mod tables;
 
 pub use compiling::compile;
+pub use nft_tree::Memory;

@@ -16,11 +16,13 @@ ghost use Rattle.connection_table.specs.Table.{IsConfirmable, begun_as};
 
 use box_file::Limits;
 use conntrack::laws::{looked_up, none_later};
-use conntrack::{Aged, BeginError, Belonging, Connection, ConnectionRef, Flags, Moment, Tracker};
+use conntrack::{
+    Aged, BeginError, Belonging, Connection, ConnectionRef, Flags, Memory, Moment, Tracker,
+};
 use ip_headers::{Mapping as Mapped, Tuple};
 use nat_mapping::Mappings;
 use nat_mapping::laws::{same_answers, stays_one_to_one};
-use std::alloc::{AllocError, Global};
+use std::alloc::Global;
 use std::hash::RandomState;
 use std::marker::Model;
 use step_count::start;
@@ -52,16 +54,28 @@ impl<T: Tracker> Model for ConnectionTable<T> {
 
 impl<T: Tracker> ConnectionTable<T> {
     /// An empty table with these timeouts, with no memory reserved for a connection. Its hash
-    /// tables use `hasher`, whose keys must be unknown to the senders of packets; no result depends
-    /// on them.
-    pub fn new(alloc: Global, hasher: RandomState, idle: Limits) -> Self
+    /// tables use keys that everybody may know.
+    pub fn new(alloc: Global, idle: Limits) -> Self
         ensures held { result.held ≡ [] }
         ensures limits { result.limits ≡ idle }
         ensures room { result.has_room ≡ false }
     {
         ConnectionTable {
-            tracker: T::new(alloc, hasher, idle),
-            mappings: Mappings::new(alloc, hasher),
+            tracker: T::new(alloc, idle),
+            mappings: Mappings::new(alloc),
+        }
+    }
+
+    /// The same, but its hash tables use `hasher`, whose keys must be unknown to the senders of
+    /// packets; no result depends on them.
+    pub fn with_hasher(alloc: Global, hasher: RandomState, idle: Limits) -> Self
+        ensures held { result.held ≡ [] }
+        ensures limits { result.limits ≡ idle }
+        ensures room { result.has_room ≡ false }
+    {
+        ConnectionTable {
+            tracker: T::with_hasher(alloc, hasher, idle),
+            mappings: Mappings::with_hasher(alloc, hasher),
         }
     }
 
@@ -71,7 +85,7 @@ impl<T: Tracker> ConnectionTable<T> {
     /// # Errors
     ///
     /// Where memory ran out; the entries and mappings stay.
-    pub fn reserve(&mut self) -> Result<(), AllocError>
+    pub fn reserve(&mut self) -> Result<(), Memory>
         ensures held { self.new.held ≡ self.old.held }
         ensures limits { self.new.limits ≡ self.old.limits }
         ensures room { OnOk result (IsTrue self.new.has_room) }
@@ -221,11 +235,10 @@ impl<T: Tracker> ConnectionTable<T> {
     /// # Errors
     ///
     /// Where memory ran out.
-    pub fn list(&self, alloc: Global) -> Result<Vec<Connection>, AllocError>
+    pub fn list(&self, alloc: Global) -> Result<Vec<Connection>, Memory>
         ensures { IfOk result (λ all. all.items ≡ map connection_of self.now.held) }
     {
-        let mut steps = start();
-        self.tracker.list(alloc, &mut steps)
+        self.tracker.list(alloc)
     }
 }
 

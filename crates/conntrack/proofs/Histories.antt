@@ -1,7 +1,7 @@
 -- The connections of a history that no record removed, and what one more record does to them.
 use Rattle.conntrack.proofs.Names.{Arrival, Belonging, Confirmation, Confirmed, ConnectionChange, ConntrackEntry, Creation, Ends, Found, Limits, List}
 use Rattle.conntrack.proofs.Names.{NotFound, TrackedPacket, Unconfirmed, [], after_packet, append-nil, arith, begun_in, change_of_packet, cond, connection_in}
-use Rattle.conntrack.proofs.Names.{ended_by_packet, entry_of, eq-eqb, false, filter, filter-append, has_distinct_ids, has_id, is_ended, is_live, is_that}
+use Rattle.conntrack.proofs.Names.{ended_by_packet, tracked_packet, eq-eqb, false, filter, filter-append, has_distinct_ids, has_id, is_ended, is_live, is_that}
 use Rattle.conntrack.proofs.Names.{is_touch_of, length, list_all, list_all-append, live_at, live_list, map, map-append, map-id, nat_lt, nat_tests, not}
 use Rattle.conntrack.proofs.Names.{number_if_begins, or-false, refl, replayed, same_id, touched, true, ℕ, ◌&&◌, ◌++◌, ◌∷◌, ◌≡◌, ◌≤◌}
 use Rattle.conntrack.proofs.Lists.{filter-map, filter-true, map-filter-change, map-filter-later}
@@ -28,34 +28,34 @@ touched_by (Found found) p (Confirmed mark reply source dest) h =
 touched_by b p confirmation h = h
 
 replayed-cons : (b : Belonging) (p : Arrival) (confirmation : Confirmation) (c : ℕ) (begun : Creation) (entries : List TrackedPacket)
-    → replayed c begun (cond (is_touch_of c (change_of_packet b p confirmation)) (entry_of b p confirmation ∷ entries) entries)
+    → replayed c begun (cond (is_touch_of c (change_of_packet b p confirmation)) (tracked_packet b p confirmation ∷ entries) entries)
     ≡ touched_by b p confirmation (replayed c begun entries)
 replayed-cons b p confirmation c begun entries = grind arith
 
 module _ (b : Belonging) (p : Arrival) (confirmation : Confirmation) (history : List TrackedPacket) where
-  earlier : (c : ℕ) → nat_lt c (length history) ≡ true → (not (is_ended c (entry_of b p confirmation ∷ history))
+  earlier : (c : ℕ) → nat_lt c (length history) ≡ true → (not (is_ended c (tracked_packet b p confirmation ∷ history))
       ≡ (not (is_ended c history) && not (is_that c (ended_by_packet b))))
-      × (connection_in c (entry_of b p confirmation ∷ history) ≡ touched_by b p confirmation (connection_in c history))
+      × (connection_in c (tracked_packet b p confirmation ∷ history) ≡ touched_by b p confirmation (connection_in c history))
   earlier c below = grind (arith, nat_tests, replayed-cons)
 
 -- a packet's record does to them what the packet does to entries
 pub unended_after : (b : Belonging) (p : Arrival) (confirmation : Confirmation) (history : List TrackedPacket)
-    → unended (entry_of b p confirmation ∷ history)
+    → unended (tracked_packet b p confirmation ∷ history)
     ≡ after_packet b (record { 0 = length history }) p confirmation (unended history)
 unended_after b p confirmation history =
     rw (
       filter-append,
       map-append,
-      map-filter-change (λ c. connection_in c history) (λ c. connection_in c (entry_of b p confirmation ∷ history))
-          (λ c. not (is_ended c (entry_of b p confirmation ∷ history))) (λ c. not (is_ended c history))
+      map-filter-change (λ c. connection_in c history) (λ c. connection_in c (tracked_packet b p confirmation ∷ history))
+          (λ c. not (is_ended c (tracked_packet b p confirmation ∷ history))) (λ c. not (is_ended c history))
           (λ h. not (is_that h.id.0 (ended_by_packet b))) (touched_by b p confirmation)
           (λ c. nat_lt c (length history)) (earlier b p confirmation history) (begun_in history) (begun_in-below history),
     ) (by_result b confirmation)
   where
     by_result : (b : Belonging) (confirmation : Confirmation) →
         map (touched_by b p confirmation) (filter (λ h. not (is_that h.id.0 (ended_by_packet b))) (unended history))
-        ++ map (λ c. connection_in c (entry_of b p confirmation ∷ history))
-        (filter (λ c. not (is_ended c (entry_of b p confirmation ∷ history)))
+        ++ map (λ c. connection_in c (tracked_packet b p confirmation ∷ history))
+        (filter (λ c. not (is_ended c (tracked_packet b p confirmation ∷ history)))
         (number_if_begins (length history) (change_of_packet b p confirmation)))
         ≡ after_packet b (record { 0 = length history }) p confirmation (unended history)
     by_result (Found found) Unconfirmed = rw (append-nil, map-id, filter-true) refl

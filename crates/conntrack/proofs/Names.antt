@@ -2,13 +2,13 @@
 pub use Rattle.box_file.specs.declared.limits.Limits.{Limits}
 pub use Rattle.conntrack.specs.ConntrackEntry.{IsNoneLater, begun_with, belonging_by, belonging_without_id, belongs_in, connection_of, connection_ref}
 pub use Rattle.conntrack.specs.ConntrackEntry.{has_distinct_ids, has_id, have_disjoint_tuples, is_incoming, is_live, is_taken, limit_of, live_at, of_original}
-pub use Rattle.conntrack.specs.ConntrackEntry.{of_reply, same_id, state_of, touched, touched_at, without, without_id}
+pub use Rattle.conntrack.specs.ConntrackEntry.{of_reply, same_id, touched, touched_at, without, without_id}
 pub use Rattle.conntrack.specs.Histories.{ConnectionChange, Creation, TrackedPacket, begun_in, belongs, connection_in, is_ended, is_that, is_touch_of}
 pub use Rattle.conntrack.specs.Histories.{live_list, number_if_begins, replayed}
 pub use Rattle.conntrack.specs.Phases.{no_flags}
 pub use Rattle.conntrack.specs.Tuples.{no_tuple}
 pub use Rattle.conntrack.specs.Updates.{Arrival, Confirmation, Confirmed, DoesNotClash, Unconfirmed, after_end, after_packet, change_of_packet, ended_by_packet}
-pub use Rattle.conntrack.specs.Updates.{entry_at, entry_of, with_begun}
+pub use Rattle.conntrack.specs.Updates.{entry_at, tracked_packet, with_begun}
 pub use Rattle.conntrack.specs.declared.belonging.Belonging.{Belonging}
 pub use Rattle.conntrack.specs.declared.belonging.Belonging.TheVariants.{Ends, Found, NotFound}
 pub use Rattle.conntrack.specs.declared.belonging.ConnectionRef.{ConnectionRef}

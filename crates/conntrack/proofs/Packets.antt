@@ -1,11 +1,12 @@
 -- The effect of one packet on a table's entries and on a history's connections.
 use Rattle.conntrack.proofs.Names.{Arrival, Belonging, Bool, Confirmation, Confirmed, ConnId, Connection, ConnectionRef, ConntrackEntry, Direction}
-use Rattle.conntrack.proofs.Names.{DoesNotClash, Ends, Flags, Found, IsNoneLater, Kind, Limits, List, None, NotFound, Option, Original, Reply, Some}
+use Rattle.conntrack.proofs.Names.{DoesNotClash, Ends, Flags, Found, IsNoneLater, Limits, List, None, NotFound, Option, Original, Reply, Some}
 use Rattle.conntrack.proofs.Names.{TrackedPacket, Tuple, Unconfirmed, [], after_end, after_packet, any_of_map, ap, arith, begun_with, belonging_by}
-use Rattle.conntrack.proofs.Names.{belonging_without_id, belongs, belongs_in, connection_of, connection_ref, entry_at, entry_of, filter, filter-append, find}
+use Rattle.conntrack.proofs.Names.{belonging_without_id, belongs, belongs_in, connection_of, connection_ref, entry_at}
+use Rattle.conntrack.proofs.Names.{tracked_packet, filter, filter-append, find}
 use Rattle.conntrack.proofs.Names.{has_distinct_ids, has_id, has_tuple, have_disjoint_tuples, is_incoming, is_live, is_taken, length, length-map, limit_of}
 use Rattle.conntrack.proofs.Names.{live_at, live_list, lt-ltb, ltb-true, map, map-append, nat_tests, no_flags, no_tuple, of_original, of_reply, refl, same_id}
-use Rattle.conntrack.proofs.Names.{state_of, subst, sym, touched, touched_at, true, with_begun, without_id, ℕ, ◌++◌, ◌-◌, ◌∙◌, ◌∷◌, ◌≡◌, ◌≤◌}
+use Rattle.conntrack.proofs.Names.{subst, sym, touched, touched_at, true, with_begun, without_id, ℕ, ◌++◌, ◌-◌, ◌∙◌, ◌∷◌, ◌≡◌, ◌≤◌}
 use Rattle.std.proofs.lemmas.Simd.{map-map}
 use Rattle.conntrack.proofs.Ids.{apart-filter, apart-push, apart-touched_at, changed_at_none, distinct-filter}
 use Rattle.conntrack.proofs.Histories.{live_list-unended, unended, unended-distinct, unended_after}
@@ -102,9 +103,6 @@ module _ (held others : List ConntrackEntry) (e : map without_id held ≡ map wi
       let p : Arrival = record { tuple = tuple; flags = flags; moment = 0 } in
       grind (arith, packet_alike (record { 0 = 0 }) (record { 0 = 0 }) p Unconfirmed)
 
-pub state_alike : (kind : Kind) (one other : Belonging) → belonging_without_id one ≡ belonging_without_id other → state_of kind one ≡ state_of kind other
-state_alike kind one other e = grind arith
-
 module _ (held others : List ConntrackEntry) (e : map without_id held ≡ map without_id others) where
   pub taken_alike : (tuple : Tuple) → is_taken tuple held ≡ is_taken tuple others
   taken_alike tuple = grind (arith, any_of_map (is_incoming tuple) without_id)
@@ -122,17 +120,17 @@ module _ (held others : List ConntrackEntry) (e : map without_id held ≡ map wi
 
 pub recorded_by : (limits : Limits) (b : Belonging) (p : Arrival) (confirmation : Confirmation)
     (history : List TrackedPacket) → IsFoundIn b (live_list limits history p.moment) →
-    live_list limits (entry_of b p confirmation ∷ history) p.moment
+    live_list limits (tracked_packet b p confirmation ∷ history) p.moment
     ≡ after_packet b (record { 0 = length history }) p confirmation (live_list limits history p.moment)
 recorded_by limits b p confirmation history h =
     let now = live_list-unended limits history p.moment in
-    live_list-unended limits (entry_of b p confirmation ∷ history) p.moment
+    live_list-unended limits (tracked_packet b p confirmation ∷ history) p.moment
     ∙ ap (live_at limits p.moment) (unended_after b p confirmation history)
     ∙ live_after limits b _ p confirmation (unended history) (unended-distinct history) (subst (IsFoundIn b) now h)
     ∙ ap (after_packet b (record { 0 = length history }) p confirmation) (sym now)
 
 pub recorded : (limits : Limits) (p : Arrival) (confirmation : Confirmation) (history : List TrackedPacket) →
-    live_list limits (entry_of (belongs limits history p.moment p.tuple p.flags) p confirmation ∷ history) p.moment
+    live_list limits (tracked_packet (belongs limits history p.moment p.tuple p.flags) p confirmation ∷ history) p.moment
     ≡ after_packet (belongs limits history p.moment p.tuple p.flags) (record { 0 = length history }) p confirmation
     (live_list limits history p.moment)
 recorded limits p confirmation history = grind (arith, recorded_by, found_is_held)
@@ -190,4 +188,4 @@ pub ruleset moment_rules = (none_later_after, none_later-filter, none_later_than
 
 pub ruleset apart_rules = (apart_by, apart-filter)
 
-pub ruleset alike_rules = (packet_alike, ended_alike, same_belonging, live_alike, state_alike, taken_alike, length_alike, listed_alike)
+pub ruleset alike_rules = (packet_alike, ended_alike, same_belonging, live_alike, taken_alike, length_alike, listed_alike)

@@ -1,6 +1,5 @@
 -- The conntrack entries that a table holds, as a list in the order of their creation, and lookups in it.
--- States follow nft(8), CONNTRACK EXPRESSIONS (`ct state`); where a comment says so a rule is this project's
--- own (own).
+-- Where a comment says so, a rule is this project's own (own).
 use Rattle.std.specs.Prelude.{◌≡◌, ◌≤◌, ◌+◌, ◌-◌, ℕ, Bool, true, false, not, ◌&&◌, ◌||◌, ◌==◌, nat_lt}
 use Rattle.std.specs.Prelude.{if◌then◌else◌, List, [], ◌∷◌, map, filter, Option, Some, None}
 use Rattle.std.specs.List.{find, list_any}
@@ -19,8 +18,6 @@ use Rattle.box_file.specs.declared.limits.Limits.{Limits}
 use Rattle.conntrack.specs.declared.belonging.Belonging.{Belonging}
 use Rattle.conntrack.specs.declared.belonging.Belonging.TheVariants.{NotFound, Ends, Found}
 use Rattle.conntrack.specs.declared.belonging.ConnectionRef.{ConnectionRef}
-use Rattle.conntrack.specs.declared.belonging.LookupState.{LookupState}
-use Rattle.conntrack.specs.declared.belonging.LookupState.TheVariants.{Established, New, Invalid}
 use Rattle.ip_headers.specs.Same.{same_tuple}
 use Rattle.conntrack.specs.Phases.{no_flags, seen_more, is_lone_syn, is_closing, phase_of, limit_by}
 
@@ -202,16 +199,10 @@ belonging_without_id NotFound = NotFound
 belonging_without_id (Ends id) = Ends (record { 0 = 0 })
 belonging_without_id (Found found) = Found (ref_without_id found)
 
--- `ct state` after a lookup (nft(8), CONNTRACK EXPRESSIONS): established if a reply has been seen, this
--- packet included; else new. A packet without an entry is new, except that an unsolicited echo reply is
--- invalid
-abbrev pub first_state : Kind → LookupState
-first_state EchoReply = Invalid
-first_state _ = New
-
-abbrev pub state_of : Kind → Belonging → LookupState
-state_of kind (Found found) = if is_reply found.direction || found.replied then Established else New
-state_of kind _ = first_state kind
+-- whether a packet of this kind that finds none begins a connection: an unsolicited echo reply doesn't (own)
+abbrev pub may_begin : Kind → Bool
+may_begin EchoReply = false
+may_begin _ = true
 
 -- ---- bounds on visited slots (own)
 

@@ -1,5 +1,5 @@
 -- The histories of the examples. A is 192.168.1.10, B is 198.51.100.7.
-use Rattle.std.specs.Prelude.{ℕ, List, [], ◌∷◌, map, Some, None, refl}
+use Rattle.std.specs.Prelude.{ℕ, Bool, List, [], ◌∷◌, map, Option, Some, None, refl}
 use Rattle.ip_headers.specs.declared.tuple.Kind.{Kind}
 use Rattle.ip_headers.specs.declared.tuple.Kind.TheVariants.{Tcp, Udp}
 use Rattle.ip_headers.specs.declared.tuple.Tuple.{Tuple}
@@ -8,6 +8,8 @@ use Rattle.conntrack.specs.declared.connection.Direction.{Direction}
 use Rattle.conntrack.specs.declared.connection.Direction.TheVariants.{Original, Reply}
 use Rattle.conntrack.specs.declared.connection.Flags.{Flags}
 use Rattle.box_file.specs.declared.limits.Limits.{Limits}
+use Rattle.conntrack.specs.declared.belonging.Belonging.{Belonging}
+use Rattle.conntrack.specs.declared.belonging.Belonging.TheVariants.{Found}
 use Rattle.conntrack.specs.Phases.{flags_of, no_flags, seconds}
 use Rattle.box_file.specs.Idle.{usual_limits}
 use Rattle.conntrack.specs.Histories.{TrackedPacket, ConnectionChange, NoChange, Begins, Touches, live_list}
@@ -100,6 +102,11 @@ queried = begins dns_query 0 no_flags ∷ []
 -- the numbers of the connections alive
 abbrev pub alive_by : Limits → ℕ → List TrackedPacket → List ℕ
 alive_by limits now history = map (λ h. h.id.0) (live_list limits history now)
+
+-- the direction of a packet that belongs to a connection, and whether a reply was seen before it
+abbrev pub found_as : Belonging → Option (Direction × Bool)
+found_as (Found found) = Some (found.direction, found.replied)
+found_as _ = None
 
 -- with the default timeouts
 abbrev pub alive_at : ℕ → List TrackedPacket → List ℕ

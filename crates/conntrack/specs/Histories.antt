@@ -75,14 +75,14 @@ abbrev pub no_creation : Creation
 no_creation = record { original = no_tuple; reply = no_tuple; source = None; dest = None }
 
 -- what a record created
-abbrev pub begun : ConnectionChange → Creation
-begun (Begins creation) = creation
-begun _ = no_creation
+abbrev pub creation_in : ConnectionChange → Creation
+creation_in (Begins creation) = creation
+creation_in _ = no_creation
 
 -- what connection c was created with, by its first record
 abbrev pub creation_of : ℕ → List TrackedPacket → Creation
 creation_of c [] = no_creation
-creation_of c (e ∷ history) = if length history == c then begun e.change else creation_of c history
+creation_of c (e ∷ history) = if length history == c then creation_in e.change else creation_of c history
 
 -- whether the packet's direction is a wanted one; the first packet of a connection goes in direction
 -- original
@@ -92,8 +92,8 @@ has_direction wanted (Begins creation) = wanted Original
 has_direction wanted (Touches k direction) = wanted direction
 
 -- the flags seen in a direction
-abbrev pub flags_in : (Direction → Bool) → List TrackedPacket → Flags
-flags_in wanted entries = record {
+abbrev pub flags_seen : (Direction → Bool) → List TrackedPacket → Flags
+flags_seen wanted entries = record {
   syn = list_any (λ e. has_direction wanted e.change && e.flags.syn) entries;
   ack = list_any (λ e. has_direction wanted e.change && e.flags.ack) entries;
   fin = list_any (λ e. has_direction wanted e.change && e.flags.fin) entries;
@@ -120,8 +120,8 @@ replayed c creation entries = record {
   reply = creation.reply;
   mark = mark_of entries;
   last = moment_of entries;
-  from_original = flags_in is_original entries;
-  from_reply = flags_in is_reply entries;
+  from_original = flags_seen is_original entries;
+  from_reply = flags_seen is_reply entries;
   replied = has_reply entries;
   source = creation.source;
   dest = creation.dest;
@@ -133,7 +133,7 @@ connection_in c history = replayed c (creation_of c history) (entries_of c histo
 -- the phase of connection c
 abbrev pub phase : ℕ → List TrackedPacket → Phase
 phase c history =
-    phase_by (flags_in is_original (entries_of c history)) (flags_in is_reply (entries_of c history))
+    phase_by (flags_seen is_original (entries_of c history)) (flags_seen is_reply (entries_of c history))
 
 -- no record removed it, and less than its timeout has passed since its last packet
 abbrev pub is_alive : Limits → ℕ → List TrackedPacket → ℕ → Bool

@@ -18,9 +18,10 @@ pub record Arrival : Type 0 where
   pub flags : Flags
   pub moment : ℕ
 
--- whether a packet is confirmed, as by netfilter's nf_conntrack_confirm, so that it counts as a packet of
--- its connection. Dropped packets aren't, nor those that create no connection. If it is the first packet,
--- the connection is created with this reply tuple and these mappings
+-- whether a packet counts as one of its connection, on which it leaves this mark. It counts at the end of
+-- its path, so that a dropped packet doesn't. The first packet creates the connection there, with this reply
+-- tuple and these mappings, as by netfilter's nf_conntrack_confirm; that a later packet counts there too is
+-- (own), since Linux refreshes a connection at the look-up, before any rule after it
 pub data Confirmation : Type 0 where
   Unconfirmed : Confirmation
   Confirmed : (mark : ℕ) (reply : Tuple) (source dest : Option Mapping) → Confirmation
@@ -74,8 +75,8 @@ abbrev pub mark_left : Confirmation → ℕ
 mark_left Unconfirmed = 0
 mark_left (Confirmed mark reply source dest) = mark
 
-abbrev pub entry_of : Belonging → Arrival → Confirmation → TrackedPacket
-entry_of belonging p confirmation = record {
+abbrev pub tracked_packet : Belonging → Arrival → Confirmation → TrackedPacket
+tracked_packet belonging p confirmation = record {
   moment = p.moment;
   flags = p.flags;
   mark = mark_left confirmation;

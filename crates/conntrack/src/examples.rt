@@ -1,17 +1,16 @@
 //! Small histories with their results: examples of the definitions, each a law.
-ghost use Rattle.std.specs.Prelude.{◌≡◌, ◌-◌, ◌∷◌, []};
+ghost use Rattle.std.specs.Prelude.{◌≡◌, ◌-◌, ◌∷◌, [], Some, false, true};
 ghost use Rattle.ip_headers.specs.Tuple.{inverse};
 ghost use Rattle.ip_headers.specs.declared.tuple.Kind.TheVariants as kinds;
 ghost use Rattle.conntrack.specs.declared.belonging.Belonging.TheVariants as belongings;
-ghost use Rattle.conntrack.specs.declared.belonging.LookupState.TheVariants as states;
 ghost use Rattle.conntrack.specs.declared.connection.Direction.TheVariants as directions;
 ghost use Rattle.conntrack.specs.declared.connection.Phase.TheVariants as phases;
 ghost use Rattle.conntrack.specs.Phases.{no_flags, seconds};
 ghost use Rattle.box_file.specs.Idle.{usual_limits};
-ghost use Rattle.conntrack.specs.ConntrackEntry.{state_of};
+ghost use Rattle.conntrack.specs.ConntrackEntry.{may_begin};
 ghost use Rattle.conntrack.specs.Histories.{belongs, phase};
 ghost use Rattle.conntrack.specs.Examples.{alive_at, alive_by, queried, begins, begins_anew, begins_as_hairpin};
-ghost use Rattle.conntrack.specs.Examples.{crossed, fin_ack, from_a, is_dropped, opened, opening, plain_ack};
+ghost use Rattle.conntrack.specs.Examples.{crossed, fin_ack, found_as, from_a, is_dropped, opened, opening, plain_ack};
 ghost use Rattle.conntrack.specs.Examples.{dns_query, refused, sends, short_limits, syn, syn_ack, web};
 
 /// Both ends send SYN at once (RFC 9293, section 3.5): the connection is established once both have
@@ -29,13 +28,13 @@ pub fn simultaneous_open()
 
 /// A UDP connection is live for 300 seconds after its last packet that wasn't dropped.
 pub fn answer_at_the_limit()
-    ensures within { state_of kinds.Udp
+    ensures within { found_as
         (belongs usual_limits queried (seconds 300 - 1000) (inverse dns_query) no_flags)
-        ≡ states.Established }
+        ≡ Some (directions.Reply, false) }
     ensures at_limit { belongs usual_limits queried (seconds 300) (inverse dns_query) no_flags
         ≡ belongings.NotFound }
-    ensures again { state_of kinds.Udp
-        (belongs usual_limits queried (seconds 300 - 1) dns_query no_flags) ≡ states.New }
+    ensures again { found_as (belongs usual_limits queried (seconds 300 - 1) dns_query no_flags)
+        ≡ Some (directions.Original, false) }
     ensures prolonged { alive_at (seconds 400 - 1)
         (sends directions.Original (seconds 100) no_flags ∷ queried) ≡ 0 ∷ [] }
     ensures dropped { alive_at (seconds 300) (is_dropped (seconds 100) no_flags ∷ queried) ≡ [] }
@@ -47,15 +46,13 @@ pub fn reset_then_syn()
     ensures closing { phase 0 refused ≡ phases.Closing }
     ensures ends { belongs usual_limits refused (seconds 2) web syn
         ≡ belongings.Ends (record { 0 = 0 }) }
-    ensures state { state_of kinds.Tcp (belongs usual_limits refused (seconds 2) web syn)
-        ≡ states.New }
     ensures anew { alive_at (seconds 2) (begins_anew web (seconds 2) ∷ refused) ≡ 2 ∷ [] }
-    ensures not_lone { state_of kinds.Tcp (belongs usual_limits refused (seconds 2) web syn_ack)
-        ≡ states.Established }
-    ensures back { state_of kinds.Tcp (belongs usual_limits refused (seconds 2) (inverse web) syn)
-        ≡ states.Established }
-    ensures open { state_of kinds.Tcp (belongs usual_limits opened (seconds 4) web syn)
-        ≡ states.Established }
+    ensures not_lone { found_as (belongs usual_limits refused (seconds 2) web syn_ack)
+        ≡ Some (directions.Original, true) }
+    ensures back { found_as (belongs usual_limits refused (seconds 2) (inverse web) syn)
+        ≡ Some (directions.Reply, true) }
+    ensures open { found_as (belongs usual_limits opened (seconds 4) web syn)
+        ≡ Some (directions.Original, true) }
 {}
 
 /// After one FIN a connection is still established; after FIN from both ends it is closing, with a
@@ -73,18 +70,19 @@ pub fn fin_from_both()
         ∷ sends directions.Original (seconds 10) fin_ack ∷ opened) ≡ [] }
 {}
 
-/// Other kinds have timeouts of their own, and an unsolicited echo reply creates nothing.
+/// Other kinds have timeouts of their own, and an unsolicited echo reply begins no connection.
 pub fn other_kinds()
     ensures echo { alive_at (seconds 60 - 1) (begins (from_a kinds.EchoRequest 7 0) 0 no_flags ∷ [])
         ≡ 0 ∷ [] }
     ensures echo_at_limit { alive_at (seconds 60)
         (begins (from_a kinds.EchoRequest 7 0) 0 no_flags ∷ []) ≡ [] }
-    ensures echo_reply { state_of kinds.EchoReply
+    ensures echo_reply { found_as
         (belongs usual_limits (begins (from_a kinds.EchoRequest 7 0) 0 no_flags ∷ []) 0
-        (inverse (from_a kinds.EchoRequest 7 0)) no_flags) ≡ states.Established }
-    ensures unsolicited_reply { state_of kinds.EchoReply
-        (belongs usual_limits (begins (from_a kinds.EchoRequest 7 0) 0 no_flags ∷ []) 0
-        (inverse (from_a kinds.EchoRequest 8 0)) no_flags) ≡ states.Invalid }
+        (inverse (from_a kinds.EchoRequest 7 0)) no_flags) ≡ Some (directions.Reply, false) }
+    ensures unsolicited_reply { belongs usual_limits
+        (begins (from_a kinds.EchoRequest 7 0) 0 no_flags ∷ []) 0
+        (inverse (from_a kinds.EchoRequest 8 0)) no_flags ≡ belongings.NotFound }
+    ensures no_beginning { may_begin kinds.EchoReply ≡ false }
     ensures other { alive_at (seconds 600 - 1)
         (begins (from_a (kinds.Other 47) 0 0) 0 no_flags ∷ []) ≡ 0 ∷ [] }
     ensures other_at_limit { alive_at (seconds 600)
@@ -119,6 +117,7 @@ pub fn kinds_and_ports_are_distinct()
         ≡ belongings.NotFound }
     ensures ports { belongs usual_limits queried 0 (from_a kinds.Udp 5001 53) no_flags
         ≡ belongings.NotFound }
-    ensures one { state_of kinds.Udp (belongs usual_limits
-        (begins_as_hairpin dns_query ∷ []) 0 dns_query no_flags) ≡ states.New }
+    ensures one { found_as (belongs usual_limits
+        (begins_as_hairpin dns_query ∷ []) 0 dns_query no_flags)
+        ≡ Some (directions.Original, false) }
 {}

@@ -1,6 +1,5 @@
 //! Laws about connections, each as the contract of a function that does nothing.
 ghost use Rattle.std.specs.Prelude.{◌≡◌, ◌≤◌, ℕ, IsTrue, List, [], ◌∷◌, length, map, false};
-ghost use Rattle.ip_headers.specs.declared.tuple.Kind.{Kind};
 ghost use Rattle.ip_headers.specs.declared.tuple.Tuple.{Tuple};
 ghost use Rattle.conntrack.specs.declared.connection.ConnId.{ConnId};
 ghost use Rattle.conntrack.specs.declared.connection.Flags.{Flags};
@@ -11,9 +10,9 @@ ghost use Rattle.conntrack.specs.declared.belonging.Belonging.TheVariants.{Ends,
 ghost use Rattle.conntrack.specs.declared.belonging.ConnectionRef.{ConnectionRef};
 ghost use Rattle.conntrack.specs.ConntrackEntry.{IsNoneLater, have_disjoint_tuples, belongs_in, connection_of};
 ghost use Rattle.conntrack.specs.ConntrackEntry.{has_distinct_ids, has_id, is_taken, live_at, SameExceptIds};
-ghost use Rattle.conntrack.specs.ConntrackEntry.{belonging_without_id, state_of, without};
+ghost use Rattle.conntrack.specs.ConntrackEntry.{belonging_without_id, without};
 ghost use Rattle.conntrack.specs.Histories.{TrackedPacket, RepresentsAt, belongs, live_list};
-ghost use Rattle.conntrack.specs.Updates.{Arrival, Confirmation, DoesNotClash, after_end, after_packet, entry_at, entry_of};
+ghost use Rattle.conntrack.specs.Updates.{Arrival, Confirmation, DoesNotClash, after_end, after_packet, entry_at, tracked_packet};
 
 /// An empty table represents the empty history.
 pub fn empty_at_first()
@@ -40,7 +39,7 @@ pub fn one_more_record()
         → RepresentsAt limits held history p.moment
         → RepresentsAt limits
         (after_packet (belongs_in (live_at limits p.moment held) p.tuple p.flags) id p confirmation held)
-        (entry_of (belongs limits history p.moment p.tuple p.flags) p confirmation ∷ history)
+        (tracked_packet (belongs limits history p.moment p.tuple p.flags) p confirmation ∷ history)
         p.moment }
     ensures none { (limits : Limits) (held : List ConntrackEntry) (history : List TrackedPacket)
         (now : ℕ) → RepresentsAt limits held history now
@@ -53,7 +52,7 @@ pub fn one_more_entry()
     ensures packet { (limits : Limits) (history : List TrackedPacket) (p : Arrival)
         (confirmation : Confirmation)
         → live_list limits
-        (entry_of (belongs limits history p.moment p.tuple p.flags) p confirmation ∷ history) p.moment
+        (tracked_packet (belongs limits history p.moment p.tuple p.flags) p confirmation ∷ history) p.moment
         ≡ after_packet (belongs limits history p.moment p.tuple p.flags)
         (record { 0 = length history }) p confirmation (live_list limits history p.moment) }
     ensures none { (limits : Limits) (history : List TrackedPacket) (now : ℕ)
@@ -81,9 +80,6 @@ pub fn independent_of_ids()
         → SameExceptIds held others
         → belonging_without_id (belongs_in held tuple flags)
         ≡ belonging_without_id (belongs_in others tuple flags) }
-    ensures state { (one other : Belonging) (kind : Kind)
-        → belonging_without_id one ≡ belonging_without_id other
-        → state_of kind one ≡ state_of kind other }
     ensures taken { (held others : List ConntrackEntry) (tuple : Tuple)
         → SameExceptIds held others → is_taken tuple held ≡ is_taken tuple others }
     ensures number { (held others : List ConntrackEntry) → SameExceptIds held others

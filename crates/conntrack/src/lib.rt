@@ -10,9 +10,10 @@ mod limits;
 mod list_tracker;
 mod tracker;
 
-pub use belonging::{Belonging, ConnectionRef, LookupState};
+pub use belonging::{Belonging, ConnectionRef};
 pub use connection::{Aged, ConnId, Connection, ConntrackEntry, Direction, Flags, Moment, Phase};
 pub use limits::{idle_kind, limit_by, limit_in};
 pub use list_tracker::ListTracker;
+pub use std::alloc::AllocError as Memory;
 pub use step_count::Steps;
 pub use tracker::{BeginError, MAX_CONNECTIONS, Tracker};

@@ -13,7 +13,7 @@ use crate::connection::{Aged, ConnId, Connection, ConntrackEntry, Direction, Fla
 use crate::tracker::{BeginError, MAX_CONNECTIONS, Tracker};
 use box_file::Limits;
 use ip_headers::Tuple;
-use std::alloc::{AllocError, Global};
+use std::alloc::{AllocError as Memory, Global};
 use std::hash::RandomState;
 use step_count::Steps;
 
@@ -164,13 +164,17 @@ impl Tracker for ListTracker {
 
     ghost max_slots = { None };
 
-    // A list hashes nothing.
-    fn new(alloc: Global, _hasher: RandomState, idle: Limits) -> Self {
+    fn new(alloc: Global, idle: Limits) -> Self {
         ListTracker {
             conns: Vec::new(alloc),
             limits: idle,
             next_id: 0,
         }
+    }
+
+    // A list hashes nothing.
+    fn with_hasher(alloc: Global, _hasher: RandomState, idle: Limits) -> Self {
+        Self::new(alloc, idle)
     }
 
     #[tactic(auto, using(crate::proofs::Lookups::same_belonging))]
@@ -193,9 +197,9 @@ impl Tracker for ListTracker {
         touch_in(&mut self.conns, id, direction, flags, mark, now);
     }
 
-    fn reserve_one(&mut self) -> Result<(), AllocError> {
+    fn reserve_one(&mut self) -> Result<(), Memory> {
         if self.next_id == usize::MAX {
-            return Err(AllocError);
+            return Err(Memory);
         }
         if self.conns.len() < self.conns.capacity() {
             return Ok(());
@@ -243,7 +247,7 @@ impl Tracker for ListTracker {
         self.conns.len()
     }
 
-    fn list(&self, alloc: Global, steps: &mut Steps) -> Result<Vec<Connection>, AllocError> {
+    fn list_counted(&self, alloc: Global, steps: &mut Steps) -> Result<Vec<Connection>, Memory> {
         steps.add(self.conns.len());
         self.conns
             .iter()

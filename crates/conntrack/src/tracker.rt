@@ -11,9 +11,9 @@ use crate::belonging::Belonging;
 use crate::connection::{Aged, ConnId, Connection, Direction, Flags, Moment};
 use box_file::Limits;
 use ip_headers::Tuple;
-use std::alloc::{AllocError, Global};
+use std::alloc::{AllocError as Memory, Global};
 use std::hash::RandomState;
-use step_count::Steps;
+use step_count::{Steps, start};
 use thiserror::Error;
 
 /// The most entries that a table holds.
@@ -32,8 +32,8 @@ pub enum BeginError {
 
 /// A conntrack table. Moments must not fall from call to call. In `steps` a table counts the slots
 /// that it visits: a call never lowers the count, and raises it by `max_slots` at most, but for
-/// `list`, which visits all. A tracker is given a count and can't make one, nor read it. The clauses
-/// `distinct` and `apart` are lemmas about the receiver, not about the result.
+/// `list_counted`, which visits all. A tracker is given a count and can't make one, nor read it. The
+/// clauses `distinct` and `apart` are lemmas about the receiver, not about the result.
 pub trait Tracker: Drop {
     ghost use Rattle.conntrack.specs.declared.connection.ConntrackEntry.{ConntrackEntry};
     ghost use Rattle.box_file.specs.declared.limits.Limits.{Limits};
@@ -51,9 +51,18 @@ pub trait Tracker: Drop {
     ghost max_slots: { Option ℕ };
 
     /// An empty table with these timeouts, with no memory reserved for an entry. A table that
-    /// hashes tuples uses `hasher`, whose keys must be unknown to the senders of packets; no result
-    /// depends on them.
-    fn new(alloc: Global, hasher: RandomState, idle: Limits) -> Self
+    /// hashes tuples uses keys that everybody may know: senders who choose their tuples can make it
+    /// slow, which `with_hasher` prevents.
+    fn new(alloc: Global, idle: Limits) -> Self
+    where
+        Self: Sized,
+        ensures held { held result ≡ [] }
+        ensures limits { limits result ≡ idle }
+        ensures room { has_room result ≡ false };
+
+    /// The same, but a table that hashes tuples uses `hasher`, whose keys must be unknown to the
+    /// senders of packets; no result depends on them.
+    fn with_hasher(alloc: Global, hasher: RandomState, idle: Limits) -> Self
     where
         Self: Sized,
         ensures held { held result ≡ [] }
@@ -95,8 +104,8 @@ pub trait Tracker: Drop {
     ///
     /// # Errors
     ///
-    /// `AllocError` where memory ran out; the entries stay.
-    fn reserve_one(&mut self) -> Result<(), AllocError>
+    /// `Memory` where an allocation failed; the entries stay.
+    fn reserve_one(&mut self) -> Result<(), Memory>
         ensures held { held self.new ≡ held self.old }
         ensures limits { limits self.new ≡ limits self.old }
         ensures room { OnOk result (IsTrue (has_room self.new)) }
@@ -163,8 +172,20 @@ pub trait Tracker: Drop {
     ///
     /// # Errors
     ///
-    /// `AllocError` where memory ran out.
-    fn list(&self, alloc: Global, steps: &mut Steps) -> Result<Vec<Connection>, AllocError>
+    /// `Memory` where an allocation failed.
+    fn list_counted(&self, alloc: Global, steps: &mut Steps) -> Result<Vec<Connection>, Memory>
         ensures list { IfOk result (λ all. all.items ≡ map connection_of (held self.now)) }
         ensures steps { steps.old ≤ steps.new };
+
+    /// All entries in the order of their creation. The slots are counted in a count of its own.
+    ///
+    /// # Errors
+    ///
+    /// `Memory` where an allocation failed.
+    fn list(&self, alloc: Global) -> Result<Vec<Connection>, Memory>
+        ensures { IfOk result (λ all. all.items ≡ map connection_of (held self.now)) }
+    {
+        let mut steps = start();
+        self.list_counted(alloc, &mut steps)
+    }
 }

@@ -27,10 +27,17 @@ fn end(address: u32, port: u16) -> Endpoint {
 }
 
 /// An empty table.
-fn empty(alloc: Global, hasher: RandomState) -> Mappings
+fn empty(alloc: Global) -> Mappings
     ensures few { (m : Mapped) → holders_of m result.held ≤ 0 }
 {
-    Mappings::new(alloc, hasher)
+    Mappings::new(alloc)
+}
+
+/// An empty table with hash keys of its own.
+fn keyed(alloc: Global, hasher: RandomState) -> Mappings
+    ensures few { (m : Mapped) → holders_of m result.held ≤ 0 }
+{
+    Mappings::with_hasher(alloc, hasher)
 }
 
 /// Chooses the external port of an internal endpoint, and holds the mapping.
@@ -181,9 +188,9 @@ fn answers_all<R: Abort>(rt: &R, mut table: Mappings, calls: &[Call])
 #[test]
 fn mappings_are_held_found_and_released(rt: HostRuntime) {
     let hasher = RandomState::new(&rt).expect(&rt, "a hasher");
-    answers_all(&rt, empty(rt.alloc(), hasher), &PORTS);
-    answers_all(&rt, empty(rt.alloc(), hasher), &KINDS);
-    answers_all(&rt, empty(rt.alloc(), hasher), &RANGE);
+    answers_all(&rt, keyed(rt.alloc(), hasher), &PORTS);
+    answers_all(&rt, keyed(rt.alloc(), hasher), &KINDS);
+    answers_all(&rt, keyed(rt.alloc(), hasher), &RANGE);
 }
 
 /// Whether a connection's two mappings are held at new addresses, with capacity reserved. Only
@@ -240,8 +247,7 @@ fn connection_again<R: Abort>(rt: &R, table: &mut Mappings)
 /// With each allocation refused in turn.
 #[test]
 fn only_reserving_wants_memory(rt: HostRuntime) {
-    let hasher = RandomState::new(&rt).expect(&rt, "a hasher");
-    let mut table = empty(rt.alloc(), hasher);
+    let mut table = empty(rt.alloc());
     if held(&mut table, Kind::Udp, end(A, 5000), E, 0).is_ok() {
         connections(&rt, &mut table);
         connection_again(&rt, &mut table);

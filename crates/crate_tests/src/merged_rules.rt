@@ -31,10 +31,13 @@ const ELEVEN: u32 = 0x0b00_0001;
 /// value more; a counter and another selector between rules of one selector; a rule that writes the
 /// mark that the next one matches; a rule after one that always gives a verdict; counters, logs and
 /// a jump end no chain, and what comes after `return` and `goto` is dropped in each chain; a match, a
-/// mark and a jump before the verdict don't end it either. Of named sets, the second rule of nested
-/// ones and one with an empty set keep their steps and are never found, so that they don't count; a
-/// counter, another match and a jump between rules that would be merged.
-static MERGED: [Row; 10] = [
+/// mark and a jump before the verdict don't end it either. Of named sets, one that an earlier set
+/// contains, and an empty one among others; a counter, another match and a jump between rules that
+/// would be merged. A named set three times, with one between that has a value more, and a prefix
+/// within it; concatenations of the same selectors, and of the same in another order; a value with
+/// `==`, a range and a prefix. A rule alone is in no run, even with an empty set; where all sets of a
+/// run are empty, none of its rules is left; one of a run that no packet gets to is dropped.
+static MERGED: [Row; 16] = [
     (
         b"table ip t { chain fwd { type filter hook forward priority 0;
 ip saddr 10.0.0.0/8 accept; ip saddr 10.1.0.0/16 drop; ip saddr 11.0.0.0/8 drop } }",
@@ -97,7 +100,7 @@ ip saddr 10.0.0.0/8 drop; meta mark set 1 drop; jump end; accept; drop } }",
 set ten_one { type ipv4_addr; elements = { 10.1.0.0/16 } }
 chain fwd { type filter hook forward priority 0;
 ip saddr @ten accept; ip saddr @ten_one drop; ip saddr 11.0.0.0/8 drop } }",
-        [7, 1, 2, 0],
+        [5, 1, 2, 1],
         &[
             (TEN_ONE, Some(1), false),
             (ELEVEN, Some(3), true),
@@ -108,7 +111,7 @@ ip saddr @ten accept; ip saddr @ten_one drop; ip saddr 11.0.0.0/8 drop } }",
         b"table ip t { set none { type ipv4_addr }
 chain fwd { type filter hook forward priority 0;
 ip saddr 10.0.0.0/16 drop; ip saddr @none accept; ip saddr 10.1.0.0/16 drop } }",
-        [7, 1, 2, 0],
+        [5, 1, 2, 1],
         &[(TEN_ONE, Some(3), true)],
     ),
     (
@@ -119,6 +122,58 @@ ip saddr != 0.0.0.7 drop; ip saddr 10.3.0.0/16 drop; ip saddr 10.4.0.0/16 jump e
 ip saddr 10.5.0.0/16 drop } }",
         [17, 0, 0, 0],
         &[(0x0a02_0000, Some(3), true), (7, None, false)],
+    ),
+    (
+        b"table ip t { set s { type ipv4_addr; elements = { 10.1.2.3, 11.0.0.1 } }
+set more { type ipv4_addr; elements = { 10.1.2.3, 11.0.0.1, 12.0.0.0 } }
+chain fwd { type filter hook forward priority 0;
+ip saddr @s accept; ip saddr @s drop; ip saddr @more drop; ip saddr 11.0.0.1/32 accept
+ip saddr @more accept } }",
+        [5, 1, 2, 3],
+        &[
+            (TEN_ONE, Some(1), false),
+            (0x0c00_0000, Some(3), true),
+            (0x0c00_0001, None, false),
+        ],
+    ),
+    (
+        b"table ip t { set pairs { type ipv4_addr . inet_service; elements = { 10.1.2.3 . 2 } }
+chain fwd { type filter hook forward priority 0;
+ip saddr . udp dport { 10.1.2.3 . 2, 11.0.0.1 . 3 } accept; ip saddr . udp dport @pairs drop
+ip saddr . udp dport { 11.0.0.1 . 2 } drop; udp dport . ip saddr { 2 . 11.0.0.1 } accept } }",
+        [7, 1, 2, 1],
+        &[(TEN_ONE, Some(1), false), (ELEVEN, Some(3), true)],
+    ),
+    (
+        b"table ip t { chain fwd { type filter hook forward priority 0;
+ip saddr == 10.1.2.3 accept; ip saddr 10.1.2.3 drop; ip saddr 10.1.2.2-10.1.2.4 drop
+ip saddr 10.1.2.0/29 return } }",
+        [7, 1, 3, 1],
+        &[
+            (TEN_ONE, Some(1), false),
+            (0x0a01_0204, Some(3), true),
+            (0x0a01_0205, Some(4), false),
+        ],
+    ),
+    (
+        b"table ip t { set none { type ipv4_addr }
+chain fwd { type filter hook forward priority 0;
+ip saddr @none accept; counter; ip saddr @none drop } }",
+        [6, 0, 0, 0],
+        &[(TEN_ONE, None, false)],
+    ),
+    (
+        b"table ip t { set none { type ipv4_addr }
+chain fwd { type filter hook forward priority 0;
+ip saddr @none accept; ip saddr @none drop; counter } }",
+        [2, 0, 0, 2],
+        &[(TEN_ONE, None, false)],
+    ),
+    (
+        b"table ip t { chain fwd { type filter hook forward priority 0;
+accept; ip saddr 10.0.0.0/8 drop; ip saddr 11.0.0.0/8 drop } }",
+        [2, 0, 0, 2],
+        &[(TEN_ONE, Some(1), false)],
     ),
 ];
 
@@ -220,7 +275,7 @@ fn has_verdict<R: Abort + AllocGlobal>(
 ) -> bool
     requires { start.cost ≤ 1000 }
 {
-    let mut events = Events::new(rt.alloc()).expect(rt, "memory");
+    let mut events = Events::new(rt.alloc(), code).expect(rt, "memory");
     takes_verdict(code, start, wanted, &mut events)
 }
 

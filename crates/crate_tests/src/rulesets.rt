@@ -84,17 +84,25 @@ fn has(ruleset: &Ruleset, shape: &Shape<'_>) -> bool {
         && count == rules
 }
 
-/// Whether the text is parsed as a ruleset of this shape, or has this fault.
+/// Whether the ruleset's copy has this shape.
+fn is_copied(ruleset: &Ruleset, shape: &Shape<'_>) -> bool {
+    match ruleset.try_clone() {
+        Ok(copy) => has(&copy, shape),
+        Err(_) => false,
+    }
+}
+
+/// Whether the text is parsed as a ruleset of this shape, and so is its copy, or has this fault.
 fn is_parsed(alloc: Global, text: &[u8], wanted: &Result<Shape<'_>, LexFault>) -> bool {
     match (parse(alloc, text), wanted) {
-        (Ok(ruleset), Ok(shape)) => has(&ruleset, shape),
+        (Ok(ruleset), Ok(shape)) => has(&ruleset, shape) && is_copied(&ruleset, shape),
         (Err(ParseError::Refused(TextFault::Lexical(found))), Err(fault)) => found == *fault,
         _ => false,
     }
 }
 
 #[test]
-fn texts_are_read_or_refused(rt: HostRuntime) {
+fn texts_are_read_and_copied_or_refused(rt: HostRuntime) {
     for row in 0..TEXTS.len() {
         let (text, wanted) = TEXTS[row];
         check_row(&rt, row, is_parsed(rt.alloc(), text, &wanted));
@@ -103,7 +111,7 @@ fn texts_are_read_or_refused(rt: HostRuntime) {
 
 /// Thousands of rules.
 #[test]
-fn a_long_text_is_read(rt: HostRuntime) {
+fn a_long_text_is_read_and_copied(rt: HostRuntime) {
     let rule = b"ip saddr 10.0.0.0/8 tcp dport { 22, 80-443 } counter accept\n";
     let text = repeated(&rt, b"table t { chain a {\n", rule, 5_000, b"} }");
     check_row(&rt, 0, is_parsed(rt.alloc(), &text, &Ok(LONG)));

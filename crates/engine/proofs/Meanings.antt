@@ -2,7 +2,7 @@
 use Rattle.engine.proofs.Names.{Accepted, Bool, Capture, CaptureFault, CaptureState, Consumes, Device, Devices, Format, HEADER_BYTES, IfErr, IfSome, IsAtEnd}
 use Rattle.engine.proofs.Names.{IsBeforeHeader, IsChecked, IsHistoryOf, JudgeRefuses, Laws, LeavesPrefix, LeftDevices, List, Meaning, None, NothingTaken, Ok}
 use Rattle.engine.proofs.Names.{Option, READ_AHEAD, Refuses, Result, RunFault, Setup, Some, Untouched, WritesOutputs, WroteOutputs, [], ahead, ap, append-nil}
-use Rattle.engine.proofs.Names.{arith, decoded_records, drop, ending_of, format_of, header_fault, inl, inr, length, one_more, rules, setup_of, sym, true}
+use Rattle.engine.proofs.Names.{arith, decoded_records, drop, ending_of, format_of, header_fault, inl, inr, length, one_failure, rules, setup_of, sym, true}
 use Rattle.engine.proofs.Names.{CaptureError, CountsFault, Err, IsOfTexts, refl, unread_input, ℕ, ◌<◌, ◌∙◌, ◌≡◌, ◌≤◌}
 use Rattle.std.proofs.Common.{◌≢◌}
 use Rattle.pcap_io.specs.CaptureStates.{IsOfHeader, RefusedBy}
@@ -10,7 +10,7 @@ use Rattle.pcap_io.specs.declared.fault.CaptureError.TheVariants as errors
 use Rattle.engine.specs.Refusals.{IsOfRecord}
 use Rattle.engine.specs.steps.Faults.{of_capture}
 use Rattle.engine.proofs.Histories.{OneEntry, one_history}
-use Rattle.engine.proofs.Names.{Box, NoneFailed, Rules}
+use Rattle.engine.proofs.Names.{Box, Failures, NoneFailed, Rules}
 use Rattle.engine.proofs.Texts.{counts_later}
 use Rattle.engine.specs.declared.fault.RunFault.TheVariants.{Memory}
 use Rattle.engine.specs.declared.runs.Summary.{Summary}
@@ -109,7 +109,7 @@ nothing_taken input old new part takes few kept no_failure = grind arith
 -- a read failed before the header was there
 left_unopened : {rules box : List ℕ} (accepted : Accepted rules box) (trace : Bool) (input : Option (List ℕ))
     (old new : Devices) (part : List ℕ) → Consumes input new.unread part → length part < HEADER_BYTES
-    → Untouched old new → new.reads_failed ≡ one_more old.reads_failed
+    → Untouched old new → new.reads_failed ≡ one_failure old.reads_failed
     → IfSome input (λ bytes. LeftDevices rules box bytes trace old new Device)
 left_unopened accepted trace input old new part takes short kept failed = grind arith
 
@@ -125,7 +125,7 @@ pub left_at_open : {rules box : List ℕ} (accepted : Accepted rules box) (trace
     → Untouched old new → RefusedBy input error
     → (error ≡ errors.Device → (part : List ℕ) × Consumes input new.unread part × (length part < HEADER_BYTES))
     → (error ≢ errors.Device → new.reads_failed ≡ old.reads_failed)
-    → (error ≡ errors.Device → new.reads_failed ≡ one_more old.reads_failed)
+    → (error ≡ errors.Device → new.reads_failed ≡ one_failure old.reads_failed)
     → IfSome input (λ bytes. LeftDevices rules box bytes trace old new (of_capture error))
 left_at_open {rules} {box} accepted trace input old new (errors.Refused fault) part takes few kept refused broken calm failed =
     left_unread rules box trace input old new fault (nothing_taken input old new part takes few kept (calm (λ e. cc))) refused
@@ -148,9 +148,11 @@ pub no_record_fault : (error : CaptureError) → IsOfHeader error → IsOfRecord
 no_record_fault error header is = grind arith
 
 pub counts_open : (error : CaptureError) (old new : Devices) → (error ≢ errors.Device → new.reads_failed ≡ old.reads_failed)
-    → (error ≡ errors.Device → new.reads_failed ≡ one_more old.reads_failed) → new.sends_failed ≡ old.sends_failed
+    → (error ≡ errors.Device → new.reads_failed ≡ one_failure old.reads_failed) → new.sends_failed ≡ old.sends_failed
     → new.reports_failed ≡ old.reports_failed → CountsFault {T = Summary} (Err (of_capture error)) old new
-counts_open error old new calm failed sent report = grind arith
+counts_open (errors.Refused fault) old new calm failed sent report = (calm (λ e. cc), sent, report)
+counts_open errors.Device old new calm failed sent report = inl (failed refl, sent, report)
+counts_open errors.Memory old new calm failed sent report = (calm (λ e. cc), sent, report)
 
 -- a fault of the texts, or a failed allocation
 pub left_of_texts : (rules box : List ℕ) (trace : Bool) {bytes : List ℕ} {old new : Devices} (fault : RunFault)
@@ -188,7 +190,7 @@ accepted_of {checked = checked} fine = record {
 
 -- a fault behind the header, over the reader as `Capture::open` left it
 pub left_all : {rules box : List ℕ} (accepted : Accepted rules box) (input : Option (List ℕ)) {setup : Setup} (trace : Bool)
-    (records : CaptureState) (old new : Devices) (unread : Option (List ℕ)) (failed : ℕ) (part : List ℕ) (fault : RunFault)
+    (records : CaptureState) (old new : Devices) (unread : Option (List ℕ)) (failed : Failures) (part : List ℕ) (fault : RunFault)
     → failed ≡ old.reads_failed → Consumes input unread part → length part ≤ READ_AHEAD → setup ≡ accepted.setup
     → Opened input (unread_input records unread) records.format
     → LeavesPrefix setup trace records fault (record old { unread = unread; reads_failed = failed }) new

@@ -1,7 +1,7 @@
 -- Names of other crates and of the definitions, for the proofs.
 pub use Rattle.box_file.specs.Box.{HasBoxFault, IsBox, PlantTree}
 pub use Rattle.engine.specs.AfterFault.{CountsFault, Devices, LeftDevices, NoneFailed, NothingTaken, RecordsTaken, Untouched, devices, failed_read}
-pub use Rattle.engine.specs.AfterFault.{failed_report, failed_write}
+pub use Rattle.engine.specs.AfterFault.{IsNotAhead, WriterFailed, failed_report, failed_write}
 pub use Rattle.engine.specs.Judged.{JudgeRefuses, Judged}
 pub use Rattle.engine.specs.Meaning.{Accepted, Meaning, WroteOutputs, ending_of}
 pub use Rattle.engine.specs.Refusals.{IsBeforeHeader, IsOfTexts, IsRefusal, IsRefused, Refuses, Spelled, fault_at}
@@ -18,13 +18,14 @@ pub use Rattle.history.specs.History.{Entry, IsEntry, IsNewest, capture_text, li
 pub use Rattle.history.specs.Setup.{Setup}
 pub use Rattle.nft_tree.specs.Tree.{TableTree, table_tree, tables_of}
 pub use Rattle.pcap_io.specs.CaptureStates.{CaptureState, FailsBetween, IsOfRecords, NextAnswers, READ_AHEAD, ReadsRecord, ahead, is_ready}
-pub use Rattle.pcap_io.specs.Counting.{AppendsPrefix, one_more}
+pub use Rattle.pcap_io.specs.Counting.{AppendsPrefix, one_failure}
 pub use Rattle.pcap_io.specs.Pcap.{Captured, Ending, Ends, HEADER_BYTES, IsRecord, Malformed, Over, Pcap, Recorded, Torn, Whole, decoded_after, decoded_records}
 pub use Rattle.pcap_io.specs.Pcap.{format_of, frame, header_fault, own_moment, stream_of}
 pub use Rattle.pcap_io.specs.Sll2.{Sent, sll2_header, sll2_record}
 pub use Rattle.pcap_io.specs.declared.fault.CaptureError.{CaptureError}
 pub use Rattle.pcap_io.specs.declared.fault.CaptureError.TheVariants.{Refused}
 pub use Rattle.pcap_io.specs.declared.fault.CaptureFault.{CaptureFault}
+pub use Rattle.pcap_io.specs.declared.failures.Failures.{Failures}
 pub use Rattle.pcap_io.specs.declared.format.Format.{Format}
 pub use Rattle.pcap_io.specs.steps.Written.{gets_more, gets_none, gets_part, part_after, part_first, part_none, part_same, part_whole}
 pub use Rattle.report.specs.Report.{closing_lines, entry_lines, lines_of, report_text}

@@ -4,8 +4,8 @@ use Rattle.engine.proofs.Names.{Ending, Ends, Entry, Err, FailsBetween, Format, 
 use Rattle.engine.proofs.Names.{Next, NextAnswers, None, Ok, Option, Over, PrefixWritten, READ_AHEAD, ReadsRecord, Recorded, RecordsTaken, Refused, Replay}
 use Rattle.engine.proofs.Names.{ReplayInput, ReplayRepresents, Replayed, Result, Some, TakesRecord, Torn, Whole, [], ahead, ap, append-nil, append_assoc, arith}
 use Rattle.engine.proofs.Names.{decoded_records, drop, ending_at, ending_of, failed_read, failed_write, false, flat_map-append, frame, inl, inr, length}
-use Rattle.engine.proofs.Names.{length-append, max, one_more, own_moment, refl, rules, start_of, stream_of, subst, sym, true, unread_input, ℕ, ◌++◌, ◌∙◌, ◌∷◌}
-use Rattle.engine.proofs.Names.{◌≡◌, ◌≤◌}
+use Rattle.engine.proofs.Names.{length-append, max, one_failure, own_moment, refl, rules, start_of, stream_of, subst, sym, true, unread_input, ℕ, ◌++◌, ◌∙◌, ◌∷◌}
+use Rattle.engine.proofs.Names.{WriterFailed, ◌≡◌, ◌≤◌}
 use Rattle.engine.proofs.Histories.{decoded_more, is_history_more, latest_after, latest_more}
 use Rattle.std.proofs.lemmas.List.Elements.{All-push}
 use Rattle.std.proofs.lemmas.Option.{same_Some}
@@ -74,17 +74,19 @@ so_far {input} {records} {rest} {history} new ahead left is e f =
       is_history = f.is_history;
     }
 
--- it stops where a prefix of the output is written
-pub halted : {input : ReplayInput} {records : List Captured} {history : List Entry} (new : Devices) (failed : ℕ)
+-- it stops where a writer failed, and a prefix of the output is written
+pub halted : {input : ReplayInput} {records : List Captured} {history : List Entry} (old new : Devices)
     (ahead left : List ℕ) → new.unread ≡ Some left → BeginsWithRecords input records (ahead ++ left) history
-    → length ahead ≤ READ_AHEAD → new.reads_failed ≡ failed
-    → PrefixWritten (start_of input) history new.sent new.report → LeavesOf input failed new faults.Device
-halted new failed ahead left is f few none part =
+    → length ahead ≤ READ_AHEAD → new.reads_failed ≡ old.reads_failed → WriterFailed old new
+    → PrefixWritten (start_of input) history new.sent new.report → LeavesOf input old new faults.Device
+halted old new ahead left is f few none failed part =
     failed_write (record {
       taken_so_far = so_far new ahead left is refl f;
       few = few;
       sent = part.part_sent;
       report = part.part_lines;
+      not_ahead = part.not_ahead;
+      failed = failed;
       all_read = none;
     })
 
@@ -192,17 +194,18 @@ module _ {replay : Replay} {new : CaptureState} {input : ReplayInput} {result : 
             replay_represents = t.replay_represents;
           }
 
-      module _ (now : Devices) (failed : ℕ) (is : now.unread ≡ after) (none : now.reads_failed ≡ failed) where
-        -- a prefix of its output is written
-        pub halted_at : IfSome new.last (λ taken. BreaksAtRecord (start_of input) history taken now.sent now.report)
-            → LeavesOf input failed now faults.Device
-        halted_at breaks =
+      module _ (old now : Devices) (is : now.unread ≡ after) (none : now.reads_failed ≡ old.reads_failed) where
+        -- a writer failed, and a prefix of its output is written
+        pub halted_at : WriterFailed old now
+            → IfSome new.last (λ taken. BreaksAtRecord (start_of input) history taken now.sent now.report)
+            → LeavesOf input old now faults.Device
+        halted_at failed breaks =
             let b = IfSome_at new.last _ taken reads.last_is breaks in
             let at = behind b.entry b.next in
-            halted now failed new.held at.left (is ∙ at.is_left) at.follows call.few none b.part
+            halted old now new.held at.left (is ∙ at.is_left) at.follows call.few none failed b.part
 
         -- an allocation failed, and all output before it is written
-        pub lacks : AllWritten (start_of input) history now.sent now.report → LeavesOf input failed now faults.Memory
+        pub lacks : AllWritten (start_of input) history now.sent now.report → LeavesOf input old now faults.Memory
         lacks all =
             inr (record {
               taken_so_far = so_far now (frame reads.captured ++ new.held) left.0 (is ∙ left.1)
@@ -218,10 +221,10 @@ module _ {replay : Replay} {new : CaptureState} {input : ReplayInput} {result : 
             })
 
     -- a read failed, before which all output was written
-    pub cut : (now : Devices) (failed : ℕ) → result ≡ Err errors.Device → now.unread ≡ after
-        → now.reads_failed ≡ one_more failed → new.count ≡ replay.records.count
-        → AllWritten (start_of input) history now.sent now.report → LeavesOf input failed now faults.Device
-    cut now failed went is fails count all =
+    pub cut : (old now : Devices) → result ≡ Err errors.Device → now.unread ≡ after
+        → now.reads_failed ≡ one_failure old.reads_failed → new.count ≡ replay.records.count
+        → AllWritten (start_of input) history now.sent now.report → LeavesOf input old now faults.Device
+    cut old now went is fails count all =
         let b : FailsBetween bytes (ahead new after) new = said (Err errors.Device) went in
         let ends : (torn : Bool) × Ends input.format (ending_of torn) (length known.records) new.held =
         elim (rw (call.kept ∙ known.same, count ∙ known.counted) at b.part) [ inl whole ↦ (false, whole) | inr torn ↦ (true, torn) ] in

@@ -2,10 +2,11 @@
 use Rattle.engine.proofs.Names.{AppendsPrefix, Bool, Capture, CaptureFault, CaptureState, CountsFault, Device, Devices, Ends, Err, FinishFails, HEADER_BYTES}
 use Rattle.engine.proofs.Names.{IsBeforeHeader, IsBegun, IsStop, Keeps, LeavesOf, LeavesPrefix, List, Meaning, None, NoneFailed, OfBegun, OfEach, Ok, Option}
 use Rattle.engine.proofs.Names.{READ_AHEAD, Replay, ReplayInput, Replayed, RunFault, Setup, [], ap, append-nil, arith, capture_text, drop, ending_at, ending_of}
-use Rattle.engine.proofs.Names.{failed_report, inl, input_at, inr, length, one_more, part_none, part_same, refl, report_text, rules, sll2_header, start_of, sym}
-use Rattle.engine.proofs.Names.{torn_at, ℕ, ◌++◌, ◌∙◌, ◌≡◌, ◌≤◌, ◌⊎◌}
+use Rattle.engine.proofs.Names.{failed_report, inl, input_at, inr, length, one_failure, part_none, part_same, refl, report_text, rules, sll2_header, start_of, sym}
+use Rattle.engine.proofs.Names.{Failures, WriterFailed, torn_at, ℕ, ◌++◌, ◌∙◌, ◌≡◌, ◌≤◌, ◌⊎◌}
 use Rattle.engine.proofs.Replays.{halted, none_yet, so_far}
 use Rattle.list_laws.specs.Options.{some_of_map}
+use Rattle.std.proofs.KnownBytes.{Appends-nil}
 use Rattle.pcap_io.specs.declared.sink.SinkError.{SinkError}
 use Rattle.std.proofs.Common.{Result}
 use Rattle.engine.specs.Refusals.{IsOfRecord}
@@ -29,21 +30,53 @@ of_each {trace = trace} old at begun holds rules box capture accepted header unr
 
 -- ---- by the fault
 
+abbrev pub none_failed : Failures
+none_failed = record { count = 0; wrapped = 0 }
+
+-- as many calls had failed as of other devices
+pub leaves_as : (input : ReplayInput) (old other new : Devices) (fault : RunFault) → NoneFailed old other
+    → LeavesOf input other new fault → LeavesOf input old new fault
+leaves_as input old other new fault same h = rw (← same.0, ← same.1, ← same.2) h
+
+-- `Device` behind calls of which none failed, and behind which no read came, is of a writer
+pub writer_failed : (old mid new : Devices) → NoneFailed old mid
+    → CountsFault {T = Bool} (Err Device) (record mid { unread = None; reads_failed = none_failed }) (record new { unread = None; reads_failed = none_failed })
+    → WriterFailed old new
+writer_failed old mid new none (inl (read, _, _)) = absurd (omega (arith, ap (λ (f : Failures). f.count) read))
+writer_failed old mid new none (inr (inl (_, sent, _))) = inl (sent ∙ ap one_failure none.1)
+writer_failed old mid new none (inr (inr (_, _, report))) = inr (report ∙ ap one_failure none.2)
+
+pub writer_failed_at : (fault : RunFault) (old mid new : Devices) → NoneFailed old mid
+    → CountsFault {T = Bool} (Err fault) (record mid { unread = None; reads_failed = none_failed }) (record new { unread = None; reads_failed = none_failed })
+    → fault ≡ Device → WriterFailed old new
+writer_failed_at Device old mid new none h is = writer_failed old mid new none h
+writer_failed_at _ old mid new none h is = absurd cc
+
 -- a fault behind calls of which none failed, and behind which no read came
 pub counts_ending : (fault : RunFault) (old mid new : Devices) → NoneFailed old mid → new.reads_failed ≡ mid.reads_failed
-    → CountsFault {T = Bool} (Err fault) (record mid { unread = None; reads_failed = 0 }) (record new { unread = None; reads_failed = 0 })
+    → CountsFault {T = Bool} (Err fault) (record mid { unread = None; reads_failed = none_failed }) (record new { unread = None; reads_failed = none_failed })
     → CountsFault {T = Summary} (Err fault) old new
-counts_ending fault old mid new none same h = grind arith
+counts_ending Device old mid new none same (inl (read, _, _)) = absurd (omega (arith, ap (λ (f : Failures). f.count) read))
+counts_ending Device old mid new none same (inr (inl (_, sent, report))) =
+    inr (inl (same ∙ none.0, sent ∙ ap one_failure none.1, report ∙ none.2))
+counts_ending Device old mid new none same (inr (inr (_, sent, report))) =
+    inr (inr (same ∙ none.0, sent ∙ none.1, report ∙ ap one_failure none.2))
+counts_ending _ old mid new none same h = (same ∙ none.0, h.1 ∙ none.1, h.2 ∙ none.2)
 
 -- or more of which failed
 pub counts_later : (T S : Type 0) (fault : RunFault) (old mid new : Devices) → NoneFailed old mid
     → CountsFault {T = T} (Err fault) mid new → CountsFault {T = S} (Err fault) old new
-counts_later T S Device old mid new none h = grind arith
+counts_later T S Device old mid new none (inl (read, sent, report)) =
+    inl (read ∙ ap one_failure none.0, sent ∙ none.1, report ∙ none.2)
+counts_later T S Device old mid new none (inr (inl (read, sent, report))) =
+    inr (inl (read ∙ none.0, sent ∙ ap one_failure none.1, report ∙ none.2))
+counts_later T S Device old mid new none (inr (inr (read, sent, report))) =
+    inr (inr (read ∙ none.0, sent ∙ none.1, report ∙ ap one_failure none.2))
 counts_later T S _ old mid new none h = (h.0 ∙ none.0, h.1 ∙ none.1, h.2 ∙ none.2)
 
 -- the output capture couldn't be begun
-pub counts_begun : (error : SinkError) (old : Devices) (w : Option (List ℕ)) (failed : ℕ)
-    → (error ≡ sinks.Device → failed ≡ one_more old.sends_failed) → (error ≡ sinks.Memory → failed ≡ old.sends_failed)
+pub counts_begun : (error : SinkError) (old : Devices) (w : Option (List ℕ)) (failed : Failures)
+    → (error ≡ sinks.Device → failed ≡ one_failure old.sends_failed) → (error ≡ sinks.Memory → failed ≡ old.sends_failed)
     → CountsFault {T = Summary} (Err (of_sink error)) old (record old { sent = w; sends_failed = failed })
 counts_begun sinks.Device old w failed device memory = inr (inl (refl, device refl, refl))
 counts_begun sinks.Memory old w failed device memory = (refl, memory refl, refl)
@@ -59,19 +92,20 @@ of_memory sinks.Memory was is = refl
 
 -- before the first record: a prefix of the header is written, or an allocation failed
 pub fault_leaves_begun : (setup : Setup) (trace : Bool) (s : CaptureState) (old : Devices) (w : Option (List ℕ))
-    (failed : ℕ) (error : SinkError) → length s.held ≤ READ_AHEAD → AppendsPrefix old.sent w sll2_header
-    → (error ≡ sinks.Memory → Keeps old.sent w)
+    (failed : Failures) (error : SinkError) → length s.held ≤ READ_AHEAD → AppendsPrefix old.sent w sll2_header
+    → (error ≡ sinks.Memory → Keeps old.sent w) → (error ≡ sinks.Device → failed ≡ one_failure old.sends_failed)
     → LeavesPrefix setup trace s (of_sink error) old (record old { sent = w; sends_failed = failed })
-fault_leaves_begun setup trace s old w failed sinks.Device few part none =
+fault_leaves_begun setup trace s old w failed sinks.Device few part none device =
     λ rules box capture accepted header unread same is.
     let input = input_at accepted capture header trace (record old { unread = unread }) in
     let l = some_of_map (λ xs. s.held ++ xs) old.unread (drop HEADER_BYTES capture) is in
-    inl (halted {input = input} (record old { sent = w; sends_failed = failed }) old.reads_failed s.held l.0 l.1
-    (none_yet input (s.held ++ l.0) l.2) few refl (record {
+    inl (halted {input = input} old (record old { sent = w; sends_failed = failed }) s.held l.0 l.1
+    (none_yet input (s.held ++ l.0) l.2) few refl (inl (device refl)) (record {
       part_sent = part_same old.sent w sll2_header (capture_text []) part (sym (append-nil sll2_header));
       part_lines = part_none old.report [];
+      not_ahead = inl (Appends-nil old.report);
     }))
-fault_leaves_begun setup trace s old w failed sinks.Memory few part none = grind arith
+fault_leaves_begun setup trace s old w failed sinks.Memory few part none device = grind arith
 
 -- ---- the records stop
 
@@ -107,11 +141,12 @@ module _ {replay : Replay} {input : ReplayInput} {unread w r : Option (List ℕ)
 
 -- a fault comes then
 pub fault_leaves_ended : {replay : Replay} {input : ReplayInput} {w r : Option (List ℕ)} (stop : Option CaptureFault)
-    (new : Devices) (failed before : ℕ) (fault : RunFault) → IsStop stop → new.reads_failed ≡ failed
-    → before ≡ input.before.reports_failed → (i : Replayed replay input (ending_at stop) new.unread w r)
+    (old new : Devices) (before : Failures) (fault : RunFault) → IsStop stop → new.reads_failed ≡ old.reads_failed
+    → before ≡ old.reports_failed → (fault ≡ Device → WriterFailed old new)
+    → (i : Replayed replay input (ending_at stop) new.unread w r)
     → FinishFails (start_of input) i.history stop new.sent new.report before new.reports_failed fault
-    → LeavesOf input failed new fault
-fault_leaves_ended stop new failed before (Capture fault) is none same i e =
+    → LeavesOf input old new fault
+fault_leaves_ended stop old new before (Capture fault) is none same failed i e =
     inr (record {
       taken_so_far = so_far new i.ahead i.left i.is_left refl i.follows;
       few = i.few;
@@ -122,8 +157,9 @@ fault_leaves_ended stop new failed before (Capture fault) is none same i e =
       report = e.1.all_lines;
       all_read = none;
     })
-fault_leaves_ended stop new failed before Device is none same i (inl part) = grind (arith, halted, i.ahead, i.left, i.is_left, i.follows, i.few)
-fault_leaves_ended stop new failed before Device is none same i (inr u) =
+fault_leaves_ended stop old new before Device is none same failed i (inl part) =
+    halted old new i.ahead i.left i.is_left i.follows i.few none (failed refl) part
+fault_leaves_ended stop old new before Device is none same failed i (inr u) =
     failed_report (record {
       taken_so_far = so_far new i.ahead i.left i.is_left refl i.follows;
       few = i.few;
@@ -131,6 +167,6 @@ fault_leaves_ended stop new failed before Device is none same i (inr u) =
       ends = ends_so stop i u.0 u.1;
       sent = u.2.0;
       report = u.2.1;
-      failed = u.3 ∙ ap one_more same;
+      failed = u.3 ∙ ap one_failure same;
     })
-fault_leaves_ended stop new failed before _ is none same i e = absurd e
+fault_leaves_ended stop old new before _ is none same failed i e = absurd e

@@ -4,6 +4,7 @@ use Rattle.engine.proofs.Names.{IsNewest, Keeps, List, Next, None, Option, Prefi
 use Rattle.engine.proofs.Names.{Setup, Some, TableTree, TakesRecord, [], ap, append-nil, capture_text, closing_lines, entry_lines, flat_map, gets_more}
 use Rattle.engine.proofs.Names.{gets_part, length, lines_of, live_in, part_after, part_first, part_same, part_whole, report_text, rules, sends, sends_of}
 use Rattle.engine.proofs.Names.{sll2_record, subst, sym, ℕ, ◌++◌, ◌∙◌, ◌∷◌, ◌≡◌}
+use Rattle.engine.proofs.Names.{IsNotAhead, append_assoc, inl, inr, refl}
 use Rattle.std.proofs.Common.{arith}
 use Rattle.engine.proofs.Histories.{captured_more}
 use Rattle.std.proofs.lemmas.Option.{IfSome_then}
@@ -27,6 +28,52 @@ pub lines_part : (a b c : Option (List ℕ)) (lines text : List ℕ) → Appends
 lines_part a b c lines text before (rest, whole, after) =
     part_same a c (lines ++ rest) text (part_after a b c lines rest before after) whole
 
+-- ---- the report isn't ahead of the capture
+
+-- nor when more of the capture is written
+pub sent_on : {rules : List TableTree} {trace : Bool} {history : List Entry} (before w w' report r : Option (List ℕ))
+    (part : List ℕ) → Appends w w' part → IsNotAhead rules trace history before w report r
+    → IsNotAhead rules trace history before w' report r
+sent_on before w w' report r part sent (inl none) = inl none
+sent_on before w w' report r part sent (inr b) =
+    inr (record {
+      later = b.later;
+      reported = b.reported;
+      joined = b.joined;
+      lines = b.lines;
+      more = b.more ++ part;
+      packets = subst (Appends before w') (append_assoc (capture_text b.reported) b.more part)
+          (Appends-trans before w w' (capture_text b.reported ++ b.more) part b.packets sent);
+    })
+
+-- nor when there is one more record
+pub record_on : {rules : List TableTree} {trace : Bool} {history : List Entry} (e : Entry) (before w report r : Option (List ℕ))
+    → IsNotAhead rules trace history before w report r → IsNotAhead rules trace (e ∷ history) before w report r
+record_on e before w report r (inl none) = inl none
+record_on e before w report r (inr b) =
+    inr (record {
+      later = e ∷ b.later;
+      reported = b.reported;
+      joined = ap (λ h. e ∷ h) b.joined;
+      lines = b.lines;
+      more = b.more;
+      packets = b.packets;
+    })
+
+-- where the capture has all packets
+pub all_packets : {rules : List TableTree} {trace : Bool} {history : List Entry} (before w report r : Option (List ℕ))
+    → Appends before w (capture_text history) → AppendsPrefix report r (entry_lines rules trace history)
+    → IsNotAhead rules trace history before w report r
+all_packets {history = history} before w report r sent lines =
+    inr (record {
+      later = [];
+      reported = history;
+      joined = refl;
+      lines = lines;
+      more = [];
+      packets = subst (Appends before w) (sym (append-nil (capture_text history))) sent;
+    })
+
 -- ---- the outputs of a history, by calls of the writers
 
 module _ (start : ReplayStart) (history : List Entry) where
@@ -38,6 +85,7 @@ module _ (start : ReplayStart) (history : List Entry) where
   prefix_written w r all = record {
     part_sent = part_whole start.sent w (capture_text history) all.all_sent;
     part_lines = part_whole start.report r lines all.all_lines;
+    not_ahead = all_packets start.sent w start.report r all.all_sent (part_whole start.report r lines all.all_lines);
   }
 
   -- what is written stays so
@@ -57,6 +105,7 @@ module _ (start : ReplayStart) (history : List Entry) where
             (part_first start.sent w (capture_text history) (flat_map sll2_record (sends e)) p.part_sent);
         part_lines = part_first start.report r lines (lines_of start.setup.rules start.trace (length (e ∷ history)) e)
             p.part_lines;
+        not_ahead = record_on e start.sent w start.report r p.not_ahead;
       }
 
   -- a record wasn't processed, and a prefix of the history's output is written
@@ -127,6 +176,7 @@ module _ {replay : Replay} {start : ReplayStart} {history : List Entry} {w r : O
       part_sent = part_same start.sent w' (p.gets.0 ++ replay.sink.buffered) (capture_text history)
           (part_after start.sent w w' p.gets.0 replay.sink.buffered p.gets.2 part) (sym p.gets.1);
       part_lines = lines_so_far;
+      not_ahead = sent_on start.sent w w' start.report r part.0 part.3 p.not_ahead;
     }
 
     -- the report's did
@@ -135,12 +185,12 @@ module _ {replay : Replay} {start : ReplayStart} {history : List Entry} {w r : O
         → ((trace : Bool) (history : List Entry) (lines : List ℕ) → IsReportOf replay.numbers rules trace history lines
         → AppendsRestPrefix r r' lines (entry_lines rules trace history)) → PrefixWritten start history w' r'
     part_undrained rules w' r' e sent drains =
+        let lines = lines_part start.report r r' p.lines (entry_lines start.setup.rules start.trace history) p.appends_report
+        (drained (λ rules trace history lines. AppendsRestPrefix r r' lines (entry_lines rules trace history)) rules e drains) in
         record {
           part_sent = part_whole start.sent w' (capture_text history) (all_sent w' sent);
-          part_lines = lines_part start.report r r' p.lines (entry_lines start.setup.rules start.trace history)
-              p.appends_report
-              (drained (λ rules trace history lines. AppendsRestPrefix r r' lines (entry_lines rules trace history))
-              rules e drains);
+          part_lines = lines;
+          not_ahead = all_packets start.sent w' start.report r' (all_sent w' sent) lines;
         }
 
     -- neither did
@@ -168,6 +218,8 @@ module _ {replay : Replay} {start : ReplayStart} {history : List Entry} {w r : O
             lines = entry_lines start.setup.rules start.trace history;
             reports = now.1;
             appends_report = lines;
+            not_ahead = all_packets start.sent w' start.report r' (all_sent w' sent)
+                (part_whole start.report r' (entry_lines start.setup.rules start.trace history) lines);
           },
           record { all_sent = all_sent w' sent; all_lines = lines },
         )
@@ -200,6 +252,7 @@ module _ {replay : Replay} {start : ReplayStart} {history : List Entry} {w r : O
           lines = p.lines;
           reports = let h = p.reports in rw is (search rules);
           appends_report = p.appends_report;
+          not_ahead = p.not_ahead;
         }
 
     next_as : (taken : Recorded) (e : Entry) → Next replay.engine.setup history taken e
@@ -217,6 +270,7 @@ module _ {replay : Replay} {start : ReplayStart} {history : List Entry} {w r : O
       part = part_more start history (entries taken).0 w r (record {
         part_sent = (p.gets.0, replay.sink.buffered, p.gets.1, p.gets.2);
         part_lines = lines_so_far;
+        not_ahead = p.not_ahead;
       });
     }
 
@@ -244,6 +298,8 @@ module _ {replay : Replay} {start : ReplayStart} {history : List Entry} {w r : O
                     (ap (λ xs. capture_text history ++ xs) (sym (append-nil (sll2_record s))) ∙ sent_by (s ∷ []) is);
                 part_lines = part_first start.report r (entry_lines start.setup.rules start.trace history)
                     (lines_of start.setup.rules start.trace (length (t.0 ∷ history)) t.0) lines_so_far;
+                not_ahead = record_on t.0 start.sent w' start.report r
+                    (sent_on start.sent w w' start.report r part.0 part.3 p.not_ahead);
               };
             }
 
@@ -269,5 +325,7 @@ module _ {replay : Replay} {start : ReplayStart} {history : List Entry} {w r : O
                     reports = noted start.setup.rules start.trace history p.lines t.0 p.reports
                         (newest (t.0 ∷ history) t.2);
                     appends_report = p.appends_report;
+                    not_ahead = record_on t.0 start.sent w' start.report r
+                        (sent_on start.sent w w' start.report r gets.0 gets.2 p.not_ahead);
                   };
                 }

@@ -8,8 +8,10 @@ use Rattle.pcap_io.specs.Pcap.{Captured, IsRecord, Ending, Ends, format_of, fram
 use Rattle.pcap_io.specs.Pcap.{decoded_records}
 use Rattle.pcap_io.specs.Pcap.{HEADER_BYTES, MOST_RECORDS}
 use Rattle.pcap_io.specs.CaptureStates.{READ_AHEAD}
-use Rattle.pcap_io.specs.Counting.{AppendsPrefix, one_more}
+use Rattle.pcap_io.specs.Counting.{AppendsPrefix, one_failure}
 use Rattle.pcap_io.specs.declared.counted.Counted.{Counted}
+use Rattle.pcap_io.specs.declared.failures.Failures.{Failures}
+use Rattle.nft_tree.specs.Tree.{TableTree}
 use Rattle.history.specs.History.{Entry, capture_text}
 use Rattle.report.specs.Report.{entry_lines, report_text}
 use Rattle.stepping.specs.Next.{IsHistoryOf}
@@ -23,9 +25,9 @@ pub record Devices : Type 0 where
   pub unread : Option (List ℕ)
   pub sent : Option (List ℕ)
   pub report : Option (List ℕ)
-  pub reads_failed : ℕ
-  pub sends_failed : ℕ
-  pub reports_failed : ℕ
+  pub reads_failed : Failures
+  pub sends_failed : Failures
+  pub reports_failed : Failures
 
 -- of a reader and two writers that count their calls, by what each has left or holds
 abbrev pub devices : {R W W2 : Type 0} → (R → Option (List ℕ)) → (W → Option (List ℕ))
@@ -54,7 +56,7 @@ pub record FailedHeaderRead (rules box capture : List ℕ) (old new : Devices) :
   pub joined : capture ≡ part ++ left
   pub short : length part < HEADER_BYTES
   pub untouched : Untouched old new
-  pub failed : new.reads_failed ≡ one_more old.reads_failed
+  pub failed : new.reads_failed ≡ one_failure old.reads_failed
 
 -- no record was processed, though bytes may have been read ahead; no read failed, and nothing was written
 pub record NothingTaken (capture : List ℕ) (old new : Devices) : Type 0 where
@@ -84,14 +86,39 @@ pub record RecordsTaken (rules box capture : List ℕ) (new : Devices) : Type 0 
   pub history : List Entry
   pub is_history : IsHistoryOf accepted.setup [] (decoded_records format records) history
 
--- each writer got a prefix of its text for the records so far, the report without counters and totals; no
--- read failed
+-- the report has lines of the first records alone, all of whose packets were written to the capture
+pub record ReportsSent (rules : List TableTree) (trace : Bool) (history : List Entry)
+    (sent sent_now report report_now : Option (List ℕ))
+    : Type 0 where
+  pub later : List Entry
+  pub reported : List Entry
+  pub joined : history ≡ later ++ reported
+  pub lines : AppendsPrefix report report_now (entry_lines rules trace reported)
+  pub more : List ℕ
+  pub packets : Appends sent sent_now (capture_text reported ++ more)
+
+-- the report isn't ahead of the capture: it has no line, or lines of such records
+abbrev pub IsNotAhead : List TableTree → Bool → List Entry → (sent sent_now report report_now : Option (List ℕ))
+    → Type 0
+IsNotAhead rules trace history sent sent_now report report_now = Appends report report_now []
+    ⊎ ReportsSent rules trace history sent sent_now report report_now
+
+-- exactly one call of one of the writers failed
+abbrev pub WriterFailed : Devices → Devices → Type 0
+WriterFailed old new = (new.sends_failed ≡ one_failure old.sends_failed)
+    ⊎ (new.reports_failed ≡ one_failure old.reports_failed)
+
+-- a writer failed. Each got a prefix of its text for the records so far, the report without counters and
+-- totals, and the report isn't ahead of the capture; no read failed
 pub record FailedWrite (rules box capture : List ℕ) (trace : Bool) (old new : Devices) : Type 0 where
   pub taken_so_far : RecordsTaken rules box capture new
   pub few : length taken_so_far.ahead ≤ READ_AHEAD
   pub sent : AppendsPrefix old.sent new.sent (capture_text taken_so_far.history)
   pub report : AppendsPrefix old.report new.report (entry_lines taken_so_far.accepted.setup.rules trace
       taken_so_far.history)
+  pub not_ahead : IsNotAhead taken_so_far.accepted.setup.rules trace taken_so_far.history old.sent new.sent
+      old.report new.report
+  pub failed : WriterFailed old new
   pub all_read : new.reads_failed ≡ old.reads_failed
 
 -- a read failed among the records: the records before it are processed, and both outputs of them are
@@ -104,7 +131,7 @@ pub record FailedRead (rules box capture : List ℕ) (trace : Bool) (old new : D
   pub sent : Appends old.sent new.sent (capture_text taken_so_far.history)
   pub report : Appends old.report new.report (entry_lines taken_so_far.accepted.setup.rules trace
       taken_so_far.history)
-  pub failed : new.reads_failed ≡ one_more old.reads_failed
+  pub failed : new.reads_failed ≡ one_failure old.reads_failed
 
 -- an allocation failed at a record: both outputs of the records before it are written, but for counters and
 -- totals; no read failed
@@ -146,7 +173,7 @@ pub record FailedReport (rules box capture : List ℕ) (trace : Bool) (old new :
   pub sent : Appends old.sent new.sent (capture_text taken_so_far.history)
   pub report : AppendsPrefix old.report new.report (report_text taken_so_far.accepted.setup trace
       taken_so_far.history torn)
-  pub failed : new.reports_failed ≡ one_more old.reports_failed
+  pub failed : new.reports_failed ≡ one_failure old.reports_failed
 
 -- ---- by the fault
 
@@ -182,12 +209,12 @@ NoneFailed old new = (new.reads_failed ≡ old.reads_failed) × (new.sends_faile
 -- exactly one of the three counts rose, by one
 abbrev pub OneFailed : Devices → Devices → Type 0
 OneFailed old new =
-    ((new.reads_failed ≡ one_more old.reads_failed) × (new.sends_failed ≡ old.sends_failed)
+    ((new.reads_failed ≡ one_failure old.reads_failed) × (new.sends_failed ≡ old.sends_failed)
     × (new.reports_failed ≡ old.reports_failed))
-    ⊎ (((new.reads_failed ≡ old.reads_failed) × (new.sends_failed ≡ one_more old.sends_failed)
+    ⊎ (((new.reads_failed ≡ old.reads_failed) × (new.sends_failed ≡ one_failure old.sends_failed)
     × (new.reports_failed ≡ old.reports_failed))
     ⊎ ((new.reads_failed ≡ old.reads_failed) × (new.sends_failed ≡ old.sends_failed)
-    × (new.reports_failed ≡ one_more old.reports_failed)))
+    × (new.reports_failed ≡ one_failure old.reports_failed)))
 
 -- `Device` is exactly one failed call; otherwise none failed
 abbrev pub CountsFault : {T : Type 0} → Result T RunFault → Devices → Devices → Type 0

@@ -1,4 +1,5 @@
 pub mod Meaning
+pub mod Words
 pub mod Refusals
 pub mod Judged
 pub mod AfterFault

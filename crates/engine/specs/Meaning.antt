@@ -41,8 +41,8 @@ pub record WroteOutputs (rules box capture : List ℕ) (trace : Bool) (count : �
   pub sent : List ℕ
   pub report : List ℕ
   pub meaning : Meaning rules box capture trace count torn sent report
-  pub only : (others : ℕ) (other_torn : Bool) (capture_text report_text : List ℕ)
-      → Meaning rules box capture trace others other_torn capture_text report_text
-      → (others ≡ count) × (other_torn ≡ torn) × (capture_text ≡ sent) × (report_text ≡ report)
+  pub only : (others : ℕ) (other_torn : Bool) (other_sent other_report : List ℕ)
+      → Meaning rules box capture trace others other_torn other_sent other_report
+      → (others ≡ count) × (other_torn ≡ torn) × (other_sent ≡ sent) × (other_report ≡ report)
   pub appends : Appends old new sent
   pub appends_report : Appends old_report new_report report

@@ -4,37 +4,94 @@ use nft_parser::{ParseError, TextFault};
 use pcap_io::{CaptureError, CaptureFault, DeviceFailed, SinkError};
 use rule_check::{CheckError, CheckFault};
 use std::alloc::AllocError;
+use std::fmt;
 use thiserror::Error;
 
 /// Why a ruleset is refused.
 #[derive(Clone, Copy, Debug, Drop, Error)]
 pub enum RulesFault {
     /// Its text doesn't parse.
-    #[error("{0}")]
     Text(TextFault),
     /// The parsed ruleset fails a check on the box.
-    #[error("{0}")]
     Check(CheckFault),
+}
+
+impl RulesFault {
+    ghost use Rattle.std.specs.Prelude.{◌≡◌};
+    ghost use Rattle.engine.specs.Words.{rules_code};
+
+    /// Its code, as printed.
+    pub fn code(self) -> &'static str
+        ensures { result.now ≡ rules_code self }
+    {
+        match self {
+            Self::Text(fault) => fault.code(),
+            Self::Check(fault) => fault.code(),
+        }
+    }
+}
+
+/// Writes the code.
+impl fmt::Display for RulesFault {
+    ghost use Rattle.std.specs.Prelude.{Some};
+    ghost use Rattle.engine.specs.Words.{rules_code};
+
+    ghost output = { λ fault. Some (rules_code fault) };
+
+    fn fmt<W: fmt::Write>(&self, f: &mut fmt::Formatter<W>) -> fmt::Result {
+        f.write_str(self.code())
+    }
 }
 
 /// Why a run failed.
 #[derive(Clone, Copy, Debug, Drop, Error)]
 pub enum RunFault {
     /// The ruleset is refused.
-    #[error("rules {0}")]
     Rules(RulesFault),
     /// The box file is refused.
-    #[error("box {0}")]
     Box(BoxFault),
     /// The capture is refused.
-    #[error("capture {0}")]
     Capture(CaptureFault),
     /// A read or a write failed.
-    #[error("device")]
     Device,
     /// An allocation failed.
-    #[error("memory")]
     Memory,
+}
+
+impl RunFault {
+    ghost use Rattle.std.specs.Prelude.{◌≡◌};
+    ghost use Rattle.engine.specs.Words.{word_of};
+
+    /// The word for what is refused or failed, as printed before a code.
+    pub fn word(self) -> &'static str
+        ensures { result.now ≡ word_of self }
+    {
+        match self {
+            Self::Rules(_) => "rules",
+            Self::Box(_) => "box",
+            Self::Capture(_) => "capture",
+            Self::Device => "device",
+            Self::Memory => "memory",
+        }
+    }
+}
+
+/// Writes the word, and the code where there is one.
+impl fmt::Display for RunFault {
+    ghost use Rattle.std.specs.Prelude.{Some};
+    ghost use Rattle.engine.specs.Words.{printed};
+
+    ghost output = { λ fault. Some (printed fault) };
+
+    fn fmt<W: fmt::Write>(&self, f: &mut fmt::Formatter<W>) -> fmt::Result {
+        let word = self.word();
+        match self {
+            Self::Rules(fault) => write!(f, "{word} {fault}"),
+            Self::Box(fault) => write!(f, "{word} {fault}"),
+            Self::Capture(fault) => write!(f, "{word} {fault}"),
+            Self::Device | Self::Memory => f.write_str(word),
+        }
+    }
 }
 
 impl From<ParseError> for RunFault {

@@ -1,17 +1,18 @@
 //! Laws of the meaning, each the contract of a function that does nothing: two texts and a capture
-//! have one meaning or one refusal, never both; and two texts have one judgement or one fault,
-//! never both.
+//! have one meaning or one refusal, never both; two texts have one judgement or one fault, never
+//! both; and one call failed or none did.
 ghost use Rattle.std.specs.Prelude.{◌≡◌, ◌⊎◌, List, ℕ, Bool, Some};
 ghost use Rattle.engine.specs.declared.fault.RunFault.{RunFault};
 ghost use Rattle.engine.specs.declared.judging.Counts.{Counts};
 ghost use Rattle.engine.specs.Judged.{Judged, JudgeRefuses};
 ghost use Rattle.engine.specs.Meaning.{Meaning};
+ghost use Rattle.engine.specs.AfterFault.{Devices, NoneFailed, OneFailed};
 ghost use Rattle.engine.specs.Refusals.{IsOfTexts, IsRefusal, Refuses};
 ghost use Rattle.engine.specs.steps.Inputs.{Laws};
 
 use box_file::{one_box, some_box};
 use nft_parser::{one_fault, one_tree};
-use pcap_io::{one_reading, some_reading};
+use pcap_io::{failure_shows, one_reading, some_reading};
 use rule_check::{least_fault_unique, well_formed_or_least_fault};
 use stepping::one_entry;
 
@@ -90,4 +91,11 @@ pub fn some_judging()
     nft_parser::some_answer();
     some_box();
     well_formed_or_least_fault();
+}
+
+/// One call failed or none did, never both, however many had failed before.
+pub fn failed_or_not()
+    ensures { (old new : Devices) → OneFailed old new → NoneFailed old new → ⊥ }
+{
+    failure_shows();
 }

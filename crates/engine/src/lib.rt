@@ -12,6 +12,9 @@ pub use fault::{RulesFault, RunFault};
 // What a caller of single steps needs: the engine, what became of a record, and its entry.
 pub use history::{Entry, Outcome as Passed};
 pub use judging::{Counts, judge};
-pub use laws::{no_meaning, one_judging, one_meaning, one_refusal, some_answer, some_judging};
+pub use laws::{
+    failed_or_not, no_meaning, one_judging, one_meaning, one_refusal, some_answer, some_judging,
+};
 pub use runs::{Summary, run};
+pub use std::alloc::AllocError as Memory;
 pub use stepping::Engine;

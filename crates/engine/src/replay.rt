@@ -1,8 +1,8 @@
 //! Replays the records of a capture.
-ghost use Rattle.std.specs.Prelude.{◌≡◌, ◌≢◌, ◌<◌, ◌+◌, ◌⊎◌, [], Bool, true, false, Ok, Err, None, IfOk, IfErr};
+ghost use Rattle.std.specs.Prelude.{◌≡◌, ◌≢◌, ◌<◌, ◌≤◌, ◌+◌, ◌⊎◌, [], length, Bool, true, false, Ok, Err, None, IfOk, IfErr};
 ghost use Rattle.std.specs.Prelude.{IsErrOf, OnOk, OnErr, MatchResult};
 ghost use Rattle.std.specs.Io.KnownBytes.{IsAtEnd};
-ghost use Rattle.pcap_io.specs.Counting.{AppendsPrefix, one_more};
+ghost use Rattle.pcap_io.specs.Counting.{AppendsPrefix, one_failure};
 ghost use Rattle.pcap_io.specs.CaptureStates.{is_ready};
 ghost use Rattle.pcap_io.specs.Sll2.{sll2_header};
 ghost use Rattle.pcap_io.specs.declared.sink.SinkError.{SinkError};
@@ -19,7 +19,7 @@ use crate::fault::RunFault;
 use crate::runs::Summary;
 use aged_tracker::AgedTracker;
 use pcap_io::{Capture, CaptureError, CaptureFault, Counted, DeviceFailed, Sink, SinkError};
-use report::Report;
+use report::{MOST_NOTES, Report};
 use std::alloc::Global;
 use std::io::{Read, Write};
 use stepping::{Engine, one_entry};
@@ -99,14 +99,14 @@ impl Replay {
     ) -> Result<Self, SinkError>
         requires represents { Represents engine [] }
         ensures same { IfOk result (λ replay. (replay.engine ≡ engine) × (replay.records ≡ records)
-            × (replay.numbers.records ≡ 0)) }
+            × (replay.numbers.records ≡ 0) × (replay.numbers.notes ≡ [])) }
         ensures begun { IfOk result (λ replay. IsBegun replay engine.setup trace
             (W.contents sent.old.inner) (W.contents sent.new.inner)) }
         ensures part { OnErr result (AppendsPrefix (W.contents sent.old.inner)
             (W.contents sent.new.inner) sll2_header) }
         ensures no_failure { OnOk result (sent.new.failures ≡ sent.old.failures) }
         ensures device { IsErrOf result SinkError.Device
-            → sent.new.failures ≡ one_more sent.old.failures }
+            → sent.new.failures ≡ one_failure sent.old.failures }
         ensures memory { IsErrOf result SinkError.Memory → sent.new ≡ sent.old }
     {
         let numbers = Report::new(alloc, engine.rules(), trace)?;
@@ -133,6 +133,7 @@ impl Replay {
     ) -> Result<Option<CaptureFault>, RunFault>
         requires opened { IsOpened self.old.records (R.remaining capture.old.inner) }
         requires none { self.old.numbers.records ≡ 0 }
+        requires empty { self.old.numbers.notes ≡ [] }
         requires represents { Represents self.old.engine [] }
         ensures replayed { ReplaysAll self.old self.new result
             (devices R.remaining W.contents W2.contents capture.old sent.old report.old)
@@ -146,6 +147,8 @@ impl Replay {
         ensures failures { CountsFault result
             (devices R.remaining W.contents W2.contents capture.old sent.old report.old)
             (devices R.remaining W.contents W2.contents capture.new sent.new report.new) }
+        // However long nothing is read, few notes are pending.
+        ensures pending { length self.new.numbers.notes ≤ MOST_PENDING + MOST_NOTES }
     {
         'each: loop {
             self.flush_before_read(sent, report)?;
@@ -182,6 +185,8 @@ impl Replay {
             (writers W.contents W2.contents sent.new report.new)) }
         ensures same { (self.new.engine ≡ self.old.engine) × (self.new.records ≡ self.old.records)
             × (self.new.numbers.records ≡ self.old.numbers.records) }
+        ensures pending { MatchResult result (λ _. length self.new.numbers.notes ≤ MOST_PENDING)
+            (λ _. length self.new.numbers.notes ≤ length self.old.numbers.notes) }
         ensures failures { CountsFailedWrite result
             (writers W.contents W2.contents sent.old report.old)
             (writers W.contents W2.contents sent.new report.new) }
@@ -207,6 +212,7 @@ impl Replay {
             (writers W.contents W2.contents sent.new report.new)) }
         ensures flushed { OnOk result (AllFlushed sent.new report.new) }
         ensures records { self.new.numbers.records ≡ self.old.numbers.records }
+        ensures pending { length self.new.numbers.notes ≤ length self.old.numbers.notes }
         ensures failures { CountsFailedWrite result
             (writers W.contents W2.contents sent.old report.old)
             (writers W.contents W2.contents sent.new report.new) }
@@ -236,8 +242,10 @@ impl Replay {
         ensures counted { result ≡ Ok true → (self.new.engine.records ≡ self.old.engine.records + 1)
             × (self.new.numbers.records ≡ self.old.numbers.records + 1) }
         ensures same { self.new.records ≡ self.old.records }
+        ensures pending { length self.new.numbers.notes
+            ≤ length self.old.numbers.notes + MOST_NOTES }
         ensures no_failure { OnOk result (sent.new.failures ≡ sent.old.failures) }
-        ensures device { OnErr result (sent.new.failures ≡ one_more sent.old.failures) }
+        ensures device { OnErr result (sent.new.failures ≡ one_failure sent.old.failures) }
     {
         // A record that can't be processed has an entry too.
         one_entry();

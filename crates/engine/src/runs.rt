@@ -90,6 +90,6 @@ pub fn run<R: Read, W: Write, W2: Write>(
     let checked = checked(alloc, rules, plant)?;
     let records = Capture::open(alloc, capture)?;
     one_meaning();
-    let engine = Engine::new(alloc, hasher, checked)?;
+    let engine = Engine::with_hasher(alloc, hasher, checked)?;
     replay_capture(alloc, engine, records, trace, capture, sent, report)
 }

@@ -2,16 +2,17 @@
 ghost use Rattle.std.specs.Prelude.{◌≡◌, ◌≤◌, ◌<◌, ◌+◌, ◌-◌, ◌^◌, ◌++◌, ◌∷◌, [], IfOk, vec_capacity, length, min};
 ghost use Rattle.filter_vm.specs.Machine.{EventsAndTicks};
 
+use crate::code::Code;
+use nft_tree::Memory;
 use rule_meaning::Event;
-use std::alloc::{AllocError, Global};
+use std::alloc::Global;
 use std::marker::Model;
 
 /// The most events that rules record for one packet: as many as the limit on a ruleset's cost.
 pub const MOST_EVENTS: usize = 65_536;
 
-/// The events of the current record, in order, and how many statements were started since `new`,
-/// over all records. The count never falls and saturates at 2^64 - 1. Memory is reserved once, by
-/// `new`.
+/// The events of the current record, in order, and how many statements were started since `new`
+/// or the last `clear`. The count saturates at 2^64 - 1. Memory is reserved once, by `new`.
 #[derive(Drop)]
 pub struct Events {
     list: Vec<Event>,
@@ -27,11 +28,11 @@ impl Model for Events {
 }
 
 impl Events {
-    /// No events, with memory for 65,536.
+    /// No events, with memory for 65,536: as many as the code of any ruleset records for a packet.
     ///
     /// # Errors
-    /// `AllocError` where that memory can't be had.
-    pub fn new(alloc: Global) -> Result<Events, AllocError>
+    /// `Memory` where that memory can't be had.
+    pub fn new(alloc: Global, _code: &Code) -> Result<Events, Memory>
         ensures { IfOk result (λ events. events ≡ record { events = []; ticks = 0 }) }
     {
         let list = Vec::with_capacity(alloc, MOST_EVENTS)?;
@@ -52,8 +53,17 @@ impl Events {
         self.ticks
     }
 
-    /// Removes the events. The reserved memory and the count of statements stay.
+    /// Removes the events, and sets the count of statements to 0. The reserved memory stays.
     pub fn clear(&mut self)
+        ensures { self.new ≡ record { events = []; ticks = 0 } }
+    {
+        self.list.clear();
+        self.ticks = 0;
+    }
+
+    /// Removes the events. The reserved memory and the count of statements stay, so that chains that
+    /// run twice are counted twice.
+    pub fn clear_list(&mut self)
         ensures { self.new ≡ record self.old { events = [] } }
     {
         self.list.clear();

@@ -11,3 +11,6 @@ mod stack;
 pub use code::{Code, Start};
 pub use events::Events;
 pub use machine::{run, run_in_place};
+pub use nft_tree::Memory;
+pub use rule_index::CodeSize;
+pub use rule_meaning::{ChainResult as Outcome, Facts};

@@ -10,11 +10,12 @@ use Rattle.filter_vm.specs.declared.code.Code.{Code}
 use Rattle.filter_vm.specs.declared.code.Start.{Start}
 use Rattle.compiler.specs.Compiled.{start_cost, total_cost}
 use Rattle.rule_meaning.specs.Hooks.{BaseChain, base_chains_of}
-use Rattle.hook_runs.specs.declared.stages.HookStage.{HookStage}
-use Rattle.hook_runs.specs.declared.stages.HookStage.TheVariants as stages
+use Rattle.rule_meaning.specs.declared.stage.HookStage.{HookStage}
+use Rattle.rule_meaning.specs.declared.stage.HookStage.TheVariants as stages
 use Rattle.hook_runs.specs.declared.stages.StagedChains.{StagedChains}
 use Rattle.nft_tree.specs.Priorities.{DSTNAT, SRCNAT}
-use Rattle.hook_runs.specs.Stages.{chains_in_stage, stage_cost, total_stage_cost}
+use Rattle.rule_meaning.specs.Hooks.{chains_in_stage}
+use Rattle.hook_runs.specs.Stages.{stage_cost, total_stage_cost}
 use Rattle.hook_runs.specs.StageCode.{AreStarts, AreStartsOf}
 use Rattle.hook_runs.specs.steps.Starts.{AreStagedChains, cost_of, after_conntrack, costed_tree, staged_starts}
 use Rattle.hook_runs.specs.steps.Starts.{after, before, filter_starts, is_filter, is_nat_start, starts_before, nat_starts}

@@ -3,8 +3,8 @@ use Rattle.std.proofs.Common.{◌≡◌, Bool, not, ◌&&◌, List, [], ◌++◌
 use Rattle.nft_tree.specs.Priorities.{DSTNAT, SRCNAT}
 use Rattle.filter_vm.specs.declared.code.Code.{Code}
 use Rattle.filter_vm.specs.declared.code.Start.{Start}
-use Rattle.hook_runs.specs.declared.stages.HookStage.{HookStage}
-use Rattle.hook_runs.specs.declared.stages.HookStage.TheVariants as stages
+use Rattle.rule_meaning.specs.declared.stage.HookStage.{HookStage}
+use Rattle.rule_meaning.specs.declared.stage.HookStage.TheVariants as stages
 use Rattle.hook_runs.specs.Stages.{StageStarts, stage_starts}
 use Rattle.hook_runs.specs.steps.Starts.{is_filter, is_in_stage, starts_before, starts_of_stage}
 use Rattle.hook_runs.proofs.Orders.{filter_twice}

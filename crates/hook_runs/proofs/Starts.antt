@@ -20,11 +20,11 @@ use Rattle.filter_vm.specs.Machine.{starts_of, base_chain_result}
 use Rattle.nft_tree.specs.Tree.{TableTree}
 use Rattle.rule_paths.specs.Paths.{AreAllCosts, Caller}
 use Rattle.compiler.specs.Compiled.{StartHead, HasStarts, AgreesWithRules, start_cost, start_head, base_chain_head}
-use Rattle.hook_runs.specs.declared.stages.HookStage.{HookStage}
-use Rattle.hook_runs.specs.declared.stages.HookStage.TheVariants as stages
+use Rattle.rule_meaning.specs.declared.stage.HookStage.{HookStage}
+use Rattle.rule_meaning.specs.declared.stage.HookStage.TheVariants as stages
 use Rattle.hook_runs.specs.declared.stages.StagedChains.{StagedChains}
 use Rattle.nft_tree.specs.Priorities.{DSTNAT, SRCNAT}
-use Rattle.hook_runs.specs.Stages.{chains_in_stage, is_after_conntrack}
+use Rattle.rule_meaning.specs.Hooks.{chains_in_stage, is_after_conntrack}
 use Rattle.hook_runs.specs.StageCode.{AreStartsOf, AreStarts, IsStartOf, continues}
 use Rattle.hook_runs.specs.steps.Starts.{AreStagedChains, in_order_result, then_continue}
 use Rattle.hook_runs.specs.steps.Starts.{after, before, filter_starts, is_filter, is_nat_start, after_conntrack, starts_before}

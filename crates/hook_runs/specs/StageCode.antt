@@ -12,7 +12,7 @@ use Rattle.filter_vm.specs.declared.code.Code.{Code}
 use Rattle.filter_vm.specs.declared.code.Start.{Start}
 use Rattle.filter_vm.specs.Machine.{base_chain_result, base_chain_stop}
 use Rattle.compiler.specs.Compiled.{start_cost, start_head, base_chain_head}
-use Rattle.hook_runs.specs.declared.stages.HookStage.{HookStage}
+use Rattle.rule_meaning.specs.declared.stage.HookStage.{HookStage}
 use Rattle.hook_runs.specs.Stages.{CostedTree, stage_starts}
 
 -- ---- starts

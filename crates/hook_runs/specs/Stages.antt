@@ -1,34 +1,11 @@
--- The stages of hooks, and what they cost. Priorities are netfilter's (NF_IP_PRI_* of
--- linux/netfilter_ipv4.h; nft(8), "Chains"); that all chains of type nat run where the packet is
--- translated, at -100 and 100, is (own).
-use Rattle.std.specs.Prelude.{ℕ, ◌+◌, not, ◌&&◌, Bool, List}
-use Rattle.nft_tree.specs.declared.chain.Hook.TheVariants as hooks
-use Rattle.nft_tree.specs.Priorities.{DSTNAT, SRCNAT}
+-- The stages of hooks in code, and what they cost. (own)
+use Rattle.std.specs.Prelude.{ℕ, ◌+◌, List}
 use Rattle.nft_tree.specs.Tree.{TableTree}
 use Rattle.box_file.specs.Box.{PlantTree}
-use Rattle.rule_meaning.specs.Hooks.{BaseChain, filter_chains_on, nat_chains_on, is_below, is_prerouting_raw}
 use Rattle.filter_vm.specs.declared.code.Code.{Code}
 use Rattle.filter_vm.specs.declared.code.Start.{Start}
-use Rattle.hook_runs.specs.declared.stages.HookStage.{HookStage}
-use Rattle.hook_runs.specs.declared.stages.HookStage.TheVariants as stages
-
--- the filter chains on prerouting that run after the conntrack lookup
-abbrev pub is_after_conntrack : BaseChain → Bool
-is_after_conntrack b = filter_chains_on hooks.Prerouting b && not (is_prerouting_raw b)
-
--- whether a base chain runs in a stage: a nat chain where its hook translates, whatever its priority; a
--- filter chain of the priority of a translation after it
-abbrev pub chains_in_stage : HookStage → BaseChain → Bool
-chains_in_stage stages.PreroutingRaw = is_prerouting_raw
-chains_in_stage stages.PreroutingBeforeNat = λ b. is_after_conntrack b && is_below DSTNAT b
-chains_in_stage stages.PreroutingNat = nat_chains_on hooks.Prerouting
-chains_in_stage stages.PreroutingAfterNat = λ b. is_after_conntrack b && not (is_below DSTNAT b)
-chains_in_stage stages.Input = filter_chains_on hooks.Input
-chains_in_stage stages.Forward = filter_chains_on hooks.Forward
-chains_in_stage stages.PostroutingBeforeNat = λ b. filter_chains_on hooks.Postrouting b && is_below SRCNAT b
-chains_in_stage stages.PostroutingNat = nat_chains_on hooks.Postrouting
-chains_in_stage stages.PostroutingAfterNat = λ b. filter_chains_on hooks.Postrouting b
-    && not (is_below SRCNAT b)
+use Rattle.rule_meaning.specs.declared.stage.HookStage.{HookStage}
+use Rattle.rule_meaning.specs.declared.stage.HookStage.TheVariants as stages
 
 -- what each stage costs: the most statements that its base chains start, plus 1 for each chain. A base
 -- chain runs in one stage, but for those of hook output and those of type nat on input or forward, which

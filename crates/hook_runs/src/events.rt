@@ -26,10 +26,10 @@ impl Events {
     ///
     /// # Errors
     /// `AllocError` where that memory can't be had.
-    pub(crate) fn new(alloc: Global) -> Result<Self, AllocError>
+    pub(crate) fn new(alloc: Global, code: &Code) -> Result<Self, AllocError>
         ensures { IfOk result (λ events. events ≡ record { events = []; ticks = 0 }) }
     {
-        let recorded = filter_vm::Events::new(alloc)?;
+        let recorded = filter_vm::Events::new(alloc, code)?;
         Ok(Events { recorded })
     }
 
@@ -51,7 +51,7 @@ impl Events {
     pub fn clear(&mut self)
         ensures { self.new ≡ record self.old { events = [] } }
     {
-        self.recorded.clear();
+        self.recorded.clear_list();
     }
 
     /// Runs a packet through a base chain, as `run_in_place`.

@@ -9,5 +9,5 @@ mod sorting;
 mod stages;
 
 pub use events::Events;
+pub use rule_meaning::HookStage;
 pub use runs::HookRuns;
-pub use stages::HookStage;

@@ -2,21 +2,21 @@
 ghost use Rattle.std.specs.Prelude.{◌≡◌, ◌≤◌, ◌+◌, ◌-◌, ◌^◌, ℕ, [], IfOk, filter, length, min, sum_by};
 ghost use Rattle.nft_tree.specs.Tree.{TableTree};
 ghost use Rattle.rule_paths.specs.Paths.{AreAllCosts, Caller, ruleset_cost};
-ghost use Rattle.rule_meaning.specs.Hooks.{Chains, base_chains_of};
+ghost use Rattle.rule_meaning.specs.Hooks.{Stage, base_chains_of, chains_in_stage};
 ghost use Rattle.compiler.specs.Compiled.{start_cost};
 ghost use Rattle.code_layout.specs.CodeLayout.{AreTableCodes};
-ghost use Rattle.hook_runs.specs.declared.stages.HookStage.{HookStage};
-ghost use Rattle.hook_runs.specs.Stages.{total_stage_cost, chains_in_stage, stage_cost, stage_starts};
+ghost use Rattle.rule_meaning.specs.declared.stage.HookStage.{HookStage};
+ghost use Rattle.hook_runs.specs.Stages.{total_stage_cost, stage_cost, stage_starts};
 ghost use Rattle.hook_runs.specs.StageCode.{AreStarts, stage_started};
 
 use crate::events::Events;
 use crate::running::run_in_order;
 use crate::sorting::staged_chains;
-use crate::stages::{HookStage, StagedChains};
+use crate::stages::StagedChains;
 use compiler::compile;
 use filter_vm::Code;
 use rule_check::Checked;
-use rule_meaning::{Facts, HookVerdict};
+use rule_meaning::{Facts, HookStage, HookVerdict};
 use std::alloc::{AllocError, Global};
 use std::marker::Model;
 
@@ -75,8 +75,8 @@ impl HookRuns {
             → total_stage_cost made.0 ≤ ruleset_cost cost checked.rules) }
         ensures events { IfOk result (λ made. made.1 ≡ record { events = []; ticks = 0 }) }
     {
-        let events = Events::new(alloc)?;
         let code = compile(alloc, &checked)?;
+        let events = Events::new(alloc, &code)?;
         let stages = staged_chains(alloc, &code)?;
         let runs = HookRuns {
             checked,
@@ -109,8 +109,7 @@ impl HookRuns {
     #[inline(always)]
     pub fn run(&self, stage: HookStage, facts: &mut Facts, events: &mut Events) -> HookVerdict
         requires room { length events.old.events + stage_cost self.now stage ≤ 65536 }
-        ensures end { Chains self.now.plant self.now.rules (chains_in_stage stage)
-            facts.old events.old.events
+        ensures end { Stage stage self.now.plant self.now.rules facts.old events.old.events
             (record { verdict = result; facts = facts.new; events = events.new.events }) }
         ensures events { length events.new.events
             ≤ length events.old.events + stage_cost self.now stage }

@@ -1,10 +1,11 @@
 //! Sorts base chains into stages.
 ghost use Rattle.std.specs.Prelude.{◌≡◌, ◌++◌, [], OnOk, IfOk, filter};
-ghost use Rattle.hook_runs.specs.declared.stages.HookStage.{HookStage};
+ghost use Rattle.rule_meaning.specs.declared.stage.HookStage.{HookStage};
 ghost use Rattle.hook_runs.specs.steps.Starts.{AreStagedChains, is_in_stage, staged_starts};
 
-use crate::stages::{HookStage, StagedChains};
+use crate::stages::StagedChains;
 use filter_vm::{Code, Start};
+use rule_meaning::HookStage;
 use std::alloc::{AllocError, Global};
 
 /// Filter chains on prerouting below this priority run before the conntrack lookup, which netfilter

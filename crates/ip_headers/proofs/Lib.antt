@@ -1,2 +1,3 @@
 pub mod Faults
 pub mod Sums
+pub mod Writing

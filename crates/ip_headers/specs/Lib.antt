@@ -7,3 +7,4 @@ pub mod Tuple
 pub mod Same
 pub mod HashWords
 pub mod steps
+pub mod Words

@@ -3,6 +3,8 @@ ghost use Rattle.std.specs.Prelude.{◌≡◌, ◌+◌, ◌<◌, ◌≤◌, leng
 ghost use Rattle.ip_headers.specs.Bytes.{with_u32, with_u16};
 ghost use Rattle.ip_headers.specs.Header.{payload_at};
 
+use byteorder::{BigEndian, ByteOrder};
+
 /// The fields of a datagram, borrowed for writing. A call changes the bytes of its field and no
 /// others.
 ///
@@ -160,9 +162,7 @@ fn write_u16(bytes: &mut [u8], offset: usize, word: u16)
     requires { offset + 2 ≤ length bytes.old }
     ensures { bytes.new ≡ with_u16 bytes.old offset word }
 {
-    let [high, low] = word.to_be_bytes();
-    bytes[offset] = high;
-    bytes[offset + 1] = low;
+    BigEndian::write_u16(&mut bytes[offset..], word);
 }
 
 // Writes 32 bits in network byte order.
@@ -170,6 +170,5 @@ fn write_u32(bytes: &mut [u8], offset: usize, number: u32)
     requires { offset + 4 ≤ length bytes.old }
     ensures { bytes.new ≡ with_u32 bytes.old offset number }
 {
-    write_u16(bytes, offset, (number / 65536) as u16);
-    write_u16(bytes, offset + 2, (number % 65536) as u16);
+    BigEndian::write_u32(&mut bytes[offset..], number);
 }

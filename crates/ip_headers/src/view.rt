@@ -8,6 +8,7 @@ use crate::bytes::{u16_at, u32_at};
 use crate::sum::header_sum;
 use crate::transport::{self, Transport};
 use crate::tuple::{self, Tuple};
+use std::fmt;
 use thiserror::Error;
 
 /// Why a record has no valid packet: the first test that fails (RFC 791, section 3.1; for the last
@@ -15,30 +16,55 @@ use thiserror::Error;
 #[derive(Clone, Copy, Debug, PartialEq, Error)]
 pub enum HeaderFault {
     /// Fewer than 20 bytes.
-    #[error("short")]
     Short,
     /// The version isn't 4.
-    #[error("version")]
     Version,
     /// IHL is below 5.
-    #[error("hlen")]
     HeaderLength,
     /// The total length is below four times IHL.
-    #[error("length")]
     Length,
     /// Fewer bytes than the total length says.
-    #[error("truncated")]
     Truncated,
     /// The ones' complement sum of the header's words isn't ffff.
-    #[error("checksum")]
     Checksum,
     /// MF is set, or the offset isn't 0.
-    #[error("fragment")]
     Fragment,
     /// The payload is too short for TCP, UDP or ICMP, or its data offset or length field is too
     /// small or beyond the end (RFC 9293, section 3.1; RFC 768; RFC 792).
-    #[error("transport")]
     Transport,
+}
+
+impl HeaderFault {
+    ghost use Rattle.std.specs.Prelude.{◌≡◌};
+    ghost use Rattle.ip_headers.specs.Words.{word_of};
+
+    /// The word for it, as in a report.
+    pub fn word(self) -> &'static str
+        ensures { result.now ≡ word_of self }
+    {
+        match self {
+            Self::Short => "short",
+            Self::Version => "version",
+            Self::HeaderLength => "hlen",
+            Self::Length => "length",
+            Self::Truncated => "truncated",
+            Self::Checksum => "checksum",
+            Self::Fragment => "fragment",
+            Self::Transport => "transport",
+        }
+    }
+}
+
+/// Writes the word.
+impl fmt::Display for HeaderFault {
+    ghost use Rattle.std.specs.Prelude.{Some};
+    ghost use Rattle.ip_headers.specs.Words.{word_of};
+
+    ghost output = { λ fault. Some (word_of fault) };
+
+    fn fmt<W: fmt::Write>(&self, f: &mut fmt::Formatter<W>) -> fmt::Result {
+        f.write_str(self.word())
+    }
 }
 
 /// A valid packet: its parts, which borrow the record. Bytes past the total length are left out.

@@ -1,10 +1,9 @@
 -- A concatenation has at most as many bits as its parts together.
-use Rattle.lowering.proofs.Names.{ComparedType, List, Named, Range, Unnamed, arith, compared_type_width, drop, false, get_or, is_too_wide, length}
-use Rattle.lowering.proofs.Names.{refl, suc, sum_by, zero, ℕ, ◌*◌, ◌+◌, ◌<◌, ◌^◌, ◌≡◌, ◌≤◌}
+use Rattle.lowering.proofs.Names.{ComparedType, List, Range, arith, compared_type_width, drop, false, get_or, is_too_wide, length}
+use Rattle.lowering.proofs.Names.{suc, sum_by, zero, ℕ, ◌*◌, ◌+◌, ◌<◌, ◌^◌, ◌≡◌, ◌≤◌}
 use Rattle.std.proofs.lemmas.List.Sums.{sum_by-drop_more}
 use Rattle.std.proofs.lemmas.Nat.{pow-add, mul-le}
 use Rattle.std.proofs.Math.Pow.{pow_mono}
-use Rattle.nft_values.specs.Values as values
 
 -- the number so far, with parts of these types behind it, has at most 128 bits
 pub record FitsIn128Bits (high : ℕ) (others : List ComparedType) : Type 0 where
@@ -18,18 +17,13 @@ fits-start kinds narrow = grind arith
 below : (high n p q : ℕ) → high < p → n < q → high * q + n < p * q
 below high n p q h l = let more : (high + 1) * q ≤ p * q = mul-le (high + 1) q p q (omega arith) (omega arith) in grind arith
 
-same-width : (k : ComparedType) → values.compared_type_width k ≡ compared_type_width k
-same-width (Named t) = refl
-same-width (Unnamed w) = refl
-
 -- and so has the number with the next part behind it
 pub fits-more : (high i : ℕ) (r : Range) (kinds : List ComparedType) (d : ComparedType) → i < length kinds
-    → r.high < 2 ^ values.compared_type_width (get_or kinds i d) → FitsIn128Bits high (drop i kinds)
-    → FitsIn128Bits (high * 2 ^ values.compared_type_width (get_or kinds i d) + r.low) (drop (i + 1) kinds)
+    → r.high < 2 ^ compared_type_width (get_or kinds i d) → FitsIn128Bits high (drop i kinds)
+    → FitsIn128Bits (high * 2 ^ compared_type_width (get_or kinds i d) + r.low) (drop (i + 1) kinds)
 fits-more high i r kinds d inside narrow fits =
-    let w = values.compared_type_width (get_or kinds i d) in
+    let w = compared_type_width (get_or kinds i d) in
     let sums = sum_by-drop_more compared_type_width kinds i d inside in
-    let same = same-width (get_or kinds i d) in
     let most = fits.most in
     let ordered = r.ordered in
     record {

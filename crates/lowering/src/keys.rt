@@ -2,15 +2,15 @@
 ghost use Rattle.std.specs.Prelude.{◌≡◌, ◌+◌, ◌*◌, ◌^◌, ◌<◌, false, map, IfOk};
 ghost use Rattle.std.specs.Option.{option_map};
 ghost use Rattle.nft_tree.specs.Tree.{key_tree, set_type_tree, value_tree};
-ghost use Rattle.nft_tree.specs.ComparedTypes.{key_compared_types, selector_compared_type};
-ghost use Rattle.nft_values.specs.Values.{compared_type_width, span_of};
+ghost use Rattle.nft_tree.specs.ComparedTypes.{compared_type_width, key_compared_types, selector_compared_type};
+ghost use Rattle.nft_values.specs.Values.{span_of};
 ghost use Rattle.rule_types.specs.Types.{is_too_wide};
 ghost use Rattle.rule_meaning.specs.Sets.{key_numbers, parts};
 ghost use Rattle.rule_meaning.specs.Selectors.{join};
 
 use box_file::Plant;
 use nft_tree::{ComparedType, Key, Selector, SetType, Value, ValueType};
-use nft_values::{numbers_of, value_numbers, width};
+use nft_values::{numbers_of, value_numbers};
 use set_intervals::Range;
 use std::alloc::{AllocError, Global};
 
@@ -55,7 +55,7 @@ fn appended(number: u128, kind: ComparedType, next: u128) -> u128
     requires { number * 2 ^ compared_type_width kind + next < 2 ^ 128 }
     ensures { result ≡ number * 2 ^ compared_type_width kind + next }
 {
-    let bits = width(kind);
+    let bits = kind.width();
     // Nothing fits before 128 bits or more: the number is 0.
     if bits >= 128 {
         next

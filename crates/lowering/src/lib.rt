@@ -11,6 +11,6 @@ mod nat_statements;
 mod statements;
 mod tables;
 
-pub use asked::{asked_numbers, asked_selector};
+pub use asked::{AskedNumbers, AskedSelectors, asked_numbers, asked_selectors};
 pub use declarations::declared;
 pub use statements::action;

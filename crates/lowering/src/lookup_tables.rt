@@ -7,9 +7,9 @@ ghost use Rattle.nft_tree.specs.declared.compared_types.ComparedType.TheVariants
 ghost use Rattle.rule_types.specs.Types.{is_too_wide, lookup_mismatches, map_ref_mismatches};
 ghost use Rattle.rule_meaning.specs.Sets.{data_number, data_verdict, elements_have, map_gives, pairs_give, set_has};
 ghost use Rattle.rule_meaning.specs.Statements.{rule_verdict_of};
-ghost use Rattle.lowering.specs.Lowered.{Extends, HasDeclared, Keeps};
+ghost use Rattle.lowering.specs.Lowered.{Extends, HasDeclared, Keeps, scope_of};
 ghost use Rattle.lowering.specs.steps.Tables.{IsNumberType};
-ghost use Rattle.lowering.specs.steps.Actions.{HasNumbers, HasSet, HasVerdicts, scope_of};
+ghost use Rattle.lowering.specs.steps.Actions.{HasNumbers, HasSet, HasVerdicts};
 
 use crate::keys::selector_kinds;
 use crate::tables::{number_table, set_table, verdict_table};

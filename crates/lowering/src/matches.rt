@@ -8,8 +8,8 @@ ghost use Rattle.rule_meaning.specs.Selectors.{value};
 ghost use Rattle.rule_meaning.specs.Matches.{bit_selector, bit_type, bits_of, bits_pass, compares_with, flag_number};
 ghost use Rattle.rule_meaning.specs.Matches.{flags_of, holds, tests, union, word_number};
 ghost use Rattle.rule_meaning.specs.Statements.{passes_if};
-ghost use Rattle.lowering.specs.Lowered.{Extends, HasDeclared};
-ghost use Rattle.lowering.specs.steps.Actions.{AlwaysHasEffect, HasEffect, scope_of};
+ghost use Rattle.lowering.specs.Lowered.{Extends, HasDeclared, scope_of};
+ghost use Rattle.lowering.specs.steps.Actions.{AlwaysHasEffect, HasEffect};
 
 use crate::lookup_tables::set_index;
 use box_file::Plant;

@@ -5,9 +5,9 @@ ghost use Rattle.nft_tree.specs.Tree.{nat_tree};
 ghost use Rattle.nft_tree.specs.Tree as tree;
 ghost use Rattle.rule_types.specs.Types.{statement_mismatches};
 ghost use Rattle.rule_values.specs.Faults.{are_ports, if_some, is_port, nat_out_of_range};
-ghost use Rattle.rule_meaning.specs.Statements.{give, ports_of, nat_action_of, with_value};
-ghost use Rattle.lowering.specs.Lowered.{Extends, HasDeclared};
-ghost use Rattle.lowering.specs.steps.Actions.{HasEffect, scope_of};
+ghost use Rattle.rule_meaning.specs.Statements.{give, port_interval_of, nat_action_of, with_value};
+ghost use Rattle.lowering.specs.Lowered.{Extends, HasDeclared, scope_of};
+ghost use Rattle.lowering.specs.steps.Actions.{HasEffect};
 
 use crate::lookup_tables::number_map_index;
 use box_file::Plant;
@@ -39,7 +39,7 @@ fn some_port(number: Option<u64>) -> Option<u16>
 /// An interval of ports.
 fn ports(range: PortRange) -> PortInterval
     requires { are_ports range ≡ true }
-    ensures { result ≡ ports_of range }
+    ensures { result ≡ port_interval_of range }
 {
     match range {
         PortRange::One(number) => PortInterval {
@@ -56,7 +56,7 @@ fn ports(range: PortRange) -> PortInterval
 /// An interval of ports, if one is given.
 fn some_ports(range: Option<PortRange>) -> Option<PortInterval>
     requires { if_some (λ r. not (are_ports r)) range ≡ false }
-    ensures { result ≡ option_map ports_of range }
+    ensures { result ≡ option_map port_interval_of range }
 {
     match range {
         Some(range) => Some(ports(range)),

@@ -6,8 +6,8 @@ ghost use Rattle.rule_types.specs.Types.{statement_mismatches};
 ghost use Rattle.rule_values.specs.Faults.{statement_out_of_range};
 ghost use Rattle.rule_meaning.specs.Statements.{operand_number};
 ghost use Rattle.rule_code.specs.declared.code.Lookups.{Lookups};
-ghost use Rattle.lowering.specs.Lowered.{HasDeclared, Extends, HasEffectOf};
-ghost use Rattle.lowering.specs.steps.Actions.{ReadsAs, scope_of};
+ghost use Rattle.lowering.specs.Lowered.{HasDeclared, Extends, HasEffectOf, scope_of};
+ghost use Rattle.lowering.specs.steps.Actions.{ReadsAs};
 
 use crate::lookup_tables::{number_map_index, verdict_map_index};
 use crate::matches::lower_match;

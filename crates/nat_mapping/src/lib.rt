@@ -9,3 +9,4 @@ mod pools;
 mod tables;
 
 pub use mappings::{MapError, Mappings};
+pub use std::alloc::AllocError as Memory;

@@ -18,7 +18,7 @@ use crate::pools::Pools;
 use crate::tables::{add_holder, find_inbound, insert_inbound, remove_holder, spare_of};
 use ip_headers::{Endpoint, Kind, Mapping};
 use port_pool::CandidateRange;
-use std::alloc::{AllocError, Global};
+use std::alloc::{AllocError as Memory, Global};
 use std::collections::HashMap;
 use std::hash::RandomState;
 use std::marker::Model;
@@ -60,18 +60,34 @@ impl Model for Mappings {
 }
 
 impl Mappings {
-    /// No mappings, and no pools of ports. Its tables hash by `hasher`, whose keys must be unknown
-    /// to the senders of packets; no result depends on them.
-    #[tactic(auto, unfolding(crate::specs::steps::Consistent::held_by))]
-    pub fn new(alloc: Global, hasher: RandomState) -> Self
+    /// No mappings, and no pools of ports. Its tables hash by keys that everybody may know: senders
+    /// who choose their endpoints can make them slow, which `with_hasher` prevents.
+    pub fn new(alloc: Global) -> Self
         ensures held { result.held ≡ [] }
         ensures pools { result.pools ≡ 0 }
     {
-        let hasher = WordState::new(hasher);
+        Self::with_keys(alloc, WordState::published())
+    }
+
+    /// The same, but its tables hash by `hasher`, whose keys must be unknown to the senders of
+    /// packets; no result depends on them.
+    pub fn with_hasher(alloc: Global, hasher: RandomState) -> Self
+        ensures held { result.held ≡ [] }
+        ensures pools { result.pools ≡ 0 }
+    {
+        Self::with_keys(alloc, WordState::new(hasher))
+    }
+
+    /// No mappings, and no pools of ports. Its tables hash by these keys.
+    #[tactic(auto, unfolding(crate::specs::steps::Consistent::held_by))]
+    fn with_keys(alloc: Global, keys: WordState) -> Self
+        ensures held { result.held ≡ [] }
+        ensures pools { result.pools ≡ 0 }
+    {
         Self {
-            sources: HashMap::with_hasher(alloc, hasher),
-            inbounds: HashMap::with_hasher(alloc, hasher),
-            pools: Pools::new(alloc, hasher),
+            sources: HashMap::with_hasher(alloc, keys),
+            inbounds: HashMap::with_hasher(alloc, keys),
+            pools: Pools::new(alloc, keys),
         }
     }
 
@@ -140,7 +156,7 @@ impl Mappings {
     /// # Errors
     ///
     /// Where memory ran out; the mappings stay.
-    pub fn reserve_one(&mut self) -> Result<(), AllocError>
+    pub fn reserve_one(&mut self) -> Result<(), Memory>
         ensures held { HoldsSame self.old.held self.new.held }
         ensures ok { OnOk result (2 ≤ self.new.room) }
         ensures room { self.old.room ≤ self.new.room }
@@ -157,7 +173,7 @@ impl Mappings {
         tables.min(self.pools.room())
     }
 
-    fn reserve(&mut self, mappings: usize) -> Result<(), AllocError>
+    fn reserve(&mut self, mappings: usize) -> Result<(), Memory>
         requires { mappings ≤ 2 }
         ensures held { HoldsSame self.old.held self.new.held }
         ensures ok { OnOk result (mappings ≤ self.new.room) }
@@ -178,7 +194,7 @@ impl Mappings {
     ///
     /// Where no memory is reserved and none is left; the mappings stay.
     #[tactic(auto, using(crate::proofs::Lists::more_alike, crate::proofs::Lists::one_to_one_alike))]
-    pub fn hold(&mut self, m: Mapping) -> Result<(), AllocError>
+    pub fn hold(&mut self, m: Mapping) -> Result<(), Memory>
         requires one_to_one { IsOneToOne (m ∷ self.old.held) }
         requires few { holders_of m self.old.held < usize.MAX }
         ensures ok { OnOk result (HoldsSame (m ∷ self.old.held) self.new.held) }

@@ -14,7 +14,7 @@ ghost use Rattle.nat_mapping.specs.steps.Ports.{is_taken_by, AreInUse, IsSpare, 
 use crate::keys::{PoolKey, has_pool, order};
 use crate::tables::spare_of;
 use port_pool::{CandidateRange, Order, Pool, choose_unused};
-use std::alloc::{AllocError, Global};
+use std::alloc::{AllocError as Memory, Global};
 use std::collections::HashMap;
 use word_hash::WordState;
 
@@ -79,7 +79,7 @@ impl Pools {
     }
 
     /// Reserves memory for so many new pools, at most as many as may be spare.
-    pub(crate) fn reserve(&mut self, pools: usize) -> Result<(), AllocError>
+    pub(crate) fn reserve(&mut self, pools: usize) -> Result<(), Memory>
         requires pools { pools ≤ SPARES }
         requires pooled { IsPooled self.old }
         ensures pooled { IsPooled self.new }
@@ -197,7 +197,7 @@ fn start_pool(pools: &mut HashMap<PoolKey, Pool, WordState>, key: PoolKey, pool:
 }
 
 /// Makes at least so many spare pools.
-fn fill_spares(spares: &mut Vec<Pool>, alloc: Global, pools: usize) -> Result<(), AllocError>
+fn fill_spares(spares: &mut Vec<Pool>, alloc: Global, pools: usize) -> Result<(), Memory>
     requires pools { pools ≤ SPARES }
     requires few { vec_len spares.old ≤ SPARES }
     requires spares { All IsSpare spares.old.items }

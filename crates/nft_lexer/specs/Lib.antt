@@ -1,3 +1,4 @@
 pub mod Terminal
 pub mod Lexing
 pub mod steps
+pub mod Codes

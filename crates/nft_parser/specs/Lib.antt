@@ -1,2 +1,3 @@
 pub mod Spells
 pub mod steps
+pub mod Codes

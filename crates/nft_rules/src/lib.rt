@@ -17,4 +17,5 @@ mod rules;
 mod statements;
 
 pub use nft_expressions::{anysel, elems, pairs};
+pub use nft_tree::Memory;
 pub use rules::rule;

@@ -11,12 +11,17 @@ use Rattle.nft_tree.specs.declared.set.TypeOrVerdict.TheVariants as types_or_ver
 use Rattle.nft_tree.specs.declared.set.SelectorOrVerdict.TheVariants as selectors_or_verdicts
 use Rattle.nft_tree.specs.Tree as tree
 use Rattle.nft_tree.specs.Tree.{SetTypeTree}
-use Rattle.nft_tree.specs.ValueTypes.{selector_type, selector_width}
+use Rattle.nft_tree.specs.ValueTypes.{selector_type, selector_width, type_width}
 
 -- A type with a name, or the width of one without.
 abbrev pub name_or_width : Option ValueType → ℕ → ComparedType
 name_or_width (Some t) width = compared_types.Named t
 name_or_width None width = compared_types.Unnamed width
+
+-- The width of the type's values in bits.
+abbrev pub compared_type_width : ComparedType → ℕ
+compared_type_width (compared_types.Named t) = type_width t
+compared_type_width (compared_types.Unnamed width) = width
 
 -- The type of what a selector reads.
 abbrev pub selector_compared_type : Selector → ComparedType

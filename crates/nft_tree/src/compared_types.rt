@@ -1,6 +1,7 @@
 //! The types by which keys, data and operands are compared.
 ghost use Rattle.std.specs.Prelude.{◌≡◌, length, slice_get};
-ghost use Rattle.nft_tree.specs.ComparedTypes.{key_compared_types, map_data_compared_type, map_key_compared_type, selector_compared_type};
+ghost use Rattle.nft_tree.specs.ComparedTypes.{compared_type_width, key_compared_types, map_data_compared_type};
+ghost use Rattle.nft_tree.specs.ComparedTypes.{map_key_compared_type, selector_compared_type};
 ghost use Rattle.nft_tree.specs.Tree.{set_type_tree};
 
 use crate::selector::{Selector, ValueType};
@@ -12,6 +13,18 @@ use crate::set::{MapType, SelectorOrVerdict, SetType, TypeOrVerdict};
 pub enum ComparedType {
     Named(ValueType),
     Unnamed(u32),
+}
+
+impl ComparedType {
+    /// The width of the type's values, in bits.
+    pub fn width(self) -> u32
+        ensures { result ≡ compared_type_width self }
+    {
+        match self {
+            ComparedType::Named(value_type) => value_type.width(),
+            ComparedType::Unnamed(width) => width,
+        }
+    }
 }
 
 impl Selector {

@@ -6,9 +6,9 @@
 #![tactic(auto)]
 
 mod chain;
+mod cloning;
 mod compared_types;
 mod folds;
-mod memory;
 mod nat;
 mod priority;
 mod ruleset;
@@ -23,7 +23,6 @@ mod values;
 pub use chain::{Chain, ChainKind, Head, Hook, OffsetSign, Policy, Priority, PriorityName, Rule};
 pub use compared_types::ComparedType;
 pub use folds::{any, sum};
-pub use memory::Memory;
 pub use nat::{DestinationTarget, Nat, PortRange, SourceTarget};
 pub use ruleset::{Family, Item, RuleNo, Ruleset, Table};
 pub use selector::{Selector, ValueType};
@@ -35,5 +34,6 @@ pub use statement::{
     BitField, BitTest, CounterStart, Flag, MapLookup, MapRef, MarkField, Masked, Match, Operand,
     Operator, SetRef, Stmt, Verdict,
 };
+pub use std::alloc::AllocError as Memory;
 pub use tree_nodes::TreeNode;
 pub use values::{Value, ValueRange};

@@ -1,59 +1,58 @@
-//! The parts of a tree that stand in lists.
-ghost use Rattle.nft_tree.specs.Tree.{ElementTree, ItemTree, PairTree, RuleTree, Statement, TableTree, ValueTree};
-ghost use Rattle.nft_tree.specs.Tree.{element_tree, item_tree, pair_tree, rule_tree, statement, table_tree, value_tree};
+//! The nodes of a tree, and lists of them.
+ghost use Rattle.std.specs.Prelude.{◌≡◌, List, Option, map, option_map, IfOk};
+ghost use Rattle.nft_tree.specs.Tree.{Text};
 
-use crate::chain::Rule;
-use crate::ruleset::{Item, Table};
-use crate::set::{Element, Pair};
-use crate::statement::Stmt;
-use crate::values::Value;
+use std::alloc::AllocError as Memory;
 
-/// An element of a list of the tree.
+/// A node of the tree: it has a model, and can be copied.
 pub trait TreeNode: Drop {
     ghost Tree: { Type 0 };
 
     /// The model: what contracts compare.
     ghost tree: { Self → Tree };
+
+    /// A copy of the node.
+    ///
+    /// # Errors
+    ///
+    /// `Memory` if an allocation was refused.
+    fn try_clone(&self) -> Result<Self, Memory>
+        ensures { IfOk result (λ copy. tree copy ≡ tree self.now) };
 }
 
-impl TreeNode for Table {
-    ghost Tree = { TableTree };
+impl TreeNode for Vec<u8> {
+    ghost Tree = { Text };
 
-    ghost tree = { table_tree };
+    ghost tree = { λ text. text.items };
+
+    fn try_clone(&self) -> Result<Vec<u8>, Memory> {
+        Ok(self.clone()?)
+    }
 }
 
-impl TreeNode for Item {
-    ghost Tree = { ItemTree };
+impl<T: TreeNode> TreeNode for Vec<T> {
+    ghost Tree = { List T.Tree };
 
-    ghost tree = { item_tree };
+    ghost tree = { λ nodes. map T.tree nodes.items };
+
+    fn try_clone(&self) -> Result<Vec<T>, Memory> {
+        let mut copies = Vec::with_capacity(*self.allocator(), self.len())?;
+        for node in self {
+            copies.push(node.try_clone()?)?;
+        }
+        Ok(copies)
+    }
 }
 
-impl TreeNode for Rule {
-    ghost Tree = { RuleTree };
+impl<T: TreeNode> TreeNode for Option<T> {
+    ghost Tree = { Option T.Tree };
 
-    ghost tree = { rule_tree };
-}
+    ghost tree = { option_map T.tree };
 
-impl TreeNode for Stmt {
-    ghost Tree = { Statement };
-
-    ghost tree = { statement };
-}
-
-impl TreeNode for Element {
-    ghost Tree = { ElementTree };
-
-    ghost tree = { element_tree };
-}
-
-impl TreeNode for Pair {
-    ghost Tree = { PairTree };
-
-    ghost tree = { pair_tree };
-}
-
-impl TreeNode for Value {
-    ghost Tree = { ValueTree };
-
-    ghost tree = { value_tree };
+    fn try_clone(&self) -> Result<Option<T>, Memory> {
+        match self {
+            Some(node) => Ok(Some(node.try_clone()?)),
+            None => Ok(None),
+        }
+    }
 }

@@ -6,7 +6,8 @@ use Rattle.std.specs.List.{list_all}
 use Rattle.std.specs.Option.{option_map}
 use Rattle.nft_tree.specs.Tree as tree
 use Rattle.nft_tree.specs.Tree.{Text, ValueTree, RangeTree}
-use Rattle.nft_tree.specs.ValueTypes.{type_width, words_of, number_in}
+use Rattle.nft_tree.specs.ComparedTypes.{compared_type_width}
+use Rattle.nft_tree.specs.ValueTypes.{words_of, number_in}
 use Rattle.nft_tree.specs.declared.selector.ValueType.TheVariants as types
 use Rattle.nft_tree.specs.declared.compared_types.ComparedType.{ComparedType}
 use Rattle.nft_tree.specs.declared.compared_types.ComparedType.TheVariants.{Named, Unnamed}
@@ -14,11 +15,6 @@ use Rattle.box_file.specs.Box.{PlantTree, named, name_of}
 use Rattle.set_intervals.specs.declared.range.Range.{Range}
 
 -- ---- types
-
--- the width of the type's values in bits
-abbrev pub compared_type_width : ComparedType → ℕ
-compared_type_width (Named t) = type_width t
-compared_type_width (Unnamed width) = width
 
 -- every type but ipv4_addr, ifname, ct_state and ct_status takes numbers
 abbrev pub takes_numbers : ComparedType → Bool

@@ -1,18 +1,9 @@
 //! Which values belong to a type.
 ghost use Rattle.std.specs.Prelude.{◌≡◌, ◌&&◌, ◌^◌, nat_lt};
-ghost use Rattle.nft_values.specs.Values.{is_address, compared_type_width, lists_word, takes_numbers};
+ghost use Rattle.nft_tree.specs.ComparedTypes.{compared_type_width};
+ghost use Rattle.nft_values.specs.Values.{is_address, lists_word, takes_numbers};
 
 use nft_tree::{ComparedType, ValueType};
-
-/// The width of the type's values, in bits.
-pub fn width(kind: ComparedType) -> u32
-    ensures { result ≡ compared_type_width kind }
-{
-    match kind {
-        ComparedType::Named(value_type) => value_type.width(),
-        ComparedType::Unnamed(width) => width,
-    }
-}
 
 fn takes_numbers(kind: ComparedType) -> bool
     ensures { result ≡ takes_numbers kind }
@@ -40,7 +31,7 @@ fn fits(number: u64, width: u32) -> bool
 pub fn is_number_of(kind: ComparedType, number: u64) -> bool
     ensures { result ≡ takes_numbers kind && nat_lt number (2 ^ compared_type_width kind) }
 {
-    takes_numbers(kind) && fits(number, width(kind))
+    takes_numbers(kind) && fits(number, kind.width())
 }
 
 /// Whether the type is that of IPv4 addresses.

@@ -10,7 +10,6 @@ mod names;
 mod ranges;
 mod values;
 
-pub use compared_types::width;
 pub use names::name_number;
 pub use ranges::{is_range, is_range_on_box, numbers_of, value_numbers};
 pub use values::{is_on_box, is_value};

@@ -2,7 +2,8 @@
 ghost use Rattle.std.specs.Prelude.{◌≡◌, ◌<◌, ◌&&◌, ◌^◌, nat_lt, true, is_some};
 ghost use Rattle.box_file.specs.Box.{name_of};
 ghost use Rattle.nft_tree.specs.Tree.{value_tree};
-ghost use Rattle.nft_values.specs.Values.{has_number, is_name_of, is_on_box, is_value, compared_type_width, text_span, value_span};
+ghost use Rattle.nft_tree.specs.ComparedTypes.{compared_type_width};
+ghost use Rattle.nft_values.specs.Values.{has_number, is_name_of, is_on_box, is_value, text_span, value_span};
 ghost use Rattle.nft_values.specs.steps.Bounds.{bounds_span};
 
 use crate::bounds::{Bounds, one_number};

@@ -1,4 +1,6 @@
 pub mod Parts
+pub mod Devices
+pub mod Counts
 pub mod Buffers
 pub mod Steps
 pub mod Endings

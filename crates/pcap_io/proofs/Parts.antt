@@ -8,6 +8,7 @@ use Rattle.std.specs.Prelude.{nat_lt}
 use Rattle.std.specs.declared.option.Option.{Option}
 use Rattle.std.specs.Io.KnownBytes.{Appends}
 use Rattle.std.proofs.KnownBytes.{Appends-nil}
+use Rattle.pcap_io.specs.declared.failures.Failures.{Failures}
 use Rattle.pcap_io.specs.Counting.{one_more}
 use Rattle.pcap_io.specs.Buffering.{AppendsBuffered}
 
@@ -19,7 +20,7 @@ moved_on bytes done rest n whole =
     rw (whole, ← length-drop n rest, all, append_assoc done (take n rest) (drop n rest), take-append-drop n rest) refl
 
 -- a write that took some bytes isn't counted
-pub took_some : (n : ℕ) (b : Bool) (x y : ℕ) → 0 < n → (if (n == 0) && b then x else y) ≡ y
+pub took_some : (n : ℕ) (b : Bool) (x y : Failures) → 0 < n → (if (n == 0) && b then x else y) ≡ y
 took_some n b x y some = grind arith
 
 -- one more write took some of the rest

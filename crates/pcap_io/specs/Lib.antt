@@ -1,4 +1,5 @@
 pub mod Counting
+pub mod Codes
 pub mod Links
 pub mod Pcap
 pub mod CaptureStates

@@ -135,7 +135,7 @@ impl Capture {
     ghost use Rattle.std.specs.Prelude.{◌≡◌, ◌≢◌, ◌<◌, ◌≤◌, ◌+◌, ◌++◌, ℕ, List, [], length, drop, true, false, Some};
     ghost use Rattle.std.specs.Prelude.{None, Ok, Err, IfOk, IfErr, IfSome, IsNone, IsErrOf, OnOk, OnErr};
     ghost use Rattle.std.specs.Io.KnownBytes.{Consumes, IsAtEnd};
-    ghost use Rattle.pcap_io.specs.Counting.{one_more};
+    ghost use Rattle.pcap_io.specs.Counting.{one_failure};
     ghost use Rattle.pcap_io.specs.Pcap.{format_of, MOMENTS_END};
     ghost use Rattle.pcap_io.specs.Pcap as pcap;
     ghost use Rattle.pcap_io.specs.CaptureStates.{CaptureState, READ_AHEAD, IsDone, ahead, is_ready, decides_next};
@@ -171,7 +171,7 @@ impl Capture {
         ensures no_failure { result ≢ Err CaptureError.Device
             → reader.new.failures ≡ reader.old.failures }
         ensures device { IsErrOf result CaptureError.Device
-            → reader.new.failures ≡ one_more reader.old.failures }
+            → reader.new.failures ≡ one_failure reader.old.failures }
     {
         let Ok(mut buffer) = ReadBuffer::new(alloc) else {
             return Err(CaptureError::Memory);
@@ -265,7 +265,7 @@ impl Capture {
         ensures no_failure { IsNone self.old.fault → result ≢ Err CaptureError.Device
             → reader.new.failures ≡ reader.old.failures }
         ensures device { IsNone self.old.fault → IsErrOf result CaptureError.Device
-            → reader.new.failures ≡ one_more reader.old.failures }
+            → reader.new.failures ≡ one_failure reader.old.failures }
         // The seconds fit 32 bits, and at most 262,144 bytes are captured.
         ensures record { IfOk result (λ more. more ≡ true → IfSome self.new.last (λ r.
             (r.moment < MOMENTS_END) × (length r.bytes < 262145))) }

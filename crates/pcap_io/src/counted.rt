@@ -1,47 +1,50 @@
 //! A reader or writer that counts its calls by how they ended.
-ghost use Rattle.std.specs.Prelude.{◌≡◌, true, false, MatchResult};
+ghost use Rattle.std.specs.Prelude.{◌≡◌, true, false, length, MatchResult};
 ghost use Rattle.std.specs.Io.{ReadsAtMost, WritesAtMost};
 ghost use Rattle.std.specs.Io.KnownBytes.{ReadConsumes, WriteAppends, Keeps};
 ghost use Rattle.pcap_io.specs.Counting as counting;
 ghost use Rattle.pcap_io.specs.Counting.{CountsRead, CountsWrite, CountsWritten, CountsFlush, CountsFlushed};
 
+use crate::failures::Failures;
 use std::io;
 use std::io::{Read, Write};
 
 /// A reader or writer, the numbers of its failed calls and of the writes and flushes that didn't
-/// fail, and whether all written bytes are flushed.
+/// fail, whether all written bytes are flushed, and how many bytes the last read had room for.
 #[derive(Drop)]
 pub struct Counted<T> {
     inner: T,
-    failures: u64,
+    failures: Failures,
     writes: u64,
     flushes: u64,
     is_flushed: bool,
+    room: usize,
 }
 
 impl<T> Counted<T> {
     /// Wraps `inner`: no calls yet, and nothing to flush.
     pub fn new(inner: T) -> Self
         ensures inner { result.inner ≡ inner }
-        ensures failures { result.failures ≡ 0 }
+        ensures failures { result.failures ≡ record { count = 0; wrapped = 0 } }
         ensures writes { result.writes ≡ 0 }
         ensures flushes { result.flushes ≡ 0 }
         ensures flushed { result.is_flushed ≡ true }
     {
         Counted {
             inner,
-            failures: 0,
+            failures: Failures::NONE,
             writes: 0,
             flushes: 0,
             is_flushed: true,
+            room: 0,
         }
     }
 
     /// The number of failed calls, saturating.
     pub fn failures(&self) -> u64
-        ensures { result ≡ self.now.failures }
+        ensures { result ≡ self.now.failures.count }
     {
-        self.failures
+        self.failures.count()
     }
 
     /// Whether nothing was written since the last successful flush.
@@ -77,10 +80,12 @@ impl<R: Read> Read for Counted<R> {
         ensures writes { self.new.writes ≡ self.old.writes }
         ensures flushes { self.new.flushes ≡ self.old.flushes }
         ensures flushed { self.new.is_flushed ≡ self.old.is_flushed }
+        ensures room { self.new.room ≡ length buf.new }
     {
+        self.room = buf.len();
         let result = self.inner.read(buf);
         if result.is_err() {
-            self.failures = one_more(self.failures);
+            self.failures = self.failures.one_more();
         }
         result
     }
@@ -97,6 +102,7 @@ impl<W: Write> Write for Counted<W> {
         ensures writes { CountsWritten self.old.writes self.new.writes result buf.now }
         ensures flushes { self.new.flushes ≡ self.old.flushes }
         ensures flushed { self.new.is_flushed ≡ false }
+        ensures room { self.new.room ≡ self.old.room }
     {
         // A failed call may have written some bytes.
         self.is_flushed = false;
@@ -107,7 +113,7 @@ impl<W: Write> Write for Counted<W> {
             Err(_) => true,
         };
         if has_failed {
-            self.failures = one_more(self.failures);
+            self.failures = self.failures.one_more();
         } else {
             self.writes = one_more(self.writes);
         }
@@ -121,6 +127,7 @@ impl<W: Write> Write for Counted<W> {
         ensures flushes { CountsFlushed self.old.flushes self.new.flushes result }
         ensures flushed { MatchResult result (λ _. self.new.is_flushed ≡ true) (λ _.
             self.new.is_flushed ≡ self.old.is_flushed) }
+        ensures room { self.new.room ≡ self.old.room }
     {
         let result = self.inner.flush();
         match &result {
@@ -128,7 +135,7 @@ impl<W: Write> Write for Counted<W> {
                 self.flushes = one_more(self.flushes);
                 self.is_flushed = true;
             }
-            Err(_) => self.failures = one_more(self.failures),
+            Err(_) => self.failures = self.failures.one_more(),
         }
         result
     }

@@ -4,6 +4,7 @@ ghost use Rattle.pcap_io.specs.Links as links;
 
 use crate::format::LinkType;
 use byteorder::{BigEndian, ByteOrder};
+use thiserror::Error;
 
 /// The EtherType of IPv4.
 const IPV4: u16 = 0x0800;
@@ -18,13 +19,16 @@ pub struct Link {
 }
 
 /// Why a record carries no packet for the box.
-#[derive(Clone, Copy)]
+#[derive(Clone, Copy, Debug, Error)]
 pub enum LinkCause {
     /// Fewer bytes than the link header has.
+    #[error("short")]
     Short,
     /// The link header's protocol isn't IPv4.
+    #[error("notip")]
     NotIp,
     /// The frame is for a group, or for another station.
+    #[error("link")]
     Link,
 }
 

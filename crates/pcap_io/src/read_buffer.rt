@@ -1,7 +1,7 @@
 //! A read buffer of constant size.
 ghost use Rattle.std.specs.Prelude.{◌≡◌, ◌<◌, ◌≤◌, ◌+◌, ◌++◌, [], length, take, drop, vec_len, vec_capacity, true, false, IfOk, OnOk, OnErr};
 ghost use Rattle.std.specs.Io.KnownBytes.{Keeps};
-ghost use Rattle.pcap_io.specs.Counting.{one_more};
+ghost use Rattle.pcap_io.specs.Counting.{one_failure};
 ghost use Rattle.pcap_io.specs.CaptureStates.{READ_AHEAD};
 ghost use Rattle.pcap_io.specs.steps.ReadAhead as ahead;
 ghost use Rattle.pcap_io.specs.steps.ReadAhead.{BufferState, FillsBuffer};
@@ -83,8 +83,10 @@ impl ReadBuffer {
         ensures no_failure { OnOk result (reader.new.failures ≡ reader.old.failures) }
         ensures err { OnErr result ((self.new.held ≡ self.old.held) × (self.new.ended ≡ false)
             × Keeps (R.remaining reader.old.inner) (R.remaining reader.new.inner)) }
-        ensures device { OnErr result (reader.new.failures ≡ one_more reader.old.failures) }
+        ensures device { OnErr result (reader.new.failures ≡ one_failure reader.old.failures) }
         ensures short { length self.new.held ≤ READ_AHEAD }
+        // The reader is offered all the room that is left.
+        ensures room { reader.new.room + length self.old.held ≡ READ_AHEAD }
     {
         self.compact();
         match reader.read(&mut self.bytes[self.end..]) {

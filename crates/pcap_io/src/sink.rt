@@ -1,7 +1,7 @@
 //! Writes a capture packet by packet, through one buffer.
 ghost use Rattle.std.specs.Prelude.{◌≡◌, ◌++◌, ◌+◌, ◌<◌, ◌≤◌, [], true, IfOk, OnOk, OnErr, IsErrOf, length, Err};
 ghost use Rattle.std.specs.Io.KnownBytes.{Appends};
-ghost use Rattle.pcap_io.specs.Counting.{one_more, AppendsPrefix};
+ghost use Rattle.pcap_io.specs.Counting.{one_failure, one_more, AppendsPrefix};
 ghost use Rattle.pcap_io.specs.Buffering.{AppendsBuffered};
 ghost use Rattle.pcap_io.specs.Buffering as buffer;
 ghost use Rattle.pcap_io.specs.Sll2.{sll2_header, sll2_record, sent, IsSent};
@@ -96,7 +96,7 @@ impl Sink {
         ensures memory { IsErrOf result SinkError.Memory → writer.new ≡ writer.old }
         ensures no_failure { OnOk result (writer.new.failures ≡ writer.old.failures) }
         ensures device { IsErrOf result SinkError.Device
-            → writer.new.failures ≡ one_more writer.old.failures }
+            → writer.new.failures ≡ one_failure writer.old.failures }
         ensures writes { writer.new.writes ≤ writer.old.writes + length sll2_header }
         ensures flushes { writer.new.flushes ≡ writer.old.flushes }
     {
@@ -123,7 +123,7 @@ impl Sink {
         ensures room { length self.old.buffered + length
             (sll2_record (sent leaving.now)) ≤ buffer.BUFFER_BYTES → writer.new ≡ writer.old }
         ensures no_failure { OnOk result (writer.new.failures ≡ writer.old.failures) }
-        ensures device { OnErr result (writer.new.failures ≡ one_more writer.old.failures) }
+        ensures device { OnErr result (writer.new.failures ≡ one_failure writer.old.failures) }
         ensures writes { writer.new.writes ≤ writer.old.writes + length self.old.buffered }
         ensures flushes { writer.new.flushes ≡ writer.old.flushes }
     {
@@ -148,7 +148,7 @@ impl Sink {
             (W.contents writer.new.inner) self.old.buffered) }
         ensures err { OnErr result (self.new ≡ self.old) }
         ensures no_failure { OnOk result (writer.new.failures ≡ writer.old.failures) }
-        ensures device { OnErr result (writer.new.failures ≡ one_more writer.old.failures) }
+        ensures device { OnErr result (writer.new.failures ≡ one_failure writer.old.failures) }
         ensures writes { writer.new.writes ≤ writer.old.writes + length self.old.buffered }
         ensures flushes { writer.new.flushes ≡ writer.old.flushes }
     {
@@ -173,7 +173,7 @@ impl Sink {
             (W.contents writer.new.inner) self.old.buffered) }
         ensures err { OnErr result (self.new ≡ self.old) }
         ensures no_failure { OnOk result (writer.new.failures ≡ writer.old.failures) }
-        ensures device { OnErr result (writer.new.failures ≡ one_more writer.old.failures) }
+        ensures device { OnErr result (writer.new.failures ≡ one_failure writer.old.failures) }
         ensures writes { writer.new.writes ≤ writer.old.writes + length self.old.buffered }
         ensures flushes { OnOk result (writer.new.flushes ≡ one_more writer.old.flushes) }
         ensures unflushed { OnErr result (writer.new.flushes ≡ writer.old.flushes) }

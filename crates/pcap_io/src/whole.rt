@@ -1,7 +1,7 @@
 //! Writes a whole byte string, by as many calls as it takes.
 ghost use Rattle.std.specs.Prelude.{◌≡◌, ◌≤◌, ◌+◌, length, OnOk, OnErr};
 ghost use Rattle.std.specs.Io.KnownBytes.{Appends};
-ghost use Rattle.pcap_io.specs.Counting.{one_more, AppendsPrefix};
+ghost use Rattle.pcap_io.specs.Counting.{one_failure, AppendsPrefix};
 
 use crate::counted::Counted;
 use std::io::Write;
@@ -23,7 +23,7 @@ pub fn write_whole<W: Write>(writer: &mut Counted<W>, bytes: &[u8]) -> Result<()
     ensures no_failure { OnOk result (writer.new.failures ≡ writer.old.failures) }
     ensures part { OnErr result (AppendsPrefix (W.contents writer.old.inner)
         (W.contents writer.new.inner) bytes.now) }
-    ensures device { OnErr result (writer.new.failures ≡ one_more writer.old.failures) }
+    ensures device { OnErr result (writer.new.failures ≡ one_failure writer.old.failures) }
     // Each write but a failed one takes some bytes, so there is none where there are none to write.
     ensures writes { writer.new.writes ≤ writer.old.writes + length bytes.now }
     ensures flushes { writer.new.flushes ≡ writer.old.flushes }

@@ -8,7 +8,7 @@ ghost use Rattle.port_pool.specs.steps.First.{IsFirst, is_open};
 ghost use Rattle.port_pool.specs.steps.Spans.{members};
 
 use crate::span::Span;
-use std::alloc::{AllocError, Global};
+use std::alloc::{AllocError as Memory, Global};
 use std::marker::Model;
 
 /// How many 64-bit words a bitmap has.
@@ -35,7 +35,7 @@ impl Model for Bitmap {
 
 impl Bitmap {
     /// A bitmap with all bits clear.
-    pub(crate) fn new(alloc: Global) -> Result<Bitmap, AllocError>
+    pub(crate) fn new(alloc: Global) -> Result<Bitmap, Memory>
         ensures { IfOk result (λ bitmap. (q : ℕ) → bit bitmap q ≡ false) }
     {
         let words = vec![in alloc; 0u64; WORDS]?;

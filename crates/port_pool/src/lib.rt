@@ -16,4 +16,5 @@ mod unused;
 pub use order::Order;
 pub use pool::Pool;
 pub use range::CandidateRange;
+pub use std::alloc::AllocError as Memory;
 pub use unused::choose_unused;

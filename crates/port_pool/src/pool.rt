@@ -9,7 +9,7 @@ use crate::bitmap::Bitmap;
 use crate::order::Order;
 use crate::range::CandidateRange;
 use crate::span::{Span, ports_span};
-use std::alloc::{AllocError, Global};
+use std::alloc::{AllocError as Memory, Global};
 
 /// The ports or identifiers of one external address, for one kind of traffic.
 #[derive(Drop)]
@@ -34,7 +34,7 @@ impl Pool {
     /// # Errors
     ///
     /// Where memory ran out.
-    pub fn new(alloc: Global, order: Order) -> Result<Pool, AllocError>
+    pub fn new(alloc: Global, order: Order) -> Result<Pool, Memory>
         ensures order { IfOk result (λ pool. order_of pool ≡ order) }
         ensures empty { IfOk result (λ pool. (p : ℕ) → is_taken pool p ≡ false) }
         ensures zero { order ≡ Order.Zero → IsOk result }

@@ -8,7 +8,7 @@ use Rattle.std.specs.Borrow.{Bor}
 use Rattle.std.specs.declared.io.Error.{Error}
 use Rattle.program.specs.Calls.{Call, Text, identify}
 use Rattle.command_line.specs.CommandLine.{name_of_file}
-use Rattle.command_line.specs.declared.task.ReplayPaths.{ReplayPaths}
+use Rattle.command_line.specs.declared.tasks.ReplayPaths.{ReplayPaths}
 use Rattle.program.specs.Replaying.{Compares, Continues, CreatesFile, CreatesReport, ChecksOutputPath, compared}
 use Rattle.program.specs.declared.identity.FileIdentity.{FileIdentity}
 use Rattle.program.specs.declared.status.Status.{Status}

@@ -3,9 +3,9 @@ use Rattle.std.specs.Prelude.{◌≡◌, ℕ, Bool, List, [], ◌∷◌, Option,
 use Rattle.std.specs.declared.io.Error.{Error}
 use Rattle.std.specs.declared.random_state.RandomState.{RandomState}
 use Rattle.clap.specs.declared.error.kind.ErrorKind.{ErrorKind}
-use Rattle.command_line.specs.declared.task.CheckPaths.{CheckPaths}
-use Rattle.command_line.specs.declared.task.ReplayPaths.{ReplayPaths}
-use Rattle.command_line.specs.declared.task.Task.{Task}
+use Rattle.command_line.specs.declared.tasks.CheckPaths.{CheckPaths}
+use Rattle.command_line.specs.declared.tasks.ReplayPaths.{ReplayPaths}
+use Rattle.command_line.specs.declared.tasks.Task.{Task}
 use Rattle.engine.specs.declared.fault.RunFault.{RunFault}
 use Rattle.engine.specs.declared.judging.Counts.{Counts}
 use Rattle.program.specs.declared.identity.FileIdentity.{FileIdentity}

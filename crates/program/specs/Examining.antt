@@ -1,6 +1,6 @@
 -- `nftrun check` (own): its calls in order, and its status.
 use Rattle.std.specs.Prelude.{◌≡◌, List, [], ◌∷◌, Ok, Err}
-use Rattle.command_line.specs.declared.task.CheckPaths.{CheckPaths}
+use Rattle.command_line.specs.declared.tasks.CheckPaths.{CheckPaths}
 use Rattle.engine.specs.declared.judging.Counts.{Counts}
 use Rattle.program.specs.Calls.{Call, Text, read, judge, print_accepted}
 use Rattle.program.specs.Status.{of_fault, of_error}

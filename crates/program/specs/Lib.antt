@@ -1,4 +1,5 @@
 pub mod Status
+pub mod Lines
 pub mod Identity
 pub mod Calls
 pub mod Replaying

@@ -2,9 +2,9 @@
 use Rattle.std.specs.Prelude.{◌≡◌, ◌⊎◌, ◌++◌, ◌&&◌, ℕ, Bool, true, false, List, [], ◌∷◌, Ok, Err, if◌then◌else◌}
 use Rattle.clap.specs.declared.error.kind.ErrorKind.{ErrorKind}
 use Rattle.clap.specs.declared.error.kind.ErrorKind.TheVariants.{DisplayHelp, DisplayVersion, OutOfMemory}
-use Rattle.command_line.specs.CommandLine.{RequestsTask, are_explained, is_well_formed, remarks_of, task_words}
-use Rattle.command_line.specs.declared.task.Task.{Task}
-use Rattle.command_line.specs.declared.task.Task.TheVariants.{Run, Check, Explain}
+use Rattle.command_line.specs.CommandLine.{RequestsTask, are_explained, explaining_of, is_well_formed}
+use Rattle.command_line.specs.declared.tasks.Task.{Task}
+use Rattle.command_line.specs.declared.tasks.Task.TheVariants.{Run, Check, Explain}
 use Rattle.explanations.specs.Codes.{is_code}
 use Rattle.program.specs.Calls.{Call, Text, words, errors_to_terminal, explain_status, remark_on_capture, list_faults, warn_of_nft, explain, show, print_status}
 use Rattle.program.specs.Examining.{Examines}
@@ -59,10 +59,11 @@ remark_calls (Explain code) status = []
 abbrev pub meaning_calls : {I O : Type 0} → Task → Status → List (Call I O)
 meaning_calls task status = if has_line status then explain_status status task ∷ [] else []
 
--- where faults are explained, what a status that has a line means, and what of a capture may mislead
+-- where faults are explained, what a status that has a line means, and what of a capture may mislead; it
+-- depends on whether standard error is a terminal
 abbrev pub explanation_calls : {I O : Type 0} → Bool → Task → Status → List (Call I O)
-explanation_calls explained task status =
-    if explained then meaning_calls task status ++ remark_calls task status else []
+explanation_calls terminal task status = if are_explained (explaining_of task) terminal
+    then meaning_calls task status ++ remark_calls task status else []
 
 -- the task is a check with `--all`
 abbrev pub asks_all : Task → Bool
@@ -78,24 +79,24 @@ is_success Success = true
 is_success _ = false
 
 -- with `--nft`, of a ruleset that was accepted, what nft(8) refuses of it or means otherwise
-abbrev pub nft_calls : {I O : Type 0} → Bool → Task → Status → List (Call I O)
-nft_calls nft (Run task) status = []
-nft_calls nft (Check task) status = if nft && is_success status then warn_of_nft task.texts ∷ [] else []
-nft_calls nft (Explain code) status = []
+abbrev pub nft_calls : {I O : Type 0} → Task → Status → List (Call I O)
+nft_calls (Run task) status = []
+nft_calls (Check task) status = if task.nft && is_success status then warn_of_nft task.texts ∷ [] else []
+nft_calls (Explain code) status = []
 
 -- what comes after the line
-abbrev pub detail_calls : {I O : Type 0} → Bool → Bool → Task → Status → List (Call I O)
-detail_calls explained nft task status =
-    explanation_calls explained task status ++ (all_faults_calls task status ++ nft_calls nft task status)
+abbrev pub detail_calls : {I O : Type 0} → Bool → Task → Status → List (Call I O)
+detail_calls terminal task status =
+    explanation_calls terminal task status ++ (all_faults_calls task status ++ nft_calls task status)
 
 -- the words request a task, which is run, or clap refuses them: well-formed words only for want of
--- memory. `--explain`, `--no-explain` and `--nft` aren't among these words: they add calls after the
--- line, or none, and change nothing else, and so does `--all`
-abbrev pub ParsesAndRuns : {I O : Type 0} → Bool → Bool → List Text → List (Call I O) → Status
-    → List (Call I O) → Type 0
-ParsesAndRuns explained nft given calls status last =
+-- memory. `--explain`, `--no-explain`, `--nft` and `--all` add calls after the line, or none, and change
+-- nothing else
+abbrev pub ParsesAndRuns : {I O : Type 0} → Bool → List Text → List (Call I O) → Status → List (Call I O)
+    → Type 0
+ParsesAndRuns terminal given calls status last =
     ((task : Task) × RequestsTask given task × RunsTask task calls status
-    × (last ≡ detail_calls explained nft task status))
+    × (last ≡ detail_calls terminal task status))
     ⊎ ((kind : ErrorKind) × (is_well_formed given ≡ true → kind ≡ OutOfMemory)
     × Explains kind calls status × (last ≡ []))
 
@@ -103,8 +104,7 @@ ParsesAndRuns explained nft given calls status last =
 abbrev pub Does : {I O : Type 0} → List (Call I O) → Status → List (Call I O) → Type 0
 Does (words (Err error) ∷ []) status last = (status ≡ of_words_error error) × (last ≡ [])
 Does (words (Ok given) ∷ errors_to_terminal terminal ∷ calls) status last =
-    ParsesAndRuns (are_explained (remarks_of given) terminal) (remarks_of given).nft (task_words given) calls
-    status last
+    ParsesAndRuns terminal given calls status last
 Does _ _ _ = ⊥
 
 -- all calls, of which the line of the status and the explanations after it come last, and the exit

@@ -6,8 +6,8 @@ use Rattle.std.specs.declared.io.ErrorKind.{ErrorKind}
 use Rattle.std.specs.declared.io.ErrorKind.TheVariants.{NotFound}
 use Rattle.std.specs.declared.random_state.RandomState.{RandomState}
 use Rattle.command_line.specs.CommandLine.{name_of_file}
-use Rattle.command_line.specs.declared.task.ReplayPaths.{ReplayPaths}
-use Rattle.command_line.specs.declared.task.ReplayTask.{ReplayTask}
+use Rattle.command_line.specs.declared.tasks.ReplayPaths.{ReplayPaths}
+use Rattle.command_line.specs.declared.tasks.ReplayTask.{ReplayTask}
 use Rattle.program.specs.Calls.{Call, Text, read, open_input, identify, draw_keys, create, run}
 use Rattle.program.specs.Identity.{is_same_file}
 use Rattle.program.specs.Status.{of_run, of_error}

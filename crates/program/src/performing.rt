@@ -14,7 +14,7 @@ use crate::replaying::replay;
 use crate::status::Status;
 use clap::Error;
 use clap::error::ErrorKind;
-use command_line::{Remarks, Task, read_task};
+use command_line::Task;
 use std::alloc::{AllocError, Global};
 
 /// Runs the task of the command line, prints the line of a status that has one, then its
@@ -30,11 +30,7 @@ pub fn perform<H: Host>(alloc: Global, host: &mut H) -> u8
     };
     let terminal = host.errors_to_terminal();
     match slices_of(alloc, &words) {
-        Ok(mut slices) => {
-            let remarks = Remarks::take(&mut slices);
-            let explained = remarks.are_explained(terminal);
-            parse_and_run(alloc, host, &slices, explained, remarks.nft)
-        }
+        Ok(slices) => parse_and_run(alloc, host, &slices, terminal),
         Err(_) => end(host, Status::Memory),
     }
 }
@@ -61,21 +57,15 @@ fn end<H: Host>(host: &mut H, status: Status) -> u8
     status.code()
 }
 
-fn parse_and_run<H: Host>(
-    alloc: Global,
-    host: &mut H,
-    words: &[&str],
-    explained: bool,
-    nft: bool,
-) -> u8
+fn parse_and_run<H: Host>(alloc: Global, host: &mut H, words: &[&str], terminal: bool) -> u8
     ensures { MakesCalls H.happens host.old host.new (λ calls.
-        ParsesRunsAndPrints explained nft (map (λ w. w.now) words.entry.now) calls result) }
+        ParsesRunsAndPrints terminal (map (λ w. w.now) words.entry.now) calls result) }
 {
-    match read_task(alloc, words) {
+    match command_line::task(alloc, words) {
         Ok(task) => {
             let status = run_task(host, &task);
             let code = end(host, status);
-            add_details(host, explained, nft, status, &task);
+            add_details(host, terminal, status, &task);
             code
         }
         Err(error) => {
@@ -97,22 +87,22 @@ fn run_task<H: Host>(host: &mut H, task: &Task<'_>) -> Status
 }
 
 /// Prints what comes after the line of a status.
-fn add_details<H: Host>(host: &mut H, explained: bool, nft: bool, status: Status, task: &Task<'_>)
+fn add_details<H: Host>(host: &mut H, terminal: bool, status: Status, task: &Task<'_>)
     ensures { HappenInOrder H.happens
-        host.old (detail_calls explained nft task.now status) host.new }
+        host.old (detail_calls terminal task.now status) host.new }
 {
-    explain_if_asked(host, explained, status, task);
+    explain_if_asked(host, terminal, status, task);
     list_faults(host, status, task);
-    warn_of_nft(host, nft, status, task);
+    warn_of_nft(host, status, task);
 }
 
 /// Prints what a status that has a line means, and what of a capture that was replayed may mislead,
 /// where faults are explained.
-fn explain_if_asked<H: Host>(host: &mut H, explained: bool, status: Status, task: &Task<'_>)
+fn explain_if_asked<H: Host>(host: &mut H, terminal: bool, status: Status, task: &Task<'_>)
     ensures { HappenInOrder H.happens
-        host.old (explanation_calls explained task.now status) host.new }
+        host.old (explanation_calls terminal task.now status) host.new }
 {
-    if explained {
+    if task.is_explained(terminal) {
         explain_all(host, status, task);
     }
 }
@@ -155,12 +145,12 @@ fn is_replayed(status: Status) -> bool
 }
 
 /// Prints what nft(8) refuses of a ruleset that was accepted, with `--nft`.
-fn warn_of_nft<H: Host>(host: &mut H, nft: bool, status: Status, task: &Task<'_>)
-    ensures { HappenInOrder H.happens host.old (nft_calls nft task.now status) host.new }
+fn warn_of_nft<H: Host>(host: &mut H, status: Status, task: &Task<'_>)
+    ensures { HappenInOrder H.happens host.old (nft_calls task.now status) host.new }
 {
     match task {
         Task::Check(check) => {
-            if nft && is_success(status) {
+            if check.nft && is_success(status) {
                 host.warn_of_nft(&check.texts);
             }
         }

@@ -152,6 +152,11 @@ struct ProgressText {
 }
 
 impl fmt::Display for ProgressText {
+    ghost use Rattle.std.specs.Prelude.{Some};
+    ghost use Rattle.program.specs.Lines.{progress_line};
+
+    ghost output = { λ text. Some (progress_line text.count text.size) };
+
     fn fmt<W: fmt::Write>(&self, f: &mut fmt::Formatter<W>) -> fmt::Result {
         let count = Megabytes(self.count);
         match self.size {
@@ -169,10 +174,14 @@ impl fmt::Display for ProgressText {
 struct Megabytes(u64);
 
 impl fmt::Display for Megabytes {
+    ghost use Rattle.std.specs.Prelude.{Some};
+    ghost use Rattle.program.specs.Lines.{megabytes};
+
+    ghost output = { λ bytes. Some (megabytes bytes.0) };
+
     fn fmt<W: fmt::Write>(&self, f: &mut fmt::Formatter<W>) -> fmt::Result {
-        let tenths = self.0 / 100_000;
-        let whole = tenths / 10;
-        let rest = tenths % 10;
-        write!(f, "{whole}.{rest} MB")
+        let whole = self.0 / 1_000_000;
+        let tenths = self.0 / 100_000 % 10;
+        write!(f, "{whole}.{tenths} MB")
     }
 }

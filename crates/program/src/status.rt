@@ -120,10 +120,18 @@ impl From<RunFault> for Status {
 
 /// The line for standard error, without its newline.
 impl fmt::Display for Status {
+    ghost use Rattle.std.specs.Prelude.{Some};
+    ghost use Rattle.program.specs.Lines.{line_of};
+
+    ghost output = { λ status. Some (line_of status) };
+
     fn fmt<W: fmt::Write>(&self, f: &mut fmt::Formatter<W>) -> fmt::Result {
         match self {
             Status::Success => f.write_str("nftrun: done"),
-            Status::Rules(fault) => write!(f, "nftrun: rules {fault}"),
+            Status::Rules(fault) => {
+                let code = fault.code();
+                write!(f, "nftrun: rules {code}")
+            }
             Status::Usage => f.write_str("nftrun: usage"),
             Status::NotUtf8 => f.write_str("nftrun: usage: a word isn't UTF-8"),
             Status::SameFile => f.write_str(
@@ -135,8 +143,14 @@ impl fmt::Display for Status {
             Status::UnknownCode => f.write_str(
                 "nftrun: usage: CODE is one of E01 to E06, B1 to B5, N01 to N15, P1 to P5 and P7",
             ),
-            Status::Box(fault) => write!(f, "nftrun: box {fault}"),
-            Status::Capture(fault) => write!(f, "nftrun: capture {fault}"),
+            Status::Box(fault) => {
+                let code = fault.code();
+                write!(f, "nftrun: box {code}")
+            }
+            Status::Capture(fault) => {
+                let code = fault.code();
+                write!(f, "nftrun: capture {code}")
+            }
             Status::Device => f.write_str("nftrun: device"),
             Status::Memory => f.write_str("nftrun: memory"),
             Status::Torn => f.write_str("nftrun: capture torn"),

@@ -4,19 +4,20 @@ use Rattle.report.proofs.Imports.{drop-cons, false, flat_map, get_or, length, re
 use Rattle.std.proofs.Common.{Err, Ok, OnErr, OnOk, Result, subst}
 use Rattle.std.specs.Prelude.{is_err}
 use Rattle.pcap_io.specs.declared.counted.Counted.{Counted}
+use Rattle.pcap_io.specs.declared.failures.Failures.{Failures}
 use Rattle.pcap_io.specs.steps.Written.{gets_more, gets_none, gets_part, part_first, part_same}
-use Rattle.pcap_io.specs.Counting.{one_more}
+use Rattle.pcap_io.specs.Counting.{one_failure}
 use Rattle.report.specs.declared.page.Page.{Page}
 use Rattle.report.specs.steps.Paging.{CountsFailure, Goes, IsSent, Puts, WroteText}
 
-goes_none : (f : Bool) (u : Text) (a : Option Text) (k : ℕ) → Goes f f u a u a k k []
+goes_none : (f : Bool) (u : Text) (a : Option Text) (k : Failures) → Goes f f u a u a k k []
 goes_none false u a k = (gets_none u a, refl)
 goes_none true u a k = (refl, refl, refl)
 
-pub goes_on : (f g h : Bool) (u v w : Text) (a b c : Option Text) (k m n : ℕ) (xs ys : Text) → Goes f g u a v b k m xs
+pub goes_on : (f g h : Bool) (u v w : Text) (a b c : Option Text) (k m n : Failures) (xs ys : Text) → Goes f g u a v b k m xs
     → Goes g h v b w c m n ys → Goes f h u a w c k n (xs ++ ys)
 goes_on false false false u v w a b c k m n xs ys (x, l) (y, r) = (gets_more u v w a b c xs ys x y, r ∙ l)
-goes_on false false true u v w a b c k m n xs ys (x, l) (y, r) = (gets_part u v a b c xs ys x y, r ∙ ap one_more l)
+goes_on false false true u v w a b c k m n xs ys (x, l) (y, r) = (gets_part u v a b c xs ys x y, r ∙ ap one_failure l)
 goes_on false true false u v w a b c k m n xs ys x y = let q = y.0 in absurd cc
 goes_on false true true u v w a b c k m n xs ys (x, l) (y, is, r) = (
   subst (λ o. AppendsPrefix a o (u ++ (xs ++ ys))) (sym is)
@@ -27,8 +28,8 @@ goes_on true false h u v w a b c k m n xs ys x y = let q = x.0 in absurd cc
 goes_on true true h u v w a b c k m n xs ys (x, is, l) (y, js, r) = (y, js ∙ is, r ∙ l)
 
 -- the buffered bytes and more are written by one call, or a prefix of them
-pub called : {T E : Type 0} (r : Result T E) (u : Text) (a b : Option Text) (k m : ℕ) (xs whole : Text) → whole ≡ u ++ xs
-    → OnOk r (Appends a b whole) → OnErr r (AppendsPrefix a b whole) → OnOk r (m ≡ k) → OnErr r (m ≡ one_more k)
+pub called : {T E : Type 0} (r : Result T E) (u : Text) (a b : Option Text) (k m : Failures) (xs whole : Text) → whole ≡ u ++ xs
+    → OnOk r (Appends a b whole) → OnErr r (AppendsPrefix a b whole) → OnOk r (m ≡ k) → OnErr r (m ≡ one_failure k)
     → Goes false (is_err r) u a [] b k m xs
 called (Ok t) u a b k m xs whole is ok part same more = ((whole, sym is ∙ sym (append-nil whole), ok), same)
 called (Err t) u a b k m xs whole is ok part same more = (part_same a b whole (u ++ xs) part is, more)
@@ -76,7 +77,7 @@ module _ {W : Type 0} {contents : W → Option Text} where
 
 -- ---- the last page
 
-sent : {T E : Type 0} (r : Result T E) (a b : Option Text) (k m : ℕ) (xs : Text) → Goes false (is_err r) [] a [] b k m (xs ++ [])
+sent : {T E : Type 0} (r : Result T E) (a b : Option Text) (k m : Failures) (xs : Text) → Goes false (is_err r) [] a [] b k m (xs ++ [])
     → WroteText r a b xs × CountsFailure r k m
 sent (Ok t) a b k m xs ((p, is, w), l) =
     (subst (λ zs. Appends a b zs) (sym (append-nil p) ∙ (sym is ∙ append-nil xs)) w, l)

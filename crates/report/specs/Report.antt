@@ -239,8 +239,8 @@ abbrev pub dropped : Cause → List Entry → ℕ
 dropped cause history = count_by (λ e. is_dropped_for cause e.outcome) history
 
 -- how many began a connection
-abbrev pub begun : List Entry → ℕ
-begun history = count_by (λ e. is_creation e.tracked.change) history
+abbrev pub connections_begun : List Entry → ℕ
+connections_begun history = count_by (λ e. is_creation e.tracked.change) history
 
 abbrev pub drop_line : (Cause → ℕ) → Cause → Text
 drop_line lost cause = line (codes "drop" ++ and_word (report_word cause)) (lost cause)
@@ -260,7 +260,7 @@ number_lines records sent kept lost beginnings live torn =
 abbrev pub totals : List Entry → ℕ → Bool → Text
 totals history live torn =
     number_lines (length history) (passed history) (local history) (λ cause. dropped cause history)
-    (begun history) live torn
+    (connections_begun history) live torn
 
 -- ---- the whole
 

@@ -15,7 +15,8 @@ use Rattle.history.specs.History.{Entry}
 use Rattle.report.specs.declared.tallies.Tally.{Tally}
 use Rattle.report.specs.declared.notes.Note.{Note}
 use Rattle.report.specs.declared.notes.Note.TheVariants as notes
-use Rattle.report.specs.Report.{passed, local, dropped, begun, packets, bytes, entry_lines, event_line}
+use Rattle.report.specs.Report.{passed, local, dropped, connections_begun, packets, bytes, entry_lines}
+use Rattle.report.specs.Report.{event_line}
 use Rattle.report.specs.Report.{outcome_line}
 
 -- a writer's known bytes grow by what completes the written part to this text
@@ -81,7 +82,7 @@ pub record IsReportOf (report : ReportState) (rules : List TableTree) (trace : B
   pub passed_are : report.passed ≡ passed history
   pub local_are : report.local ≡ local history
   pub dropped_are : (cause : Cause) → drops_of report cause ≡ dropped cause history
-  pub begun_are : report.begun ≡ begun history
+  pub begun_are : report.begun ≡ connections_begun history
   pub tallies_are : (at : StatementPosition) (start : CounterStart)
       → counter_at rules at ≡ Some start → tally_at report.tallies at ≡ Some (tally_of start at history)
   pub traces_so : report.traces ≡ trace

@@ -11,4 +11,6 @@ mod report;
 mod tallies;
 mod total_lines;
 
+pub use history::Entry;
 pub use report::{INITIAL_NOTES, MOST_NOTES, Report};
+pub use std::alloc::AllocError as Memory;

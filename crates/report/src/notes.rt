@@ -1,10 +1,10 @@
 //! Notes: the lines of the report that aren't written yet.
-ghost use Rattle.std.specs.Prelude.{◌≡◌, ◌≤◌, ◌+◌, ◌++◌, length, vec_len, vec_capacity, IsOk, OnOk, OnErr};
+ghost use Rattle.std.specs.Prelude.{◌≡◌, ◌≤◌, ◌+◌, ◌++◌, length, max, vec_len, vec_capacity, IsOk, OnOk, OnErr};
 ghost use Rattle.report.specs.steps.Noting.{noted, noted_event};
 
 use history::{Entry, Outcome};
 use rule_meaning::Event;
-use std::alloc::AllocError;
+use std::alloc::AllocError as Memory;
 
 /// One line of the report, about the record of this number.
 #[derive(Clone, Copy)]
@@ -30,23 +30,27 @@ impl Note {
     }
 }
 
-/// Reserves so many more notes. Where they are reserved already, no memory is taken.
+/// Reserves so many more notes, and at most as many as there are. Where they are reserved already,
+/// no memory is taken.
 ///
 /// # Errors
 /// An allocation failed.
-pub fn reserve_notes(notes: &mut Vec<Note>, count: usize) -> Result<(), AllocError>
+pub fn reserve_notes(notes: &mut Vec<Note>, count: usize) -> Result<(), Memory>
     ensures items { notes.new.items ≡ notes.old.items }
     ensures ok { OnOk result (vec_len notes.new + count ≤ vec_capacity notes.new) }
     ensures grows { vec_capacity notes.old ≤ vec_capacity notes.new }
     ensures succeeds { vec_len notes.old + count ≤ vec_capacity notes.old → IsOk result }
     ensures spared { vec_len notes.old + count ≤ vec_capacity notes.old
         → vec_capacity notes.new ≡ vec_capacity notes.old }
+    ensures bound { vec_capacity notes.new ≤ max (vec_capacity notes.old) (vec_len notes.old
+        + max count (vec_len notes.old)) }
     ensures err { OnErr result (vec_capacity notes.new ≡ vec_capacity notes.old) }
 {
     if count <= notes.capacity() - notes.len() {
         return Ok(());
     }
-    notes.reserve(count)
+    // Doubled, so that notes which grow one by one are moved seldom.
+    notes.reserve_exact(count.max(notes.len()))
 }
 
 /// Notes the lines of an entry. The caller has reserved a note for each event and one for the

@@ -1,7 +1,7 @@
 //! A text that is written page by page.
 ghost use Rattle.std.specs.Prelude.{◌≡◌, ◌≤◌, ◌+◌, [], false, length, OnOk, OnErr};
 ghost use Rattle.std.specs.Io.KnownBytes.{Appends};
-ghost use Rattle.pcap_io.specs.Counting.{AppendsPrefix, one_more};
+ghost use Rattle.pcap_io.specs.Counting.{AppendsPrefix, one_failure};
 ghost use Rattle.report.specs.steps.Paging.{IsSent, Puts, piece_text, pieces_text};
 
 use crate::piece::Piece;
@@ -95,7 +95,7 @@ impl Page {
             (W.contents writer.new.inner) self.old.text.items) }
         ensures failed { self.new.failed ≡ self.old.failed }
         ensures no_failure { OnOk result (writer.new.failures ≡ writer.old.failures) }
-        ensures device { OnErr result (writer.new.failures ≡ one_more writer.old.failures) }
+        ensures device { OnErr result (writer.new.failures ≡ one_failure writer.old.failures) }
         ensures flushes { writer.new.flushes ≡ writer.old.flushes }
         ensures none { self.old.text.items ≡ [] → writer.new ≡ writer.old }
     {

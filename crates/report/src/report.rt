@@ -1,6 +1,6 @@
 //! The report of a run.
-ghost use Rattle.std.specs.Prelude.{◌≡◌, ◌<◌, ◌≤◌, ◌+◌, ◌++◌, [], ◌∷◌, Bool, List, length, true, IfOk, IsOk, OnErr, OnOk};
-ghost use Rattle.pcap_io.specs.Counting.{one_more};
+ghost use Rattle.std.specs.Prelude.{◌≡◌, ◌<◌, ◌≤◌, ◌+◌, ◌++◌, [], ◌∷◌, Bool, List, length, max, true, IfOk, IsOk, OnErr, OnOk};
+ghost use Rattle.pcap_io.specs.Counting.{one_failure, one_more};
 ghost use Rattle.nft_tree.specs.Tree.{Text, TableTree, tables_of};
 ghost use Rattle.history.specs.History.{Entry, IsEntry};
 ghost use Rattle.report.specs.Report.{closing_lines, entry_lines};
@@ -18,7 +18,7 @@ use crate::total_lines::{Totals, put_totals};
 use history::Outcome;
 use nft_tree::Ruleset;
 use pcap_io::{Counted, DeviceFailed};
-use std::alloc::{AllocError, Global};
+use std::alloc::{AllocError as Memory, Global};
 use std::io::Write;
 use std::marker::Model;
 
@@ -85,10 +85,11 @@ impl Report {
     ///
     /// # Errors
     /// An allocation failed.
-    pub fn new(alloc: Global, rules: &Ruleset, trace: bool) -> Result<Self, AllocError>
+    pub fn new(alloc: Global, rules: &Ruleset, trace: bool) -> Result<Self, Memory>
         ensures fresh { IfOk result (λ report.
             IsReportOf report (tables_of rules.now) trace [] []) }
         ensures room { IfOk result (λ report. report.room ≡ INITIAL_NOTES) }
+        ensures empty { IfOk result (λ report. report.notes ≡ []) }
     {
         let tallies = RulesetTallies::new(alloc, rules)?;
         let notes = Vec::with_capacity(alloc, INITIAL_NOTES)?;
@@ -108,10 +109,13 @@ impl Report {
     ///
     /// # Errors
     /// An allocation failed; never where the notes are reserved already. The report is unchanged.
-    pub fn reserve(&mut self) -> Result<(), AllocError>
+    pub fn reserve(&mut self) -> Result<(), Memory>
         ensures ok { OnOk result (MOST_NOTES ≤ self.new.room) }
         ensures same { self.new ≡ record self.old { room = self.new.room } }
         ensures grows { self.old.room ≤ self.new.room }
+        // At most as many again are reserved as are pending, or else the notes of one record.
+        ensures bound { self.new.room ≤ max self.old.room (max MOST_NOTES
+            (length self.old.notes)) }
         ensures succeeds { MOST_NOTES ≤ self.old.room → IsOk result }
         // Then no memory is taken either.
         ensures spared { MOST_NOTES ≤ self.old.room → self.new ≡ self.old }
@@ -124,7 +128,7 @@ impl Report {
     ///
     /// # Errors
     /// An allocation failed; never after `reserve`. The report is unchanged.
-    pub fn note(&mut self, entry: &history::Entry) -> Result<(), AllocError>
+    pub fn note(&mut self, entry: &history::Entry) -> Result<(), Memory>
         requires few { self.old.records < 4294967296 }
         // A report of a history becomes one of that history and the entry.
         ensures noted { (rules : List TableTree) (trace : Bool) (history : List Entry)
@@ -137,6 +141,8 @@ impl Report {
             entry.now.events.now + 1 }
         ensures left { self.old.room + length self.old.notes ≤ self.new.room + length
             self.new.notes }
+        ensures bound { self.new.room + length self.new.notes ≤ length self.old.notes + max
+            self.old.room (max (length entry.now.events.now + 1) (length self.old.notes)) }
         // No memory is taken where the notes are reserved.
         ensures spared { length entry.now.events.now + 1 ≤ self.old.room
             → self.new.room + length self.new.notes ≡ self.old.room + length self.old.notes }
@@ -197,7 +203,7 @@ impl Report {
         ensures records { self.new.records ≡ self.old.records }
         ensures err { OnErr result (self.new ≡ self.old) }
         ensures no_failure { OnOk result (writer.new.failures ≡ writer.old.failures) }
-        ensures device { OnErr result (writer.new.failures ≡ one_more writer.old.failures) }
+        ensures device { OnErr result (writer.new.failures ≡ one_failure writer.old.failures) }
         ensures flushes { writer.new.flushes ≡ writer.old.flushes }
     {
         if self.notes.is_empty() {
@@ -234,7 +240,7 @@ impl Report {
             (W.contents writer.new.inner) written (entry_lines (tables_of rules.now) trace history
             ++ closing_lines (tables_of rules.now) history live torn)) }
         ensures no_failure { OnOk result (writer.new.failures ≡ writer.old.failures) }
-        ensures device { OnErr result (writer.new.failures ≡ one_more writer.old.failures) }
+        ensures device { OnErr result (writer.new.failures ≡ one_failure writer.old.failures) }
         ensures flushes { OnOk result (writer.new.flushes ≡ one_more writer.old.flushes) }
         ensures unflushed { OnErr result (writer.new.flushes ≡ writer.old.flushes) }
     {

@@ -1,7 +1,7 @@
 -- A rewritten packet passes the tests that the original passed, and keeps the error of its checksum.
 use Rattle.rewrite.specs.Rewritten.{payload_in, header_in, write_if_some, pseudo_header_and_payload}
-use Rattle.rewrite.specs.Rewritten.{replaced, update_transport_checksum, update_checksums, with_destination, with_numbers}
-use Rattle.rewrite.specs.Rewritten.{with_source, with_ttl}
+use Rattle.rewrite.specs.Rewritten.{replaced, update_transport_checksum, update_checksums, with_destination_address, with_numbers}
+use Rattle.rewrite.specs.Rewritten.{with_source_address, with_ttl}
 use Rattle.std.proofs.lemmas.Bool.{le-leb, cond_both}
 use Rattle.rewrite.proofs.Checksums.{Shows, payload_shows, rest_shows, head_shows, pseudo, head_of, update_keeps_sum, udp_update_keeps_sum}
 use Rattle.std.proofs.Common.{◌≡◌, ◌≢◌, ℕ, ◌+◌, ◌*◌, ◌%◌, ◌<◌, ◌≤◌, ◌⊎◌, inl, inr, Option, List, length, suc, get_or, refl, ap, ◌∙◌, arith, drop, take}
@@ -27,7 +27,7 @@ use Rattle.ip_headers.specs.Sum.{words_sum}
 -- with another header
 abbrev pub timed : List ℕ → Change → List ℕ
 timed p change = write_if_some (with_ttl 0)
-    (write_if_some (with_destination 0) (write_if_some (with_source 0) p change.source) change.destination) change.ttl
+    (write_if_some (with_destination_address 0) (write_if_some (with_source_address 0) p change.source) change.destination) change.ttl
 
 -- ---- bytes that a step keeps
 

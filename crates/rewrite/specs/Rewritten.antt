@@ -20,11 +20,11 @@ abbrev pub write_if_some : {A : Type 0} → (List ℕ → A → List ℕ) → Li
 write_if_some write bytes None = bytes
 write_if_some write bytes (Some x) = write bytes x
 
-abbrev pub with_source : ℕ → List ℕ → ℕ → List ℕ
-with_source start bytes address = with_u32 bytes (start + 12) address
+abbrev pub with_source_address : ℕ → List ℕ → ℕ → List ℕ
+with_source_address start bytes address = with_u32 bytes (start + 12) address
 
-abbrev pub with_destination : ℕ → List ℕ → ℕ → List ℕ
-with_destination start bytes address = with_u32 bytes (start + 16) address
+abbrev pub with_destination_address : ℕ → List ℕ → ℕ → List ℕ
+with_destination_address start bytes address = with_u32 bytes (start + 16) address
 
 abbrev pub with_ttl : ℕ → List ℕ → ℕ → List ℕ
 with_ttl start bytes ttl = slice_set bytes (start + 8) ttl
@@ -50,8 +50,8 @@ with_numbers start bytes (Identifier number) =
 -- the given fields are replaced, the checksums are as they were
 abbrev pub replaced : ℕ → List ℕ → Change → List ℕ
 replaced start bytes change =
-    let from = write_if_some (with_source start) bytes change.source in
-    let to = write_if_some (with_destination start) from change.destination in
+    let from = write_if_some (with_source_address start) bytes change.source in
+    let to = write_if_some (with_destination_address start) from change.destination in
     let timed = write_if_some (with_ttl start) to change.ttl in
     write_if_some (with_numbers start) timed change.numbers
 

@@ -9,4 +9,6 @@ pub mod laws;
 mod sending;
 
 pub use change::{Change, PortsOrIdentifier};
+pub use ip_headers::ones_sum;
 pub use sending::{emit, rewrite_packet};
+pub use std::alloc::AllocError as Memory;

@@ -6,12 +6,12 @@ ghost use Rattle.ip_headers.specs.Tuple.{inner_tuple_of};
 ghost use Rattle.rewrite.specs.Rewritten.{payload_in, inner_start, update_checksum, replaced, rewritten, update_checksums, with_endpoints};
 ghost use Rattle.rewrite.specs.steps.Fields.{HasFields, changed_fields, len_of, with_fields};
 
+use crate::Memory;
 use crate::change::Change;
 use crate::fields::Fields;
 use byteorder::{BigEndian, ByteOrder};
 use ip_headers::laws::no_fault;
 use ip_headers::{PartsMut, Tuple, View};
-use std::alloc::AllocError;
 
 /// Appends the rewritten packet: the given fields replaced, each checksum over a changed word
 /// updated incrementally (RFC 1624), all else as received. A wrong checksum stays wrong by as much.
@@ -21,7 +21,7 @@ use std::alloc::AllocError;
 ///
 /// Where the buffer had no room for the packet and memory ran out; then its bytes are unchanged.
 #[tactic(auto, using(crate::proofs::Rewritten::length_rewritten))]
-pub fn emit(view: &View, change: &Change, out: &mut Vec<u8>) -> Result<(), AllocError>
+pub fn emit(view: &View, change: &Change, out: &mut Vec<u8>) -> Result<(), Memory>
     ensures ok { OnOk result (out.new.items
         ≡ out.old.items ++ rewritten view.now.packet.now change.now) }
     // The length doesn't change.

@@ -2,3 +2,4 @@ pub mod Chains
 pub mod WellFormed
 pub mod Checked
 pub mod steps
+pub mod Codes

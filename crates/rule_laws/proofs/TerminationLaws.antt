@@ -1,5 +1,5 @@
 -- Base chains and hooks of well-formed rulesets terminate.
-use Rattle.std.proofs.Common.{◌≡◌, ◌⊎◌, ℕ, ℤ, suc, ◌+◌, Bool, List, [], ◌∷◌, map, flat_map, filter, slice_get}
+use Rattle.std.proofs.Common.{◌≡◌, ◌⊎◌, ℕ, suc, ◌+◌, Bool, List, [], ◌∷◌, map, flat_map, filter, slice_get}
 use Rattle.std.proofs.Common.{Contains, Option, Some, None, option_map, refl, ap, subst, inl, inr, arith}
 use Rattle.nft_tree.specs.Tree.{HeadTree, ChainTree, TableTree}
 use Rattle.nft_tree.specs.TableItems.{chains_of}
@@ -8,17 +8,15 @@ use Rattle.rule_names.specs.Names.{rule_targets}
 use Rattle.rule_paths.specs.Paths.{Caller, AreCosts, Cycles}
 use Rattle.rule_check.specs.declared.fault.CheckFault.TheVariants as faults
 use Rattle.rule_check.specs.WellFormed.{WellFormed}
-use Rattle.rule_meaning.specs.declared.facts.Facts.{Facts}
-use Rattle.rule_meaning.specs.declared.event.Event.{Event}
 use Rattle.rule_meaning.specs.declared.event.HookVerdict.{HookVerdict}
 use Rattle.rule_meaning.specs.declared.event.HookVerdict.TheVariants.{Accepted, Dropped, Translated}
 use Rattle.rule_meaning.specs.Runs.{table_program}
 use Rattle.rule_meaning.specs.Hooks as hooks
 use Rattle.rule_meaning.specs.Hooks.{BaseChain, base_chain_of, base_chains_from, base_chains_of_tables}
 use Rattle.rule_meaning.specs.Hooks.{base_chains_of, runs_before, HookResult, policy_of, with_policy, Traversal}
-use Rattle.rule_meaning.specs.Hooks.{RunsBaseChain, Continues, Stops, NoChain, Then, InTurn, Chains, AroundNat}
+use Rattle.rule_meaning.specs.Hooks.{RunsBaseChain, Continues, Stops, NoChain, Then, InTurn, Chains}
 use Rattle.rule_meaning.proofs.Priorities.{priorities}
-use Rattle.rule_laws.specs.Terminates.{Terminates, step_to}
+use Rattle.rule_laws.specs.Terminates.{Terminates}
 use Rattle.rule_laws.specs.Ranking.{weight_by}
 use Rattle.rule_laws.proofs.Lists.{Every, every_got, every_contained, every_append, every_filter}
 use Rattle.rule_laws.proofs.Running.{some_run}
@@ -78,9 +76,6 @@ decide (Translated t) = inr (λ x. x)
 pub nothing_ends : Terminates NoChain
 nothing_ends f es = (record { verdict = Accepted; facts = f; events = es }, refl)
 
-pub step_ends : (gives : Facts → List Event → HookResult) → Terminates (step_to gives)
-step_ends gives f es = (gives f es, refl)
-
 then_ends : (first second : Traversal) → Terminates first → Terminates second → Terminates (Then first second)
 then_ends first second a b f es = by_ending (a f es)
   where
@@ -136,6 +131,3 @@ module _ (costs : SomeCosts) (plant : PlantTree) (tables : List TableTree) (well
           run = q.1;
         },
       )
-
-  pub some_around : (test : BaseChain → Bool) (limit : ℤ) (step : Traversal) → Terminates step → Terminates (AroundNat plant tables test limit step)
-  some_around test limit step ends = then_ends _ _ (some_chains _) (then_ends step _ ends (some_chains _))

@@ -1,5 +1,5 @@
 -- Termination. (own)
-use Rattle.std.specs.Prelude.{◌≡◌, List}
+use Rattle.std.specs.Prelude.{List}
 use Rattle.rule_meaning.specs.declared.facts.Facts.{Facts}
 use Rattle.rule_meaning.specs.declared.event.Event.{Event}
 use Rattle.rule_meaning.specs.Hooks.{HookResult, Traversal}
@@ -7,7 +7,3 @@ use Rattle.rule_meaning.specs.Hooks.{HookResult, Traversal}
 -- the traversal has a result for all facts and events before
 abbrev pub Terminates : Traversal → Type 0
 Terminates traversal = (f : Facts) (es : List Event) → (hook_result : HookResult) × traversal f es hook_result
-
--- a step given by a total function
-abbrev pub step_to : (Facts → List Event → HookResult) → Traversal
-step_to gives f es hook_result = hook_result ≡ gives f es

@@ -1,5 +1,5 @@
 -- Base chains and hooks have at most one result.
-use Rattle.std.proofs.Common.{◌≡◌, ◌↔◌, ℤ, Bool, List, [], ◌∷◌, filter, Option, Some, sym, ap, ◌∙◌, subst}
+use Rattle.std.proofs.Common.{◌≡◌, ◌↔◌, Bool, List, [], ◌∷◌, filter, Some, sym, ap, ◌∙◌, subst}
 use Rattle.std.proofs.lemmas.Option.{same_Some}
 use Rattle.nft_tree.specs.Tree.{Statement, TableTree}
 use Rattle.box_file.specs.Box.{PlantTree}
@@ -9,7 +9,6 @@ use Rattle.rule_meaning.specs.Runs.{table_program, at_rule, RunResult, Runs}
 use Rattle.rule_meaning.specs.Hooks as hooks
 use Rattle.rule_meaning.specs.Hooks.{BaseChain, InOrder, runs_before, HookResult, policy_of, with_policy, Traversal}
 use Rattle.rule_meaning.specs.Hooks.{RunsBaseChain, Continues, Stops, NoChain, Then, InTurn, Chains, base_chains_of}
-use Rattle.rule_meaning.specs.Laws.{step_of}
 use Rattle.rule_meaning.proofs.Determinism.{one_after}
 use Rattle.rule_meaning.proofs.StableOrders.{one_order}
 use Rattle.rule_meaning.proofs.Priorities.{priorities}
@@ -25,9 +24,6 @@ One P = (f : Facts) (es : List Event) (hook_result other : HookResult) → P f e
 
 pub one_nothing : One NoChain
 one_nothing f es hook_result other a b = a ∙ sym b
-
-pub one_step : (gives : Facts → List Event → Option HookResult) → One (step_of gives)
-one_step gives f es hook_result other a b = same_Some hook_result other (sym a ∙ b)
 
 pub one_then : (first second : Traversal) → One first → One second → One (Then first second)
 one_then first second one two f es hook_result other (hooks.goes_on m r on s) (hooks.goes_on m' r' on' s') =
@@ -64,9 +60,6 @@ module _ (plant : PlantTree) (tables : List TableTree) where
       one_in_turn a.order f es hook_result other a.run
       (subst (λ l. InTurn plant tables l f es other)
       (one_text_order (filter test (base_chains_of tables)) b.order a.order b.in_order a.in_order) b.run)
-
-  pub one_around : (test : BaseChain → Bool) (limit : ℤ) (step : Traversal) → One step → One (hooks.AroundNat plant tables test limit step)
-  one_around test limit step one = one_then _ _ (one_chains _) (one_then step _ one (one_chains _))
 
   -- ---- what the first base chain leaves to the others
 

@@ -1,5 +1,6 @@
--- How a packet traverses a hook: its base chains in order of priority (nft(8), "Chains"), each with its
--- policy, and the NAT step among them.
+-- How a packet runs through base chains: the order of their priorities, their policies, and the stages of
+-- hooks, between which connections are looked up and addresses translated (nft(8), "Chains"; priorities are
+-- NF_IP_PRI_* of linux/netfilter_ipv4.h).
 use Rattle.std.specs.Prelude.{◌≡◌, ℕ, suc, ℤ, int_lt, not, ◌&&◌, Bool, true, false, List, [], ◌∷◌, ◌++◌}
 use Rattle.std.specs.Prelude.{filter, Option, Some, None, slice_get, unwrap_or}
 use Rattle.std.specs.List.Sorted.{IsSortedBy, IsStableBy}
@@ -19,6 +20,8 @@ use Rattle.rule_meaning.specs.declared.event.Event.{Event}
 use Rattle.rule_meaning.specs.declared.event.Event.TheVariants.{TookPolicy}
 use Rattle.rule_meaning.specs.declared.event.HookVerdict.{HookVerdict}
 use Rattle.rule_meaning.specs.declared.event.HookVerdict.TheVariants.{Accepted, Dropped}
+use Rattle.rule_meaning.specs.declared.stage.HookStage.{HookStage}
+use Rattle.rule_meaning.specs.declared.stage.HookStage.TheVariants as stages
 use Rattle.rule_meaning.specs.Runs.{table_program, at_rule, RunResult, at_end, over, Runs}
 
 -- ---- base chains
@@ -157,39 +160,33 @@ pub record Chains (plant : PlantTree) (tables : List TableTree) (test : BaseChai
   pub in_order : InOrder (filter test (base_chains_of tables)) order
   pub run : InTurn plant tables order f es hook_result
 
--- ---- hooks
+-- ---- the stages of hooks
 
 -- filter chains on prerouting with a priority of -200 or below run before the conntrack lookup
 -- (NF_IP_PRI_CONNTRACK is -200; own: -200 itself counts as before)
 abbrev pub is_prerouting_raw : BaseChain → Bool
 is_prerouting_raw b = filter_chains_on hooks.Prerouting b && is_below AFTER_CONNTRACK b
 
-abbrev pub PreroutingRaw : PlantTree → List TableTree → Traversal
-PreroutingRaw plant tables = Chains plant tables is_prerouting_raw
+-- the filter chains on prerouting that run after the conntrack lookup
+abbrev pub is_after_conntrack : BaseChain → Bool
+is_after_conntrack b = filter_chains_on hooks.Prerouting b && not (is_prerouting_raw b)
 
--- the filter chains of a hook around its NAT step, which runs at this priority, before filter chains of the
--- same (own); a step that translates ends accepted, with the translated packet
-abbrev pub AroundNat : PlantTree → List TableTree → (BaseChain → Bool) → ℤ → Traversal → Traversal
-AroundNat plant tables test limit step =
-    Then (Chains plant tables (λ b. test b && is_below limit b))
-    (Then step (Chains plant tables (λ b. test b && not (is_below limit b))))
+-- the base chains of a stage: those of type nat where their hook translates, whatever their own priority
+-- (own); destination NAT runs at dstnat, -100, source NAT at srcnat, 100, a filter chain of the same
+-- priority after it (own)
+abbrev pub chains_in_stage : HookStage → BaseChain → Bool
+chains_in_stage stages.PreroutingRaw = is_prerouting_raw
+chains_in_stage stages.PreroutingBeforeNat = λ b. is_after_conntrack b && is_below DSTNAT b
+chains_in_stage stages.PreroutingNat = nat_chains_on hooks.Prerouting
+chains_in_stage stages.PreroutingAfterNat = λ b. is_after_conntrack b && not (is_below DSTNAT b)
+chains_in_stage stages.Input = filter_chains_on hooks.Input
+chains_in_stage stages.Forward = filter_chains_on hooks.Forward
+chains_in_stage stages.PostroutingBeforeNat = λ b. filter_chains_on hooks.Postrouting b && is_below SRCNAT b
+chains_in_stage stages.PostroutingNat = nat_chains_on hooks.Postrouting
+chains_in_stage stages.PostroutingAfterNat = λ b. filter_chains_on hooks.Postrouting b
+    && not (is_below SRCNAT b)
 
--- destination NAT runs at dstnat, -100 (nft(8), "Chains")
-abbrev pub Prerouting : PlantTree → List TableTree → Traversal → Traversal
-Prerouting plant tables step =
-    AroundNat plant tables (λ b. filter_chains_on hooks.Prerouting b && not (is_prerouting_raw b)) DSTNAT step
-
-abbrev pub Input : PlantTree → List TableTree → Traversal
-Input plant tables = Chains plant tables (filter_chains_on hooks.Input)
-
-abbrev pub Forward : PlantTree → List TableTree → Traversal
-Forward plant tables = Chains plant tables (filter_chains_on hooks.Forward)
-
--- source NAT runs at srcnat, 100 (nft(8), "Chains")
-abbrev pub Postrouting : PlantTree → List TableTree → Traversal → Traversal
-Postrouting plant tables step = AroundNat plant tables (filter_chains_on hooks.Postrouting) SRCNAT step
-
--- the NAT step of a hook runs its chains of type nat, until a NAT statement applies (nft(8), "NAT
--- statements")
-abbrev pub Translating : Hook → PlantTree → List TableTree → Traversal
-Translating hook plant tables = Chains plant tables (nat_chains_on hook)
+-- a packet runs through the base chains of a stage; those of type nat until a NAT statement applies
+-- (nft(8), "NAT statements")
+abbrev pub Stage : HookStage → PlantTree → List TableTree → Traversal
+Stage stage plant tables = Chains plant tables (chains_in_stage stage)

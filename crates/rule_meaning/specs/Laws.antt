@@ -27,10 +27,6 @@ AtMostOneResult traversal =
     (f : Facts) (es : List Event) (hook_result other : HookResult) → traversal f es hook_result
     → traversal f es other → hook_result ≡ other
 
--- a step given by a partial function
-abbrev pub step_of : (Facts → List Event → Option HookResult) → Traversal
-step_of gives f es hook_result = gives f es ≡ Some hook_result
-
 -- ---- matches
 
 -- the selectors of a match

@@ -7,9 +7,10 @@ use Rattle.nft_tree.specs.declared.compared_types.ComparedType.{ComparedType}
 use Rattle.nft_tree.specs.Tree as tree
 use Rattle.nft_tree.specs.Tree.{VerdictTree, ValueTree, KeyTree, ElementTree, DataTree, PairTree}
 use Rattle.nft_tree.specs.Tree.{SetRefTree, MapRefTree, SetTree, MapTree, TableTree}
-use Rattle.nft_tree.specs.ComparedTypes.{selector_compared_type, key_compared_types, map_key_compared_type}
+use Rattle.nft_tree.specs.ComparedTypes.{compared_type_width, selector_compared_type, key_compared_types}
+use Rattle.nft_tree.specs.ComparedTypes.{map_key_compared_type}
 use Rattle.box_file.specs.Box.{PlantTree}
-use Rattle.nft_values.specs.Values.{Span, one_number, compared_type_width, numbers_of}
+use Rattle.nft_values.specs.Values.{Span, one_number, numbers_of}
 use Rattle.rule_names.specs.Names.{set_named, map_named, some_of}
 use Rattle.rule_meaning.specs.declared.facts.Facts.{Facts}
 use Rattle.rule_meaning.specs.Selectors.{value, join}

@@ -11,7 +11,7 @@ use Rattle.nft_tree.specs.declared.statement.MarkField.TheVariants as marks
 use Rattle.nft_tree.specs.declared.nat.PortRange.{PortRange}
 use Rattle.nft_tree.specs.declared.nat.PortRange.TheVariants as port_ranges
 use Rattle.nft_tree.specs.Tree as tree
-use Rattle.nft_tree.specs.Tree.{Text, VerdictTree, MapLookupTree, OperandTree, SourceTree, DestinationTree, NatTree}
+use Rattle.nft_tree.specs.Tree.{Text, VerdictTree, MapLookupTree, OperandTree, NatTree}
 use Rattle.nft_tree.specs.Tree.{Statement, TableTree}
 use Rattle.nft_tree.specs.TableItems.{chains_of}
 use Rattle.rule_names.specs.Names.{index_in, chain_names}
@@ -98,24 +98,21 @@ sets_notrack f _ = pass
 
 -- ---- NAT
 
-abbrev pub ports_of : PortRange → PortInterval
-ports_of (port_ranges.One n) = record { low = n; high = n }
-ports_of (port_ranges.Between low high) = record { low = low; high = high }
-
-abbrev pub source_of : Scope → SourceTree → Facts → Option NatAction
-source_of scope (tree.source_address a ports) f = Some (nat_actions.Source a (option_map ports_of ports))
-source_of scope (tree.source_lookup l) f =
-    option_map (λ a. nat_actions.Source a None) (look_number scope types.Address l f)
-
-abbrev pub destination_of : Scope → DestinationTree → Facts → Option NatAction
-destination_of scope (tree.destination_address a port) f = Some (nat_actions.Destination a port)
-destination_of scope (tree.destination_lookup l) f =
-    option_map (λ a. nat_actions.Destination a None) (look_number scope types.Address l f)
+abbrev pub port_interval_of : PortRange → PortInterval
+port_interval_of (port_ranges.One n) = record { low = n; high = n }
+port_interval_of (port_ranges.Between low high) = record { low = low; high = high }
 
 abbrev pub nat_action_of : Scope → NatTree → Facts → Option NatAction
-nat_action_of scope (tree.source s) f = source_of scope s f
-nat_action_of scope (tree.destination d) f = destination_of scope d f
-nat_action_of scope (tree.masquerade ports) f = Some (nat_actions.Masquerade (option_map ports_of ports))
+nat_action_of scope (tree.source (tree.source_address a ports)) f =
+    Some (nat_actions.Source a (option_map port_interval_of ports))
+nat_action_of scope (tree.source (tree.source_lookup l)) f =
+    option_map (λ a. nat_actions.Source a None) (look_number scope types.Address l f)
+nat_action_of scope (tree.destination (tree.destination_address a port)) f =
+    Some (nat_actions.Destination a port)
+nat_action_of scope (tree.destination (tree.destination_lookup l)) f =
+    option_map (λ a. nat_actions.Destination a None) (look_number scope types.Address l f)
+nat_action_of scope (tree.masquerade ports) f =
+    Some (nat_actions.Masquerade (option_map port_interval_of ports))
 nat_action_of scope (tree.redirect port) f = Some (nat_actions.Redirect port)
 
 -- ---- statements

@@ -1,6 +1,5 @@
 //! Properties of the semantics of rules, each as the contract of a function that does nothing.
-ghost use Rattle.std.specs.Prelude.{◌≡◌, ◌↔◌, ℕ, Bool, false, List, ◌∷◌, Contains, Option, None};
-ghost use Rattle.nft_tree.specs.declared.chain.Hook.{Hook};
+ghost use Rattle.std.specs.Prelude.{◌≡◌, ◌↔◌, ℕ, Bool, false, List, ◌∷◌, Contains, None};
 ghost use Rattle.nft_tree.specs.declared.selector.Selector.{Selector};
 ghost use Rattle.nft_tree.specs.Tree.{MatchTree, Statement, TableTree};
 ghost use Rattle.box_file.specs.Box.{PlantTree};
@@ -10,10 +9,10 @@ ghost use Rattle.rule_meaning.specs.Selectors.{value};
 ghost use Rattle.rule_meaning.specs.Sets.{Scope};
 ghost use Rattle.rule_meaning.specs.Matches.{holds};
 ghost use Rattle.rule_meaning.specs.Runs.{Program};
-ghost use Rattle.rule_meaning.specs.Hooks.{BaseChain, InOrder, HookResult, RunsBaseChain, Continues, Stops, NoChain};
-ghost use Rattle.rule_meaning.specs.Hooks.{InTurn, Chains, PreroutingRaw, Prerouting, Input, Forward, Postrouting};
-ghost use Rattle.rule_meaning.specs.Hooks.{Translating};
-ghost use Rattle.rule_meaning.specs.Laws.{AtMostOneRun, AtMostOneResult, step_of, selectors_of, EmptyJump, CounterCounts, UnreachedHasNoEffect};
+ghost use Rattle.rule_meaning.specs.declared.stage.HookStage.{HookStage};
+ghost use Rattle.rule_meaning.specs.Hooks.{BaseChain, InOrder, HookResult, RunsBaseChain, Continues, Stops};
+ghost use Rattle.rule_meaning.specs.Hooks.{InTurn, Chains, Stage};
+ghost use Rattle.rule_meaning.specs.Laws.{AtMostOneRun, AtMostOneResult, selectors_of, EmptyJump, CounterCounts, UnreachedHasNoEffect};
 
 /// Running the remainder of a chain is deterministic.
 pub fn run_unique()
@@ -25,8 +24,8 @@ pub fn run_unique_for<S>()
     ensures { (p : Program S) → AtMostOneRun p }
 {}
 
-/// The order of base chains is unique, and base chains, sequences of them and hooks have at most
-/// one result; hooks around a NAT step too, if that has at most one.
+/// The order of base chains is unique, and base chains, sequences of them and stages of hooks have at
+/// most one result.
 pub fn hook_result_unique()
     ensures order { (text order other : List BaseChain) → InOrder text order → InOrder text other
         → order ≡ other }
@@ -36,24 +35,8 @@ pub fn hook_result_unique()
         → AtMostOneResult (InTurn plant tables bs) }
     ensures chains { (plant : PlantTree) (tables : List TableTree) (test : BaseChain → Bool)
         → AtMostOneResult (Chains plant tables test) }
-    ensures early { (plant : PlantTree) (tables : List TableTree)
-        → AtMostOneResult (PreroutingRaw plant tables) }
-    ensures prerouting { (plant : PlantTree) (tables : List TableTree)
-        → AtMostOneResult (Prerouting plant tables NoChain) }
-    ensures input { (plant : PlantTree) (tables : List TableTree)
-        → AtMostOneResult (Input plant tables) }
-    ensures forward { (plant : PlantTree) (tables : List TableTree)
-        → AtMostOneResult (Forward plant tables) }
-    ensures postrouting { (plant : PlantTree) (tables : List TableTree)
-        → AtMostOneResult (Postrouting plant tables NoChain) }
-    ensures stepped_prerouting { (plant : PlantTree) (tables : List TableTree)
-        (step : Facts → List Event → Option HookResult)
-        → AtMostOneResult (Prerouting plant tables (step_of step)) }
-    ensures stepped_postrouting { (plant : PlantTree) (tables : List TableTree)
-        (step : Facts → List Event → Option HookResult)
-        → AtMostOneResult (Postrouting plant tables (step_of step)) }
-    ensures translating { (hook : Hook) (plant : PlantTree) (tables : List TableTree)
-        → AtMostOneResult (Translating hook plant tables) }
+    ensures stages { (stage : HookStage) (plant : PlantTree) (tables : List TableTree)
+        → AtMostOneResult (Stage stage plant tables) }
 {}
 
 /// A match fails if one of its selectors has no value.

@@ -6,6 +6,7 @@
 mod event;
 mod facts;
 mod laws;
+mod stage;
 
 pub use event::{
     ChainNo, ChainResult, Event, HookVerdict, NatAction, PortInterval, RuleVerdict,
@@ -16,3 +17,4 @@ pub use laws::{
     accept_ends_chain, counters_count, drop_ends_hook, empty_chain_jump, hook_result_unique,
     match_needs_value, run_unique, run_unique_for,
 };
+pub use stage::HookStage;

@@ -1,16 +1,17 @@
 -- Duplicate names in lists.
-use Rattle.rule_names.proofs.Names.{Bor, Contains, HasDuplicate, List, Option, Some, Text, [], ap, arith, bytes_eq, cond, false, get_or, inr, length}
+use Rattle.rule_names.proofs.Names.{Bool, Bor, Contains, HasDuplicate, IsAdded, List, Text, [], any_of_map, ap, arith, bytes_eq, false, get_or, inr, length}
 use Rattle.rule_names.proofs.Names.{list_any, map-append, refl, subst, sym, true, ℕ, ⊎_elim, ◌++◌, ◌<◌, ◌∙◌, ◌∷◌, ◌≡◌}
-use Rattle.std.proofs.Common.{inl, suc, zero, ◌⊎◌}
+use Rattle.std.proofs.Common.{inl, not, suc, zero, ◌⊎◌}
+use Rattle.std.specs.Prelude.{if◌then◌else◌}
 use Rattle.std.specs.Cmp.Lexicographic.{same_text}
 use Rattle.std.proofs.lemmas.Bool.{cases_lt}
-use Rattle.std.proofs.lemmas.List.{get_or_append_left, get_or_default, get_or_push, length-append, length-map, length_push}
+use Rattle.std.proofs.lemmas.List.{get_or_append_left, get_or_default, get_or_push, length-append, length_push}
 use Rattle.std.proofs.lemmas.List.Folds.{list_any-from_Any}
 use Rattle.std.proofs.lemmas.Map.Views.{Contains-from_any}
 use Rattle.list_laws.specs.Elements.{Contains-at}
 use Rattle.list_laws.specs.Lists.{text-refl}
-use Rattle.rule_names.specs.steps.Index.{IsIndexed, same_name, texts}
-use Rattle.rule_names.proofs.IndexLookup.{index-more}
+use Rattle.rule_names.specs.steps.Index.{texts}
+use Rattle.rule_names.proofs.IndexLookup.{named}
 
 pub repeats-more : (n : Text) (names : List Text) → HasDuplicate names → HasDuplicate (n ∷ names)
 repeats-more n names r = let a = r.apart in let w =
@@ -87,17 +88,19 @@ apart-more names name apart absent r =
 pub repeats-on : (names more : List Text) → HasDuplicate names → HasDuplicate (names ++ more)
 repeats-on names more r = grind (arith, length-append, r.apart, r.within, r.first, r.second, get_or_append_left, r.same)
 
--- a new name at the end of the list, and in the map
-pub name-added : (names more : List (Bor Text)) (name : Bor Text) (before after : Bor Text → Option ℕ) (index : ℕ)
-    → IsIndexed names before → list_any (bytes_eq name.now) (texts names) ≡ false
-    → more ≡ names ++ name ∷ [] → index ≡ length names
-    → ((q : Bor Text) → after q ≡ cond (same_name name q) (Some index) (before q))
-    → (texts more ≡ texts names ++ name.now ∷ []) × IsIndexed more after
-name-added names more name before after index known absent is at updates =
-    let all : texts more ≡ texts names ++ name.now ∷ [] = ap texts is ∙ map-append (λ n. n.now) names (name ∷ []) in (
-      all,
-      record {
-        distinct = subst (λ ns. HasDuplicate ns → ⊥) (sym all) (apart-more (texts names) name.now known.distinct absent);
-        located = λ q. grind (arith, updates q, known.located q, index-more (texts names) name.now q.now absent, length-map names (λ n. n.now), all, at);
-      },
-    )
+-- one more key
+pub key-added : (keys new : List (Bor Text)) (key : Bor Text) (stands fresh : Bool) → list_any (named key.now) keys
+    ≡ stands → fresh ≡ not stands → new ≡ (if stands then keys else keys ++ key ∷ [])
+    → (HasDuplicate (texts keys) → ⊥) → IsAdded (texts keys) key.now (texts new) fresh × (HasDuplicate (texts new) → ⊥)
+key-added keys new key true fresh t f is apart = (
+  subst (IsAdded (texts keys) key.now (texts new)) (sym f)
+      (among-front (texts keys) key.now [] (any-named (texts keys) key.now
+      (sym (any_of_map (bytes_eq key.now) (λ k. k.now) keys) ∙ t))),
+  subst (λ ks. HasDuplicate (texts ks) → ⊥) (sym is) apart,
+)
+key-added keys new key false fresh t f is apart =
+    let more : texts new ≡ texts keys ++ key.now ∷ [] = ap texts is ∙ map-append (λ k. k.now) keys (key ∷ []) in
+    let still : HasDuplicate (texts new) → ⊥ =
+    subst (λ ns. HasDuplicate ns → ⊥) (sym more)
+    (apart-more (texts keys) key.now apart (sym (any_of_map (bytes_eq key.now) (λ k. k.now) keys) ∙ t)) in
+    (subst (IsAdded (texts keys) key.now (texts new)) (sym f) (more, still), still)

@@ -1,26 +1,39 @@
 -- Indices of names, and the elements there.
 use Rattle.rule_names.proofs.Names.{Bool, Bor, List, MatchOption, None, Option, Some, Text, [], ap, ap₂, arith, bytes_eq, cond, false, get_or, length}
 use Rattle.rule_names.proofs.Names.{list_any, map}
-use Rattle.rule_names.proofs.Names.{option_map, refl, sym, true, ℕ, ◌++◌, ◌<◌, ◌∙◌, ◌∷◌, ◌≡◌}
+use Rattle.rule_names.proofs.Names.{option_map, refl, sym, true, ℕ, ◌+◌, ◌<◌, ◌∙◌, ◌∷◌, ◌≡◌}
 use Rattle.std.proofs.Common.{suc, ◌≤◌}
-use Rattle.std.specs.Prelude.{IfSome, find, is_some, slice_get}
+use Rattle.std.specs.Prelude.{IfSome, find, is_some, nat_eq, position, slice_get}
+use Rattle.std.specs.List.{position_from}
 use Rattle.std.specs.Option.{option_copied}
-use Rattle.std.specs.Cmp.Lexicographic.{same_text}
+use Rattle.std.specs.Cmp.Lexicographic.{pointwise}
+use Rattle.std.proofs.lemmas.Iterator.Adapters.{position_from-zero}
 use Rattle.std.proofs.lemmas.Cmp.{nat_list_eq_equiv}
 use Rattle.std.proofs.lemmas.Option.{slice_get-map, slice_get_past, slice_get_read}
 use Rattle.rule_names.specs.Names.{index_in}
-use Rattle.rule_names.specs.steps.Index.{at_index}
+use Rattle.rule_names.specs.steps.Index.{at_index, texts}
 
--- one more name
-pub index-more : (names : List Text) (name q : Text) → list_any (bytes_eq name) names ≡ false
-    → index_in q (names ++ name ∷ []) ≡ cond (bytes_eq name q) (Some (length names)) (index_in q names)
-index-more [] name q absent = refl
-index-more (n ∷ ns) name q absent = grind (arith, index-more ns name q, nat_list_eq_equiv.symm, same_text, absent)
+-- the key has this name
+abbrev pub named : Text → Bor Text → Bool
+named name k = pointwise nat_eq name k.now
 
--- whether a name is there
-pub index-found : (name : Text) (names : List Text) → is_some (index_in name names) ≡ list_any (bytes_eq name) names
-index-found name [] = refl
-index-found name (n ∷ ns) = grind (arith, nat_list_eq_equiv.symm name n, index-found name ns)
+index-from : (b : Bool) (i : ℕ) (o : Option ℕ) → cond b (Some i) (option_map (λ k. k + (i + 1)) o)
+    ≡ option_map (λ k. k + i) (cond b (Some 0) (option_map suc o))
+index-from true i o = ap Some (omega arith)
+index-from false i None = refl
+index-from false i (Some k) = ap Some (omega arith)
+
+from-index : (name : Text) (keys : List (Bor Text)) (i : ℕ) → position_from (named name) i keys ≡ option_map (λ k. k + i) (index_in name (texts keys))
+from-index name [] i = refl
+from-index name (k ∷ ks) i = grind (arith, index-from, nat_list_eq_equiv.symm, k.now, from-index name ks (i + 1))
+
+plus-none : (o : Option ℕ) → option_map (λ k. k + 0) o ≡ o
+plus-none None = refl
+plus-none (Some k) = ap Some (omega arith)
+
+-- where a key is among the keys
+pub position-index : (name : Text) (keys : List (Bor Text)) → position (named name) keys ≡ index_in name (texts keys)
+position-index name keys = position_from-zero (named name) keys ∙ from-index name keys 0 ∙ plus-none (index_in name (texts keys))
 
 pub at-index-more : {X : Type 0} (b : Bool) (x : X) (xs : List X) (o : Option ℕ) → cond b (Some x) (at_index xs o)
     ≡ at_index (x ∷ xs) (cond b (Some 0) (option_map suc o))

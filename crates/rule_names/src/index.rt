@@ -5,38 +5,33 @@ ghost use Rattle.std.specs.Str.{bytes_eq};
 ghost use Rattle.rule_names.specs.Names.{index_in};
 ghost use Rattle.rule_names.specs.steps.Index.{IsAdded};
 
+use indexmap::IndexSet;
 use std::alloc::{AllocError, Global};
-use std::collections::HashMap;
 use std::marker::Model;
 
 /// Distinct names, each with its index in order of insertion.
 pub(crate) struct NameIndex<'t> {
-    /// In order of insertion.
-    names: Vec<&'t [u8]>,
-    indices: HashMap<&'t [u8], usize>,
+    names: IndexSet<&'t [u8]>,
 }
 
 // Written out, so that dropping one is a call.
 impl Drop for NameIndex<'_> {
     fn drop(self) {
-        let NameIndex {
-            names: _,
-            indices: _,
-        } = self;
+        let NameIndex { names: _ } = self;
     }
 }
 
 impl<'t> Model for NameIndex<'t> {
     ghost use Rattle.std.specs.Prelude.{List};
-    ghost use Rattle.std.specs.HashMap.{get};
     ghost use Rattle.nft_tree.specs.Tree.{Text};
-    ghost use Rattle.rule_names.specs.steps.Index.{IsIndexed, same_name, texts};
+    ghost use Rattle.rule_names.specs.Names.{HasDuplicate};
+    ghost use Rattle.rule_names.specs.steps.Index.{texts};
 
     ghost Value = { List Text };
 
-    ghost view = { λ i. texts i.names.items };
+    ghost view = { λ i. texts i.names.keys };
 
-    ghost invariant = { λ i. IsIndexed i.names.items (get same_name i.indices) };
+    ghost invariant = { λ i. HasDuplicate (texts i.names.keys) → ⊥ };
 }
 
 impl<'t> NameIndex<'t> {
@@ -44,8 +39,7 @@ impl<'t> NameIndex<'t> {
         ensures { result ≡ [] }
     {
         NameIndex {
-            names: Vec::new(alloc),
-            indices: HashMap::new(alloc),
+            names: IndexSet::new(alloc),
         }
     }
 
@@ -53,26 +47,19 @@ impl<'t> NameIndex<'t> {
     pub(crate) fn add(&mut self, name: &'t [u8]) -> Result<bool, AllocError>
         ensures { IfOk result (IsAdded self.old name.now self.new) }
     {
-        if self.contains(name) {
-            return Ok(false);
-        }
-        // Room first: the list and the map both get the name, or neither does.
-        self.names.reserve(1)?;
-        self.indices.insert(name, self.names.len())?;
-        self.names.push(name)?;
-        Ok(true)
+        Ok(self.names.insert(name)?)
     }
 
     /// The index of the name, from 0.
     pub(crate) fn index(&self, name: &[u8]) -> Option<usize>
         ensures { result ≡ index_in name.now self.now }
     {
-        self.indices.get(name).copied()
+        self.names.get_index_of(name)
     }
 
     pub(crate) fn contains(&self, name: &[u8]) -> bool
         ensures { result ≡ list_any (bytes_eq name.now) self.now }
     {
-        self.indices.contains_key(name)
+        self.names.contains(name)
     }
 }

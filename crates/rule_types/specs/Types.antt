@@ -13,8 +13,8 @@ use Rattle.nft_tree.specs.declared.statement.Operator.TheVariants as operators
 use Rattle.nft_tree.specs.Tree as tree
 use Rattle.nft_tree.specs.Tree.{RangeTree, KeyTree, DataTree, PairTree, SetRefTree, MapRefTree, MatchTree, Statement}
 use Rattle.nft_tree.specs.Tree.{RuleTree, SetTree, MapTree, ItemTree, TableTree}
-use Rattle.nft_tree.specs.ValueTypes.{type_width}
-use Rattle.nft_tree.specs.ComparedTypes.{selector_compared_type, key_compared_types, map_key_compared_type, map_data_compared_type}
+use Rattle.nft_tree.specs.ComparedTypes.{compared_type_width, selector_compared_type, key_compared_types}
+use Rattle.nft_tree.specs.ComparedTypes.{map_key_compared_type, map_data_compared_type}
 use Rattle.rule_names.specs.Names.{set_named, map_named, some_of}
 
 -- ---- types
@@ -44,10 +44,6 @@ abbrev pub same_compared_types : List ComparedType → List ComparedType → Boo
 same_compared_types [] [] = true
 same_compared_types (a ∷ others) (b ∷ bs) = same_compared_type a b && same_compared_types others bs
 same_compared_types _ _ = false
-
-abbrev pub compared_type_width : ComparedType → ℕ
-compared_type_width (Named t) = type_width t
-compared_type_width (Unnamed width) = width
 
 abbrev pub MAX_KEY_WIDTH : ℕ
 MAX_KEY_WIDTH = 128

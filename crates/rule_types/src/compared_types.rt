@@ -2,7 +2,7 @@
 ghost use Rattle.std.specs.Prelude.{◌≡◌};
 ghost use Rattle.nft_tree.specs.Tree.{range_tree};
 ghost use Rattle.rule_types.specs.Types.{compare_mismatches, has_ranges, is_order, is_ordered, is_single};
-ghost use Rattle.rule_types.specs.Types.{compared_type_width, range_mismatches, same_compared_type};
+ghost use Rattle.rule_types.specs.Types.{range_mismatches, same_compared_type};
 
 use nft_tree::{ComparedType, Operator, Selector, ValueRange, ValueType};
 
@@ -10,16 +10,6 @@ pub(crate) fn same_compared_type(one: ComparedType, other: ComparedType) -> bool
     ensures { result ≡ same_compared_type one other }
 {
     one == other
-}
-
-/// The width of the type's values, in bits.
-pub(crate) fn compared_type_width(kind: ComparedType) -> u32
-    ensures { result ≡ compared_type_width kind }
-{
-    match kind {
-        ComparedType::Named(value_type) => value_type.width(),
-        ComparedType::Unnamed(width) => width,
-    }
 }
 
 /// Whether `<` and the like compare values of the type.

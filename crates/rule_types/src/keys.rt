@@ -8,7 +8,7 @@ ghost use Rattle.rule_names.specs.Names.{map_named, set_named};
 ghost use Rattle.rule_types.specs.Types.{is_too_wide, lookup_mismatches, named_set_mismatches, same_compared_types, set_mismatches, set_ref_mismatches};
 ghost use Rattle.rule_types.specs.steps.Keys.{part_is, shape_mismatches, shape_of};
 
-use crate::compared_types::{compared_type_width, range_mismatches, same_compared_type};
+use crate::compared_types::{range_mismatches, same_compared_type};
 use nft_tree::{ComparedType, Element, Key, Selector, SetDecl, SetRef, SetType, ValueType};
 use rule_names::TableNames;
 
@@ -74,7 +74,7 @@ fn selectors_too_wide(selectors: &[Selector]) -> bool
 {
     let mut width = 0u32;
     for selector in selectors {
-        width = width.saturating_add(compared_type_width(selector.kind()));
+        width = width.saturating_add(selector.kind().width());
     }
     width > MAX_KEY_WIDTH
 }

@@ -138,8 +138,8 @@ entry_with (Some keys) (Some given) = Some (record { keys = keys; given = given 
 entry_with _ _ = None
 
 -- an element whose key and data denote numbers (without a fault of a lower number, all do)
-abbrev pub entry_of : PlantTree → TypedMap → PairTree → Option MapEntry
-entry_of plant m p = entry_with (numbers_of plant m.key p.key) (element_data plant m.value p.value)
+abbrev pub map_entry_of : PlantTree → TypedMap → PairTree → Option MapEntry
+map_entry_of plant m p = entry_with (numbers_of plant m.key p.key) (element_data plant m.value p.value)
 
 -- two elements overlap and have different data
 abbrev pub contradict : MapEntry → MapEntry → Bool
@@ -147,7 +147,7 @@ contradict a b =
     nat_le a.keys.low b.keys.high && nat_le b.keys.low a.keys.high && not (same_element_data a.given b.given)
 
 abbrev pub map_contradicts : PlantTree → TypedMap → Bool
-map_contradicts plant m = any_pair contradict (filter_map (entry_of plant m) m.elements)
+map_contradicts plant m = any_pair contradict (filter_map (map_entry_of plant m) m.elements)
 
 abbrev pub has_contradiction : PlantTree → TableTree → Bool
 has_contradiction plant t = list_any (map_contradicts plant) (maps_in t)

@@ -3,7 +3,7 @@ ghost use Rattle.std.specs.Prelude.{◌≡◌, [], flat_map, map, List, IfOk, On
 ghost use Rattle.std.specs.List.{list_any};
 ghost use Rattle.nft_tree.specs.Tree.{ItemTree, RuleTree, Statement, TableTree, item_tree, pair_tree, rule_tree, statement, table_tree};
 ghost use Rattle.rule_values.specs.TypedValues.{TypedMap, item_maps, maps_in, rule_maps, statement_maps};
-ghost use Rattle.rule_values.specs.Faults.{entry_of, map_contradicts};
+ghost use Rattle.rule_values.specs.Faults.{map_entry_of, map_contradicts};
 ghost use Rattle.rule_values.specs.steps.Views.{elements_tree};
 ghost use Rattle.rule_values.specs.steps.MapEntries.{RepresentsOptionalEntry, KeepsIndices, RepresentsEntries, entries_of};
 
@@ -156,7 +156,7 @@ fn entry<'t>(
 ) -> Result<Option<(Range, ComparableData)>, AllocError>
     ensures keeps { OnOk result (KeepsIndices names.old.keys names.new.keys) }
     ensures entry { IfOk result (λ e. RepresentsOptionalEntry names.new.keys
-        (entry_of plant.now (elements_tree elements.now) (pair_tree pair.now)) e) }
+        (map_entry_of plant.now (elements_tree elements.now) (pair_tree pair.now)) e) }
 {
     let given = comparable_form_of(names, plant, elements.value, &pair.value)?;
     match (numbers_of(plant, elements.key, &pair.key), given) {

@@ -150,14 +150,10 @@ fn visits_few<R: Abort>(rt: &R, mut tracker: AgedTracker, ports: u16)
 #[test]
 fn calls_visit_few_slots(rt: HostRuntime) {
     let hasher = RandomState::new(&rt).expect(&rt, "a hasher");
+    visits_few(&rt, AgedTracker::new(rt.alloc(), Limits::usual()), 6);
     visits_few(
         &rt,
-        AgedTracker::new(rt.alloc(), hasher, Limits::usual()),
-        6,
-    );
-    visits_few(
-        &rt,
-        AgedTracker::new(rt.alloc(), hasher, Limits::usual()),
+        AgedTracker::with_hasher(rt.alloc(), hasher, Limits::usual()),
         3000,
     );
 }

@@ -91,9 +91,8 @@ fn checked(alloc: Global, rules: &[u8]) -> Option<Checked> {
 
 /// An engine with these rules, before its first record.
 pub fn started<R: Abort + AllocGlobal, T: Tracker>(rt: &R, rules: &[u8]) -> Engine<T> {
-    let hasher = hasher().expect(rt, "keys");
     let checked = checked(rt.alloc(), rules).expect(rt, "an accepted ruleset");
-    Engine::new(rt.alloc(), hasher, checked).expect(rt, "memory")
+    Engine::new(rt.alloc(), checked).expect(rt, "memory")
 }
 
 /// Steps a record of these bytes at this time in nanoseconds, as long as there may be more.

@@ -1,5 +1,5 @@
--- An interpreter of base chains and hooks.
-use Rattle.std.proofs.Common.{◌≡◌, ℕ, ℤ, Bool, not, ◌&&◌, List, [], ◌∷◌, filter, slice_get, Option, Some, None, option_map, refl, sym, subst}
+-- An interpreter of base chains.
+use Rattle.std.proofs.Common.{◌≡◌, ℕ, Bool, List, [], ◌∷◌, filter, slice_get, Option, Some, None, option_map, refl, sym, subst}
 use Rattle.std.proofs.lemmas.Option.{same_Some, none-some}
 use Rattle.nft_tree.specs.Tree.{TableTree}
 use Rattle.box_file.specs.Box.{PlantTree}
@@ -9,10 +9,8 @@ use Rattle.rule_meaning.specs.declared.event.HookVerdict.{HookVerdict}
 use Rattle.rule_meaning.specs.declared.event.HookVerdict.TheVariants.{Accepted, Dropped, Translated}
 use Rattle.rule_meaning.specs.Runs.{table_program, RunResult}
 use Rattle.rule_meaning.specs.Hooks as hooks
-use Rattle.rule_meaning.specs.Hooks.{BaseChain, base_chains_of, runs_before, is_below, HookResult, policy_of}
+use Rattle.rule_meaning.specs.Hooks.{BaseChain, base_chains_of, runs_before, HookResult, policy_of}
 use Rattle.rule_meaning.specs.Hooks.{with_policy, Traversal, RunsBaseChain, Continues, Then, InTurn, Chains}
-use Rattle.rule_meaning.specs.Hooks.{AroundNat}
-use Rattle.rule_meaning.specs.Laws.{step_of}
 use Rattle.rule_meaning.proofs.Priorities.{priorities}
 use Rattle.rule_laws.proofs.Sorting.{ordered, sorted, stable}
 use Rattle.semantics_examples.proofs.Interpreter.{run, run_sound}
@@ -51,9 +49,6 @@ module _ (first second : Traversal) (next : Gives) (sound : Sound next second) (
 pub then_sound : (first second : Traversal) (a b : Gives) → Sound a first → Sound b second → Sound (in_order a b) (Then first second)
 then_sound first second a b sa sb f es hook_result e = followed first second b sb f es hook_result (a f es) (λ m is. sa f es m is) e
 
-pub step_sound : (gives : Gives) → Sound gives (step_of gives)
-step_sound gives f es hook_result e = e
-
 -- ---- base chains
 
 module _ (plant : PlantTree) (tables : List TableTree) (depth : ℕ) where
@@ -67,9 +62,6 @@ module _ (plant : PlantTree) (tables : List TableTree) (depth : ℕ) where
 
   abbrev pub chains_run : (BaseChain → Bool) → Gives
   chains_run test f es = turn_run (ordered runs_before (filter test (base_chains_of tables))) f es
-
-  abbrev pub around_run : (BaseChain → Bool) → ℤ → Gives → Gives
-  around_run test limit step = in_order (chains_run (λ b. test b && is_below limit b)) (in_order step (chains_run (λ b. test b && not (is_below limit b))))
 
   closed_sound : (b : BaseChain) (t : TableTree) → slice_get tables b.number.table ≡ Some t
       → (f : Facts) (es : List Event) (hook_result : HookResult) (x : Option RunResult)
@@ -103,9 +95,3 @@ module _ (plant : PlantTree) (tables : List TableTree) (depth : ℕ) where
         run =
             turn_sound (ordered runs_before text) f es hook_result e;
       }
-
-  pub around_sound : (test : BaseChain → Bool) (limit : ℤ) (step : Gives)
-      → Sound (around_run test limit step) (AroundNat plant tables test limit (step_of step))
-  around_sound test limit step =
-      then_sound _ _ _ _ (chains_sound (λ b. test b && is_below limit b))
-      (then_sound _ _ step _ (step_sound step) (chains_sound (λ b. test b && not (is_below limit b))))

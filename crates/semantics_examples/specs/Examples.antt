@@ -1,5 +1,5 @@
 -- The rulesets and matches of the examples. (own)
-use Rattle.std.specs.Prelude.{ℕ, List, [], ◌∷◌, map, Option, Some, None, codes}
+use Rattle.std.specs.Prelude.{ℕ, List, [], ◌∷◌, map, None, codes}
 use Rattle.nft_tree.specs.declared.chain.ChainKind.TheVariants as kinds
 use Rattle.nft_tree.specs.declared.chain.Hook.{Hook}
 use Rattle.nft_tree.specs.declared.chain.Hook.TheVariants as hooks
@@ -16,10 +16,6 @@ use Rattle.nft_tree.specs.declared.statement.BitTest.TheVariants as bit_tests
 use Rattle.nft_tree.specs.Tree as tree
 use Rattle.nft_tree.specs.Tree.{Text, RangeTree, VerdictTree, SetRefTree, MapLookupTree, OperandTree, NatTree, FlagTree}
 use Rattle.nft_tree.specs.Tree.{MatchTree, Statement, TableTree}
-use Rattle.rule_meaning.specs.declared.facts.Facts.{Facts}
-use Rattle.rule_meaning.specs.declared.event.Event.{Event}
-use Rattle.rule_meaning.specs.Hooks.{HookResult}
-use Rattle.semantics_examples.specs.Expected.{accepted}
 use Rattle.semantics_examples.specs.Fixtures.{ip, translates, port_map, number, numbers, addresses, element, pair, accept}
 use Rattle.semantics_examples.specs.Fixtures.{counter, drop, chain, base, forwards, table, one_table}
 
@@ -105,17 +101,7 @@ neighbour_at n =
       map = tree.pairs (pair (number n) (tree.to_value (tree.address (ip 192 168 1 11))) ∷ []);
     }
 
--- ---- hooks with a NAT step
-
--- chain c { type filter hook HOOK priority PRIORITY; meta mark 7 drop }
-abbrev pub marked_dropped : Hook → Priority → List TableTree
-marked_dropped hook priority =
-    one_table (base (codes "c") kinds.Filter hook priority None
-    ((tree.matching (tree.compare selectors.MetaMark operators.Equal (number 7)) ∷ drop ∷ []) ∷ []) ∷ [])
-
--- a step that sets the mark to 7
-abbrev pub marks_seven : Facts → List Event → Option HookResult
-marks_seven f es = Some (accepted (record f { mark = 7 }) es)
+-- ---- base chains at a priority
 
 -- chain c { type filter hook HOOK priority PRIORITY; drop }
 abbrev pub dropping : Hook → Priority → List TableTree

@@ -13,7 +13,8 @@ use Rattle.rule_meaning.specs.declared.event.NatAction.{NatAction}
 use Rattle.rule_meaning.specs.declared.event.Event.{Event}
 use Rattle.rule_meaning.specs.declared.event.Event.TheVariants as events
 use Rattle.rule_meaning.specs.declared.event.HookVerdict.TheVariants as hook_verdicts
-use Rattle.rule_meaning.specs.Hooks.{HookResult, Forward}
+use Rattle.rule_meaning.specs.declared.stage.HookStage.TheVariants as stages
+use Rattle.rule_meaning.specs.Hooks.{HookResult, Stage}
 use Rattle.semantics_examples.specs.Fixtures.{box, one_table, forwards, drop}
 
 -- rule n of chain c, and its statement k
@@ -45,11 +46,11 @@ translated t f es = record { verdict = hook_verdicts.Translated t; facts = f; ev
 
 -- the filter chains on forward accept the packet as it is, with these events
 abbrev pub ForwardAccepts : List TableTree → Facts → List Event → Type 0
-ForwardAccepts tables f es = Forward box tables f [] (accepted f es)
+ForwardAccepts tables f es = Stage stages.Forward box tables f [] (accepted f es)
 
 -- the filter chains on forward drop the packet, with these events
 abbrev pub ForwardDrops : List TableTree → Facts → List Event → Type 0
-ForwardDrops tables f es = Forward box tables f [] (dropped f es)
+ForwardDrops tables f es = Stage stages.Forward box tables f [] (dropped f es)
 
 -- a filter chain on forward with the one rule `MATCH drop`, beside other items of the table
 abbrev pub dropping_ruleset : List ItemTree → MatchTree → List TableTree

@@ -20,8 +20,8 @@ ghost use Rattle.rule_meaning.specs.declared.event.NatAction.TheVariants as nat_
 ghost use Rattle.rule_meaning.specs.declared.facts.CtState.TheVariants as states;
 ghost use Rattle.rule_meaning.specs.declared.facts.CtDirection.TheVariants as directions;
 ghost use Rattle.rule_meaning.specs.declared.facts.CtFacts.TheVariants as ct;
-ghost use Rattle.rule_meaning.specs.Hooks.{PreroutingRaw, Prerouting, Input, Forward, Postrouting, Translating};
-ghost use Rattle.rule_meaning.specs.Laws.{step_of};
+ghost use Rattle.rule_meaning.specs.declared.stage.HookStage.TheVariants as stages;
+ghost use Rattle.rule_meaning.specs.Hooks.{Stage};
 ghost use Rattle.semantics_examples.specs.Fixtures.{accept, address, addresses_set, arriving, at, base};
 ghost use Rattle.semantics_examples.specs.Fixtures.{new_connection, below_zero, box, counter, drop, forwards, from};
 ghost use Rattle.semantics_examples.specs.Fixtures.{icmp, in_state, ip, known, marked, number, numbers, one_table};
@@ -297,15 +297,15 @@ pub fn verdict_maps()
 /// `meta mark set` to a number, a connection's mark, or a map's data; without an operand the
 /// statement fails. The next rule reads the new mark.
 pub fn marks_written()
-    ensures number { Forward box (examples.marking marks.Meta (tree.constant 7)) plain []
+    ensures number { Stage stages.Forward box (examples.marking marks.Meta (tree.constant 7)) plain []
         (dropped (marked 7) (events.Marked marks.Meta 7 ∷ counted 0 1 2
         ∷ took 0 2 rule_verdicts.Drop ∷ [])) }
-    ensures found { Forward box (examples.marking marks.Meta (examples.seven_at 53)) plain []
+    ensures found { Stage stages.Forward box (examples.marking marks.Meta (examples.seven_at 53)) plain []
         (dropped (marked 7) (events.Marked marks.Meta 7 ∷ counted 0 1 2
         ∷ took 0 2 rule_verdicts.Drop ∷ [])) }
     ensures missing { ForwardAccepts (examples.marking marks.Meta (examples.seven_at 54)) plain
         (took_policy 0 policies.Accept ∷ []) }
-    ensures of_connection { Forward box (examples.marking marks.Meta (tree.mark_of marks.Ct))
+    ensures of_connection { Stage stages.Forward box (examples.marking marks.Meta (tree.mark_of marks.Ct))
         (known (record new_connection { mark = 7 })) []
         (dropped (record (known (record new_connection { mark = 7 })) { mark = 7 })
         (events.Marked marks.Meta 7 ∷ counted 0 1 2 ∷ took 0 2 rule_verdicts.Drop ∷ [])) }
@@ -316,7 +316,7 @@ pub fn marks_written()
 /// `ct mark set` writes the connection's mark; without a connection it does nothing, without an
 /// operand it fails.
 pub fn connections_marked()
-    ensures known { Forward box (examples.marking marks.Ct (tree.constant 7)) plain []
+    ensures known { Stage stages.Forward box (examples.marking marks.Ct (tree.constant 7)) plain []
         (accepted (known (record new_connection { mark = 7 }))
         (events.Marked marks.Ct 7 ∷ counted 0 1 2 ∷ took_policy 0 policies.Accept ∷ [])) }
     ensures none { ForwardAccepts (examples.marking marks.Ct (tree.constant 7)) (tracked ct.Invalid)
@@ -328,7 +328,7 @@ pub fn connections_marked()
 /// `notrack counter`, and `notrack` again: before the conntrack lookup the first takes effect,
 /// after it neither. `ct state untracked` has a value only after the lookup.
 pub fn notrack_packets()
-    ensures unknown { Forward box examples.untracking (tracked ct.NotLookedUp) []
+    ensures unknown { Stage stages.Forward box examples.untracking (tracked ct.NotLookedUp) []
         (accepted (tracked ct.Notrack) (events.Untracked ∷ counted 0 1 2
         ∷ took_policy 0 policies.Accept ∷ [])) }
     ensures known { ForwardAccepts examples.untracking plain
@@ -347,11 +347,11 @@ pub fn notrack_packets()
 
 /// The requests of NAT statements; a map without an element for the key makes the statement fail.
 pub fn nat_actions()
-    ensures masquerade { Translating hooks.Postrouting box
+    ensures masquerade { Stage stages.PostroutingNat box
         (examples.translating hooks.Postrouting (tree.masquerade None)) plain []
         (translated (nat_actions.Masquerade None) plain
         (counted 0 1 1 ∷ took 0 1 (rule_verdicts.Translate (nat_actions.Masquerade None)) ∷ [])) }
-    ensures snat { Translating hooks.Postrouting box
+    ensures snat { Stage stages.PostroutingNat box
         (examples.translating hooks.Postrouting
         (tree.source (tree.source_address (ip 203 0 113 1)
         (Some (ports.Between 1024 2048))))) plain []
@@ -359,30 +359,30 @@ pub fn nat_actions()
         (Some (record { low = 1024; high = 2048 }))) plain
         (counted 0 1 1 ∷ took 0 1 (rule_verdicts.Translate
         (nat_actions.Source (ip 203 0 113 1) (Some (record { low = 1024; high = 2048 })))) ∷ [])) }
-    ensures dnat { Translating hooks.Prerouting box
+    ensures dnat { Stage stages.PreroutingNat box
         (examples.translating hooks.Prerouting
         (tree.destination (tree.destination_address (ip 192 168 1 11) (Some 5353)))) plain []
         (translated (nat_actions.Destination (ip 192 168 1 11) (Some 5353)) plain
         (counted 0 1 1 ∷ took 0 1 (rule_verdicts.Translate
         (nat_actions.Destination (ip 192 168 1 11) (Some 5353))) ∷ [])) }
-    ensures redirect { Translating hooks.Prerouting box
+    ensures redirect { Stage stages.PreroutingNat box
         (examples.translating hooks.Prerouting (tree.redirect (Some 8053))) plain []
         (translated (nat_actions.Redirect (Some 8053)) plain
         (counted 0 1 1 ∷ took 0 1 (rule_verdicts.Translate (nat_actions.Redirect (Some 8053)))
         ∷ [])) }
-    ensures found { Translating hooks.Prerouting box
+    ensures found { Stage stages.PreroutingNat box
         (examples.translating hooks.Prerouting
         (tree.destination (tree.destination_lookup (examples.neighbour_at 53)))) plain []
         (translated (nat_actions.Destination (ip 192 168 1 11) None) plain
         (counted 0 1 1 ∷ took 0 1 (rule_verdicts.Translate
         (nat_actions.Destination (ip 192 168 1 11) None)) ∷ []))
-        × Translating hooks.Postrouting box
+        × Stage stages.PostroutingNat box
         (examples.translating hooks.Postrouting
         (tree.source (tree.source_lookup (examples.neighbour_at 53)))) plain []
         (translated (nat_actions.Source (ip 192 168 1 11) None) plain
         (counted 0 1 1 ∷ took 0 1 (rule_verdicts.Translate
         (nat_actions.Source (ip 192 168 1 11) None)) ∷ [])) }
-    ensures missing { Translating hooks.Prerouting box
+    ensures missing { Stage stages.PreroutingNat box
         (examples.translating hooks.Prerouting
         (tree.destination (tree.destination_lookup (examples.neighbour_at 54)))) plain []
         (accepted plain (counted 0 1 1 ∷ took_policy 0 policies.Accept ∷ [])) }
@@ -391,64 +391,80 @@ pub fn nat_actions()
 /// Chains of type nat run in order until one translates or drops; after an accept the next one
 /// runs.
 pub fn chains_of_type_nat()
-    ensures accepted { Translating hooks.Postrouting box
+    ensures accepted { Stage stages.PostroutingNat box
         (examples.translating_behind hooks.Postrouting accept (tree.masquerade None)) plain []
         (translated (nat_actions.Masquerade None) plain
         (took 1 1 rule_verdicts.Accept ∷ took 0 1
         (rule_verdicts.Translate (nat_actions.Masquerade None)) ∷ [])) }
-    ensures dropped { Translating hooks.Postrouting box
+    ensures dropped { Stage stages.PostroutingNat box
         (examples.translating_behind hooks.Postrouting drop (tree.masquerade None)) plain []
         (dropped plain (took 1 1 rule_verdicts.Drop ∷ [])) }
-    ensures translated { Translating hooks.Postrouting box
+    ensures translated { Stage stages.PostroutingNat box
         (examples.translating_behind hooks.Postrouting
         (tree.nat (tree.masquerade (Some (ports.One 4000)))) (tree.masquerade None)) plain []
         (translated (nat_actions.Masquerade (Some (record { low = 4000; high = 4000 }))) plain
         (took 1 1 (rule_verdicts.Translate
         (nat_actions.Masquerade (Some (record { low = 4000; high = 4000 })))) ∷ [])) }
-    ensures filters_apart { Translating hooks.Postrouting box
+    ensures filters_apart { Stage stages.PostroutingNat box
         (examples.dropping hooks.Postrouting (at 100)) plain [] (accepted plain [])
-        × Postrouting box (examples.translating hooks.Postrouting (tree.masquerade None))
-        (step_of examples.marks_seven) plain [] (accepted (marked 7) []) }
-    ensures elsewhere { Translating hooks.Prerouting box
+        × Stage stages.PostroutingBeforeNat box
+        (examples.translating hooks.Postrouting (tree.masquerade None)) plain [] (accepted plain [])
+        × Stage stages.PostroutingAfterNat box
+        (examples.translating hooks.Postrouting (tree.masquerade None)) plain []
+        (accepted plain []) }
+    ensures elsewhere { Stage stages.PreroutingNat box
         (examples.translating hooks.Postrouting (tree.masquerade None)) plain []
         (accepted plain []) }
 {}
 
-/// Filter chains on prerouting with priority -100 or above see the result of destination NAT, those
-/// on postrouting with 100 or above that of source NAT; lower ones don't.
+/// Filter chains on prerouting with priority -100 or above run after destination NAT, those on
+/// postrouting with 100 or above after source NAT; lower ones run before it. None runs twice.
 pub fn filter_chains_around_nat()
-    ensures prerouting { Prerouting box (examples.marked_dropped hooks.Prerouting (below_zero 100))
-        (step_of examples.marks_seven) plain []
-        (dropped (marked 7) (took 0 1 rule_verdicts.Drop ∷ []))
-        × Prerouting box (examples.marked_dropped hooks.Prerouting (below_zero 101))
-        (step_of examples.marks_seven) plain []
-        (accepted (marked 7) (took_policy 0 policies.Accept ∷ [])) }
-    ensures postrouting { Postrouting box (examples.marked_dropped hooks.Postrouting (at 100))
-        (step_of examples.marks_seven) plain []
-        (dropped (marked 7) (took 0 1 rule_verdicts.Drop ∷ []))
-        × Postrouting box (examples.marked_dropped hooks.Postrouting (at 99))
-        (step_of examples.marks_seven) plain []
-        (accepted (marked 7) (took_policy 0 policies.Accept ∷ [])) }
+    ensures prerouting_after { Stage stages.PreroutingBeforeNat box
+        (examples.dropping hooks.Prerouting (below_zero 100)) plain [] (accepted plain [])
+        × Stage stages.PreroutingAfterNat box
+        (examples.dropping hooks.Prerouting (below_zero 100)) plain []
+        (dropped plain (took 0 1 rule_verdicts.Drop ∷ [])) }
+    ensures prerouting_before { Stage stages.PreroutingBeforeNat box
+        (examples.dropping hooks.Prerouting (below_zero 101)) plain []
+        (dropped plain (took 0 1 rule_verdicts.Drop ∷ []))
+        × Stage stages.PreroutingAfterNat box
+        (examples.dropping hooks.Prerouting (below_zero 101)) plain [] (accepted plain []) }
+    ensures postrouting_after { Stage stages.PostroutingBeforeNat box
+        (examples.dropping hooks.Postrouting (at 100)) plain [] (accepted plain [])
+        × Stage stages.PostroutingAfterNat box
+        (examples.dropping hooks.Postrouting (at 100)) plain []
+        (dropped plain (took 0 1 rule_verdicts.Drop ∷ [])) }
+    ensures postrouting_before { Stage stages.PostroutingBeforeNat box
+        (examples.dropping hooks.Postrouting (at 99)) plain []
+        (dropped plain (took 0 1 rule_verdicts.Drop ∷ []))
+        × Stage stages.PostroutingAfterNat box
+        (examples.dropping hooks.Postrouting (at 99)) plain [] (accepted plain []) }
 {}
 
 /// Filter chains on prerouting with priority -200 or below run before the conntrack lookup, and not
 /// again after it.
 pub fn prerouting_raw_chains()
-    ensures at { PreroutingRaw box (examples.dropping hooks.Prerouting (below_zero 200)) plain []
+    ensures at { Stage stages.PreroutingRaw box
+        (examples.dropping hooks.Prerouting (below_zero 200)) plain []
         (dropped plain (took 0 1 rule_verdicts.Drop ∷ []))
-        × Prerouting box (examples.dropping hooks.Prerouting (below_zero 200))
-        (step_of examples.marks_seven) plain [] (accepted (marked 7) []) }
-    ensures above { PreroutingRaw box (examples.dropping hooks.Prerouting (below_zero 199)) plain []
-        (accepted plain []) × Prerouting box (examples.dropping hooks.Prerouting (below_zero 199))
-        (step_of examples.marks_seven) plain [] (dropped plain (took 0 1 rule_verdicts.Drop ∷ [])) }
+        × Stage stages.PreroutingBeforeNat box
+        (examples.dropping hooks.Prerouting (below_zero 200)) plain [] (accepted plain [])
+        × Stage stages.PreroutingAfterNat box
+        (examples.dropping hooks.Prerouting (below_zero 200)) plain [] (accepted plain []) }
+    ensures above { Stage stages.PreroutingRaw box
+        (examples.dropping hooks.Prerouting (below_zero 199)) plain [] (accepted plain [])
+        × Stage stages.PreroutingBeforeNat box
+        (examples.dropping hooks.Prerouting (below_zero 199)) plain []
+        (dropped plain (took 0 1 rule_verdicts.Drop ∷ [])) }
 {}
 
 /// Filter chains on input run for packets to the box, those on forward for forwarded ones.
 pub fn input_and_forward()
-    ensures input { Input box (examples.dropping hooks.Input (at 0)) plain []
+    ensures input { Stage stages.Input box (examples.dropping hooks.Input (at 0)) plain []
         (dropped plain (took 0 1 rule_verdicts.Drop ∷ []))
         × ForwardAccepts (examples.dropping hooks.Input (at 0)) plain [] }
     ensures forward { ForwardDrops (examples.dropping hooks.Forward (at 0)) plain
         (took 0 1 rule_verdicts.Drop ∷ [])
-        × Input box (examples.dropping hooks.Forward (at 0)) plain [] (accepted plain []) }
+        × Stage stages.Input box (examples.dropping hooks.Forward (at 0)) plain [] (accepted plain []) }
 {}

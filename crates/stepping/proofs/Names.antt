@@ -32,7 +32,8 @@ pub use Rattle.stepping.specs.Carried.{ReceivedPacket, carried, interface_facts}
 pub use Rattle.stepping.specs.Confirmations.{confirmation_by, confirmation_of, confirmed, mark_in, refusal, reply_to, unless_refused}
 pub use Rattle.stepping.specs.Lookups.{belonging_by_tuple, belonging_of, ct_info_by_tuple, error_belonging, flags_in, looked_up_info, lookup_tuple_of}
 pub use Rattle.stepping.specs.Lookups.{others_beside, others_in}
-pub use Rattle.stepping.specs.Next.{EntryOf, HooksAndConfirm, Next, Path, arrival_of, entry_of, entry_without_packet, final_state, live_at_record, moment_after}
+pub use Rattle.stepping.specs.Next.{EntryOf, HooksAndConfirm, Next, Path, arrival_of, entry_of_packet, entry_without_packet, final_state}
+pub use Rattle.stepping.specs.Next.{live_at_record, moment_after}
 pub use Rattle.stepping.specs.Next.{tracked_as, tuple_in, with_info}
 pub use Rattle.stepping.specs.Paths.{AfterRouting, Continue, DestinationNat, Drop, Hooks, InputOrForward, NatChains, PathState, RunsStage, SourceNat, Step}
 pub use Rattle.stepping.specs.Paths.{StepResult, after_chains, destination_nat_result, goes_on, on_arrival, routed, source_nat_result, stops, unless_dropped}

@@ -3,15 +3,15 @@ use Rattle.std.proofs.Common.{arith}
 use Rattle.stepping.proofs.Names.{Accepted, Bool, Cause, ConntrackEntry, Continue, CtInfo, DestinationNat, Drop, Entry, EntryOf, Err, Event, Facts, Hooks}
 use Rattle.stepping.proofs.Names.{HooksAndConfirm, InputOrForward, List, Mapping, NatChains, New, Next, None, Ok, Option, Path, PathState, ReceivedPacket}
 use Rattle.stepping.proofs.Names.{Recorded, Result, RunsStage, Setup, Some, SourceNat, Step, StepResult, after_chains, carried, confirmed}
-use Rattle.stepping.proofs.Names.{destination_nat_result, entry_of, entry_without_packet, goes_on, interface_facts, live_at_record, looked_up_info, mappings_in}
-use Rattle.stepping.proofs.Names.{moment_after, on_arrival, others_beside, refl, routed, source_nat_result, stops, unless_dropped, with_info, ℕ}
+use Rattle.stepping.proofs.Names.{destination_nat_result, entry_of_packet, entry_without_packet, goes_on, interface_facts, live_at_record}
+use Rattle.stepping.proofs.Names.{looked_up_info, mappings_in, moment_after, on_arrival, others_beside, refl, routed, source_nat_result, stops, unless_dropped, with_info, ℕ}
 use Rattle.stepping.proofs.Names.{◌≡◌, ◌⨾◌}
 use Rattle.rule_meaning.specs.declared.facts.Interface.{Interface}
 use Rattle.rule_meaning.specs.Hooks.{BaseChain, Chains, HookResult}
-use Rattle.hook_runs.specs.declared.stages.HookStage.{HookStage}
-use Rattle.hook_runs.specs.Stages.{chains_in_stage}
+use Rattle.rule_meaning.specs.declared.stage.HookStage.{HookStage}
+use Rattle.rule_meaning.specs.Hooks.{chains_in_stage}
 use Rattle.translation.specs.Nat.{after_destination_nat, after_source_nat}
-use Rattle.hook_runs.specs.declared.stages.HookStage.TheVariants as stages
+use Rattle.rule_meaning.specs.declared.stage.HookStage.TheVariants as stages
 
 -- what holds of the results of a function, and of those of one step after another
 pub record IsKept (P : (A : Type 0) → (A → Type 0) → Type 0) : Type 1 where
@@ -106,7 +106,7 @@ module _ (P : (A : Type 0) → (A → Type 0) → Type 0) (law : IsKept P) (setu
     entry live now (Err cause) = law.exact Entry (entry_without_packet now cause)
     entry live now (Ok a) =
         let s = on_arrival a.packet (interface_facts setup.plant a.interface) in
-        law.image StepResult Entry (Path setup live a.packet s) (EntryOf setup live now (Ok a)) (entry_of now live a.packet)
+        law.image StepResult Entry (Path setup live a.packet s) (EntryOf setup live now (Ok a)) (entry_of_packet now live a.packet)
         (λ e x. x) (λ r x. (r, x, refl)) (path live a.packet s)
 
     pub next : (history : List Entry) (r : Recorded) → P Entry (Next setup history r)

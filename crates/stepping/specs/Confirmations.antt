@@ -1,5 +1,6 @@
--- The confirmation of a packet, as nf_conntrack_confirm: it refreshes or begins its connection (own where
--- not said).
+-- The confirmation of a packet at the end of its path. It begins its connection there, or is dropped where
+-- the tuples clash, as by netfilter's nf_conntrack_confirm; that it refreshes one there, and that the table
+-- is full there, is (own): Linux does both at the look-up.
 use Rattle.std.specs.Prelude.{◌≡◌, ℕ, Bool, nat_le, if◌then◌else◌, List, length, Option, Some, None}
 use Rattle.ip_headers.specs.declared.tuple.Mapping.{Mapping}
 use Rattle.ip_headers.specs.declared.tuple.Tuple.{Tuple}
@@ -49,15 +50,16 @@ abbrev pub mark_in : CtFacts → ℕ
 mark_in (Known c) = c.mark
 mark_in _ = 0
 
--- a packet refreshes its connection, or begins one with the mappings that NAT gave it
+-- a packet refreshes its connection (own), or begins one with the mappings that NAT gave it
 abbrev pub confirmation_by : CtInfo → ℕ → Confirmation
 confirmation_by (Tracked connection) mark = Confirmed mark connection.reply None None
 confirmation_by (New new_connection) mark =
     Confirmed mark (reply_to new_connection) new_connection.source new_connection.dest
--- an ICMP error doesn't refresh its connection
+-- an ICMP error doesn't refresh its connection (nor in netfilter's nf_conntrack_in)
 confirmation_by _ mark = Unconfirmed
 
--- a dropped packet doesn't refresh its connection
+-- a dropped packet doesn't refresh its connection (own: on Linux it does, but for one dropped before the
+-- look-up)
 abbrev pub confirmation_of : StepResult → Confirmation
 confirmation_of (Continue s) = confirmation_by s.info (mark_in s.facts.ct)
 confirmation_of (Drop cause s) = Unconfirmed

@@ -57,8 +57,8 @@ lookup_tuple_of _ p = tuple_of p
 
 -- ---- the other connections
 
--- the live connections after the look-up: a lone SYN removes the closing connection that it belongs to,
--- whatever the rules do
+-- the live connections after the look-up: a lone SYN removes the closing connection that it belongs to, even
+-- if rules drop it (own; netfilter's nf_conntrack_tcp_packet removes it at the look-up too)
 abbrev pub others_in : List ConntrackEntry → List ℕ → List ConntrackEntry
 others_in live p = after_end (belonging_of live p) live
 

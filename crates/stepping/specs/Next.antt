@@ -10,7 +10,7 @@ use Rattle.conntrack.specs.Updates as updates
 use Rattle.conntrack.specs.Updates.{Arrival, Confirmation, entry_at}
 use Rattle.pcap_io.specs.Pcap.{Recorded}
 use Rattle.rule_meaning.specs.declared.facts.Interface.{Interface}
-use Rattle.hook_runs.specs.declared.stages.HookStage.TheVariants as stages
+use Rattle.rule_meaning.specs.declared.stage.HookStage.TheVariants as stages
 use Rattle.history.specs.declared.outcome.Cause.{Cause}
 use Rattle.history.specs.declared.outcome.Outcome.{Outcome}
 use Rattle.history.specs.declared.outcome.Outcome.TheVariants.{Passed, Local, Dropped}
@@ -43,7 +43,8 @@ HooksAndConfirm setup others = Hooks setup (mappings_in others) ⨾ Confirm othe
 abbrev pub AfterLookUp : Setup → List ConntrackEntry → List ℕ → Step
 AfterLookUp setup live p s r = HooksAndConfirm setup (others_beside s.info live p) s r
 
--- filter chains of low priority come before the look-up: what they drop isn't looked up
+-- filter chains of a priority up to that of the look-up (NF_IP_PRI_CONNTRACK, -200) come before it: what they
+-- drop isn't looked up. At -200 itself that is (own)
 abbrev pub Path : Setup → List ConntrackEntry → List ℕ → Step
 Path setup live p = RunsStage setup stages.PreroutingRaw ⨾ LookUp live p ⨾ AfterLookUp setup live p
 
@@ -66,7 +67,7 @@ abbrev pub tracked_as : ℕ → List ConntrackEntry → List ℕ → Option Tupl
     → connections.TrackedPacket
 tracked_as now live p None confirmation = entry_at now
 tracked_as now live p (Some t) confirmation =
-    updates.entry_of (belonging_of live p) (arrival_of now p t) confirmation
+    updates.tracked_packet (belonging_of live p) (arrival_of now p t) confirmation
 
 -- forwarded where it has an output interface
 abbrev pub outcome_by : Option Interface → Outcome
@@ -82,8 +83,8 @@ abbrev pub sent_on : List ℕ → CtInfo → Outcome → List ℕ
 sent_on p info (Passed interface) = rewritten p (change_of info p (ttl p - 1))
 sent_on p info _ = []
 
-abbrev pub entry_of : ℕ → List ConntrackEntry → List ℕ → StepResult → Entry
-entry_of now live p r = record {
+abbrev pub entry_of_packet : ℕ → List ConntrackEntry → List ℕ → StepResult → Entry
+entry_of_packet now live p r = record {
   tracked = tracked_as now live p (tuple_in p r) (confirmation_of r);
   lookup_tuple = tuple_in p r;
   port_choice = port_choice_of (others_in live p) r;
@@ -110,7 +111,7 @@ abbrev pub EntryOf : Setup → List ConntrackEntry → ℕ → Result ReceivedPa
 EntryOf setup live now (Err cause) e = e ≡ entry_without_packet now cause
 EntryOf setup live now (Ok a) e = (r : StepResult)
     × Path setup live a.packet (on_arrival a.packet (interface_facts setup.plant a.interface)) r
-    × (e ≡ entry_of now live a.packet r)
+    × (e ≡ entry_of_packet now live a.packet r)
 
 -- the time of a record is the greatest of its own and all earlier ones (own)
 abbrev pub moment_after : List Entry → Recorded → ℕ

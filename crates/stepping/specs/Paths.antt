@@ -8,10 +8,9 @@ use Rattle.rule_meaning.specs.declared.facts.Interface.{Interface}
 use Rattle.rule_meaning.specs.declared.event.Event.{Event}
 use Rattle.rule_meaning.specs.declared.event.HookVerdict.{HookVerdict}
 use Rattle.rule_meaning.specs.declared.event.HookVerdict.TheVariants.{Dropped}
-use Rattle.rule_meaning.specs.Hooks.{Chains, HookResult, NoChain, Traversal}
-use Rattle.hook_runs.specs.declared.stages.HookStage.{HookStage}
-use Rattle.hook_runs.specs.declared.stages.HookStage.TheVariants as stages
-use Rattle.hook_runs.specs.Stages.{chains_in_stage}
+use Rattle.rule_meaning.specs.Hooks.{HookResult, NoChain, Stage, Traversal}
+use Rattle.rule_meaning.specs.declared.stage.HookStage.{HookStage}
+use Rattle.rule_meaning.specs.declared.stage.HookStage.TheVariants as stages
 use Rattle.history.specs.declared.outcome.Cause.{Cause}
 use Rattle.history.specs.declared.outcome.Cause.TheVariants as causes
 use Rattle.history.specs.Setup.{Setup}
@@ -62,14 +61,14 @@ unless_dropped _ s = Continue s
 -- the base chains of a stage
 pub record RunsStage (setup : Setup) (stage : HookStage) (s : PathState) (r : StepResult) : Type 0 where
   pub end : HookResult
-  pub ran : Chains setup.plant setup.rules (chains_in_stage stage) s.facts s.events end
+  pub ran : Stage stage setup.plant setup.rules s.facts s.events end
   pub is : r ≡ unless_dropped end.verdict (after_chains end s)
 
 -- ---- NAT, among these live mappings
 
 -- only the first packet of a connection sees chains of type nat (nft(8), CHAINS)
 abbrev pub NatChains : Setup → HookStage → CtInfo → Traversal
-NatChains setup stage (New new_connection) = Chains setup.plant setup.rules (chains_in_stage stage)
+NatChains setup stage (New new_connection) = Stage stage setup.plant setup.rules
 NatChains setup stage _ = NoChain
 
 abbrev pub destination_nat_result : HookVerdict → CtInfo → PathState → StepResult

@@ -4,6 +4,7 @@ ghost use Rattle.conntrack.specs.ConntrackEntry.{connection_of};
 ghost use Rattle.pcap_io.specs.Sll2.{IsSent, sent};
 ghost use Rattle.rule_check.specs.WellFormed.{WellFormed};
 ghost use Rattle.history.specs.History.{Entry, IsNewest, live_in};
+ghost use Rattle.history.specs.Setup.{limits_of};
 ghost use Rattle.nft_tree.specs.Tree.{TableTree, tables_of};
 ghost use Rattle.rule_paths.specs.Paths.{AreAllCosts, Caller, ruleset_cost};
 ghost use Rattle.stepping.specs.Next.{Next};
@@ -22,7 +23,7 @@ use hook_runs::Events;
 use nft_tree::Ruleset;
 use pcap_io::{Leaving, Record};
 use rule_check::Checked;
-use std::alloc::{AllocError, Global};
+use std::alloc::{AllocError as Memory, Global};
 use std::hash::RandomState;
 use std::marker::Model;
 
@@ -83,22 +84,56 @@ impl<T: Tracker> Model for Engine<T> {
 }
 
 impl<T: Tracker> Engine<T> {
-    /// The engine before the first record, with the rules compiled. The keys of `hasher` seed its
-    /// hash tables; no result depends on them.
+    /// The engine before the first record, with the rules compiled. Its hash tables use keys that
+    /// everybody may know: a capture made to collide can make them slow, which `with_hasher`
+    /// prevents.
     ///
     /// # Errors
     /// An allocation failed. The ruleset is dropped.
-    pub fn new(alloc: Global, hasher: RandomState, checked: Checked) -> Result<Self, AllocError>
+    pub fn new(alloc: Global, checked: Checked) -> Result<Self, Memory>
         ensures setup { IfOk result (λ engine. engine.setup ≡ setup_of checked) }
         ensures none { IfOk result (λ engine. Represents engine []) }
         ensures ticks { IfOk result (λ engine. engine.ticks ≡ 0) }
     {
         let idle = checked.plant().idle();
+        Self::with_table(alloc, ConnectionTable::new(alloc, idle), checked)
+    }
+
+    /// The same, but the keys of `hasher` seed its hash tables; no result depends on them.
+    ///
+    /// # Errors
+    /// An allocation failed. The ruleset is dropped.
+    pub fn with_hasher(alloc: Global, hasher: RandomState, checked: Checked) -> Result<Self, Memory>
+        ensures setup { IfOk result (λ engine. engine.setup ≡ setup_of checked) }
+        ensures none { IfOk result (λ engine. Represents engine []) }
+        ensures ticks { IfOk result (λ engine. engine.ticks ≡ 0) }
+    {
+        let idle = checked.plant().idle();
+        Self::with_table(
+            alloc,
+            ConnectionTable::with_hasher(alloc, hasher, idle),
+            checked,
+        )
+    }
+
+    /// The engine before the first record, with this table, which has no connections.
+    fn with_table(
+        alloc: Global,
+        connections: ConnectionTable<T>,
+        checked: Checked,
+    ) -> Result<Self, Memory>
+        requires held { connections.held ≡ [] }
+        requires limits { connections.limits ≡ limits_of (setup_of checked) }
+        requires room { connections.has_room ≡ false }
+        ensures setup { IfOk result (λ engine. engine.setup ≡ setup_of checked) }
+        ensures none { IfOk result (λ engine. Represents engine []) }
+        ensures ticks { IfOk result (λ engine. engine.ticks ≡ 0) }
+    {
         let packet = PacketBuffer::new(alloc)?;
         let (setup, events) = Setup::new(alloc, checked)?;
         Ok(Engine {
             setup,
-            connections: ConnectionTable::new(alloc, hasher, idle),
+            connections,
             records: 0,
             latest: 0,
             state: PacketState::vacant(),
@@ -114,7 +149,7 @@ impl<T: Tracker> Engine<T> {
     /// # Errors
     /// An allocation failed. The engine is unchanged.
     #[inline(always)]
-    pub fn reserve(&mut self) -> Result<(), AllocError>
+    pub fn reserve(&mut self) -> Result<(), Memory>
         ensures ok { OnOk result (self.new ≡ record self.old { ready = true }) }
         ensures err { OnErr result (self.new ≡ self.old) }
         ensures spared { IsTrue self.old.ready → (self.new ≡ self.old) × IsOk result }
@@ -131,7 +166,7 @@ impl<T: Tracker> Engine<T> {
     ///
     /// # Errors
     /// An allocation failed; never after `reserve`. The engine is unchanged.
-    pub fn step(&mut self, record: &Record) -> Result<Outcome, AllocError>
+    pub fn step(&mut self, record: &Record) -> Result<Outcome, Memory>
         requires few { self.old.records < 4294967296 }
         // An engine that represents a history then represents it with the record's entry.
         ensures represents { (history : List Entry) → Represents self.old history
@@ -231,7 +266,7 @@ impl<T: Tracker> Engine<T> {
     ///
     /// # Errors
     /// An allocation failed.
-    pub fn connections(&self, alloc: Global) -> Result<Vec<Connection>, AllocError>
+    pub fn connections(&self, alloc: Global) -> Result<Vec<Connection>, Memory>
         ensures { (history : List Entry) → Represents self.now history → IfOk result (λ all.
             all.items ≡ map connection_of (live_in self.now.setup history)) }
     {

@@ -16,3 +16,4 @@ mod state;
 
 pub use engine::Engine;
 pub use laws::one_entry;
+pub use std::alloc::AllocError as Memory;

@@ -12,11 +12,9 @@ use Rattle.rewrite.specs.Endpoints.{between}
 use Rattle.conntrack.specs.declared.belonging.Belonging.{Belonging}
 use Rattle.conntrack.specs.declared.belonging.Belonging.TheVariants.{Found}
 use Rattle.conntrack.specs.declared.belonging.ConnectionRef.{ConnectionRef}
-use Rattle.conntrack.specs.declared.belonging.LookupState.{LookupState}
-use Rattle.conntrack.specs.declared.belonging.LookupState.TheVariants as connection_states
 use Rattle.conntrack.specs.declared.connection.Direction.{Direction}
 use Rattle.conntrack.specs.declared.connection.Direction.TheVariants as sides
-use Rattle.conntrack.specs.ConntrackEntry.{first_state, is_reply}
+use Rattle.conntrack.specs.ConntrackEntry.{is_reply, may_begin}
 use Rattle.rule_meaning.specs.declared.facts.Facts.{Facts}
 use Rattle.rule_meaning.specs.declared.facts.Packet.{Packet}
 use Rattle.rule_meaning.specs.declared.facts.ConnectionFacts.{ConnectionFacts}
@@ -66,14 +64,10 @@ tracked_connection found = record {
 abbrev pub new_connection_of : Tuple → NewConnection
 new_connection_of t = record { original = t; tuple = t; source = None; has_port_range = false; dest = None }
 
--- without a connection: an unsolicited echo reply is INVALID (own)
-abbrev pub new_ct_info : LookupState → Tuple → CtInfo
-new_ct_info connection_states.New t = New (new_connection_of t)
-new_ct_info _ t = Invalid
-
+-- a packet without a connection begins one, but for an unsolicited echo reply, which is INVALID (own)
 abbrev pub ct_info_by : Tuple → Belonging → CtInfo
 ct_info_by t (Found found) = Tracked (tracked_connection found)
-ct_info_by t other = new_ct_info (first_state t.kind) t
+ct_info_by t other = if may_begin t.kind then New (new_connection_of t) else Invalid
 
 -- an ICMP error is RELATED to the connection that has the inverse of its embedded tuple (RFC 5508, section
 -- 4.2), else INVALID

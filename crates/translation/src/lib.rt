@@ -5,6 +5,7 @@
 mod change;
 mod ct_info;
 mod destination;
+pub mod examples;
 mod external;
 mod facts;
 pub mod laws;

@@ -1,8 +1,8 @@
 -- Names of other crates and of the definitions, for the proofs.
 pub use Rattle.box_file.specs.Box.{PlantTree, owner}
-pub use Rattle.conntrack.specs.ConntrackEntry.{begun_with, belongs_in, connection_of, connection_ref, first_state, have_disjoint_tuples, is_incoming}
+pub use Rattle.conntrack.specs.ConntrackEntry.{begun_with, belongs_in, connection_of, connection_ref, may_begin, have_disjoint_tuples, is_incoming}
 pub use Rattle.conntrack.specs.ConntrackEntry.{is_live, is_taken, max_connections, of_original, of_reply, same_id, touched, touched_at}
-pub use Rattle.conntrack.specs.Histories.{Begins, ConnectionChange, Creation, NoChange, Touches, TrackedPacket, begun, begun_in, connection_in, is_alive}
+pub use Rattle.conntrack.specs.Histories.{Begins, ConnectionChange, Creation, NoChange, Touches, TrackedPacket, creation_in, begun_in, connection_in, is_alive}
 pub use Rattle.conntrack.specs.Histories.{is_creation, is_ended, live_list}
 pub use Rattle.conntrack.specs.Updates.{Arrival, Confirmation, Confirmed, DoesNotClash, Unconfirmed, after_end, after_packet, change_of_packet, entry_at}
 pub use Rattle.conntrack.specs.declared.belonging.Belonging.{Belonging}
@@ -42,7 +42,7 @@ pub use Rattle.rule_meaning.specs.declared.facts.CtFacts.TheVariants.{Known, Not
 pub use Rattle.rule_meaning.specs.declared.facts.Facts.{Facts}
 pub use Rattle.rule_meaning.specs.declared.facts.Interface.{Interface}
 pub use Rattle.std.proofs.Common.{◌++◌, ◌-◌, Bool, Err, IsTrue, List, None, Ok, Option, Result, Some, [], ap, append-nil, append_assoc, arith, cond, drop}
-pub use Rattle.std.proofs.Common.{false, inl, inr, is_some, not, refl, subst, sym, true, ℕ, ◌∙◌, ◌∷◌, ◌≡◌, ◌≢◌, ◌≤◌, ◌⊎◌}
+pub use Rattle.std.proofs.Common.{false, if◌then◌else◌, inl, inr, is_some, not, refl, subst, sym, true, ℕ, ◌∙◌, ◌∷◌, ◌≡◌, ◌≢◌, ◌≤◌, ◌⊎◌}
 pub use Rattle.std.proofs.lemmas.Bool.{and_from, and_parts, both_ways, cond_both, false_from_ne_true, lt-ltb, ltb-true, not_from_false, or_left, or_parts}
 pub use Rattle.std.proofs.lemmas.Bool.{or_right}
 pub use Rattle.std.proofs.lemmas.List.Elements.{All-contains, All-contains_itself, All-filter, Contains-append_cases, Contains-append_left}
@@ -52,12 +52,12 @@ pub use Rattle.std.specs.List.{Contains, filter, list_any}
 pub use Rattle.stepping.specs.Carried.{ReceivedPacket, carried, carried_after, carried_by, carried_with, input_interface, interface_facts}
 pub use Rattle.stepping.specs.Confirmations.{confirmation_by, confirmed, mark_in, port_choice_by, port_choice_for, port_choice_in, refusal, reply_to}
 pub use Rattle.stepping.specs.Lookups.{belonging_of, ct_info_by_tuple, error_belonging, flags_in, looked_up_info, lookup_tuple_of, others_beside}
-pub use Rattle.stepping.specs.Next.{AfterLookUp, EntryOf, HooksAndConfirm, IsHistoryOf, LookUp, Next, Path, arrival_of, entry_of, live_at_record}
+pub use Rattle.stepping.specs.Next.{AfterLookUp, EntryOf, HooksAndConfirm, IsHistoryOf, LookUp, Next, Path, arrival_of, entry_of_packet, live_at_record}
 pub use Rattle.stepping.specs.Next.{moment_after, outcome_by, sent_on}
 pub use Rattle.stepping.specs.Paths.{AfterRouting, Continue, DestinationNat, Drop, Hooks, InputOrForward, NatChains, PathState, Routing, RunsStage}
 pub use Rattle.stepping.specs.Paths.{SourceNat, Step, StepResult, after_chains, destination_nat_result, on_arrival, source_nat_result, unless_dropped, ◌⨾◌}
 pub use Rattle.translation.specs.CtInfos.{change_of, ct_facts_after_nat, ct_info_by, error_ct_info, facts_after_destination_nat}
-pub use Rattle.translation.specs.CtInfos.{facts_after_source_nat, new_connection_of, new_ct_info, outgoing, tracked_connection}
+pub use Rattle.translation.specs.CtInfos.{facts_after_source_nat, new_connection_of, outgoing, tracked_connection}
 pub use Rattle.translation.specs.LiveMappings.{listed, mappings_in, mappings_of}
 pub use Rattle.translation.specs.Nat.{after_destination_nat, after_source_nat, external_source, has_ports, is_same_interface, range_of, to_internal}
 pub use Rattle.translation.specs.Nat.{with_destination_nat, with_source_mapping, with_source_nat}

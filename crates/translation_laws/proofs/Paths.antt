@@ -7,19 +7,17 @@ use Rattle.translation_laws.proofs.Names.{Mapping, NatChains, New, NewConnection
 use Rattle.translation_laws.proofs.Names.{Recorded, Result, Routing, RunsStage, Setup, Some, SourceNat, Step, StepResult, Tracked, Tuple, Unconfirmed, []}
 use Rattle.translation_laws.proofs.Names.{after_chains, after_destination_nat, after_end, after_source_nat, ap, append-nil, append_assoc, arrival_of}
 use Rattle.translation_laws.proofs.Names.{belonging_of, belongs_in, carried, confirmation_by, confirmed, ct_facts_after_nat, ct_info_by}
-use Rattle.translation_laws.proofs.Names.{ct_info_by_tuple, destination_nat_result, entry_at, entry_of, error_belonging, error_ct_info, external_source}
-use Rattle.translation_laws.proofs.Names.{facts_after_destination_nat, facts_after_source_nat, false, first_state, flags_in, inner_tuple_of, interface_facts}
-use Rattle.translation_laws.proofs.Names.{live_at_record, looked_up_info, lookup_tuple_of, mappings_in, mark_in, moment_after, new_connection_of, new_ct_info}
+use Rattle.translation_laws.proofs.Names.{ct_info_by_tuple, destination_nat_result, entry_at, entry_of_packet, error_belonging, error_ct_info, external_source}
+use Rattle.translation_laws.proofs.Names.{facts_after_destination_nat, facts_after_source_nat, false, if◌then◌else◌, may_begin, flags_in, inner_tuple_of, interface_facts}
+use Rattle.translation_laws.proofs.Names.{live_at_record, looked_up_info, lookup_tuple_of, mappings_in, mark_in, moment_after, new_connection_of}
 use Rattle.translation_laws.proofs.Names.{on_arrival, others_beside, outcome_by, port_choice_for, refl, refusal, reply_to, sent_on, some_of_map, some_unique}
 use Rattle.translation_laws.proofs.Names.{source_nat_result, subst, sym, tracked_connection, transport_of, true, tuple_of, unless_dropped}
 use Rattle.translation_laws.proofs.Names.{with_destination_nat, with_source_nat, ℕ, ◌∙◌, ◌≡◌, ◌⨾◌}
-use Rattle.conntrack.specs.declared.belonging.LookupState.{LookupState}
-use Rattle.hook_runs.specs.Stages.{chains_in_stage}
-use Rattle.hook_runs.specs.declared.stages.HookStage.{HookStage}
+use Rattle.rule_meaning.specs.Hooks.{chains_in_stage}
+use Rattle.rule_meaning.specs.declared.stage.HookStage.{HookStage}
 use Rattle.translation_laws.proofs.Chains.{Held, HoldsThrough, RecordsNat, TellExempt, chains_hold, did_exempt, did_nat_act, none_earlier, nothing_holds}
 use Rattle.history.specs.declared.outcome.Outcome.TheVariants as outcomes
-use Rattle.hook_runs.specs.declared.stages.HookStage.TheVariants as stages
-use Rattle.conntrack.specs.declared.belonging.LookupState.TheVariants as states
+use Rattle.rule_meaning.specs.declared.stage.HookStage.TheVariants as stages
 use Rattle.conntrack.specs.Updates as updates
 
 -- ==== What NAT makes of the state of a packet that isn't dropped.
@@ -299,10 +297,10 @@ pub data IsLookedUp (setup : Setup) (held : List ConntrackEntry) (a : ReceivedPa
     : Type 0 where
   refreshes : (place : ConnectionRef) → b ≡ Found place → s.info ≡ Tracked (tracked_connection place)
       → IsLookedUp setup held a b t s
-  begins : IsNone b → first_state t.kind ≡ states.New
+  begins : IsNone b → may_begin t.kind ≡ true
       → (n : IsTranslated setup (mappings_in (after_end b held)) (interface_facts setup.plant a.interface) (new_connection_of t) s)
       → refusal (reply_to n.left) (after_end b held) ≡ None → IsLookedUp setup held a b t s
-  is_invalid : IsNone b → (first_state t.kind ≡ states.New → ⊥) → s.info ≡ Invalid → IsLookedUp setup held a b t s
+  is_invalid : IsNone b → (may_begin t.kind ≡ true → ⊥) → s.info ≡ Invalid → IsLookedUp setup held a b t s
 
 module _ (setup : Setup) (held : List ConntrackEntry) (now : ℕ) where
   -- it was looked up with this tuple and isn't dropped, and this is its entry
@@ -311,7 +309,7 @@ module _ (setup : Setup) (held : List ConntrackEntry) (now : ℕ) where
     pub read : tuple_of a.packet ≡ Some t
     pub untouched : did_exempt e.events ≡ false
     pub state : IsLookedUp setup held a (belongs_by held a.packet t) t end
-    pub tracked : e.tracked ≡ updates.entry_of (belongs_by held a.packet t) (arrival_of now a.packet t)
+    pub tracked : e.tracked ≡ updates.tracked_packet (belongs_by held a.packet t) (arrival_of now a.packet t)
         (confirmation_by end.info (mark_in end.facts.ct))
     pub port_choice : e.port_choice ≡ port_choice_for (beside held a.packet t) end.info
     pub events : e.events ≡ end.events
@@ -324,7 +322,7 @@ module _ (setup : Setup) (held : List ConntrackEntry) (now : ℕ) where
         → ((a : ReceivedPacket) (t : Tuple) → carries ≡ Ok a → tuple_of a.packet ≡ Some t
         → did_exempt e.events ≡ false → IsAccepted e → ⊥) → EntryCase carries e
     dropped_so : (p : List ℕ) (t : Tuple) → tuple_of p ≡ Some t
-        → e.tracked ≡ updates.entry_of (belongs_by held p t) (arrival_of now p t) Unconfirmed
+        → e.tracked ≡ updates.tracked_packet (belongs_by held p t) (arrival_of now p t) Unconfirmed
         → e.port_choice ≡ None → (cause : Cause) → e.outcome ≡ outcomes.Dropped cause → EntryCase carries e
     accepted_so : (a : ReceivedPacket) → carries ≡ Ok a → (t : Tuple) → AcceptedWith a t e → EntryCase carries e
 
@@ -341,7 +339,7 @@ module _ (setup : Setup) (held : List ConntrackEntry) (now : ℕ) where
 
     -- where it isn't dropped
     abbrev IsThrough : PathState → Type 0
-    IsThrough s = EntryCase (Ok a) (entry_of now held p (Continue s))
+    IsThrough s = EntryCase (Ok a) (entry_of_packet now held p (Continue s))
 
     module _ (exempt : Bool) (s : PathState) where
       -- NAT beside these others, and confirmed
@@ -349,18 +347,19 @@ module _ (setup : Setup) (held : List ConntrackEntry) (now : ℕ) where
       IsConfirmed others info = At setup (mappings_in others) input exempt info (AfterNat setup (mappings_in others) input exempt info) s
           × IsUnrefused others s.info
 
-      by_state : (t : Tuple) (b : Belonging) → belonging_of held p ≡ b → IsNone b → (state : LookupState) → first_state t.kind ≡ state
-          → IsConfirmed (others_beside (new_ct_info state t) held p) (new_ct_info state t) → IsLookedUp setup held a b t s
-      by_state t b is none states.New new c =
+      by_state : (t : Tuple) (b : Belonging) → belonging_of held p ≡ b → IsNone b → (may : Bool) → may_begin t.kind ≡ may
+          → IsConfirmed (others_beside (if may then New (new_connection_of t) else Invalid) held p)
+          (if may then New (new_connection_of t) else Invalid) → IsLookedUp setup held a b t s
+      by_state t b is none true new c =
           let k : IsConfirmed (after_end b held) (New (new_connection_of t)) = rw is at c in
           let n = translated setup (mappings_in (after_end b held)) input exempt (new_connection_of t) s k.0 in
           begins none new n (subst (IsUnrefused (after_end b held)) n.is k.1)
-      by_state t b is none _ other c = is_invalid none (λ new. cc (new, other)) (grind arith)
+      by_state t b is none false other c = is_invalid none (λ new. cc (new, other)) (grind arith)
 
       by_belonging : (t : Tuple) (b : Belonging) → belonging_of held p ≡ b
           → IsConfirmed (others_beside (ct_info_by t b) held p) (ct_info_by t b) → IsLookedUp setup held a b t s
       by_belonging t (Found place) is c = refreshes place refl (grind arith)
-      by_belonging t b is c = by_state t b is tt (first_state t.kind) refl c
+      by_belonging t b is c = by_state t b is tt (may_begin t.kind) refl c
 
       by_error : tuple_of p ≡ None → (b : Belonging)
           → IsConfirmed (others_beside (error_ct_info b) held p) (error_ct_info b) → IsThrough s
@@ -417,17 +416,17 @@ module _ (setup : Setup) (held : List ConntrackEntry) (now : ℕ) where
         subst (IfContinues IsThrough) (sym is) (unless_confirmation_drops others IsThrough u u.info (λ free.
         by_facts exempt u k.0 (grind (arith, c.told, u.facts.ct)) (c, free)))) s r y k.1
 
-    by_result : (r : StepResult) → IfContinues IsThrough r → EntryCase (Ok a) (entry_of now held p r)
+    by_result : (r : StepResult) → IfContinues IsThrough r → EntryCase (Ok a) (entry_of_packet now held p r)
     by_result (Continue s) through = through
     by_result (Drop cause s) through = by_drop (lookup_tuple_of s.info p) refl
       where
-        by_drop : (o : Option Tuple) → lookup_tuple_of s.info p ≡ o → EntryCase (Ok a) (entry_of now held p (Drop cause s))
+        by_drop : (o : Option Tuple) → lookup_tuple_of s.info p ≡ o → EntryCase (Ok a) (entry_of_packet now held p (Drop cause s))
         by_drop None none = unseen_so (rw none refl) refl (λ b t is read tracked accepted. accepted cause refl)
         by_drop (Some t) some =
             let read : tuple_of p ≡ Some t = grind arith in
             dropped_so p t read (rw (some, read) refl) refl cause refl
 
-    path_so : (r : StepResult) → Path setup held p (on_arrival p input) r → EntryCase (Ok a) (entry_of now held p r)
+    path_so : (r : StepResult) → Path setup held p (on_arrival p input) r → EntryCase (Ok a) (entry_of_packet now held p r)
     path_so r x = by_result r
         (leads_then _ _ _ _ _
         (stage_leads setup input None Anything (λ info output es later h. h) stages.PreroutingRaw)

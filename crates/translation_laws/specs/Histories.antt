@@ -4,7 +4,7 @@ use Rattle.ip_headers.specs.declared.tuple.Mapping.{Mapping}
 use Rattle.conntrack.specs.declared.connection.Connection.{Connection}
 use Rattle.conntrack.specs.declared.connection.ConntrackEntry.{ConntrackEntry}
 use Rattle.conntrack.specs.ConntrackEntry.{connection_of}
-use Rattle.conntrack.specs.Histories.{begun, live_list}
+use Rattle.conntrack.specs.Histories.{creation_in, live_list}
 use Rattle.nat_mapping.specs.Mappings.{same_mapping}
 use Rattle.pcap_io.specs.Pcap.{Recorded}
 use Rattle.history.specs.Setup.{Setup, limits_of}
@@ -38,7 +38,7 @@ is_mapping m (Some n) = same_mapping m n
 
 -- where this entry allocated the mapping's port: whether a port range was given
 abbrev pub choice_in : Mapping → Entry → Option Bool
-choice_in m e = if is_mapping m (begun e.tracked.change).source then e.port_choice else None
+choice_in m e = if is_mapping m (creation_in e.tracked.change).source then e.port_choice else None
 
 abbrev pub or_earlier : Option Bool → Option Bool → Option Bool
 or_earlier None earlier = earlier

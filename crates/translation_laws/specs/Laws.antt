@@ -11,15 +11,14 @@ use Rattle.ip_headers.specs.Same.{same_tuple}
 use Rattle.ip_headers.specs.Tuple.{inverse, tuple_of}
 use Rattle.conntrack.specs.declared.belonging.Belonging.{Belonging}
 use Rattle.conntrack.specs.declared.belonging.Belonging.TheVariants.{Ends, Found}
-use Rattle.conntrack.specs.declared.belonging.LookupState.TheVariants as states
 use Rattle.conntrack.specs.declared.connection.Connection.{Connection}
 use Rattle.conntrack.specs.declared.connection.Direction.{Direction}
 use Rattle.conntrack.specs.declared.connection.Direction.TheVariants.{Original, Reply}
 use Rattle.conntrack.specs.declared.connection.Flags.{Flags}
 use Rattle.conntrack.specs.declared.connection.ConntrackEntry.{ConntrackEntry}
 use Rattle.conntrack.specs.Phases.{is_closing, is_lone_syn}
-use Rattle.conntrack.specs.ConntrackEntry.{belongs_in, first_state, is_incoming, limit_of, connection_ref}
-use Rattle.conntrack.specs.Histories.{ConnectionChange, NoChange, Begins, Touches, Creation, begun, begun_in}
+use Rattle.conntrack.specs.ConntrackEntry.{belongs_in, may_begin, is_incoming, limit_of, connection_ref}
+use Rattle.conntrack.specs.Histories.{ConnectionChange, NoChange, Begins, Touches, Creation, creation_in, begun_in}
 use Rattle.conntrack.specs.Histories.{connection_in, is_creation, is_ended}
 use Rattle.conntrack.specs.Updates.{after_end}
 use Rattle.pcap_io.specs.Pcap.{Recorded}
@@ -33,9 +32,8 @@ use Rattle.rule_meaning.specs.declared.event.RuleVerdict.TheVariants.{Translate}
 use Rattle.rule_meaning.specs.declared.event.Event.{Event}
 use Rattle.rule_meaning.specs.declared.event.Event.TheVariants.{TookVerdict, Untracked}
 use Rattle.rule_meaning.specs.declared.facts.Facts.{Facts}
-use Rattle.rule_meaning.specs.Hooks.{Chains, HookResult}
-use Rattle.hook_runs.specs.declared.stages.HookStage.TheVariants.{PostroutingNat}
-use Rattle.hook_runs.specs.Stages.{chains_in_stage}
+use Rattle.rule_meaning.specs.Hooks.{HookResult, Stage}
+use Rattle.rule_meaning.specs.declared.stage.HookStage.TheVariants.{PostroutingNat}
 use Rattle.history.specs.declared.outcome.Cause.{Cause}
 use Rattle.history.specs.declared.outcome.Outcome.TheVariants.{Passed, Dropped}
 use Rattle.history.specs.Setup.{Setup, limits_of}
@@ -181,7 +179,7 @@ TouchesItsOwn setup history r e =
 -- removes, begins a connection with that tuple
 abbrev pub BeginsOne : Setup → List Entry → Recorded → Entry → Type 0
 BeginsOne setup history r e =
-    (a : ReceivedPacket) (t : Tuple) → ComesWith setup r e a t → first_state t.kind ≡ states.New
+    (a : ReceivedPacket) (t : Tuple) → ComesWith setup r e a t → may_begin t.kind ≡ true
     → ((h : ConntrackEntry) → Contains (live_at_record setup history r) h → IsTrue (is_incoming t h)
     → does_end h t (flags_in (transport_of a.packet)) ≡ true)
     → IsAccepted e → (b : Creation) × (e.tracked.change ≡ Begins b) × (b.original ≡ t)
@@ -257,7 +255,7 @@ names_ports _ = false
 pub record EndsSourceNat (setup : Setup) (e : Entry) (end : HookResult) : Type 0 where
   pub facts : Facts
   pub before : List Event
-  pub ran : Chains setup.plant setup.rules (chains_in_stage PostroutingNat) facts before end
+  pub ran : Stage PostroutingNat setup.plant setup.rules facts before end
   pub later : List Event
   pub among : e.events ≡ end.events ++ later
 
@@ -271,9 +269,9 @@ pub record AllocatedAmong (setup : Setup) (e : Entry) (live : List Mapping) (m :
 -- an entry tells of an allocation for the mapping of the source of a connection that it begins, and for no
 -- other
 pub record AllocatesPort (setup : Setup) (history : List Entry) (r : Recorded) (e : Entry) : Type 0 where
-  pub only : e.port_choice ≢ None → (begun e.tracked.change).source ≢ None
+  pub only : e.port_choice ≢ None → (creation_in e.tracked.change).source ≢ None
   pub mapped : (a : ReceivedPacket) (t : Tuple) → ComesWith setup r e a t → (m : Mapping)
-      → (begun e.tracked.change).source ≡ Some m
+      → (creation_in e.tracked.change).source ≡ Some m
       → AllocatedAmong setup e (mappings_before setup history r t (flags_in (transport_of a.packet))) m
 
 -- ---- together

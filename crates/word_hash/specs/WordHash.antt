@@ -5,6 +5,14 @@ use Rattle.std.specs.Int.{w64, from_le_bytes}
 use Rattle.word_hash.specs.declared.WordHasher.{WordHasher}
 use Rattle.word_hash.specs.declared.WordState.{WordState}
 
+-- keys that everybody may know: the first words of the fraction of pi
+abbrev pub published_keys : WordState
+published_keys = record {
+  summand = 0x243f_6a88_85a3_08d3;
+  first = record { low = 0x1319_8a2e_0370_7344; high = 0xa409_3822_299f_31d0 };
+  second = record { low = 0x082e_fa98_ec4e_6c89; high = 0x4528_21e6_38d0_1377 };
+}
+
 -- of the keys of a table
 abbrev pub initial_state : WordState → WordHasher
 initial_state s = record { sum = s.summand; next = s.first; after = s.second }

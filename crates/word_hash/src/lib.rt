@@ -11,7 +11,7 @@
 #![tactic(auto)]
 
 ghost use Rattle.std.specs.Prelude.{◌≡◌};
-ghost use Rattle.word_hash.specs.WordHash.{after_word, after_write, finished, initial_state};
+ghost use Rattle.word_hash.specs.WordHash.{after_word, after_write, finished, initial_state, published_keys};
 
 use std::hash::{BuildHasher, Hasher, RandomState};
 
@@ -50,6 +50,26 @@ impl WordState {
             second: HalfKeys {
                 low: random.hash_one(3u64),
                 high: random.hash_one(4u64),
+            },
+        }
+    }
+}
+
+impl WordState {
+    /// The same keys for every table, which are those of the source: for tables whose keys nobody
+    /// chooses in order to slow them down.
+    pub fn published() -> Self
+        ensures { result ≡ published_keys }
+    {
+        Self {
+            summand: 0x243f_6a88_85a3_08d3,
+            first: HalfKeys {
+                low: 0x1319_8a2e_0370_7344,
+                high: 0xa409_3822_299f_31d0,
+            },
+            second: HalfKeys {
+                low: 0x082e_fa98_ec4e_6c89,
+                high: 0x4528_21e6_38d0_1377,
             },
         }
     }

@@ -1,1 +1,1 @@
-"""The page that tools/page writes: what a ruleset makes of a capture, to look at."""
+"""The page that nftrun page writes: what a ruleset makes of a capture, to look at."""

@@ -106,7 +106,7 @@ def replays(program, old, new, box, flows, folder):
     before = Replay(program, old, box, flows, Files(folder, "old"), cuts=True)
     spared = bytearray(len(flows.first))
     for flow, cut in enumerate(before.cut):
-        if cut == STOPPED and flows.kind[flow] != TCP and flows.flags[flow] & LEARNED:
+        if cut == STOPPED and flows.kind[flow] != TCP and flows.is_marked(flow, LEARNED):
             spared[flow] = 1
     if any(spared):
         before = Replay(program, old, box, flows, Files(folder, "old"), cuts=True, spared=spared, like=before)

@@ -10,7 +10,8 @@ from pages.model import AFTER_ALL, COPY, Model
 from pages.texts import number, packed, plural, seconds_text, shown
 from toolbox import rulemap
 from toolbox.boxes import Box
-from toolbox.commands import Refused, check_files, read_bytes
+from toolbox.commands import DONE, TORN, Refused, check_files, read_bytes, remark
+from toolbox.evidence import torn_text
 from toolbox.program import workspace
 from toolbox.rulesets import read_ruleset
 
@@ -216,5 +217,9 @@ def page(options, output):
     paths = [options.rules, options.box, options.capture] + [path for path in (options.against, options.map) if path]
     check_files(paths)
     with workspace() as folder:
-        output.write(Page(options, folder).html())
-    return 0
+        made = Page(options, folder)
+        output.write(made.html())
+    if made.model.torn:
+        remark("page", torn_text(options.capture, made.model.count))
+        return TORN
+    return DONE

@@ -27,8 +27,10 @@ top_app = record (new_app (codes "nftrun")) {
 
 abbrev pub program_app : App
 program_app = fold with_subcommand top_app (shape_with (codes "run") (path_rule (codes "rules") ∷ path_rule (codes "plant")
-    ∷ path_rule (codes "input") ∷ path_rule (codes "output") ∷ flag_rule (codes "trace") ∷ report_rule ∷ [])
-    ∷ shape_with (codes "check") (path_rule (codes "rules") ∷ path_rule (codes "plant") ∷ flag_rule (codes "all") ∷ [])
+    ∷ path_rule (codes "input") ∷ path_rule (codes "output") ∷ flag_rule (codes "trace") ∷ flag_rule (codes "explain")
+    ∷ flag_rule (codes "no-explain") ∷ report_rule ∷ [])
+    ∷ shape_with (codes "check") (path_rule (codes "rules") ∷ path_rule (codes "plant") ∷ flag_rule (codes "all")
+    ∷ flag_rule (codes "explain") ∷ flag_rule (codes "no-explain") ∷ flag_rule (codes "nft") ∷ [])
     ∷ shape_with (codes "explain") (path_rule (codes "code") ∷ []) ∷ [])
 
 -- ---- the same, as the table of subcommands describes it

@@ -8,8 +8,9 @@ use Rattle.pcap_io.specs.Pcap.{Captured, Recorded, IsRecord, Ending, Whole, Torn
 use Rattle.pcap_io.specs.Pcap.{MOST_RECORDS, format_of}
 use Rattle.pcap_io.specs.CaptureStates.{CaptureState, IsOfRecords, READ_AHEAD}
 use Rattle.pcap_io.specs.declared.fault.CaptureError.TheVariants.{Refused}
-use Rattle.pcap_io.specs.Counting.{AppendsPrefix, one_more}
+use Rattle.pcap_io.specs.Counting.{AppendsPrefix, one_failure}
 use Rattle.pcap_io.specs.declared.counted.Counted.{Counted}
+use Rattle.pcap_io.specs.declared.failures.Failures.{Failures}
 use Rattle.pcap_io.specs.declared.whole.DeviceFailed.{DeviceFailed}
 use Rattle.pcap_io.specs.Buffering.{AppendsBuffered}
 use Rattle.history.specs.History.{Entry, capture_text}
@@ -21,7 +22,7 @@ use Rattle.stepping.specs.Representing.{EngineState, Represents}
 use Rattle.engine.specs.declared.fault.RunFault.{RunFault}
 use Rattle.engine.specs.declared.fault.RunFault.TheVariants.{Device, Memory, Capture}
 use Rattle.engine.specs.declared.replay.Replay.{Replay}
-use Rattle.engine.specs.AfterFault.{Devices, LeftDevices, NoneFailed, OneFailed, Untouched}
+use Rattle.engine.specs.AfterFault.{Devices, IsNotAhead, LeftDevices, NoneFailed, OneFailed, Untouched}
 use Rattle.engine.specs.Meaning.{Accepted, Meaning}
 use Rattle.engine.specs.declared.runs.Summary.{Summary}
 use Rattle.pcap_io.specs.declared.fault.CaptureFault.TheVariants as captures
@@ -46,7 +47,7 @@ writers sent_bytes report_bytes sent report = record {
   unread = None;
   sent = sent_bytes sent.inner;
   report = report_bytes report.inner;
-  reads_failed = 0;
+  reads_failed = record { count = 0; wrapped = 0 };
   sends_failed = sent.failures;
   reports_failed = report.failures;
 }
@@ -68,10 +69,11 @@ pub record AllWritten (start : ReplayStart) (history : List Entry) (w r : Option
   pub all_sent : Appends start.sent w (capture_text history)
   pub all_lines : Appends start.report r (entry_lines start.setup.rules start.trace history)
 
--- a prefix of each is written
+-- a prefix of each is written, and the report isn't ahead
 pub record PrefixWritten (start : ReplayStart) (history : List Entry) (w r : Option (List ℕ)) : Type 0 where
   pub part_sent : AppendsPrefix start.sent w (capture_text history)
   pub part_lines : AppendsPrefix start.report r (entry_lines start.setup.rules start.trace history)
+  pub not_ahead : IsNotAhead start.setup.rules start.trace history start.sent w start.report r
 
 -- ---- one record after another
 
@@ -89,6 +91,7 @@ pub record ReplayRepresents (replay : Replay) (start : ReplayStart) (history : L
   pub lines : List ℕ
   pub reports : IsReportOf replay.numbers start.setup.rules start.trace history lines
   pub appends_report : Appends start.report r lines
+  pub not_ahead : IsNotAhead start.setup.rules start.trace history start.sent w start.report r
 
 -- before the first record, whatever the report's writer holds
 abbrev pub IsBegun : Replay → Setup → Bool → Option (List ℕ) → Option (List ℕ) → Type 0
@@ -197,10 +200,14 @@ pub record Replayed (replay : Replay) (input : ReplayInput) (ending : Ending) (u
   pub ends : Ends input.format ending (length records) (ahead ++ left)
   pub replay_represents : ReplayRepresents replay (start_of input) history w r
 
--- the devices after a fault of an input, before whose records so many reads had failed
-abbrev pub LeavesOf : ReplayInput → ℕ → Devices → RunFault → Type 0
-LeavesOf input failed new fault = LeftDevices input.rules input.box input.capture input.trace
-    (record input.before { reads_failed = failed }) new fault
+-- the devices after a fault of an input, before whose records as many calls had failed as of these
+abbrev pub LeavesOf : ReplayInput → Devices → Devices → RunFault → Type 0
+LeavesOf input old new fault = LeftDevices input.rules input.box input.capture input.trace
+    (record input.before {
+      reads_failed = old.reads_failed;
+      sends_failed = old.sends_failed;
+      reports_failed = old.reports_failed;
+    }) new fault
 
 -- what holds of each input at whose first record a replay is
 abbrev pub OfBegun : Replay → Devices → (ReplayInput → Type 0) → Type 0
@@ -212,7 +219,7 @@ OfBegun replay old P = (input : ReplayInput) → replay.records.format ≡ input
 abbrev pub ReplaysAll : Replay → Replay → Result (Option CaptureFault) RunFault → Devices → Devices → Type 0
 ReplaysAll replay now result old new = OfBegun replay old (λ input. MatchResult result
     (λ stop. Replayed now input (ending_at stop) new.unread new.sent new.report)
-    (LeavesOf input old.reads_failed new))
+    (LeavesOf input old new))
 
 -- whether the capture ends inside a record, or the fault at which its records stop
 abbrev pub torn_at : Option CaptureFault → Result Bool RunFault
@@ -224,12 +231,12 @@ torn_at (Some fault) = Err (Capture fault)
 
 -- the writers, and the report's failed calls, after a fault behind the last record
 abbrev pub FinishFails : ReplayStart → List Entry → Option CaptureFault → Option (List ℕ) → Option (List ℕ)
-    → ℕ → ℕ → RunFault → Type 0
+    → Failures → Failures → RunFault → Type 0
 FinishFails start history stop w r before after (Capture fault) = (torn_at stop ≡ Err (Capture fault))
     × AllWritten start history w r
 FinishFails start history stop w r before after Device = PrefixWritten start history w r ⊎ ((torn : Bool)
     × (torn_at stop ≡ Ok torn) × (Appends start.sent w (capture_text history)
-    × AppendsPrefix start.report r (report_text start.setup start.trace history torn)) × (after ≡ one_more before))
+    × AppendsPrefix start.report r (report_text start.setup start.trace history torn)) × (after ≡ one_failure before))
 FinishFails start history stop w r before after _ = ⊥
 
 -- a replay whose records stop so is finished, or a fault stops it
@@ -276,4 +283,4 @@ WritesOutputs setup trace records summary old new = OfEach setup trace records o
 -- a fault leaves the devices so, or it was of memory before anything was read or written
 abbrev pub LeavesPrefix : Setup → Bool → CaptureState → RunFault → Devices → Devices → Type 0
 LeavesPrefix setup trace records fault old new = OfEach setup trace records old (λ input.
-    LeavesOf input old.reads_failed new fault ⊎ ((fault ≡ Memory) × Unchanged old new))
+    LeavesOf input old new fault ⊎ ((fault ≡ Memory) × Unchanged old new))

@@ -10,9 +10,10 @@ use Rattle.filter_vm.specs.declared.code.Code.{Code}
 use Rattle.filter_vm.specs.declared.code.Start.{Start}
 use Rattle.filter_vm.specs.Machine.{base_chain_result}
 use Rattle.nft_tree.specs.Priorities.{DSTNAT, SRCNAT}
-use Rattle.hook_runs.specs.Stages.{StageCosts, StageStarts, CostedTree, total_stage_cost, chains_in_stage, stage_starts}
-use Rattle.hook_runs.specs.declared.stages.HookStage.{HookStage}
-use Rattle.hook_runs.specs.declared.stages.HookStage.TheVariants as stages
+use Rattle.rule_meaning.specs.Hooks.{chains_in_stage}
+use Rattle.hook_runs.specs.Stages.{StageCosts, StageStarts, CostedTree, total_stage_cost, stage_starts}
+use Rattle.rule_meaning.specs.declared.stage.HookStage.{HookStage}
+use Rattle.rule_meaning.specs.declared.stage.HookStage.TheVariants as stages
 use Rattle.hook_runs.specs.declared.stages.StagedChains.{StagedChains}
 use Rattle.hook_runs.specs.StageCode.{AreStarts, continues}
 

@@ -1,9 +1,10 @@
 -- Text that is written through a page.
-use Rattle.std.specs.Prelude.{◌≡◌, ℕ, ◌++◌, Bool, true, false, List, [], Option, Result, MatchResult, is_err}
+use Rattle.std.specs.Prelude.{◌≡◌, ◌++◌, Bool, true, false, List, [], Option, Result, MatchResult, is_err}
 use Rattle.std.specs.List.{flat_map}
 use Rattle.std.specs.Io.KnownBytes.{Appends}
 use Rattle.pcap_io.specs.declared.counted.Counted.{Counted}
-use Rattle.pcap_io.specs.Counting.{AppendsPrefix, one_more}
+use Rattle.pcap_io.specs.declared.failures.Failures.{Failures}
+use Rattle.pcap_io.specs.Counting.{AppendsPrefix, one_failure}
 use Rattle.pcap_io.specs.Buffering.{AppendsBuffered}
 use Rattle.nft_tree.specs.Tree.{Text}
 use Rattle.report.specs.declared.page.Page.{Page}
@@ -21,9 +22,9 @@ pieces_text parts = flat_map piece_text parts
 
 -- by whether a write had failed, and whether one has failed now: a text is appended behind the buffered bytes; or a write fails, is
 -- counted, and leaves a prefix of both; or nothing is called, since one failed before
-abbrev pub Goes : Bool → Bool → Text → Option Text → Text → Option Text → ℕ → ℕ → Text → Type 0
+abbrev pub Goes : Bool → Bool → Text → Option Text → Text → Option Text → Failures → Failures → Text → Type 0
 Goes false false before old after new fails fails' text = AppendsBuffered before old new after text × (fails' ≡ fails)
-Goes false true before old after new fails fails' text = AppendsPrefix old new (before ++ text) × (fails' ≡ one_more fails)
+Goes false true before old after new fails fails' text = AppendsPrefix old new (before ++ text) × (fails' ≡ one_failure fails)
 Goes true failed before old after new fails fails' text = (failed ≡ true) × (new ≡ old) × (fails' ≡ fails)
 
 -- a text is put through a page, to a writer with these known bytes
@@ -39,8 +40,8 @@ pub record PutsAllBut {W : Type 0} (contents : W → Option Text) (p : Page) (w 
   pub puts : Puts contents p w q x part
 
 -- a failure is counted as one failed call
-abbrev pub CountsFailure : {T E : Type 0} → Result T E → ℕ → ℕ → Type 0
-CountsFailure r before after = MatchResult r (λ _. after ≡ before) (λ _. after ≡ one_more before)
+abbrev pub CountsFailure : {T E : Type 0} → Result T E → Failures → Failures → Type 0
+CountsFailure r before after = MatchResult r (λ _. after ≡ before) (λ _. after ≡ one_failure before)
 
 -- a text is written, or a prefix of it where a write fails
 abbrev pub WroteText : {T E : Type 0} → Result T E → Option Text → Option Text → Text → Type 0

@@ -1,22 +1,12 @@
 -- The contents of a `NameIndex`.
-use Rattle.std.specs.Prelude.{◌≡◌, ◌⊎◌, ℕ, Bool, true, false, List, [], ◌∷◌, ◌++◌, Option, Some, None, map, nat_eq, slice_get}
+use Rattle.std.specs.Prelude.{◌≡◌, ◌⊎◌, ℕ, Bool, true, false, List, [], ◌∷◌, ◌++◌, Option, Some, None, map, slice_get}
 use Rattle.std.specs.Borrow.{Bor}
-use Rattle.std.specs.Cmp.Lexicographic.{pointwise}
 use Rattle.nft_tree.specs.Tree.{Text}
-use Rattle.rule_names.specs.Names.{HasDuplicate, index_in}
+use Rattle.rule_names.specs.Names.{HasDuplicate}
 
 -- the bytes behind each reference
 abbrev pub texts : List (Bor Text) → List Text
 texts names = map (λ n. n.now) names
-
--- whether two references are to the same name, as `==` compares them
-abbrev pub same_name : Bor Text → Bor Text → Bool
-same_name a b = pointwise nat_eq a.now b.now
-
--- the names are distinct, and the map has the index of each of them and no other name
-pub record IsIndexed (names : List (Bor Text)) (index_of : Bor Text → Option ℕ) : Type 0 where
-  pub distinct : HasDuplicate (texts names) → ⊥
-  pub located : (name : Bor Text) → index_of name ≡ index_in name.now (texts names)
 
 -- the result of `add`: true if the name was new, and then it is at the end
 abbrev pub IsAdded : List Text → Text → List Text → Bool → Type 0

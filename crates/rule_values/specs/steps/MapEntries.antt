@@ -11,7 +11,7 @@ use Rattle.set_intervals.specs.declared.range.Range.{Range}
 use Rattle.rule_values.specs.declared.comparable_data.ComparableData.{ComparableData}
 use Rattle.rule_values.specs.declared.comparable_data.ComparableData.TheVariants as comparables
 use Rattle.rule_values.specs.TypedValues.{TypedMap}
-use Rattle.rule_values.specs.Faults.{ElementData, a_verdict, a_value, MapEntry, entry_of}
+use Rattle.rule_values.specs.Faults.{ElementData, a_verdict, a_value, MapEntry, map_entry_of}
 
 -- ---- names
 
@@ -79,7 +79,7 @@ RepresentEach names (e ∷ es) (p ∷ ps) = RepresentsEntry names e p × Represe
 RepresentEach names _ _ = ⊥
 
 abbrev pub entries_of : PlantTree → TypedMap → List MapEntry
-entries_of plant m = filter_map (entry_of plant m) m.elements
+entries_of plant m = filter_map (map_entry_of plant m) m.elements
 
 -- the pairs represent the entries, for some list of names
 pub record RepresentsEntries (pairs : List (Range × ComparableData)) (entries : List MapEntry) : Type 0 where

@@ -1,7 +1,7 @@
-use Rattle.engine.proofs.Names.{CaptureFault, Err, Keeps-refl, Option, ap, devices, err_from_is_err_and, inl, inr, refl, ◌∙◌}
+use Rattle.engine.proofs.Names.{CaptureFault, Err, Keeps-refl, Option, ap, devices, err_from_is_err_and, inl, inr, input_at, refl, ◌∙◌}
 use Rattle.engine.proofs.Results.{no_device, no_error, same_error}
 use Rattle.engine.proofs.Texts.{all_written, counts_begun, counts_ending, counts_later, fault_leaves_begun}
-use Rattle.engine.proofs.Texts.{fault_leaves_ended, of_each, of_memory, of_no_record, within_end}
+use Rattle.engine.proofs.Texts.{fault_leaves_ended, leaves_as, of_each, of_memory, of_no_record, within_end, writer_failed_at}
 use Rattle.engine.specs.declared.runs.Summary.{Summary}
 use Rattle.pcap_io.specs.declared.counted.Counted.{Counted}
 use Rattle.engine.proofs.replay.replay_capture.Goals as goal
@@ -23,7 +23,8 @@ returns-in_err-replay g c =
       within = (of_no_record error).1;
       left = fault_leaves_begun c.args.engine.setup c.args.trace c.args.records old
           (g.W.Write.contents c.new.new.sent.inner) c.new.new.sent.failures error c.requires.opened.3
-          c.in_err-replay.ensures.part (λ e. rw (c.in_err-replay.ensures.memory (ap Err e)) (Keeps-refl _));
+          c.in_err-replay.ensures.part (λ e. rw (c.in_err-replay.ensures.memory (ap Err e)) (Keeps-refl _))
+          (λ e. c.in_err-replay.ensures.device (ap Err e));
       failures = counts_begun error old (g.W.Write.contents c.new.new.sent.inner) c.new.new.sent.failures
           (λ e. c.in_err-replay.ensures.device (ap Err e))
           (λ e. ap (λ (w : Counted g.row.W.Denot). w.failures) (c.in_err-replay.ensures.memory (ap Err e)));
@@ -43,8 +44,11 @@ returns-in_err-stop g c =
       refused = c.in_err-stop.ensures.refused;
       memory = λ is. inr (c.in_err-stop.ensures.flushed (same_error refl refl is));
       within = c.in_err-stop.ensures.within;
-      left = λ rules box capture accepted header unread same is. inl (of_each old c.in_ok-replay.ensures.same.1
-          c.in_ok-replay.ensures.begun c.in_err-stop.ensures.replayed rules box capture accepted header unread same is);
+      left = λ rules box capture accepted header unread same is. inl (leaves_as (input_at accepted capture header c.args.trace (record old { unread = unread })) old
+          (state c.args.capture.now c.new.new.sent c.args.report.now)
+          (state c.replay_records.new.capture c.replay_records.new.sent c.replay_records.new.report) c.in_err-stop.field-0.0
+          (refl, c.in_ok-replay.ensures.no_failure, refl) (of_each old c.in_ok-replay.ensures.same.1
+          c.in_ok-replay.ensures.begun c.in_err-stop.ensures.replayed rules box capture accepted header unread same is));
       failures = counts_later (Option CaptureFault) Summary c.in_err-stop.field-0.0 old (state c.args.capture.now c.new.new.sent c.args.report.now)
           (state c.replay_records.new.capture c.replay_records.new.sent c.replay_records.new.report)
           (refl, c.in_ok-replay.ensures.no_failure, refl) c.in_err-stop.ensures.failures;
@@ -68,9 +72,13 @@ returns-in_err-torn g c =
       within = within_end c.in_ok-stop.stop fault c.in_ok-stop.ensures.stop c.in_err-torn.ensures.fault;
       left = λ rules box capture accepted header unread same is. let i = of_each old c.in_ok-replay.ensures.same.1
           c.in_ok-replay.ensures.begun c.in_ok-stop.ensures.replayed rules box capture accepted header unread same is in
-          inl (fault_leaves_ended c.in_ok-stop.stop
-          (state c.replay_records.new.capture c.finish.new.sent c.finish.new.report) _ c.replay_records.new.report.failures fault
-          c.in_ok-stop.ensures.stop none.0 none.2 i (c.in_err-torn.ensures.finished _ _ i.replay_represents));
+          inl (fault_leaves_ended c.in_ok-stop.stop old
+          (state c.replay_records.new.capture c.finish.new.sent c.finish.new.report) c.replay_records.new.report.failures fault
+          c.in_ok-stop.ensures.stop none.0 none.2 (writer_failed_at fault old
+          (state c.replay_records.new.capture c.replay_records.new.sent c.replay_records.new.report)
+          (state c.replay_records.new.capture c.finish.new.sent c.finish.new.report)
+          (none.0, none.1 ∙ c.in_ok-replay.ensures.no_failure, none.2) c.in_err-torn.ensures.failures)
+          i (c.in_err-torn.ensures.finished _ _ i.replay_represents));
       failures = counts_ending fault old (state c.replay_records.new.capture c.replay_records.new.sent c.replay_records.new.report)
           (state c.replay_records.new.capture c.finish.new.sent c.finish.new.report)
           (none.0, none.1 ∙ c.in_ok-replay.ensures.no_failure, none.2) refl c.in_err-torn.ensures.failures;

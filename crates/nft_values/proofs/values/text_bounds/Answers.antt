@@ -4,7 +4,7 @@ use Rattle.std.specs.Prelude.{unwrap_or}
 use Rattle.std.proofs.Math.Pow.{pow_pos}
 use Rattle.nft_tree.specs.declared.compared_types.ComparedType.{ComparedType}
 use Rattle.nft_tree.specs.declared.compared_types.ComparedType.TheVariants.{Named}
-use Rattle.nft_values.specs.Values.{compared_type_width}
+use Rattle.nft_tree.specs.ComparedTypes.{compared_type_width}
 use Rattle.nft_values.proofs.WordLaws.{word-fits}
 use Rattle.nft_values.proofs.values.text_bounds.Goals as goal
 use Rattle.nft_values.proofs.values.text_bounds.Goals.{in-Named-InterfaceIndex, in-Named, in-Unnamed}

@@ -8,7 +8,7 @@ pub returns : goal.returns
 returns g c =
     let task = c.args.task.now in
     let listed = all_faults_calls task c.args.status in
-    let warned = nft_calls c.args.nft task c.args.status in
-    HappenInOrder-append g.H.Host.happens _ _ _ (explanation_calls c.args.explained task c.args.status) (listed ++ warned)
+    let warned = nft_calls task c.args.status in
+    HappenInOrder-append g.H.Host.happens _ _ _ (explanation_calls c.args.terminal task c.args.status) (listed ++ warned)
     c.explain_if_asked.ensures
     (HappenInOrder-append g.H.Host.happens _ _ _ listed warned c.list_faults.ensures c.warn_of_nft.ensures)

@@ -9,17 +9,17 @@ pub returns-in-Ok : goal.returns-in-Ok
 returns-in-Ok g c =
     let served = c.run_task-status.ensures in (
       served.0 ++ (status_line_calls c.run_task-status.result
-          ++ detail_calls c.args.explained c.args.nft c.in-Ok.task c.run_task-status.result),
+          ++ detail_calls c.args.terminal c.in-Ok.task c.run_task-status.result),
       HappenInOrder-append g.H.Host.happens _ _ _ served.0
-          (status_line_calls c.run_task-status.result ++ detail_calls c.args.explained c.args.nft c.in-Ok.task
+          (status_line_calls c.run_task-status.result ++ detail_calls c.args.terminal c.in-Ok.task
           c.run_task-status.result) served.1
           (HappenInOrder-append g.H.Host.happens _ _ _ (status_line_calls c.run_task-status.result)
-          (detail_calls c.args.explained c.args.nft c.in-Ok.task c.run_task-status.result)
+          (detail_calls c.args.terminal c.in-Ok.task c.run_task-status.result)
           c.end-code.ensures.0 c.add_details.ensures),
       (
         served.0,
         c.run_task-status.result,
-        detail_calls c.args.explained c.args.nft c.in-Ok.task c.run_task-status.result,
+        detail_calls c.args.terminal c.in-Ok.task c.run_task-status.result,
         inl (c.in-Ok.task, c.in-Ok.ensures.requested, served.2, refl),
         refl,
         c.end-code.ensures.1,

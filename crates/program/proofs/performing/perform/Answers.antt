@@ -1,8 +1,6 @@
 -- The command line is read, and then parsed and run.
-use Rattle.std.proofs.Common.{◌∙◌, ◌++◌, Bool, List, Ok, [], ◌∷◌, ap, inr, map, refl, string_bytes, subst}
+use Rattle.std.proofs.Common.{◌∙◌, ◌++◌, List, Ok, [], ◌∷◌, ap, inr, map, refl, string_bytes, subst}
 use Rattle.clap.specs.declared.error.kind.ErrorKind.TheVariants.{OutOfMemory}
-use Rattle.command_line.specs.declared.remarks.Remarks.{Remarks}
-use Rattle.command_line.specs.CommandLine.{are_explained, remarks_of, task_words}
 use Rattle.program.specs.Calls.{Text, errors_to_terminal, words}
 use Rattle.program.specs.Performing.{ParsesAndRuns, status_line_calls}
 use Rattle.program.specs.declared.status.Status.TheVariants.{Memory}
@@ -28,23 +26,15 @@ returns-in-Ok-slices_of g c =
     let terminal = c.errors_to_terminal-terminal.result in
     let texts = map string_bytes c.in-Ok.words.items in
     let given = c.in-Ok-slices_of.ensures ∙ ap (map string_bytes) c.deref.ensures.value in
-    let asked = c.take-remarks.ensures.asked ∙ ap remarks_of given in
-    let explained = c.are_explained-explained.ensures ∙ ap (λ remarks. are_explained remarks terminal) asked in
-    let same = ap (map (λ slice. slice.now)) c.deref-in-Ok-slices_of.ensures.value
-    ∙ c.take-remarks.ensures.left ∙ ap task_words given in
-    let Words : List Text → Type 0 = λ words. ParsesAndRuns c.are_explained-explained.result
-    c.take-remarks.result.nft words ends.0 ends.1 ends.2 in
-    let Explained : Bool → Type 0 = λ on. ParsesAndRuns on c.take-remarks.result.nft (task_words texts) ends.0
-    ends.1 ends.2 in
-    let Asked : Remarks → Type 0 = λ remarks. ParsesAndRuns (are_explained (remarks_of texts) terminal)
-    remarks.nft (task_words texts) ends.0 ends.1 ends.2 in (
+    let same = ap (map (λ slice. slice.now)) c.deref-in-Ok-slices_of.ensures.value ∙ given in
+    let Words : List Text → Type 0 = λ words. ParsesAndRuns terminal words ends.0 ends.1 ends.2 in (
       words (Ok texts) ∷ errors_to_terminal terminal ∷ acted.0,
       (_, c.in-Ok.ensures, (_, c.errors_to_terminal-terminal.ensures, acted.1)),
       (
         words (Ok texts) ∷ errors_to_terminal terminal ∷ ends.0,
         ends.1,
         ends.2,
-        subst Asked asked (subst Explained explained (subst Words same ends.3)),
+        subst Words same ends.3,
         ap (λ calls. words (Ok texts) ∷ errors_to_terminal terminal ∷ calls) ends.4,
         ends.5,
       ),

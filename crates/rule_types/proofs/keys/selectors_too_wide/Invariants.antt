@@ -1,7 +1,6 @@
 use Rattle.std.proofs.Common.{◌≡◌, ◌^◌, ◌-◌, map, take, min}
 use Rattle.std.specs.List.{sum_by}
-use Rattle.nft_tree.specs.ComparedTypes.{selector_compared_type}
-use Rattle.rule_types.specs.Types.{compared_type_width}
+use Rattle.nft_tree.specs.ComparedTypes.{compared_type_width, selector_compared_type}
 use Rattle.rule_types.proofs.keys.selectors_too_wide.Given as goal
 
 -- the width of the selectors' types so far

@@ -1,7 +1,7 @@
 use Rattle.std.proofs.Common.{◌≡◌, ◌^◌, ◌-◌, map, take, min}
 use Rattle.std.specs.List.{sum_by}
 use Rattle.nft_tree.specs.declared.compared_types.ComparedType.TheVariants.{Named}
-use Rattle.rule_types.specs.Types.{compared_type_width}
+use Rattle.nft_tree.specs.ComparedTypes.{compared_type_width}
 use Rattle.rule_types.proofs.keys.types_too_wide.Given as goal
 
 -- the width of the types so far

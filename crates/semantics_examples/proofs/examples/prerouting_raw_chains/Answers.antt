@@ -1,9 +1,10 @@
 use Rattle.std.proofs.Common.{refl}
-use Rattle.semantics_examples.proofs.ComputedHooks.{prerouting, early}
+use Rattle.rule_meaning.specs.declared.stage.HookStage.TheVariants as stages
+use Rattle.semantics_examples.proofs.ComputedHooks.{in_stage}
 use Rattle.semantics_examples.proofs.examples.prerouting_raw_chains.Goals as goal
 
 pub returns-clause-at : goal.returns-clause-at
-returns-clause-at c = (early _ _ _ refl, prerouting _ _ _ _ refl)
+returns-clause-at c = (in_stage stages.PreroutingRaw _ _ _ refl, in_stage stages.PreroutingBeforeNat _ _ _ refl, in_stage stages.PreroutingAfterNat _ _ _ refl)
 
 pub returns-clause-above : goal.returns-clause-above
-returns-clause-above c = (early _ _ _ refl, prerouting _ _ _ _ refl)
+returns-clause-above c = (in_stage stages.PreroutingRaw _ _ _ refl, in_stage stages.PreroutingBeforeNat _ _ _ refl)

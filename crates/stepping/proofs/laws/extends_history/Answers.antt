@@ -3,7 +3,7 @@ use Rattle.stepping.proofs.Names.{Arrival, Belonging, Cause, Confirmation, ConnI
 use Rattle.stepping.proofs.Names.{EventsAndTicks, Extends, HasProcessed, Hooks, HooksAndConfirm, IsTrue, List, Mapping, None, Notrack, Ok, Option, Path}
 use Rattle.stepping.proofs.Names.{PathState, ReceivedPacket, Recorded, Result, SameExceptIds, Setup, Some, StepResult, Tuple, Unconfirmed, Untracked}
 use Rattle.stepping.proofs.Names.{after_end, after_packet, ap, arith, arrival_of, belonging_by_tuple, belonging_of, belonging_without_id, belongs_in, carried}
-use Rattle.stepping.proofs.Names.{change_of_packet, confirmation_of, confirmed, ct_info_by, entry_at, entry_of, entry_without_packet, error_belonging}
+use Rattle.stepping.proofs.Names.{change_of_packet, confirmation_of, confirmed, ct_info_by, entry_at, entry_of_packet, entry_without_packet, error_belonging}
 use Rattle.stepping.proofs.Names.{error_ct_info, final_state, flags_in, goes_on, has_distinct_ids, held_by, inner_tuple_of, is_creation, limits_of, live_in}
 use Rattle.stepping.proofs.Names.{live_list, looked_up_info, lookup_tuple_of, map, mappings_in, moment_after, moment_of, newest_in, others_beside, refl}
 use Rattle.stepping.proofs.Names.{stops, subst, sym, tracked_as, tracked_of, transport_of, tuple_in, tuple_of, with_info, without_id, ℕ, ◌∙◌, ◌∷◌, ◌≡◌}
@@ -109,7 +109,7 @@ module _ (c : After-one_more_entry) (setup : Setup) (history : List Entry) (r : 
         ap (λ (b : Belonging). map without_id (after_packet b id a confirmation held)) one
             ∙ c.independent_of_ids.ensures.packet held live id _ a confirmation same d distinct
             ∙ ap (map without_id) (sym (c.one_more_entry.ensures.packet (limits_of setup) (tracked_of history) a confirmation))
-            ∙ ap (λ (b : Belonging). map without_id (live_list (limits_of setup) (updates.entry_of b a confirmation ∷ tracked_of history)
+            ∙ ap (λ (b : Belonging). map without_id (live_list (limits_of setup) (updates.tracked_packet b a confirmation ∷ tracked_of history)
             now)) (sym other),
       )
 
@@ -129,7 +129,7 @@ module _ (c : After-one_more_entry) (setup : Setup) (history : List Entry) (r : 
       let after = held_same has.follows.id a.packet key confirmation (tuple_is (final_state has.r).info a.packet) in
       let begun = has.follows.begins ∙ began_same c held live same d distinct a.packet now key confirmation in
       record {
-        e = entry_of now live a.packet has.r;
+        e = entry_of_packet now live a.packet has.r;
         next = record {
           entry = rw (← is, ← at) (has.r, path_same c held live same d distinct a.packet setup _ has.r has.path, refl);
         };

@@ -6,10 +6,11 @@ use Rattle.translation_laws.proofs.Names.{EndsSourceNat, EntriesFollow, Entry, E
 use Rattle.translation_laws.proofs.Names.{HistoryLaws, HoldsMapping, HookResult, HookVerdict, Interface, Invalid, IsAccepted, IsHairpinned, IsHistory}
 use Rattle.translation_laws.proofs.Names.{IsHistoryOf, IsTrue, Kind, LeavesWith, List, LivesOn, Mapping, New, NewConnection, Next, NoChange, None, NotFound}
 use Rattle.translation_laws.proofs.Names.{Ok, Option, Original, PlantTree, ReceivedPacket, Recorded, Reply, Result, Setup, Some, Touches, TouchesLive}
-use Rattle.translation_laws.proofs.Names.{Tracked, TrackedPacket, Tuple, [], after_end, alive_at, and_from, and_parts, ap, arith, arrival_of, begun, begun_in}
+use Rattle.translation_laws.proofs.Names.{Tracked, TrackedPacket, Tuple, [], after_end, alive_at, and_from, and_parts, ap, arith, arrival_of}
+use Rattle.translation_laws.proofs.Names.{begun_in, creation_in}
 use Rattle.translation_laws.proofs.Names.{between, both_ways, carried, carried_after, carried_by, carried_with, change_of, change_of_packet, cond}
 use Rattle.translation_laws.proofs.Names.{confirmation_by, connection_in, connection_of, connection_ref, does_end, drop, external_source, false, fault_of}
-use Rattle.translation_laws.proofs.Names.{filter_passes, first_state, flags_in, hairpinned, has_ports, have_disjoint_tuples, inbound_of, inl, input_interface}
+use Rattle.translation_laws.proofs.Names.{filter_passes, may_begin, flags_in, hairpinned, has_ports, have_disjoint_tuples, inbound_of, inl, input_interface}
 use Rattle.translation_laws.proofs.Names.{inr, interface_facts, inverse, inverse_kind, is_alive, is_creation, is_ended, is_incoming, is_live}
 use Rattle.translation_laws.proofs.Names.{is_same_interface, is_some, is_taken, kind_of, limits_of, live_at_record, lt-ltb, ltb-true, mappings_in, mark_in}
 use Rattle.translation_laws.proofs.Names.{moment_after, names_of, names_ports, new_connection_of, none-some, none_not_some, not, not_from_false, or_left}
@@ -35,7 +36,6 @@ use Rattle.translation_laws.proofs.translation_laws.Goals.{After-no_fault as Law
 use Rattle.translation_laws.proofs.translation_laws.Answers.Preserved.{HasShapes, IsShaped, Preserved, drafted, ended, found_by, found_one, given_one}
 use Rattle.translation_laws.proofs.translation_laws.Answers.Preserved.{inverse_shaped, its_draft, mapping_at, mapping_of_holder, not_behind, parts}
 use Rattle.translation_laws.proofs.translation_laws.Answers.Preserved.{ported_suits, preserved, taken_by, tuple_shaped, turned_so}
-use Rattle.conntrack.specs.declared.belonging.LookupState.TheVariants as states
 
 -- ==== A packet that a record carries has no fault.
 
@@ -69,7 +69,7 @@ change_begun : (b : Belonging) → IsNone b → (p : Arrival) (mark : ℕ) (d : 
 change_begun b none p mark d = grind arith
 
 abbrev source_begun : ConnectionChange → Option Mapping
-source_begun change = (begun change).source
+source_begun change = (creation_in change).source
 
 twice : (kind : Kind) → inverse_kind (inverse_kind kind) ≡ kind
 twice kind = grind arith
@@ -164,7 +164,7 @@ module _ (laws : Laws) (setup : Setup) (history : List Entry) (r : Recorded) (e 
 
     -- ---- the first packet of a connection begins it, where no connection has its tuple but one that it removes
 
-    begins_one : first_state t.kind ≡ states.New
+    begins_one : may_begin t.kind ≡ true
         → ((h : ConntrackEntry) → Contains held h → IsTrue (is_incoming t h) → does_end h t flags ≡ true)
         → Does → (c : Creation) × (e.tracked.change ≡ Begins c) × (c.original ≡ t)
     begins_one new free (begins none first n unrefused) = (_, begun_so none n.left n.is, refl)

@@ -6,9 +6,9 @@ use Rattle.translation_laws.proofs.Names.{Contains-cases, Contains-head, Contain
 use Rattle.translation_laws.proofs.Names.{Endpoint, Ends, Entry, ExternalSource, Facts, Flags, Found, HookVerdict, Interface, IsHistory, IsHistoryOf}
 use Rattle.translation_laws.proofs.Names.{IsOneToOne, IsTrue, Kind, List, Mapping, NewConnection, Next, None, NotFound, Option, Original, Other, PathState}
 use Rattle.translation_laws.proofs.Names.{PlantTree, PortsMatchKind, ReceivedPacket, Recorded, Reply, Setup, Some, Touches, TrackedPacket, Tuple, Unconfirmed}
-use Rattle.translation_laws.proofs.Names.{[], after_end, after_packet, alive_at, ap, arith, arrival_of, begun, begun_with, belongs_in, carried, cond}
+use Rattle.translation_laws.proofs.Names.{[], after_end, after_packet, alive_at, ap, arith, arrival_of, creation_in, begun_with, belongs_in, carried, cond}
 use Rattle.translation_laws.proofs.Names.{cond_both, confirmation_by, connection_ref, does_end, false, false_from_ne_true, filter, first_free_port}
-use Rattle.translation_laws.proofs.Names.{first_state, given_to, has_ports, have_disjoint_tuples, inl, inr, interface_facts, inverse, inverse_kind}
+use Rattle.translation_laws.proofs.Names.{may_begin, given_to, has_ports, have_disjoint_tuples, inl, inr, interface_facts, inverse, inverse_kind}
 use Rattle.translation_laws.proofs.Names.{is_incoming, is_live, is_port_held, is_some, is_taken, latest_choice, limits_of, listed, live_at_record, live_list}
 use Rattle.translation_laws.proofs.Names.{mappings_in, mappings_of, mark_in, max_connections, moment_after, moment_of, new_connection_of, not, of_original}
 use Rattle.translation_laws.proofs.Names.{of_reply, or_else, or_left, or_right, order_of, port_choice_by, port_choice_for, port_choice_in, port_of, range_of}
@@ -26,7 +26,6 @@ use Rattle.translation_laws.proofs.translation_laws.Goals.{After-no_fault as Law
 use Rattle.translation_laws.proofs.Paths.{AcceptedWith, EntryCase, IsLookedUp, IsNone, IsTranslated, accepted_so, begins, belongs_by, beside, dropped_so}
 use Rattle.translation_laws.proofs.Paths.{entry_case, is_invalid, refreshes, turned_by, unseen_so}
 use Rattle.history.specs.declared.outcome.Cause.TheVariants as causes
-use Rattle.conntrack.specs.declared.belonging.LookupState.TheVariants as states
 use Rattle.conntrack.specs.Updates as updates
 
 -- ==== The mappings that connections hold.
@@ -201,7 +200,7 @@ candidate_plain : (kind : Kind) (s : ℕ) (range : Option CandidateRange) (port 
 unfolding candidates
 candidate_plain kind s range port among = grind (arith, Contains-cases)
 
-chosen_suits : (kind : Kind) (from to port : ℕ) → first_state kind ≡ states.New → PortsMatchKind kind from to
+chosen_suits : (kind : Kind) (from to port : ℕ) → may_begin kind ≡ true → PortsMatchKind kind from to
     → OutsideSuits kind port → PortsMatchKind kind port to
 chosen_suits kind from to port new h o = grind arith
 
@@ -263,7 +262,7 @@ module _ (laws : Laws) where
               λ told ports. candidate_alike kind internal.port x.ports port (same_Some _ false told) ports among,
             )
 
-    module _ (t : Tuple) (new : first_state t.kind ≡ states.New) (shaped : IsShaped t) (d : NewConnection)
+    module _ (t : Tuple) (new : may_begin t.kind ≡ true) (shaped : IsShaped t) (d : NewConnection)
         (turned : IsTurned mappings t d) where
       pub drafted : (x : Option ExternalSource) (after : NewConnection) → with_source_nat mappings d x ≡ Some after
           → IsDrafted mappings t after
@@ -276,7 +275,7 @@ module _ (laws : Laws) where
             kind = turned.kind;
             dest = turned.dest;
             one = laws.stays_one_to_one.ensures.source mappings d.tuple.kind d.tuple.source x.address (range_of x.ports) r.0 one r.1;
-            shaped = chosen_suits d.tuple.kind d.tuple.source.port d.tuple.destination.port r.0 (ap first_state turned.kind ∙ new)
+            shaped = chosen_suits d.tuple.kind d.tuple.source.port d.tuple.destination.port r.0 (ap may_begin turned.kind ∙ new)
                 (turned.shape shaped) so.0;
             source = λ m of. subst
                 (PortChosen mappings (port_choice_by (is_some x.ports) (port_of d.tuple.kind d.tuple.source x.address mappings)))
@@ -288,7 +287,7 @@ module _ (laws : Laws) where
 -- it is this entry's, or an earlier one
 chosen_here : (m : Mapping) (e : Entry) (history : List Entry) (has_port_range : Bool)
     → latest_choice m (e ∷ history) ≡ Some has_port_range
-    → ((begun e.tracked.change).source ≡ Some m) × (e.port_choice ≡ Some has_port_range)
+    → ((creation_in e.tracked.change).source ≡ Some m) × (e.port_choice ≡ Some has_port_range)
     ⊎ (latest_choice m history ≡ Some has_port_range)
 chosen_here m e history has_port_range latest = grind arith
 
@@ -351,7 +350,7 @@ module _ (laws : Laws) (history : List Entry) (held : List ConntrackEntry) (k : 
   ended _ = k
 
   -- what NAT gives the first packet of a connection beside these
-  pub its_draft : (setup : Setup) (input : Interface) (t : Tuple) → first_state t.kind ≡ states.New → IsShaped t → (s : PathState)
+  pub its_draft : (setup : Setup) (input : Interface) (t : Tuple) → may_begin t.kind ≡ true → IsShaped t → (s : PathState)
       → (n : IsTranslated setup mappings input (new_connection_of t) s) → IsDrafted mappings t n.left
   its_draft setup input t new shaped s n =
       drafted laws mappings k.one (λ m among. (k.allocated m among).0) t new shaped
@@ -363,7 +362,7 @@ module _ (laws : Laws) (history : List Entry) (held : List ConntrackEntry) (k : 
     still_allocated m so = (so.0, grind arith)
 
     -- an entry that begins no connection with a mapping of its source
-    unchosen : (begun e.tracked.change).source ≡ None → Mapped (e ∷ history) held
+    unchosen : (creation_in e.tracked.change).source ≡ None → Mapped (e ∷ history) held
     unchosen none = record {
       one = k.one;
       class = λ m ports latest. k.class m ports (rw none at latest);
@@ -372,7 +371,7 @@ module _ (laws : Laws) (history : List Entry) (held : List ConntrackEntry) (k : 
     }
 
     -- one that begins this connection beside the others
-    module _ (id : ConnId) (p : Arrival) (mark : ℕ) (d : NewConnection) (is : (begun e.tracked.change).source ≡ d.source)
+    module _ (id : ConnId) (p : Arrival) (mark : ℕ) (d : NewConnection) (is : (creation_in e.tracked.change).source ≡ d.source)
         (shaped : IsShaped p.tuple) (draft : IsDrafted mappings p.tuple d)
         (chosen : e.port_choice ≡ port_choice_in mappings d.has_port_range d.source) where
       -- a mapping held then is that of its source, or was live before
@@ -423,7 +422,7 @@ module _ (laws : Laws) (history : List Entry) (held : List ConntrackEntry) (k : 
 -- ==== It is true in each history, at its time and at each later one.
 
 abbrev source_begun : TrackedPacket → Option Mapping
-source_begun t = (begun t.change).source
+source_begun t = (creation_in t.change).source
 
 -- a connection that isn't refused is answered by a tuple that is free
 unrefused : (full taken : Bool) → cond full (Some causes.Full) (cond taken (Some causes.Clash) None) ≡ None → taken ≡ false
@@ -451,12 +450,12 @@ module _ (laws : Laws) (setup : Setup) where
     abbrev KeptAfter : Belonging → Arrival → Confirmation → Type 0
     KeptAfter b x confirmation = DoesNotClash b confirmation held × Mapped (e ∷ history) (after_packet b id x confirmation held)
 
-    unconfirmed : (b : Belonging) (x : Arrival) → e.tracked ≡ updates.entry_of b x Unconfirmed → KeptAfter b x Unconfirmed
+    unconfirmed : (b : Belonging) (x : Arrival) → e.tracked ≡ updates.tracked_packet b x Unconfirmed → KeptAfter b x Unconfirmed
     unconfirmed (Found place) x is = (tt, unchosen laws history held here.mapped e (ap source_begun is))
     unconfirmed b x is = (tt, unchosen laws history (after_end b held) (ended laws history held here.mapped b) e (ap source_begun is))
 
     begun_so : (b : Belonging) → IsNone b → (x : Arrival) (mark : ℕ) (d : NewConnection)
-        → e.tracked ≡ updates.entry_of b x (Confirmed mark (reply_to d) d.source d.dest) → IsShaped x.tuple
+        → e.tracked ≡ updates.tracked_packet b x (Confirmed mark (reply_to d) d.source d.dest) → IsShaped x.tuple
         → IsDrafted (mappings_in (after_end b held)) x.tuple d
         → e.port_choice ≡ port_choice_in (mappings_in (after_end b held)) d.has_port_range d.source
         → is_taken (reply_to d) (after_end b held) ≡ false → KeptAfter b x (Confirmed mark (reply_to d) d.source d.dest)
@@ -490,7 +489,7 @@ module _ (laws : Laws) (setup : Setup) where
     AtOnce = (e.tracked.moment ≡ m) × Preserved (e ∷ history) (alive_at setup (e ∷ history) m)
 
     after_seen : (p : List ℕ) (t : Tuple) (confirmation : Confirmation)
-        → e.tracked ≡ updates.entry_of (belongs_by held p t) (arrival_of m p t) confirmation
+        → e.tracked ≡ updates.tracked_packet (belongs_by held p t) (arrival_of m p t) confirmation
         → KeptAfter (belongs_by held p t) (arrival_of m p t) confirmation → AtOnce
     after_seen p t confirmation is k =
         let limits = limits_of setup in

@@ -1,4 +1,4 @@
-use Rattle.engine.proofs.Names.{[], append-nil, err_from_is_err_and, part_none, refl, sll2_header, subst, sym, List, ℕ, ◌≡◌, Err, Result}
+use Rattle.engine.proofs.Names.{[], append-nil, err_from_is_err_and, inl, part_none, refl, sll2_header, subst, sym, List, ℕ, ◌≡◌, Err, Result}
 use Rattle.engine.proofs.Results.{no_error, same_error}
 use Rattle.pcap_io.specs.Buffering.{AppendsBuffered}
 use Rattle.pcap_io.specs.declared.sink.SinkError.{SinkError}
@@ -35,7 +35,7 @@ returns-in_err-sink g c =
 
 pub returns : goal.returns
 returns g c = record {
-  same = (refl, refl, c.in_ok-numbers.ensures.fresh.records);
+  same = (refl, refl, c.in_ok-numbers.ensures.fresh.records, c.in_ok-numbers.ensures.empty);
   begun = λ report. record {
     same = refl;
     represents = c.requires.represents;
@@ -45,6 +45,7 @@ returns g c = record {
     lines = [];
     reports = rw c.rules.ensures at c.in_ok-numbers.ensures.fresh;
     appends_report = Appends-nil report;
+    not_ahead = inl (Appends-nil report);
   };
   part = tt;
   no_failure = c.in_ok-sink.ensures.no_failure;

@@ -1,8 +1,8 @@
 use Rattle.engine.proofs.Names.{Bool, CaptureFault, CaptureState, Device, EngineState, Err, IsAtEnd, List, OfBegun, Ok, Option, Some, [], ap, arith}
-use Rattle.engine.proofs.Names.{devices, err_from_is_err_and, false, inl, inr, is_ready, one_more, refl, start_of, sym, torn_at, true, ℕ, ◌∙◌, ◌≡◌}
+use Rattle.engine.proofs.Names.{devices, err_from_is_err_and, false, inl, inr, is_ready, one_failure, refl, start_of, sym, torn_at, true, ℕ, ◌∙◌, ◌≡◌}
 use Rattle.engine.proofs.Replays.{AtRead, begun, cut, ended, halted, halted_at, lacks, more, refused, still}
 use Rattle.engine.proofs.Results.{no_error, no_memory, no_read, no_value, not_taken}
-use Rattle.engine.proofs.Texts.{counts_ending}
+use Rattle.engine.proofs.Texts.{counts_ending, writer_failed}
 use Rattle.engine.proofs.WritingOutputs.{broke_writing}
 use Rattle.pcap_io.specs.declared.fault.CaptureError.TheVariants as errors
 use Rattle.pcap_io.specs.declared.fault.CaptureFault.TheVariants as captures
@@ -45,8 +45,8 @@ module _ (g : given.Over) (c : After-next g) where
   calm : c.next.result ≢ Err errors.Device → c.next.new.reader.failures ≡ c.args.capture.now.failures
   calm not = c.next.ensures.no_failure going not ∙ c.each.invariant.read_calm
 
-  broken : c.next.result ≡ Err errors.Device → c.next.new.reader.failures ≡ one_more c.args.capture.now.failures
-  broken is = c.next.ensures.device going is ∙ ap one_more c.each.invariant.read_calm
+  broken : c.next.result ≡ Err errors.Device → c.next.new.reader.failures ≡ one_failure c.args.capture.now.failures
+  broken is = c.next.ensures.device going is ∙ ap one_failure c.each.invariant.read_calm
 
   drained : c.next.new.self.ended ≡ true → IsAtEnd (g.R.Read.remaining c.next.new.reader.inner)
   drained = c.next.ensures.drained (rw c.flush_before_read.ensures.same.1 c.each.invariant.drained)
@@ -88,6 +88,7 @@ each-init g c =
       write_calm = refl;
       write_without_failure = refl;
       few = opened.3;
+      pending = rw c.requires.empty (omega arith);
       drained = opened.4;
       represents = ([], c.requires.represents);
       carried = λ input same is p. begun c.args.self.now input _ _ _ opened.1 opened.2 same is p;
@@ -120,6 +121,7 @@ each-preserved g c =
       write_calm = c.in_ok-is_taken.ensures.no_failure ∙ (wrote g call).0;
       write_without_failure = (wrote g call).1;
       few = rw c.take.ensures.same c.next.ensures.room;
+      pending = omega (arith, c.take.ensures.pending, c.in_ok-flush_before_read.ensures.pending);
       drained = λ e. drained g call (ap (λ (s : CaptureState). s.ended) (sym c.take.ensures.same) ∙ e);
       represents = c.in_ok-is_taken.ensures.represents taken;
       carried = λ input same is p. let at = read g call input same is p in
@@ -134,18 +136,22 @@ returns-in_err-flush_before_read g c =
     let q = err_from_is_err_and c.from_residual.result c.from_residual.ensures.1 in
     let state = devices g.R.Read.remaining g.W.Write.contents g.W2.Write.contents in
     let so_far = c.each.invariant in
+    let start = state c.args.capture.now c.args.sent.now c.args.report.now in
     rw (q.1, q.2) (record {
       replayed = λ input same is p. let at = (so_far.carried input same is p).behind in
-          halted (state c.each.capture c.flush_before_read.new.sent c.flush_before_read.new.report) c.args.capture.now.failures
+          halted start (state c.each.capture c.flush_before_read.new.sent c.flush_before_read.new.report)
           c.each.self.records.held at.left at.is_left at.follows so_far.few so_far.read_calm
+          (writer_failed start (state c.each.capture c.each.sent c.each.report)
+          (state c.each.capture c.flush_before_read.new.sent c.flush_before_read.new.report)
+          (so_far.read_calm, so_far.write_calm, so_far.write_without_failure) c.in_err-flush_before_read.ensures.failures)
           (c.in_err-flush_before_read.ensures.kept _ _ (so_far.carried input same is p).replay_represents);
       stop = tt;
       drained = tt;
       within = λ is. is;
       refused = λ is. absurd is;
       flushed = λ is. absurd (no_memory refl is);
-      failures = counts_ending Device (state c.args.capture.now c.args.sent.now c.args.report.now)
-          (state c.each.capture c.each.sent c.each.report)
+      pending = omega (arith, c.in_err-flush_before_read.ensures.pending, so_far.pending);
+      failures = counts_ending Device start (state c.each.capture c.each.sent c.each.report)
           (state c.each.capture c.flush_before_read.new.sent c.flush_before_read.new.report)
           (so_far.read_calm, so_far.write_calm, so_far.write_without_failure) refl c.in_err-flush_before_read.ensures.failures;
     })
@@ -161,6 +167,7 @@ returns-in-Ok-false g c =
       within = tt;
       refused = tt;
       flushed = λ is. absurd (no_error is);
+      pending = omega (arith, c.in_ok-flush_before_read.ensures.pending);
       failures = (
         c.in-Ok-false.ensures.no_failure (going g call) no_error ∙ c.each.invariant.read_calm,
         (wrote g call).0,
@@ -181,6 +188,7 @@ returns-in-Err-Refused g c =
       within = tt;
       refused = tt;
       flushed = λ is. absurd (no_error is);
+      pending = omega (arith, c.in_ok-flush_before_read.ensures.pending);
       failures = (calm g call (no_read went), (wrote g call).0, (wrote g call).1);
     }
 
@@ -194,7 +202,8 @@ returns-in-Err-Device g c =
     false_from_ne_true _ (λ ready. c.next.ensures.held (going g call) (ap is_ready c.flush_before_read.ensures.same.1 ∙ ready) went) in
     record {
       replayed = λ input same is p. cut (read g call input same is p)
-          (state c.next.new.reader c.flush_before_read.new.sent c.flush_before_read.new.report) c.args.capture.now.failures
+          (state c.args.capture.now c.args.sent.now c.args.report.now)
+          (state c.next.new.reader c.flush_before_read.new.sent c.flush_before_read.new.report)
           went refl (broken g call went) (c.in-Err-Device.ensures.stopped (going g call) no_value).0
           (c.in_ok-flush_before_read.ensures.written unready _ _ (c.each.invariant.carried input same is p).replay_represents);
       stop = tt;
@@ -202,6 +211,7 @@ returns-in-Err-Device g c =
       within = λ is. is;
       refused = λ is. absurd is;
       flushed = λ is. absurd (no_memory refl is);
+      pending = omega (arith, c.in_ok-flush_before_read.ensures.pending);
       failures = inl (broken g call went, (wrote g call).0, (wrote g call).1);
     }
 
@@ -218,14 +228,17 @@ returns-in_err-is_taken g c =
     rw (q.1, q.2) (record {
       replayed = λ input same is p. let at = read g call input same is p in
           halted_at at (c.in-Ok-true.is ∙ ap Ok c.in-Ok-true.field-0-test)
-          (state c.next.new.reader c.take.new.sent c.flush_before_read.new.report) c.args.capture.now.failures refl none
+          (state c.args.capture.now c.args.sent.now c.args.report.now)
+          (state c.next.new.reader c.take.new.sent c.flush_before_read.new.report) refl none
+          (inl (c.in_err-is_taken.ensures.device ∙ ap one_failure (wrote g call).0))
           (c.in_err-is_taken.ensures.broken no_value (reported g call) (start_of input) at.carried.history (still at));
       stop = tt;
       drained = tt;
       within = λ is. is;
       refused = λ is. absurd is;
       flushed = λ is. absurd (no_memory refl is);
-      failures = inr (inl (none, c.in_err-is_taken.ensures.device ∙ ap one_more (wrote g call).0, (wrote g call).1));
+      pending = omega (arith, c.take.ensures.pending, c.in_ok-flush_before_read.ensures.pending);
+      failures = inr (inl (none, c.in_err-is_taken.ensures.device ∙ ap one_failure (wrote g call).0, (wrote g call).1));
     })
 
 pub returns-in_err-close : goal.returns-in_err-close
@@ -234,10 +247,13 @@ returns-in_err-close g c =
     let state = devices g.R.Read.remaining g.W.Write.contents g.W2.Write.contents in
     let call = (goal.at.returns-in_err-close g c).After-next in
     let none = c.in-Ok-true.ensures.no_failure (going g call) no_error ∙ c.each.invariant.read_calm in
+    let old = state c.args.capture.now c.args.sent.now c.args.report.now in
     let new = state c.next.new.reader c.close.new.sent c.close.new.report in
     rw (q.1, q.2) (record {
       replayed = λ input same is p. let at = read g call input same is p in
-          halted_at at (c.in-Ok-true.is ∙ ap Ok c.in-Ok-true.field-0-test) new c.args.capture.now.failures refl none
+          halted_at at (c.in-Ok-true.is ∙ ap Ok c.in-Ok-true.field-0-test) old new refl none
+          (writer_failed old (state c.next.new.reader c.take.new.sent c.flush_before_read.new.report) new
+          (none, c.in_ok-is_taken.ensures.no_failure ∙ (wrote g call).0, (wrote g call).1) c.in_err-close.ensures.failures)
           (broke_writing _ _ _ _ _ _ _ (c.in_ok-is_taken.ensures.broken (not_taken refl c.if-not-is_taken.true) (reported g call)
           (start_of input) at.carried.history (still at))
           (c.in_err-close.ensures.written (start_of input) at.carried.history (c.in_ok-is_taken.ensures.kept (ap Ok c.if-not-is_taken.true)
@@ -247,8 +263,8 @@ returns-in_err-close g c =
       within = λ is. is;
       refused = λ is. absurd is;
       flushed = λ is. absurd (no_memory refl is);
-      failures = counts_ending Device (state c.args.capture.now c.args.sent.now c.args.report.now)
-          (state c.next.new.reader c.take.new.sent c.flush_before_read.new.report) new
+      pending = omega (arith, c.close.ensures.pending, c.take.ensures.pending, c.in_ok-flush_before_read.ensures.pending);
+      failures = counts_ending Device old (state c.next.new.reader c.take.new.sent c.flush_before_read.new.report) new
           (none, c.in_ok-is_taken.ensures.no_failure ∙ (wrote g call).0, (wrote g call).1) refl c.in_err-close.ensures.failures;
     })
 
@@ -261,7 +277,8 @@ returns-then-not-is_taken g c =
     record {
       replayed = λ input same is p. let at = read g call input same is p in
           lacks at (c.in-Ok-true.is ∙ ap Ok c.in-Ok-true.field-0-test)
-          (state c.next.new.reader c.close.new.sent c.close.new.report) c.args.capture.now.failures refl none
+          (state c.args.capture.now c.args.sent.now c.args.report.now)
+          (state c.next.new.reader c.close.new.sent c.close.new.report) refl none
           (c.in_ok-close.ensures.written (start_of input) at.carried.history (c.in_ok-is_taken.ensures.kept (ap Ok c.if-not-is_taken.true)
           (reported g call) (start_of input) at.carried.history (still at)));
       stop = tt;
@@ -269,5 +286,6 @@ returns-then-not-is_taken g c =
       within = λ is. is;
       refused = λ is. absurd is;
       flushed = λ is. c.in_ok-close.ensures.flushed;
+      pending = omega (arith, c.close.ensures.pending, c.take.ensures.pending, c.in_ok-flush_before_read.ensures.pending);
       failures = (none, closed.1 ∙ c.in_ok-is_taken.ensures.no_failure ∙ (wrote g call).0, closed.2 ∙ (wrote g call).1);
     }

@@ -12,6 +12,7 @@ invariant-each g l = record {
   write_calm : l.sent.failures ≡ l.fn.sent.failures;
   write_without_failure : l.report.failures ≡ l.fn.report.failures;
   few : length l.self.records.held ≤ READ_AHEAD;
+  pending : length l.self.numbers.notes ≤ 69633;
   drained : l.self.records.ended ≡ true → IsAtEnd (g.R.Read.remaining l.capture.inner);
   represents : RepresentsSome l.self.engine;
   carried : OfBegun l.fn.self

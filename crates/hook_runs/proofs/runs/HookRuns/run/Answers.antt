@@ -1,7 +1,7 @@
 use Rattle.std.proofs.Common.{List, arith, sym, ap, ◌∙◌, subst}
 use Rattle.rule_meaning.specs.Hooks.{Chains}
 use Rattle.filter_vm.specs.declared.code.Start.{Start}
-use Rattle.hook_runs.specs.Stages.{chains_in_stage}
+use Rattle.rule_meaning.specs.Hooks.{chains_in_stage}
 use Rattle.hook_runs.specs.steps.Starts.{in_order_result, staged_starts}
 use Rattle.hook_runs.proofs.Starts.{chains_run}
 use Rattle.hook_runs.proofs.runs.HookRuns.run.Goals as goal

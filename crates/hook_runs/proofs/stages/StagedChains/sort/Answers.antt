@@ -1,5 +1,5 @@
 use Rattle.std.proofs.lemmas.Result.{on_ok_weaker}
-use Rattle.hook_runs.specs.declared.stages.HookStage.TheVariants as stages
+use Rattle.rule_meaning.specs.declared.stage.HookStage.TheVariants as stages
 use Rattle.hook_runs.specs.Stages.{StageStarts}
 use Rattle.hook_runs.proofs.Sorted.{all_sorted, kept}
 use Rattle.hook_runs.proofs.stages.StagedChains.sort.Goals as goal

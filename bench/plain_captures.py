@@ -1,0 +1,36 @@
+"""Packets with nothing special about them, and captures of them: what generators and measurements of bench/ share.
+
+What judges runs by itself (bench/reading.py, and rows.py below it; bench/sizes.py) doesn't stand on this.
+"""
+from __future__ import annotations
+
+import struct
+
+RAW_IP = 101
+USUAL = struct.Struct(">BBHHHBBHII")  # a header of IPv4 without options (RFC 791, section 3.1)
+
+
+def checksum(header: bytes) -> int:
+    """The checksum over a header of 20 bytes whose own is 0 (RFC 1071)."""
+    total: int = sum(struct.unpack(">10H", header))
+    while total > 0xFFFF:
+        total = (total & 0xFFFF) + (total >> 16)
+    return 0xFFFF - total
+
+
+def ip_header(
+    length: int, protocol: int, source: int, destination: int, ttl: int = 64, identification: int = 0
+) -> bytes:
+    """The header of a packet that has `length` bytes in all; addresses are numbers."""
+    blank = USUAL.pack(0x45, 0, length, identification, 0, ttl, protocol, 0, source, destination)
+    return blank[:10] + struct.pack(">H", checksum(blank)) + blank[12:]
+
+
+def file_header(link_type: int = RAW_IP) -> bytes:
+    """Of a capture with microseconds, lowest byte first."""
+    return struct.pack("<IHHIIII", 0xA1B2C3D4, 2, 4, 0, 0, 0xFFFF, link_type)
+
+
+def record(data: bytes, seconds: int = 0, fraction: int = 0) -> bytes:
+    """A record of a capture, which isn't cut."""
+    return struct.pack("<IIII", seconds, fraction, len(data), len(data)) + data

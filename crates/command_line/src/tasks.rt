@@ -1,0 +1,89 @@
+//! The tasks of the program.
+ghost use Rattle.std.specs.Prelude.{◌≡◌};
+ghost use Rattle.command_line.specs.CommandLine.{are_explained, explaining_of};
+
+/// A parsed command line.
+#[derive(Clone, Copy)]
+pub enum Task<'a> {
+    /// `run [--explain | --no-explain] [--trace] [--report FILE] RULES BOX IN OUT`: replay a capture
+    /// through a ruleset.
+    Run(ReplayTask<'a>),
+    /// `check [--explain | --no-explain] [--all] [--nft] RULES BOX`: check a ruleset before it is
+    /// loaded.
+    Check(CheckTask<'a>),
+    /// `explain CODE`: print what a code means.
+    Explain(&'a str),
+}
+
+/// Whether the program says what a fault means, and where it is.
+#[derive(Clone, Copy)]
+pub enum Explaining {
+    /// `--explain`.
+    Always,
+    /// `--no-explain`.
+    Never,
+    /// Where standard error is a terminal.
+    OnTerminal,
+}
+
+/// A run.
+#[derive(Clone, Copy)]
+pub struct ReplayTask<'a> {
+    /// Whether the report has a trace: each rule's verdict and each policy.
+    pub trace: bool,
+    pub explaining: Explaining,
+    /// FILE, to which the report is written; standard output where there is none.
+    pub report: Option<&'a str>,
+    pub paths: ReplayPaths<'a>,
+}
+
+/// The paths of a run.
+#[derive(Clone, Copy)]
+pub struct ReplayPaths<'a> {
+    /// RULES, the file of the ruleset.
+    pub rules: &'a str,
+    /// BOX, the file of the box that the ruleset is for.
+    pub plant: &'a str,
+    /// IN, the capture that is read.
+    pub input: &'a str,
+    /// OUT, the capture that is written.
+    pub output: &'a str,
+}
+
+/// A check.
+#[derive(Clone, Copy)]
+pub struct CheckTask<'a> {
+    /// Whether all faults are listed instead of the first alone.
+    pub all: bool,
+    /// Whether what nft(8) refuses, or means otherwise, is told of an accepted ruleset.
+    pub nft: bool,
+    pub explaining: Explaining,
+    pub texts: CheckPaths<'a>,
+}
+
+/// The paths of a check.
+#[derive(Clone, Copy)]
+pub struct CheckPaths<'a> {
+    /// RULES, the file of the ruleset.
+    pub rules: &'a str,
+    /// BOX, the file of the box that the ruleset is for.
+    pub plant: &'a str,
+}
+
+impl Task<'_> {
+    /// Whether faults are explained; `terminal` says whether standard error is one.
+    pub fn is_explained(&self, terminal: bool) -> bool
+        ensures { result ≡ are_explained (explaining_of self.now) terminal }
+    {
+        let explaining = match self {
+            Task::Run(task) => task.explaining,
+            Task::Check(task) => task.explaining,
+            Task::Explain(_) => Explaining::OnTerminal,
+        };
+        match explaining {
+            Explaining::Always => true,
+            Explaining::Never => false,
+            Explaining::OnTerminal => terminal,
+        }
+    }
+}

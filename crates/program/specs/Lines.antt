@@ -1,0 +1,33 @@
+-- What is printed (own): the line of each status, with the code of the fault, and the line of progress.
+use Rattle.std.specs.Prelude.{◌++◌, ◌/◌, ◌%◌, ℕ, List, Option, Some, None, codes, decimal}
+use Rattle.box_file.specs.Codes as boxes
+use Rattle.pcap_io.specs.Codes as captures
+use Rattle.engine.specs.Words.{rules_code}
+use Rattle.program.specs.declared.status.Status.{Status}
+use Rattle.program.specs.declared.status.Status.TheVariants.{Success, Rules, Usage, NotUtf8, SameFile, SameReport, UnknownCode, Box, Capture}
+use Rattle.program.specs.declared.status.Status.TheVariants.{Device, Memory, Torn}
+
+-- the line of a status, without its newline
+abbrev pub line_of : Status → List ℕ
+line_of Success = codes "nftrun: done"
+line_of (Rules fault) = codes "nftrun: rules " ++ rules_code fault
+line_of Usage = codes "nftrun: usage"
+line_of NotUtf8 = codes "nftrun: usage: a word isn't UTF-8"
+line_of SameFile = codes "nftrun: usage: OUT is the same file as RULES, BOX, IN or standard output"
+line_of SameReport = codes "nftrun: usage: FILE is the same file as RULES, BOX, IN or OUT"
+line_of UnknownCode = codes "nftrun: usage: CODE is one of E01 to E06, B1 to B5, N01 to N15, P1 to P5 and P7"
+line_of (Box fault) = codes "nftrun: box " ++ boxes.code_of fault
+line_of (Capture fault) = codes "nftrun: capture " ++ captures.code_of fault
+line_of Device = codes "nftrun: device"
+line_of Memory = codes "nftrun: memory"
+line_of Torn = codes "nftrun: capture torn"
+
+-- a number of bytes in megabytes (10^6 bytes), with one decimal
+abbrev pub megabytes : ℕ → List ℕ
+megabytes n = decimal (n / 1000000) ++ codes "." ++ decimal (n / 100000 % 10) ++ codes " MB"
+
+-- so many bytes of IN are read, of how many where its size is known
+abbrev pub progress_line : ℕ → Option ℕ → List ℕ
+progress_line count (Some size) =
+    codes "nftrun: " ++ megabytes count ++ codes " of " ++ megabytes size ++ codes " read"
+progress_line count None = codes "nftrun: " ++ megabytes count ++ codes " read"
