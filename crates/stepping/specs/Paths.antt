@@ -108,10 +108,12 @@ pub record SourceNat (setup : Setup) (mappings : List Mapping) (s : PathState) (
 abbrev pub forwarded_by : Setup → Option ℕ → PathState → StepResult
 forwarded_by setup None s = Drop causes.Route s
 forwarded_by setup (Some interface) s = if nat_lt s.facts.packet.ttl 2 then Drop causes.Ttl s
-    else Continue (record s { facts = record s.facts {
-      output = Some (interface_facts setup.plant interface);
-      packet = record s.facts.packet { ttl = s.facts.packet.ttl - 1 };
-    } })
+    else Continue (record s {
+      facts = record s.facts {
+        output = Some (interface_facts setup.plant interface);
+        packet = record s.facts.packet { ttl = s.facts.packet.ttl - 1 };
+      };
+    })
 
 -- a packet to an address of the box gets no output interface; the others are forwarded
 abbrev pub routed : Setup → PathState → StepResult
