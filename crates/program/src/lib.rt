@@ -14,7 +14,7 @@ pub use examining::examine;
 pub use host::Host;
 pub use identity::FileIdentity;
 pub use performing::perform;
-pub use progress_reader::{Progress, ProgressLine};
+pub use progress_reader::{Progress, ProgressLine, ProgressReader};
 pub use replaying::replay;
 pub use running::run_with_progress;
 pub use status::Status;

@@ -13,42 +13,53 @@ use std::{fmt, io};
 /// The seconds before the first line of progress, and between lines.
 const PAUSE_SECONDS: u64 = 1;
 
-/// A reader of a capture that shows progress.
+/// A reader of a capture that can show progress.
 ///
 /// A read has the result of the capture's own read. Where progress can't be shown, because there is
 /// no clock or a write fails, the run continues without it.
 #[derive(Drop)]
-pub(crate) struct ProgressReader<'a, 'b, R, T> {
-    input: &'a mut Counted<T>,
+pub struct ProgressReader<'b, R, T> {
+    input: Counted<T>,
     display: Option<ProgressDisplay<'b, R>>,
 }
 
-impl<'a, 'b, R: Clock + Eprint, T: Read> ProgressReader<'a, 'b, R, T> {
-    /// Without `progress` nothing is shown.
-    pub(crate) fn new(rt: &'b R, input: &'a mut Counted<T>, progress: Option<Progress>) -> Self
-        ensures input { result.input.now ≡ input.old }
+impl<'b, R: Clock + Eprint, T: Read> ProgressReader<'b, R, T> {
+    /// A reader that doesn't show progress yet.
+    pub fn new(input: Counted<T>) -> Self
+        ensures { result.input ≡ input }
     {
-        let display = ProgressDisplay::new(rt, progress);
-        ProgressReader { input, display }
+        ProgressReader {
+            input,
+            display: None,
+        }
+    }
+
+    /// Shows progress from now on; without `progress` nothing is shown.
+    pub(crate) fn begin(&mut self, rt: &'b R, progress: Option<Progress>)
+        ensures { self.new.input ≡ self.old.input }
+    {
+        self.display = ProgressDisplay::new(rt, progress);
     }
 
     /// Ends the line of progress, so that what is printed next begins on a new one.
-    pub(crate) fn end(self) {
-        if let Some(display) = self.display {
+    pub(crate) fn end(&mut self)
+        ensures { self.new.input ≡ self.old.input }
+    {
+        if let Some(display) = self.display.take() {
             display.end();
         }
     }
 }
 
-impl<R: Clock + Eprint, T: Read> Read for ProgressReader<'_, '_, R, T> {
-    ghost remaining = { λ w. T.remaining w.input.now.inner };
+impl<R: Clock + Eprint, T: Read> Read for ProgressReader<'_, R, T> {
+    ghost remaining = { λ w. T.remaining w.input.inner };
 
     fn read(&mut self, buf: &mut [u8]) -> io::Result<usize>
         ensures bound { ReadsAtMost result buf.new }
-        ensures bytes { ReadConsumes (T.remaining self.old.input.now.inner)
-            (T.remaining self.new.input.now.inner) result buf.new }
+        ensures bytes { ReadConsumes (T.remaining self.old.input.inner)
+            (T.remaining self.new.input.inner) result buf.new }
         // It fails exactly where the capture's own read does.
-        ensures fails { CountsRead self.old.input.now.failures self.new.input.now.failures result }
+        ensures fails { CountsRead self.old.input.failures self.new.input.failures result }
     {
         let answer = self.input.read(buf);
         if let (Ok(count), Some(display)) = (&answer, &mut self.display) {

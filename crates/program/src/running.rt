@@ -1,41 +1,48 @@
 //! A run whose progress is shown.
-ghost use Rattle.program.specs.Outputs.{Writes};
+ghost use Rattle.program.specs.Outputs.{UsesDevices, device, capture_bytes};
 
 use crate::progress_reader::{Progress, ProgressReader};
 use engine::RunFault;
 use pcap_io::Counted;
 use std::hash::RandomState;
-use std::io::Write;
-use std::rt::{Clock, Files};
+use std::io::{Read, Write};
+use std::rt::Clock;
 
 /// Runs the engine on a capture, shows the progress of reading it, and returns whether the capture
 /// is torn. What is shown changes nothing of the run.
-pub fn run_with_progress<R: Clock + Files + Eprint + AllocGlobal, W: Write>(
-    rt: &R,
+pub fn run_with_progress<
+    'b,
+    R: Clock + Eprint + AllocGlobal,
+    T: Read,
+    W: Write,
+    W2: Write,
+>(
+    rt: &'b R,
     hasher: RandomState,
     rules: &[u8],
     plant: &[u8],
-    input: &mut Counted<R::File>,
-    output: &mut Counted<R::File>,
-    report: &mut Counted<W>,
+    input: &mut Counted<ProgressReader<'b, R, T>>,
+    output: &mut Counted<W>,
+    report: &mut Counted<W2>,
     trace: bool,
     progress: Option<Progress>,
 ) -> Result<bool, RunFault>
-    ensures { Writes rules.now plant.now trace (R.File.remaining input.old.inner)
-        (R.File.contents output.old.inner) (R.File.contents output.new.inner)
-        (W.contents report.old.inner) (W.contents report.new.inner) result }
+    ensures { UsesDevices rules.now plant.now trace
+        (device (capture_bytes T.remaining) input.old) (device (capture_bytes T.remaining) input.new)
+        (device W.contents output.old) (device W.contents output.new)
+        (device W2.contents report.old) (device W2.contents report.new) result }
 {
-    let mut reader = Counted::new(ProgressReader::new(rt, input, progress));
+    input.inner.begin(rt, progress);
     let outcome = engine::run(
         rt.alloc(),
         hasher,
         rules,
         plant,
-        &mut reader,
+        input,
         output,
         report,
         trace,
     );
-    reader.into_inner().end();
+    input.inner.end();
     Ok(outcome?.torn)
 }

@@ -1,4 +1,5 @@
 //! The host that makes the system calls: files, outputs, and the engine over them.
+ghost use Rattle.program.specs.Outputs.{capture_bytes};
 ghost use Rattle.system_host.specs.steps.Promised.{IsGuaranteed};
 
 use crate::closed_pipe::{PipeWriter, is_closed_pipe};
@@ -8,7 +9,8 @@ use command_line::{CheckPaths, ReplayPaths, Task};
 use engine::{Counts, RunFault};
 use explanations::Explanation;
 use pcap_io::Counted;
-use program::{FileIdentity, Host, Progress, ProgressLine, Status, perform, run_with_progress};
+use program::{FileIdentity, Host, Progress, ProgressLine, ProgressReader, Status};
+use program::{perform, run_with_progress};
 use std::env::{self, Env};
 use std::fs::OpenFile;
 use std::hash::RandomState;
@@ -128,15 +130,15 @@ impl<R: Eprint + AllocGlobal> System<'_, R> {
     }
 }
 
-impl<R: Clock + Env + Files + Print + Eprint + RandomSource + AllocGlobal> Host for System<'_, R> {
-    type Input = Counted<R::File>;
+impl<'a, R: Clock + Env + Files + Print + Eprint + RandomSource + AllocGlobal> Host for System<'a, R> {
+    type Input = Counted<ProgressReader<'a, R, R::File>>;
 
     type Output = Counted<R::File>;
 
     // What files hold can't be stated. What the engine guarantees of a run for its texts and its
     // capture can, and so can what it guarantees of a check.
     ghost happens = { λ _ call _.
-        IsGuaranteed (λ c. R.File.remaining c.inner) (λ c. R.File.contents c.inner) call };
+        IsGuaranteed (capture_bytes R.File.remaining) R.File.contents call };
 
     fn words(&mut self) -> io::Result<Vec<String>> {
         Ok(env::args(self.rt)?.collect(self.rt.alloc())?)
@@ -157,7 +159,7 @@ impl<R: Clock + Env + Files + Print + Eprint + RandomSource + AllocGlobal> Host 
         if self.terminals.errors {
             self.size = size_of(&file);
         }
-        Ok(Counted::new(file))
+        Ok(Counted::new(ProgressReader::new(Counted::new(file))))
     }
 
     // stat(2): follows symbolic links.
