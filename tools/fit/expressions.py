@@ -38,11 +38,15 @@ CALCULATIONS = (
 )
 COMPARISONS = {"eq": "==", "ne": "!=", "lt": "<", "gt": ">", "le": "<=", "ge": ">="}
 OPTION_FIELDS = set("kind length size count left right tsval tsecr ptr type value addr".split())
+LONGEST_NUMBER = 20  # of its digits, as many as 2^64 has
 VALUES = ("number", "address", "six", "mac", "time", "word", "string", "wild")
 
 
 def as_number(text: str) -> int:
-    """nft(8) reads a number with a leading zero as octal, nftrun not at all."""
+    """nft(8) reads a number with a leading zero as octal, nftrun not at all; neither one of more than 64 bits."""
+    digits = text.removeprefix("0x").lstrip("0")
+    if len(digits) > LONGEST_NUMBER:
+        raise NotFitted(f"`{text[:LONGEST_NUMBER]}..` is a number of more than 64 bits")
     if len(text) > 1 and text[0] == "0" and text.isdigit():
         raise NotFitted(f"`{text}` is a number with a leading zero")
     return int(text, 0)

@@ -8,7 +8,17 @@ from .assumptions import ASSUMPTIONS
 from .draft import Draft
 from .facts import BITS, KNOWN, MARKS, NEVER_IN_IPV4, SHORT, TCP_FLAGS, TYPES, WORDS, assumption_of, first_word
 from .network import Network, spelled_networks
-from .numbers import bits_named, constant, constant_number, holds, name_of, number_of, spell_part
+from .numbers import (
+    bits_named,
+    constant,
+    constant_number,
+    holds,
+    is_ordered,
+    name_of,
+    number_of,
+    range_for,
+    spell_part,
+)
 from .sets import parts_are_plain
 from .tree import (
     Anything,
@@ -36,6 +46,7 @@ from .tree import (
 
 OWNERS = ("meta skuid", "meta skgid", "meta cgroup")
 WITHOUT_OWNER = {"prerouting", "forward", "postrouting", "output"}
+ORDERS = ("<", ">", "<=", ">=")
 YES_NO = (One(Value("word", "missing")), One(Value("word", "exists")))
 
 
@@ -269,8 +280,13 @@ class Matches:
             raise NotFitted("a value that isn't known")
         name, kind = self.by_name(name, [right])
         operator = "!=" if operator == "!" else operator
+        plain = self.stays(name) and parts_are_plain([right], [kind])
+        if operator in ORDERS and not is_ordered(kind):
+            operator, right, plain = "", range_for(operator, right, kind), False
+        elif operator in ORDERS and not isinstance(right, One):
+            raise NotFitted(f"`{operator}` with a range")
         sign = "" if operator in ("", "==") else operator + " "
-        self.draft.put_spelled(f"{shown(name)} {sign}{spell_part(right, kind)}", [name], plain=self.stays(name))
+        self.draft.put_spelled(f"{shown(name)} {sign}{spell_part(right, kind)}", [name], plain=plain)
 
     def match_elements(self, selector: Selector, operator: str, elements: Sequence[Element]) -> None:
         name = selector.name

@@ -117,7 +117,7 @@ class Sets:
 
     def lines_of(self, table: Table, found: Set) -> list[str]:
         changes = self.fitter.changes
-        if found.fault is not None and (found.slices is None or not self.is_taken(found)):
+        if found.fault is not None:
             changes.refuse(found.fault[0], f"elements of {found.name}", found.fault[1])
         if not self.is_foreign(found):
             self.tell_of_time(table, found)
@@ -138,8 +138,9 @@ class Sets:
                 "of names",
                 "names compare alike, and ask for no interface of the box",
             )
+        anew = self.anew(found, "ifname" if by_name else None)  # refuses values that aren't of the type
         stands = found.slices is not None and not by_name and self.stands(found)
-        body = found.slices if stands and found.slices is not None else self.anew(found, "ifname" if by_name else None)
+        body = found.slices if stands and found.slices is not None else anew
         return [f"\t{found.word} {found.name} {{", *("\t\t" + it for it in body), "\t}", ""]
 
     def stands(self, found: Set) -> bool:
@@ -253,4 +254,6 @@ def is_plain_value(value: object, kind: str) -> bool:
         return is_name or value.text in WORDS.get(kind, {})
     if value.kind == "string":
         return is_name and not value.text.endswith("*")
-    return value.kind not in ("wild", "six", "mac", "time")
+    if value.kind == "address":
+        return kind == "ipv4_addr"
+    return value.kind == "number" and kind not in ("ipv4_addr", "ifname", "ct_state", "ct_status")
