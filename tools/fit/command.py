@@ -47,11 +47,7 @@ def fit(
     source = read.read(path)
     fitter = Fitter(read, assumptions, network)
     body = fitter.run()
-    stays = changes.is_all_reading() and takes(source.text, "ruleset")
-    if stays:
-        for it in changes.list:
-            changes.warnings.append((it.place, f"{it.what}: {it.why}; nftrun reads what Linux does as {it.to}"))
-        changes.list.clear()
+    if not changes.list and takes(source.text, "ruleset"):
         return Fitted(source.text, plain_rows(fitter), changes, assumptions, True)
     head = f"# by fit-ruleset from {commands.printable(os.path.basename(path))}: {changes.worst()}\n"
     return Fitted(head + body, rows_of(fitter), changes, assumptions, False)

@@ -33,6 +33,7 @@ class Commands:
         self.including: list[str] = []
         self.tokens: list[Token] = []
         self.at = 0
+        self.moment = 0  # the number of the command at hand
         self.taken: list[Token] = []
 
     def read(self, path: str) -> Source:
@@ -42,6 +43,7 @@ class Commands:
         self.including.append(os.path.realpath(path))
         while self.at < len(self.tokens):
             if not self.end():
+                self.moment += 1
                 self.command()
         self.including.pop()
         self.tokens, self.at = outer
@@ -277,13 +279,13 @@ class Commands:
             raise refuse(self.peek(), "a handle can't be known")
         if self.skip("index"):
             token = self.take()
-            index = int(token.text) if token.text.isdigit() else -1
+            index = int(token.text) if token.text.isdigit() and len(token.text) < 10 else -1
             if not 0 <= index < len(chain.rules):
                 raise refuse(token, "there is no rule of that index")
             where = index + (verb != "insert")
         tokens = self.to_end()
         if tokens:
-            chain.rules.insert(where, Rule(tokens, shown(self.taken)))
+            chain.rules.insert(where, Rule(tokens, shown(self.taken), self.moment))
 
     def add_elements(self, found: Set, tokens: list[Token]) -> None:
         if not tokens:
@@ -366,6 +368,7 @@ class Commands:
             self.take()
             if chain.head is None:
                 self.order.append((table, chain))
+                chain.moment = self.moment
             chain.head = self.head()
         elif self.skip("policy"):
             token = self.peek()
@@ -385,7 +388,7 @@ class Commands:
                 raise self.torn()
             if not tokens:
                 raise refuse(self.peek(), f"`{spoken(self.peek())}` isn't understood in a chain")
-            chain.rules.append(Rule(tokens, shown(self.taken)))
+            chain.rules.append(Rule(tokens, shown(self.taken), self.moment))
 
     def head(self) -> Head:
         first = self.peek()

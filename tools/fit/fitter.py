@@ -113,7 +113,7 @@ class Fitter:
         inner = Chain(f"fitted_{count}", rule.token)
         inner.made_for = chain.made_for or (chain, number)
         braced = verdict.target if isinstance(verdict.target, tuple) else ()
-        inner.rules = [Rule(tokens, shown(tokens)) for tokens in braced]
+        inner.rules = [Rule(tokens, shown(tokens), rule.moment) for tokens in braced]
         table.chains[inner.name] = inner
         self.changes.tell(
             rule.token, "same", f"{verdict.word} {{ .. }}", f"{verdict.word} {inner.name}", "a chain of its own"
@@ -145,7 +145,9 @@ class Fitter:
                     if chain and chain.name not in seen:
                         seen.add(chain.name)
                         chain.hooks.add(base.base.hook)
-                        chain.is_early |= self.order.is_early(base)
+                        is_early = self.order.is_early(base)
+                        chain.is_early |= is_early
+                        chain.is_late |= not is_early
                         for rule in chain.rules:
                             todo += self.targets(table, rule)
 

@@ -397,7 +397,7 @@ class Matches:
         meant = f"{name} != {{ {', '.join(words)} }}" if name == "ct state" else f"{name} ! {','.join(words)}"
         why = "nft(8) compares with the whole value, so it always holds; nftrun would read `none of them`,"
         why += f" which nft(8) spells `{meant}`"
-        self.draft.tell("same", to, why, reads=True)
+        self.draft.tell("same", to, why)
         self.draft.put(to)
 
     def match_unknown_status(self, operator: str, words: Sequence[str]) -> None:
