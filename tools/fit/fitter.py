@@ -11,7 +11,20 @@ from .rules import RuleFitter, marks_read
 from .scanner import shown
 from .sets import Sets
 from .statements import RuleReader
-from .tree import Chain, ChangeOfSet, Match, NotFitted, Rule, Setting, Table, Verdict, VerdictMap, counters_in, names_in
+from .tree import (
+    Chain,
+    ChangeOfSet,
+    Match,
+    NotFitted,
+    Rule,
+    Setting,
+    Table,
+    Untracked,
+    Verdict,
+    VerdictMap,
+    counters_in,
+    names_in,
+)
 
 if TYPE_CHECKING:
     from .assumptions import Assumptions
@@ -62,6 +75,9 @@ class Fitter:
             isinstance(it.what, Setting) and it.what.left.name == "ct zone"
             for _, _, rule in self.rules()
             for it in rule.statements
+        )
+        self.has_untracked = any(
+            isinstance(it.what, Untracked) for _, _, rule in self.rules() for it in rule.statements
         )
         self.order.settle()
         return "\n".join(self.table_text(table) for table in self.tables.values())

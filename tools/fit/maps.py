@@ -4,6 +4,7 @@ from __future__ import annotations
 from typing import Sequence
 
 from .assumptions import ASSUMPTIONS
+from .connections import IN_ANY_DIRECTION, INVALID, are_known, is_state
 from .draft import Draft
 from .facts import KNOWN, MARKS, TYPES, assumption_of
 from .joined import JoinedKeys, Then
@@ -90,8 +91,9 @@ class Maps:
     def choose_plain(self, left: Selector, mapping: Mapping, elements: Sequence[Element], plain: bool) -> None:
         parts = [it.key[0] for it in elements if not isinstance(it.key[0], Anything)]
         name, kind = self.matches.by_name(left.name, parts)
-        if kind == "ct_status":
-            self.matches.warn_of_status()
+        if kind == "ct_status" or left.name == "ct state" and self.draft.chain.is_early:
+            self.choose_otherwise(left.name, elements)
+            return
         if any(len(it.key) != 1 for it in elements):
             raise NotFitted("keys of another number of parts")
         rest = [it for it in elements if isinstance(it.key[0], Anything)]
@@ -110,6 +112,23 @@ class Maps:
             return
         words = not isinstance(mapping, Elements) or all(parts_are_plain(it.key, (kind,)) for it in elements)
         self.draft.put_spelled(text, [name], "end", plain=words and self.matches.stays(name))
+
+    def choose_otherwise(self, name: str, elements: Sequence[Element]) -> None:
+        """What Linux compares otherwise: the whole of `ct status`, and `ct state` before connections are looked for."""
+        rest = [it for it in elements if isinstance(it.key[0], Anything)]
+        named = [it for it in elements if it not in rest]
+        if name == "ct status":
+            if not are_known(named):
+                raise NotFitted("bits of ct status in a map that nftrun hasn't")
+            self.draft.put(IN_ANY_DIRECTION)
+            chosen, why = rest[:1], "Linux compares with the whole value, which has more bits wherever one is set"
+        else:
+            if self.draft.chain.is_late or self.draft.fitter.has_untracked:
+                raise NotFitted("ct state in a map, before connections are looked for and behind that, or untracked")
+            chosen = ([it for it in named if is_state(INVALID, it)] or rest)[:1]
+            why = "before connections are looked for Linux reads ct state as invalid"
+        self.draft.tell("same", verdict_text(chosen[0].verdict) if chosen else self.draft.never(), why)
+        self.draft.split([self.ending(it) for it in chosen])
 
     def catch_all(self, name: str, kind: str, named: Sequence[Element], rest: Element, text: str) -> None:
         """`*` in a map is a rule behind it, for all that the map hasn't."""

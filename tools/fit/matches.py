@@ -5,6 +5,7 @@ from ipaddress import IPv4Address
 from typing import Sequence
 
 from .assumptions import ASSUMPTIONS
+from .connections import IN_ANY_DIRECTION, Connections, are_known, bits_of
 from .draft import Draft
 from .facts import BITS, KNOWN, MARKS, NEVER_IN_IPV4, SHORT, TCP_FLAGS, TYPES, WORDS, assumption_of, first_word
 from .network import Network, spelled_networks
@@ -54,7 +55,7 @@ class Matches:
     """Fits matches of one selector."""
 
     def __init__(self, draft: Draft) -> None:
-        self.draft = draft
+        self.draft, self.connections = draft, Connections(draft)
 
     def fit_match(self, left: Expression, operator: str, right: Expression) -> None:
         if isinstance(left, Drawn):
@@ -252,11 +253,9 @@ class Matches:
     def match_plain(self, name: str, operator: str, right: Expression) -> None:
         kind, reading = TYPES[name], ""
         if name == "ct state" and self.draft.chain.is_early:
-            self.draft.told.warn(
-                self.draft.rule.token,
-                "before connections are looked for (priority -200), Linux reads ct state as invalid, nftrun as nothing:"
-                " no match on it holds",
-            )
+            compared = self.elements_named(right) if isinstance(right, Named) else right
+            if not isinstance(compared, Named) and self.connections.match_early_state(operator, compared):
+                return
         if kind in ("tcp_flag", "ct_status") and isinstance(right, Elements) and len(right.items) == 1:
             right = right.items[0].key[0]
             operator = "!=" if operator == "!=" else ""
@@ -295,13 +294,14 @@ class Matches:
         parts = [it.key[0] for it in elements]
         if any(len(it.key) != 1 for it in elements):
             raise NotFitted("keys of another number of parts")
+        if TYPES[name] == "ct_status":
+            self.match_status_list(operator, elements)
+            return
         name, kind = self.by_name(name, parts)
         listed = ", ".join(spell_part(it, kind) for it in parts)
         if not listed:
             self.draft.die()
             return
-        if kind == "ct_status":
-            self.warn_of_status()
         plain = parts_are_plain(parts, [kind] * len(parts)) and self.stays(name)
         self.draft.put_spelled(
             f"{shown(name)} {'!= ' if operator in ('!=', '!') else ''}{{ {listed} }}", [name], plain=plain
@@ -316,7 +316,8 @@ class Matches:
         if self.is_hit(named.name, operator):
             return
         if TYPES[name] == "ct_status":
-            self.warn_of_status()
+            self.match_status_list(operator, self.draft.fitter.sets.kept(found))
+            return
         new = (
             "meta " + name.split()[1] + "name"
             if TYPES[name] == "iface_index" and self.draft.fitter.sets.by_name(found)
@@ -368,7 +369,7 @@ class Matches:
         if kind == "tcp_flag":
             self.draft.put_spelled(self.flags_text(operator, right), reading=reading)
             return
-        words = self.bit_words(right)
+        words = bits_of(right)
         if kind == "ct_status" and any(it not in WORDS[kind] for it in words):
             self.match_unknown_status(operator, words)
             return
@@ -385,7 +386,8 @@ class Matches:
             self.match_unequal(name, words)
         elif operator in ("", "==", "!="):
             if kind == "ct_status" and operator == "==":
-                self.warn_of_status()
+                self.connections.compare_status(operator)
+                return
             sign = operator + " " if operator else ""
             self.draft.put_spelled(f"{name} {sign}{','.join(words)}", reading=reading)
         else:
@@ -393,7 +395,7 @@ class Matches:
 
     def match_unequal(self, name: str, words: Sequence[str]) -> None:
         """nft(8) compares with all the bits at once, which no packet's value equals: `!=` always holds."""
-        to = self.draft.always() if name == "ct state" else "ct direction { original, reply }"
+        to = self.draft.always() if name == "ct state" else IN_ANY_DIRECTION
         meant = f"{name} != {{ {', '.join(words)} }}" if name == "ct state" else f"{name} ! {','.join(words)}"
         why = "nft(8) compares with the whole value, so it always holds; nftrun would read `none of them`,"
         why += f" which nft(8) spells `{meant}`"
@@ -406,26 +408,18 @@ class Matches:
             way = self.draft.way("ct")
             to = f"ct status {','.join(known)}" if way == "miss" else "always"
             self.draft.guess("ct", way, to)
-            self.draft.put(to if way == "miss" else "ct direction { original, reply }")
+            self.draft.put(to if way == "miss" else IN_ANY_DIRECTION)
             return
-        self.draft.put("ct direction { original, reply }")
+        self.draft.put(IN_ANY_DIRECTION)
         self.guess_match("ct", self.usual_answer("ct", operator))
 
-    def warn_of_status(self) -> None:
-        self.draft.told.warn(
-            self.draft.rule.token, "Linux has more bits of ct status than nftrun, and compares all of them here"
-        )
-
-    @staticmethod
-    def bit_words(right: Expression) -> list[str]:
-        """The words of `a,b` or `a | b`."""
-        if isinstance(right, Listed):
-            return [word for it in right.items for word in Matches.bit_words(it)]
-        if isinstance(right, Calculation) and right.operator == "|":
-            return Matches.bit_words(right.left) + Matches.bit_words(right.right)
-        if isinstance(right, One) and right.value.kind == "word":
-            return [right.value.text]
-        raise NotFitted("a bit that isn't known")
+    def match_status_list(self, operator: str, elements: Sequence[Element]) -> None:
+        """A list of several values of `ct status`, or a named one."""
+        if are_known(elements):
+            self.connections.compare_status(operator)
+            return
+        self.draft.put(IN_ANY_DIRECTION)
+        self.guess_match("ct", self.usual_answer("ct", operator))
 
     @staticmethod
     def flags_text(operator: str, right: Expression) -> str:
@@ -544,7 +538,7 @@ class Matches:
 
     def match_masked_state(self, name: str, mask: Expression, operator: str, right: Expression) -> None:
         """`ct state & (established | related) != 0`."""
-        words = self.bit_words(mask)
+        words = bits_of(mask)
         if (
             any(it not in WORDS[TYPES[name]] for it in words)
             or holds(0, "", right, "32", {}) is not True

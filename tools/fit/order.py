@@ -103,7 +103,9 @@ class Order:
         for it, number in zip(linux, numbers):
             if number > band_of[it].high:
                 self.fitter.changes.refuse(
-                    it.token, f"chain {it.name} at priority {self.number(it)}", "there is no room for the order of Linux"
+                    it.token,
+                    f"chain {it.name} at priority {self.number(it)}",
+                    "there is no room for the order of Linux",
                 )
             elif number != self.number(it):
                 self.shifted[it] = number
