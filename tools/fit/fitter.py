@@ -7,6 +7,7 @@ from typing import TYPE_CHECKING, Iterator
 from .facts import CHAIN_HOOKS, MARKS
 from .marks import Marks
 from .order import Order
+from .protocols import Protocols
 from .rules import RuleFitter, marks_read
 from .scanner import shown
 from .sets import Sets
@@ -79,6 +80,7 @@ class Fitter:
         self.has_untracked = any(
             isinstance(it.what, Untracked) for _, _, rule in self.rules() for it in rule.statements
         )
+        self.protocols = Protocols(self)
         self.order.settle()
         return "\n".join(self.table_text(table) for table in self.tables.values())
 

@@ -6,10 +6,12 @@ from typing import Sequence
 from .assumptions import ASSUMPTIONS
 from .connections import IN_ANY_DIRECTION, INVALID, are_known, is_state
 from .draft import Draft
+from .exits import EXITS
 from .facts import KNOWN, MARKS, TYPES, assumption_of
 from .joined import JoinedKeys, Then
 from .matches import Matches, flag_names, rules_text, shown
 from .numbers import constant_number, holds, spell_part
+from .ports import PORTS
 from .sets import parts_are_plain, verdict_text
 from .tree import (
     Anything,
@@ -78,8 +80,19 @@ class Maps:
             self.draw(left, elements, self.ending)
         elif isinstance(left, Calculation):
             self.choose_masked(left, elements)
-        elif not isinstance(left, Selector):
+        elif isinstance(left, Selector):
+            self.choose(left, mapping, elements, plain)
+        else:
             raise NotFitted("a statement that isn't known here")
+
+    def choose(self, left: Selector, mapping: Mapping, elements: Sequence[Element], plain: bool) -> None:
+        """A map of verdicts by one selector."""
+        if left.name in PORTS:
+            self.matches.ports.fit_vmap(
+                elements, self.ending, lambda: self.choose_plain(left, mapping, elements, plain)
+            )
+        elif left.name in EXITS and self.choose_without_exit(elements):
+            return
         elif left.name in TYPES:
             self.choose_plain(left, mapping, elements, plain)
         else:
@@ -112,6 +125,15 @@ class Maps:
             return
         words = not isinstance(mapping, Elements) or all(parts_are_plain(it.key, (kind,)) for it in elements)
         self.draft.put_spelled(text, [name], "end", plain=words and self.matches.stays(name))
+
+    def choose_without_exit(self, elements: Sequence[Element]) -> bool:
+        """By the output interface where there is none: Linux takes `*`. Answers whether that decided it."""
+        exits = self.matches.exits
+        rest = [it for it in elements if isinstance(it.key[0], Anything)]
+        if not rest or not exits.match(True):
+            return False
+        self.draft.split([self.ending(it) for it in rest[:1]])
+        return True
 
     def choose_otherwise(self, name: str, elements: Sequence[Element]) -> None:
         """What Linux compares otherwise: the whole of `ct status`, and `ct state` before connections are looked for."""

@@ -7,6 +7,7 @@ from typing import Sequence
 from .assumptions import ASSUMPTIONS
 from .connections import IN_ANY_DIRECTION, Connections, are_known, bits_of
 from .draft import Draft
+from .exits import EXITS, OF_EXITS, Exits, holds_without
 from .facts import BITS, KNOWN, MARKS, NEVER_IN_IPV4, SHORT, TCP_FLAGS, TYPES, WORDS, assumption_of, first_word
 from .network import Network, spelled_networks
 from .numbers import (
@@ -20,6 +21,7 @@ from .numbers import (
     range_for,
     spell_part,
 )
+from .ports import PORTS, OtherPorts
 from .sets import parts_are_plain
 from .tree import (
     Anything,
@@ -56,6 +58,7 @@ class Matches:
 
     def __init__(self, draft: Draft) -> None:
         self.draft, self.connections = draft, Connections(draft)
+        self.ports, self.exits = OtherPorts(draft), Exits(draft)
 
     def fit_match(self, left: Expression, operator: str, right: Expression) -> None:
         if isinstance(left, Drawn):
@@ -85,6 +88,10 @@ class Matches:
             return
         if name in OWNERS and self.draft.chain.hooks and self.draft.chain.hooks <= WITHOUT_OWNER:
             self.draft.tell("same", self.draft.never(), "a packet that is forwarded is of no process")
+            self.draft.die()
+            return
+        if name in OF_EXITS and self.exits.are_none():
+            self.draft.tell("same", self.draft.never(), "on prerouting and input no packet has an output interface")
             self.draft.die()
             return
         fact = KNOWN.get(name)
@@ -251,6 +258,17 @@ class Matches:
     # what nftrun reads
 
     def match_plain(self, name: str, operator: str, right: Expression) -> None:
+        compared = self.elements_named(right) if isinstance(right, Named) else right
+        known = None if isinstance(compared, Named) else compared
+        if name in EXITS and known is not None and self.exits.match(holds_without(operator, known)):
+            return
+        if name in PORTS:
+            self.ports.fit_match(operator, known, lambda: self.match_read(name, operator, right))
+        else:
+            self.match_read(name, operator, right)
+
+    def match_read(self, name: str, operator: str, right: Expression) -> None:
+        """A match of what nftrun reads as Linux does."""
         kind, reading = TYPES[name], ""
         if name == "ct state" and self.draft.chain.is_early:
             compared = self.elements_named(right) if isinstance(right, Named) else right

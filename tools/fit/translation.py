@@ -55,10 +55,10 @@ class Translations:
             self.draft.tell("outcome", "left out", "nftrun chooses ports in its own way", what=" ".join(it.flags))
         if it.kind in ("snat", "dnat") and it.address is None:
             it = replace(it, address=self.address_of_rule(it.kind))
-        if isinstance(it.address, Lookup):
-            self.translate_by_map(it, it.address)
-        elif isinstance(it.ports, Lookup):
-            self.translate_ports_by_map(it, it.ports)
+        lookup = it.address if isinstance(it.address, Lookup) else it.ports
+        if isinstance(lookup, Lookup):
+            found = lookup
+            self.matches.ports.fit_map(found.key, (), lambda: self.translate_by_lookup(it, found))
         else:
             before = len(self.draft.told.list)
             text = self.nat_text(it.kind, it.address, it.ports)
@@ -66,6 +66,12 @@ class Translations:
                 self.draft.put(text, "end")
             else:
                 self.draft.put_spelled(text, kind="end")
+
+    def translate_by_lookup(self, it: Translation, lookup: Lookup) -> None:
+        if it.address == lookup:
+            self.translate_by_map(it, lookup)
+        else:
+            self.translate_ports_by_map(it, lookup)
 
     def translate_prefixes(self, it: Translation) -> None:
         """`snat ip prefix to ip saddr map { 10.1.0.0/24 : 10.2.0.0/24 }`: each address to its own."""

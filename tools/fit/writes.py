@@ -116,10 +116,18 @@ class Writes:
         elif isinstance(key, Drawn):
             self.maps.draw(key, elements, setting)
         elif isinstance(key, Selector) and key.name in TYPES:
-            text, words = self.lookup_text(key, operand.map, elements, plain, "mark")
-            self.draft.put_spelled(f"{name} set {text}", [key.name], "mark", plain=words)
+            selector = key
+            self.matches.ports.fit_map(
+                key, (), lambda: self.set_by_plain_map(name, selector, operand.map, elements, plain)
+            )
         else:
             raise NotFitted("a mark by a map of what nftrun doesn't read")
+
+    def set_by_plain_map(
+        self, name: str, key: Selector, mapping: Mapping, elements: Sequence[Element], plain: bool
+    ) -> None:
+        text, words = self.lookup_text(key, mapping, elements, plain, "mark")
+        self.draft.put_spelled(f"{name} set {text}", [key.name], "mark", plain=words)
 
     def lookup_text(
         self, key: Selector, mapping: Mapping, elements: Sequence[Element], plain: bool, data_kind: str
