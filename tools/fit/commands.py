@@ -18,6 +18,7 @@ FAMILIES = ("ip", "ip6", "inet", "arp", "bridge", "netdev")
 OBJECTS = ("counter", "quota", "limit", "ct", "flowtable", "secmark", "synproxy")
 DEFINITIONS = ("define", "redefine", "undefine", "include")
 INCLUDE_DEPTH = 16
+ETC = "/etc"  # where nft(8) looks for what is included
 Item = TypeVar("Item")
 NOTHING_ELSE = "nothing else is loaded"
 
@@ -152,12 +153,14 @@ class Commands:
 
     def include(self, token: Token) -> None:
         pattern = self.take().text.strip('"')
-        paths = included(pattern, token.source.name)
+        paths, is_nfts = included(pattern, token.source.name)
         if not paths and not glob.has_magic(pattern):
             raise refuse(token, f"{pattern} isn't there")
         if len(self.including) > INCLUDE_DEPTH or any(os.path.realpath(it) in self.including for it in paths):
             raise refuse(token, "files that include each other")
-        self.changes.tell(token, "same", f"include {pattern}", f"{len(paths)} files", "put in")
+        files = f"{len(paths)} files" if len(paths) != 1 else paths[0]
+        why = "put in" if is_nfts else "put in; it stands beside the file, where nft(8) doesn't look: it wants -I there"
+        self.changes.tell(token, "same", f"include {pattern}", files, why)
         for path in paths:
             self.read(path)
 
@@ -457,16 +460,17 @@ def types_of(words: list[str]) -> tuple[list[str], list[str] | None]:
     return words[:at], words[at + 1 :]
 
 
-def included(pattern: str, from_file: str) -> list[str]:
-    """The files of an `include`: beside the file that has it, from here, or from /etc as nft(8) does."""
-    folders = [os.path.dirname(from_file), ""] if not os.path.isabs(pattern) else [""]
-    if not os.path.isabs(pattern) and not pattern.startswith("./"):
-        folders.append("/etc")
+def included(pattern: str, from_file: str) -> tuple[list[str], bool]:
+    """The files of an `include`, and whether nft(8) finds them: what begins with `/`, `./` or `../` it takes as it
+    stands, seen from here, all else from /etc. What it hasn't may stand beside the file that includes it."""
+    folders = [""] if pattern.startswith(("/", "./", "../")) else [ETC]
+    if not pattern.startswith("/"):
+        folders.append(os.path.dirname(from_file))
     for folder in folders:
         found = sorted(it for it in glob.glob(os.path.join(glob.escape(folder), pattern)) if os.path.isfile(it))
         if found:
-            return found
-    return []
+            return found, folder is folders[0]
+    return [], True
 
 
 def read_text(path: str) -> str:

@@ -339,6 +339,8 @@ class ExpressionReader:
         if self.has("@") and not self.has(",", ahead=2):
             self.take()
             return operator, Named(self.name())
+        if left == Selector("meta priority") and self.peek().kind == "number" and self.has(":", ahead=1):
+            return operator, self.handle()
         right = self.listed()
         if self.skip("/"):
             right = Masked(right, self.listed())
@@ -348,6 +350,12 @@ class ExpressionReader:
                 parts.append(self.part())
             right = Elements((Element(tuple(parts), None, ()),))
         return operator, right
+
+    def handle(self) -> One:
+        """The number of a class of traffic control, `1:1`."""
+        major = self.number()
+        self.take("mark", ":")
+        return One(Value("number", hex(major << 16 | self.number())))
 
     def listed(self) -> Expression:
         items = [self.constant()]

@@ -2,7 +2,7 @@
 from __future__ import annotations
 
 from dataclasses import dataclass, replace
-from typing import TYPE_CHECKING, Iterator
+from typing import TYPE_CHECKING, Callable, Iterable, Iterator
 
 from .facts import CHAIN_HOOKS, MARKS
 from .marks import Marks
@@ -23,8 +23,10 @@ from .tree import (
     Untracked,
     Verdict,
     VerdictMap,
+    What,
     counters_in,
     names_in,
+    selectors_in,
 )
 
 if TYPE_CHECKING:
@@ -45,6 +47,17 @@ class FittedRule:
     old_number: int
     rule: Rule
     counters: tuple[int, ...]
+
+
+def selectors_written(it: What) -> list[str]:
+    """What a statement sets."""
+    return [it.left.name] if isinstance(it, Setting) else []
+
+
+def selectors_asked(it: What) -> list[str]:
+    """What a statement reads."""
+    parts = (it.operand,) if isinstance(it, Setting) else (it,)
+    return [selector.name for selector in selectors_in(parts)]
 
 
 class Fitter:
@@ -81,6 +94,7 @@ class Fitter:
             isinstance(it.what, Untracked) for _, _, rule in self.rules() for it in rule.statements
         )
         self.protocols = Protocols(self)
+        self.written, self.asked = self.places(selectors_written), self.places(selectors_asked)
         self.order.settle()
         return "\n".join(self.table_text(table) for table in self.tables.values())
 
@@ -89,6 +103,17 @@ class Fitter:
             for chain in table.chains.values():
                 for rule in chain.rules:
                     yield table, chain, rule
+
+    def places(self, find: Callable[[What], Iterable[str]]) -> dict[str, list[str]]:
+        """Of selectors that are found in statements the places of these, each once."""
+        found: dict[str, list[str]] = {}
+        for _, _, rule in self.rules():
+            for it in rule.statements:
+                for name in find(it.what):
+                    where = self.changes_place(rule.token)
+                    found.setdefault(name, [])
+                    found[name] += [where] if where not in found[name] else []
+        return found
 
     def leave_out_tables(self) -> None:
         for key, table in list(self.tables.items()):

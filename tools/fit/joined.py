@@ -54,7 +54,7 @@ class JoinedKeys:
 
     def listed(self, right: Expression) -> Sequence[Element] | None:
         """The elements with which a match compares, or None where rules add to them, or there are none."""
-        compared = self.matches.elements_named(right) if isinstance(right, Named) else right
+        compared = self.matches.unread.elements_named(right) if isinstance(right, Named) else right
         return compared.items if isinstance(compared, Elements) else None
 
     def decided_otherwise(self, left: Joined, listed: Sequence[Element] | None, is_not: bool) -> bool:
@@ -147,7 +147,9 @@ class JoinedKeys:
                 raise NotFitted("arithmetic within joined keys")
             if not self.matches.is_in_ipv4(it):
                 return None
-            names.append(it.name)
+            if it.name == "ct protocol":
+                self.matches.unread.match_protocol("!=", lambda: None)
+            names.append("meta l4proto" if it.name == "ct protocol" else it.name)
         if any(len(key) != len(names) for key in keys):
             raise NotFitted("keys of another number of parts")
         for name in [it for it in names if it not in TYPES]:
@@ -157,7 +159,7 @@ class JoinedKeys:
 
     def without(self, index: int, name: str, keys: Sequence[Key]) -> list[Key]:
         fact, assumption = KNOWN.get(name), assumption_of(name)
-        self.matches.keep_header(name)
+        self.matches.unread.keep_header(name)
         if fact is not None and fact.needs:
             self.draft.put(fact.needs)
         if fact is not None and not fact.assumption:

@@ -7,10 +7,10 @@ from .assumptions import ASSUMPTIONS
 from .connections import IN_ANY_DIRECTION, INVALID, are_known, is_state
 from .draft import Draft
 from .exits import EXITS
-from .facts import KNOWN, MARKS, TYPES, assumption_of
+from .facts import FIELD_WIDTHS, KNOWN, MARKS, TYPES, assumption_of
 from .joined import JoinedKeys, Then
 from .matches import Matches, flag_names, rules_text, shown
-from .numbers import constant_number, holds, spell_part
+from .numbers import constant_number, holds, spell_part, usual_element
 from .ports import PORTS
 from .sets import parts_are_plain, verdict_text
 from .tree import (
@@ -170,20 +170,47 @@ class Maps:
         if name.startswith("fib "):
             self.choose_by_route(name, elements)
             return
+        if name == "ct protocol":
+            key = Selector("meta l4proto")
+            self.matches.unread.match_protocol(
+                "!=", lambda: self.choose_plain(key, Elements(tuple(elements)), elements, False)
+            )
+            return
         fact, assumption = KNOWN.get(name), assumption_of(name)
-        self.matches.keep_header(name)
-        chosen = [it for it in elements if holds(fact.value, "", it.key[0], "32", fact.words)][:1] if fact else []
-        if fact is not None and not fact.assumption:
+        self.matches.unread.keep_header(name)
+        chosen = self.known_elements(name, elements)
+        if fact is not None and not fact.assumption and not self.matches.unread.writers(name):
             self.draft.tell("same", verdict_text(chosen[0].verdict) if chosen else self.draft.never(), fact.why)
             if fact.needs:
                 self.draft.put(fact.needs)
         else:
             assumption = fact.assumption or assumption if fact else assumption
             way = self.draft.way(assumption)
-            if way != ASSUMPTIONS[assumption].ways[0] or fact is None and way == "hit":
-                chosen = [it for it in elements if it not in chosen][:1]
-            self.draft.guess(assumption, way, verdict_text(chosen[0].verdict) if chosen else self.draft.never())
+            is_usual = way == ASSUMPTIONS[assumption].ways[0]
+            if not is_usual or fact is None and way == "hit":
+                chosen = self.other_elements(name, elements, chosen)
+            known = self.matches.unread.known(name, fact.why if fact else None)
+            other = ASSUMPTIONS[assumption].ways[1]
+            why = f"assumed: {known}; --assume {assumption}={other} takes the other" if known and is_usual else None
+            to = verdict_text(chosen[0].verdict) if chosen else self.draft.never()
+            self.draft.guess(assumption, way, to, why=why)
         self.draft.split([self.ending(it) for it in chosen])
+
+    @staticmethod
+    def known_elements(name: str, elements: Sequence[Element]) -> list[Element]:
+        """The element that the usual value has, or most of the values of a field."""
+        fact = KNOWN.get(name)
+        if fact is not None:
+            return [it for it in elements if holds(fact.value, "", it.key[0], "32", fact.words)][:1]
+        return usual_element(elements, str(FIELD_WIDTHS[name]))[:1] if name in FIELD_WIDTHS else []
+
+    @staticmethod
+    def other_elements(name: str, elements: Sequence[Element], usual: Sequence[Element]) -> list[Element]:
+        """The element that another value has."""
+        fact = KNOWN.get(name)
+        if fact is not None and fact.other is not None:
+            return [it for it in elements if holds(fact.other, "", it.key[0], "32", fact.words)][:1]
+        return [it for it in elements if it not in usual][:1]
 
     def choose_by_route(self, name: str, elements: Sequence[Element]) -> None:
         keys, result = name[4:].rsplit(" ", 1)

@@ -4,7 +4,6 @@ from __future__ import annotations
 from ipaddress import IPv4Address
 from typing import Sequence
 
-from .assumptions import ASSUMPTIONS
 from .connections import IN_ANY_DIRECTION, Connections, are_known, bits_of
 from .draft import Draft
 from .exits import EXITS, OF_EXITS, Exits, holds_without
@@ -31,7 +30,6 @@ from .tree import (
     Elements,
     Expression,
     Listed,
-    Mapping,
     Masked,
     Match,
     Missing,
@@ -46,6 +44,7 @@ from .tree import (
     Value,
     VerdictMap,
 )
+from .unread import Unread
 
 OWNERS = ("meta skuid", "meta skgid", "meta cgroup")
 WITHOUT_OWNER = {"prerouting", "forward", "postrouting", "output"}
@@ -58,7 +57,7 @@ class Matches:
 
     def __init__(self, draft: Draft) -> None:
         self.draft, self.connections = draft, Connections(draft)
-        self.ports, self.exits = OtherPorts(draft), Exits(draft)
+        self.ports, self.exits, self.unread = OtherPorts(draft), Exits(draft), Unread(draft)
 
     def fit_match(self, left: Expression, operator: str, right: Expression) -> None:
         if isinstance(left, Drawn):
@@ -94,60 +93,10 @@ class Matches:
             self.draft.tell("same", self.draft.never(), "on prerouting and input no packet has an output interface")
             self.draft.die()
             return
-        fact = KNOWN.get(name)
-        if isinstance(right, Named):
-            right = self.elements_named(right)
-        self.keep_header(name)
-        if fact is None or name == "ct zone" and self.draft.fitter.sets_zones:
-            self.guess_match(assumption_of(name), self.usual_answer(assumption_of(name), operator))
-            return
-        answer = holds(fact.value, operator, right, "32", fact.words)
-        if answer is None and fact.assumption:
-            self.guess_match(fact.assumption, self.usual_answer(fact.assumption, operator))
-        elif answer is None:
-            raise NotFitted("a value that isn't known")
-        elif fact.assumption:
-            self.guess_match(fact.assumption, answer, fact.why)
+        if name == "ct protocol":
+            self.unread.match_protocol(operator, lambda: self.match_plain("meta l4proto", operator, right))
         else:
-            to = (fact.needs or "left out, as it always holds") if answer else self.draft.never()
-            self.draft.tell("same", to, fact.why)
-            if fact.needs:
-                self.draft.put(fact.needs)
-            if not answer:
-                self.draft.die()
-
-    def elements_named(self, named: Named) -> Mapping:
-        """What a named set has, where no rule adds to it."""
-        found = self.draft.table.sets.get(named.name)
-        if found is None:
-            raise Missing(f"there is no set {named.name}")
-        if (self.draft.table.family, self.draft.table.name, named.name) in self.draft.fitter.added_to:
-            return named
-        return Elements(tuple(self.draft.fitter.sets.kept(found)))
-
-    def keep_header(self, name: str) -> None:
-        """The protocol that the match asks for first, or the connection that it reads."""
-        if name not in KNOWN or not KNOWN[name].needs:
-            self.draft.keep_tests(Selector(name))
-
-    @staticmethod
-    def usual_answer(assumption: str, operator: str) -> bool:
-        """`miss`: the value isn't the one that is named; `hit`: it is."""
-        return (ASSUMPTIONS[assumption].ways[0] == "hit") != (operator in ("!=", "!"))
-
-    def guess_match(self, assumption: str, usual: bool, fact: str | None = None) -> None:
-        """A match that nobody can decide: `usual` is its answer by the usual way."""
-        way = self.draft.way(assumption)
-        is_usual = way == ASSUMPTIONS[assumption].ways[0]
-        answer = usual if is_usual else not usual
-        why = (
-            f"assumed: {fact}; --assume {assumption}={ASSUMPTIONS[assumption].ways[1]} takes the other"
-            if fact and is_usual
-            else None
-        )
-        self.draft.guess(assumption, way, "always" if answer else self.draft.never(), why=why)
-        if not answer:
-            self.draft.put(self.draft.never())  # what follows is told all the same
+            self.unread.match(name, operator, right)
 
     def match_drawn(self, drawn: Drawn, operator: str, right: Expression) -> None:
         number, way = self.number_drawn(drawn)
@@ -189,10 +138,9 @@ class Matches:
         elif result in ("oif", "oifname") and network and set(parts) == {"saddr", "iif"} and right in YES_NO:
             self.match_reverse_path(self.guess_of_route(operator, right))
         else:
-            self.guess_match(
-                "fib",
-                self.usual_answer("fib", operator) if right not in YES_NO else self.guess_of_route(operator, right),
-            )
+            is_route = right in YES_NO
+            usual = self.guess_of_route(operator, right) if is_route else self.unread.usual_answer("fib", operator)
+            self.unread.guess_match("fib", usual)
 
     @staticmethod
     def guess_of_route(operator: str, right: Expression) -> bool:
@@ -258,7 +206,7 @@ class Matches:
     # what nftrun reads
 
     def match_plain(self, name: str, operator: str, right: Expression) -> None:
-        compared = self.elements_named(right) if isinstance(right, Named) else right
+        compared = self.unread.elements_named(right) if isinstance(right, Named) else right
         known = None if isinstance(compared, Named) else compared
         if name in EXITS and known is not None and self.exits.match(holds_without(operator, known)):
             return
@@ -271,7 +219,7 @@ class Matches:
         """A match of what nftrun reads as Linux does."""
         kind, reading = TYPES[name], ""
         if name == "ct state" and self.draft.chain.is_early:
-            compared = self.elements_named(right) if isinstance(right, Named) else right
+            compared = self.unread.elements_named(right) if isinstance(right, Named) else right
             if not isinstance(compared, Named) and self.connections.match_early_state(operator, compared):
                 return
         if kind in ("tcp_flag", "ct_status") and isinstance(right, Elements) and len(right.items) == 1:
@@ -429,7 +377,7 @@ class Matches:
             self.draft.put(to if way == "miss" else IN_ANY_DIRECTION)
             return
         self.draft.put(IN_ANY_DIRECTION)
-        self.guess_match("ct", self.usual_answer("ct", operator))
+        self.unread.guess_match("ct", self.unread.usual_answer("ct", operator))
 
     def match_status_list(self, operator: str, elements: Sequence[Element]) -> None:
         """A list of several values of `ct status`, or a named one."""
@@ -437,7 +385,7 @@ class Matches:
             self.connections.compare_status(operator)
             return
         self.draft.put(IN_ANY_DIRECTION)
-        self.guess_match("ct", self.usual_answer("ct", operator))
+        self.unread.guess_match("ct", self.unread.usual_answer("ct", operator))
 
     @staticmethod
     def flags_text(operator: str, right: Expression) -> str:
@@ -579,13 +527,15 @@ class Matches:
             if not answer:
                 self.draft.die()
             return
-        self.keep_header(name)
+        self.unread.keep_header(name)
         fact = KNOWN.get(name)
         answer = holds(fact.value & mask, operator, right, "32", fact.words) if fact else None
+        assumption = assumption_of(name)
         if fact is not None and answer is not None:
-            self.guess_match(fact.assumption or "header", answer, fact.why)
+            self.unread.guess_match(fact.assumption or "header", answer, self.unread.known(name, fact.why))
         else:
-            self.guess_match(assumption_of(name), self.usual_answer(assumption_of(name), operator))
+            usual = self.unread.usual_answer(assumption, operator)
+            self.unread.guess_match(assumption, usual, self.unread.known(name, None))
 
 
 def shown(name: str) -> str:

@@ -3,7 +3,7 @@ from __future__ import annotations
 
 import socket
 from ipaddress import IPv4Address
-from typing import Mapping
+from typing import Mapping, Sequence
 
 from .expressions import as_number, as_part
 from .facts import MORE_PROTOCOLS, MORE_SERVICES, PROTOCOLS, SERVICES, TCP_FLAGS, WIDTHS, WORDS
@@ -214,6 +214,38 @@ def holds(
     if operator in orders:
         return orders[operator] if low == high else None
     return (low <= number <= high) == (operator not in ("!=", "!"))
+
+
+def count_of(part: Part, kind: str) -> int:
+    """How many numbers a part stands for; one where that isn't known."""
+    ends = range_of(part, kind)
+    return 1 if ends is None else ends[1] - ends[0] + 1
+
+
+def share(operator: str, right: Expression, kind: str) -> float:
+    """The share of all numbers of a type for which a match holds, from 0 to 1."""
+    whole = 1 << width_of(kind)
+    if isinstance(right, Listed):
+        right = Elements(tuple(Element((as_part(it),), None, ()) for it in right.items))
+    if isinstance(right, Elements):
+        count = sum(count_of(it.key[0], kind) for it in right.items)
+    elif not isinstance(right, (One, Range, Prefix, Anything)):
+        count = 1
+    elif operator in ("<", ">", "<=", ">="):
+        ends = range_of(right, kind) or (0, 0)
+        count = {"<": ends[0], "<=": ends[0] + 1, ">": whole - 1 - ends[1], ">=": whole - ends[1]}[operator]
+        return count / whole
+    else:
+        count = count_of(right, kind)
+    return (count if operator not in ("!=", "!") else whole - count) / whole
+
+
+def usual_element(elements: Sequence[Element], kind: str) -> list[Element]:
+    """Of the elements of a map the one that has more than half of all numbers, if there is one."""
+    rest = [it for it in elements if isinstance(it.key[0], Anything)]
+    named = [it for it in elements if it not in rest]
+    wide = [it for it in named if share("", it.key[0], kind) > 0.5]
+    return wide or (rest[:1] if sum(share("", it.key[0], kind) for it in named) < 0.5 else [])
 
 
 def is_element(

@@ -5,28 +5,14 @@ from typing import Callable, List, Sequence, Tuple
 
 from .assumptions import ASSUMPTIONS
 from .draft import Draft
-from .numbers import holds, range_of
+from .numbers import share, usual_element
 from .protocols import ALL
-from .tree import (
-    Anything,
-    Element,
-    Elements,
-    Expression,
-    Joined,
-    NotFitted,
-    One,
-    Part,
-    Piece,
-    Prefix,
-    Range,
-    Selector,
-)
+from .tree import Element, Expression, Joined, NotFitted, Part, Piece, Selector
 
 Key = Tuple[Part, ...]
 PORTS = ("th sport", "th dport")
 READ = {6, 17}  # the protocols of which nftrun reads them
 OURS, OTHERS = "meta l4proto { tcp, udp }", "meta l4proto != { tcp, udp }"
-NUMBERS = 1 << 16
 USUAL = (
     "assumed: where th reads ports, packets of other protocols {have}; Linux reads the bytes of any protocol;"
     " --assume header=hit takes the other"
@@ -97,25 +83,11 @@ class OtherPorts:
         if not self.may_come():
             fit()
             return
-        wide = [it for it in elements if not isinstance(it.key[0], Anything) and most_hold("", it.key[0])]
-        rest = [it for it in elements if isinstance(it.key[0], Anything)]
-        usual = (wide or (rest if sum(count_of(it.key[0]) for it in elements if it not in rest) < NUMBERS // 2 else []))
+        usual = usual_element(elements, "inet_service")
         others = usual or list(elements)
         self.decide(bool(usual), fit, [[self.draft.piece(OTHERS), *ending(it)] for it in others[:1]])
 
 
-def count_of(part: Part) -> int:
-    """How many ports a part stands for; one where that isn't known."""
-    ends = range_of(part, "inet_service")
-    return 1 if ends is None else ends[1] - ends[0] + 1
-
-
 def most_hold(operator: str, right: Expression) -> bool:
-    """Whether a match holds for more than half of all numbers."""
-    if isinstance(right, Elements):
-        count = sum(count_of(it.key[0]) for it in right.items)
-    elif isinstance(right, (One, Range, Prefix, Anything)) and operator not in ("<", ">", "<=", ">="):
-        count = count_of(right)
-    else:  # an order is that of one number: the middle one tells
-        return holds(NUMBERS // 2, operator, right, "inet_service") is True
-    return (count > NUMBERS // 2) == (operator not in ("!=", "!"))
+    """Whether a match of a port holds for more than half of all numbers."""
+    return share(operator, right, "inet_service") > 0.5

@@ -246,7 +246,7 @@ class RuleFitter:
         if it.left.name == "meta nfproto":
             return holds(2, it.operator, it.right, "nf_proto") is False
         fact = KNOWN.get(it.left.name)
-        if fact is None or fact.assumption or fact.needs:
+        if fact is None or fact.assumption or fact.needs or it.left.name in self.fitter.written:
             return False
         return holds(fact.value, it.operator, it.right, "32", fact.words) is False
 

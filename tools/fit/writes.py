@@ -3,8 +3,9 @@ from __future__ import annotations
 
 from typing import Sequence
 
+from .assumptions import ASSUMPTIONS
 from .draft import Draft
-from .facts import LEFT_OUT, MARKS, NEVER_IN_IPV4, TYPES, first_word
+from .facts import KNOWN, LEFT_OUT, MARKS, NEVER_IN_IPV4, TYPES, assumption_of, first_word
 from .joined import JoinedKeys
 from .maps import Maps
 from .matches import Matches, shown
@@ -50,12 +51,23 @@ class Writes:
         if grade == "guess":
             way = self.draft.way(why)
             self.draft.guess(why, way, "left out")
+        elif name in self.draft.fitter.asked:
+            self.leave_asked(name)
         else:
             self.draft.tell(grade, "left out", why)
         if not name.startswith("ct "):  # these do nothing where there is no connection
             self.draft.keep_tests(left)
         if isinstance(operand, Lookup):
             self.keep_lookup(operand)
+
+    def leave_asked(self, name: str) -> None:
+        """What isn't written, but asked for: the rules that ask for it are guessed."""
+        fact = KNOWN.get(name)
+        assumption = fact.assumption if fact and fact.assumption else "meta" if fact else assumption_of(name)
+        way = self.draft.way(assumption)
+        places = ", ".join(self.draft.fitter.asked[name])
+        what = "what is set makes no difference" if way == ASSUMPTIONS[assumption].ways[0] else f"{assumption}={way}"
+        self.draft.guess(assumption, way, "left out", why=f"assumed: {what} to the rules that ask for it ({places})")
 
     def keep_lookup(self, lookup: Lookup) -> None:
         """A value by a map ends the rule where the map hasn't the key; where nothing follows that is no matter."""
