@@ -7,9 +7,10 @@ from typing import TYPE_CHECKING, Mapping, Sequence, TypeVar
 
 import toolbox.commands
 
+from .dynamic import BOUNDS
 from .expressions import ExpressionReader, as_number
 from .scanner import END, Refused, Source, Token, moved, refuse, scan, shown, slice_of
-from .tree import Chain, Head, NamedObject, NotFitted, Rule, Set, Table
+from .tree import Bound, Chain, Head, NamedObject, NotFitted, Rule, Set, Table
 
 if TYPE_CHECKING:
     from .changes import Changes
@@ -158,9 +159,8 @@ class Commands:
             raise refuse(token, f"{pattern} isn't there")
         if len(self.including) > INCLUDE_DEPTH or any(os.path.realpath(it) in self.including for it in paths):
             raise refuse(token, "files that include each other")
-        files = f"{len(paths)} files" if len(paths) != 1 else paths[0]
-        why = "put in" if is_nfts else "put in; it stands beside the file, where nft(8) doesn't look: it wants -I there"
-        self.changes.tell(token, "same", f"include {pattern}", files, why)
+        why = "put in" if is_nfts else f"put in, as {paths[0]}: nft(8) finds it with -I alone"
+        self.changes.tell(token, "same", f"include {pattern}", f"{len(paths)} files", why)
         for path in paths:
             self.read(path)
 
@@ -442,8 +442,10 @@ class Commands:
         elif word == "policy":
             self.to_end()
         elif word in ("counter", "limit", "quota", "ct", "last"):
-            found.counts = True
-            self.to_end()
+            found.counts |= word not in BOUNDS
+            words = [it.text for it in self.to_end()]
+            if word in BOUNDS:
+                found.bounds.append(Bound(BOUNDS[word], "over" in words, None))
         elif word == "elements":
             self.take("=")
             self.add_elements(found, self.to_end())

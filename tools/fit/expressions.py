@@ -185,6 +185,7 @@ class ExpressionReader:
                 while self.peek().kind in ("number", "time", "word", "mark") and not self.has(
                     ",", "}", ":", "timeout", "expires", "comment"
                 ):
+                    found += ["over"] if self.has("over") else []
                     self.at += 1
             else:
                 return found

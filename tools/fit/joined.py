@@ -99,6 +99,7 @@ class JoinedKeys:
                 raise Missing(f"there is no set {right.name}")
             if self.matches.is_hit(right.name, operator):
                 return
+            self.matches.dynamic.fit_found(found, is_not)
             names = self.joined_names(left, [it.key for it in self.draft.fitter.sets.kept(found)])
             if names is not None and self.draft.fitter.sets.is_plain(found) and len(names[0]) == len(left.parts):
                 self.draft.put_spelled(
@@ -266,7 +267,7 @@ class JoinedKeys:
         self.draft.tell(
             "same",
             rules_text(len(ways)) if ways else self.draft.never(),
-            "nftrun has no maps over joined keys" if ways else "the map is empty",
+            "nftrun has no maps over joined keys" if ways else "it has no element that packets meet",
         )
         self.draft.split(ways, names)
 

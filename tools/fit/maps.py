@@ -23,6 +23,7 @@ from .tree import (
     Joined,
     Mapping,
     Missing,
+    Named,
     NotFitted,
     Piece,
     Selector,
@@ -50,6 +51,7 @@ class Maps:
             elements, plain = sets.kept(found), sets.is_plain(found) and not sets.by_name(found)
             if (self.draft.table.family, self.draft.table.name, mapping.name) in self.draft.fitter.added_to:
                 self.guess_of_map(mapping.name)
+            self.matches.dynamic.fit_found(found, False)
         if any(isinstance(it.data, Verdict) != verdicts for it in elements):
             raise NotFitted("a verdict where a value is wanted, or the reverse")
         return elements, plain
@@ -59,6 +61,19 @@ class Maps:
         if way != "listed":
             raise NotFitted(f"which element of the map {name} it is can't be known: dynamic={way}")
         self.draft.guess("dynamic", way, "by what is listed")
+
+    def tell_empty(self, mapping: Mapping) -> None:
+        """A map that gives nothing: no packet passes."""
+        found = self.draft.table.sets.get(mapping.name) if isinstance(mapping, Named) else None
+        why = "the map is empty"
+        if found is not None and found.elements:
+            why = "the elements of the map have run out, as asked: timeout=gone"
+        elif found is not None and (self.draft.table.family, self.draft.table.name, found.name) in (
+            self.draft.fitter.added_to
+        ):
+            why = "the map lists nothing, and what rules add to it isn't kept"
+        self.draft.tell("same", self.draft.never(), why)
+        self.draft.die()
 
     # verdicts
 
@@ -114,8 +129,7 @@ class Maps:
         if not isinstance(mapping, Elements) and plain and not rest:
             text = f"{shown(name)} vmap @{mapping.name}"
         elif not elements:
-            self.draft.tell("same", self.draft.never(), "the map is empty")
-            self.draft.die()
+            self.tell_empty(mapping)
             return
         else:
             listed = ", ".join(f"{spell_part(it.key[0], kind)} : {verdict_text(it.verdict)}" for it in named)

@@ -6,6 +6,7 @@ from typing import Sequence
 
 from .connections import IN_ANY_DIRECTION, Connections, are_known, bits_of
 from .draft import Draft
+from .dynamic import Dynamic
 from .exits import EXITS, OF_EXITS, Exits, holds_without
 from .facts import BITS, KNOWN, MARKS, NEVER_IN_IPV4, SHORT, TCP_FLAGS, TYPES, WORDS, assumption_of, first_word
 from .network import Network, spelled_networks
@@ -58,6 +59,7 @@ class Matches:
     def __init__(self, draft: Draft) -> None:
         self.draft, self.connections = draft, Connections(draft)
         self.ports, self.exits, self.unread = OtherPorts(draft), Exits(draft), Unread(draft)
+        self.dynamic = Dynamic(draft)
 
     def fit_match(self, left: Expression, operator: str, right: Expression) -> None:
         if isinstance(left, Drawn):
@@ -281,6 +283,7 @@ class Matches:
             raise NotFitted(f"the set {named.name} has no place in nftrun's language")
         if self.is_hit(named.name, operator):
             return
+        self.dynamic.fit_found(found, operator in ("!=", "!"))
         if TYPES[name] == "ct_status":
             self.match_status_list(operator, self.draft.fitter.sets.kept(found))
             return

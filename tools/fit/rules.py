@@ -12,7 +12,7 @@ from .maps import Maps
 from .matches import Matches
 from .numbers import holds
 from .profile import takes
-from .scanner import slice_of
+from .scanner import comment_behind, slice_of
 from .translation import Translations
 from .tree import (
     Bound,
@@ -95,7 +95,7 @@ class RuleFitter:
         draft = self.draft
         if draft.told.list or len(draft.lines) != 1 or draft.before or stands is None or not takes(stands, "rule"):
             return None
-        return stands
+        return stands + comment_behind(self.rule.tokens)
 
     def texts(self) -> list[Line]:
         draft = self.draft
@@ -164,7 +164,7 @@ class RuleFitter:
         elif isinstance(what, ChangeOfSet):
             self.effects.fit_dynamic(what)
         elif isinstance(what, Bound):
-            self.effects.fit_bound(what)
+            self.effects.dynamic.fit_bound(what)
         else:
             self.fit_effect(what)
 

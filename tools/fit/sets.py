@@ -122,10 +122,7 @@ class Sets:
         if not self.is_foreign(found):
             self.tell_of_time(table, found)
         if not self.is_plain(found):
-            why = "its elements stand in the rules that use it"
-            if self.is_foreign(found):
-                why = "nftrun has none of its type; the rules that use it are told for themselves"
-            changes.tell(found.token, "same", f"{found.word} {found.name}", "left out", why)
+            changes.tell(found.token, "same", f"{found.word} {found.name}", "left out", self.why_left_out(table, found))
             return []
         if found.counts or any("counter" in it.extras for it in found.elements):
             changes.tell(found.token, "outcome", f"counters of {found.name}", "none", "they aren't shown")
@@ -142,6 +139,15 @@ class Sets:
         stands = found.slices is not None and not by_name and self.stands(found)
         body = found.slices if stands and found.slices is not None else anew
         return [f"\t{found.word} {found.name} {{", *("\t\t" + it for it in body), "\t}", ""]
+
+    def why_left_out(self, table: Table, found: Set) -> str:
+        if not self.fitter.is_read(table, found.name):
+            return "no rule reads it"
+        if self.is_foreign(found):
+            return "nftrun has none of its type; the rules that use it are told for themselves"
+        if not self.kept(found):
+            return "it lists nothing; the rules that use it are told for themselves"
+        return "its elements stand in the rules that use it"
 
     def stands(self, found: Set) -> bool:
         """Whether nftrun takes the fields of the set as they are."""

@@ -137,6 +137,9 @@ class Translations:
         if isinstance(key, Selector) and not self.matches.is_in_ipv4(key):
             return
         elements, plain = self.maps.mapping(lookup.map, verdicts=False)
+        if not elements:
+            self.maps.tell_empty(lookup.map)
+            return
         if isinstance(it.ports, Lookup):
             if it.ports.key != key:
                 raise NotFitted("two maps of two keys")
@@ -163,7 +166,10 @@ class Translations:
             return [self.draft.piece(self.nat_text(it.kind, it.address, one.values[0]), "end")]
 
         elements, _ = self.maps.mapping(lookup.map, verdicts=False)
-        self.choose_translation(lookup.key, elements, translating)
+        if elements:
+            self.choose_translation(lookup.key, elements, translating)
+        else:
+            self.maps.tell_empty(lookup.map)
 
     def choose_translation(self, key: Expression, elements: Sequence[Element], translating: Then) -> None:
         if isinstance(key, Joined):
