@@ -267,7 +267,9 @@ class JoinedKeys:
         self.draft.tell(
             "same",
             rules_text(len(ways)) if ways else self.draft.never(),
-            "nftrun has no maps over joined keys" if ways else "it has no element that packets meet",
+            "nftrun has no maps over joined keys"
+            if ways
+            else "it has no element that packets meet" if elements else "the map is empty",
         )
         self.draft.split(ways, names)
 
