@@ -155,12 +155,17 @@ class Commands:
     def include(self, token: Token) -> None:
         pattern = self.take().text.strip('"')
         paths, is_nfts = included(pattern, token.source.name)
+        if not is_nfts and glob.has_magic(pattern):
+            paths = [it for it in paths if os.path.realpath(it) not in self.including]
         if not paths and not glob.has_magic(pattern):
             raise refuse(token, f"{pattern} isn't there")
         if len(self.including) > INCLUDE_DEPTH or any(os.path.realpath(it) in self.including for it in paths):
             raise refuse(token, "files that include each other")
-        why = "put in" if is_nfts else f"put in, as {paths[0]}: nft(8) finds it with -I alone"
-        self.changes.tell(token, "same", f"include {pattern}", f"{len(paths)} files", why)
+        if is_nfts or not paths:
+            self.changes.tell(token, "same", f"include {pattern}", f"{len(paths)} files", "put in")
+        else:
+            why = "assumed: nft(8) is told of their folder by -I; it doesn't look beside the file that includes them"
+            self.changes.tell(token, "guess", f"include {pattern}", ", ".join(paths), why)
         for path in paths:
             self.read(path)
 
@@ -421,6 +426,15 @@ class Commands:
                 else:
                     found.slices = None
 
+    def size(self) -> int:
+        token = self.take()
+        try:
+            if token.kind != "number":
+                raise NotFitted("a number is wanted")
+            return as_number(token.text)
+        except NotFitted as fault:
+            raise refuse(token, f"size {spoken(token)[:20]}: {fault}") from None
+
     def set_line(self, found: Set) -> None:
         token = self.take()
         word = token.text
@@ -434,7 +448,7 @@ class Commands:
             found.timeout |= word == "timeout"
             self.to_end()
         elif word == "size":
-            found.size = as_number(self.take().text)
+            found.size = self.size()
         elif word == "comment":
             found.comment = self.take().text
         elif word == "auto-merge":

@@ -98,8 +98,11 @@ class Order:
         band_of = {it: self.band(it, bands, came) for it in here}
         linux = sorted(here, key=lambda it: (bands.index(band_of[it]), self.number(it), -came.index(it)))
         numbers = [min(max(self.number(it), band_of[it].low), band_of[it].high) for it in linux]
-        places = [here.index(it) for it in linux]
-        numbers = spread_up([band_of[it] for it in linux], spread_down(numbers, places), places)
+        gaps = [
+            int(self.number(one) != self.number(other) or here.index(one) > here.index(other))
+            for one, other in zip(linux, linux[1:])
+        ]
+        numbers = spread_up([band_of[it] for it in linux], spread_down(numbers, gaps), gaps)
         for it, number in zip(linux, numbers):
             if number > band_of[it].high:
                 self.fitter.changes.refuse(
@@ -185,20 +188,19 @@ def needs_connections(rule: Rule) -> bool:
     return False
 
 
-def spread_down(numbers: Sequence[int], places: Sequence[int]) -> list[int]:
-    """Priorities that put chains in order, each at most its own: of two with one priority that runs first whose place
-    in the text is."""
+def spread_down(numbers: Sequence[int], gaps: Sequence[int]) -> list[int]:
+    """Priorities that put chains in order, each at most its own; a gap tells whether one and the next differ."""
     out = list(numbers)
     for index in range(len(out) - 2, -1, -1):
-        out[index] = min(out[index], out[index + 1] - (places[index] > places[index + 1]))
+        out[index] = min(out[index], out[index + 1] - gaps[index])
     return out
 
 
-def spread_up(bands: Sequence[Band], numbers: Sequence[int], places: Sequence[int]) -> list[int]:
+def spread_up(bands: Sequence[Band], numbers: Sequence[int], gaps: Sequence[int]) -> list[int]:
     """The same, but none below its band: what has no room there goes up."""
     out = list(numbers)
     for index, band in enumerate(bands):
         out[index] = max(out[index], band.low)
         if index:
-            out[index] = max(out[index], out[index - 1] + (places[index - 1] > places[index]))
+            out[index] = max(out[index], out[index - 1] + gaps[index - 1])
     return out

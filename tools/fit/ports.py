@@ -57,6 +57,7 @@ class OtherPorts:
         draft = self.draft
         draft.do_once()
         before = draft.lines
+        draft.put(OURS)
         fit()
         lines = [] if draft.is_dead else draft.lines
         draft.is_dead = False

@@ -10,7 +10,8 @@ from .facts import FIELD_WIDTHS, KNOWN, OPTIONS, Fact, assumption_of
 from .numbers import holds, share
 from .tree import Elements, Expression, Mapping, Missing, Named, NotFitted, One, Selector, Value
 
-MISSING = One(Value("word", "missing"))
+MISSING, EXISTS = One(Value("word", "missing")), One(Value("word", "exists"))
+YES_NO = (MISSING, EXISTS)
 
 
 class Unread:
@@ -23,7 +24,8 @@ class Unread:
         fact = KNOWN.get(name)
         if isinstance(right, Named):
             right = self.elements_named(right)
-        self.keep_header(name)
+        if not is_absence(name, operator, right):
+            self.keep_header(name)
         if fact is None or name == "ct zone" and self.draft.fitter.sets_zones:
             self.match_unknown(name, operator, right)
             return
@@ -61,7 +63,7 @@ class Unread:
                 return
             usual = part > 0.5
         elif name.startswith(OPTIONS):
-            usual = right == MISSING and operator not in ("!=", "!")
+            usual = right in YES_NO and (right == MISSING) != (operator in ("!=", "!"))
         self.guess_match(assumption, usual, self.known(name, None))
 
     def elements_named(self, named: Named) -> Mapping:
@@ -129,3 +131,8 @@ class Unread:
         fit()
         if not is_not:
             self.draft.lines += [[*line, self.draft.piece("ct state related")] for line in before]
+
+
+def is_absence(name: str, operator: str, right: Expression) -> bool:
+    """`tcp option .. missing` holds of other protocols too."""
+    return name.startswith("tcp option") and right == (EXISTS if operator in ("!=", "!") else MISSING)

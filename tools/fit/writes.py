@@ -107,7 +107,7 @@ class Writes:
         if isinstance(operand, Lookup):
             self.set_by_map(name, operand)
         elif isinstance(operand, One) and operand.value.kind == "number":
-            self.draft.put_spelled(f"{name} set {operand.value.text}", kind="mark")
+            self.draft.put_spelled(f"{name} set {spell_part(operand, 'mark')}", kind="mark")
         elif isinstance(operand, Selector) and operand.name in MARKS:
             self.draft.put_spelled(f"{name} set {operand.name}", [operand.name], "mark")
         elif isinstance(operand, Drawn):
