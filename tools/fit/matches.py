@@ -514,6 +514,9 @@ class Matches:
             or operator not in ("", "==", "!=")
         ):
             raise NotFitted(f"a mask of {name}")
+        if name == "ct state" and self.draft.chain.is_early:
+            if self.connections.match_early_state("" if operator == "!=" else "!", mask):
+                return
         text = f"{name} {','.join(words)}" if operator == "!=" else " ".join(f"{name} != {word}" for word in words)
         self.draft.tell("same", text, "one of them" if operator == "!=" else "none of them")
         self.draft.put(text)

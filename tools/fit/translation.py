@@ -205,6 +205,8 @@ def ports_text(part: Expression) -> str:
     found = range_of(part, "inet_service") if isinstance(part, (One, Range)) else None
     if found is None:
         raise NotFitted("a port that isn't known")
+    if not 0 < found[0] <= found[1] <= 65535:
+        raise NotFitted(f"`{found[0]}-{found[1]}` isn't a range of ports from 1 to 65535")
     return "-".join(map(str, dict.fromkeys(found)))
 
 
