@@ -160,6 +160,7 @@ class Matching(PartsCase):
             "notrack ct state vmap { invalid : drop }": "untracked",
             "ct state odd": "isn't known",
             "ct state < new": "ct state <",
+            "meta mark set ct state map { invalid : 1 }": "which Linux reads otherwise here",
         }, "early")
 
     def test_a_chain_before_and_behind_the_look_up(self) -> None:
@@ -261,6 +262,13 @@ class Unread(PartsCase):
             "numgen inc mod 2 vmap { 0 : accept, 1 : drop }": ["drop"],
         }, chosen=TURNED)
 
+    def test_zones(self) -> None:
+        zones = "ct zone set 5", "ct zone 5 accept", "ct zone vmap { 0 : accept }", "ct zone . ip ttl { 0 . 5 } accept"
+        told = self.fit("\n".join(zones)).changes.list
+        self.assertEqual([it.grade for it in told if it.what.startswith("ct zone")][:4], ["guess"] * 4)
+        self.assertEqual(self.rules("ct zone . ip saddr { 0 . 10.0.0.1 } accept"), [
+            f"{TRACKED} ip saddr {{ 10.0.0.1 }} accept"])
+
     def test_what_is_written_and_asked_for(self) -> None:
         lines = "ip dscp set cs1", "ip dscp cs1 accept", "meta nftrace set 1", "meta nftrace 1 accept", "ct label set 5"
         fitted = self.fit("\n".join(lines))
@@ -297,6 +305,7 @@ class Joining(PartsCase):
             "ip saddr . tcp dport @nothing accept": "there is no set nothing",
             "ip saddr . tcp dport { 10.0.0.1 } accept": "another number of parts",
             "ip saddr . tcp dport < 5": "with joined keys",
+            "ip saddr . ct status { 10.0.0.1 . dnat }": "bits that nftrun hasn't",
             "ip saddr . (tcp dport & 5) { 10.0.0.1 . 1 }": "arithmetic",
             "iifname . ip saddr { * . 10.0.0.1 } accept": "any interface",
             "ip saddr . tcp dport vmap { 10.0.0.0/8 . 22 : accept, 10.0.0.2 . 22 : drop }": "overlap",
@@ -334,6 +343,7 @@ class Mapping_(PartsCase):
             'ct helper set "none"': "there is no ct helper none",
             "meta mark set ip saddr map { 10.0.0.1 : drop }": "a verdict where a value is wanted",
             "meta mark set ip saddr map @missing": "there is no map missing",
+            "meta mark set ct status map { dnat : 1 }": "which Linux reads otherwise here",
             'meta mark set iifname map { "lan" : 1, * : 2 }': "`*` beside other elements",
         })
 

@@ -6,7 +6,7 @@ from typing import Callable, Iterable, List, Sequence, Tuple
 from .assumptions import ASSUMPTIONS
 from .draft import Draft
 from .exits import EXITS, WITHOUT, keys_without
-from .facts import KNOWN, LONGEST_KEY, TYPES, assumption_of
+from .facts import LONGEST_KEY, TYPES, assumption_of
 from .matches import Matches, rules_text, shown
 from .numbers import holds, name_of, range_of, spell_number, spell_part, width_of
 from .ports import OTHERS, PORTS, most_hold
@@ -61,6 +61,8 @@ class JoinedKeys:
         """Whether what Linux reads otherwise decided the match: an output interface where there is none."""
         if self.draft.chain.is_early and any(it.name == "ct state" for it in selectors_of(left)):
             raise NotFitted("ct state in joined keys, before connections are looked for")
+        if any(it.name == "ct status" for it in selectors_of(left)):
+            raise NotFitted("ct status in joined keys, where Linux compares with bits that nftrun hasn't")
         places = [index for index, it in enumerate(selectors_of(left)) if it.name in EXITS]
         if not places or listed is None or any(len(it.key) != len(left.parts) for it in listed):
             return False
@@ -159,7 +161,7 @@ class JoinedKeys:
         return names, list(dict.fromkeys(keys))
 
     def without(self, index: int, name: str, keys: Sequence[Key]) -> list[Key]:
-        fact, assumption = KNOWN.get(name), assumption_of(name)
+        fact, assumption = self.matches.unread.fact_of(name), assumption_of(name)
         self.matches.unread.keep_header(name)
         if fact is not None and fact.needs:
             self.draft.put(fact.needs)

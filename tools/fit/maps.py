@@ -190,9 +190,9 @@ class Maps:
                 "!=", lambda: self.choose_plain(key, Elements(tuple(elements)), elements, False)
             )
             return
-        fact, assumption = KNOWN.get(name), assumption_of(name)
+        fact, assumption = self.matches.unread.fact_of(name), assumption_of(name)
         self.matches.unread.keep_header(name)
-        chosen = self.known_elements(name, elements)
+        chosen = self.known_elements(name, elements) if fact is not None or name in FIELD_WIDTHS else []
         if fact is not None and not fact.assumption and not self.matches.unread.writers(name):
             self.draft.tell("same", verdict_text(chosen[0].verdict) if chosen else self.draft.never(), fact.why)
             if fact.needs:

@@ -51,7 +51,7 @@ class Sets:
     def key_types(self, found: Set) -> list[str]:
         """The types of the key's parts; `?` for one that nftrun hasn't."""
         if found.typeof is None:
-            return list(found.types)
+            return ["?" if it.isdigit() else it for it in found.types]
         return selector_types(found.typeof[: colon(found.typeof)])
 
     def data_types(self, found: Set) -> list[str] | None:

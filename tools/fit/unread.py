@@ -21,12 +21,12 @@ class Unread:
         self.draft = draft
 
     def match(self, name: str, operator: str, right: Expression) -> None:
-        fact = KNOWN.get(name)
+        fact = self.fact_of(name)
         if isinstance(right, Named):
             right = self.elements_named(right)
         if not is_absence(name, operator, right):
             self.keep_header(name)
-        if fact is None or name == "ct zone" and self.draft.fitter.sets_zones:
+        if fact is None:
             self.match_unknown(name, operator, right)
             return
         answer = holds(fact.value, operator, right, "32", fact.words)
@@ -40,6 +40,10 @@ class Unread:
             self.guess_match(assumption, answer, self.known(name, fact.why), other)
         else:
             self.tell_fact(fact, answer)
+
+    def fact_of(self, name: str) -> Fact | None:
+        """What is known of a selector in this ruleset."""
+        return None if name == "ct zone" and self.draft.fitter.sets_zones else KNOWN.get(name)
 
     def tell_fact(self, fact: Fact, answer: bool) -> None:
         to = (fact.needs or "left out, as it always holds") if answer else self.draft.never()

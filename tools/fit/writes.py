@@ -169,6 +169,8 @@ class Writes:
         self, key: Selector, mapping: Mapping, elements: Sequence[Element], plain: bool, data_kind: str
     ) -> tuple[str, bool]:
         """`KEY map ..`, and whether its words are nftrun's."""
+        if key.name == "ct status" or key.name == "ct state" and self.draft.chain.is_early:
+            raise NotFitted(f"a map of values by {key.name}, which Linux reads otherwise here")
         if any(len(it.key) != 1 or len(it.values) != 1 for it in elements):
             raise NotFitted("keys or data of another number of parts")
         name, kind = self.matches.by_name(key.name, [it.key[0] for it in elements])
