@@ -11,14 +11,11 @@ GRADES = ("same", "outcome", "guess", "refused")
 
 @dataclass(frozen=True)
 class Change:
-    """`reads`: nftrun takes the text as it is, but reads it in another way than nft(8)."""
-
     place: str
     grade: str
     what: str
     to: str
     why: str
-    reads: bool = False
 
 
 class Changes:
@@ -29,8 +26,8 @@ class Changes:
         self.warnings: list[tuple[str, str]] = []
         self.told: set[tuple[str, str, str]] = set()
 
-    def tell(self, token: Token, grade: str, what: str, to: str, why: str, reads: bool = False) -> None:
-        self.list.append(Change(place(token), grade, what, to, why, reads))
+    def tell(self, token: Token, grade: str, what: str, to: str, why: str) -> None:
+        self.list.append(Change(place(token), grade, what, to, why))
 
     def tell_once(self, token: Token, grade: str, what: str, to: str, why: str) -> None:
         """Once for a ruleset, as it is the same everywhere."""
@@ -53,10 +50,6 @@ class Changes:
 
     def worst(self) -> str:
         return max((it.grade for it in self.list), key=GRADES.index, default="same")
-
-    def is_all_reading(self) -> bool:
-        """Whether nothing was changed but what nftrun takes as it is."""
-        return all(it.reads for it in self.list)
 
     def in_order(self) -> list[Change]:
         """By file and line, as far as these go."""

@@ -3,6 +3,7 @@ from __future__ import annotations
 
 import argparse
 import os
+import re
 import sys
 import tempfile
 from dataclasses import dataclass
@@ -24,6 +25,10 @@ from .tree import Counter
 
 NAME = "fit-ruleset"
 DONE, WORSE = 0, 1
+# stands for a box where none is given; an interface that it hasn't (N13) is no fault of the ruleset then
+SOME_BOX = b"interface 1 lo 127.0.0.1/8\ndefault lo\n"
+OF_THE_BOX = "N13"
+REFUSED_RULE = re.compile(r"(?m)^table (\S+) (\S+), chain (\S+), rule ([0-9]+)$")
 Row = Tuple[str, int, rulemap.Origin]  # chain and number of a fitted rule, and the rule that it comes from
 
 
@@ -47,11 +52,7 @@ def fit(
     source = read.read(path)
     fitter = Fitter(read, assumptions, network)
     body = fitter.run()
-    stays = changes.is_all_reading() and takes(source.text, "ruleset")
-    if stays:
-        for it in changes.list:
-            changes.warnings.append((it.place, f"{it.what}: {it.why}; nftrun reads what Linux does as {it.to}"))
-        changes.list.clear()
+    if not changes.list and takes(source.text, "ruleset"):
         return Fitted(source.text, plain_rows(fitter), changes, assumptions, True)
     head = f"# by fit-ruleset from {commands.printable(os.path.basename(path))}: {changes.worst()}\n"
     return Fitted(head + body, rows_of(fitter), changes, assumptions, False)
@@ -164,7 +165,7 @@ def run(names: argparse.Namespace) -> int:
         commands.warn(f"{NAME}: {summary}, which is worse than {names.at_most}: nothing is written")
         return WORSE
     data = fitted.text.encode("utf-8", "surrogateescape")
-    check(data, names)
+    check(fitted, data, names)
     if names.map:
         rulemap.write(names.map, data, names.rules, fitted.rows)
     commands.warn(f"{NAME}: {summary}")
@@ -195,19 +196,32 @@ def program_at_hand() -> str | None:
         return None
 
 
-def check(data: bytes, names: argparse.Namespace) -> None:
+def check(fitted: Fitted, data: bytes, names: argparse.Namespace) -> None:
     """What is written is of nftrun's grammar, and `nftrun check` takes it, where the program is at hand."""
     if len(data) > SIZE:
         raise Refused(f"{names.rules}: what it becomes has {len(data)} bytes, and nftrun takes {SIZE}")
     if not takes(data.decode("utf-8", "surrogateescape"), "ruleset"):
         raise Refused(f"{names.rules}: what it becomes isn't in the language of nftrun; this is a fault of {NAME}")
     program = program_at_hand()
-    if program is None or not names.box:
+    if program is None:
         return
-    with tempfile.NamedTemporaryFile(suffix=".nft") as file:
+    with tempfile.NamedTemporaryFile(suffix=".nft") as file, tempfile.NamedTemporaryFile(suffix=".txt") as box:
         file.write(data)
         file.flush()
-        status, errors = run_child([program, "check", "--explain", file.name, names.box])
-    if status:
-        remark = errors.replace(file.name, "the fitted ruleset").split("\n")[0]
-        raise Refused(f"{names.rules}: nftrun refuses what it becomes: {remark}")
+        box.write(SOME_BOX)
+        box.flush()
+        status, errors = run_child([program, "check", "--explain", file.name, names.box or box.name])
+    if status and (names.box or OF_THE_BOX not in errors.split("\n")[0]):
+        raise Refused(refusal(fitted, names.rules, errors.replace(file.name, "the fitted ruleset")))
+
+
+def refusal(fitted: Fitted, rules: str, errors: str) -> str:
+    """What nftrun says of the fitted ruleset, at the operator's rule where it names one."""
+    lines = errors.split("\n")
+    what = f"{lines[0]} ({lines[1].rstrip('.')})" if len(lines) > 2 else lines[0]
+    found = REFUSED_RULE.search(errors)
+    if found:
+        for chain, number, origin in fitted.rows:
+            if (chain, str(number)) == (" ".join(found.group(1, 2, 3)), found[4]):
+                return f"{origin.file}:{origin.line}: {origin.text}: nftrun refuses what it becomes: {what}"
+    return f"{rules}: nftrun refuses what it becomes: {what}"

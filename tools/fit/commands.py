@@ -7,9 +7,10 @@ from typing import TYPE_CHECKING, Mapping, Sequence, TypeVar
 
 import toolbox.commands
 
+from .dynamic import BOUNDS
 from .expressions import ExpressionReader, as_number
 from .scanner import END, Refused, Source, Token, moved, refuse, scan, shown, slice_of
-from .tree import Chain, Head, NamedObject, NotFitted, Rule, Set, Table
+from .tree import Bound, Chain, Head, NamedObject, NotFitted, Rule, Set, Table
 
 if TYPE_CHECKING:
     from .changes import Changes
@@ -18,6 +19,7 @@ FAMILIES = ("ip", "ip6", "inet", "arp", "bridge", "netdev")
 OBJECTS = ("counter", "quota", "limit", "ct", "flowtable", "secmark", "synproxy")
 DEFINITIONS = ("define", "redefine", "undefine", "include")
 INCLUDE_DEPTH = 16
+ETC = "/etc"  # where nft(8) looks for what is included
 Item = TypeVar("Item")
 NOTHING_ELSE = "nothing else is loaded"
 
@@ -33,6 +35,7 @@ class Commands:
         self.including: list[str] = []
         self.tokens: list[Token] = []
         self.at = 0
+        self.moment = 0  # the number of the command at hand
         self.taken: list[Token] = []
 
     def read(self, path: str) -> Source:
@@ -42,6 +45,7 @@ class Commands:
         self.including.append(os.path.realpath(path))
         while self.at < len(self.tokens):
             if not self.end():
+                self.moment += 1
                 self.command()
         self.including.pop()
         self.tokens, self.at = outer
@@ -150,12 +154,18 @@ class Commands:
 
     def include(self, token: Token) -> None:
         pattern = self.take().text.strip('"')
-        paths = included(pattern, token.source.name)
+        paths, is_nfts = included(pattern, token.source.name)
+        if not is_nfts and glob.has_magic(pattern):
+            paths = [it for it in paths if os.path.realpath(it) not in self.including]
         if not paths and not glob.has_magic(pattern):
             raise refuse(token, f"{pattern} isn't there")
         if len(self.including) > INCLUDE_DEPTH or any(os.path.realpath(it) in self.including for it in paths):
             raise refuse(token, "files that include each other")
-        self.changes.tell(token, "same", f"include {pattern}", f"{len(paths)} files", "put in")
+        if is_nfts or not paths:
+            self.changes.tell(token, "same", f"include {pattern}", f"{len(paths)} files", "put in")
+        else:
+            why = "assumed: nft(8) is told of their folder by -I; it doesn't look beside the file that includes them"
+            self.changes.tell(token, "guess", f"include {pattern}", ", ".join(paths), why)
         for path in paths:
             self.read(path)
 
@@ -277,13 +287,13 @@ class Commands:
             raise refuse(self.peek(), "a handle can't be known")
         if self.skip("index"):
             token = self.take()
-            index = int(token.text) if token.text.isdigit() else -1
+            index = int(token.text) if token.text.isdigit() and len(token.text) < 10 else -1
             if not 0 <= index < len(chain.rules):
                 raise refuse(token, "there is no rule of that index")
             where = index + (verb != "insert")
         tokens = self.to_end()
         if tokens:
-            chain.rules.insert(where, Rule(tokens, shown(self.taken)))
+            chain.rules.insert(where, Rule(tokens, shown(self.taken), self.moment))
 
     def add_elements(self, found: Set, tokens: list[Token]) -> None:
         if not tokens:
@@ -366,6 +376,7 @@ class Commands:
             self.take()
             if chain.head is None:
                 self.order.append((table, chain))
+                chain.moment = self.moment
             chain.head = self.head()
         elif self.skip("policy"):
             token = self.peek()
@@ -385,7 +396,7 @@ class Commands:
                 raise self.torn()
             if not tokens:
                 raise refuse(self.peek(), f"`{spoken(self.peek())}` isn't understood in a chain")
-            chain.rules.append(Rule(tokens, shown(self.taken)))
+            chain.rules.append(Rule(tokens, shown(self.taken), self.moment))
 
     def head(self) -> Head:
         first = self.peek()
@@ -415,6 +426,15 @@ class Commands:
                 else:
                     found.slices = None
 
+    def size(self) -> int:
+        token = self.take()
+        try:
+            if token.kind != "number":
+                raise NotFitted("a number is wanted")
+            return as_number(token.text)
+        except NotFitted as fault:
+            raise refuse(token, f"size {spoken(token)[:20]}: {fault}") from None
+
     def set_line(self, found: Set) -> None:
         token = self.take()
         word = token.text
@@ -428,7 +448,7 @@ class Commands:
             found.timeout |= word == "timeout"
             self.to_end()
         elif word == "size":
-            found.size = as_number(self.take().text)
+            found.size = self.size()
         elif word == "comment":
             found.comment = self.take().text
         elif word == "auto-merge":
@@ -436,8 +456,10 @@ class Commands:
         elif word == "policy":
             self.to_end()
         elif word in ("counter", "limit", "quota", "ct", "last"):
-            found.counts = True
-            self.to_end()
+            found.counts |= word not in BOUNDS
+            words = [it.text for it in self.to_end()]
+            if word in BOUNDS:
+                found.bounds.append(Bound(BOUNDS[word], "over" in words, None))
         elif word == "elements":
             self.take("=")
             self.add_elements(found, self.to_end())
@@ -454,16 +476,17 @@ def types_of(words: list[str]) -> tuple[list[str], list[str] | None]:
     return words[:at], words[at + 1 :]
 
 
-def included(pattern: str, from_file: str) -> list[str]:
-    """The files of an `include`: beside the file that has it, from here, or from /etc as nft(8) does."""
-    folders = [os.path.dirname(from_file), ""] if not os.path.isabs(pattern) else [""]
-    if not os.path.isabs(pattern) and not pattern.startswith("./"):
-        folders.append("/etc")
+def included(pattern: str, from_file: str) -> tuple[list[str], bool]:
+    """The files of an `include`, and whether nft(8) finds them: what begins with `/`, `./` or `../` it takes as it
+    stands, seen from here, all else from /etc. What it hasn't may stand beside the file that includes it."""
+    folders = [""] if pattern.startswith(("/", "./", "../")) else [ETC]
+    if not pattern.startswith("/"):
+        folders.append(os.path.dirname(from_file))
     for folder in folders:
         found = sorted(it for it in glob.glob(os.path.join(glob.escape(folder), pattern)) if os.path.isfile(it))
         if found:
-            return found
-    return []
+            return found, folder is folders[0]
+    return [], True
 
 
 def read_text(path: str) -> str:

@@ -87,7 +87,7 @@ class Draft:
         stands = self.statement_text()
         is_taken = takes(stands, "statement")
         if reading:
-            self.tell("same", text, reading, reads=is_taken and plain)
+            self.tell("same", text, reading)
         elif is_taken and plain:
             text = stands
         else:
@@ -157,8 +157,8 @@ class Draft:
 
     # what is told
 
-    def tell(self, grade: str, to: str, why: str, what: str | None = None, reads: bool = False) -> None:
-        self.told.tell(self.rule.token, grade, what or self.statement_line(), to, why, reads)
+    def tell(self, grade: str, to: str, why: str, what: str | None = None) -> None:
+        self.told.tell(self.rule.token, grade, what or self.statement_line(), to, why)
 
     def statement_line(self) -> str:
         return shown(self.statement.tokens)

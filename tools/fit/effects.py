@@ -5,17 +5,19 @@ from dataclasses import replace
 from typing import Sequence
 
 from .draft import Draft
+from .dynamic import Dynamic
 from .facts import NEVER_IN_IPV4, first_word
 from .maps import Maps
 from .matches import Matches
 from .profile import takes
 from .sets import verdict_text
 from .tree import (
-    Bound,
     ChangeOfSet,
     Counter,
     Element,
+    Elements,
     Expression,
+    Joined,
     LeftOut,
     Log,
     Lookup,
@@ -34,6 +36,7 @@ class Effects:
 
     def __init__(self, draft: Draft, matches: Matches, maps: Maps) -> None:
         self.draft, self.matches, self.maps = draft, matches, maps
+        self.dynamic = Dynamic(draft)
 
     # verdicts
 
@@ -144,19 +147,6 @@ class Effects:
 
     # what bounds
 
-    def fit_bound(self, bound: Bound) -> None:
-        over = bound.over
-        if bound.name is not None:
-            found = self.draft.table.objects.get(bound.name)
-            if found is None or found.what != bound.kind:
-                raise Missing(f"there is no {bound.kind} {bound.name}")
-            over = any(it.text == "over" for it in found.body)
-        way = self.draft.way(bound.kind)
-        passes = (way == "under") != bool(over)
-        self.draft.guess(bound.kind, way, "always" if passes else self.draft.never())
-        if not passes:
-            self.draft.put(self.draft.never())  # what follows is told all the same
-
     def fit_dynamic(self, change: ChangeOfSet) -> None:
         """A rule that changes a set: it goes on where the key has a value, and where its bounds hold."""
         name = change.name
@@ -171,8 +161,17 @@ class Effects:
         else:
             self.draft.tell("outcome", "left out", f"what is in {name} isn't shown")
         self.draft.keep_tests(change.key, change.data)
-        for bound in change.bounds:
-            self.fit_bound(bound)
+        if change.word != "delete":
+            self.dynamic.fit_bounds(change, lambda listed: self.ask_for(change.key, listed))
+
+    def ask_for(self, key: Expression, listed: Sequence[Element]) -> None:
+        """A match for the keys of some elements."""
+        if isinstance(key, Selector):
+            self.matches.fit_match(key, "", Elements(tuple(listed)))
+        elif isinstance(key, Joined):
+            self.maps.joined.match_joined(key, "", Elements(tuple(listed)))
+        else:
+            raise NotFitted("bounds of what is listed, by what nftrun doesn't read")
 
     def find_key(self, key: Expression, elements: Sequence[Element]) -> None:
         """The rule goes on where one of the elements has the key."""

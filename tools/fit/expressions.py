@@ -38,11 +38,15 @@ CALCULATIONS = (
 )
 COMPARISONS = {"eq": "==", "ne": "!=", "lt": "<", "gt": ">", "le": "<=", "ge": ">="}
 OPTION_FIELDS = set("kind length size count left right tsval tsecr ptr type value addr".split())
+LONGEST_NUMBER = 20  # of its digits, as many as 2^64 has
 VALUES = ("number", "address", "six", "mac", "time", "word", "string", "wild")
 
 
 def as_number(text: str) -> int:
-    """nft(8) reads a number with a leading zero as octal, nftrun not at all."""
+    """nft(8) reads a number with a leading zero as octal, nftrun not at all; neither one of more than 64 bits."""
+    digits = text.removeprefix("0x").lstrip("0")
+    if len(digits) > LONGEST_NUMBER:
+        raise NotFitted(f"`{text[:LONGEST_NUMBER]}..` is a number of more than 64 bits")
     if len(text) > 1 and text[0] == "0" and text.isdigit():
         raise NotFitted(f"`{text}` is a number with a leading zero")
     return int(text, 0)
@@ -181,6 +185,7 @@ class ExpressionReader:
                 while self.peek().kind in ("number", "time", "word", "mark") and not self.has(
                     ",", "}", ":", "timeout", "expires", "comment"
                 ):
+                    found += ["over"] if self.has("over") else []
                     self.at += 1
             else:
                 return found
@@ -335,6 +340,8 @@ class ExpressionReader:
         if self.has("@") and not self.has(",", ahead=2):
             self.take()
             return operator, Named(self.name())
+        if left == Selector("meta priority") and self.peek().kind == "number" and self.has(":", ahead=1):
+            return operator, self.handle()
         right = self.listed()
         if self.skip("/"):
             right = Masked(right, self.listed())
@@ -344,6 +351,12 @@ class ExpressionReader:
                 parts.append(self.part())
             right = Elements((Element(tuple(parts), None, ()),))
         return operator, right
+
+    def handle(self) -> One:
+        """The number of a class of traffic control, `1:1`."""
+        major = self.number()
+        self.take("mark", ":")
+        return One(Value("number", hex(major << 16 | self.number())))
 
     def listed(self) -> Expression:
         items = [self.constant()]

@@ -162,13 +162,15 @@ TRANSPORTS = {
 @dataclass(frozen=True)
 class Fact:
     """What is known of a selector: its value, and why; `assumption` is the guess that it rests on, `needs` the match
-    that nft(8) puts before it, `words` those of its values."""
+    that nft(8) puts before it, `words` those of its values, `other` its value where the guess is turned: where that is
+    None, each answer is turned."""
 
     value: int
     assumption: str | None
     why: str
     needs: str = ""
     words: Mapping[str, int] = field(default_factory=dict)
+    other: int | None = None
 
 
 ETHER_TYPES = {"ip": 0x0800, "arp": 0x0806, "ip6": 0x86DD, "vlan": 0x8100, "8021q": 0x8100}
@@ -213,8 +215,31 @@ KNOWN = {
     "meta iiftype": Fact(1, "meta", "every interface is Ethernet", "", LINK_TYPES),
     "meta oiftype": Fact(1, "meta", "every interface is Ethernet", "", LINK_TYPES),
     "meta rtclassid": Fact(0, "route", "no route has a realm"),
+    "rt classid": Fact(0, "route", "no route has a realm"),
     "meta priority": Fact(0, "meta", "every packet has priority 0"),
+    "tcp doff": Fact(5, "header", "no TCP packet has options"),
+    "meta random": Fact(0, "random", "the number that is drawn is the first one", other=(1 << 32) - 1),
+    "meta cpu": Fact(0, "random", "the first processor takes every packet"),
+    **{
+        f"ct {way}{what}": Fact(number if way != "reply " else 0, "ct", "connections are at their first packet")
+        for way in ("", "original ", "reply ")
+        for what, number in (("packets", 1), ("bytes", 64), ("avgpkt", 64))
+    },
 }
+# how wide fields are of which nothing is known: a match for all of their values always holds
+FIELD_WIDTHS = {
+    **{f"tcp {it}": 32 for it in ("sequence", "ackseq")},
+    **{f"tcp {it}": 16 for it in ("window", "checksum", "urgptr")},
+    **{f"{header} {it}": 16 for header in ("sctp", "dccp", "udplite") for it in ("sport", "dport")},
+    **{f"icmp {it}": 16 for it in ("checksum", "id", "sequence", "mtu")},
+    **{f"{header} {it}": 32 for header in ("ah", "esp") for it in ("spi", "sequence")},
+    **{name: 32 for name in ("icmp gateway", "sctp vtag", "sctp checksum", "meta sdif", "ct id")},
+    **{name: 16 for name in ("udp length", "udp checksum", "ip id", "ip checksum", "udplite checksum", "gre protocol")},
+    **{name: 16 for name in ("udplite csumcov", "igmp checksum", "comp cpi", "ah reserved")},
+    **{name: 8 for name in ("igmp type", "igmp mrt", "ah hdrlength", "comp flags")},
+    "tcp reserved": 4,
+}
+OPTIONS = ("tcp option", "ip option", "sctp chunk", "dccp option")  # of which packets are assumed to have none
 # of all other selectors: by the selector or its first word, which assumption is made
 UNKNOWN = {
     "fib": "fib",

@@ -2,16 +2,32 @@
 from __future__ import annotations
 
 from dataclasses import dataclass, replace
-from typing import TYPE_CHECKING, Iterator
+from typing import TYPE_CHECKING, Callable, Iterable, Iterator
 
 from .facts import CHAIN_HOOKS, MARKS
 from .marks import Marks
 from .order import Order
+from .protocols import Protocols
 from .rules import RuleFitter, marks_read
 from .scanner import shown
 from .sets import Sets
 from .statements import RuleReader
-from .tree import Chain, ChangeOfSet, Match, NotFitted, Rule, Setting, Table, Verdict, VerdictMap, counters_in, names_in
+from .tree import (
+    Chain,
+    ChangeOfSet,
+    Match,
+    NotFitted,
+    Rule,
+    Setting,
+    Table,
+    Untracked,
+    Verdict,
+    VerdictMap,
+    What,
+    counters_in,
+    names_in,
+    selectors_in,
+)
 
 if TYPE_CHECKING:
     from .assumptions import Assumptions
@@ -31,6 +47,17 @@ class FittedRule:
     old_number: int
     rule: Rule
     counters: tuple[int, ...]
+
+
+def selectors_written(it: What) -> list[str]:
+    """What a statement sets."""
+    return [it.left.name] if isinstance(it, Setting) else []
+
+
+def selectors_asked(it: What) -> list[str]:
+    """What a statement reads."""
+    parts = (it.operand,) if isinstance(it, Setting) else (it,)
+    return [selector.name for selector in selectors_in(parts)]
 
 
 class Fitter:
@@ -63,6 +90,11 @@ class Fitter:
             for _, _, rule in self.rules()
             for it in rule.statements
         )
+        self.has_untracked = any(
+            isinstance(it.what, Untracked) for _, _, rule in self.rules() for it in rule.statements
+        )
+        self.protocols = Protocols(self)
+        self.written, self.asked = self.places(selectors_written), self.places(selectors_asked)
         self.order.settle()
         return "\n".join(self.table_text(table) for table in self.tables.values())
 
@@ -71,6 +103,17 @@ class Fitter:
             for chain in table.chains.values():
                 for rule in chain.rules:
                     yield table, chain, rule
+
+    def places(self, find: Callable[[What], Iterable[str]]) -> dict[str, list[str]]:
+        """Of selectors that are found in statements the places of these, each once."""
+        found: dict[str, list[str]] = {}
+        for _, _, rule in self.rules():
+            for it in rule.statements:
+                for name in find(it.what):
+                    where = self.changes_place(rule.token)
+                    found.setdefault(name, [])
+                    found[name] += [where] if where not in found[name] else []
+        return found
 
     def leave_out_tables(self) -> None:
         for key, table in list(self.tables.items()):
@@ -113,7 +156,7 @@ class Fitter:
         inner = Chain(f"fitted_{count}", rule.token)
         inner.made_for = chain.made_for or (chain, number)
         braced = verdict.target if isinstance(verdict.target, tuple) else ()
-        inner.rules = [Rule(tokens, shown(tokens)) for tokens in braced]
+        inner.rules = [Rule(tokens, shown(tokens), rule.moment) for tokens in braced]
         table.chains[inner.name] = inner
         self.changes.tell(
             rule.token, "same", f"{verdict.word} {{ .. }}", f"{verdict.word} {inner.name}", "a chain of its own"
@@ -145,7 +188,9 @@ class Fitter:
                     if chain and chain.name not in seen:
                         seen.add(chain.name)
                         chain.hooks.add(base.base.hook)
-                        chain.is_early |= self.order.is_early(base)
+                        is_early = self.order.is_early(base)
+                        chain.is_early |= is_early
+                        chain.is_late |= not is_early
                         for rule in chain.rules:
                             todo += self.targets(table, rule)
 

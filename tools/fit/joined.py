@@ -5,9 +5,11 @@ from typing import Callable, Iterable, List, Sequence, Tuple
 
 from .assumptions import ASSUMPTIONS
 from .draft import Draft
-from .facts import KNOWN, LONGEST_KEY, TYPES, assumption_of
+from .exits import EXITS, WITHOUT, keys_without
+from .facts import LONGEST_KEY, TYPES, assumption_of
 from .matches import Matches, rules_text, shown
 from .numbers import holds, name_of, range_of, spell_number, spell_part, width_of
+from .ports import OTHERS, PORTS, most_hold
 from .profile import takes
 from .sets import parts_are_plain
 from .tree import (
@@ -42,12 +44,64 @@ class JoinedKeys:
         if operator not in ("", "==", "!=", "!"):
             raise NotFitted(f"`{operator}` with joined keys")
         is_not = operator in ("!=", "!")
+        listed = self.listed(right)
+        if self.decided_otherwise(left, listed, is_not):
+            return
+        if listed is not None and any(it.name in PORTS for it in selectors_of(left)):
+            self.match_ports(left, listed, is_not, lambda: self.match_read(left, operator, right))
+        else:
+            self.match_read(left, operator, right)
+
+    def listed(self, right: Expression) -> Sequence[Element] | None:
+        """The elements with which a match compares, or None where rules add to them, or there are none."""
+        compared = self.matches.unread.elements_named(right) if isinstance(right, Named) else right
+        return compared.items if isinstance(compared, Elements) else None
+
+    def decided_otherwise(self, left: Joined, listed: Sequence[Element] | None, is_not: bool) -> bool:
+        """Whether what Linux reads otherwise decided the match: an output interface where there is none."""
+        if self.draft.chain.is_early and any(it.name == "ct state" for it in selectors_of(left)):
+            raise NotFitted("ct state in joined keys, before connections are looked for")
+        if any(it.name == "ct status" for it in selectors_of(left)):
+            raise NotFitted("ct status in joined keys, where Linux compares with bits that nftrun hasn't")
+        places = [index for index, it in enumerate(selectors_of(left)) if it.name in EXITS]
+        if not places or listed is None or any(len(it.key) != len(left.parts) for it in listed):
+            return False
+        without = keys_without(listed, places)
+        if without and not is_not and self.matches.exits.hooks & WITHOUT:
+            raise NotFitted("joined keys with any output interface, on prerouting and input, where there is none")
+        return is_not and not without and self.matches.exits.match(True)
+
+    def match_ports(
+        self, left: Joined, listed: Sequence[Element], is_not: bool, fit: Callable[[], None]
+    ) -> None:
+        """`th dport` in joined keys: of other protocols too Linux reads bytes."""
+        ports = self.matches.ports
+        if not ports.may_come():
+            fit()
+            return
+        names = [it.name for it in selectors_of(left)]
+        places = [index for index, it in enumerate(names) if it in PORTS]
+        if any(len(it.key) != len(names) for it in listed) or any(it not in TYPES for it in names):
+            raise NotFitted("keys of another number of parts, or of what nftrun doesn't read, beside th")
+        wide = [it.key for it in listed if all(most_hold("", it.key[index]) for index in places)]
+        usual = bool(wide) != is_not
+        others = [tuple(part for index, part in enumerate(key) if index not in places) for key in wide]
+        if not wide:
+            others = [tuple(part for index, part in enumerate(it.key) if index not in places) for it in listed]
+        rest = [it for it in names if it not in PORTS]
+        ways = self.ways(rest, list(dict.fromkeys(others))) if not is_not else [[]]
+        ports.decide(usual, fit, [[self.draft.piece(OTHERS), *way] for way in ways])
+
+    def match_read(self, left: Joined, operator: str, right: Expression) -> None:
+        """A match of what nftrun reads as Linux does."""
+        is_not = operator in ("!=", "!")
         if isinstance(right, Named):
             found = self.draft.table.sets.get(right.name)
             if found is None:
                 raise Missing(f"there is no set {right.name}")
             if self.matches.is_hit(right.name, operator):
                 return
+            self.matches.dynamic.fit_found(found, is_not)
             names = self.joined_names(left, [it.key for it in self.draft.fitter.sets.kept(found)])
             if names is not None and self.draft.fitter.sets.is_plain(found) and len(names[0]) == len(left.parts):
                 self.draft.put_spelled(
@@ -96,7 +150,9 @@ class JoinedKeys:
                 raise NotFitted("arithmetic within joined keys")
             if not self.matches.is_in_ipv4(it):
                 return None
-            names.append(it.name)
+            if it.name == "ct protocol":
+                self.matches.unread.match_protocol("!=", lambda: None)
+            names.append("meta l4proto" if it.name == "ct protocol" else it.name)
         if any(len(key) != len(names) for key in keys):
             raise NotFitted("keys of another number of parts")
         for name in [it for it in names if it not in TYPES]:
@@ -105,8 +161,8 @@ class JoinedKeys:
         return names, list(dict.fromkeys(keys))
 
     def without(self, index: int, name: str, keys: Sequence[Key]) -> list[Key]:
-        fact, assumption = KNOWN.get(name), assumption_of(name)
-        self.matches.keep_header(name)
+        fact, assumption = self.matches.unread.fact_of(name), assumption_of(name)
+        self.matches.unread.keep_header(name)
         if fact is not None and fact.needs:
             self.draft.put(fact.needs)
         if fact is not None and not fact.assumption:
@@ -187,6 +243,10 @@ class JoinedKeys:
 
     def choose(self, left: Joined, elements: Sequence[Element], then: Then) -> None:
         """A map over joined keys: rules for each thing that it gives."""
+        keys = [it.key for it in elements]
+        self.matches.ports.fit_map(left, keys, lambda: self.choose_read(left, elements, then))
+
+    def choose_read(self, left: Joined, elements: Sequence[Element], then: Then) -> None:
         found = self.joined_names(left, [it.key for it in elements])
         if found is None:
             return
@@ -209,7 +269,9 @@ class JoinedKeys:
         self.draft.tell(
             "same",
             rules_text(len(ways)) if ways else self.draft.never(),
-            "nftrun has no maps over joined keys" if ways else "the map is empty",
+            "nftrun has no maps over joined keys"
+            if ways
+            else "it has no element that packets meet" if elements else "the map is empty",
         )
         self.draft.split(ways, names)
 

@@ -4,11 +4,14 @@ from __future__ import annotations
 from typing import Sequence
 
 from .assumptions import ASSUMPTIONS
+from .connections import IN_ANY_DIRECTION, INVALID, are_known, is_state
 from .draft import Draft
-from .facts import KNOWN, MARKS, TYPES, assumption_of
+from .exits import EXITS
+from .facts import FIELD_WIDTHS, KNOWN, MARKS, TYPES, assumption_of
 from .joined import JoinedKeys, Then
 from .matches import Matches, flag_names, rules_text, shown
-from .numbers import constant_number, holds, spell_part
+from .numbers import constant_number, holds, spell_part, usual_element
+from .ports import PORTS
 from .sets import parts_are_plain, verdict_text
 from .tree import (
     Anything,
@@ -20,6 +23,7 @@ from .tree import (
     Joined,
     Mapping,
     Missing,
+    Named,
     NotFitted,
     Piece,
     Selector,
@@ -47,6 +51,7 @@ class Maps:
             elements, plain = sets.kept(found), sets.is_plain(found) and not sets.by_name(found)
             if (self.draft.table.family, self.draft.table.name, mapping.name) in self.draft.fitter.added_to:
                 self.guess_of_map(mapping.name)
+            self.matches.dynamic.fit_found(found, False)
         if any(isinstance(it.data, Verdict) != verdicts for it in elements):
             raise NotFitted("a verdict where a value is wanted, or the reverse")
         return elements, plain
@@ -56,6 +61,19 @@ class Maps:
         if way != "listed":
             raise NotFitted(f"which element of the map {name} it is can't be known: dynamic={way}")
         self.draft.guess("dynamic", way, "by what is listed")
+
+    def tell_empty(self, mapping: Mapping) -> None:
+        """A map that gives nothing: no packet passes."""
+        found = self.draft.table.sets.get(mapping.name) if isinstance(mapping, Named) else None
+        why = "the map is empty"
+        if found is not None and found.elements:
+            why = "the elements of the map have run out, as asked: timeout=gone"
+        elif found is not None and (self.draft.table.family, self.draft.table.name, found.name) in (
+            self.draft.fitter.added_to
+        ):
+            why = "the map lists nothing, and what rules add to it isn't kept"
+        self.draft.tell("same", self.draft.never(), why)
+        self.draft.die()
 
     # verdicts
 
@@ -77,8 +95,19 @@ class Maps:
             self.draw(left, elements, self.ending)
         elif isinstance(left, Calculation):
             self.choose_masked(left, elements)
-        elif not isinstance(left, Selector):
+        elif isinstance(left, Selector):
+            self.choose(left, mapping, elements, plain)
+        else:
             raise NotFitted("a statement that isn't known here")
+
+    def choose(self, left: Selector, mapping: Mapping, elements: Sequence[Element], plain: bool) -> None:
+        """A map of verdicts by one selector."""
+        if left.name in PORTS:
+            self.matches.ports.fit_vmap(
+                elements, self.ending, lambda: self.choose_plain(left, mapping, elements, plain)
+            )
+        elif left.name in EXITS and self.choose_without_exit(elements):
+            return
         elif left.name in TYPES:
             self.choose_plain(left, mapping, elements, plain)
         else:
@@ -90,8 +119,9 @@ class Maps:
     def choose_plain(self, left: Selector, mapping: Mapping, elements: Sequence[Element], plain: bool) -> None:
         parts = [it.key[0] for it in elements if not isinstance(it.key[0], Anything)]
         name, kind = self.matches.by_name(left.name, parts)
-        if kind == "ct_status":
-            self.matches.warn_of_status()
+        if kind == "ct_status" or left.name == "ct state" and self.draft.chain.is_early:
+            self.choose_otherwise(left.name, elements)
+            return
         if any(len(it.key) != 1 for it in elements):
             raise NotFitted("keys of another number of parts")
         rest = [it for it in elements if isinstance(it.key[0], Anything)]
@@ -99,8 +129,7 @@ class Maps:
         if not isinstance(mapping, Elements) and plain and not rest:
             text = f"{shown(name)} vmap @{mapping.name}"
         elif not elements:
-            self.draft.tell("same", self.draft.never(), "the map is empty")
-            self.draft.die()
+            self.tell_empty(mapping)
             return
         else:
             listed = ", ".join(f"{spell_part(it.key[0], kind)} : {verdict_text(it.verdict)}" for it in named)
@@ -110,6 +139,32 @@ class Maps:
             return
         words = not isinstance(mapping, Elements) or all(parts_are_plain(it.key, (kind,)) for it in elements)
         self.draft.put_spelled(text, [name], "end", plain=words and self.matches.stays(name))
+
+    def choose_without_exit(self, elements: Sequence[Element]) -> bool:
+        """By the output interface where there is none: Linux takes `*`. Answers whether that decided it."""
+        exits = self.matches.exits
+        rest = [it for it in elements if isinstance(it.key[0], Anything)]
+        if not rest or not exits.match(True):
+            return False
+        self.draft.split([self.ending(it) for it in rest[:1]])
+        return True
+
+    def choose_otherwise(self, name: str, elements: Sequence[Element]) -> None:
+        """What Linux compares otherwise: the whole of `ct status`, and `ct state` before connections are looked for."""
+        rest = [it for it in elements if isinstance(it.key[0], Anything)]
+        named = [it for it in elements if it not in rest]
+        if name == "ct status":
+            if not are_known(named):
+                raise NotFitted("bits of ct status in a map that nftrun hasn't")
+            self.draft.put(IN_ANY_DIRECTION)
+            chosen, why = rest[:1], "Linux compares with the whole value, which has more bits wherever one is set"
+        else:
+            if self.draft.chain.is_late or self.draft.fitter.has_untracked:
+                raise NotFitted("ct state in a map, before connections are looked for and behind that, or untracked")
+            chosen = ([it for it in named if is_state(INVALID, it)] or rest)[:1]
+            why = "before connections are looked for Linux reads ct state as invalid"
+        self.draft.tell("same", verdict_text(chosen[0].verdict) if chosen else self.draft.never(), why)
+        self.draft.split([self.ending(it) for it in chosen])
 
     def catch_all(self, name: str, kind: str, named: Sequence[Element], rest: Element, text: str) -> None:
         """`*` in a map is a rule behind it, for all that the map hasn't."""
@@ -129,20 +184,47 @@ class Maps:
         if name.startswith("fib "):
             self.choose_by_route(name, elements)
             return
-        fact, assumption = KNOWN.get(name), assumption_of(name)
-        self.matches.keep_header(name)
-        chosen = [it for it in elements if holds(fact.value, "", it.key[0], "32", fact.words)][:1] if fact else []
-        if fact is not None and not fact.assumption:
+        if name == "ct protocol":
+            key = Selector("meta l4proto")
+            self.matches.unread.match_protocol(
+                "!=", lambda: self.choose_plain(key, Elements(tuple(elements)), elements, False)
+            )
+            return
+        fact, assumption = self.matches.unread.fact_of(name), assumption_of(name)
+        self.matches.unread.keep_header(name)
+        chosen = self.known_elements(name, elements) if fact is not None or name in FIELD_WIDTHS else []
+        if fact is not None and not fact.assumption and not self.matches.unread.writers(name):
             self.draft.tell("same", verdict_text(chosen[0].verdict) if chosen else self.draft.never(), fact.why)
             if fact.needs:
                 self.draft.put(fact.needs)
         else:
             assumption = fact.assumption or assumption if fact else assumption
             way = self.draft.way(assumption)
-            if way != ASSUMPTIONS[assumption].ways[0] or fact is None and way == "hit":
-                chosen = [it for it in elements if it not in chosen][:1]
-            self.draft.guess(assumption, way, verdict_text(chosen[0].verdict) if chosen else self.draft.never())
+            is_usual = way == ASSUMPTIONS[assumption].ways[0]
+            if not is_usual or fact is None and way == "hit":
+                chosen = self.other_elements(name, elements, chosen)
+            known = self.matches.unread.known(name, fact.why if fact else None)
+            other = ASSUMPTIONS[assumption].ways[1]
+            why = f"assumed: {known}; --assume {assumption}={other} takes the other" if known and is_usual else None
+            to = verdict_text(chosen[0].verdict) if chosen else self.draft.never()
+            self.draft.guess(assumption, way, to, why=why)
         self.draft.split([self.ending(it) for it in chosen])
+
+    @staticmethod
+    def known_elements(name: str, elements: Sequence[Element]) -> list[Element]:
+        """The element that the usual value has, or most of the values of a field."""
+        fact = KNOWN.get(name)
+        if fact is not None:
+            return [it for it in elements if holds(fact.value, "", it.key[0], "32", fact.words)][:1]
+        return usual_element(elements, str(FIELD_WIDTHS[name]))[:1] if name in FIELD_WIDTHS else []
+
+    @staticmethod
+    def other_elements(name: str, elements: Sequence[Element], usual: Sequence[Element]) -> list[Element]:
+        """The element that another value has."""
+        fact = KNOWN.get(name)
+        if fact is not None and fact.other is not None:
+            return [it for it in elements if holds(fact.other, "", it.key[0], "32", fact.words)][:1]
+        return [it for it in elements if it not in usual][:1]
 
     def choose_by_route(self, name: str, elements: Sequence[Element]) -> None:
         keys, result = name[4:].rsplit(" ", 1)

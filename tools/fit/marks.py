@@ -5,7 +5,7 @@ from typing import TYPE_CHECKING
 
 from .facts import MARKS
 from .numbers import calculated, range_of
-from .tree import Calculation, Drawn, Elements, Expression, Lookup, Mapping, One, Selector, Setting, Table
+from .tree import Calculation, Drawn, Elements, Expression, Lookup, Mapping, NotFitted, One, Selector, Setting, Table
 
 if TYPE_CHECKING:
     from .fitter import Fitter
@@ -40,6 +40,12 @@ class Marks:
 
     def evaluate(self, table: Table, it: Expression) -> set[int] | None:
         """The numbers that an operand may have, or None."""
+        try:
+            return self.numbers(table, it)
+        except NotFitted:
+            return None  # told where the rule is fitted
+
+    def numbers(self, table: Table, it: Expression) -> set[int] | None:
         if isinstance(it, Selector):
             return self.values.get(it.name)
         if isinstance(it, One):

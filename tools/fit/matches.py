@@ -4,11 +4,24 @@ from __future__ import annotations
 from ipaddress import IPv4Address
 from typing import Sequence
 
-from .assumptions import ASSUMPTIONS
+from .connections import IN_ANY_DIRECTION, Connections, are_known, bits_of
 from .draft import Draft
+from .dynamic import Dynamic
+from .exits import EXITS, OF_EXITS, Exits, holds_without
 from .facts import BITS, KNOWN, MARKS, NEVER_IN_IPV4, SHORT, TCP_FLAGS, TYPES, WORDS, assumption_of, first_word
 from .network import Network, spelled_networks
-from .numbers import bits_named, constant, constant_number, holds, name_of, number_of, spell_part
+from .numbers import (
+    bits_named,
+    constant,
+    constant_number,
+    holds,
+    is_ordered,
+    name_of,
+    number_of,
+    range_for,
+    spell_part,
+)
+from .ports import PORTS, OtherPorts
 from .sets import parts_are_plain
 from .tree import (
     Anything,
@@ -18,7 +31,6 @@ from .tree import (
     Elements,
     Expression,
     Listed,
-    Mapping,
     Masked,
     Match,
     Missing,
@@ -33,9 +45,11 @@ from .tree import (
     Value,
     VerdictMap,
 )
+from .unread import Unread
 
 OWNERS = ("meta skuid", "meta skgid", "meta cgroup")
 WITHOUT_OWNER = {"prerouting", "forward", "postrouting", "output"}
+ORDERS = ("<", ">", "<=", ">=")
 YES_NO = (One(Value("word", "missing")), One(Value("word", "exists")))
 
 
@@ -43,7 +57,9 @@ class Matches:
     """Fits matches of one selector."""
 
     def __init__(self, draft: Draft) -> None:
-        self.draft = draft
+        self.draft, self.connections = draft, Connections(draft)
+        self.ports, self.exits, self.unread = OtherPorts(draft), Exits(draft), Unread(draft)
+        self.dynamic = Dynamic(draft)
 
     def fit_match(self, left: Expression, operator: str, right: Expression) -> None:
         if isinstance(left, Drawn):
@@ -75,60 +91,14 @@ class Matches:
             self.draft.tell("same", self.draft.never(), "a packet that is forwarded is of no process")
             self.draft.die()
             return
-        fact = KNOWN.get(name)
-        if isinstance(right, Named):
-            right = self.elements_named(right)
-        self.keep_header(name)
-        if fact is None or name == "ct zone" and self.draft.fitter.sets_zones:
-            self.guess_match(assumption_of(name), self.usual_answer(assumption_of(name), operator))
+        if name in OF_EXITS and self.exits.are_none():
+            self.draft.tell("same", self.draft.never(), "on prerouting and input no packet has an output interface")
+            self.draft.die()
             return
-        answer = holds(fact.value, operator, right, "32", fact.words)
-        if answer is None and fact.assumption:
-            self.guess_match(fact.assumption, self.usual_answer(fact.assumption, operator))
-        elif answer is None:
-            raise NotFitted("a value that isn't known")
-        elif fact.assumption:
-            self.guess_match(fact.assumption, answer, fact.why)
+        if name == "ct protocol":
+            self.unread.match_protocol(operator, lambda: self.match_plain("meta l4proto", operator, right))
         else:
-            to = (fact.needs or "left out, as it always holds") if answer else self.draft.never()
-            self.draft.tell("same", to, fact.why)
-            if fact.needs:
-                self.draft.put(fact.needs)
-            if not answer:
-                self.draft.die()
-
-    def elements_named(self, named: Named) -> Mapping:
-        """What a named set has, where no rule adds to it."""
-        found = self.draft.table.sets.get(named.name)
-        if found is None:
-            raise Missing(f"there is no set {named.name}")
-        if (self.draft.table.family, self.draft.table.name, named.name) in self.draft.fitter.added_to:
-            return named
-        return Elements(tuple(self.draft.fitter.sets.kept(found)))
-
-    def keep_header(self, name: str) -> None:
-        """The protocol that the match asks for first, or the connection that it reads."""
-        if name not in KNOWN or not KNOWN[name].needs:
-            self.draft.keep_tests(Selector(name))
-
-    @staticmethod
-    def usual_answer(assumption: str, operator: str) -> bool:
-        """`miss`: the value isn't the one that is named; `hit`: it is."""
-        return (ASSUMPTIONS[assumption].ways[0] == "hit") != (operator in ("!=", "!"))
-
-    def guess_match(self, assumption: str, usual: bool, fact: str | None = None) -> None:
-        """A match that nobody can decide: `usual` is its answer by the usual way."""
-        way = self.draft.way(assumption)
-        is_usual = way == ASSUMPTIONS[assumption].ways[0]
-        answer = usual if is_usual else not usual
-        why = (
-            f"assumed: {fact}; --assume {assumption}={ASSUMPTIONS[assumption].ways[1]} takes the other"
-            if fact and is_usual
-            else None
-        )
-        self.draft.guess(assumption, way, "always" if answer else self.draft.never(), why=why)
-        if not answer:
-            self.draft.put(self.draft.never())  # what follows is told all the same
+            self.unread.match(name, operator, right)
 
     def match_drawn(self, drawn: Drawn, operator: str, right: Expression) -> None:
         number, way = self.number_drawn(drawn)
@@ -170,10 +140,9 @@ class Matches:
         elif result in ("oif", "oifname") and network and set(parts) == {"saddr", "iif"} and right in YES_NO:
             self.match_reverse_path(self.guess_of_route(operator, right))
         else:
-            self.guess_match(
-                "fib",
-                self.usual_answer("fib", operator) if right not in YES_NO else self.guess_of_route(operator, right),
-            )
+            is_route = right in YES_NO
+            usual = self.guess_of_route(operator, right) if is_route else self.unread.usual_answer("fib", operator)
+            self.unread.guess_match("fib", usual)
 
     @staticmethod
     def guess_of_route(operator: str, right: Expression) -> bool:
@@ -239,13 +208,22 @@ class Matches:
     # what nftrun reads
 
     def match_plain(self, name: str, operator: str, right: Expression) -> None:
+        compared = self.unread.elements_named(right) if isinstance(right, Named) else right
+        known = None if isinstance(compared, Named) else compared
+        if name in EXITS and known is not None and self.exits.match(holds_without(operator, known)):
+            return
+        if name in PORTS:
+            self.ports.fit_match(operator, known, lambda: self.match_read(name, operator, right))
+        else:
+            self.match_read(name, operator, right)
+
+    def match_read(self, name: str, operator: str, right: Expression) -> None:
+        """A match of what nftrun reads as Linux does."""
         kind, reading = TYPES[name], ""
         if name == "ct state" and self.draft.chain.is_early:
-            self.draft.told.warn(
-                self.draft.rule.token,
-                "before connections are looked for (priority -200), Linux reads ct state as invalid, nftrun as nothing:"
-                " no match on it holds",
-            )
+            compared = self.unread.elements_named(right) if isinstance(right, Named) else right
+            if not isinstance(compared, Named) and self.connections.match_early_state(operator, compared):
+                return
         if kind in ("tcp_flag", "ct_status") and isinstance(right, Elements) and len(right.items) == 1:
             right = right.items[0].key[0]
             operator = "!=" if operator == "!=" else ""
@@ -269,8 +247,13 @@ class Matches:
             raise NotFitted("a value that isn't known")
         name, kind = self.by_name(name, [right])
         operator = "!=" if operator == "!" else operator
+        plain = self.stays(name) and parts_are_plain([right], [kind])
+        if operator in ORDERS and not is_ordered(kind):
+            operator, right, plain = "", range_for(operator, right, kind), False
+        elif operator in ORDERS and not isinstance(right, One):
+            raise NotFitted(f"`{operator}` with a range")
         sign = "" if operator in ("", "==") else operator + " "
-        self.draft.put_spelled(f"{shown(name)} {sign}{spell_part(right, kind)}", [name], plain=self.stays(name))
+        self.draft.put_spelled(f"{shown(name)} {sign}{spell_part(right, kind)}", [name], plain=plain)
 
     def match_elements(self, selector: Selector, operator: str, elements: Sequence[Element]) -> None:
         name = selector.name
@@ -279,13 +262,14 @@ class Matches:
         parts = [it.key[0] for it in elements]
         if any(len(it.key) != 1 for it in elements):
             raise NotFitted("keys of another number of parts")
+        if TYPES[name] == "ct_status":
+            self.match_status_list(operator, elements)
+            return
         name, kind = self.by_name(name, parts)
         listed = ", ".join(spell_part(it, kind) for it in parts)
         if not listed:
             self.draft.die()
             return
-        if kind == "ct_status":
-            self.warn_of_status()
         plain = parts_are_plain(parts, [kind] * len(parts)) and self.stays(name)
         self.draft.put_spelled(
             f"{shown(name)} {'!= ' if operator in ('!=', '!') else ''}{{ {listed} }}", [name], plain=plain
@@ -299,8 +283,10 @@ class Matches:
             raise NotFitted(f"the set {named.name} has no place in nftrun's language")
         if self.is_hit(named.name, operator):
             return
+        self.dynamic.fit_found(found, operator in ("!=", "!"))
         if TYPES[name] == "ct_status":
-            self.warn_of_status()
+            self.match_status_list(operator, self.draft.fitter.sets.kept(found))
+            return
         new = (
             "meta " + name.split()[1] + "name"
             if TYPES[name] == "iface_index" and self.draft.fitter.sets.by_name(found)
@@ -352,7 +338,7 @@ class Matches:
         if kind == "tcp_flag":
             self.draft.put_spelled(self.flags_text(operator, right), reading=reading)
             return
-        words = self.bit_words(right)
+        words = bits_of(right)
         if kind == "ct_status" and any(it not in WORDS[kind] for it in words):
             self.match_unknown_status(operator, words)
             return
@@ -369,7 +355,8 @@ class Matches:
             self.match_unequal(name, words)
         elif operator in ("", "==", "!="):
             if kind == "ct_status" and operator == "==":
-                self.warn_of_status()
+                self.connections.compare_status(operator)
+                return
             sign = operator + " " if operator else ""
             self.draft.put_spelled(f"{name} {sign}{','.join(words)}", reading=reading)
         else:
@@ -377,11 +364,11 @@ class Matches:
 
     def match_unequal(self, name: str, words: Sequence[str]) -> None:
         """nft(8) compares with all the bits at once, which no packet's value equals: `!=` always holds."""
-        to = self.draft.always() if name == "ct state" else "ct direction { original, reply }"
+        to = self.draft.always() if name == "ct state" else IN_ANY_DIRECTION
         meant = f"{name} != {{ {', '.join(words)} }}" if name == "ct state" else f"{name} ! {','.join(words)}"
         why = "nft(8) compares with the whole value, so it always holds; nftrun would read `none of them`,"
         why += f" which nft(8) spells `{meant}`"
-        self.draft.tell("same", to, why, reads=True)
+        self.draft.tell("same", to, why)
         self.draft.put(to)
 
     def match_unknown_status(self, operator: str, words: Sequence[str]) -> None:
@@ -390,26 +377,18 @@ class Matches:
             way = self.draft.way("ct")
             to = f"ct status {','.join(known)}" if way == "miss" else "always"
             self.draft.guess("ct", way, to)
-            self.draft.put(to if way == "miss" else "ct direction { original, reply }")
+            self.draft.put(to if way == "miss" else IN_ANY_DIRECTION)
             return
-        self.draft.put("ct direction { original, reply }")
-        self.guess_match("ct", self.usual_answer("ct", operator))
+        self.draft.put(IN_ANY_DIRECTION)
+        self.unread.guess_match("ct", self.unread.usual_answer("ct", operator))
 
-    def warn_of_status(self) -> None:
-        self.draft.told.warn(
-            self.draft.rule.token, "Linux has more bits of ct status than nftrun, and compares all of them here"
-        )
-
-    @staticmethod
-    def bit_words(right: Expression) -> list[str]:
-        """The words of `a,b` or `a | b`."""
-        if isinstance(right, Listed):
-            return [word for it in right.items for word in Matches.bit_words(it)]
-        if isinstance(right, Calculation) and right.operator == "|":
-            return Matches.bit_words(right.left) + Matches.bit_words(right.right)
-        if isinstance(right, One) and right.value.kind == "word":
-            return [right.value.text]
-        raise NotFitted("a bit that isn't known")
+    def match_status_list(self, operator: str, elements: Sequence[Element]) -> None:
+        """A list of several values of `ct status`, or a named one."""
+        if are_known(elements):
+            self.connections.compare_status(operator)
+            return
+        self.draft.put(IN_ANY_DIRECTION)
+        self.unread.guess_match("ct", self.unread.usual_answer("ct", operator))
 
     @staticmethod
     def flags_text(operator: str, right: Expression) -> str:
@@ -528,13 +507,16 @@ class Matches:
 
     def match_masked_state(self, name: str, mask: Expression, operator: str, right: Expression) -> None:
         """`ct state & (established | related) != 0`."""
-        words = self.bit_words(mask)
+        words = bits_of(mask)
         if (
             any(it not in WORDS[TYPES[name]] for it in words)
             or holds(0, "", right, "32", {}) is not True
             or operator not in ("", "==", "!=")
         ):
             raise NotFitted(f"a mask of {name}")
+        if name == "ct state" and self.draft.chain.is_early:
+            if self.connections.match_early_state("" if operator == "!=" else "!", mask):
+                return
         text = f"{name} {','.join(words)}" if operator == "!=" else " ".join(f"{name} != {word}" for word in words)
         self.draft.tell("same", text, "one of them" if operator == "!=" else "none of them")
         self.draft.put(text)
@@ -551,13 +533,15 @@ class Matches:
             if not answer:
                 self.draft.die()
             return
-        self.keep_header(name)
+        self.unread.keep_header(name)
         fact = KNOWN.get(name)
         answer = holds(fact.value & mask, operator, right, "32", fact.words) if fact else None
+        assumption = assumption_of(name)
         if fact is not None and answer is not None:
-            self.guess_match(fact.assumption or "header", answer, fact.why)
+            self.unread.guess_match(fact.assumption or "header", answer, self.unread.known(name, fact.why))
         else:
-            self.guess_match(assumption_of(name), self.usual_answer(assumption_of(name), operator))
+            usual = self.unread.usual_answer(assumption, operator)
+            self.unread.guess_match(assumption, usual, self.unread.known(name, None))
 
 
 def shown(name: str) -> str:

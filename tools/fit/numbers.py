@@ -3,7 +3,7 @@ from __future__ import annotations
 
 import socket
 from ipaddress import IPv4Address
-from typing import Mapping
+from typing import Mapping, Sequence
 
 from .expressions import as_number, as_part
 from .facts import MORE_PROTOCOLS, MORE_SERVICES, PROTOCOLS, SERVICES, TCP_FLAGS, WIDTHS, WORDS
@@ -23,6 +23,8 @@ from .tree import (
 )
 
 NAMED = ("ifname", "iface_index")
+RANGED = ("ipv4_addr", "inet_service", "mark", "inet_proto", "icmp_type")  # types that have ranges
+ORDERED = ("ipv4_addr", "inet_service", "mark")  # types that `<` and the like compare
 
 
 def width_of(kind: str) -> int:
@@ -101,10 +103,9 @@ def spell_value(value: Value, kind: str) -> str:
             return value.text
         return spell_name(value.text)
     if value.kind == "number" and kind == "ipv4_addr":
-        return str(IPv4Address(as_number(value.text) & 0xFFFFFFFF))
+        return str(IPv4Address(as_number(fitting_number(value.text, kind))))
     if value.kind == "number":
-        as_number(value.text)
-        return value.text
+        return spell_bits(value.text, kind) if kind in ("ct_state", "ct_status") else fitting_number(value.text, kind)
     if value.kind == "address" and kind == "ipv4_addr":
         return str(address_of(value.text))
     if value.kind == "word" and value.text in WORDS.get(kind, {}):
@@ -114,6 +115,52 @@ def spell_value(value: Value, kind: str) -> str:
     if value.kind == "word" and kind == "inet_proto":
         return "ipv6-icmp" if value.text == "icmpv6" else str(protocol(value.text))
     raise NotFitted(f"`{value.text}` isn't a value of {kind}")
+
+
+def fitting_number(text: str, kind: str) -> str:
+    """A number as it is spelled, where it is one of a type."""
+    if as_number(text) >> width_of(kind):
+        raise NotFitted(f"`{text}` is too large for {type_text(kind)}")
+    return text
+
+
+def spell_bits(text: str, kind: str) -> str:
+    """The word for a number of a type whose values nftrun takes as words alone."""
+    words = bits_named(as_number(text), WORDS[kind])
+    if len(words) != 1 or words[0] not in WORDS[kind]:
+        raise NotFitted(f"`{text}` isn't a value of {kind} that nftrun has a word for")
+    return words[0]
+
+
+def type_text(kind: str) -> str:
+    return f"{kind} bits" if kind.isdigit() else kind
+
+
+def is_ordered(kind: str) -> bool:
+    """Whether nftrun compares values of a type by `<` and the like."""
+    return kind in ORDERED or kind.isdigit()
+
+
+def range_for(operator: str, right: Part, kind: str) -> Range:
+    """The range of the numbers for which an order holds, of a type that has ranges and no orders."""
+    number = number_of(right.value, kind) if isinstance(right, One) else None
+    if number is None or kind not in RANGED:
+        raise NotFitted(f"`{operator}` with a value of {kind}")
+    top = 2 ** width_of(kind) - 1
+    ends = {"<": (0, number - 1), "<=": (0, number), ">": (number + 1, top), ">=": (number, top)}
+    low, high = ends[operator]
+    if not 0 <= low <= high <= top:
+        raise NotFitted(f"no value of {kind} is `{operator} {number}`")
+    return Range(Value("number", str(low)), Value("number", str(high)))
+
+
+def spell_range(part: Range, kind: str) -> str:
+    if kind not in RANGED and not kind.isdigit():
+        raise NotFitted(f"a range of {kind}")
+    found = range_of(part, kind)
+    if found is not None and found[0] > found[1]:
+        raise NotFitted(f"the range {part.low.text}-{part.high.text} has its ends reversed")
+    return f"{spell_value(part.low, kind)}-{spell_value(part.high, kind)}"
 
 
 def spell_name(text: str) -> str:
@@ -128,14 +175,16 @@ def spell_part(part: Part, kind: str) -> str:
     if isinstance(part, One):
         return spell_value(part.value, kind)
     if isinstance(part, Range):
-        return f"{spell_value(part.low, kind)}-{spell_value(part.high, kind)}"
+        return spell_range(part, kind)
     if isinstance(part, Prefix) and kind == "ipv4_addr" and part.length <= 32:
         return f"{spell_value(part.value, kind)}/{part.length}"
     if kind in NAMED:
         raise NotFitted("a range of interfaces")
     found = range_of(part, kind)
-    if found is None:
-        raise NotFitted(f"a value that isn't of {kind}")
+    if found is None and isinstance(part, Prefix):
+        raise NotFitted(f"`{part.value.text}/{part.length}` is no prefix of {type_text(kind)}")
+    if found is None or kind not in RANGED and not kind.isdigit():
+        raise NotFitted(f"a value that isn't of {type_text(kind)}")
     return f"{spell_number(found[0], kind)}-{spell_number(found[1], kind)}"
 
 
@@ -165,6 +214,38 @@ def holds(
     if operator in orders:
         return orders[operator] if low == high else None
     return (low <= number <= high) == (operator not in ("!=", "!"))
+
+
+def count_of(part: Part, kind: str) -> int:
+    """How many numbers a part stands for; one where that isn't known."""
+    ends = range_of(part, kind)
+    return 1 if ends is None else ends[1] - ends[0] + 1
+
+
+def share(operator: str, right: Expression, kind: str) -> float:
+    """The share of all numbers of a type for which a match holds, from 0 to 1."""
+    whole = 1 << width_of(kind)
+    if isinstance(right, Listed):
+        right = Elements(tuple(Element((as_part(it),), None, ()) for it in right.items))
+    if isinstance(right, Elements):
+        count = sum(count_of(it.key[0], kind) for it in right.items)
+    elif not isinstance(right, (One, Range, Prefix, Anything)):
+        count = 1
+    elif operator in ("<", ">", "<=", ">="):
+        ends = range_of(right, kind) or (0, 0)
+        count = {"<": ends[0], "<=": ends[0] + 1, ">": whole - 1 - ends[1], ">=": whole - ends[1]}[operator]
+        return count / whole
+    else:
+        count = count_of(right, kind)
+    return (count if operator not in ("!=", "!") else whole - count) / whole
+
+
+def usual_element(elements: Sequence[Element], kind: str) -> list[Element]:
+    """Of the elements of a map the one that has more than half of all numbers, if there is one."""
+    rest = [it for it in elements if isinstance(it.key[0], Anything)]
+    named = [it for it in elements if it not in rest]
+    wide = [it for it in named if share("", it.key[0], kind) > 0.5]
+    return wide or (rest[:1] if sum(share("", it.key[0], kind) for it in named) < 0.5 else [])
 
 
 def is_element(

@@ -1,22 +1,42 @@
 """Priorities, and the order of chains that have the same one: Linux runs the one first that came last."""
 from __future__ import annotations
 
-from typing import TYPE_CHECKING
 import re
+from dataclasses import dataclass
+from typing import TYPE_CHECKING, Sequence
 
+from .expressions import as_number
 from .facts import PRIORITIES
-from .tree import NotFitted
+from .tree import Bound, NotFitted, Offload, Translation, selectors_in
 
 if TYPE_CHECKING:
     from .fitter import Fitter
-    from .tree import Chain, Table
+    from .tree import Chain, Rule, Table
 
 EARLY = -200  # nftrun looks for connections behind these
 STEPS = {"prerouting": -100, "postrouting": 100}  # where nftrun translates
+LEAST, MOST = -(1 << 31), (1 << 31) - 1
+HOOKS = ("prerouting", "input", "forward", "postrouting")
+
+
+@dataclass(frozen=True)
+class Band:
+    """Priorities between which it makes no difference which one a chain has, but for the order."""
+
+    low: int
+    high: int
+
+
+def bands_of(hook: str, is_nat: bool) -> list[Band]:
+    """The bands of a hook, from the lowest: before the look-up for connections, before translation, behind it."""
+    starts = [EARLY + 1] if hook == "prerouting" else []
+    starts += [STEPS[hook]] if hook in STEPS and not is_nat else []
+    lows = [LEAST, *starts]
+    return [Band(low, high - 1) for low, high in zip(lows, [*starts, MOST + 1])]
 
 
 class Order:
-    """`shifted` has the chains whose priority changes: to which number, and from which."""
+    """`shifted` has the chains whose priority changes, each with the new one."""
 
     def __init__(self, fitter: Fitter, chains: list[tuple[Table, Chain]]) -> None:
         self.fitter, self.chains = fitter, chains
@@ -28,14 +48,26 @@ class Order:
         text = "".join(words if named is None else words[1:]) or ("" if named is None else "0")
         if not re.fullmatch(r"[+-]?(0|[1-9][0-9]*|0x[0-9A-Fa-f]+)", text):
             raise NotFitted(f"the priority `{' '.join(words)}`")
-        return (named or 0) + int(text, 0)
+        size = as_number(text.lstrip("+-"))
+        number = (named or 0) + (-size if text.startswith("-") else size)
+        if not LEAST <= number <= MOST:
+            raise NotFitted(f"the priority `{' '.join(words)}` is outside of 32 bits")
+        return number
 
     def is_early(self, chain: Chain) -> bool:
         """Whether a base chain is run before connections are looked for."""
         try:
-            return chain.base.hook == "prerouting" and self.number(chain) <= EARLY
+            return chain.base.hook == "prerouting" and self.number(chain) <= EARLY and not self.is_behind(chain)
         except NotFitted:
             return False  # told where the chain is written
+
+    def is_behind(self, chain: Chain) -> bool:
+        """A chain at just the priority of the look-up: Linux runs the one first that came last, and the look-up comes
+        with the first rule that needs it. Of one command the chains come before the rules."""
+        if chain.base.hook != "prerouting" or self.number(chain) != EARLY:
+            return False
+        looked_up = [rule.moment for _, _, rule in self.fitter.rules() if needs_connections(rule)]
+        return bool(looked_up) and chain.moment <= min(looked_up)
 
     def priority_text(self, chain: Chain) -> str:
         number = self.number(chain)
@@ -51,96 +83,124 @@ class Order:
     # chains of one hook and one priority
 
     def settle(self) -> None:
-        here = self.placed()
-        groups: dict[tuple[str, bool, int], list[Chain]] = {}
-        for chain in here:
-            groups.setdefault((chain.base.hook, chain.base.type == "nat", self.number(chain)), []).append(chain)
-        for (hook, _, priority), chains in groups.items():
-            acting = [it for it in chains if it.rules or it.policy == "drop"]
-            registered = [it for _, it in self.chains if it in acting]
-            linux, ours = registered[::-1], acting
-            if linux != ours:
-                self.reorder(hook, priority, linux, here)
-        self.settle_steps(here)
+        """Gives chains that Linux runs in another order priorities that differ, and their neighbours where these are
+        in the way."""
+        placed = self.placed()
+        for hook in HOOKS:
+            for is_nat in (False, True):
+                here = [it for it in placed if it.base.hook == hook and (it.base.type == "nat") == is_nat]
+                self.settle_hook(hook, is_nat, here)
+
+    def settle_hook(self, hook: str, is_nat: bool, here: Sequence[Chain]) -> None:
+        """`here` are the chains of a hook in the order of the fitted text."""
+        came = [it for _, it in self.chains]
+        bands = bands_of(hook, is_nat)
+        band_of = {it: self.band(it, bands, came) for it in here}
+        linux = sorted(here, key=lambda it: (bands.index(band_of[it]), self.number(it), -came.index(it)))
+        numbers = [min(max(self.number(it), band_of[it].low), band_of[it].high) for it in linux]
+        gaps = [
+            int(self.number(one) != self.number(other) or here.index(one) > here.index(other))
+            for one, other in zip(linux, linux[1:])
+        ]
+        numbers = spread_up([band_of[it] for it in linux], spread_down(numbers, gaps), gaps)
+        for it, number in zip(linux, numbers):
+            if number > band_of[it].high:
+                self.fitter.changes.refuse(
+                    it.token,
+                    f"chain {it.name} at priority {self.number(it)}",
+                    "there is no room for the order of Linux",
+                )
+            elif number != self.number(it):
+                self.shifted[it] = number
+        self.tell_of_groups(hook, linux, here)
+        self.tell_of_others(linux, here, band_of)
+
+    def band(self, chain: Chain, bands: Sequence[Band], came: Sequence[Chain]) -> Band:
+        """Where Linux runs a chain: one of just the priority of translation, that came after the first chain of type
+        nat, before it."""
+        number = self.number(chain)
+        at = next(index for index, it in enumerate(bands) if it.low <= number <= it.high)
+        if self.is_behind(chain):
+            return bands[at + 1]
+        translating = [came.index(it) for table, it in self.chains if it.base.type == "nat" and table.family != "ip6"]
+        if chain.base.type != "nat" and number == STEPS.get(chain.base.hook) and translating:
+            return bands[at - 1] if came.index(chain) > translating[0] else bands[at]
+        return bands[at]
 
     def placed(self) -> list[Chain]:
-        """The base chains that nftrun runs, in the order of the fitted text."""
+        """The base chains that nftrun runs and that do something, in the order of the fitted text."""
         found = []
         for table in self.fitter.tables.values():
             for chain in table.chains.values():
+                if chain.head is None or chain.base.hook not in HOOKS or not (chain.rules or chain.policy == "drop"):
+                    continue
                 try:
-                    is_run = (
-                        chain.head is not None
-                        and chain.base.hook in ("prerouting", "input", "forward", "postrouting")
-                        and self.number(chain) is not None
-                    )
+                    self.number(chain)
                 except NotFitted:
                     continue  # told where the chain is written
-                if is_run and not (chain.base.type == "nat" and chain.base.hook == "input"):
+                if not (chain.base.type == "nat" and chain.base.hook == "input"):
                     found.append(chain)
         return found
 
-    def reorder(self, hook: str, priority: int, wanted: list[Chain], here: list[Chain]) -> None:
-        """The first chain comes before the priority that all have, if there is room for it."""
-        last = wanted[-1]
-        names = ", ".join(it.name for it in wanted)
-        what = f"chains {names} of {hook} at priority {priority}"
-        least = priority - len(wanted) + 1
-        others = {self.number(it) for it in here if it.base.hook == hook and it not in wanted}
-        if others & set(range(least, priority)) or self.crosses(hook, least, priority, last):
-            self.fitter.changes.warn(
-                last.token,
-                f"{what}: Linux runs them in this order, nftrun in that of the text; give them priorities that differ",
-            )
-            return
-        for index, chain in enumerate(wanted[:-1]):
-            self.shifted[chain] = least + index
-        to = ", ".join(f"{it.name} at {self.shifted.get(it, priority)}" for it in wanted)
-        self.fitter.changes.tell(
-            last.token,
-            "same",
-            what,
-            to,
-            "Linux runs the one first that came last, nftrun the one that is first in the text",
-            reads=True,
-        )
+    # what is told
 
-    @staticmethod
-    def crosses(hook: str, least: int, most: int, chain: Chain) -> bool:
-        if chain.base.type == "nat":
-            return least <= EARLY
-        step = STEPS.get(hook)
-        return least <= EARLY < most or step is not None and least < step <= most
+    def groups(self, linux: Sequence[Chain], here: Sequence[Chain]) -> list[list[Chain]]:
+        """The chains of one priority that Linux runs in another order than that of the text."""
+        by_number: dict[int, list[Chain]] = {}
+        for it in linux:
+            by_number.setdefault(self.number(it), []).append(it)
+        return [group for group in by_number.values() if [here.index(it) for it in group] != sorted(
+            here.index(it) for it in group)]
 
-    def settle_steps(self, here: list[Chain]) -> None:
-        """A filter chain of just the priority of translation: Linux runs it before, where it came after the first
-        chain of type nat."""
-        order = [it for _, it in self.chains]
-        translating = [order.index(it) for it in order if it.base.type == "nat"]
-        for chain in here:
-            if chain.base.type == "nat" or chain in self.shifted or not (chain.rules or chain.policy == "drop"):
-                continue
-            number, step = self.number(chain), STEPS.get(chain.base.hook)
-            if number == EARLY and chain.base.hook == "prerouting":
-                self.fitter.changes.warn(
-                    chain.token,
-                    f"chain {chain.name} at priority -200: nftrun runs it before connections are looked for, Linux"
-                    " maybe behind; take -201 or -199",
-                )
-            if number != step or not translating or order.index(chain) < translating[0]:
-                continue
-            if any(self.number(it) == step - 1 for it in here if it.base.hook == chain.base.hook):
-                self.fitter.changes.warn(
-                    chain.token,
-                    f"chain {chain.name} at priority {step}: Linux runs it before translation, nftrun behind",
-                )
-                continue
-            self.shifted[chain] = step - 1
+    def tell_of_groups(self, hook: str, linux: Sequence[Chain], here: Sequence[Chain]) -> None:
+        for group in self.groups(linux, here):
+            names = ", ".join(it.name for it in group)
             self.fitter.changes.tell(
-                chain.token,
+                group[-1].token,
                 "same",
-                f"chain {chain.name} at priority {step}",
-                f"at {step - 1}",
-                "Linux runs it before translation, as it came after a chain of type nat; nftrun would behind",
-                reads=True,
+                f"chains {names} of {hook} at priority {self.number(group[-1])}",
+                ", ".join(f"{it.name} at {self.shifted.get(it, self.number(it))}" for it in group),
+                "Linux runs the one first that came last, nftrun the one that is first in the text",
             )
+
+    def tell_of_others(self, linux: Sequence[Chain], here: Sequence[Chain], band_of: dict[Chain, Band]) -> None:
+        grouped = [it for group in self.groups(linux, here) for it in group]
+        for it in linux:
+            if it not in self.shifted or it in grouped:
+                continue
+            number = self.number(it)
+            why = "its neighbours need the room: Linux runs them in another order than that of the text"
+            if self.is_behind(it):
+                why = "Linux runs it behind the look-up for connections, which rules ask for later; nftrun would before"
+            elif not band_of[it].low <= number <= band_of[it].high:
+                why = "Linux runs it before translation, as it came after a chain of type nat; nftrun would behind"
+            what = f"chain {it.name} at priority {number}"
+            self.fitter.changes.tell(it.token, "same", what, f"at {self.shifted[it]}", why)
+
+
+def needs_connections(rule: Rule) -> bool:
+    """Whether a rule has Linux look for connections."""
+    for it in rule.statements:
+        if isinstance(it.what, (Translation, Offload)) or isinstance(it.what, Bound) and it.what.kind == "connections":
+            return True
+        if any(selector.name.startswith("ct ") for selector in selectors_in(it.what)):
+            return True
+    return False
+
+
+def spread_down(numbers: Sequence[int], gaps: Sequence[int]) -> list[int]:
+    """Priorities that put chains in order, each at most its own; a gap tells whether one and the next differ."""
+    out = list(numbers)
+    for index in range(len(out) - 2, -1, -1):
+        out[index] = min(out[index], out[index + 1] - gaps[index])
+    return out
+
+
+def spread_up(bands: Sequence[Band], numbers: Sequence[int], gaps: Sequence[int]) -> list[int]:
+    """The same, but none below its band: what has no room there goes up."""
+    out = list(numbers)
+    for index, band in enumerate(bands):
+        out[index] = max(out[index], band.low)
+        if index:
+            out[index] = max(out[index], out[index - 1] + gaps[index - 1])
+    return out

@@ -12,7 +12,7 @@ from .maps import Maps
 from .matches import Matches
 from .numbers import holds
 from .profile import takes
-from .scanner import slice_of
+from .scanner import comment_behind, slice_of
 from .translation import Translations
 from .tree import (
     Bound,
@@ -25,7 +25,6 @@ from .tree import (
     LeftOut,
     Log,
     Match,
-    Missing,
     NotFitted,
     ObjectUse,
     Offload,
@@ -41,7 +40,6 @@ from .tree import (
     Untracked,
     Verdict,
     VerdictMap,
-    counters_in,
     selectors_in,
 )
 from .writes import Writes
@@ -74,10 +72,6 @@ class RuleFitter:
                 raise NotFitted(self.rule.fault)
             self.fit()
         except (NotFitted, RecursionError) as fault:
-            stands = slice_of(self.rule.tokens)
-            if not isinstance(fault, Missing) and stands is not None and self.is_taken(stands):
-                counters = range(1, counters_in(self.rule.tokens) + 1)
-                return [(stands, tuple(self.rule.counters_before + it for it in counters))]
             return self.not_fitted(str(fault) if isinstance(fault, NotFitted) else "expressions nested too deeply")
         for it in self.draft.told.list:
             if self.draft.never_runs and it.grade != "same":
@@ -86,15 +80,6 @@ class RuleFitter:
         warnings = self.fitter.changes.warnings
         warnings += [it for it in self.draft.told.warnings if it not in warnings]
         return self.texts()
-
-    def is_taken(self, stands: str) -> bool:
-        """Whether nftrun takes the rule as it stands, with the sets that it names."""
-        if not takes(stands, "rule"):
-            return False
-        tokens = self.rule.tokens
-        named = [after.text for before, after in zip(tokens, tokens[1:]) if before.text == "@"]
-        sets = [self.draft.table.sets.get(name) for name in named]
-        return all(it is not None and self.fitter.sets.is_plain(it) for it in sets)
 
     def not_fitted(self, why: str) -> list[Line]:
         text, never = self.rule.text, self.draft.never()
@@ -110,7 +95,7 @@ class RuleFitter:
         draft = self.draft
         if draft.told.list or len(draft.lines) != 1 or draft.before or stands is None or not takes(stands, "rule"):
             return None
-        return stands
+        return stands + comment_behind(self.rule.tokens)
 
     def texts(self) -> list[Line]:
         draft = self.draft
@@ -179,7 +164,7 @@ class RuleFitter:
         elif isinstance(what, ChangeOfSet):
             self.effects.fit_dynamic(what)
         elif isinstance(what, Bound):
-            self.effects.fit_bound(what)
+            self.effects.dynamic.fit_bound(what)
         else:
             self.fit_effect(what)
 
@@ -261,7 +246,7 @@ class RuleFitter:
         if it.left.name == "meta nfproto":
             return holds(2, it.operator, it.right, "nf_proto") is False
         fact = KNOWN.get(it.left.name)
-        if fact is None or fact.assumption or fact.needs:
+        if fact is None or fact.assumption or fact.needs or it.left.name in self.fitter.written:
             return False
         return holds(fact.value, it.operator, it.right, "32", fact.words) is False
 

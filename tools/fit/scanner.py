@@ -47,6 +47,7 @@ SCANNER = re.compile(
       | (?P<mark>==|!=|<=|>=|<<|>>|[{{}}(),;:./\-+=@&|<>!^*\[\]])""",
     re.VERBOSE,
 )
+COMMENT = re.compile(r"[ \t]*;?[ \t]*(#(?! handle [0-9]+\s*$)[^\n]*)", re.MULTILINE)
 NOT_SIX = re.compile(rf"(?P<number>0x[0-9A-Fa-f]+|[0-9]+)|(?P<word>{WORD})|(?P<mark>:)")
 
 
@@ -110,6 +111,13 @@ def slice_of(tokens: Sequence[Token]) -> str | None:
     if not tokens or any(it.start < 0 or it.source is not tokens[0].source for it in tokens):
         return None
     return tokens[0].source.text[tokens[0].start : tokens[-1].end]
+
+
+def comment_behind(tokens: Sequence[Token]) -> str:
+    """The comment that stands behind tokens on their last line, with a blank before it, or nothing."""
+    last = tokens[-1]
+    found = COMMENT.match(last.source.text, last.end) if last.end >= 0 else None
+    return f" {found[1].rstrip()}" if found else ""
 
 
 def shown(tokens: Sequence[Token]) -> str:

@@ -51,7 +51,7 @@ class Sets:
     def key_types(self, found: Set) -> list[str]:
         """The types of the key's parts; `?` for one that nftrun hasn't."""
         if found.typeof is None:
-            return list(found.types)
+            return ["?" if it.isdigit() else it for it in found.types]
         return selector_types(found.typeof[: colon(found.typeof)])
 
     def data_types(self, found: Set) -> list[str] | None:
@@ -117,15 +117,12 @@ class Sets:
 
     def lines_of(self, table: Table, found: Set) -> list[str]:
         changes = self.fitter.changes
-        if found.fault is not None and (found.slices is None or not self.is_taken(found)):
+        if found.fault is not None:
             changes.refuse(found.fault[0], f"elements of {found.name}", found.fault[1])
         if not self.is_foreign(found):
             self.tell_of_time(table, found)
         if not self.is_plain(found):
-            why = "its elements stand in the rules that use it"
-            if self.is_foreign(found):
-                why = "nftrun has none of its type; the rules that use it are told for themselves"
-            changes.tell(found.token, "same", f"{found.word} {found.name}", "left out", why)
+            changes.tell(found.token, "same", f"{found.word} {found.name}", "left out", self.why_left_out(table, found))
             return []
         if found.counts or any("counter" in it.extras for it in found.elements):
             changes.tell(found.token, "outcome", f"counters of {found.name}", "none", "they aren't shown")
@@ -138,9 +135,19 @@ class Sets:
                 "of names",
                 "names compare alike, and ask for no interface of the box",
             )
+        anew = self.anew(found, "ifname" if by_name else None)  # refuses values that aren't of the type
         stands = found.slices is not None and not by_name and self.stands(found)
-        body = found.slices if stands and found.slices is not None else self.anew(found, "ifname" if by_name else None)
+        body = found.slices if stands and found.slices is not None else anew
         return [f"\t{found.word} {found.name} {{", *("\t\t" + it for it in body), "\t}", ""]
+
+    def why_left_out(self, table: Table, found: Set) -> str:
+        if not self.fitter.is_read(table, found.name):
+            return "no rule reads it"
+        if self.is_foreign(found):
+            return "nftrun has none of its type; the rules that use it are told for themselves"
+        if not self.kept(found):
+            return "it lists nothing; the rules that use it are told for themselves"
+        return "its elements stand in the rules that use it"
 
     def stands(self, found: Set) -> bool:
         """Whether nftrun takes the fields of the set as they are."""
@@ -253,4 +260,6 @@ def is_plain_value(value: object, kind: str) -> bool:
         return is_name or value.text in WORDS.get(kind, {})
     if value.kind == "string":
         return is_name and not value.text.endswith("*")
-    return value.kind not in ("wild", "six", "mac", "time")
+    if value.kind == "address":
+        return kind == "ipv4_addr"
+    return value.kind == "number" and kind not in ("ipv4_addr", "ifname", "ct_state", "ct_status")

@@ -55,10 +55,10 @@ class Translations:
             self.draft.tell("outcome", "left out", "nftrun chooses ports in its own way", what=" ".join(it.flags))
         if it.kind in ("snat", "dnat") and it.address is None:
             it = replace(it, address=self.address_of_rule(it.kind))
-        if isinstance(it.address, Lookup):
-            self.translate_by_map(it, it.address)
-        elif isinstance(it.ports, Lookup):
-            self.translate_ports_by_map(it, it.ports)
+        lookup = it.address if isinstance(it.address, Lookup) else it.ports
+        if isinstance(lookup, Lookup):
+            found = lookup
+            self.matches.ports.fit_map(found.key, (), lambda: self.translate_by_lookup(it, found))
         else:
             before = len(self.draft.told.list)
             text = self.nat_text(it.kind, it.address, it.ports)
@@ -66,6 +66,12 @@ class Translations:
                 self.draft.put(text, "end")
             else:
                 self.draft.put_spelled(text, kind="end")
+
+    def translate_by_lookup(self, it: Translation, lookup: Lookup) -> None:
+        if it.address == lookup:
+            self.translate_by_map(it, lookup)
+        else:
+            self.translate_ports_by_map(it, lookup)
 
     def translate_prefixes(self, it: Translation) -> None:
         """`snat ip prefix to ip saddr map { 10.1.0.0/24 : 10.2.0.0/24 }`: each address to its own."""
@@ -131,6 +137,9 @@ class Translations:
         if isinstance(key, Selector) and not self.matches.is_in_ipv4(key):
             return
         elements, plain = self.maps.mapping(lookup.map, verdicts=False)
+        if not elements:
+            self.maps.tell_empty(lookup.map)
+            return
         if isinstance(it.ports, Lookup):
             if it.ports.key != key:
                 raise NotFitted("two maps of two keys")
@@ -157,7 +166,10 @@ class Translations:
             return [self.draft.piece(self.nat_text(it.kind, it.address, one.values[0]), "end")]
 
         elements, _ = self.maps.mapping(lookup.map, verdicts=False)
-        self.choose_translation(lookup.key, elements, translating)
+        if elements:
+            self.choose_translation(lookup.key, elements, translating)
+        else:
+            self.maps.tell_empty(lookup.map)
 
     def choose_translation(self, key: Expression, elements: Sequence[Element], translating: Then) -> None:
         if isinstance(key, Joined):
@@ -193,6 +205,8 @@ def ports_text(part: Expression) -> str:
     found = range_of(part, "inet_service") if isinstance(part, (One, Range)) else None
     if found is None:
         raise NotFitted("a port that isn't known")
+    if not 0 < found[0] <= found[1] <= 65535:
+        raise NotFitted(f"`{found[0]}-{found[1]}` isn't a range of ports from 1 to 65535")
     return "-".join(map(str, dict.fromkeys(found)))
 
 

@@ -306,10 +306,11 @@ class Missing(NotFitted):
 
 
 class Rule:
-    """A rule's tokens, and what they say once it was read. `text` is as the operator wrote it."""
+    """A rule's tokens, and what they say once it was read. `text` is as the operator wrote it, `moment` the number of
+    the command that made it."""
 
-    def __init__(self, tokens: Sequence[Token], text: str) -> None:
-        self.tokens, self.text = tokens, text
+    def __init__(self, tokens: Sequence[Token], text: str, moment: int = 0) -> None:
+        self.tokens, self.text, self.moment = tokens, text, moment
         self.statements: list[Statement] = []
         self.comment: str | None = None
         self.fault: str | None = None
@@ -331,6 +332,8 @@ class Chain:
         self.rules: list[Rule] = []
         self.hooks: set[str] = set()  # from which hooks packets come here
         self.is_early = False  # whether some come before connections are looked for
+        self.is_late = False  # whether some come behind that
+        self.moment = 0  # the number of the command that made it a base chain
         self.made_for: tuple[Chain, int] | None = None  # chain and number of the rule whose part it was
 
     @property
@@ -354,6 +357,7 @@ class Set:
         self.comment: str | None = None
         self.size: int | None = None
         self.timeout, self.merges, self.counts = False, False, False
+        self.bounds: list[Bound] = []  # what each element is bounded by
         self.slices: list[str] | None = []  # its fields as they stand, or None where these changed
         self.fault: tuple[Token, str] | None = None  # where its elements aren't understood, and why
         self.word = "map" if is_map else "set"

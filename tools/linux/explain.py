@@ -272,6 +272,10 @@ def by_rules(case):
             return "state-not-several"
         if re.search(r"ct status\s*(?:[!=]=|[{@]|vmap|\.)|\. ct status", text):
             return "status-bits"
+        if re.search(r"\bth (?:sport|dport)\b", text) and case.protocol not in (TCP, UDP):
+            return "other-ports"
+        if re.search(r"\boif(?:name)?\b", text) and without_exit(case, rule.chain):
+            return "no-exit"
         if "ct " in text and early(case, rule.chain):
             return "early-chains"
         if case.theirs and ("ct mark" in text or "ct state" in text) and dropped_before(case):
@@ -284,6 +288,13 @@ def early(case, name):
     chain = case.ruleset.by_name.get(name)
     return chain is not None and (chain.is_early or chain.hook is None
                                   and any(other.is_early for other in case.ruleset.chains))
+
+
+def without_exit(case, name):
+    """Whether packets of a chain may have no output interface: on prerouting and input, or where these may lead."""
+    chain = case.ruleset.by_name.get(name)
+    return chain is not None and (chain.hook in ("prerouting", "input") or chain.hook is None
+                                  and any(other.hook in ("prerouting", "input") for other in case.ruleset.chains))
 
 
 def dropped_before(case):

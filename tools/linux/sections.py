@@ -4,6 +4,8 @@ SECTIONS = {
     "same-priority": "Two base chains of one hook and one priority.",
     "tcp-flags-set": "`tcp flags` in a set.",
     "output-chains": "Chains on output.",
+    "other-ports": "`th` of other protocols.",
+    "no-exit": "The output interface where there is none.",
     "inet-ipv6": "IPv6 in a table of family inet.",
     "fragments": "Fragments",
     "transport": "Transport headers that don't fit",

@@ -10,13 +10,7 @@ use std::rt::Clock;
 
 /// Runs the engine on a capture, shows the progress of reading it, and returns whether the capture
 /// is torn. What is shown changes nothing of the run.
-pub fn run_with_progress<
-    'b,
-    R: Clock + Eprint + AllocGlobal,
-    T: Read,
-    W: Write,
-    W2: Write,
->(
+pub fn run_with_progress<'b, R: Clock + Eprint + AllocGlobal, T: Read, W: Write, W2: Write>(
     rt: &'b R,
     hasher: RandomState,
     rules: &[u8],

@@ -9,8 +9,9 @@ use command_line::{CheckPaths, ReplayPaths, Task};
 use engine::{Counts, RunFault};
 use explanations::Explanation;
 use pcap_io::Counted;
-use program::{FileIdentity, Host, Progress, ProgressLine, ProgressReader, Status};
-use program::{perform, run_with_progress};
+use program::{
+    FileIdentity, Host, Progress, ProgressLine, ProgressReader, Status, perform, run_with_progress,
+};
 use std::env::{self, Env};
 use std::fs::OpenFile;
 use std::hash::RandomState;
@@ -130,7 +131,8 @@ impl<R: Eprint + AllocGlobal> System<'_, R> {
     }
 }
 
-impl<'a, R: Clock + Env + Files + Print + Eprint + RandomSource + AllocGlobal> Host for System<'a, R> {
+impl<'a, R: Clock + Env + Files + Print + Eprint + RandomSource + AllocGlobal> Host
+    for System<'a, R> {
     type Input = Counted<ProgressReader<'a, R, R::File>>;
 
     type Output = Counted<R::File>;
