@@ -79,7 +79,7 @@ def findings(guard: Guard, rules: str) -> Iterator[Finding]:
         yield Finding(Kind.UNMET, level, f"no packet met {unmet.text}", unmet.file if is_there else rules,
                       unmet.line if is_there else None)
     for entry in guard.allowed.unused():
-        yield Finding(None, "notice", "nothing is accepted by this entry any more", entry.file, entry.line)
+        yield Finding(None, "notice", "this entry accepts nothing", entry.file, entry.line)
 
 
 # GitHub

@@ -22,8 +22,8 @@ OPENED, BLOCKED, REWRITTEN, OTHERWISE = "opened", "blocked", "rewritten only", "
 # The last: what leaves differs in ports alone, as a tracker chooses them
 KINDS = ("", OPENED, BLOCKED, REWRITTEN, OTHERWISE, REWRITTEN)
 OTHER_PORTS = 5
-SAME_RULES = "the same rules; other ports, since other flows have them or leave them"
-SAME_RULES_OTHER_MAPS = "the same rules; another address or interface, as their maps or an earlier mapping have it"
+SAME_RULES = "translated by the same rules, to other ports, since other flows have them or leave them"
+SAME_RULES_OTHER_MAPS = "the same rules, to another address or interface, as their maps or an earlier mapping have it"
 OUT_LINK = LINK_LENGTHS[LINUX_SLL2]
 DECIDE = ("accept", "drop", *TRANSLATIONS)
 MOST_TOLD_APART = 10_000  # hosts and ports of a group
@@ -154,6 +154,11 @@ def blocked_by(before: Sequence[Told], after: Sequence[Told], outcome_before: st
     return let_through[0], stopped
 
 
+def translations(decisions: Sequence[Told]) -> list[tuple[str | None, str, str]]:
+    """Which rules translated, by their texts."""
+    return [(one.chain, one.verdict, one.text) for one in decisions if one.verdict in TRANSLATIONS]
+
+
 def parted(decisions: Sequence[Told], others: Sequence[Told]) -> list[Told]:
     """The decisions that the others don't have, by text: an inserted rule doesn't shift all."""
     there = {(one.chain, one.verdict, one.text) for one in others}
@@ -278,9 +283,10 @@ class Groups:
             before, after = (
                 [told for told in map(sight.told, events) if told] for sight, events in zip(self.sights, made[:2]))
             found = cause(KINDS[what], before, after, *made[2:])
-            if found[0].text == SAME_RULES and what != OTHER_PORTS:
-                other = replace(found[0], text=SAME_RULES_OTHER_MAPS)
-                found = other, other
+            if what == OTHER_PORTS and translations(before) == translations(after):
+                found = (Told(None, None, made[3], SAME_RULES),) * 2
+            elif found[0].text == SAME_RULES:
+                found = (replace(found[0], text=SAME_RULES_OTHER_MAPS),) * 2
             self.causes[key] = found
         return self.causes[key]
 

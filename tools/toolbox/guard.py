@@ -225,6 +225,9 @@ class Guard:
         accepted = sum(one.accepted is not None for seen in self.seen for one in seen.judged)
         asked = ",".join(kind.value for kind in Kind if kind in self.kinds)
         parts = [f"fails: {failed}" if failed else f"nothing to fail on ({asked})"]
+        nothing = len(self.nothing())
+        if nothing:
+            parts.append(f"nothing was compared in {nothing} of {plural(len(self.seen), 'capture')}")
         return ", ".join(parts + ([f"{plural(accepted, 'group')} accepted"] if accepted else []))
 
 
