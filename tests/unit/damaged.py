@@ -222,6 +222,9 @@ def damaged(data: bytes, is_capture: bool, chance: random.Random) -> bytes:
 
 # A stand-in for nftrun
 
+STORED = (TOP / "examples/first/report.txt").read_text(encoding="ascii")
+TOTALS = re.findall(r"(?m)^((?!records|torn|trace|counter|log)[a-z]+(?: [a-z]+)?) [0-9]+$", STORED)
+
 
 def run_of_all(_program: str, rules: str, _box: str, capture: str, leaving: str, report: str, trace: bool = True) -> bool:
     """Every third record with ports passes as it came, the others are dropped by a rule or a policy of the text."""
@@ -244,8 +247,9 @@ def run_of_all(_program: str, rules: str, _box: str, capture: str, leaving: str,
             lines.append(f"trace {number} outcome {outcome}")
     lines += [f"counter {rule.chain} {rule.number} {which} packets {start} bytes 0" for rule in ruleset.rules
               for which, start in enumerate(rule.counter_starts, 1)]
+    lines += [f"records {number}", *(f"{name} 0" for name in TOTALS), "torn 0", ""]
     with open(report, "wb") as file:
-        file.write("\n".join([*lines, f"records {number}", "torn 0", ""]).encode("utf-8", "surrogateescape"))
+        file.write("\n".join(lines).encode("utf-8", "surrogateescape"))
     return False
 
 
