@@ -6,6 +6,7 @@ The commands run in this process; nftrun is the one that NFTRUN names, or a stan
 from __future__ import annotations
 
 import contextlib
+import importlib
 import io
 import os
 import pathlib
@@ -22,11 +23,10 @@ from typing import Callable, Iterator, Sequence
 from unittest import mock
 
 from support import TOP
-
 from toolbox import commands
-from toolbox.captures import LINK_LENGTHS, LINUX_SLL2, SENT_BY_US, header_of, packet_at, records, sll2_header
+from toolbox.captures import LINUX_SLL2, SENT_BY_US, header_of, packet_at, records, sll2_header
 from toolbox.captures import write_header, write_record
-from toolbox.commands import DIFFERS, DONE, REFUSED, TORN, Refused
+from toolbox.commands import DIFFERS, DONE, REFUSED, TORN
 from toolbox.packets import tuple_at
 from toolbox.rulesets import read_ruleset
 
@@ -61,7 +61,8 @@ CALLS = (
          COMPARED, COMPARE),
     Call("compare-rulesets", ("--format", "github", "--allow", ALLOWED, "--fail-on", "opened,blocked,unmet", RULES,
                               OTHER_RULES, BOX, CAPTURE), COMPARED, COMPARE),
-    Call("compare-rulesets", ("--format=sarif", "--allow", ALLOWED, RULES, OTHER_RULES, BOX, CAPTURE), COMPARED, COMPARE),
+    Call("compare-rulesets", ("--format=sarif", "--allow", ALLOWED, RULES, OTHER_RULES, BOX, CAPTURE), COMPARED,
+         COMPARE),
     Call("doctor", (BOX, CAPTURE), "(?m)^! ", (DONE, DIFFERS, REFUSED)),
     Call("doctor", (BOX, CAPTURE, RULES), "(?m)^! ", (DONE, DIFFERS, REFUSED)),
     Call("doctor", ("--json", BOX, CAPTURE, RULES), '"misleads": true', (DONE, DIFFERS, REFUSED)),
@@ -161,7 +162,6 @@ def doubled(data: bytearray, chance: random.Random) -> None:
 
 
 def mixed_in(data: bytearray, chance: random.Random) -> None:
-    data[chance.randrange(len(data)):0] = b""
     begin = chance.randrange(len(data))
     data[begin:begin] = chance.choice(NASTY)
 
@@ -193,7 +193,7 @@ def field_changed(data: bytearray, chance: random.Random) -> None:
         offsets += [at, at + 4, at + 8, at + 12]
         at += 16 + struct.unpack_from("<I", data, at + 8)[0]
     at = chance.choice(offsets)
-    value = chance.choice((0, 1, 13, 20, 27, 101, 113, 262144, 262145, 0x7FFFFFFF, 0xFFFFFFFF, chance.randrange(1 << 32)))
+    value = chance.choice((0, 1, 13, 20, 101, 113, 262144, 262145, 0x7FFFFFFF, 0xFFFFFFFF, chance.randrange(1 << 32)))
     data[at:at + 4] = struct.pack("<I", value)
 
 
@@ -204,7 +204,7 @@ def packet_changed(data: bytearray, chance: random.Random) -> None:
         starts.append(at + 16)
         at += 16 + struct.unpack_from("<I", data, at + 8)[0]
     for _ in range(chance.choice((1, 2, 12))):
-        place = chance.choice(starts or [0]) + chance.choice((0, 1, 7, 10, 20, 22, 23, 26, 27, 29, 32, 36, 40, 42, 44, 53))
+        place = chance.choice(starts or [0]) + chance.choice((0, 1, 7, 10, 20, 22, 23, 26, 27, 29, 32, 36, 40, 42, 53))
         if place < len(data):
             data[place] = chance.choice((0, 1, 4, 0x40, 0x44, 0x45, 0x46, 0x4F, 0x60, 0xFF, chance.randrange(256)))
 
@@ -226,7 +226,8 @@ STORED = (TOP / "examples/first/report.txt").read_text(encoding="ascii")
 TOTALS = re.findall(r"(?m)^((?!records|torn|trace|counter|log)[a-z]+(?: [a-z]+)?) [0-9]+$", STORED)
 
 
-def run_of_all(_program: str, rules: str, _box: str, capture: str, leaving: str, report: str, trace: bool = True) -> bool:
+def run_of_all(_program: str, rules: str, _box: str, capture: str, leaving: str, report: str,
+               trace: bool = True) -> bool:
     """Every third record with ports passes as it came, the others are dropped by a rule or a policy of the text."""
     ruleset, link_type, lines = read_ruleset(rules), header_of(capture).link_type, list[str]()
     chains, out_by, number = ruleset.chains, sll2_header(3, SENT_BY_US), 0
@@ -235,7 +236,8 @@ def run_of_all(_program: str, rules: str, _box: str, capture: str, leaving: str,
         for number, _, _, _, _, _, data in records(capture):
             at = packet_at(data, link_type)
             is_copy = link_type == LINUX_SLL2 and data[10:11] == bytes([SENT_BY_US])
-            outcome = "link" if at is None or is_copy or tuple_at(data, at) is None else ("passed", "rule", "local")[number % 3]
+            is_seen = at is not None and not is_copy and tuple_at(data, at) is not None
+            outcome = ("passed", "rule", "local")[number % 3] if is_seen else "link"
             if outcome != "link" and chains:
                 chain = chains[number % len(chains)]
                 word = "accept" if outcome != "rule" else "drop"
@@ -255,9 +257,8 @@ def run_of_all(_program: str, rules: str, _box: str, capture: str, leaving: str,
 
 def sent_nothing(beside: object) -> None:
     """Stands in for the kernel's part of beside-linux: it tells that nothing was sent."""
-    from linux.frames import nothing
-    from linux.kernel import Told
-    told = Told(nothing("it isn't tried"), "unsent", "", None, [], [], [])
+    frames, kernel = (importlib.import_module(f"linux.{name}") for name in ("frames", "kernel"))
+    told = kernel.Told(frames.nothing("it isn't tried"), "unsent", "", None, [], [], [])
     values = {"with_ipv6": False, "told": [told] * len(getattr(beside, "records")), "others": [], "own_packets": 0,
               "lost": False}
     for name, value in values.items():
@@ -401,7 +402,8 @@ class Trials:
             yield f"not foreseen: {ended.fault}"
         if ended.status not in call.statuses:
             yield f"status {ended.status}"
-        if ended.status == DIFFERS and not re.search(call.differs or "(?!)", (ended.out + ended.err).decode("utf-8", "replace")):
+        told = (ended.out + ended.err).decode("utf-8", "replace")
+        if ended.status == DIFFERS and not re.search(call.differs or "(?!)", told):
             yield "status 1, and nothing differs"
         if ended.status == REFUSED and not ended.err and b"nothing was compared" not in ended.out:
             yield "refused without a line"
@@ -411,6 +413,3 @@ class Trials:
         for path in left:
             yield f"left: {path.name}"
             subprocess.run(["rm", "-rf", str(path)], check=False)
-
-
-__all__ = ["CALLS", "Call", "Refused", "Trials", "LINK_LENGTHS"]
