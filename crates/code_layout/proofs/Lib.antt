@@ -5,3 +5,4 @@ mod CoverLaws
 mod RunLaws
 pub mod ShadowLaws
 pub mod FlagLaws
+pub mod MergedLaws

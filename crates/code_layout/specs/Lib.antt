@@ -1,4 +1,5 @@
 pub mod DroppedRules
+pub mod MergedRules
 pub mod CodeLayout
 pub mod Adding
 pub mod steps

@@ -4,6 +4,7 @@
 
 mod dropped;
 mod firsts;
+mod merged;
 mod reached;
 mod rules;
 

@@ -2,6 +2,7 @@
 ghost use Rattle.std.specs.Prelude.{◌≡◌, IfOk, Some, false, fold};
 ghost use Rattle.clap.specs.Words.{app_of, new_app, rule_of};
 ghost use Rattle.clap.specs.declared.builder.command.Command.TheViews.{out-Command};
+ghost use Rattle.command_line.specs.Statuses.{Lists, statuses_of};
 ghost use Rattle.command_line.specs.steps.Program.{app_for, flag_rule, path_rule, program_app, report_rule, rule_for, top_app, with_described};
 
 use clap::{Arg, ArgAction, Command};
@@ -78,12 +79,35 @@ Examples:
   nftrun check rules.nft box.txt
   nftrun check --nft rules.nft box.txt";
 
+/// A help that lists exit statuses.
+#[derive(Clone, Copy)]
+pub(crate) enum Help {
+    /// `nftrun --help`
+    Program,
+    /// `nftrun run --help`
+    Run,
+    /// `nftrun check --help`
+    Check,
+}
+
+impl Help {
+    /// Its end: notes, the exit statuses and examples.
+    fn notes(self) -> &'static str
+        ensures { Lists (statuses_of self) result.now }
+    {
+        match self {
+            Help::Program => NOTES,
+            Help::Run => RUN_NOTES,
+            Help::Check => CHECK_NOTES,
+        }
+    }
+}
+
 /// A subcommand, as its help describes it.
 pub(crate) struct Subcommand {
     name: &'static str,
     about: &'static str,
-    /// The end of its `--help`.
-    notes: Option<&'static str>,
+    help: Option<Help>,
     arguments: &'static [Argument],
 }
 
@@ -101,7 +125,7 @@ static SUBCOMMANDS: [Subcommand; 3] = [
     Subcommand {
         name: "run",
         about: "Replays a capture through a ruleset",
-        notes: Some(RUN_NOTES),
+        help: Some(Help::Run),
         arguments: &[
             Argument::Path("rules", "RULES", "The file of the ruleset"),
             Argument::Path("plant", "BOX", "The file of the box"),
@@ -116,7 +140,7 @@ static SUBCOMMANDS: [Subcommand; 3] = [
     Subcommand {
         name: "check",
         about: "Judges a ruleset before it is loaded",
-        notes: Some(CHECK_NOTES),
+        help: Some(Help::Check),
         arguments: &[
             Argument::Path("rules", "RULES", "The file of the ruleset"),
             Argument::Path("plant", "BOX", "The file of the box"),
@@ -129,7 +153,7 @@ static SUBCOMMANDS: [Subcommand; 3] = [
     Subcommand {
         name: "explain",
         about: "Tells what a code means",
-        notes: None,
+        help: None,
         arguments: &[Argument::Path("code", "CODE", "A code, such as E05, N12, B2 or P4")],
     },
 ];
@@ -156,7 +180,7 @@ fn top<'a>(alloc: Global) -> Command<'a>
 {
     Command::new(alloc, "nftrun")
         .about("Shows what each packet of a capture would meet in a ruleset of nft(8)")
-        .after_help(NOTES)
+        .after_help(Help::Program.notes())
         .version(VERSION)
         .subcommand_required(true)
 }
@@ -203,8 +227,8 @@ impl Subcommand {
         ensures local { (out-Command result).has_globals ≡ false }
     {
         let command = Command::new(alloc, self.name).about(self.about);
-        match self.notes {
-            Some(notes) => command.after_help(notes),
+        match self.help {
+            Some(help) => command.after_help(help.notes()),
             None => command,
         }
     }

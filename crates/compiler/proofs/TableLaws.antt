@@ -6,6 +6,9 @@ use Rattle.compiler.proofs.Names.{false_from_ne_true, false≢true, filter_map, 
 use Rattle.compiler.proofs.Names.{left_statements, length, length-append, list_any, list_any_at, map, min, none-some, or_parts, refl, rules_in}
 use Rattle.compiler.proofs.Names.{same_Some, slice_get, slice_get-map, slice_get-push, slice_get_read, slice_get_within, some_of_map, subst, suc, sum_by}
 use Rattle.compiler.proofs.Names.{sum_by_push, sym, take, take_all, take_more, zero, ℕ, ⊎_elim, ◌++◌, ◌+◌, ◌-◌, ◌<◌, ◌^◌, ◌∙◌, ◌∷◌, ◌≡◌, ◌≤◌, ◌⊎◌}
+use Rattle.code_layout.specs.Adding.{AddsNumber}
+use Rattle.code_layout.specs.CodeLayout.{IsSumOver}
+use Rattle.code_layout.specs.MergedRules.{HasMerged, HasTables}
 use Rattle.lowering.specs.Lowered.{scope_of}
 use Rattle.rule_meaning.specs.Runs.{table_program}
 use Rattle.nft_tree.specs.Tree as tree
@@ -41,7 +44,30 @@ push-cases [] y (suc i) x is = absurd (none-some x is)
 push-cases (z ∷ xs) y zero x is = inl is
 push-cases (z ∷ xs) y (suc i) x is = ⊎_elim inl (λ last. inr (ap suc last.0, last.1)) (push-cases xs y i x is)
 
+-- the number of one chain more
+sum_more : (Has : ChainTree → ℕ → Type 0) (chains : List ChainTree) (place : ℕ) (chain : ChainTree) (old new : ℕ)
+    → slice_get chains place ≡ Some chain → AddsNumber (Has chain) old new
+    → IsSumOver Has (take place chains) old → IsSumOver Has (take (place + 1) chains) new
+sum_more Has chains place chain old new is added so =
+    let within = slice_get_within chains place chain is in
+    record {
+      numbers = so.numbers ++ added.number ∷ [];
+      each = rw (take_more chains place chain within, get_or_from_slice_get chains place chain chain is)
+          (all_zipped_more Has (take place chains) so.numbers chain added.number so.each added.such);
+      is_sum = omega (arith, added.sum, so.is_sum, sum_by_push (λ (n : ℕ). n) so.numbers added.number);
+    }
+
+sum_none : (Has : ChainTree → ℕ → Type 0) (total : ℕ) → total ≡ 0 → IsSumOver Has [] total
+sum_none Has total none = record { numbers = []; each = tt; is_sum = omega (arith, none) }
+
 module _ (plant : PlantTree) (number : ℕ) (t : TableTree) where
+  -- how many merged rules and tables a chain has
+  abbrev CountsMerged : ChainTree → ℕ → Type 0
+  CountsMerged chain = HasMerged (rules_in chain) (scope_of plant t)
+
+  abbrev CountsTables : ChainTree → ℕ → Type 0
+  CountsTables chain = HasTables (rules_in chain) (scope_of plant t)
+
   -- what is left of the rules of chain c is in the code, from the chain's offset on, whatever is added later
   abbrev IsPlaced : TableCode → ℕ → List (Option (List Statement)) → Type 0
   IsPlaced now c rules = (at_step : ℕ) × (slice_get now.chain_offsets.items c ≡ Some at_step) × ((later : TableCode) → ExtendsCode now later
@@ -55,7 +81,23 @@ module _ (plant : PlantTree) (number : ℕ) (t : TableTree) where
     pub offsets : length now.chain_offsets.items ≡ place
     pub placed : (c : ℕ) (rules : List (Option (List Statement))) → slice_get left c ≡ Some rules → IsPlaced now c rules
     pub steps : length now.steps.items ≡ sum_by chain_steps left
+    pub tables : IsSumOver CountsTables (take place (chains_of t)) now.tables
+    pub merged : IsSumOver CountsMerged (take place (chains_of t)) now.merged
     pub dropped : now.dropped ≡ min (sum_by dropped_rules left) (2 ^ 64 - 1)
+
+  pub chains_none : (code : TableCode) → code.steps.items ≡ [] → code.chain_offsets.items ≡ []
+      → code.tables ≡ 0 → code.merged ≡ 0 → code.dropped ≡ 0 → ChainsSoFar 0 code
+  chains_none code steps offsets tables merged dropped = record {
+    left = [];
+    are_left = tt;
+    count = refl;
+    offsets = ap length offsets;
+    placed = λ c rules has. absurd (none-some rules has);
+    steps = ap length steps;
+    tables = sum_none CountsTables code.tables tables;
+    merged = sum_none CountsMerged code.merged merged;
+    dropped = omega (arith, dropped);
+  }
 
   pub chains_more : (place : ℕ) (chain : ChainTree) (offsets : Vec ℕ Global) (now new : TableCode) → slice_get (chains_of t) place ≡ Some chain
       → offsets.items ≡ now.chain_offsets.items ++ length now.steps.items ∷ []
@@ -73,6 +115,8 @@ module _ (plant : PlantTree) (number : ℕ) (t : TableTree) where
         (λ last. subst (λ k. IsPlaced new k rules) (sym so.count ∙ last.0) (subst (IsPlaced new place) last.1 here))
         (push-cases so.left added.left c rules has);
     steps = omega (arith, added.steps, so.steps, sum_by_push chain_steps so.left added.left);
+    tables = sum_more CountsTables (chains_of t) place chain now.tables new.tables is added.tables so.tables;
+    merged = sum_more CountsMerged (chains_of t) place chain now.merged new.merged is added.merged so.merged;
     dropped = omega (arith, added.dropped, so.dropped, sum_by_push dropped_rules so.left added.left);
   }
     where
@@ -123,6 +167,8 @@ module _ (plant : PlantTree) (number : ℕ) (t : TableTree) where
           (holds.0, holds.1, rw found.2 at laid);
     };
     steps = so.steps;
+    tables = rw (take_all place (chains_of t) past) at so.tables;
+    merged = rw (take_all place (chains_of t) past) at so.merged;
     dropped = so.dropped;
   }
 

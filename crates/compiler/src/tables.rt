@@ -28,6 +28,8 @@ fn add_chains(
     requires declared { HasDeclared plant.now names.now code.old.lookups }
     requires no_steps { code.old.steps.items ≡ [] }
     requires no_chains { code.old.chain_offsets.items ≡ [] }
+    requires no_tables { code.old.tables ≡ 0 }
+    requires none_merged { code.old.merged ≡ 0 }
     requires none_dropped { code.old.dropped ≡ 0 }
     ensures { OnOk result (IsTableCode plant.now table names.now code.new) }
 {
@@ -57,6 +59,8 @@ fn table_code(
         lookups: declared(alloc, plant, names)?,
         steps: StepList::new(alloc),
         chain_offsets: Vec::new(alloc),
+        tables: 0,
+        merged: 0,
         dropped: 0,
     };
     add_chains(alloc, plant, names, table, &mut code)?;

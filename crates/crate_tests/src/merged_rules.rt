@@ -1,5 +1,5 @@
-//! Rulesets as code: how many steps are left of their rules, how many indexes there are on them, how
-//! many rules are merged and dropped, and whose verdict a packet has.
+//! Rulesets as code: how many steps are left of their rules, how many rules are merged, into how many
+//! tables, and dropped, how many indexes there are on them, and whose verdict a packet has.
 ghost use Rattle.std.specs.Prelude.{◌+◌, ◌≤◌, IfSome, length};
 
 use crate::support::{check_row, code_of, repeated};
@@ -19,9 +19,9 @@ default lan
 /// and whether the packet is dropped.
 type ExpectedVerdict = (u32, Option<u32>, bool);
 
-/// A ruleset whose last chain is a base chain; its steps, indexes, merged and dropped rules; and the
-/// verdicts of packets.
-type Row = (&'static [u8], [usize; 4], &'static [ExpectedVerdict]);
+/// A ruleset whose last chain is a base chain; its steps, tables, merged and dropped rules, and last its
+/// indexes; and the verdicts of packets.
+type Row = (&'static [u8], [usize; 5], &'static [ExpectedVerdict]);
 
 const TEN_ONE: u32 = 0x0a01_0203;
 
@@ -36,12 +36,14 @@ const ELEVEN: u32 = 0x0b00_0001;
 /// would be merged. A named set three times, with one between that has a value more, and a prefix
 /// within it; concatenations of the same selectors, and of the same in another order; a value with
 /// `==`, a range and a prefix. A rule alone is in no run, even with an empty set; where all sets of a
-/// run are empty, none of its rules is left; one of a run that no packet gets to is dropped.
-static MERGED: [Row; 16] = [
+/// run are empty, none of its rules is left; one of a run that no packet gets to is dropped. Two runs
+/// that another rule parts; one of concatenations beside one of others; one whose first rule has an
+/// empty set, and one of which a set leaves the first rule alone; runs of two chains.
+static MERGED: [Row; 21] = [
     (
         b"table ip t { chain fwd { type filter hook forward priority 0;
 ip saddr 10.0.0.0/8 accept; ip saddr 10.1.0.0/16 drop; ip saddr 11.0.0.0/8 drop } }",
-        [5, 1, 2, 1],
+        [5, 1, 2, 1, 1],
         &[
             (TEN_ONE, Some(1), false),
             (ELEVEN, Some(3), true),
@@ -52,7 +54,7 @@ ip saddr 10.0.0.0/8 accept; ip saddr 10.1.0.0/16 drop; ip saddr 11.0.0.0/8 drop 
         b"table ip t { chain fwd { type filter hook forward priority 0;
 ip saddr { 10.0.0.0/9, 11.0.0.0/8 } accept; ip saddr 10.128.0.0/9 drop
 ip saddr 10.0.0.0/8 drop; ip saddr 10.0.0.0-12.0.0.0 return } }",
-        [7, 1, 3, 1],
+        [7, 1, 3, 1, 1],
         &[
             (TEN_ONE, Some(1), false),
             (ELEVEN, Some(1), false),
@@ -65,19 +67,19 @@ ip saddr 10.0.0.0/8 drop; ip saddr 10.0.0.0-12.0.0.0 return } }",
         b"table ip t { chain fwd { type filter hook forward priority 0;
 ip saddr 10.0.0.0/8 return; counter; ip saddr 10.1.0.0/16 drop
 ip daddr 0.0.0.1 continue; ip saddr 10.1.0.0/16 drop } }",
-        [10, 0, 0, 0],
+        [10, 0, 0, 0, 0],
         &[(TEN_ONE, Some(1), false)],
     ),
     (
         b"table ip t { chain fwd { type filter hook forward priority 0;
 ip saddr 10.1.2.3 meta mark set 1; meta mark 1 drop } }",
-        [5, 0, 0, 0],
+        [5, 0, 0, 0, 0],
         &[(TEN_ONE, Some(2), true), (ELEVEN, None, false)],
     ),
     (
         b"table ip t { chain fwd { type filter hook forward priority 0;
 accept; counter drop } }",
-        [2, 0, 0, 1],
+        [2, 0, 0, 1, 0],
         &[(TEN_ONE, Some(1), false)],
     ),
     (
@@ -85,14 +87,14 @@ accept; counter drop } }",
 chain end { return; counter }
 chain fwd { type filter hook forward priority 0; policy drop;
 counter; jump end; log; continue; counter log return; ip saddr 10.0.0.0/8 accept; accept } }",
-        [14, 0, 0, 5],
+        [14, 0, 0, 5, 0],
         &[(TEN_ONE, Some(2), true)],
     ),
     (
         b"table ip t { chain end { counter }
 chain fwd { type filter hook forward priority 0;
 ip saddr 10.0.0.0/8 drop; meta mark set 1 drop; jump end; accept; drop } }",
-        [9, 0, 0, 1],
+        [9, 0, 0, 1, 0],
         &[(TEN_ONE, Some(1), true), (ELEVEN, Some(2), true)],
     ),
     (
@@ -100,7 +102,7 @@ ip saddr 10.0.0.0/8 drop; meta mark set 1 drop; jump end; accept; drop } }",
 set ten_one { type ipv4_addr; elements = { 10.1.0.0/16 } }
 chain fwd { type filter hook forward priority 0;
 ip saddr @ten accept; ip saddr @ten_one drop; ip saddr 11.0.0.0/8 drop } }",
-        [5, 1, 2, 1],
+        [5, 1, 2, 1, 1],
         &[
             (TEN_ONE, Some(1), false),
             (ELEVEN, Some(3), true),
@@ -111,7 +113,7 @@ ip saddr @ten accept; ip saddr @ten_one drop; ip saddr 11.0.0.0/8 drop } }",
         b"table ip t { set none { type ipv4_addr }
 chain fwd { type filter hook forward priority 0;
 ip saddr 10.0.0.0/16 drop; ip saddr @none accept; ip saddr 10.1.0.0/16 drop } }",
-        [5, 1, 2, 1],
+        [5, 1, 2, 1, 1],
         &[(TEN_ONE, Some(3), true)],
     ),
     (
@@ -120,7 +122,7 @@ chain fwd { type filter hook forward priority 0;
 ip saddr 10.0.0.0/16 drop; ip saddr 10.1.0.0/16 counter drop; ip saddr 10.2.0.0/16 drop
 ip saddr != 0.0.0.7 drop; ip saddr 10.3.0.0/16 drop; ip saddr 10.4.0.0/16 jump end
 ip saddr 10.5.0.0/16 drop } }",
-        [17, 0, 0, 0],
+        [17, 0, 0, 0, 0],
         &[(0x0a02_0000, Some(3), true), (7, None, false)],
     ),
     (
@@ -129,7 +131,7 @@ set more { type ipv4_addr; elements = { 10.1.2.3, 11.0.0.1, 12.0.0.0 } }
 chain fwd { type filter hook forward priority 0;
 ip saddr @s accept; ip saddr @s drop; ip saddr @more drop; ip saddr 11.0.0.1/32 accept
 ip saddr @more accept } }",
-        [5, 1, 2, 3],
+        [5, 1, 2, 3, 1],
         &[
             (TEN_ONE, Some(1), false),
             (0x0c00_0000, Some(3), true),
@@ -141,14 +143,14 @@ ip saddr @more accept } }",
 chain fwd { type filter hook forward priority 0;
 ip saddr . udp dport { 10.1.2.3 . 2, 11.0.0.1 . 3 } accept; ip saddr . udp dport @pairs drop
 ip saddr . udp dport { 11.0.0.1 . 2 } drop; udp dport . ip saddr { 2 . 11.0.0.1 } accept } }",
-        [7, 1, 2, 1],
+        [7, 1, 2, 1, 1],
         &[(TEN_ONE, Some(1), false), (ELEVEN, Some(3), true)],
     ),
     (
         b"table ip t { chain fwd { type filter hook forward priority 0;
 ip saddr == 10.1.2.3 accept; ip saddr 10.1.2.3 drop; ip saddr 10.1.2.2-10.1.2.4 drop
 ip saddr 10.1.2.0/29 return } }",
-        [7, 1, 3, 1],
+        [7, 1, 3, 1, 1],
         &[
             (TEN_ONE, Some(1), false),
             (0x0a01_0204, Some(3), true),
@@ -159,27 +161,62 @@ ip saddr 10.1.2.0/29 return } }",
         b"table ip t { set none { type ipv4_addr }
 chain fwd { type filter hook forward priority 0;
 ip saddr @none accept; counter; ip saddr @none drop } }",
-        [6, 0, 0, 0],
+        [6, 0, 0, 0, 0],
         &[(TEN_ONE, None, false)],
     ),
     (
         b"table ip t { set none { type ipv4_addr }
 chain fwd { type filter hook forward priority 0;
 ip saddr @none accept; ip saddr @none drop; counter } }",
-        [2, 0, 0, 2],
+        [2, 0, 0, 2, 0],
         &[(TEN_ONE, None, false)],
     ),
     (
         b"table ip t { chain fwd { type filter hook forward priority 0;
 accept; ip saddr 10.0.0.0/8 drop; ip saddr 11.0.0.0/8 drop } }",
-        [2, 0, 0, 2],
+        [2, 0, 0, 2, 0],
         &[(TEN_ONE, Some(1), false)],
+    ),
+    (
+        b"table ip t { chain fwd { type filter hook forward priority 0;
+ip saddr 10.0.0.0/16 drop; ip saddr 10.1.0.0/16 accept; counter
+ip saddr 10.1.0.0/16 drop; ip saddr 11.0.0.0/8 drop } }",
+        [10, 2, 4, 0, 2],
+        &[(TEN_ONE, Some(2), false), (ELEVEN, Some(5), true)],
+    ),
+    (
+        b"table ip t { chain fwd { type filter hook forward priority 0;
+ip saddr . udp dport { 10.1.2.3 . 1 } drop; ip saddr . udp dport { 10.1.2.3 . 2 } accept
+ip saddr . udp sport { 11.0.0.1 . 2 } drop; ip saddr . udp sport { 11.0.0.1 . 1 } drop } }",
+        [9, 2, 4, 0, 2],
+        &[(TEN_ONE, Some(2), false), (ELEVEN, Some(4), true)],
+    ),
+    (
+        b"table ip t { set none { type ipv4_addr }
+chain fwd { type filter hook forward priority 0;
+ip saddr @none accept; ip saddr 10.0.0.0/8 drop; ip saddr 11.0.0.0/8 drop } }",
+        [5, 1, 2, 1, 1],
+        &[(TEN_ONE, Some(2), true), (0x0c00_0000, None, false)],
+    ),
+    (
+        b"table ip t { chain fwd { type filter hook forward priority 0;
+ip saddr { 10.1.2.3, 11.0.0.1 } drop; ip saddr 11.0.0.1 accept; ip saddr 10.1.2.3 accept } }",
+        [3, 1, 1, 2, 0],
+        &[(TEN_ONE, Some(1), true), (ELEVEN, Some(1), true)],
+    ),
+    (
+        b"table ip t { chain out { ip saddr 10.1.2.3 drop; ip saddr 11.0.0.1 drop }
+chain fwd { type filter hook forward priority 0;
+ip saddr 10.1.2.3 goto out; ip saddr 10.1.2.3 accept } }",
+        [8, 2, 3, 1, 1],
+        &[(TEN_ONE, Some(1), true), (ELEVEN, None, false)],
     ),
 ];
 
 /// Rules that compare bits under one mask have one index; names, and concatenations of two selectors,
-/// one each, however many sets these are looked up in.
-static INDEXED: [Row; 2] = [
+/// one each, however many sets these are looked up in. Of sixteen rules and more, those that are merged
+/// share indexes with the rules beside them: with one of another selector, and with a run of another.
+static INDEXED: [Row; 4] = [
     (
         b"table ip t { chain fwd { type filter hook forward priority 0;
 tcp flags & 63 == 0 drop; tcp flags & 63 == 1 drop; tcp flags & 63 == 2 drop
@@ -188,7 +225,7 @@ tcp flags & 63 == 6 drop; tcp flags & 63 == 7 drop; tcp flags & 63 == 8 drop
 tcp flags & 63 == 9 drop; tcp flags & 63 == 10 drop; tcp flags & 63 == 11 drop
 tcp flags & 63 == 12 drop; tcp flags & 63 == 13 drop; tcp flags & 63 == 14 drop
 tcp flags & 63 == 15 drop; tcp flags & 63 == 16 drop; tcp flags & 63 == 17 drop } }",
-        [37, 1, 0, 0],
+        [37, 0, 0, 0, 1],
         &[(TEN_ONE, None, false)],
     ),
     (
@@ -202,8 +239,29 @@ iifname f drop; ip saddr . meta mark { 0.0.0.5 . 0 } drop
 iifname g drop; ip saddr . meta mark { 0.0.0.6 . 0 } drop
 iifname h drop; ip saddr . meta mark { 0.0.0.7 . 0 } drop
 iifname i drop; ip saddr . meta mark { 0.0.0.8 . 0 } drop } }",
-        [37, 2, 0, 0],
+        [37, 0, 0, 0, 2],
         &[(5, Some(12), true), (9, None, false)],
+    ),
+    (
+        b"table ip t { chain fwd { type filter hook forward priority 0;
+ip saddr 0.0.1.1 drop; ip saddr 0.0.1.2 drop; ip saddr 0.0.1.3 drop; ip saddr 0.0.1.4 drop
+ip saddr 0.0.1.5 drop; ip saddr 0.0.1.6 drop; ip saddr 0.0.1.7 drop; ip saddr 0.0.1.8 drop
+ip saddr 0.0.1.9 drop; ip saddr 0.0.1.10 drop; ip saddr 0.0.1.11 drop; ip saddr 0.0.1.12 drop
+ip saddr 0.0.1.13 drop; ip saddr 0.0.1.14 drop; ip saddr 0.0.1.15 drop
+ip daddr 0.0.0.1 counter } }",
+        [33, 1, 15, 0, 2],
+        &[(0x0000_010f, Some(15), true), (9, None, false)],
+    ),
+    (
+        b"table ip t { chain fwd { type filter hook forward priority 0;
+ip saddr 0.0.1.1 drop; ip saddr 0.0.1.2 drop; ip saddr 0.0.1.3 drop; ip saddr 0.0.1.4 drop
+ip saddr 0.0.1.5 drop; ip saddr 0.0.1.6 drop; ip saddr 0.0.1.7 drop; ip saddr 0.0.1.8 drop
+ip saddr 0.0.1.9 drop; ip saddr 0.0.1.10 drop
+ip daddr 0.0.0.10 drop; ip daddr 0.0.0.9 drop; ip daddr 0.0.0.8 drop; ip daddr 0.0.0.7 drop
+ip daddr 0.0.0.6 drop; ip daddr 0.0.0.5 drop; ip daddr 0.0.0.4 drop; ip daddr 0.0.0.3 drop
+ip daddr 0.0.0.2 drop; ip daddr 0.0.0.1 drop } }",
+        [41, 2, 20, 0, 2],
+        &[(0x0000_010a, Some(10), true), (9, Some(20), true)],
     ),
 ];
 
@@ -296,10 +354,16 @@ fn has_verdicts<R: Abort + AllocGlobal>(
     true
 }
 
-/// Whether the code has these steps, indexes, merged and dropped rules.
-fn has_size(code: &Code, wanted: [usize; 4]) -> bool {
+/// Whether the code has these steps, tables, merged and dropped rules, and indexes.
+fn has_size(code: &Code, wanted: [usize; 5]) -> bool {
     let size = code.size();
-    [size.steps, size.tables, size.merged, size.dropped] == wanted
+    [
+        size.steps,
+        size.tables,
+        size.merged,
+        size.dropped,
+        size.indexes,
+    ] == wanted
 }
 
 /// Whether the code and the packets' verdicts are as the row says.
@@ -312,8 +376,8 @@ fn is_right<R: Abort + AllocGlobal>(rt: &R, code: &Code, row: &Row) -> bool {
 
 /// The row of a ruleset whose code has no indexes: nothing else of its size is another.
 fn without_indexes(row: &Row) -> Row {
-    let [steps, _, _, dropped] = row.1;
-    (row.0, [steps, 0, 0, dropped], row.2)
+    let [steps, tables, merged, dropped, _] = row.1;
+    (row.0, [steps, tables, merged, dropped, 0], row.2)
 }
 
 /// Whether the ruleset's code and verdicts are as the row says, and but for the indexes also where
@@ -343,7 +407,7 @@ fn indexes_of_eight<R: Abort + AllocGlobal>(rt: &R) -> Option<usize> {
     let head = b"table ip t { set none { type ifname }
 chain fwd { type filter hook forward priority 0;";
     let rules = repeated(rt, head, EIGHT_SELECTORS, 8, b"} }");
-    Some(code_of(rt, &rules, BOX)?.size().tables)
+    Some(code_of(rt, &rules, BOX)?.size().indexes)
 }
 
 #[test]

@@ -37,15 +37,11 @@ fault_at Malformed = Some captures.Malformed
 fault_at Over = Some captures.TooMany
 fault_at _ = None
 
--- a capture is refused within its records
-abbrev pub IsRefusedWithin : List ℕ → CaptureFault → Type 0
-IsRefusedWithin capture fault =
-    (records : List Captured) × (ending : Ending) × Pcap capture records ending
-    × (fault_at ending ≡ Some fault)
-
 -- a capture is refused at its header, or within its records
 abbrev pub IsRefused : List ℕ → CaptureFault → Type 0
-IsRefused capture fault = (header_fault capture ≡ Some fault) ⊎ IsRefusedWithin capture fault
+IsRefused capture fault = (header_fault capture ≡ Some fault)
+    ⊎ ((records : List Captured) × (ending : Ending) × Pcap capture records ending
+    × (fault_at ending ≡ Some fault))
 
 -- the refusal of a run: the rules' text, the box file, the ruleset on the box, the capture, in this order
 abbrev pub Refuses : List ℕ → List ℕ → Option (List ℕ) → RunFault → Type 0

@@ -13,7 +13,8 @@ use std::io::{Read, Write};
 /// fail, whether all written bytes are flushed, and how many bytes the last read had room for.
 #[derive(Drop)]
 pub struct Counted<T> {
-    inner: T,
+    /// What is wrapped. A call on it alone isn't counted.
+    pub inner: T,
     failures: Failures,
     writes: u64,
     flushes: u64,

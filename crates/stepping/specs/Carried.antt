@@ -12,10 +12,8 @@ use Rattle.pcap_io.specs.declared.link.LinkCause.{LinkCause}
 use Rattle.pcap_io.specs.declared.link.LinkCause.TheVariants as links
 use Rattle.pcap_io.specs.Links.{link_of}
 use Rattle.pcap_io.specs.Pcap.{Recorded}
-use Rattle.rule_meaning.specs.declared.facts.Facts.{Facts}
 use Rattle.rule_meaning.specs.declared.facts.Packet.{Packet}
 use Rattle.rule_meaning.specs.declared.facts.Interface.{Interface}
-use Rattle.rule_meaning.specs.declared.facts.CtFacts.TheVariants.{NotLookedUp}
 use Rattle.history.specs.declared.outcome.Cause.{Cause}
 use Rattle.history.specs.declared.outcome.Cause.TheVariants as causes
 use Rattle.history.specs.Setup.{Setup}
@@ -80,13 +78,3 @@ packet_facts p = record {
 -- an interface of the box; its name is padded with zeros
 abbrev pub interface_facts : PlantTree → ℕ → Interface
 interface_facts plant index = record { index = index; name = padded 0 (unwrap_or (name_of plant index) []) }
-
--- the facts of a received packet: not routed, not looked up, mark 0
-abbrev pub received_facts : List ℕ → Interface → Facts
-received_facts p input = record {
-  packet = packet_facts p;
-  input = input;
-  output = None;
-  mark = 0;
-  ct = NotLookedUp;
-}

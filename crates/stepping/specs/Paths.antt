@@ -5,6 +5,7 @@ use Rattle.box_file.specs.Box.{is_own, route}
 use Rattle.ip_headers.specs.declared.tuple.Mapping.{Mapping}
 use Rattle.rule_meaning.specs.declared.facts.Facts.{Facts}
 use Rattle.rule_meaning.specs.declared.facts.Interface.{Interface}
+use Rattle.rule_meaning.specs.declared.facts.CtFacts.TheVariants.{NotLookedUp}
 use Rattle.rule_meaning.specs.declared.event.Event.{Event}
 use Rattle.rule_meaning.specs.declared.event.HookVerdict.{HookVerdict}
 use Rattle.rule_meaning.specs.declared.event.HookVerdict.TheVariants.{Dropped}
@@ -18,7 +19,7 @@ use Rattle.translation.specs.declared.ct_info.CtInfo.{CtInfo}
 use Rattle.translation.specs.declared.ct_info.CtInfo.TheVariants.{New, Untracked}
 use Rattle.translation.specs.CtInfos.{facts_after_destination_nat, facts_after_source_nat}
 use Rattle.translation.specs.Nat.{after_destination_nat, after_source_nat}
-use Rattle.stepping.specs.Carried.{interface_facts, received_facts}
+use Rattle.stepping.specs.Carried.{interface_facts, packet_facts}
 
 -- ---- steps
 
@@ -43,9 +44,13 @@ pub data ◌⨾◌ (first second : Step) (s : PathState) : StepResult → Type 0
       → (◌⨾◌ first second) s r
 
 infixr 5 ◌⨾◌
--- on arrival: not looked up, so not tracked, and without events
+-- on arrival: not routed, not looked up, so not tracked, mark 0, and without events
 abbrev pub on_arrival : List ℕ → Interface → PathState
-on_arrival p input = record { facts = received_facts p input; info = Untracked; events = [] }
+on_arrival p input = record {
+  facts = record { packet = packet_facts p; input = input; output = None; mark = 0; ct = NotLookedUp };
+  info = Untracked;
+  events = [];
+}
 
 -- ---- chains
 
@@ -99,18 +104,16 @@ pub record SourceNat (setup : Setup) (mappings : List Mapping) (s : PathState) (
 
 -- ---- routing
 
--- forwarded by this interface, the TTL decremented (RFC 1812, section 5.3.1)
-abbrev pub forwarded_facts : Setup → ℕ → Facts → Facts
-forwarded_facts setup interface f = record f {
-  output = Some (interface_facts setup.plant interface);
-  packet = record f.packet { ttl = f.packet.ttl - 1 };
-}
-
--- by a route, with a TTL above 1 (RFC 1812, section 5.3.1)
+-- by a route, with a TTL above 1, which is decremented (RFC 1812, section 5.3.1)
 abbrev pub forwarded_by : Setup → Option ℕ → PathState → StepResult
 forwarded_by setup None s = Drop causes.Route s
 forwarded_by setup (Some interface) s = if nat_lt s.facts.packet.ttl 2 then Drop causes.Ttl s
-    else Continue (record s { facts = forwarded_facts setup interface s.facts })
+    else Continue (record s {
+      facts = record s.facts {
+        output = Some (interface_facts setup.plant interface);
+        packet = record s.facts.packet { ttl = s.facts.packet.ttl - 1 };
+      };
+    })
 
 -- a packet to an address of the box gets no output interface; the others are forwarded
 abbrev pub routed : Setup → PathState → StepResult

@@ -1,6 +1,6 @@
 use Rattle.compiler.proofs.Names.{Bor, Chain, Some, [], ap, arith, chain_tree, chains_of, declared_kept, item_mismatches, item_out_of_range, length, length-map}
 use Rattle.compiler.proofs.Names.{list_any, or_parts, rule_mismatches, rule_out_of_range, slice_get, ◌++◌, ◌∙◌, ◌∷◌, ◌≡◌, ◌≤◌}
-use Rattle.compiler.proofs.TableLaws.{chain_at, chain_free, chains_all, chains_more}
+use Rattle.compiler.proofs.TableLaws.{chain_at, chain_free, chains_all, chains_more, chains_none}
 use Rattle.compiler.proofs.tables.add_chains.Goals.{In_ok-to_u32}
 use Rattle.compiler.proofs.tables.add_chains.Goals as goal
 
@@ -9,7 +9,13 @@ at c = chain_at c.chains-chain-items.result.now c.args.names.now c.loop-place.pl
     c.chains-chain-items.ensures.all c.loop-place-test.true c.chain-item.is
 
 pub loop-place-init : goal.loop-place-init
-loop-place-init c = grind arith
+loop-place-init c =
+    let none = c.requires in
+    record {
+      placed = chains_none c.args.plant.now c.args.table c.args.names.now c.args.code.now none.no_steps none.no_chains
+          none.no_tables none.none_merged none.none_dropped;
+      declared = none.declared;
+    }
 
 pub add_chain-requires-clause-types : goal.add_chain-requires-clause-types
 add_chain-requires-clause-types c =
