@@ -91,14 +91,8 @@ class Why:
             flow = value >> 1
             if left and flow != self.flow and inverse(left) == self.key:
                 last = max((number for number, of in enumerate(self.flows.of[:self.record]) if of == flow), default=0)
-                return (flow, self.seconds - self.seconds_of(last)) if last else None
+                return (flow, self.seconds - self.flows.seconds(last)) if last else None
         return None
-
-    def seconds_of(self, record: int) -> int:
-        with open(self.capture, "rb") as file:
-            file.seek(self.flows.offset[record] - RECORD_HEADER)
-            seconds: int = struct.unpack(self.header.order + "I", file.read(4))[0]
-            return seconds
 
     def moment(self, seconds: int | None = None, fraction: int | None = None) -> str:
         digits = len(str(self.header.fractions)) - 1
