@@ -82,6 +82,10 @@ class Copies:
         """How the packet of a record went, or None where its copy isn't in the capture."""
         return self.hops[self.place[record]] if self.of[record] else None
 
+    def record_of(self, copy: int) -> int | None:
+        """The record that a copy is of, or None where the record is no such copy."""
+        return self.of.index(copy) if copy in self.of else None
+
     def enter(self, number: int, data: bytes) -> None:
         mark, is_known = identity(data, AT), data[4:8] in self.indices
         alike = self.young.get(mark) or self.old.get(mark) or []
@@ -195,17 +199,22 @@ class Router:
     Not among them is what a run drops for a reason that is told elsewhere: answers to ports that Linux chose, and flows
     whose beginning isn't in the capture. With `only` other records aren't looked at."""
 
-    def __init__(self, flows: Flows, box: Box, replay: Replay | None = None, only: Collection[int] = ()) -> None:
-        self.of, self.box, self.replay, self.only = flows, box, replay, only
-        self.copies = Copies(flows, box)
+    def __init__(self, flows: Flows, box: Box, replay: Replay | None = None, only: Collection[int] = (),
+                 copies: Copies | None = None) -> None:
+        self.of, self.box, self.replay, self.only = flows, box, replay, set(only)
+        self.copies = copies or Copies(flows, box)
         self.ways: dict[Way, Astray] = {}
         self.moved = self.moved_flows() if self.copies.hops else set()
         self.explained: dict[int, bool] = {}
+        began: dict[int, Way] = {}  # by flow the way with which it went astray
         for record, way in self.each():
             flow = flows.of[record]
-            if way.is_routed_otherwise or not self.is_explained(flow):
+            # what a run drops of a flow that is astray already comes of that
+            if way.is_routed_otherwise or began.get(flow, way) == way and not self.is_explained(flow):
                 self.ways.setdefault(way, Astray()).take(record, flow)
-        self.flows = {flow for one in self.ways.values() for flow in one.flows}
+                if flow:
+                    began.setdefault(flow, way)
+        self.flows = set(began)
 
     def __bool__(self) -> bool:
         return bool(self.ways)
@@ -260,12 +269,25 @@ class Router:
         return (flows.kind[flow] != TCP and flows.tuple_of(first)[4:8] in self.box.addresses
                 and flows.seconds(first) - flows.seconds(1) < limit)
 
+    def told(self) -> list[tuple[Way, Astray]]:
+        """The ways, that of most packets first."""
+        return sorted(self.ways.items(), key=lambda one: (-one[1].packets, one[1].first))
+
     def lines(self) -> list[str]:
         """What a reader has to know before all else: a line for each way, and below it what may be the reason."""
-        told = sorted(self.ways.items(), key=lambda one: (-one[1].packets, one[1].first))
+        told = self.told()
         lines: list[str] = []
         for way, astray in told[:MOST_WAYS]:
             lines += [f"the run isn't the router: {astray.count_text()} {way.text()}: {astray.records_text()}",
                       f"    {way.reason}"]
         rest = sum(astray.packets for _, astray in told[MOST_WAYS:])
         return lines + ([f"    and {plural(rest, 'packet')} more that went otherwise"] if rest else [])
+
+    def not_compared(self) -> str | None:
+        """How much it is of which two rulesets can't be told apart by a run, or None."""
+        if not self.ways:
+            return None
+        count = sum(flow in self.flows for flow in self.of.of) + sum(
+            astray.packets for astray in self.ways.values() if not astray.flows)
+        flows = f"{plural(len(self.flows), 'flow')}, " if self.flows else ""
+        return f"not compared: {flows}{plural(count, 'record')}: what the rulesets change for these isn't known"

@@ -12,6 +12,7 @@ from toolbox.flows import Flows
 from toolbox.packets import TCP, describe, destination_end, end_text, flags_text, inverse, source_end, tuple_at
 from toolbox.replay import AS_CAPTURED, Replay
 from toolbox.reports import Decision, event_of, events_of_some
+from toolbox.router import Router
 from toolbox.rulesets import TRANSLATIONS, read_ruleset
 
 if TYPE_CHECKING:
@@ -72,6 +73,17 @@ class Why:
         self.left = {number: frame for number, frame in enumerate(self.replay.leaving_packets(), 1) if number in wanted}
         frame = self.left.get(self.record)
         self.key_left = None if frame is None else tuple_at(frame, OUT_LINK)
+
+    def router(self) -> Router:
+        """What the router did otherwise with the packets of this flow; of a copy, with those of the flow that left so.
+        """
+        router = Router(self.flows, self.box, self.replay, self.members)
+        came = router.copies.record_of(self.record)
+        if came is None:
+            return router
+        flow = self.flows.of[came]
+        members = [number for number, of in enumerate(self.flows.of) if flow and of == flow] or [came]
+        return Router(self.flows, self.box, self.replay, members, router.copies)
 
     def behind_mapping(self) -> bytes | None:
         """The inner end that has this packet's destination as its external one in this run, or None."""
