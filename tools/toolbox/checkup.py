@@ -180,8 +180,8 @@ class Checkup:
     def of_unknown(self, routed: Mapping[int, int]) -> Iterator[Finding]:
         """Interfaces of the box that the box file doesn't say, or can't."""
         for index, packets in sorted(routed.items()):
-            yield Finding("unknown interface", True, f"{plural(packets, 'packet')} came by index {index}, which the box "
-                          "file lacks, and the router sent them on",
+            yield Finding("unknown interface", True, f"{plural(packets, 'packet')} came by index {index}, which the "
+                          "box file lacks, and the router sent them on",
                           "they are dropped for `interface`: add it (ip -o -4 addr); an interface without an IPv4 "
                           "address of its own a box file can't say", {"packets": packets, "index": index})
         left_out = [line.partition("# left out:")[2].strip() for line in read_text(self.box.path).splitlines()
@@ -247,7 +247,8 @@ class Checkup:
                           "dropped for `fragment`; Linux puts them together where connections are tracked",
                           {"records": self.fragments})
         if self.unsummed:
-            yield Finding("checksums", True, f"{plural(self.unsummed, 'packet')} with a wrong checksum in the IP header",
+            yield Finding("checksums", True,
+                          f"{plural(self.unsummed, 'packet')} with a wrong checksum in the IP header",
                           "dropped for `checksum`: a card computes it later (offload): capture at another place, or "
                           "turn that off (ethtool -K DEV tx off)", {"packets": self.unsummed})
 
