@@ -171,10 +171,10 @@ class Checkup:
                           "a run takes the order of the file, and the greatest time so far",
                           {"records": clock.earlier})
         for jump in jumps_of(clock):
-            seconds, flows = plural(jump.seconds, "second"), plural(jump.flows, "flow")
-            yield Finding("clock forward", True, f"the clock goes forward by {seconds} at record {jump.record}",
-                          f"{flows} that go on behind it expire there (`idle` in the box file): on the router they "
-                          "lived on, if its clock was set then (NTP, a suspended machine)",
+            yield Finding("clock forward", True, f"the clock goes forward by {plural(jump.seconds, 'second')} at "
+                          f"record {jump.record}, and {plural(jump.flows, 'flow')} heard before and behind it expired",
+                          "by `idle` in the box file; on the router they lived on, if its clock was set then (NTP, a "
+                          "machine that slept)",
                           {"record": jump.record, "seconds": jump.seconds, "flows": jump.flows})
 
     def of_unknown(self, routed: Mapping[int, int]) -> Iterator[Finding]:
@@ -197,15 +197,15 @@ class Checkup:
 
     def of_interfaces(self, routed: Mapping[int, int]) -> Iterator[Finding]:
         lacking = sum(self.lacking.values())
+        ports = {index: number for index, number in self.alone.items() if index not in routed}
         if lacking:
             listed = ", ".join(f"index {index}: {number}" for index, number in self.lacking.most_common(MOST_LISTED))
             rest = ", .." if len(self.lacking) > MOST_LISTED else ""
             yield Finding(
-                "interfaces", bool(self.alone),
+                "interfaces", bool(ports),
                 f"{plural(lacking, 'record')} of interfaces that the box file lacks ({listed}{rest})",
                 "they are dropped for `interface` or `link`: right for bridge ports and devices below a VLAN; else add "
                 "the interface (nftrun box-from-ip)", {"records": lacking, "by_index": dict(self.lacking)})
-        ports = {index: number for index, number in self.alone.items() if index not in routed}
         alone = sum(ports.values())
         if alone:
             yield Finding(

@@ -7,7 +7,7 @@ from typing import TYPE_CHECKING, Iterator, Mapping
 from toolbox.checkup import MOST_LISTED, Finding
 from toolbox.commands import plural
 from toolbox.flows import ERROR, OWN, SIDE
-from toolbox.packets import address_text
+from toolbox.packets import TCP, address_text
 from toolbox.replay import LOCAL, PASSED
 from toolbox.reports import Summary
 from toolbox.table import NANOSECONDS, Table, fullest, without_room
@@ -31,6 +31,11 @@ def of_router(router: Router) -> Iterator[Finding]:
         yield Finding("routes" if way.is_routed_otherwise else "sent on", True,
                       f"{astray.count_text()} {way.text()}: {astray.records_text()}", f"the run isn't the router: "
                       f"{way.reason}", {"packets": astray.packets, "flows": len(astray.flows), "first": astray.first})
+    earlier = sum(router.of.kind[flow] != TCP for flow, is_earlier in router.earlier.items() if is_earlier)
+    if earlier:
+        yield Finding("began before", True, f"{plural(earlier, 'flow')} of UDP or ping with an answer first",
+                      "as it seems they began before the capture: new at their first packet here, established on "
+                      "Linux", {"flows": earlier})
 
 
 def of_run(replay: Replay) -> Iterator[Finding]:

@@ -28,8 +28,8 @@ NO_TUPLE = bytes(13)
 MOST_WAYS, MOST_RECORDS = 5, 5
 SEVERAL_TABLES = ("policy routing (ip rule, a VRF, a second uplink), or a route that the box file lacks: it has one "
                   "table of routes, so these packets met other rules on the router")
-LET_IN_OTHERWISE = ("a set that packets fill, other rules than these, an idle limit, or a flow that began before the "
-                    "capture: the router let them through, and a run doesn't")
+LET_IN_OTHERWISE = ("a set that packets fill, other rules than these, an idle limit, or of UDP and ping a beginning "
+                    "before the capture: the router let them through, and a run doesn't")
 
 
 @dataclass(frozen=True)
@@ -204,13 +204,13 @@ class Router:
         self.of, self.box, self.replay, self.only = flows, box, replay, set(only)
         self.copies = copies or Copies(flows, box)
         self.ways: dict[Way, Astray] = {}
-        self.moved = self.moved_flows() if self.copies.hops else set()
-        self.explained: dict[int, bool] = {}
+        self.moved = self.moved_flows() if self.copies.hops else {}
+        self.earlier: dict[int, bool] = {}  # by flow whether it may have begun before the capture, if a run drops it
         began: dict[int, Way] = {}  # by flow the way with which it went astray
         for record, way in self.each():
             flow = flows.of[record]
             # what a run drops of a flow that is astray already comes of that
-            if way.is_routed_otherwise or began.get(flow, way) == way and not self.is_explained(flow):
+            if way.is_routed_otherwise or began.get(flow, way) == way and not self.is_explained(record, flow):
                 self.ways.setdefault(way, Astray()).take(record, flow)
                 if flow:
                     began.setdefault(flow, way)
@@ -247,18 +247,25 @@ class Router:
                 else:
                     yield record, hop, hop.routed, replay.outcome(record)
 
-    def moved_flows(self) -> set[int]:
-        """The flows with answers that would have to go to other ports in a run of the capture as it is."""
+    def moved_flows(self) -> dict[int, int]:
+        """In a run of the capture as it is: the flows with answers that would have to go to other ports, with the first
+        such record."""
         if self.replay is None or not self.replay.as_captured:
-            return set()
-        return {self.of.of[record] for record, place in enumerate(self.replay.decide(False).to) if place}
+            return {}
+        moved: dict[int, int] = {}
+        for record, place in enumerate(self.replay.decide(False).to):
+            if place:
+                moved.setdefault(self.of.of[record], record)
+        return moved
 
-    def is_explained(self, flow: int) -> bool:
-        """Whether it is told elsewhere why a run drops packets of the flow."""
-        if flow not in self.explained:
+    def is_explained(self, record: int, flow: int) -> bool:
+        """Whether it is told elsewhere why a run drops a record of the flow."""
+        if not flow:
+            return False
+        if flow not in self.earlier:
             is_midway = self.of.kind[flow] == TCP and not self.of.is_marked(flow, BEGUN | OWN)
-            self.explained[flow] = bool(flow) and (is_midway or flow in self.moved or self.answers_earlier(flow))
-        return self.explained[flow]
+            self.earlier[flow] = is_midway or self.answers_earlier(flow)
+        return self.earlier[flow] or self.moved.get(flow, record + 1) <= record
 
     def answers_earlier(self, flow: int) -> bool:
         """Whether a flow begins with a packet to an address of the box that the router sent on all the same, so soon

@@ -55,7 +55,8 @@ class Change:
         if self.nothing:
             parts.append(f'<p class="warning">Nothing was compared: {shown(self.nothing)}.</p>')
         elif not self.groups.all:
-            parts.append('<p class="same">Nothing changes for this capture.</p>')
+            rest = "the rest of this capture" if self.doubts else "this capture"
+            parts.append(f'<p class="same">Nothing changes for {rest}.</p>')
         for kind in KINDS if self.groups.all else ():
             groups = self.of_kind(kind)
             if groups or kind in (OPENED, BLOCKED):
