@@ -2,7 +2,7 @@
 later, packets that a switch mirrors twice, a clock that is set while the capture runs."""
 from __future__ import annotations
 
-from collections import deque
+from collections import Counter, deque
 from dataclasses import dataclass
 from typing import TYPE_CHECKING, Iterator
 
@@ -13,7 +13,9 @@ if TYPE_CHECKING:
     from toolbox.captures import Header
     from toolbox.flows import Flows
 
-NEAR = 10  # seconds before and behind a jump in which one end is heard on both sides of it
+# a flow goes on behind a jump if one end is heard so often in so many seconds before it, and behind it: what comes now
+# and then in a quiet hour doesn't
+NEAR, OFTEN = 10, 2
 STEP_BACK = 1  # seconds: less is two processors that capture at once
 AT_ONCE = 10  # of a second: the part within which a switch mirrors a packet again, and no host repeats it
 WINDOW = 4096  # how many packets may come between the two
@@ -50,8 +52,8 @@ class Clock:
         self.heard: deque[tuple[int, bytes]] = deque()  # the last seconds' tuples, with their moments
         self.jump: Jump | None = None
         self.until = 0
-        self.before: set[bytes] = set()
-        self.goes_on: set[bytes] = set()
+        self.before: Counter[bytes] = Counter()
+        self.behind: Counter[bytes] = Counter()
 
     def take(self, record: int, moment: int) -> None:
         """Takes the records in order."""
@@ -63,7 +65,7 @@ class Clock:
         elif self.latest and moment - self.latest >= self.least:
             self.end_jump()
             self.jump, self.until = Jump(record, (moment - self.latest) // self.unit, 0), moment + NEAR * self.unit
-            self.before = {key for _, key in self.heard}
+            self.before = Counter(key for _, key in self.heard)
         self.latest = max(moment, self.latest)
         if self.flows.of[record] and not self.flows.is_error(record):
             self.hear(self.flows.tuple_of(record))
@@ -73,19 +75,20 @@ class Clock:
         heard.append((self.latest, key))
         while heard[0][0] < begin:
             heard.popleft()
-        if self.jump is None:
-            return
-        if self.latest > self.until:
+        if self.jump is not None and self.latest > self.until:
             self.end_jump()
-        elif self.jump.seconds >= self.limits[key[12]] and (key in self.before or inverse(key) in self.before):
-            self.goes_on.add(min(key, inverse(key)))
+        if self.jump is not None and self.jump.seconds >= self.limits[key[12]]:
+            self.behind[key] += 1
 
     def end_jump(self) -> None:
         """Keeps the last jump if something went on behind it."""
-        if self.jump is not None and self.goes_on:
-            self.jumps.append(Jump(self.jump.record, self.jump.seconds, len(self.goes_on)))
+        if self.jump is not None:
+            flows = {min(key, inverse(key)) for key, number in self.behind.items()
+                     if number >= OFTEN and self.before[key] >= OFTEN}
+            if flows:
+                self.jumps.append(Jump(self.jump.record, self.jump.seconds, len(flows)))
         self.jump = None
-        self.goes_on = set()
+        self.behind.clear()
 
 
 class Mirror:
